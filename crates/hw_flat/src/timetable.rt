@@ -1,0 +1,63 @@
+ghost use Rattle.std.specs.Prelude.{◌≡◌, ◌≤◌, ◌<◌, length, IfOk, slice_index};
+
+use hw_model::{NoMemory, ShipId, Slot};
+use std::alloc::Global;
+use std::marker::Model;
+
+/// A slot for each ship, seen as the list of the slots.
+#[derive(Debug, Drop)]
+pub struct Timetable {
+    slots: Vec<Slot>,
+}
+
+impl Model for Timetable {
+    ghost use Rattle.std.specs.Prelude.{List, ℕ, ◌≤◌, length};
+
+    ghost Value = { List ℕ };
+
+    ghost view = { λ t. t.slots.items };
+
+    ghost invariant = { λ t. length t.slots.items ≤ 40 };
+}
+
+impl Timetable {
+    /// The timetable of these slots, of at most 40 ships.
+    pub fn from_slots(alloc: Global, slots: &[Slot]) -> Result<Timetable, NoMemory>
+        requires few { length slots.now ≤ 40 }
+        ensures value { IfOk result (λ t. t ≡ slots.now) }
+    {
+        let slots = Vec::from_slice(alloc, slots)?;
+        Ok(Timetable { slots })
+    }
+
+    /// The number of its slots, one for each ship.
+    pub fn len(&self) -> u32
+        ensures value { result ≡ length self.now }
+        ensures few { result ≤ 40 }
+    {
+        self.slots.len() as u32
+    }
+
+    /// The slot of a ship.
+    pub fn slot(&self, ship: ShipId) -> Slot
+        requires ship_in { ship < length self.now }
+        ensures value { result ≡ slice_index self.now ship }
+    {
+        self.slots[ship as usize]
+    }
+
+    /// The slots, ship 0 first.
+    pub fn as_slice(&self) -> &[Slot]
+        ensures value { result.now ≡ self.now }
+    {
+        &self.slots
+    }
+
+    /// Takes the slots of a timetable of the same length.
+    pub fn copy_from(&mut self, other: &Timetable)
+        requires same_length { length self.old ≡ length other.now }
+        ensures value { self.new ≡ other.now }
+    {
+        self.slots.copy_from_slice(&other.slots);
+    }
+}
