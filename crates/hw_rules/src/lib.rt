@@ -3,3 +3,14 @@
 //!
 //! Every answer is the one of a definition of `hw_model`.
 #![tactic(auto)]
+
+mod breach;
+mod pairs;
+mod timetables;
+mod tugs;
+
+pub use breach::Breach;
+pub use hw_laws::{point_room, rising_best, sound_refutation, whole_walk};
+pub use pairs::allowed_pair;
+pub use timetables::{broken, cargo};
+pub use tugs::busy;
