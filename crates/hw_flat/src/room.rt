@@ -1,5 +1,6 @@
-ghost use Rattle.std.specs.Prelude.{◌≡◌, ◌≤◌, ◌<◌, length, IfOk, IsTrue, ◌↔◌};
-ghost use Rattle.hw_model.specs.Rooms.{IsRoom, IsPoint, Inside, low_of, high_of, order_of, whole_room};
+ghost use Rattle.std.specs.Prelude.{◌≡◌, ◌≤◌, ◌<◌, ℕ, length, IfOk, IsTrue, ◌↔◌, slice_index, replicate};
+ghost use Rattle.hw_model.specs.Rooms.{IsRoom, IsPoint, Inside, InRange, agrees, low_of, high_of, order_of, whole_room};
+ghost use Rattle.hw_flat.specs.Opened.{opened};
 ghost use Rattle.hw_model.specs.Narrowing.{with_range, with_order};
 
 use crate::timetable::Timetable;
@@ -105,6 +106,77 @@ impl Room {
         self.orders[(v * self.ships + w) as usize]
     }
 
+    /// Whether each range has one slot. One pass over the ranges.
+    pub fn is_point(&self) -> bool
+        ensures point { IsTrue result ↔ IsPoint self.now }
+    {
+        for range in &self.ranges {
+            if range.0 != range.1 {
+                return false;
+            }
+        }
+        true
+    }
+
+    /// Whether a timetable with a slot for each ship lies in the ranges and agrees with each
+    /// order that is set. One pass over the ranges and the orders.
+    pub fn inside(&self, table: &Timetable) -> bool
+        requires each_ship { length table.now ≡ self.now.ships }
+        ensures inside { IsTrue result ↔ Inside table.now self.now }
+    {
+        self.in_ranges(table) && self.keeps_orders(table)
+    }
+
+    fn in_ranges(&self, table: &Timetable) -> bool
+        requires each_ship { length table.now ≡ self.now.ships }
+        ensures ranges { IsTrue result
+            ↔ ((ship : ℕ) → ship < self.now.ships → InRange self.now ship (slice_index table.now ship)) }
+    {
+        for ship in 0..self.ships() {
+            let slot = table.slot(ship);
+            if slot < self.low(ship) || self.high(ship) < slot {
+                return false;
+            }
+        }
+        true
+    }
+
+    fn keeps_orders(&self, table: &Timetable) -> bool
+        requires each_ship { length table.now ≡ self.now.ships }
+        ensures orders { IsTrue result
+            ↔ ((v w : ℕ) → v < w → w < self.now.ships → IsTrue (agrees (order_of self.now v w) (slice_index table.now v) (slice_index table.now w))) }
+    {
+        for w in 0..self.ships() {
+            if !self.keeps_orders_of(table, w) {
+                return false;
+            }
+        }
+        true
+    }
+
+    // The orders of this ship with the lesser ones.
+    fn keeps_orders_of(&self, table: &Timetable, w: ShipId) -> bool
+        requires each_ship { length table.now ≡ self.now.ships }
+        requires ship_in { w < self.now.ships }
+        ensures orders { IsTrue result
+            ↔ ((v : ℕ) → v < w → IsTrue (agrees (order_of self.now v w) (slice_index table.now v) (slice_index table.now w))) }
+    {
+        for v in 0..w {
+            if !order_agrees(self.order(v, w), table.slot(v), table.slot(w)) {
+                return false;
+            }
+        }
+        true
+    }
+
+    /// Leaves every slot and every order open.
+    pub fn reset(&mut self)
+        ensures whole { self.new ≡ opened self.old }
+    {
+        fill(&mut self.ranges, (0, self.slots.saturating_sub(1)));
+        fill(&mut self.orders, Order::Unset);
+    }
+
     /// Gives a ship another range. No other range and no order changes.
     pub fn put(&mut self, ship: ShipId, low: Slot, high: Slot)
         requires ship_in { ship < self.old.ships }
@@ -122,5 +194,24 @@ impl Room {
         ensures room { self.new ≡ with_order self.old v w order }
     {
         self.orders[(v * self.ships + w) as usize] = order;
+    }
+}
+
+fn fill<T: Copy + Drop>(items: &mut [T], value: T)
+    ensures value { items.new ≡ replicate (length items.old) value }
+{
+    for item in items.iter_mut() {
+        *item = value;
+    }
+}
+
+// Whether two slots agree with an order, if it is set.
+fn order_agrees(order: Order, x: Slot, y: Slot) -> bool
+    ensures value { result ≡ agrees order x y }
+{
+    match order {
+        Order::Unset => true,
+        Order::First => x < y,
+        Order::NotFirst => y <= x,
     }
 }
