@@ -1,0 +1,12 @@
+//! Keyword tables: a list of different words in one constant text, found by word and by place.
+#![tactic(auto)]
+
+mod each;
+mod laws;
+mod lexicon;
+mod splitting;
+#[cfg(test)]
+mod tests;
+
+pub use laws::{finds_its_word, is_word_found, misses_absent_words};
+pub use lexicon::Lexicon;
