@@ -1,0 +1,19 @@
+//! The parts of a text: lines, words and numbers, each with one spelling.
+//!
+//! A line is a run of bytes other than LF, ended by LF. Words in a line are parted by exactly one
+//! space. A number is decimal digits without a leading zero, and a signed number may have one `-`
+//! in front of a number other than 0.
+#![tactic(auto)]
+
+mod laws;
+mod numbers;
+mod parts;
+mod writing;
+
+pub use laws::{ended_lines_cut, number_spelled, parts_joined, signed_spelled};
+pub use numbers::{read_number, read_signed, read_small};
+pub use parts::{cut, cut_line, first_word, is_end, is_text, three_parts, two_parts};
+pub use writing::{put_number, put_signed};
+
+#[cfg(test)]
+mod tests;
