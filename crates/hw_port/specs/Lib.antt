@@ -1,0 +1,6 @@
+pub mod Parts
+pub mod Whole
+pub mod Faults
+pub mod Rules
+pub mod Ships
+pub mod Meaning

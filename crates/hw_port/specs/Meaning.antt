@@ -1,0 +1,109 @@
+-- The meaning rules of a port, in the order of the table.
+use Rattle.std.specs.Prelude.{ℕ, ℤ, pos, negsuc, List, length, take, Bool, false, Option, Some, None, Result, Ok, Err, bytes_eq}
+use Rattle.std.specs.List.{slice_get}
+use Rattle.hw_port.specs.declared.fault.Path.{Path}
+use Rattle.hw_port.specs.declared.fault.PortFault.{PortFault}
+use Rattle.hw_port.specs.declared.fault.PortWord.TheVariants.{Side}
+use Rattle.hw_port.specs.declared.parts.Waypoint.{Waypoint}
+use Rattle.hw_port.specs.declared.parts.Section.{Section}
+use Rattle.hw_port.specs.declared.parts.Turnaround.{Turnaround}
+use Rattle.hw_port.specs.declared.parts.BerthPair.{BerthPair}
+use Rattle.hw_port.specs.Parts.{ShipParts}
+use Rattle.hw_port.specs.Whole.{Parts}
+use Rattle.hw_port.specs.Faults.{◌or_else◌, unless, each, at, at_item, at_part}
+use Rattle.hw_port.specs.Rules.{range, place, count, new_name, among, outgoing, incoming}
+use Rattle.hw_port.specs.Ships.{ship_fault}
+
+unfoldable pub calendar_fault : ℤ → ℤ → ℤ → Option PortFault
+calendar_fault version slots slot_minutes =
+    range (at 1) (pos 1) (pos 2) version
+    or_else range (at 2) (pos 1) (pos 512) slots
+    or_else range (at 3) (pos 1) (pos 1440) slot_minutes
+
+unfoldable pub waypoint_fault : List Waypoint → ℕ → Waypoint → Option PortFault
+waypoint_fault all i w =
+    new_name (at_item 6 i) (among (λ v. v.name) w.name (take i all)) w.name
+    or_else range (at_item 7 i) (pos 0) (pos 10000) w.depth
+
+unfoldable pub waypoints_fault : List Waypoint → Option PortFault
+waypoints_fault waypoints =
+    count (at 4) 1 16 (length waypoints)
+    or_else each (waypoint_fault waypoints) 0 waypoints
+
+unfoldable pub section_fault : List Section → ℕ → Section → Option PortFault
+section_fault all i s = new_name (at_item 9 i) (among (λ v. v.name) s.name (take i all)) s.name
+
+unfoldable pub sections_fault : List Section → Option PortFault
+sections_fault sections =
+    count (at 8) 0 8 (length sections)
+    or_else each (section_fault sections) 0 sections
+
+unfoldable pub gap_fault : ℕ → ℕ → ℤ → Option PortFault
+gap_fault i j gap = range (at_part 12 i j) (pos 1) (pos 512) gap
+
+unfoldable pub row_fault : ℕ → ℕ → List ℤ → Option PortFault
+row_fault classes i row =
+    count (at_item 11 i) classes classes (length row)
+    or_else each (gap_fault i) 0 row
+
+-- as many rows as there are classes, and as many numbers in each
+unfoldable pub separation_fault : List (List ℤ) → Option PortFault
+separation_fault separation =
+    count (at 10) 1 8 (length separation)
+    or_else each (row_fault (length separation)) 0 separation
+
+unfoldable pub tug_fault : Turnaround → ℤ → Option PortFault
+tug_fault turnaround fleet =
+    range (at 14) (pos 0) (pos 512) turnaround.outgoing
+    or_else range (at 15) (pos 0) (pos 512) turnaround.incoming
+    or_else range (at 16) (pos 0) (pos 1000) fleet
+
+unfoldable pub ships_fault : Parts → Option PortFault
+ships_fault p =
+    count (at 17) 1 40 (length p.ships)
+    or_else each (ship_fault p) 0 p.ships
+
+-- the ship of a place
+abbrev pub ship_at : List ShipParts → ℤ → Option ShipParts
+ship_at ships (pos n) = slice_get ships n
+ship_at ships (negsuc n) = None
+
+abbrev pub has_direction : List ℕ → Option ShipParts → Bool
+has_direction direction None = false
+has_direction direction (Some s) = bytes_eq s.direction direction
+
+-- the place of a ship of this direction
+unfoldable pub side_fault : Path → List ℕ → List ShipParts → ℤ → Option PortFault
+side_fault path direction ships ship =
+    place path (pos (length ships)) ship
+    or_else unless path Side (has_direction direction (ship_at ships ship))
+
+unfoldable pub berth_fault : List ShipParts → ℕ → BerthPair → Option PortFault
+berth_fault ships i b =
+    side_fault (at_item 41 i) outgoing ships b.outgoing
+    or_else side_fault (at_item 42 i) incoming ships b.incoming
+    or_else range (at_item 43 i) (pos 1) (pos 512) b.clear
+
+unfoldable pub berths_fault : List ShipParts → List BerthPair → Option PortFault
+berths_fault ships berths =
+    count (at 39) 0 200 (length berths)
+    or_else each (berth_fault ships) 0 berths
+
+-- the first fault of meaning, in the order of the table
+unfoldable pub port_fault : Parts → Option PortFault
+port_fault p =
+    calendar_fault p.version p.slots p.slot_minutes
+    or_else waypoints_fault p.waypoints
+    or_else sections_fault p.sections
+    or_else separation_fault p.separation
+    or_else tug_fault p.turnaround p.fleet
+    or_else ships_fault p
+    or_else berths_fault p.ships p.berths
+
+-- the port of these parts, or their first fault
+abbrev pub refused_by : Option PortFault → Parts → Result Parts PortFault
+refused_by None p = Ok p
+refused_by (Some f) p = Err f
+
+abbrev pub port_of : Parts → Result Parts PortFault
+port_of p = refused_by (port_fault p) p

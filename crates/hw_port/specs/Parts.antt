@@ -1,0 +1,19 @@
+-- A ship, as contracts see it.
+use Rattle.std.specs.Prelude.{ℕ, ℤ, List, Bool}
+use Rattle.hw_port.specs.declared.parts.Pass.{Pass}
+use Rattle.hw_port.specs.declared.parts.Stretch.{Stretch}
+
+pub record ShipParts : Type 0 where
+  pub name : List ℕ
+  pub direction : List ℕ
+  pub class : ℤ
+  pub earliest : ℤ
+  pub latest : ℤ
+  pub tpc : ℤ
+  pub light : ℤ
+  pub deep : ℤ
+  pub route : List Pass
+  pub channel : List Stretch
+  pub tugs : ℤ
+  pub job : ℤ
+  pub may_stay : Bool
