@@ -1,1 +1,7 @@
 pub mod Permitted
+pub mod Holes
+pub mod Spans
+pub mod Freed
+pub mod Meets
+pub mod Passes
+pub mod Sources

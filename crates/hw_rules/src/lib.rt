@@ -6,11 +6,15 @@
 
 mod breach;
 mod pairs;
+mod refuting;
+mod spacing;
 mod timetables;
 mod tugs;
 
 pub use breach::Breach;
 pub use hw_laws::{point_room, rising_best, sound_refutation, whole_walk};
 pub use pairs::allowed_pair;
+pub use refuting::refuted;
+pub use spacing::{Freeing, Two, covered, two_of, two_refuted};
 pub use timetables::{broken, cargo};
 pub use tugs::busy;
