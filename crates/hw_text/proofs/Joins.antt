@@ -3,9 +3,8 @@ use Rattle.std.proofs.Common.{◌≡◌, ℕ, ◌≤◌, ◌==◌, ◌&&◌, Boo
 use Rattle.std.proofs.lemmas.Bool.{and_parts}
 use Rattle.std.proofs.lemmas.Bool.Decides.{nat_tests}
 use Rattle.std.proofs.lemmas.List.Splits.{join_with_byte-slice_split}
-use Rattle.std.specs.List.{slice_split, onto_first, list_all, join_with_byte}
+use Rattle.std.specs.List.{onto_first, list_all, join_with_byte}
 use Rattle.hw_text.specs.Parts.{parts_of, lacks, ended_lines}
-use Rattle.hw_text.proofs.Splits.{has_part}
 
 is_off : (b : Bool) → not b ≡ true → b ≡ false
 is_off true h = sym h

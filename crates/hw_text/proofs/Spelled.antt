@@ -1,10 +1,9 @@
 -- Numbers and their texts.
-use Rattle.std.proofs.Common.{◌≡◌, ℕ, ◌<◌, ◌≤◌, ◌^◌, ◌&&◌, ◌||◌, Bool, true, false, cond, List, length, get_or, Some, None, Option, refl, sym, ap, ◌∙◌, arith, decimal, inl, inr, ◌⊎◌, ◌==◌, nat_lt}
+use Rattle.std.proofs.Common.{◌≡◌, ℕ, ◌<◌, ◌≤◌, ◌^◌, ◌&&◌, ◌||◌, Bool, true, false, cond, List, length, get_or, Some, None, refl, sym, ap, ◌∙◌, arith, decimal, inl, inr, ◌==◌, nat_lt}
 use Rattle.std.proofs.lemmas.Bool.{ltb-true, leb-true, eqb-true, lt-ltb, le-leb, and_parts, or_cases, or_left, or_right, cases_lt}
 use Rattle.std.proofs.lemmas.Fmt.{decimal-digits_value, digits_decimal, digits_value-decimal, decimal_nonempty, first_decimal, decimal_digit}
-use Rattle.std.specs.List.{list_all}
 use Rattle.std.specs.Str.Parse.{digits_value}
-use Rattle.hw_text.specs.Numbers.{number_up_to, is_number, is_digit}
+use Rattle.hw_text.specs.Numbers.{number_up_to}
 use Rattle.hw_text.proofs.Digits.{own}
 
 given : (b : Bool) (x n : ℕ) → cond b (Some x) None ≡ Some n → (b ≡ true) × (x ≡ n)

@@ -1,5 +1,5 @@
 -- The first part of a text ends at the first place of the byte.
-use Rattle.std.proofs.Common.{◌≡◌, ℕ, zero, suc, ◌+◌, Bool, true, false, cond, List, [], ◌∷◌, take, drop, Option, Some, None, refl, sym, ap, ◌∙◌, arith, add-one, position, eqb, length}
+use Rattle.std.proofs.Common.{◌≡◌, ℕ, suc, ◌+◌, Bool, true, false, cond, List, [], ◌∷◌, take, drop, Some, None, refl, sym, ap, ◌∙◌, arith, add-one, position, eqb, length}
 use Rattle.std.proofs.lemmas.Bool.Decides.{nat_tests}
 use Rattle.hw_text.specs.Parts.{first_part, at_end}
 use Rattle.std.proofs.lemmas.Iterator.Adapters.{position_from-zero}

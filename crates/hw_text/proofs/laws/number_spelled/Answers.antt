@@ -1,4 +1,4 @@
-use Rattle.std.proofs.Common.{◌≡◌, ap, ◌∙◌}
+use Rattle.std.proofs.Common.{ap, ◌∙◌}
 use Rattle.hw_text.specs.Numbers.{number_up_to}
 use Rattle.hw_text.proofs.Spelled.{reads_back, is_spelled}
 use Rattle.hw_text.proofs.laws.number_spelled.Goals as goal

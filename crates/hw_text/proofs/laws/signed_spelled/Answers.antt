@@ -1,4 +1,4 @@
-use Rattle.std.proofs.Common.{◌≡◌, ap, ◌∙◌}
+use Rattle.std.proofs.Common.{ap, ◌∙◌}
 use Rattle.hw_text.specs.Numbers.{signed_up_to}
 use Rattle.hw_text.proofs.Signs.{is_signed, signed_reads}
 use Rattle.hw_text.proofs.laws.signed_spelled.Goals as goal
