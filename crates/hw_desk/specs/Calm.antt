@@ -1,0 +1,81 @@
+-- A desk that never fails, as a contract sees it.
+use Rattle.std.specs.Prelude.{◌≡◌, List, [], false, Some, None, IfSome, cond, unwrap_or, refl}
+use Rattle.hw_desk.specs.State.{FeedState, TrayState, DeskState, IsFresh}
+use Rattle.hw_desk.specs.Files.{held_in}
+use Rattle.hw_desk.specs.Feeds.{FeedModel, told_feed}
+use Rattle.hw_desk.specs.Memory.{fresh_feed}
+use Rattle.hw_desk.specs.CalmBytes.{CalmSent}
+use Rattle.hw_desk.specs.declared.desk.Feed.{Feed}
+use Rattle.hw_desk.specs.declared.desk.Feed.TheVariants.{Flat, Instance, Tides, Certificate, Plan, Events}
+use Rattle.hw_desk.specs.declared.desk.Tray.{Tray}
+use Rattle.hw_desk.specs.declared.desk.Tray.TheVariants.{Report, Proof}
+use Rattle.hw_desk.specs.declared.slots.NamedBytes.{NamedBytes}
+use Rattle.hw_desk.specs.declared.calm.CalmTray.{CalmTray}
+
+-- the files, the feeds and the trays
+pub record CalmModel : Type 0 where
+  pub files : List NamedBytes
+  pub flat : FeedModel
+  pub instance : FeedModel
+  pub tides : FeedModel
+  pub certificate : FeedModel
+  pub plan : FeedModel
+  pub events : FeedModel
+  pub report : CalmTray
+  pub proof : CalmTray
+
+abbrev pub calm_feeds : CalmModel → Feed → FeedState
+calm_feeds d Flat = told_feed d.flat
+calm_feeds d Instance = told_feed d.instance
+calm_feeds d Tides = told_feed d.tides
+calm_feeds d Certificate = told_feed d.certificate
+calm_feeds d Plan = told_feed d.plan
+calm_feeds d Events = told_feed d.events
+
+-- nothing was sent to a proof that wasn't made
+abbrev pub calm_trays : CalmModel → Tray → TrayState
+calm_trays d Report = record { made = d.report.made; name = d.report.name; sent = d.report.sent.told }
+calm_trays d Proof = record { made = d.proof.made; name = d.proof.name; sent = cond d.proof.made d.proof.sent.told (Some []) }
+
+-- an unknown name holds no bytes, and nothing ever fails
+abbrev pub calm_state : CalmModel → DeskState
+calm_state d = record {
+  held = λ name. Some (unwrap_or (held_in d.files name) []);
+  feeds = calm_feeds d;
+  trays = calm_trays d;
+  read_faults = 0;
+  write_faults = 0;
+}
+
+abbrev pub fresh_calm : CalmTray
+fresh_calm = record { made = false; name = None; sent = record { told = Some []; count = 0 } }
+
+-- a new desk
+abbrev pub new_calm : List NamedBytes → CalmModel
+new_calm files = record {
+  files = files;
+  flat = fresh_feed;
+  instance = fresh_feed;
+  tides = fresh_feed;
+  certificate = fresh_feed;
+  plan = fresh_feed;
+  events = fresh_feed;
+  report = fresh_calm;
+  proof = fresh_calm;
+}
+
+-- the bytes sent to a tray
+abbrev pub calm_sent : CalmModel → Tray → CalmSent
+calm_sent d Report = d.report.sent
+calm_sent d Proof = d.proof.sent
+
+unbegun : (d : CalmModel) (f : Feed) → (calm_feeds d f).begun ≡ false → IfSome (calm_feeds d f).left (λ bytes. bytes ≡ [])
+unbegun d Flat h = rw h refl
+unbegun d Instance h = rw h refl
+unbegun d Tides h = rw h refl
+unbegun d Certificate h = rw h refl
+unbegun d Plan h = rw h refl
+unbegun d Events h = rw h refl
+
+pub calm_fresh : (d : CalmModel) → IsFresh (calm_state d)
+calm_fresh d = record { left = unbegun d; sent = λ h. rw h refl }

@@ -1,0 +1,10 @@
+pub mod State
+pub mod Calls
+pub mod Names
+pub mod Sent
+pub mod Files
+pub mod Feeds
+pub mod Memory
+pub mod CalmBytes
+pub mod Calm
+pub mod Whole

@@ -1,0 +1,71 @@
+-- What a desk is to a contract.
+use Rattle.std.specs.Prelude.{◌≡◌, ◌≤◌, ◌+◌, ◌-◌, ◌^◌, ◌==◌, ℕ, List, [], Bool, true, false, Option, IfSome, cond, min}
+use Rattle.hw_desk.specs.declared.desk.Feed.{Feed}
+use Rattle.hw_desk.specs.declared.desk.Feed.TheVariants.{Flat, Instance, Tides, Certificate, Plan, Events}
+use Rattle.hw_desk.specs.declared.desk.Tray.{Tray}
+use Rattle.hw_desk.specs.declared.desk.Tray.TheVariants.{Report, Proof}
+
+-- a feed: whether it was begun, the name given there, and the bytes left, the last two where they are told
+pub record FeedState : Type 0 where
+  pub begun : Bool
+  pub name : Option (List ℕ)
+  pub left : Option (List ℕ)
+
+-- a tray: whether it was made, the name given there, and the bytes sent, the last two where they are told
+pub record TrayState : Type 0 where
+  pub made : Bool
+  pub name : Option (List ℕ)
+  pub sent : Option (List ℕ)
+
+pub record DeskState : Type 0 where
+  -- the bytes held under each name, where they are told
+  pub held : List ℕ → Option (List ℕ)
+  pub feeds : Feed → FeedState
+  pub trays : Tray → TrayState
+  -- how many begins and reads, and how many makes and writes, have failed
+  pub read_faults : ℕ
+  pub write_faults : ℕ
+
+-- the feeds in order
+abbrev pub place_of : Feed → ℕ
+place_of Flat = 0
+place_of Instance = 1
+place_of Tides = 2
+place_of Certificate = 3
+place_of Plan = 4
+place_of Events = 5
+
+abbrev pub same_feed : Feed → Feed → Bool
+same_feed f g = place_of f == place_of g
+
+abbrev pub same_tray : Tray → Tray → Bool
+same_tray Report Report = true
+same_tray Proof Proof = true
+same_tray _ _ = false
+
+-- the feeds with another state at one of them
+abbrev pub put_feed : (Feed → FeedState) → Feed → FeedState → Feed → FeedState
+put_feed feeds feed s = λ f. cond (same_feed f feed) s (feeds f)
+
+-- the trays with another state at one of them
+abbrev pub put_tray : (Tray → TrayState) → Tray → TrayState → Tray → TrayState
+put_tray trays tray s = λ t. cond (same_tray t tray) s (trays t)
+
+-- the count is above what it was, or stands at its end
+abbrev pub Rose : ℕ → ℕ → Type 0
+Rose before now = min (before + 1) (2 ^ 64 - 1) ≤ now
+
+-- nothing is left of what wasn't begun, and nothing sent to a proof that wasn't made
+pub record IsFresh (s : DeskState) : Type 0 where
+  pub left : (f : Feed) → (s.feeds f).begun ≡ false → IfSome (s.feeds f).left (λ bytes. bytes ≡ [])
+  pub sent : (s.trays Proof).made ≡ false → IfSome (s.trays Proof).sent (λ bytes. bytes ≡ [])
+
+-- Report needs no make
+abbrev pub CanSend : Tray → DeskState → Type 0
+CanSend Report s = Unit {0}
+CanSend Proof s = (s.trays Proof).made ≡ true
+
+-- no feed was begun, and no tray made
+pub record IsNew (s : DeskState) : Type 0 where
+  pub feeds : (f : Feed) → (s.feeds f).begun ≡ false
+  pub trays : (t : Tray) → (s.trays t).made ≡ false

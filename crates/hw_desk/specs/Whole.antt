@@ -1,0 +1,26 @@
+-- What the calls over a whole feed and a whole text do.
+use Rattle.std.specs.Prelude.{◌≡◌, ◌≤◌, ◌<◌, ℕ, List, Result, IfSome, IfOk, IsErrOf, OnOk, OnErr, length, take, Vec}
+use Rattle.std.specs.Io.KnownBytes.{IsAtEnd}
+use Rattle.std.specs.declared.alloc.Global.{Global}
+use Rattle.hw_desk.specs.State.{DeskState, Rose}
+use Rattle.hw_desk.specs.Calls.{OnlyTray, Moves, Sends, WriteCause}
+use Rattle.hw_desk.specs.declared.desk.Feed.{Feed}
+use Rattle.hw_desk.specs.declared.desk.Tray.{Tray}
+use Rattle.hw_desk.specs.declared.whole.ReadStop.{ReadStop}
+use Rattle.hw_desk.specs.declared.whole.ReadStop.TheVariants.{Fault, TooLong}
+
+-- all bytes left were read, or why not. Of a told feed with more bytes than the limit only TooLong, Fault with its cause, and want of memory can come, and of another one all but TooLong
+pub record ReadsWhole (feed : Feed) (limit : ℕ) (old new : DeskState) (result : Result (Vec ℕ Global) ReadStop) : Type 0 where
+  pub moved : (bytes : List ℕ) × Moves feed bytes old new
+  pub whole : IfOk result (λ v. Moves feed v.items old new × IsAtEnd (new.feeds feed).left)
+  pub all : IfOk result (λ v. IfSome (old.feeds feed).left (λ left. left ≡ v.items))
+  pub short : IfOk result (λ v. length v.items ≤ limit)
+  pub long : IsErrOf result TooLong → IfSome (old.feeds feed).left (λ left. limit < length left)
+  pub fault : IsErrOf result Fault → Rose old.read_faults new.read_faults
+
+-- a text was sent, or a proper prefix of it
+pub record SendsText {E : Type 0} (tray : Tray) (text : List ℕ) (old new : DeskState) (result : Result Unit E) : Type 0 where
+  pub only : OnlyTray tray old new
+  pub ok : OnOk result (Sends tray text old new)
+  pub err : OnErr result ((n : ℕ) × (n < length text) × Sends tray (take n text) old new)
+  pub cause : WriteCause old new result

@@ -1,0 +1,252 @@
+ghost use Rattle.std.specs.Prelude.{◌≡◌, ◌<◌, [], IfOk, IsOk, true, false, length, Some, None, MatchOption};
+ghost use Rattle.hw_desk.specs.Names.{kept_name};
+ghost use Rattle.hw_desk.specs.CalmBytes.{sent_more};
+
+use crate::name::KeptName;
+use crate::slots::{FeedSlot, NamedBytes, find, take_some};
+use crate::{Desk, DeskFailed, Feed, Tray};
+use hw_model::NoMemory;
+use std::alloc::Global;
+use std::marker::Model;
+
+/// How many bytes a tray keeps.
+const ROOM: usize = 1_048_576;
+
+/// Bytes sent to a tray: past the room only their count is kept.
+#[derive(Drop)]
+pub struct CalmBytes {
+    bytes: Vec<u8>,
+    lost: bool,
+    count: u64,
+}
+
+impl Model for CalmBytes {
+    ghost use Rattle.hw_desk.specs.CalmBytes.{CalmSent};
+    ghost use Rattle.std.specs.Prelude.{cond, None, Some, ◌≤◌, length, vec_capacity};
+
+    ghost Value = { CalmSent };
+
+    ghost view = { λ s. record { told = cond s.lost None (Some s.bytes.items); count = s.count } };
+
+    ghost invariant = { λ s. (1048576 ≤ vec_capacity s.bytes) × (length s.bytes.items ≤ 1048576) };
+}
+
+impl CalmBytes {
+    /// No bytes.
+    pub fn new(alloc: Global) -> Result<CalmBytes, NoMemory>
+        ensures { IfOk result (λ sent. sent ≡ record { told = Some []; count = 0 }) }
+    {
+        let bytes = Vec::with_capacity(alloc, ROOM)?;
+        Ok(CalmBytes {
+            bytes,
+            lost: false,
+            count: 0,
+        })
+    }
+
+    /// The bytes, while they are kept.
+    pub fn kept(&self) -> Option<&[u8]>
+        ensures { MatchOption result (self.now.told ≡ None) (λ bytes. self.now.told ≡ Some bytes.now) }
+    {
+        if self.lost { None } else { Some(&self.bytes) }
+    }
+
+    /// How many bytes were sent.
+    pub fn count(&self) -> u64
+        ensures { result ≡ self.now.count }
+    {
+        self.count
+    }
+
+    /// Forgets the bytes.
+    pub fn clear(&mut self)
+        ensures { self.new ≡ record { told = Some []; count = 0 } }
+    {
+        self.bytes.clear();
+        self.lost = false;
+        self.count = 0;
+    }
+
+    /// Sends the bytes.
+    pub fn send(&mut self, bytes: &[u8])
+        ensures { self.new ≡ sent_more self.old bytes.now }
+    {
+        if !self.lost && bytes.len() <= ROOM - self.bytes.len() {
+            self.bytes.extend_from_slice(bytes).unwrap();
+        } else {
+            self.lost = true;
+        }
+        self.count = self.count.saturating_add(bytes.len() as u64);
+    }
+}
+
+/// A tray that takes all.
+#[derive(Drop)]
+pub struct CalmTray {
+    pub made: bool,
+    pub name: KeptName,
+    pub sent: CalmBytes,
+}
+
+impl CalmTray {
+    ghost use Rattle.hw_desk.specs.Calm.{fresh_calm};
+
+    /// A tray that wasn't made.
+    pub fn new(alloc: Global) -> Result<CalmTray, NoMemory>
+        ensures { IfOk result (λ tray. tray ≡ fresh_calm) }
+    {
+        Ok(CalmTray {
+            made: false,
+            name: KeptName::new(alloc)?,
+            sent: CalmBytes::new(alloc)?,
+        })
+    }
+
+    /// Makes the tray, with nothing sent to it.
+    fn make(&mut self, name: &str)
+        ensures { self.new ≡ record { made = true; name = kept_name name.now; sent = record { told = Some []; count = 0 } } }
+    {
+        self.made = true;
+        self.name.keep(name);
+        self.sent.clear();
+    }
+}
+
+/// A desk in memory whose calls never fail. An unknown name holds no bytes.
+///
+/// It tells the bytes sent to a tray while they are at most 1,048,576, and then keeps their count alone;
+/// a name of more than 256 bytes isn't told.
+#[derive(Drop)]
+pub struct CalmDesk {
+    files: Vec<NamedBytes>,
+    flat: FeedSlot,
+    instance: FeedSlot,
+    tides: FeedSlot,
+    certificate: FeedSlot,
+    plan: FeedSlot,
+    events: FeedSlot,
+    report: CalmTray,
+    proof: CalmTray,
+}
+
+impl Model for CalmDesk {
+    ghost use Rattle.hw_desk.specs.Calm.{CalmModel};
+    ghost use Rattle.hw_desk.specs.Feeds.{feed_of};
+
+    ghost Value = { CalmModel };
+
+    ghost view = { λ d. record { files = d.files.items; flat = feed_of d.files.items d.flat; instance = feed_of d.files.items d.instance; tides = feed_of d.files.items d.tides; certificate = feed_of d.files.items d.certificate; plan = feed_of d.files.items d.plan; events = feed_of d.files.items d.events; report = d.report; proof = d.proof } };
+}
+
+impl CalmDesk {
+    ghost use Rattle.hw_desk.specs.State.{IsNew};
+    ghost use Rattle.hw_desk.specs.Calm.{calm_state, new_calm, calm_sent};
+
+    /// A desk with these files, on which nothing was begun or made. It takes 1,048,576 bytes for each
+    /// tray and 256 bytes for each name; of two files of one name the first is read.
+    pub fn new(alloc: Global, files: Vec<NamedBytes>) -> Result<CalmDesk, NoMemory>
+        ensures fresh { IfOk result (λ desk. IsNew (calm_state desk)) }
+        ensures value { IfOk result (λ desk. desk ≡ new_calm files.items) }
+    {
+        Ok(CalmDesk {
+            files,
+            flat: FeedSlot::new(alloc)?,
+            instance: FeedSlot::new(alloc)?,
+            tides: FeedSlot::new(alloc)?,
+            certificate: FeedSlot::new(alloc)?,
+            plan: FeedSlot::new(alloc)?,
+            events: FeedSlot::new(alloc)?,
+            report: CalmTray::new(alloc)?,
+            proof: CalmTray::new(alloc)?,
+        })
+    }
+
+    /// The bytes sent to a tray, while they are told.
+    pub fn sent(&self, tray: Tray) -> Option<&[u8]>
+        ensures { MatchOption result (((calm_state self.now).trays tray).sent ≡ None) (λ bytes. ((calm_state self.now).trays tray).sent ≡ Some bytes.now) }
+    {
+        match tray {
+            Tray::Report => self.report.sent.kept(),
+            Tray::Proof if self.proof.made => self.proof.sent.kept(),
+            Tray::Proof => Some(&[]),
+        }
+    }
+
+    /// How many bytes were sent to a tray, told or not.
+    pub fn sent_count(&self, tray: Tray) -> u64
+        ensures { result ≡ (calm_sent self.now tray).count }
+    {
+        match tray {
+            Tray::Report => self.report.sent.count(),
+            Tray::Proof => self.proof.sent.count(),
+        }
+    }
+}
+
+impl Desk for CalmDesk {
+    ghost use Rattle.hw_desk.specs.State.{CanSend};
+    ghost use Rattle.hw_desk.specs.Calls.{Begins, Reads, Makes, Writes};
+    ghost use Rattle.hw_desk.specs.Calm.{calm_state, calm_fresh};
+
+    ghost state = { calm_state };
+
+    ghost fresh = { calm_fresh };
+
+    fn begin(&mut self, feed: Feed, name: &str) -> Result<(), DeskFailed>
+        requires fresh { ((calm_state self.old).feeds feed).begun ≡ false }
+        ensures begins { Begins feed name.now (calm_state self.old) (calm_state self.new) result }
+        ensures ok { IsOk result }
+    {
+        let file = find(&self.files, name);
+        match feed {
+            Feed::Flat => self.flat.open(name, file),
+            Feed::Instance => self.instance.open(name, file),
+            Feed::Tides => self.tides.open(name, file),
+            Feed::Certificate => self.certificate.open(name, file),
+            Feed::Plan => self.plan.open(name, file),
+            Feed::Events => self.events.open(name, file),
+        }
+        Ok(())
+    }
+
+    fn read(&mut self, feed: Feed, into: &mut [u8]) -> Result<usize, DeskFailed>
+        requires begun { ((calm_state self.old).feeds feed).begun ≡ true }
+        requires some { 0 < length into.old }
+        ensures reads { Reads feed into.new (calm_state self.old) (calm_state self.new) result }
+        ensures ok { IsOk result }
+    {
+        Ok(match feed {
+            Feed::Flat => take_some(&self.files, &mut self.flat, usize::MAX, into),
+            Feed::Instance => take_some(&self.files, &mut self.instance, usize::MAX, into),
+            Feed::Tides => take_some(&self.files, &mut self.tides, usize::MAX, into),
+            Feed::Certificate => take_some(&self.files, &mut self.certificate, usize::MAX, into),
+            Feed::Plan => take_some(&self.files, &mut self.plan, usize::MAX, into),
+            Feed::Events => take_some(&self.files, &mut self.events, usize::MAX, into),
+        })
+    }
+
+    fn make(&mut self, tray: Tray, name: &str) -> Result<(), DeskFailed>
+        requires fresh { ((calm_state self.old).trays tray).made ≡ false }
+        ensures makes { Makes tray name.now (calm_state self.old) (calm_state self.new) result }
+        ensures ok { IsOk result }
+    {
+        match tray {
+            Tray::Report => self.report.make(name),
+            Tray::Proof => self.proof.make(name),
+        }
+        Ok(())
+    }
+
+    fn write(&mut self, tray: Tray, bytes: &[u8]) -> Result<usize, DeskFailed>
+        requires made { CanSend tray (calm_state self.old) }
+        requires some { 0 < length bytes.now }
+        ensures writes { Writes tray bytes.now (calm_state self.old) (calm_state self.new) result }
+        ensures ok { IsOk result }
+    {
+        match tray {
+            Tray::Report => self.report.sent.send(bytes),
+            Tray::Proof => self.proof.sent.send(bytes),
+        }
+        Ok(bytes.len())
+    }
+}
