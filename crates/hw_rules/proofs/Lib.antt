@@ -5,3 +5,6 @@ pub mod Freed
 pub mod Meets
 pub mod Passes
 pub mod Sources
+pub mod Rank
+pub mod Order
+pub mod Walks

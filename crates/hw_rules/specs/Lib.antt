@@ -1,2 +1,4 @@
 pub mod Breaches
 pub mod Differences
+pub mod Outcomes
+pub mod Listing

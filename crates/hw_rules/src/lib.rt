@@ -5,16 +5,23 @@
 #![tactic(auto)]
 
 mod breach;
+mod laws;
+mod lists;
+mod outcome;
 mod pairs;
 mod refuting;
 mod spacing;
 mod timetables;
 mod tugs;
+mod walking;
 
 pub use breach::Breach;
 pub use hw_laws::{point_room, rising_best, sound_refutation, whole_walk};
+pub use laws::{each_list_once, rank_follows_order};
+pub use outcome::Walked;
 pub use pairs::allowed_pair;
 pub use refuting::refuted;
 pub use spacing::{Freeing, Two, covered, two_of, two_refuted};
 pub use timetables::{broken, cargo};
 pub use tugs::busy;
+pub use walking::walk;
