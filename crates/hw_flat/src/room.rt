@@ -172,6 +172,7 @@ impl Room {
     /// Leaves every slot and every order open.
     pub fn reset(&mut self)
         ensures whole { self.new ≡ opened self.old }
+        ensures room { IsRoom self.old }
     {
         fill(&mut self.ranges, (0, self.slots.saturating_sub(1)));
         fill(&mut self.orders, Order::Unset);

@@ -1,0 +1,4 @@
+pub mod Ranks
+pub mod Forms
+pub mod Denials
+pub mod Steps

@@ -1,0 +1,8 @@
+use crate::clause::Clause;
+
+/// What was found in a room: nothing, or a clause that is not quiet there.
+#[derive(Debug, Drop)]
+pub enum Found {
+    Quiet,
+    Clause(Clause),
+}

@@ -1,0 +1,22 @@
+//! Clauses in normal form, and what a room says of them: truth, cuts, denied rooms and one step
+//! of a replay.
+#![tactic(auto)]
+
+mod clause;
+mod cutting;
+mod denying;
+mod fault;
+mod form;
+mod found;
+mod narrowing;
+
+pub use clause::Clause;
+pub use cutting::{cut, truth};
+pub use denying::deny;
+pub use fault::ClauseFault;
+pub use found::Found;
+pub use hw_laws::{
+    cut_is_room, cut_room, denied_is_room, denied_room, sound_replay, truth_in_room,
+};
+pub use hw_model::{Lit, LitTruth, Narrowed};
+pub use narrowing::narrow;

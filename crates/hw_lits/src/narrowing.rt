@@ -1,0 +1,52 @@
+ghost use Rattle.std.specs.Prelude.{◌≡◌, All};
+ghost use Rattle.hw_model.specs.Narrowing.{truth};
+ghost use Rattle.hw_model.specs.Replay.{narrowing, room_after};
+ghost use Rattle.hw_laws.specs.Laws.{IsLitOf};
+ghost use Rattle.hw_lits.specs.Cuts.{CutsFree, with_free};
+
+use crate::clause::Clause;
+use crate::cutting::{cut, truth};
+use hw_flat::Room;
+use hw_model::{Lit, LitTruth, Narrowed};
+
+/// One step of a replay: one pass over the clause, which takes no memory. Only a cut changes the
+/// room.
+pub fn narrow(clause: &Clause, room: &mut Room) -> Narrowed
+    requires fits { All (IsLitOf room.old.ships) clause.now }
+    ensures value { result ≡ narrowing clause.now room.old }
+    ensures room { room.new ≡ room_after result room.old }
+{
+    let step = step_of(clause.as_slice(), room);
+    if let Narrowed::Cut(lit) = step {
+        cut(lit, room);
+    }
+    step
+}
+
+fn step_of(lits: &[Lit], room: &Room) -> Narrowed
+    requires fits { All (IsLitOf room.now.ships) lits.now }
+    ensures value { result ≡ narrowing lits.now room.now }
+    ensures free { CutsFree room.now result }
+{
+    let mut step = Narrowed::Conflict;
+    for lit in lits {
+        match truth(*lit, room) {
+            LitTruth::True => return Narrowed::Same,
+            LitTruth::False => {}
+            LitTruth::Free => step = with_free_lit(step, *lit),
+        }
+    }
+    step
+}
+
+// The step of the literals so far and one more that is open.
+fn with_free_lit(step: Narrowed, lit: Lit) -> Narrowed
+    ensures { result ≡ with_free step lit }
+{
+    match step {
+        Narrowed::Same => Narrowed::Same,
+        Narrowed::Conflict => Narrowed::Cut(lit),
+        Narrowed::Cut(first) => Narrowed::Loose { first, second: lit },
+        Narrowed::Loose { first, second } => Narrowed::Loose { first, second },
+    }
+}
