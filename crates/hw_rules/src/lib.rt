@@ -5,11 +5,15 @@
 #![tactic(auto)]
 
 mod breach;
+#[cfg(test)]
+mod fixtures;
 mod laws;
 mod lists;
 mod outcome;
 mod pairs;
 mod refuting;
+#[cfg(test)]
+mod refuting_tests;
 mod spacing;
 mod timetables;
 mod tugs;

@@ -109,10 +109,9 @@ fn forced_tugs(jobs: &[Job], room: &Room, slot: Slot) -> u64
 {
     let mut sum: u64 = 0;
     for job in jobs {
-        if room.high(job.ship) <= slot
-            && (slot as u64) < room.low(job.ship) as u64 + job.hold as u64
-        {
-            sum += job.tugs as u64;
+        let low = u64::from(room.low(job.ship));
+        if room.high(job.ship) <= slot && u64::from(slot) < low + u64::from(job.hold) {
+            sum += u64::from(job.tugs);
         }
     }
     sum
