@@ -1,5 +1,5 @@
 -- The meaning rules on one value.
-use Rattle.std.specs.Prelude.{ℕ, ◌-◌, ◌&&◌, ◌||◌, ◌==◌, ℤ, pos, List, [], ◌∷◌, length, Bool, not, Option, nat_le, int_le, int_lt, slice_index, bytes_eq, codes}
+use Rattle.std.specs.Prelude.{ℕ, ◌-◌, ◌&&◌, ◌||◌, ◌==◌, ℤ, pos, List, length, Bool, not, Option, nat_le, int_le, int_lt, slice_index, bytes_eq, codes}
 use Rattle.std.specs.List.{list_all, list_any}
 use Rattle.hw_port.specs.declared.fault.Path.{Path}
 use Rattle.hw_port.specs.declared.fault.PortFault.{PortFault}

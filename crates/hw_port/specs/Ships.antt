@@ -10,11 +10,11 @@ use Rattle.hw_port.specs.Faults.{◌or_else◌, unless, each, at_item, at_part}
 use Rattle.hw_port.specs.Rules.{range, place, count, at_least, above, new_name, among, is_direction}
 
 -- its name, not used by an earlier one of these ships, its direction, and its class of so many
-unfoldable pub sort_fault : List ShipParts → ℕ → ℕ → ShipParts → Option PortFault
+unfoldable pub sort_fault : List ShipParts → ℤ → ℕ → ShipParts → Option PortFault
 sort_fault all classes i s =
     new_name (at_item 19 i) (among (λ v. v.name) s.name (take i all)) s.name
     or_else unless (at_item 20 i) Name (is_direction s.direction)
-    or_else place (at_item 21 i) (pos classes) s.class
+    or_else place (at_item 21 i) classes s.class
 
 unfoldable pub window_fault : ℕ → ℤ → ℤ → ℤ → Option PortFault
 window_fault i slots earliest latest =
@@ -29,32 +29,32 @@ load_fault i tpc light deep =
     or_else range (at_item 26 i) (pos 0) (pos 10000) deep
     or_else at_least (at_item 26 i) light deep
 
-unfoldable pub pass_fault : ℕ → ℕ → ℕ → Pass → Option PortFault
+unfoldable pub pass_fault : ℕ → ℤ → ℕ → Pass → Option PortFault
 pass_fault i waypoints j p =
-    place (at_part 29 i j) (pos waypoints) p.waypoint
+    place (at_part 29 i j) waypoints p.waypoint
     or_else range (at_part 30 i j) (pos 0) (pos 1023) p.offset
     or_else range (at_part 31 i j) (pos 0) (pos 1000) p.clearance
 
-unfoldable pub route_fault : ℕ → ℕ → List Pass → Option PortFault
+unfoldable pub route_fault : ℕ → ℤ → List Pass → Option PortFault
 route_fault i waypoints route =
     count (at_item 27 i) 1 16 (length route)
     or_else each (pass_fault i waypoints) 0 route
 
-unfoldable pub stretch_fault : ℕ → ℕ → ℕ → ℤ → Stretch → Option PortFault
+unfoldable pub stretch_fault : ℕ → ℤ → ℕ → ℤ → Stretch → Option PortFault
 stretch_fault i sections j before s =
-    place (at_part 34 i j) (pos sections) s.section
+    place (at_part 34 i j) sections s.section
     or_else above (at_part 34 i j) before s.section
     or_else range (at_part 35 i j) (pos 0) (pos 511) s.enter
     or_else range (at_part 36 i j) (pos 1) (pos 512) s.leave
     or_else above (at_part 36 i j) s.enter s.leave
 
 -- the stretches from the j-th on, behind one in the section `before`
-abbrev pub stretches_fault : ℕ → ℕ → ℕ → ℤ → List Stretch → Option PortFault
+abbrev pub stretches_fault : ℕ → ℤ → ℕ → ℤ → List Stretch → Option PortFault
 stretches_fault i sections j before [] = None
 stretches_fault i sections j before (s ∷ ss) = stretch_fault i sections j before s or_else stretches_fault i sections (j + 1) s.section ss
 
 -- no section stands before the first stretch
-unfoldable pub channel_fault : ℕ → ℕ → List Stretch → Option PortFault
+unfoldable pub channel_fault : ℕ → ℤ → List Stretch → Option PortFault
 channel_fault i sections channel =
     count (at_item 32 i) 0 8 (length channel)
     or_else stretches_fault i sections 0 (negsuc 0) channel
@@ -66,9 +66,9 @@ tugs_fault i tugs job =
 
 unfoldable pub ship_fault : Parts → ℕ → ShipParts → Option PortFault
 ship_fault p i s =
-    sort_fault p.ships (length p.separation) i s
+    sort_fault p.ships (pos (length p.separation)) i s
     or_else window_fault i p.slots s.earliest s.latest
     or_else load_fault i s.tpc s.light s.deep
-    or_else route_fault i (length p.waypoints) s.route
-    or_else channel_fault i (length p.sections) s.channel
+    or_else route_fault i (pos (length p.waypoints)) s.route
+    or_else channel_fault i (pos (length p.sections)) s.channel
     or_else tugs_fault i s.tugs s.job

@@ -1,5 +1,5 @@
 -- All parts of a port, as contracts see them.
-use Rattle.std.specs.Prelude.{ℕ, ℤ, List}
+use Rattle.std.specs.Prelude.{ℤ, List}
 use Rattle.hw_port.specs.Parts.{ShipParts}
 use Rattle.hw_port.specs.declared.parts.Waypoint.{Waypoint}
 use Rattle.hw_port.specs.declared.parts.Section.{Section}

@@ -2,8 +2,11 @@
 #![tactic(auto)]
 
 mod fault;
+mod meaning;
 mod parts;
 mod port;
+mod rules;
+mod ships;
 
 pub use fault::{Path, PortFault, PortWord};
 pub use parts::{

@@ -1,7 +1,10 @@
 //! A port that keeps the meaning rules.
 
 ghost use Rattle.std.specs.Prelude.{◌≡◌};
+ghost use Rattle.hw_port.specs.Meaning.{port_of};
 
+use crate::fault::PortFault;
+use crate::meaning::test_port;
 use crate::parts::PortParts;
 use std::marker::Model;
 
@@ -24,6 +27,17 @@ impl Model for Port {
 }
 
 impl Port {
+    /// The port of these parts, or their first fault of meaning in the order of the table, list
+    /// items one after another and each whole. The parts are then dropped.
+    ///
+    /// It takes no memory, and goes over the parts once; names are compared with those before.
+    pub fn check(parts: PortParts) -> Result<Port, PortFault>
+        ensures { result ≡ port_of parts }
+    {
+        test_port(&parts)?;
+        Ok(Port { parts })
+    }
+
     /// The parts. It takes no memory.
     pub fn parts(&self) -> &PortParts
         ensures parts { result.now ≡ self.now }
