@@ -4,3 +4,4 @@ pub mod Faults
 pub mod Rules
 pub mod Ships
 pub mod Meaning
+pub mod Kept

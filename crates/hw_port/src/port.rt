@@ -1,7 +1,8 @@
 //! A port that keeps the meaning rules.
 
-ghost use Rattle.std.specs.Prelude.{◌≡◌};
-ghost use Rattle.hw_port.specs.Meaning.{port_of};
+ghost use Rattle.std.specs.Prelude.{◌≡◌, None};
+ghost use Rattle.hw_port.specs.Meaning.{port_of, port_fault};
+ghost use Rattle.hw_port.specs.Kept.{PortKept};
 
 use crate::fault::PortFault;
 use crate::meaning::test_port;
@@ -41,6 +42,8 @@ impl Port {
     /// The parts. It takes no memory.
     pub fn parts(&self) -> &PortParts
         ensures parts { result.now ≡ self.now }
+        ensures rules { port_fault result.now ≡ None }
+        ensures kept { PortKept result.now }
     {
         &self.parts
     }

@@ -1,0 +1,102 @@
+-- What the parts of a port that keeps the meaning rules are like, as callers use it.
+use Rattle.std.specs.Prelude.{◌≡◌, ◌≤◌, ◌≤ℤ◌, ◌<ℤ◌, ℕ, ℤ, pos, negsuc, List, [], ◌∷◌, length, IsTrue, All, Option, None}
+use Rattle.hw_port.specs.declared.parts.Waypoint.{Waypoint}
+use Rattle.hw_port.specs.declared.parts.Section.{Section}
+use Rattle.hw_port.specs.declared.parts.Pass.{Pass}
+use Rattle.hw_port.specs.declared.parts.Stretch.{Stretch}
+use Rattle.hw_port.specs.declared.parts.BerthPair.{BerthPair}
+use Rattle.hw_port.specs.Parts.{ShipParts}
+use Rattle.hw_port.specs.Whole.{Parts}
+use Rattle.hw_port.specs.Rules.{is_name, is_direction, outgoing, incoming}
+use Rattle.hw_port.specs.Meaning.{has_direction, ship_at, port_fault}
+
+-- a number from low to high
+pub record Within (lowest highest value : ℤ) : Type 0 where
+  pub low : lowest ≤ℤ value
+  pub high : value ≤ℤ highest
+
+-- the place of one of so many
+pub record IsPlace (many value : ℤ) : Type 0 where
+  pub low : pos 0 ≤ℤ value
+  pub below : value <ℤ many
+
+-- so many items, from the fewest to the most
+pub record Counts (fewest most many : ℕ) : Type 0 where
+  pub low : fewest ≤ many
+  pub high : many ≤ most
+
+pub record WaypointKept (w : Waypoint) : Type 0 where
+  pub name : IsTrue (is_name w.name)
+  pub depth : Within (pos 0) (pos 10000) w.depth
+
+abbrev pub SectionKept : Section → Type 0
+SectionKept s = IsTrue (is_name s.name)
+
+-- the gaps behind a ship of one of so many classes
+pub record RowKept (classes : ℕ) (row : List ℤ) : Type 0 where
+  pub size : length row ≡ classes
+  pub gaps : All (Within (pos 1) (pos 512)) row
+
+pub record PassKept (waypoints : ℤ) (p : Pass) : Type 0 where
+  pub waypoint : IsPlace waypoints p.waypoint
+  pub offset : Within (pos 0) (pos 1023) p.offset
+  pub clearance : Within (pos 0) (pos 1000) p.clearance
+
+pub record StretchKept (sections : ℤ) (s : Stretch) : Type 0 where
+  pub section : IsPlace sections s.section
+  pub enter : Within (pos 0) (pos 511) s.enter
+  pub leave : Within (pos 1) (pos 512) s.leave
+  pub order : s.enter <ℤ s.leave
+
+-- each section stands above the one before
+abbrev pub Ascends : ℤ → List Stretch → Type 0
+Ascends before [] = Unit {0}
+Ascends before (s ∷ ss) = (before <ℤ s.section) × Ascends s.section ss
+
+pub record ShipKept (p : Parts) (s : ShipParts) : Type 0 where
+  pub name : IsTrue (is_name s.name)
+  pub direction : IsTrue (is_direction s.direction)
+  pub class : IsPlace (pos (length p.separation)) s.class
+  pub earliest : IsPlace p.slots s.earliest
+  pub latest : IsPlace p.slots s.latest
+  pub window : s.earliest ≤ℤ s.latest
+  pub tpc : Within (pos 0) (pos 3000) s.tpc
+  pub light : Within (pos 0) (pos 10000) s.light
+  pub deep : Within (pos 0) (pos 10000) s.deep
+  pub load : s.light ≤ℤ s.deep
+  pub passes : Counts 1 16 (length s.route)
+  pub route : All (PassKept (pos (length p.waypoints))) s.route
+  pub stretches : Counts 0 8 (length s.channel)
+  pub channel : All (StretchKept (pos (length p.sections))) s.channel
+  pub ascends : Ascends (negsuc 0) s.channel
+  pub tugs : Within (pos 0) (pos 64) s.tugs
+  pub job : Within (pos 1) (pos 512) s.job
+
+pub record BerthKept (ships : List ShipParts) (b : BerthPair) : Type 0 where
+  pub outgoing_place : IsPlace (pos (length ships)) b.outgoing
+  pub outgoing_side : IsTrue (has_direction outgoing (ship_at ships b.outgoing))
+  pub incoming_place : IsPlace (pos (length ships)) b.incoming
+  pub incoming_side : IsTrue (has_direction incoming (ship_at ships b.incoming))
+  pub clear : Within (pos 1) (pos 512) b.clear
+
+pub record PortKept (p : Parts) : Type 0 where
+  pub version : Within (pos 1) (pos 2) p.version
+  pub slots : Within (pos 1) (pos 512) p.slots
+  pub slot_minutes : Within (pos 1) (pos 1440) p.slot_minutes
+  pub waypoint_count : Counts 1 16 (length p.waypoints)
+  pub waypoints : All WaypointKept p.waypoints
+  pub section_count : Counts 0 8 (length p.sections)
+  pub sections : All SectionKept p.sections
+  pub class_count : Counts 1 8 (length p.separation)
+  pub separation : All (RowKept (length p.separation)) p.separation
+  pub turnaround_outgoing : Within (pos 0) (pos 512) p.turnaround.outgoing
+  pub turnaround_incoming : Within (pos 0) (pos 512) p.turnaround.incoming
+  pub fleet : Within (pos 0) (pos 1000) p.fleet
+  pub ship_count : Counts 1 40 (length p.ships)
+  pub ships : All (ShipKept p) p.ships
+  pub berth_count : Counts 0 200 (length p.berths)
+  pub berths : All (BerthKept p.ships) p.berths
+
+-- parts without a fault are kept
+abbrev pub FaultlessIsKept : Type 0
+FaultlessIsKept = (p : Parts) → port_fault p ≡ None → PortKept p
