@@ -1,8 +1,15 @@
-//! The lines of a certificate, and in `specs/` when a line is valid after others and what they prove.
+//! The lines of a certificate and their text, and in `specs/` when a line is valid after others and what they prove.
 #![tactic(auto)]
 
 mod check;
+mod fitting;
 mod line;
+mod spelling;
+mod stop;
+mod version;
+mod words;
 
 pub use check::{CheckWord, Refusal, Verdict};
 pub use line::{Hints, Line};
+pub use stop::FormWord;
+pub use version::Version;

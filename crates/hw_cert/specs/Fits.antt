@@ -1,0 +1,60 @@
+-- The first bad word of a line that has its form, and what a line's bytes read as.
+use Rattle.std.specs.Prelude.{ℕ, ◌+◌, ◌==◌, Bool, true, ◌&&◌, nat_lt, List, [], ◌∷◌, Option, Some, None, Result, Ok, Err, length, if◌then◌else◌}
+use Rattle.std.specs.List.{list_all}
+use Rattle.hw_model.specs.declared.lit.Lit.{Lit}
+use Rattle.hw_model.specs.declared.shape.Shape.{Shape}
+use Rattle.hw_model.specs.Lits.{BadLit, out_of_range, not_normal, first_bad}
+use Rattle.hw_cert.specs.declared.line.Line.{Line}
+use Rattle.hw_cert.specs.declared.line.Line.TheVariants as lines
+use Rattle.hw_cert.specs.declared.stop.FormWord.{FormWord}
+use Rattle.hw_cert.specs.declared.stop.FormWord.TheVariants.{Form, Range, Normal}
+use Rattle.hw_cert.specs.declared.version.Version.{Version}
+use Rattle.hw_cert.specs.Spelled.{spelled}
+
+-- the word, unless the test holds
+abbrev pub unless : FormWord → Bool → Option FormWord
+unless word b = if b then None else Some word
+
+-- the first word, or else the second
+infixr 10 ◌or_else◌
+abbrev pub ◌or_else◌ : Option FormWord → Option FormWord → Option FormWord
+None or_else b = b
+(Some word) or_else b = Some word
+
+-- a bad literal, by what it breaks
+abbrev pub lit_fault : Option BadLit → Option FormWord
+lit_fault None = None
+lit_fault (Some (out_of_range place)) = Some Range
+lit_fault (Some (not_normal place)) = Some Normal
+
+-- the first bad literal
+abbrev pub clause_fault : Shape → List Lit → Option FormWord
+clause_fault shape lits = lit_fault (first_bad shape lits)
+
+-- each number is above the one before it
+abbrev pub ascends : ℕ → List ℕ → Bool
+ascends before [] = true
+ascends before (n ∷ ns) = nat_lt before n && ascends n ns
+
+-- the first bad word from the left, the count of slots last
+abbrev pub first_fault : Shape → Line → Option FormWord
+first_fault shape (lines.Table table) = unless Range (list_all (λ slot. nat_lt slot shape.slots) table && length table == shape.ships)
+first_fault shape (lines.Explain n clause) = unless Range (nat_lt n (shape.ships + shape.rules)) or_else clause_fault shape clause
+first_fault shape (lines.Order v w x clause) = unless Range (nat_lt v w && (nat_lt w x && nat_lt x shape.ships)) or_else clause_fault shape clause
+first_fault shape (lines.Goal clause) = clause_fault shape clause
+first_fault shape (lines.Lemma clause hints) = clause_fault shape clause or_else unless Range (list_all (λ id. nat_lt 0 id) hints)
+first_fault shape (lines.Delete ids) = unless Range (ascends 0 ids)
+
+-- a line, unless a word is bad
+abbrev pub refused_by : Line → Option FormWord → Result Line FormWord
+refused_by line None = Ok line
+refused_by line (Some word) = Err word
+
+-- a line of this shape, or its first bad word
+abbrev pub fitted : Shape → Option Line → Result Line FormWord
+fitted shape None = Err Form
+fitted shape (Some line) = refused_by line (first_fault shape line)
+
+-- the line whose text the bytes are, or why they are the text of none
+abbrev pub line_read : Shape → Version → List ℕ → Result Line FormWord
+line_read shape version bytes = fitted shape (spelled version bytes)

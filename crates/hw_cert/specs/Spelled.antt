@@ -1,0 +1,146 @@
+-- What a line's words spell, whatever the problem.
+use Rattle.std.specs.Prelude.{ℕ, ◌-◌, ◌^◌, ◌==◌, List, [], ◌∷◌, Option, Some, None, option_map, option_and_then, nat_lt, length, bytes_eq, codes, if◌then◌else◌}
+use Rattle.hw_model.specs.declared.lit.Lit.{Lit}
+use Rattle.hw_model.specs.declared.lit.Lit.TheVariants.{AtOrAfter, Before, First, NotFirst}
+use Rattle.hw_text.specs.Numbers.{number_up_to}
+use Rattle.hw_text.specs.Parts.{parts_of, words_of}
+use Rattle.hw_cert.specs.declared.line.Line.{Line}
+use Rattle.hw_cert.specs.declared.line.Line.TheVariants as lines
+use Rattle.hw_cert.specs.declared.version.Version.{Version}
+use Rattle.hw_cert.specs.declared.version.Version.TheVariants.{One, Two}
+
+-- a number of a certificate, up to 4,294,967,295
+abbrev pub number_word : List ℕ → Option ℕ
+number_word word = number_up_to (2 ^ 32 - 1) word
+
+-- both values, where both are there
+abbrev pub both : {A B : Type 0} → Option A → Option B → Option (A × B)
+both None o = None
+both (Some a) None = None
+both (Some a) (Some b) = Some (a, b)
+
+-- the value put before the others, where all are there
+abbrev pub put_first : {A : Type 0} → Option A → Option (List A) → Option (List A)
+put_first None o = None
+put_first (Some x) None = None
+put_first (Some x) (Some xs) = Some (x ∷ xs)
+
+-- the numbers that the words spell, where each spells one
+abbrev pub all_numbers : List (List ℕ) → Option (List ℕ)
+all_numbers [] = Some []
+all_numbers (word ∷ words) = put_first (number_word word) (all_numbers words)
+
+-- the list, unless it is empty
+abbrev pub some_of : List ℕ → Option (List ℕ)
+some_of ns = if nat_lt 0 (length ns) then Some ns else None
+
+-- the same of one word or more
+abbrev pub some_numbers : List (List ℕ) → Option (List ℕ)
+some_numbers words = option_and_then some_of (all_numbers words)
+
+-- the two numbers of two words
+abbrev pub number_pair : List (List ℕ) → Option (ℕ × ℕ)
+number_pair (x ∷ y ∷ []) = both (number_word x) (number_word y)
+number_pair _ = None
+
+-- the literal of this letter: a, b, f or n
+abbrev pub lettered : ℕ → ℕ × ℕ → Option Lit
+lettered letter p =
+    if letter == 97 then Some (AtOrAfter p.0 p.1)
+    else if letter == 98 then Some (Before p.0 p.1)
+    else if letter == 102 then Some (First p.0 p.1)
+    else if letter == 110 then Some (NotFirst p.0 p.1)
+    else None
+
+-- the literal that a word spells: a letter, and two numbers parted by a point
+abbrev pub lit_word : List ℕ → Option Lit
+lit_word [] = None
+lit_word (letter ∷ rest) = option_and_then (lettered letter) (number_pair (parts_of 46 rest))
+
+-- literals, and the words behind the `;` that ends them, if one does
+pub record Lits : Type 0 where
+  pub lits : List Lit
+  pub behind : Option (List (List ℕ))
+
+-- a literal put before others
+abbrev pub put_lit : Option Lit → Option Lits → Option Lits
+put_lit None o = None
+put_lit (Some lit) None = None
+put_lit (Some lit) (Some found) = Some (record { lits = lit ∷ found.lits; behind = found.behind })
+
+-- the literals up to the first `;` or the end
+abbrev pub lits_of : List (List ℕ) → Option Lits
+lits_of [] = Some (record { lits = []; behind = None })
+lits_of (word ∷ words) = if bytes_eq word (codes ";") then Some (record { lits = []; behind = Some words }) else put_lit (lit_word word) (lits_of words)
+
+-- no `;` ends the literals
+abbrev pub unparted : List Lit → Option (List (List ℕ)) → Option (List Lit)
+unparted lits None = Some lits
+unparted lits (Some words) = None
+
+-- words that are literals alone
+abbrev pub only_lits : List (List ℕ) → Option (List Lit)
+only_lits words = option_and_then (λ found. unparted found.lits found.behind) (lits_of words)
+
+-- `SLOT ..`
+abbrev pub table_form : List (List ℕ) → Option Line
+table_form words = option_map lines.Table (some_numbers words)
+
+-- `RESTRICTION LITS`
+abbrev pub explain_form : List (List ℕ) → Option Line
+explain_form [] = None
+explain_form (n ∷ words) = option_map (λ p. lines.Explain p.0 p.1) (both (number_word n) (only_lits words))
+
+-- `V W X LITS`
+abbrev pub order_form : List (List ℕ) → Option Line
+order_form (v ∷ w ∷ x ∷ words) = option_map (λ p. lines.Order p.0 p.1.0 p.1.1.0 p.1.1.1) (both (number_word v) (both (number_word w) (both (number_word x) (only_lits words))))
+order_form _ = None
+
+-- `LITS`
+abbrev pub goal_form : List (List ℕ) → Option Line
+goal_form words = option_map lines.Goal (only_lits words)
+
+-- the hints behind the `;`
+abbrev pub hinted_form : List Lit → Option (List (List ℕ)) → Option Line
+hinted_form lits None = None
+hinted_form lits (Some words) = option_map (lines.Lemma lits) (all_numbers words)
+
+-- `LITS ; ID ..`
+abbrev pub lemma_form : List (List ℕ) → Option Line
+lemma_form words = option_and_then (λ found. hinted_form found.lits found.behind) (lits_of words)
+
+-- `ID ..`, in version 2 alone
+abbrev pub delete_form : Version → List (List ℕ) → Option Line
+delete_form One words = None
+delete_form Two words = option_map lines.Delete (some_numbers words)
+
+-- the line of this form and these words behind its first
+abbrev pub form_of : Version → List ℕ → List (List ℕ) → Option Line
+form_of version kind words =
+    if bytes_eq (codes "t") kind then table_form words
+    else if bytes_eq (codes "e") kind then explain_form words
+    else if bytes_eq (codes "o") kind then order_form words
+    else if bytes_eq (codes "g") kind then goal_form words
+    else if bytes_eq (codes "l") kind then lemma_form words
+    else if bytes_eq (codes "d") kind then delete_form version words
+    else None
+
+abbrev pub line_of : Version → List (List ℕ) → Option Line
+line_of version [] = None
+line_of version (kind ∷ words) = form_of version kind words
+
+-- the line whose form the bytes have in this version, its numbers not yet tested
+abbrev pub spelled : Version → List ℕ → Option Line
+spelled version bytes = line_of version (words_of bytes)
+
+-- the version that this word names
+abbrev pub version_word : List ℕ → Option Version
+version_word word = if bytes_eq word (codes "1") then Some One else if bytes_eq word (codes "2") then Some Two else None
+
+abbrev pub header_words : List (List ℕ) → Option Version
+header_words (kind ∷ word ∷ []) = if bytes_eq (codes "cert") kind then version_word word else None
+header_words _ = None
+
+-- the version of a header
+abbrev pub version_of : List ℕ → Option Version
+version_of bytes = header_words (words_of bytes)

@@ -1,0 +1,33 @@
+-- What the code's spelling of a line is seen as.
+use Rattle.std.specs.Prelude.{ℕ, List, Option, Some, None, option_map, Vec, if◌then◌else◌}
+use Rattle.std.specs.declared.alloc.Global.{Global}
+use Rattle.hw_model.specs.declared.lit.Lit.{Lit}
+use Rattle.hw_text.specs.Parts.{left_words}
+use Rattle.hw_cert.specs.declared.line.Line.{Line}
+use Rattle.hw_cert.specs.declared.line.Line.TheVariants as lines
+use Rattle.hw_cert.specs.declared.spelling.Spelling.{Spelling}
+use Rattle.hw_cert.specs.declared.spelling.Spelling.TheVariants as spellings
+use Rattle.hw_cert.specs.declared.spelling.FoundLits.{FoundLits}
+use Rattle.hw_cert.specs.Spelled.{Lits}
+
+abbrev pub numbers_view : Option (Vec ℕ Global) → Option (List ℕ)
+numbers_view o = option_map (λ v. v.items) o
+
+abbrev pub lits_view : Option (Vec Lit Global) → Option (List Lit)
+lits_view o = option_map (λ v. v.items) o
+
+-- literals, and the words behind the `;`, if there is one
+abbrev pub lits_found : FoundLits → Lits
+lits_found found = record { lits = found.lits.items; behind = if found.parted then Some (left_words found.behind) else None }
+
+abbrev pub found_view : Option FoundLits → Option Lits
+found_view o = option_map lits_found o
+
+-- the line that is spelled
+abbrev pub spelling_view : Spelling → Line
+spelling_view (spellings.Table slots) = lines.Table slots.items
+spelling_view (spellings.Explain restriction lits) = lines.Explain restriction lits.items
+spelling_view (spellings.Order v w x lits) = lines.Order v w x lits.items
+spelling_view (spellings.Goal lits) = lines.Goal lits.items
+spelling_view (spellings.Lemma lits hints) = lines.Lemma lits.items hints.items
+spelling_view (spellings.Delete ids) = lines.Delete ids.items

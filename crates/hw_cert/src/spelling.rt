@@ -1,0 +1,338 @@
+//! What the words of a line spell, whatever the problem.
+
+ghost use Rattle.std.specs.Prelude.{◌≡◌, ◌∷◌, [], IfOk, IfSome, MatchOption, option_map};
+ghost use Rattle.hw_text.specs.Parts.{left_words};
+ghost use Rattle.hw_cert.specs.Spelled.{number_word, all_numbers, some_numbers, lit_word, lettered, lits_of, only_lits, table_form, explain_form, order_form, goal_form, lemma_form, delete_form, form_of, spelled, version_word, version_of};
+ghost use Rattle.hw_cert.specs.Spellings.{numbers_view, lits_view, found_view, spelling_view};
+
+use crate::version::Version;
+use crate::words::{is_header_word, keywords};
+use hw_lexicon::each_word;
+use hw_model::Lit;
+use hw_text::{first_word, is_text, read_number, two_parts};
+use std::alloc::{AllocError, Global};
+
+/// The numbers and literals of a line that has its form. They may not fit the problem.
+#[derive(Drop)]
+pub enum Spelling {
+    Table {
+        slots: Vec<u32>,
+    },
+    Explain {
+        restriction: u32,
+        lits: Vec<Lit>,
+    },
+    Order {
+        v: u32,
+        w: u32,
+        x: u32,
+        lits: Vec<Lit>,
+    },
+    Goal {
+        lits: Vec<Lit>,
+    },
+    Lemma {
+        lits: Vec<Lit>,
+        hints: Vec<u32>,
+    },
+    Delete {
+        ids: Vec<u32>,
+    },
+}
+
+/// Literals, whether a `;` ends them, and the words behind it.
+#[derive(Drop)]
+struct FoundLits<'l> {
+    lits: Vec<Lit>,
+    parted: bool,
+    behind: Option<&'l [u8]>,
+}
+
+fn number_of(word: &[u8]) -> Option<u32>
+    ensures { result ≡ number_word word.now }
+{
+    match read_number(word, u64::from(u32::MAX)) {
+        Some(n) => Some(n as u32),
+        None => None,
+    }
+}
+
+/// The next word, and those behind it.
+fn next_word(words: Option<&[u8]>) -> Option<(&[u8], Option<&[u8]>)>
+    ensures { MatchOption result (left_words words.entry ≡ []) (λ x. left_words words.entry ≡ x.0.now ∷ left_words x.1) }
+{
+    match words {
+        Some(bytes) => {
+            let (word, rest) = first_word(bytes);
+            Some((word, rest))
+        }
+        None => None,
+    }
+}
+
+/// The numbers that the words spell, where each spells one.
+fn numbers_of(alloc: Global, words: Option<&[u8]>) -> Result<Option<Vec<u32>>, AllocError>
+    ensures { IfOk result (λ o. numbers_view o ≡ all_numbers (left_words words.entry)) }
+{
+    let mut numbers = Vec::new(alloc);
+    let mut left = words;
+    while let Some(bytes) = left {
+        let (word, rest) = first_word(bytes);
+        let Some(number) = number_of(word) else {
+            return Ok(None);
+        };
+        numbers.push(number)?;
+        left = rest;
+    }
+    Ok(Some(numbers))
+}
+
+/// The same of one word or more.
+fn some_numbers_of(alloc: Global, words: Option<&[u8]>) -> Result<Option<Vec<u32>>, AllocError>
+    ensures { IfOk result (λ o. numbers_view o ≡ some_numbers (left_words words.entry)) }
+{
+    match numbers_of(alloc, words)? {
+        Some(numbers) if !numbers.is_empty() => Ok(Some(numbers)),
+        _ => Ok(None),
+    }
+}
+
+fn lettered_lit(letter: u8, first: u32, second: u32) -> Option<Lit>
+    ensures { result ≡ lettered letter (first, second) }
+{
+    match letter {
+        b'a' => Some(Lit::AtOrAfter {
+            ship: first,
+            slot: second,
+        }),
+        b'b' => Some(Lit::Before {
+            ship: first,
+            slot: second,
+        }),
+        b'f' => Some(Lit::First {
+            v: first,
+            w: second,
+        }),
+        b'n' => Some(Lit::NotFirst {
+            v: first,
+            w: second,
+        }),
+        _ => None,
+    }
+}
+
+/// The literal that a word spells: a letter, and two numbers parted by a point.
+fn lit_of(word: &[u8]) -> Option<Lit>
+    ensures { result ≡ lit_word word.now }
+{
+    let [letter, rest @ ..] = word else {
+        return None;
+    };
+    let Some((first, second)) = two_parts(rest, b'.') else {
+        return None;
+    };
+    let Some(first) = number_of(first) else {
+        return None;
+    };
+    let Some(second) = number_of(second) else {
+        return None;
+    };
+    lettered_lit(*letter, first, second)
+}
+
+#[tactic(auto, using(crate::proofs::Loops::lit_more))]
+/// The literals up to the first `;` or the end.
+fn lits_from(alloc: Global, words: Option<&[u8]>) -> Result<Option<FoundLits<'_>>, AllocError>
+    ensures { IfOk result (λ o. found_view o ≡ lits_of (left_words words.entry)) }
+{
+    let mut lits = Vec::new(alloc);
+    let mut left = words;
+    while let Some(bytes) = left {
+        let (word, rest) = first_word(bytes);
+        if is_text(word, b";") {
+            return Ok(Some(FoundLits {
+                lits,
+                parted: true,
+                behind: rest,
+            }));
+        }
+        let Some(lit) = lit_of(word) else {
+            return Ok(None);
+        };
+        lits.push(lit)?;
+        left = rest;
+    }
+    Ok(Some(FoundLits {
+        lits,
+        parted: false,
+        behind: None,
+    }))
+}
+
+/// Words that are literals alone.
+fn only_lits_of(alloc: Global, words: Option<&[u8]>) -> Result<Option<Vec<Lit>>, AllocError>
+    ensures { IfOk result (λ o. lits_view o ≡ only_lits (left_words words.entry)) }
+{
+    match lits_from(alloc, words)? {
+        Some(found) if !found.parted => Ok(Some(found.lits)),
+        _ => Ok(None),
+    }
+}
+
+/// `SLOT ..`
+fn table_of(alloc: Global, words: Option<&[u8]>) -> Result<Option<Spelling>, AllocError>
+    ensures { IfOk result (λ o. option_map spelling_view o ≡ table_form (left_words words.entry)) }
+{
+    match some_numbers_of(alloc, words)? {
+        Some(slots) => Ok(Some(Spelling::Table { slots })),
+        None => Ok(None),
+    }
+}
+
+/// `RESTRICTION LITS`
+fn explain_of(alloc: Global, words: Option<&[u8]>) -> Result<Option<Spelling>, AllocError>
+    ensures { IfOk result (λ o. option_map spelling_view o ≡ explain_form (left_words words.entry)) }
+{
+    let Some((word, rest)) = next_word(words) else {
+        return Ok(None);
+    };
+    let Some(restriction) = number_of(word) else {
+        return Ok(None);
+    };
+    match only_lits_of(alloc, rest)? {
+        Some(lits) => Ok(Some(Spelling::Explain { restriction, lits })),
+        None => Ok(None),
+    }
+}
+
+/// `V W X LITS`
+fn order_of(alloc: Global, words: Option<&[u8]>) -> Result<Option<Spelling>, AllocError>
+    ensures { IfOk result (λ o. option_map spelling_view o ≡ order_form (left_words words.entry)) }
+{
+    let Some((first, rest)) = next_word(words) else {
+        return Ok(None);
+    };
+    let Some((second, rest)) = next_word(rest) else {
+        return Ok(None);
+    };
+    let Some((third, rest)) = next_word(rest) else {
+        return Ok(None);
+    };
+    let Some(v) = number_of(first) else {
+        return Ok(None);
+    };
+    let Some(w) = number_of(second) else {
+        return Ok(None);
+    };
+    let Some(x) = number_of(third) else {
+        return Ok(None);
+    };
+    match only_lits_of(alloc, rest)? {
+        Some(lits) => Ok(Some(Spelling::Order { v, w, x, lits })),
+        None => Ok(None),
+    }
+}
+
+/// `LITS`
+fn goal_of(alloc: Global, words: Option<&[u8]>) -> Result<Option<Spelling>, AllocError>
+    ensures { IfOk result (λ o. option_map spelling_view o ≡ goal_form (left_words words.entry)) }
+{
+    match only_lits_of(alloc, words)? {
+        Some(lits) => Ok(Some(Spelling::Goal { lits })),
+        None => Ok(None),
+    }
+}
+
+/// `LITS ; ID ..`
+fn lemma_of(alloc: Global, words: Option<&[u8]>) -> Result<Option<Spelling>, AllocError>
+    ensures { IfOk result (λ o. option_map spelling_view o ≡ lemma_form (left_words words.entry)) }
+{
+    let Some(found) = lits_from(alloc, words)? else {
+        return Ok(None);
+    };
+    if !found.parted {
+        return Ok(None);
+    }
+    match numbers_of(alloc, found.behind)? {
+        Some(hints) => Ok(Some(Spelling::Lemma {
+            lits: found.lits,
+            hints,
+        })),
+        None => Ok(None),
+    }
+}
+
+/// `ID ..`, in version 2 alone.
+fn delete_of(
+    alloc: Global,
+    version: Version,
+    words: Option<&[u8]>,
+) -> Result<Option<Spelling>, AllocError>
+    ensures { IfOk result (λ o. option_map spelling_view o ≡ delete_form version (left_words words.entry)) }
+{
+    match version {
+        Version::One => Ok(None),
+        Version::Two => match some_numbers_of(alloc, words)? {
+            Some(ids) => Ok(Some(Spelling::Delete { ids })),
+            None => Ok(None),
+        },
+    }
+}
+
+/// The line of this form, with the words behind the first.
+fn form_of(
+    alloc: Global,
+    version: Version,
+    kind: &[u8],
+    words: Option<&[u8]>,
+) -> Result<Option<Spelling>, AllocError>
+    ensures { IfOk result (λ o. option_map spelling_view o ≡ form_of version kind.now (left_words words.entry)) }
+{
+    each_word!(keywords().find(kind);
+        0 => table_of(alloc, words),
+        1 => explain_of(alloc, words),
+        2 => order_of(alloc, words),
+        3 => goal_of(alloc, words),
+        4 => lemma_of(alloc, words),
+        5 => delete_of(alloc, version, words),
+        else Ok(None)
+    )
+}
+
+/// What a line spells, where it has one of the forms of its version. It goes once through the
+/// line.
+pub fn spelling_of(
+    alloc: Global,
+    version: Version,
+    line: &[u8],
+) -> Result<Option<Spelling>, AllocError>
+    ensures { IfOk result (λ o. option_map spelling_view o ≡ spelled version line.now) }
+{
+    let (kind, words) = first_word(line);
+    form_of(alloc, version, kind, words)
+}
+
+fn numbered_version(word: &[u8]) -> Option<Version>
+    ensures { result ≡ version_word word.now }
+{
+    if is_text(word, b"1") {
+        return Some(Version::One);
+    }
+    if is_text(word, b"2") {
+        return Some(Version::Two);
+    }
+    None
+}
+
+/// The version that a header names.
+pub fn header_version(line: &[u8]) -> Option<Version>
+    ensures { result ≡ version_of line.now }
+{
+    let Some((kind, word)) = two_parts(line, b' ') else {
+        return None;
+    };
+    if !is_header_word(kind) {
+        return None;
+    }
+    numbered_version(word)
+}
