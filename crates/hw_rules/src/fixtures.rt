@@ -1,5 +1,5 @@
 //! Flat problems for the tests of this crate.
-ghost use Rattle.std.specs.Prelude.{◌≡◌, ◌≤◌, ◌<◌, ◌*◌, IsTrue, All, AllPairs, length, unwrap_or, IfSome};
+ghost use Rattle.std.specs.Prelude.{◌≡◌, ◌+◌, ◌-◌, ◌^◌, ℕ, option_and_then, slice_get, ◌≤◌, ◌<◌, ◌*◌, IsTrue, All, AllPairs, length, unwrap_or, IfSome};
 ghost use Rattle.hw_model.specs.Limits.{HoleFits, JobFits, RuleFits};
 
 use hw_flat::{Flat, Hole, Holes, Job, Jobs, Rule, ShipId};
@@ -103,8 +103,22 @@ fn values_fit(values: &[Option<u64>], most: u64) -> bool
     true
 }
 
-/// A problem of these parts, or none where they pass a limit. Where ships may stay, it takes
-/// values up to 1 alone.
+/// Whether no ship's value in the last slot is above 1.
+fn last_values_fit(ships: u32, slots: u32, values: &[Option<u64>]) -> bool
+    requires some { 1 ≤ slots }
+    requires rows { length values.now ≡ ships * slots }
+    requires few { ships * slots < 2 ^ 32 }
+    ensures { IsTrue result → (ship : ℕ) → ship < ships → unwrap_or (option_and_then (λ v. v) (slice_get values.now (ship * slots + (slots - 1)))) 0 ≤ 1 }
+{
+    for ship in 0..ships {
+        if 1 < values[(ship * slots + (slots - 1)) as usize].unwrap_or(0) {
+            return false;
+        }
+    }
+    true
+}
+
+/// A problem of these parts, or none where they pass a limit.
 pub fn flat_of(
     ships: u32,
     slots: u32,
@@ -116,12 +130,14 @@ pub fn flat_of(
     ensures slots { IfSome result (λ f. f.slots ≡ slots) }
     ensures rules { IfSome result (λ f. f.rules ≡ rules.items) }
 {
-    let sizes = 1 <= ships && ships <= 40 && 2 <= slots && slots <= 512;
+    let sizes = 1 <= ships && ships <= 40 && 2 <= slots && slots <= if stay { 513 } else { 512 };
     if !sizes || values.len() != (ships * slots) as usize || 4_000 < rules.len() {
         return None;
     }
-    let most = if stay { 1 } else { 1_000_000_000_000 };
-    if !values_fit(&values, most) || !rules_fit(ships, &rules) {
+    if !values_fit(&values, 1_000_000_000_000) || !rules_fit(ships, &rules) {
+        return None;
+    }
+    if stay && !last_values_fit(ships, slots, &values) {
         return None;
     }
     Some(Flat {

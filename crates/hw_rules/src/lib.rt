@@ -18,6 +18,8 @@ mod spacing;
 mod timetables;
 mod tugs;
 mod walking;
+#[cfg(test)]
+mod walking_tests;
 
 pub use breach::Breach;
 pub use hw_laws::{point_room, rising_best, sound_refutation, whole_walk};
