@@ -1,0 +1,39 @@
+//! Reading an instance.
+
+ghost use Rattle.serde_json.specs.View.{view};
+ghost use Rattle.hw_read.specs.Instance.{Gives, instance_of, Reads};
+
+use crate::building::build_parts;
+use crate::fault::ReadFault;
+use crate::walking::test_form;
+use hw_port::Port;
+use serde_json::Value;
+use std::alloc::Global;
+
+/// The port that a value stands for.
+#[tactic(auto, unfolding(crate::specs::Instance::instance_of))]
+fn port_of_value(alloc: Global, value: &Value) -> Result<Port, ReadFault>
+    ensures { Gives result (instance_of (view value.now)) }
+{
+    test_form(value)?;
+    let parts = build_parts(alloc, value)?;
+    Ok(Port::check(parts)?)
+}
+
+/// Reads an instance. The form of the whole value is tested first, then the meaning of its parts.
+///
+/// `NotJson` comes exactly where the bytes are no JSON text, `Field` with the first fault in the
+/// order of the table, and `NoMemory` only for want of memory. Numbers are whole numbers of 64
+/// bits with a sign. The time grows with the number of bytes.
+pub fn read_port(alloc: Global, bytes: &[u8]) -> Result<Port, ReadFault>
+    ensures { Reads bytes.now result }
+{
+    match Value::from_slice(alloc, bytes) {
+        Ok(value) => port_of_value(alloc, &value),
+        Err(e) => if e.is_memory() {
+            Err(ReadFault::NoMemory)
+        } else {
+            Err(ReadFault::NotJson)
+        },
+    }
+}
