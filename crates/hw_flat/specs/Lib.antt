@@ -1,1 +1,4 @@
 pub mod Opened
+pub mod TextForms
+pub mod Text
+pub mod TextWritten

@@ -3,10 +3,15 @@
 //! A value of `Flat` keeps the limits of a flat problem, and a `Room` never has an empty range.
 #![tactic(auto)]
 
+mod fault;
 mod flat;
+mod forms;
+mod reading;
 mod room;
+mod rules;
 mod timetable;
 
+pub use fault::{FlatFault, FlatWord};
 pub use flat::Flat;
 pub use hw_model::{Hole, Holes, Job, Jobs, NoMemory, Order, Rule, Shape, ShipId, Slot, Source};
 pub use room::Room;

@@ -1,0 +1,144 @@
+-- The forms of the lines of a flat text, each over the words of the line.
+use Rattle.std.specs.Prelude.{ℕ, zero, suc, ◌+◌, Bool, true, false, ◌&&◌, ◌||◌, List, [], ◌∷◌, ◌++◌, Option, Some, None, option_map, codes, bytes_eq, nat_le, nat_lt, int_le, if◌then◌else◌}
+use Rattle.hw_model.specs.declared.rule.Hole.{Hole}
+use Rattle.hw_model.specs.declared.rule.Job.{Job}
+use Rattle.hw_model.specs.declared.rule.Rule.{Rule}
+use Rattle.hw_model.specs.declared.rule.Rule.TheVariants.{Pair, After, Tugs}
+use Rattle.hw_text.specs.Numbers.{number_up_to, number_from_to, signed_up_to}
+use Rattle.hw_text.specs.Parts.{parts_of, words_of}
+
+infixl 10 ◌>>=◌
+abbrev pub ◌>>=◌ : {A B : Type 0} → Option A → (A → Option B) → Option B
+None >>= f = None
+(Some x) >>= f = f x
+
+-- the value, where the test is passed
+abbrev pub kept_if : {A : Type 0} → Bool → A → Option A
+kept_if test x = if test then Some x else None
+
+-- `flat 1`, or `flat 2` where ships may stay
+abbrev pub header_form : List ℕ → Option Bool
+header_form line = if bytes_eq line (codes "flat 1") then Some false else if bytes_eq line (codes "flat 2") then Some true else None
+
+abbrev pub both : Option ℕ → Option ℕ → Option (ℕ × ℕ)
+both m n = m >>= λ m'. n >>= λ n'. Some (m', n')
+
+abbrev pub size_words : List (List ℕ) → Option (ℕ × ℕ)
+size_words (key ∷ ships ∷ slots ∷ []) =
+    if bytes_eq key (codes "size") then both (number_from_to 1 40 ships) (number_from_to 1 512 slots) else None
+size_words _ = None
+
+-- `size SHIPS SLOTS`, where SLOTS counts the slots in which ships sail
+abbrev pub size_form : List ℕ → Option (ℕ × ℕ)
+size_form line = size_words (words_of line)
+
+abbrev pub put_first : {A : Type 0} → Option A → Option (List A) → Option (List A)
+put_first None o = None
+put_first (Some x) None = None
+put_first (Some x) (Some xs) = Some (x ∷ xs)
+
+-- the items in front and those behind, where there are any
+abbrev pub with_front : {A : Type 0} → List A → Option (List A) → Option (List A)
+with_front front None = None
+with_front front (Some xs) = Some (front ++ xs)
+
+-- a value, or `-` for none
+abbrev pub value_word : List ℕ → Option (Option ℕ)
+value_word word = if bytes_eq word (codes "-") then Some None else option_map (λ n. Some n) (number_up_to 1_000_000_000_000 word)
+
+-- `y` where the ship may stay, which carries nothing, and `n` where it may not
+abbrev pub stay_word : List ℕ → Option (Option ℕ)
+stay_word word = if bytes_eq word (codes "y") then Some (Some 0) else if bytes_eq word (codes "n") then Some None else None
+
+-- the word on staying, where there is to be one
+abbrev pub last_values : Bool → List (List ℕ) → Option (List (Option ℕ))
+last_values false [] = Some []
+last_values false (word ∷ words) = None
+last_values true [] = None
+last_values true (word ∷ []) = option_map (λ v. v ∷ []) (stay_word word)
+last_values true (word ∷ next ∷ words) = None
+
+-- so many values, and the word on staying
+abbrev pub row_values : Bool → ℕ → List (List ℕ) → Option (List (Option ℕ))
+row_values stay zero words = last_values stay words
+row_values stay (suc n) [] = None
+row_values stay (suc n) (word ∷ words) = put_first (value_word word) (row_values stay n words)
+
+abbrev pub row_words : Bool → ℕ → List (List ℕ) → Option (List (Option ℕ))
+row_words stay slots [] = None
+row_words stay slots (key ∷ words) = if bytes_eq key (codes "v") then row_values stay slots words else None
+
+-- `v` and the values of a ship
+abbrev pub row_form : Bool → ℕ → List ℕ → Option (List (Option ℕ))
+row_form stay slots line = row_words stay slots (words_of line)
+
+-- each word is an item of the form, and there are at most so many
+abbrev pub items_of : {A : Type 0} → (List ℕ → Option A) → ℕ → List (List ℕ) → Option (List A)
+items_of form most [] = Some []
+items_of form zero (word ∷ words) = None
+items_of form (suc most) (word ∷ words) = put_first (form word) (items_of form most words)
+
+-- the same, where there is at least one
+abbrev pub some_items : {A : Type 0} → (List ℕ → Option A) → ℕ → List (List ℕ) → Option (List A)
+some_items form most [] = None
+some_items form most (word ∷ words) = items_of form most (word ∷ words)
+
+-- a ship of the problem
+abbrev pub ship_word : ℕ → List ℕ → Option ℕ
+ship_word ships word = number_up_to ships word >>= λ ship. kept_if (nat_lt ship ships) ship
+
+abbrev pub hole_parts : List (List ℕ) → Option Hole
+hole_parts (lo ∷ hi ∷ []) = signed_up_to 1_023 lo >>= λ lo'. signed_up_to 1_023 hi >>= λ hi'. kept_if (int_le lo' hi') (record { lo = lo'; hi = hi' })
+hole_parts _ = None
+
+-- `LO:HI`
+abbrev pub hole_form : List ℕ → Option Hole
+hole_form word = hole_parts (parts_of 58 word)
+
+abbrev pub job_parts : ℕ → List (List ℕ) → Option Job
+job_parts ships (ship ∷ tugs ∷ hold ∷ []) =
+    ship_word ships ship >>= λ ship'. number_from_to 1 64 tugs >>= λ tugs'. number_from_to 1 1_024 hold >>= λ hold'.
+    Some (record { ship = ship'; tugs = tugs'; hold = hold' })
+job_parts ships _ = None
+
+-- `SHIP:TUGS:HOLD`
+abbrev pub job_form : ℕ → List ℕ → Option Job
+job_form ships word = job_parts ships (parts_of 58 word)
+
+-- the ships of the jobs ascend, from this one on
+abbrev pub ascend_from : ℕ → List Job → Bool
+ascend_from least [] = true
+ascend_from least (job ∷ jobs) = nat_le least job.ship && ascend_from (job.ship + 1) jobs
+
+-- `V W LO:HI ..` with V below W
+abbrev pub pair_words : ℕ → List (List ℕ) → Option Rule
+pair_words ships (v ∷ w ∷ words) =
+    ship_word ships v >>= λ v'. ship_word ships w >>= λ w'. some_items hole_form 8 words >>= λ holes.
+    kept_if (nat_lt v' w') (Pair v' w' holes)
+pair_words ships _ = None
+
+-- `V W GAP` with V other than W
+abbrev pub after_words : ℕ → List (List ℕ) → Option Rule
+after_words ships (v ∷ w ∷ gap ∷ []) =
+    ship_word ships v >>= λ v'. ship_word ships w >>= λ w'. number_up_to 512 gap >>= λ gap'.
+    kept_if (nat_lt v' w' || nat_lt w' v') (After v' w' gap')
+after_words ships _ = None
+
+-- `FLEET SHIP:TUGS:HOLD ..` with ascending ships
+abbrev pub tugs_words : ℕ → List (List ℕ) → Option Rule
+tugs_words ships (fleet ∷ words) =
+    number_up_to 1_000 fleet >>= λ fleet'. some_items (job_form ships) 40 words >>= λ jobs.
+    kept_if (ascend_from 0 jobs) (Tugs fleet' jobs)
+tugs_words ships _ = None
+
+abbrev pub rule_words : ℕ → List (List ℕ) → Option Rule
+rule_words ships [] = None
+rule_words ships (key ∷ words) =
+    if bytes_eq key (codes "p") then pair_words ships words
+    else if bytes_eq key (codes "s") then after_words ships words
+    else if bytes_eq key (codes "u") then tugs_words ships words
+    else None
+
+-- a rule: `p` and a pair, `s` and a berth, `u` and a fleet with its jobs
+abbrev pub rule_form : ℕ → List ℕ → Option Rule
+rule_form ships line = rule_words ships (words_of line)
