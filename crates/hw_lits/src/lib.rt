@@ -19,4 +19,4 @@ pub use hw_laws::{
     cut_is_room, cut_room, denied_is_room, denied_room, sound_replay, truth_in_room,
 };
 pub use hw_model::{Lit, LitTruth, Narrowed};
-pub use narrowing::narrow;
+pub use narrowing::{narrow, narrow_lits};

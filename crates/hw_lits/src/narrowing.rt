@@ -16,7 +16,16 @@ pub fn narrow(clause: &Clause, room: &mut Room) -> Narrowed
     ensures value { result ≡ narrowing clause.now room.old }
     ensures room { room.new ≡ room_after result room.old }
 {
-    let step = step_of(clause.as_slice(), room);
+    narrow_lits(clause.as_slice(), room)
+}
+
+/// The same step by literals that stand in a longer list.
+pub fn narrow_lits(lits: &[Lit], room: &mut Room) -> Narrowed
+    requires fits { All (IsLitOf room.old.ships) lits.now }
+    ensures value { result ≡ narrowing lits.now room.old }
+    ensures room { room.new ≡ room_after result room.old }
+{
+    let step = step_of(lits, room);
     if let Narrowed::Cut(lit) = step {
         cut(lit, room);
     }
