@@ -8,6 +8,8 @@ mod flat;
 mod forms;
 mod reading;
 mod room;
+#[cfg(test)]
+mod room_tests;
 mod rules;
 mod timetable;
 

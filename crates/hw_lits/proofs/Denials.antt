@@ -1,5 +1,5 @@
 -- The room while a normal clause is denied, literal by literal: what the loop of a denial keeps.
-use Rattle.std.proofs.Common.{suc, add-one, drop, ◌≡◌, ◌≢◌, ◌⊎◌, ℕ, ◌+◌, ◌-◌, ◌<◌, ◌≤◌, min, max, Bool, true, false, not, ◌||◌, List, [], ◌∷◌, Option, Some, None, length, replicate, get_or, refl, sym, ap, ◌∙◌, subst, arith, inl, inr, nat_lt, nat_le, nat_eq}
+use Rattle.std.proofs.Common.{suc, add-one, drop, ◌≡◌, ◌≢◌, ◌⊎◌, ℕ, ◌+◌, ◌-◌, ◌<◌, ◌≤◌, min, max, Bool, true, false, not, ◌||◌, List, ◌∷◌, Option, Some, None, length, replicate, get_or, refl, sym, ap, ◌∙◌, subst, arith, inl, inr, nat_lt, nat_le, nat_eq}
 use Rattle.std.proofs.lemmas.Bool.{cases_eq, and_parts, or_cases, ltb-true, leb-true, eq-eqb}
 use Rattle.std.proofs.Math.Seq.{drop-cons}
 use Rattle.std.proofs.lemmas.List.{get_or-replicate, drop_all}
@@ -10,12 +10,9 @@ use Rattle.std.proofs.lemmas.List.Elements.{All-get_or}
 use Rattle.hw_model.specs.declared.lit.Lit.{Lit}
 use Rattle.hw_model.specs.declared.lit.Lit.TheVariants as lits
 use Rattle.hw_model.specs.declared.shape.Shape.{Shape}
-use Rattle.hw_model.specs.Problem.{Problem, shape_of}
-use Rattle.hw_model.specs.Limits.{IsFlat}
 use Rattle.hw_model.specs.Lits.{negation, lit_fits, keeps_form, is_earlier, place_of, first_bad_from, IsClause}
-use Rattle.hw_model.specs.Rooms.{RoomModel, IsRoom, RoomFits, low_of, high_of, whole_room}
+use Rattle.hw_model.specs.Rooms.{RoomModel, IsRoom, low_of, high_of, whole_room}
 use Rattle.hw_model.specs.Narrowing.{cut, with_range, denied_from, denied}
-use Rattle.hw_laws.proofs.Horizon.{horizon_le}
 use Rattle.hw_laws.proofs.Ranges.{IsFull}
 use Rattle.hw_laws.proofs.Cuts.{full_cut}
 use Rattle.hw_laws.proofs.Places.{Earlier, earlier_from, from_earlier, earlier_trans}

@@ -1,11 +1,9 @@
 -- One step of a replay, literal by literal.
-use Rattle.std.proofs.Common.{zero, suc, ◌-◌, ◌≡◌, ℕ, ◌+◌, ◌<◌, ◌≤◌, ◌||◌, Bool, true, false, List, [], ◌∷◌, ◌++◌, length, take, get_or, refl, sym, ap, ◌∙◌, subst, arith, All, filter, cond}
-use Rattle.std.specs.List.{list_any}
+use Rattle.std.proofs.Common.{zero, suc, ◌-◌, ◌≡◌, ℕ, ◌+◌, ◌<◌, ◌≤◌, ◌||◌, Bool, true, false, List, [], ◌∷◌, ◌++◌, length, take, get_or, refl, sym, ap, ◌∙◌, subst, arith, All, cond}
 use Rattle.std.proofs.lemmas.List.{take_more, take_all}
 use Rattle.std.proofs.lemmas.List.Folds.{list_any_more, list_any_kept}
 use Rattle.std.proofs.lemmas.List.Elements.{filter-append, All-get_or}
 use Rattle.hw_model.specs.declared.lit.Lit.{Lit}
-use Rattle.hw_model.specs.declared.lit.LitTruth.{LitTruth}
 use Rattle.hw_model.specs.declared.lit.LitTruth.TheVariants.{True, False, Free}
 use Rattle.hw_model.specs.declared.narrowing.Narrowed.{Narrowed}
 use Rattle.hw_model.specs.declared.narrowing.Narrowed.TheVariants.{Same, Cut, Conflict, Loose}

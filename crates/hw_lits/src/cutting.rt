@@ -58,6 +58,8 @@ pub fn cut(lit: Lit, room: &mut Room)
     requires free { truth room.old lit ≡ LitTruth.Free }
     ensures room { room.new ≡ cut lit room.old }
     ensures own { room.new ≡ set_by lit room.old }
+    ensures ships { room.new.ships ≡ room.old.ships }
+    ensures slots { room.new.slots ≡ room.old.slots }
 {
     match lit {
         Lit::AtOrAfter { ship, slot } => {

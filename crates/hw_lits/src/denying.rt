@@ -14,6 +14,8 @@ use hw_model::Lit;
 pub fn deny(clause: &Clause, room: &mut Room)
     requires fits { IsClause (shape_in room.old) clause.now }
     ensures room { room.new ≡ denied (shape_in room.old) clause.now }
+    ensures ships { room.new.ships ≡ room.old.ships }
+    ensures slots { room.new.slots ≡ room.old.slots }
 {
     room.reset();
     for lit in clause.as_slice() {

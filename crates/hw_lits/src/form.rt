@@ -61,15 +61,12 @@ pub fn test_form(shape: Shape, lits: &[Lit]) -> Result<(), ClauseFault>
 {
     let mut before = None;
     for (place, lit) in lits.iter().enumerate() {
+        let at = place as u32;
         if !is_in_range(shape, *lit) {
-            return Err(ClauseFault::Range {
-                place: place as u32,
-            });
+            return Err(ClauseFault::Range { place: at });
         }
         if !follows(before, *lit) {
-            return Err(ClauseFault::NotNormal {
-                place: place as u32,
-            });
+            return Err(ClauseFault::NotNormal { place: at });
         }
         before = Some(*lit);
     }

@@ -9,6 +9,8 @@ mod fault;
 mod form;
 mod found;
 mod narrowing;
+#[cfg(test)]
+mod tests;
 
 pub use clause::Clause;
 pub use cutting::{cut, truth};

@@ -15,6 +15,8 @@ pub fn narrow(clause: &Clause, room: &mut Room) -> Narrowed
     requires fits { All (IsLitOf room.old.ships) clause.now }
     ensures value { result ≡ narrowing clause.now room.old }
     ensures room { room.new ≡ room_after result room.old }
+    ensures ships { room.new.ships ≡ room.old.ships }
+    ensures slots { room.new.slots ≡ room.old.slots }
 {
     narrow_lits(clause.as_slice(), room)
 }

@@ -1,8 +1,7 @@
-use Rattle.std.proofs.Common.{refl, arith, sym, ap, subst, ◌∙◌}
-use Rattle.std.specs.Prelude.{slice_index_or}
+use Rattle.std.proofs.Common.{refl}
 use Rattle.hw_model.specs.declared.lit.Lit.TheVariants.{AtOrAfter}
 use Rattle.hw_flat.specs.Opened.{shape_in}
-use Rattle.hw_lits.proofs.Denials.{denying_starts, denying_more, denying_ends, next_fits, next_leaves}
+use Rattle.hw_lits.proofs.Denials.{denying_starts, denying_more, next_leaves}
 use Rattle.hw_lits.proofs.denying.deny.Goals as goal
 
 pub loop-lit-init : goal.loop-lit-init
