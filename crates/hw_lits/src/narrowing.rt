@@ -26,6 +26,8 @@ pub fn narrow_lits(lits: &[Lit], room: &mut Room) -> Narrowed
     requires fits { All (IsLitOf room.old.ships) lits.now }
     ensures value { result ≡ narrowing lits.now room.old }
     ensures room { room.new ≡ room_after result room.old }
+    ensures ships { room.new.ships ≡ room.old.ships }
+    ensures slots { room.new.slots ≡ room.old.slots }
 {
     let step = step_of(lits, room);
     if let Narrowed::Cut(lit) = step {
