@@ -1,0 +1,11 @@
+pub mod Commands
+pub mod Views
+pub mod Reports
+pub mod Seen
+pub mod Statuses
+pub mod Printing
+pub mod Ends
+pub mod Input
+pub mod Outcomes
+pub mod SolveFlat
+pub mod Run

@@ -1,0 +1,33 @@
+-- How a run ends.
+use Rattle.std.specs.Prelude.{ℕ}
+use Rattle.hw_app.specs.Reports.{Report, solved, bad_words, bad_flat, read_fault, too_long, no_memory}
+use Rattle.hw_app.specs.declared.report.Head.{Head}
+use Rattle.hw_app.specs.declared.report.Head.TheVariants.{Optimal, Infeasible, Unfinished}
+use Rattle.hw_app.specs.declared.status.Status.{Status}
+use Rattle.hw_app.specs.declared.status.Status.TheVariants as status
+
+abbrev pub code_of : Status → ℕ
+code_of status.Optimal = 0
+code_of status.Infeasible = 1
+code_of status.Unfinished = 2
+code_of status.Words = 3
+code_of status.BadInput = 4
+code_of status.Refused = 5
+code_of status.ReadFault = 6
+code_of status.WriteFault = 7
+code_of status.TooLong = 8
+code_of status.NoMemory = 9
+
+abbrev pub status_of_head : Head → Status
+status_of_head (Optimal c) = status.Optimal
+status_of_head Infeasible = status.Infeasible
+status_of_head (Unfinished budget) = status.Unfinished
+
+-- the status of a run whose report was sent
+abbrev pub status_of : Report → Status
+status_of (solved head f table) = status_of_head head
+status_of (bad_words place) = status.Words
+status_of (bad_flat number word) = status.BadInput
+status_of (read_fault feed) = status.ReadFault
+status_of (too_long feed) = status.TooLong
+status_of no_memory = status.NoMemory
