@@ -1,0 +1,5 @@
+pub mod Steps
+pub mod Fields
+pub mod Rows
+pub mod Sizes
+pub mod Kept

@@ -1,0 +1,5 @@
+pub mod Twelfths
+pub mod Levels
+pub mod Table
+pub mod Tides
+pub mod Whole

@@ -1,0 +1,83 @@
+//! Reading a tide table.
+
+ghost use Rattle.std.specs.Prelude.{◌≡◌, ◌∷◌, [], true, false, map};
+ghost use Rattle.csv.specs.Records.{fields_of};
+ghost use Rattle.hw_tide.specs.Table.{Gives};
+ghost use Rattle.hw_tide.specs.Tides.{tide_of};
+ghost use Rattle.hw_tide.specs.Whole.{Reads, waypoint_names, says_water, tide_by_header};
+
+use crate::fault::TideFault;
+use crate::filling::tide_of_levels;
+use crate::levels::field_of;
+use crate::records::all_records;
+use crate::table::table;
+use crate::tide::Tide;
+use csv::ByteRecord;
+use hw_port::Port;
+use std::alloc::Global;
+
+/// The tide of a table of heights for the port's waypoints, or its first fault.
+///
+/// The header is `slot` and the waypoints' names. Each record has the next slot, from 0 on, and a
+/// height in centimetres for each waypoint. All records are held in memory.
+pub fn read_heights(alloc: Global, bytes: &[u8], port: &Port) -> Result<Tide, TideFault>
+    ensures { Reads bytes.now (tide_of false (waypoint_names port.now)) result }
+{
+    match all_records(alloc, bytes) {
+        Ok(records) => tide(alloc, false, &records, port),
+        Err(_) => Err(TideFault::NoMemory),
+    }
+}
+
+/// The tide of a table of high and low waters for the port's waypoints, or its first fault.
+///
+/// The header is `water` and the waypoints' names. The first record has the slot 0 and each other
+/// one a later slot than that before; between two waters heights go by the rule of twelfths,
+/// rounded down. All records are held in memory.
+pub fn read_waters(alloc: Global, bytes: &[u8], port: &Port) -> Result<Tide, TideFault>
+    ensures { Reads bytes.now (tide_of true (waypoint_names port.now)) result }
+{
+    match all_records(alloc, bytes) {
+        Ok(records) => tide(alloc, true, &records, port),
+        Err(_) => Err(TideFault::NoMemory),
+    }
+}
+
+/// The tide of a table of waters where the first field of the header is `water`, and of heights
+/// otherwise.
+pub fn read_tides(alloc: Global, bytes: &[u8], port: &Port) -> Result<Tide, TideFault>
+    ensures { Reads bytes.now (tide_by_header (waypoint_names port.now)) result }
+{
+    match all_records(alloc, bytes) {
+        Ok(records) => tide(alloc, is_waters(&records), &records, port),
+        Err(_) => Err(TideFault::NoMemory),
+    }
+}
+
+/// Whether the first field of the first record is `water`.
+fn is_waters(records: &[ByteRecord]) -> bool
+    ensures { result ≡ says_water (map fields_of records.now) }
+{
+    match records {
+        [] => false,
+        [header, ..] => begins_with_water(header),
+    }
+}
+
+fn begins_with_water(header: &ByteRecord) -> bool
+    ensures { result ≡ says_water (fields_of header.now ∷ []) }
+{
+    match field_of(header, 0) {
+        Some(field) => field == b"water".as_slice(),
+        None => false,
+    }
+}
+
+#[tactic(auto, unfolding(crate::specs::Tides::tide_of))]
+fn tide(alloc: Global, waters: bool, records: &[ByteRecord], port: &Port) -> Result<Tide, TideFault>
+    ensures { Gives (λ t. t) result (tide_of waters (waypoint_names port.now) (map fields_of records.now)) }
+{
+    let waypoints = &port.parts().waypoints;
+    let levels = table(alloc, waters, waypoints, records)?;
+    tide_of_levels(alloc, waters, waypoints.len() as u32, &levels)
+}

@@ -1,0 +1,97 @@
+//! A tide table: its header, and the records behind it.
+
+ghost use Rattle.std.specs.Prelude.{◌≡◌, ◌≤◌, ◌∷◌, length, map, drop, true, ◌+◌, bytes_eq};
+ghost use Rattle.csv.specs.Records.{fields_of};
+ghost use Rattle.hw_tide.specs.Table.{Gives, kind_word, wrong_column, header_of, not_empty, table_of};
+
+use crate::fault::TideFault;
+use crate::levels::{Levels, all_levels, field_of};
+use csv::ByteRecord;
+use hw_port::Waypoint;
+use std::alloc::Global;
+
+/// The first column behind the first one that is wrong, missing or extra.
+fn wrong_name(waypoints: &[Waypoint], header: &ByteRecord) -> Option<u32>
+    requires { length waypoints.now ≤ 16 }
+    ensures { result ≡ wrong_column 1 (map (λ w. w.name) waypoints.now) (drop 1 (fields_of header.now)) }
+{
+    for (i, waypoint) in waypoints.iter().enumerate() {
+        let Some(field) = field_of(header, i + 1) else {
+            return Some(i as u32 + 1);
+        };
+        if !is_word(field, &waypoint.name.items) {
+            return Some(i as u32 + 1);
+        }
+    }
+    match field_of(header, waypoints.len() + 1) {
+        Some(_) => Some(waypoints.len() as u32 + 1),
+        None => None,
+    }
+}
+
+fn is_word(field: &[u8], word: &[u8]) -> bool
+    ensures { result ≡ bytes_eq field.now word.now }
+{
+    let same = field == word;
+    same
+}
+
+/// Whether a field is the first word of the header.
+fn is_kind(waters: bool, field: &[u8]) -> bool
+    ensures { result ≡ bytes_eq field.now (kind_word waters) }
+{
+    if waters {
+        is_word(field, b"water")
+    } else {
+        is_word(field, b"slot")
+    }
+}
+
+fn wrong_of(waters: bool, waypoints: &[Waypoint], header: &ByteRecord) -> Option<u32>
+    requires { length waypoints.now ≤ 16 }
+    ensures { result ≡ wrong_column 0 (kind_word waters ∷ map (λ w. w.name) waypoints.now) (drop 0 (fields_of header.now)) }
+{
+    match field_of(header, 0) {
+        Some(field) if is_kind(waters, field) => wrong_name(waypoints, header),
+        _ => Some(0),
+    }
+}
+
+fn test_header(waters: bool, waypoints: &[Waypoint], header: &ByteRecord) -> Result<(), TideFault>
+    requires { length waypoints.now ≤ 16 }
+    ensures { Gives (λ _. true) result (header_of (wrong_column 0 (kind_word waters ∷ map (λ w. w.name) waypoints.now) (drop 0 (fields_of header.now)))) }
+{
+    match wrong_of(waters, waypoints, header) {
+        None => Ok(()),
+        Some(column) => Err(TideFault::Header { column }),
+    }
+}
+
+fn some_levels(levels: Vec<Levels>) -> Result<Vec<Levels>, TideFault>
+    ensures { Gives (λ v. v.items) result (not_empty levels.items) }
+{
+    if levels.is_empty() {
+        Err(TideFault::Few)
+    } else {
+        Ok(levels)
+    }
+}
+
+/// The heights that the records give, of waters or slot by slot.
+#[tactic(auto, unfolding(crate::specs::Table::table_of))]
+pub fn table(
+    alloc: Global,
+    waters: bool,
+    waypoints: &[Waypoint],
+    records: &[ByteRecord],
+) -> Result<Vec<Levels>, TideFault>
+    requires { length waypoints.now ≤ 16 }
+    ensures { Gives (λ v. v.items) result (table_of waters (map (λ w. w.name) waypoints.now) (map fields_of records.now)) }
+{
+    let [header, rest @ ..] = records else {
+        return Err(TideFault::Header { column: 0 });
+    };
+    test_header(waters, waypoints, header)?;
+    let levels = all_levels(alloc, waters, 1 + waypoints.len(), rest)?;
+    some_levels(levels)
+}
