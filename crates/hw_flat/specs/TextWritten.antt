@@ -9,6 +9,11 @@ use Rattle.hw_model.specs.declared.rule.Rule.TheVariants.{Pair, After, Tugs}
 use Rattle.hw_model.specs.Problem.{Problem, horizon, value_at}
 use Rattle.hw_text.specs.Parts.{spaced, ended_lines}
 
+-- the words, each with a space in front
+abbrev pub led : List (List ℕ) → List ℕ
+led [] = []
+led (word ∷ words) = 32 ∷ word ++ led words
+
 abbrev pub header_text : Bool → List ℕ
 header_text stay = if stay then codes "flat 2" else codes "flat 1"
 

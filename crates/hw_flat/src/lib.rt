@@ -12,9 +12,13 @@ mod room;
 mod room_tests;
 mod rules;
 mod timetable;
+mod writing;
 
 pub use fault::{FlatFault, FlatWord};
 pub use flat::Flat;
 pub use hw_model::{Hole, Holes, Job, Jobs, NoMemory, Order, Rule, Shape, ShipId, Slot, Source};
 pub use room::Room;
 pub use timetable::Timetable;
+
+#[cfg(test)]
+mod tests;
