@@ -3,3 +3,5 @@ pub mod Lines
 pub mod TextWords
 pub mod TextRows
 pub mod WrittenWords
+pub mod TextLacks
+pub mod TextBack

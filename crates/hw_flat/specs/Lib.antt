@@ -2,3 +2,4 @@ pub mod Opened
 pub mod TextForms
 pub mod Text
 pub mod TextWritten
+pub mod TextLaws

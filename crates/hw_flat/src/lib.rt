@@ -6,6 +6,7 @@
 mod fault;
 mod flat;
 mod forms;
+mod laws;
 mod reading;
 mod room;
 #[cfg(test)]
@@ -17,6 +18,7 @@ mod writing;
 pub use fault::{FlatFault, FlatWord};
 pub use flat::Flat;
 pub use hw_model::{Hole, Holes, Job, Jobs, NoMemory, Order, Rule, Shape, ShipId, Slot, Source};
+pub use laws::{one_text, reads_back};
 pub use room::Room;
 pub use timetable::Timetable;
 

@@ -256,3 +256,43 @@ fn names_the_first_bad_line(rt: HostRuntime) {
         );
     }
 }
+
+#[test]
+fn writes_the_text_that_was_read(rt: HostRuntime) -> Result<(), Fail> {
+    let rows = [
+        ("one_ship", ONE_SHIP),
+        ("two_ships_apart", TWO_SHIPS_APART),
+        ("berth_and_tugs", BERTH_AND_TUGS),
+        ("ships_that_may_stay", SHIPS_THAT_MAY_STAY),
+        ("no_ship_may_stay", b"flat 2\nsize 1 1\nv 0 n\nend\n"),
+    ];
+    for (row, text) in rows {
+        let flat = Flat::read(rt.alloc(), text)?;
+        let mut out = Vec::from_slice(rt.alloc(), b"before ")?;
+        flat.write(&mut out)?;
+        assert_eq!(rt; &out[..7], b"before ".as_slice(), "{row}");
+        assert_eq!(rt; &out[7..], text, "{row}");
+    }
+    Ok(())
+}
+
+#[test]
+fn takes_4000_rules_and_no_more(rt: HostRuntime) -> Result<(), Fail> {
+    let mut text = Vec::from_slice(rt.alloc(), b"flat 1\nsize 2 1\nv 1\nv 1\n")?;
+    for _ in 0..4000 {
+        text.extend_from_slice(b"p 0 1 0:0\n")?;
+    }
+    let mut whole = Vec::from_slice(rt.alloc(), &text)?;
+    whole.extend_from_slice(b"end\n")?;
+    assert_eq!(rt; Flat::read(rt.alloc(), &whole)?.rules.len(), 4000);
+    let mut many = Vec::from_slice(rt.alloc(), &text)?;
+    many.extend_from_slice(b"p 0 1 0:0\nend\n")?;
+    assert_eq!(rt; refusal(rt.alloc(), &many), Some((4005, FlatWord::Many)));
+    let mut bad = Vec::from_slice(rt.alloc(), &text)?;
+    bad.extend_from_slice(b"p 0 1 -0:0\nend\n")?;
+    assert_eq!(rt; refusal(rt.alloc(), &bad), Some((4005, FlatWord::Rule)));
+    let mut cut_off = text;
+    cut_off.extend_from_slice(b"p 0 1 0:0")?;
+    assert_eq!(rt; refusal(rt.alloc(), &cut_off), Some((4005, FlatWord::Rule)));
+    Ok(())
+}

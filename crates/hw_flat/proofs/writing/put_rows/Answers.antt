@@ -12,5 +12,5 @@ loop-preserved c =
     record {
       size = rest;
       told = rows_more c.loop.out.items c.put_row.new.out.items c.args.sailing c.args.slots (c.args.ships - c.loop.counter) (c.args.ships - (c.loop.counter + 1)) c.loop.left.now c.split_at.result.0.now c.split_at.result.1.now
-        (c.args.out.now.items ++ ended_lines (map (row_text c.args.sailing) (rows_in c.args.ships c.args.slots c.args.values.now))) k c.split_at.ensures.front c.split_at.ensures.back c.in_ok-put_row.ensures c.loop.invariant.told;
+          (c.args.out.now.items ++ ended_lines (map (row_text c.args.sailing) (rows_in c.args.ships c.args.slots c.args.values.now))) k c.split_at.ensures.front c.split_at.ensures.back c.in_ok-put_row.ensures c.loop.invariant.told;
     }
