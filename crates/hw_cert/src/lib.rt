@@ -4,12 +4,14 @@
 mod check;
 mod fitting;
 mod line;
+mod pending;
 mod spelling;
 mod stop;
+mod taking;
 mod version;
 mod words;
 
 pub use check::{CheckWord, Refusal, Verdict};
 pub use line::{Hints, Line};
-pub use stop::FormWord;
+pub use stop::{FormWord, LineStop};
 pub use version::Version;

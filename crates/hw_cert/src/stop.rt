@@ -1,3 +1,8 @@
+ghost use Rattle.std.specs.Prelude.{◌≡◌};
+ghost use Rattle.hw_cert.specs.declared.stop.LineStop.TheVariants.{NoMemory};
+
+use std::alloc::AllocError;
+
 /// Why a line of a certificate can't be read, in the order of the tests.
 #[derive(Clone, Copy, Debug, PartialEq, Eq)]
 pub enum FormWord {
@@ -9,4 +14,25 @@ pub enum FormWord {
     Range,
     /// The first bad word is a literal in range that breaks the normal form.
     Normal,
+}
+
+/// Why no line was had. Each uses the reader up.
+#[derive(Clone, Copy, Debug, PartialEq, Eq)]
+pub enum LineStop {
+    /// The line of this number, counted from 1 with the header, is no spelling of a line.
+    Form { number: u64, word: FormWord },
+    /// A read failed.
+    Fault,
+    /// The line that comes next has more than 1,048,576 bytes without its end, or ends past 2^40
+    /// bytes of the certificate.
+    TooLong,
+    NoMemory,
+}
+
+impl From<AllocError> for LineStop {
+    ghost from_gives = { λ _ e. e ≡ NoMemory };
+
+    fn from(_e: AllocError) -> LineStop {
+        LineStop::NoMemory
+    }
 }

@@ -1,0 +1,30 @@
+-- What a line reader is seen as, and what its calls on pending bytes do.
+use Rattle.std.specs.Prelude.{◌≡◌, ℕ, ◌+◌, ◌^◌, ◌<◌, ◌≤◌, List, [], ◌∷◌, ◌++◌, Option, Some, None, Result, length, Bool, true, false, IfOk}
+use Rattle.std.specs.Io.KnownBytes.{IsAtEnd}
+use Rattle.hw_desk.specs.State.{DeskState}
+use Rattle.hw_desk.specs.Calls.{Moves, ReadCause}
+use Rattle.hw_desk.specs.declared.desk.Feed.{Feed}
+use Rattle.hw_model.specs.declared.shape.Shape.{Shape}
+use Rattle.hw_text.specs.Parts.{lacks}
+use Rattle.hw_cert.specs.Stream.{Position}
+
+-- a reader: the problem's shape, the feed, where the reading stands, and the bytes that were read
+-- behind that place
+pub record ReaderModel : Type 0 where
+  pub shape : Shape
+  pub feed : Feed
+  pub at : Position
+  pub pending : List ℕ
+
+-- a line's bytes before a line feed were taken, or all of them, where there is none
+abbrev pub Scans : List ℕ → List ℕ → List ℕ → List ℕ → Bool → Type 0
+Scans bytes rest old new false = (lacks 10 bytes ≡ true) × (new ≡ old ++ bytes) × (rest ≡ [])
+Scans bytes rest old new true = (front : List ℕ) × (bytes ≡ front ++ 10 ∷ rest) × (lacks 10 front ≡ true) × (new ≡ old ++ front)
+
+-- the next bytes of the feed are pending, at most so many, and none only where none is left
+pub record Fills {E : Type 0} (feed : Feed) (most : ℕ) (pending : List ℕ) (old new : DeskState) (result : Result ℕ E) : Type 0 where
+  pub moved : Moves feed pending old new
+  pub bound : length pending ≤ most
+  pub count : IfOk result (λ n. n ≡ length pending)
+  pub ended : IfOk result (λ n. n ≡ 0 → IsAtEnd (new.feeds feed).left)
+  pub cause : ReadCause old new result
