@@ -1,5 +1,5 @@
 -- Taking a line, block by block.
-use Rattle.std.proofs.Common.{◌≡◌, ◌==◌, ◌≤◌, ◌<◌, ◌+◌, ◌-◌, ◌^◌, ◌&&◌, ◌||◌, not, cond, nat_lt, ℕ, Bool, true, false, List, [], ◌∷◌, ◌++◌, length, Result, Ok, Err, IsErrOf, refl, sym, ap, ◌∙◌, subst, arith, append_assoc, append-nil, length-append}
+use Rattle.std.proofs.Common.{◌≡◌, ◌==◌, ◌≤◌, ◌+◌, ◌-◌, ◌^◌, ◌&&◌, ◌||◌, not, cond, nat_lt, ℕ, Bool, true, false, List, [], ◌∷◌, ◌++◌, length, Result, Ok, IsErrOf, refl, sym, ap, ◌∙◌, subst, arith, append_assoc, append-nil, length-append}
 use Rattle.std.proofs.lemmas.Bool.{ltb-false, lt-ltb}
 use Rattle.std.specs.Io.KnownBytes.{IsAtEnd}
 use Rattle.hw_desk.specs.State.{DeskState, Rose}

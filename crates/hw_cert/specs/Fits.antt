@@ -43,7 +43,7 @@ first_fault shape (lines.Explain n clause) = unless Range (nat_lt n (shape.ships
 first_fault shape (lines.Order v w x clause) = unless Range (nat_lt v w && (nat_lt w x && nat_lt x shape.ships)) or_else clause_fault shape clause
 first_fault shape (lines.Goal clause) = clause_fault shape clause
 first_fault shape (lines.Lemma clause hints) = clause_fault shape clause or_else unless Range (list_all (λ id. nat_lt 0 id) hints)
-first_fault shape (lines.Delete ids) = unless Range (ascends 0 ids)
+first_fault shape (lines.Delete ids) = unless Range (nat_lt 0 (length ids) && ascends 0 ids)
 
 -- a line, unless a word is bad
 abbrev pub refused_by : Line → Option FormWord → Result Line FormWord

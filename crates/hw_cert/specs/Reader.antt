@@ -1,5 +1,5 @@
 -- What a line reader is seen as, and what its calls on pending bytes do.
-use Rattle.std.specs.Prelude.{◌≡◌, ℕ, ◌+◌, ◌^◌, ◌<◌, ◌≤◌, List, [], ◌∷◌, ◌++◌, Option, Some, None, Result, length, Bool, true, false, IfOk}
+use Rattle.std.specs.Prelude.{◌≡◌, ℕ, ◌+◌, ◌^◌, ◌≤◌, List, [], ◌∷◌, ◌++◌, Result, length, Bool, true, false, IfOk}
 use Rattle.std.specs.Io.KnownBytes.{IsAtEnd}
 use Rattle.hw_desk.specs.State.{DeskState}
 use Rattle.hw_desk.specs.Calls.{Moves, ReadCause}
@@ -28,3 +28,10 @@ pub record Fills {E : Type 0} (feed : Feed) (most : ℕ) (pending : List ℕ) (o
   pub count : IfOk result (λ n. n ≡ length pending)
   pub ended : IfOk result (λ n. n ≡ 0 → IsAtEnd (new.feeds feed).left)
   pub cause : ReadCause old new result
+
+-- what every reader keeps
+pub record ReaderKeeps (r : ReaderModel) : Type 0 where
+  pub few_ships : r.shape.ships ≤ 40
+  pub few_lines : r.at.number ≤ r.at.taken + 1
+  pub short : r.at.taken ≤ 2 ^ 40
+  pub read : r.at.taken + length r.pending ≤ 2 ^ 40 + 1

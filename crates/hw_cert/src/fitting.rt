@@ -1,6 +1,6 @@
 //! Whether the words of a line fit the problem.
 
-ghost use Rattle.std.specs.Prelude.{◌≡◌, ◌≤◌, nat_lt, length};
+ghost use Rattle.std.specs.Prelude.{◌≡◌, ◌≤◌, ◌&&◌, nat_lt, length};
 ghost use Rattle.std.specs.List.{list_all};
 ghost use Rattle.hw_cert.specs.declared.fitting.LineFault.TheVariants.{NoMemory};
 ghost use Rattle.hw_cert.specs.Fits.{ascends, unless, clause_fault, first_fault, refused_by, fitted, line_read};
@@ -149,9 +149,9 @@ fn lemma_line(alloc: Global, shape: Shape, lits: &[Lit], hints: Vec<u32>) -> Res
 }
 
 fn delete_line(ids: Vec<u32>) -> Result<Line, LineFault>
-    ensures { Gives result (refused_by (Line.Delete ids.items) (unless FormWord.Range (ascends 0 ids.items))) }
+    ensures { Gives result (refused_by (Line.Delete ids.items) (unless FormWord.Range (nat_lt 0 (length ids.items) && ascends 0 ids.items))) }
 {
-    if !is_ascending(&ids) {
+    if ids.is_empty() || !is_ascending(&ids) {
         return Err(LineFault::Bad(FormWord::Range));
     }
     Ok(Line::Delete {

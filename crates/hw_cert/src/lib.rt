@@ -5,6 +5,7 @@ mod check;
 mod fitting;
 mod line;
 mod pending;
+mod reader;
 mod spelling;
 mod stop;
 mod taking;
@@ -13,5 +14,6 @@ mod words;
 
 pub use check::{CheckWord, Refusal, Verdict};
 pub use line::{Hints, Line};
+pub use reader::{LineReader, Next};
 pub use stop::{FormWord, LineStop};
 pub use version::Version;

@@ -55,7 +55,12 @@ fn scan_bytes(bytes: &[u8], line: &mut Vec<u8>) -> Result<Option<usize>, AllocEr
 }
 
 /// One read into the first so many bytes of the block.
-fn read_block<D: Desk>(desk: &mut D, feed: Feed, block: &mut [u8], room: usize) -> Result<usize, DeskFailed>
+fn read_block<D: Desk>(
+    desk: &mut D,
+    feed: Feed,
+    block: &mut [u8],
+    room: usize,
+) -> Result<usize, DeskFailed>
     requires begun { ((D.state desk.old).feeds feed).begun ≡ true }
     requires some { 0 < room }
     requires within { room ≤ length block.old }
@@ -96,12 +101,21 @@ impl Pending {
     }
 
     /// Lets the bytes go and reads the next ones, at most so many.
-    pub fn fill<D: Desk>(&mut self, desk: &mut D, feed: Feed, most: u64) -> Result<usize, DeskFailed>
+    pub fn fill<D: Desk>(
+        &mut self,
+        desk: &mut D,
+        feed: Feed,
+        most: u64,
+    ) -> Result<usize, DeskFailed>
         requires begun { ((D.state desk.old).feeds feed).begun ≡ true }
         requires some { 0 < most }
         ensures { Fills feed most self.new (D.state desk.old) (D.state desk.new) result }
     {
-        let room = if most < BLOCK as u64 { most as usize } else { BLOCK };
+        let room = if most < BLOCK as u64 {
+            most as usize
+        } else {
+            BLOCK
+        };
         self.at = 0;
         self.end = 0;
         let count = read_block(desk, feed, &mut self.block, room)?;

@@ -35,7 +35,11 @@ fn passes_limit(taken: u64, size: u64, end: u64) -> bool
 fn tail_line(line: &[u8]) -> TakenLine
     ensures { result ≡ (if nat_lt 0 (length line.now) then TakenLine.Unended else TakenLine.Nothing) }
 {
-    if line.is_empty() { TakenLine::Nothing } else { TakenLine::Unended }
+    if line.is_empty() {
+        TakenLine::Nothing
+    } else {
+        TakenLine::Unended
+    }
 }
 
 /// Takes the bytes up to the next line feed. It looks at each byte once, and reads block by block.

@@ -1,7 +1,7 @@
-use Rattle.std.proofs.Common.{◌≡◌, ◌≤◌, ◌<◌, ◌+◌, ◌-◌, ◌^◌, length, true, false, nat_lt, refl, sym, ap, ◌∙◌, inl, inr, rules, arith, ℕ, List, cond}
+use Rattle.std.proofs.Common.{◌≡◌, ◌+◌, ◌-◌, ◌^◌, length, true, false, nat_lt, sym, ap, ◌∙◌, inl, rules, ℕ, List, cond}
 use Rattle.std.proofs.lemmas.Result.{err_from_is_err_and}
 use Rattle.hw_cert.specs.Stream.{passes}
-use Rattle.hw_cert.proofs.Takes.{takes, whole_line, unparted, filled, tail_of, rose_after}
+use Rattle.hw_cert.proofs.Takes.{takes, whole_line, filled, tail_of, rose_after}
 use Rattle.hw_cert.specs.declared.taking.TakenLine.TheVariants.{Unended, Nothing}
 use Rattle.hw_cert.proofs.taking.take_line.Goals as goal
 

@@ -1,5 +1,4 @@
-use Rattle.std.proofs.Common.{◌≡◌, ◌≤◌, ◌+◌, ◌-◌, ◌^◌, ◌++◌, length, true, List, ℕ}
-use Rattle.hw_desk.specs.Calls.{Moves}
+use Rattle.std.proofs.Common.{◌+◌, ◌-◌, ◌^◌, length}
 use Rattle.hw_cert.proofs.Takes.{SoFar}
 use Rattle.hw_cert.proofs.taking.take_line.Given as goal
 
