@@ -1,7 +1,7 @@
 -- Reading the words of a line one after the other, as a loop does.
-use Rattle.std.proofs.Common.{◌≡◌, ℕ, suc, ◌+◌, ◌-◌, ◌<◌, ◌≤◌, Bool, true, false, List, [], ◌∷◌, ◌++◌, Option, Some, None, Bor, length, option_map, refl, sym, ap, ◌∙◌, append_assoc, arith, ◌==◌}
+use Rattle.std.proofs.Common.{◌≡◌, ℕ, suc, ◌+◌, ◌-◌, ◌<◌, ◌≤◌, Bool, true, false, List, [], ◌∷◌, ◌++◌, Option, Some, None, Bor, length, refl, sym, ap, ◌∙◌, append_assoc, arith, ◌==◌}
 use Rattle.std.proofs.lemmas.List.{append-nil, length_push}
-use Rattle.hw_text.specs.Parts.{words_of, left_words}
+use Rattle.hw_text.specs.Parts.{words_of}
 use Rattle.hw_text.proofs.Splits.{has_part}
 use Rattle.hw_flat.specs.TextForms.{with_front, put_first, row_values, last_values, value_word, items_of, some_items}
 

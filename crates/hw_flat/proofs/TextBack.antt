@@ -1,21 +1,21 @@
 -- What is written reads back.
-use Rattle.std.proofs.Common.{T, IsTrue, ◌≡◌, ℕ, ℤ, zero, suc, ◌+◌, ◌*◌, ◌-◌, ◌<◌, ◌≤◌, ◌≤ℤ◌, ◌^◌, ◌==◌, ◌&&◌, ◌||◌, Bool, true, false, cond, List, [], ◌∷◌, ◌++◌, map, length, take, drop, Option, Some, None, Result, Ok, Err, refl, sym, ap, ◌∙◌, subst, arith, codes, decimal, bytes_eq, slice_get, unwrap_or, option_and_then, All, AllPairs, append_assoc, inl, inr, ltb, pos, neg_ℤ}
-use Rattle.std.proofs.lemmas.Bool.{and_from, le-leb, lt-ltb, or_left, or_right, cases_lt, cases_order}
+use Rattle.std.proofs.Common.{T, IsTrue, ◌≡◌, ℕ, ℤ, zero, suc, ◌+◌, ◌*◌, ◌-◌, ◌<◌, ◌≤◌, ◌≤ℤ◌, ◌^◌, ◌||◌, Bool, true, false, cond, List, [], ◌∷◌, ◌++◌, map, length, take, drop, Option, Some, None, Ok, refl, sym, ap, ◌∙◌, arith, codes, decimal, bytes_eq, slice_get, unwrap_or, option_and_then, All, AllPairs, append_assoc, inl, inr, ltb, pos, neg_ℤ}
+use Rattle.std.proofs.lemmas.Bool.{and_from, le-leb, lt-ltb, or_left, or_right, cases_order}
 use Rattle.std.proofs.lemmas.Int.{ints}
 use Rattle.std.proofs.lemmas.List.{length-take, length-drop, take-append-drop}
 use Rattle.std.proofs.lemmas.List.Elements.{All-nil, All-cons, All-head, All-tail}
 use Rattle.std.proofs.lemmas.List.Folds.{list_all-append}
 use Rattle.std.specs.Fmt.{signed_decimal}
 use Rattle.std.specs.Int.Signed.{le_z}
-use Rattle.std.specs.List.{list_all, join_with_byte}
+use Rattle.std.specs.List.{list_all}
 use Rattle.hw_model.specs.declared.rule.Hole.{Hole}
 use Rattle.hw_model.specs.declared.rule.Job.{Job}
 use Rattle.hw_model.specs.declared.rule.Rule.{Rule}
 use Rattle.hw_model.specs.declared.rule.Rule.TheVariants.{Pair, After, Tugs}
-use Rattle.hw_model.specs.Limits.{HoleFits, JobFits, RuleFits, IsFlat}
-use Rattle.hw_model.specs.Problem.{Problem, horizon, value_at}
-use Rattle.hw_text.specs.Numbers.{number_up_to, is_digit}
-use Rattle.hw_text.specs.Parts.{parts_of, first_part, words_of, spaced, lacks}
+use Rattle.hw_model.specs.Limits.{HoleFits, JobFits, RuleFits}
+use Rattle.hw_model.specs.Problem.{Problem, horizon}
+use Rattle.hw_text.specs.Numbers.{is_digit}
+use Rattle.hw_text.specs.Parts.{parts_of, words_of, spaced, lacks}
 use Rattle.hw_text.proofs.Digits.{own}
 use Rattle.hw_text.proofs.Spelled.{reads_back}
 use Rattle.hw_text.proofs.Signs.{from_to_reads, signed_reads}
@@ -23,13 +23,13 @@ use Rattle.hw_text.proofs.Joins.{cut_joined, cut_ended}
 use Rattle.std.proofs.lemmas.Fmt.{digits_decimal}
 use Rattle.hw_flat.specs.declared.fault.FlatWord.{FlatWord}
 use Rattle.hw_flat.specs.declared.fault.FlatWord.TheVariants as words
-use Rattle.hw_flat.specs.Text.{Fault, line_at, row_at, rows_at, rules_at, problem_of, text_of, flat_text}
-use Rattle.hw_flat.specs.TextForms.{header_form, size_words, size_form, ship_word, hole_parts, hole_form, job_parts, job_form, items_of, some_items, ascend_from, pair_words, after_words, tugs_words, rule_words, rule_form, value_word, stay_word, last_values, row_values, row_words, row_form}
-use Rattle.hw_flat.specs.TextWritten.{header_text, size_text, value_text, stay_text, row_texts, row_text, hole_text, job_text, rule_texts, rule_text, rows_in, problem_lines, problem_text, IsWritable}
+use Rattle.hw_flat.specs.Text.{line_at, row_at, rows_at, rules_at, problem_of, text_of}
+use Rattle.hw_flat.specs.TextForms.{header_form, size_words, size_form, ship_word, hole_parts, hole_form, job_parts, job_form, items_of, some_items, ascend_from, rule_words, rule_form, value_word, last_values, row_values, row_words, row_form}
+use Rattle.hw_flat.specs.TextWritten.{header_text, size_text, value_text, stay_text, row_texts, row_text, hole_text, job_text, rule_texts, rule_text, rows_in, problem_lines, problem_text}
 use Rattle.hw_flat.specs.TextLaws.{ReadsBack}
 use Rattle.hw_flat.proofs.TextWords.{same_text}
-use Rattle.hw_flat.proofs.TextRows.{width, last_in, RowFits, RowsFit, text_is}
-use Rattle.hw_flat.proofs.TextLacks.{Apart, apart_space, apart_end, number_lacks, joined_lacks, hole_parts_lack, job_parts_lack, row_lacks, rule_lacks}
+use Rattle.hw_flat.proofs.TextRows.{width, last_in, RowsFit, text_is}
+use Rattle.hw_flat.proofs.TextLacks.{apart_space, apart_end, number_lacks, joined_lacks, hole_parts_lack, job_parts_lack, row_lacks, rule_lacks}
 
 -- joined words are cut into the same words
 cut_words : (words : List (List ℕ)) → 1 ≤ length words → list_all (lacks 32) words ≡ true → words_of (spaced words) ≡ words

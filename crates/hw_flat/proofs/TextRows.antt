@@ -1,15 +1,13 @@
 -- What the lines of a text are where it has its form: the lines of its problem, which keeps the limits.
-use Rattle.std.proofs.Common.{IsTrue, ◌≡◌, ℕ, zero, suc, ◌+◌, ◌*◌, ◌-◌, ◌<◌, ◌≤◌, ◌^◌, ◌==◌, Bool, true, false, cond, List, [], ◌∷◌, ◌++◌, map, length, take, drop, Option, Some, None, option_map, Result, Ok, Err, refl, sym, ap, ◌∙◌, subst, arith, inl, inr, codes, decimal, bytes_eq, slice_get, unwrap_or, option_and_then, All, append_assoc}
+use Rattle.std.proofs.Common.{IsTrue, ◌≡◌, ℕ, zero, suc, ◌+◌, ◌*◌, ◌-◌, ◌<◌, ◌≤◌, Bool, true, false, cond, List, [], ◌∷◌, ◌++◌, map, length, take, drop, Option, Some, None, option_map, Result, Ok, Err, refl, sym, ap, ◌∙◌, subst, arith, codes, decimal, bytes_eq, slice_get, unwrap_or, option_and_then, All, append_assoc}
 use Rattle.std.proofs.Math.Path.{ap₂}
-use Rattle.std.proofs.Math.Nat.{mul-suc}
-use Rattle.std.proofs.lemmas.Bool.{cases_lt}
 use Rattle.std.proofs.lemmas.List.{take_at, drop_at, length-append}
 use Rattle.std.proofs.lemmas.List.Elements.{All-nil, All-cons, All-append}
 use Rattle.hw_model.specs.declared.rule.Rule.{Rule}
 use Rattle.hw_model.specs.Limits.{RuleFits, IsFlat}
-use Rattle.hw_model.specs.Problem.{Problem, horizon, value_at}
+use Rattle.hw_model.specs.Problem.{Problem, horizon}
 use Rattle.hw_text.specs.Numbers.{number_up_to, number_from_to}
-use Rattle.hw_text.specs.Parts.{parts_of, first_part, words_of, spaced, at_end}
+use Rattle.hw_text.specs.Parts.{first_part, words_of, at_end}
 use Rattle.hw_text.proofs.Spelled.{is_spelled}
 use Rattle.hw_text.proofs.Signs.{from_to_is}
 use Rattle.hw_flat.specs.declared.fault.FlatWord.{FlatWord}

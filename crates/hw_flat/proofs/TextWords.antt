@@ -1,23 +1,21 @@
 -- What the words of a line are where they have its form: the words of what they say, which keeps the limits.
-use Rattle.std.proofs.Common.{◌≡◌, ℕ, zero, suc, ◌+◌, ◌<◌, ◌≤◌, ◌≢◌, ◌^◌, ◌==◌, ◌&&◌, ◌||◌, Bool, true, false, cond, List, [], ◌∷◌, ◌++◌, map, length, take, drop, Option, Some, None, option_map, refl, sym, ap, ◌∙◌, subst, arith, inl, inr, codes, decimal, bytes_eq, slice_get, unwrap_or, option_and_then, All, AllPairs, pos, nat_lt, nat_le}
+use Rattle.std.proofs.Common.{◌≡◌, ℕ, zero, suc, ◌+◌, ◌<◌, ◌≤◌, ◌≢◌, ◌||◌, Bool, true, false, cond, List, [], ◌∷◌, map, length, Option, Some, None, refl, sym, ap, ◌∙◌, subst, arith, inl, inr, codes, decimal, bytes_eq, All, AllPairs, nat_lt}
 use Rattle.std.proofs.Math.Path.{ap₂}
-use Rattle.std.proofs.lemmas.Bool.{ltb-true, leb-true, eqb-true, and_parts, or_cases}
+use Rattle.std.proofs.lemmas.Bool.{ltb-true, leb-true, and_parts, or_cases}
 use Rattle.std.proofs.lemmas.List.Elements.{All-nil, All-cons}
 use Rattle.std.proofs.lemmas.List.Kept.{AllPairs-cons}
 use Rattle.std.proofs.lemmas.List.Splits.{join_with_byte-slice_split}
-use Rattle.std.proofs.lemmas.Int.{ints}
 use Rattle.std.proofs.lemmas.Slice.Eq.{bytes_eq-Decides}
 use Rattle.std.specs.Fmt.{signed_decimal}
 use Rattle.std.specs.Bool.{passes}
-use Rattle.std.specs.Int.Signed.{le_z, le_z_yes, ◌≤ℤ◌}
+use Rattle.std.specs.Int.Signed.{le_z, le_z_yes}
 use Rattle.std.specs.List.{join_with_byte}
 use Rattle.hw_model.specs.declared.rule.Hole.{Hole}
 use Rattle.hw_model.specs.declared.rule.Job.{Job}
 use Rattle.hw_model.specs.declared.rule.Rule.{Rule}
-use Rattle.hw_model.specs.declared.rule.Rule.TheVariants.{Pair, After, Tugs}
-use Rattle.hw_model.specs.Limits.{HoleFits, JobFits, PairFits, AfterFits, TugsFit, RuleFits}
+use Rattle.hw_model.specs.Limits.{HoleFits, JobFits, RuleFits}
 use Rattle.hw_text.specs.Numbers.{number_up_to, number_from_to, signed_up_to}
-use Rattle.hw_text.specs.Parts.{parts_of, words_of, spaced}
+use Rattle.hw_text.specs.Parts.{parts_of, words_of}
 use Rattle.hw_text.proofs.Spelled.{is_spelled}
 use Rattle.hw_text.proofs.Signs.{is_signed, from_to_is}
 use Rattle.hw_flat.specs.TextForms.{◌>>=◌, kept_if, put_first, ship_word, hole_parts, hole_form, job_parts, job_form, items_of, some_items, ascend_from, pair_words, after_words, tugs_words, rule_words, rule_form}

@@ -1,5 +1,5 @@
 -- Texts put together from words and lines.
-use Rattle.std.proofs.Common.{◌≡◌, ℕ, zero, suc, ◌+◌, ◌*◌, ◌-◌, ◌<◌, ◌≤◌, Bool, true, false, List, [], ◌∷◌, ◌++◌, map, take, drop, length, Option, Result, Ok, Err, OnOk, refl, sym, ap, ◌∙◌, append_assoc, arith, codes, decimal}
+use Rattle.std.proofs.Common.{◌≡◌, ℕ, suc, List, [], ◌∷◌, ◌++◌, map, take, drop, Option, Result, Ok, Err, OnOk, refl, sym, ap, ◌∙◌, append_assoc, codes}
 use Rattle.std.proofs.lemmas.List.{append-nil}
 use Rattle.hw_text.specs.Parts.{spaced, ended_lines}
 use Rattle.hw_flat.specs.TextWritten.{led, value_text, stay_text, row_text, rows_in}

@@ -1,5 +1,3 @@
-use Rattle.std.proofs.Common.{ap, ◌∙◌}
-use Rattle.hw_flat.specs.TextForms.{last_values}
 use Rattle.hw_flat.proofs.Rows.{last_is_one}
 use Rattle.hw_flat.proofs.forms.last_of.Goals as goal
 

@@ -1,4 +1,4 @@
-use Rattle.std.proofs.Common.{◌≡◌, ◌∙◌, sym}
+use Rattle.std.proofs.Common.{sym}
 use Rattle.hw_text.specs.Parts.{left_words, words_of}
 use Rattle.hw_flat.specs.TextForms.{row_values}
 use Rattle.hw_flat.proofs.Rows.{row_ends, row_fails, row_goes_on}

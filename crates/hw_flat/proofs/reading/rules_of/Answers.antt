@@ -1,4 +1,4 @@
-use Rattle.std.proofs.Common.{◌≡◌, ◌+◌, ◌-◌, ◌≤◌, ◌<◌, ◌++◌, [], ◌∷◌, length, sym, ◌∙◌, arith}
+use Rattle.std.proofs.Common.{◌≡◌, ◌+◌, ◌-◌, ◌<◌, ◌++◌, [], ◌∷◌, length, sym, ◌∙◌, arith}
 use Rattle.hw_text.specs.Parts.{parts_of}
 use Rattle.hw_flat.specs.Text.{rules_at}
 use Rattle.hw_flat.proofs.Rows.{more_fit}

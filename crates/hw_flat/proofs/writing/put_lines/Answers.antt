@@ -1,4 +1,4 @@
-use Rattle.std.proofs.Common.{◌≡◌, ◌++◌, [], ◌∷◌, map, ap, ◌∙◌, sym, refl, codes}
+use Rattle.std.proofs.Common.{◌≡◌, ◌++◌, [], ◌∷◌, map, sym, refl}
 use Rattle.hw_model.specs.Problem.{horizon}
 use Rattle.hw_text.specs.Parts.{ended_lines}
 use Rattle.hw_flat.specs.TextWritten.{header_text, size_text, row_text, rows_in, rule_text}

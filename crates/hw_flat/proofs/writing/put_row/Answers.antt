@@ -1,5 +1,3 @@
-use Rattle.std.proofs.Common.{◌≡◌, ◌++◌, ◌∷◌, [], map, take, drop}
-use Rattle.hw_flat.specs.TextWritten.{led, value_text, stay_text}
 use Rattle.hw_flat.proofs.WrittenWords.{row_put}
 use Rattle.hw_flat.proofs.writing.put_row.Goals as goal
 

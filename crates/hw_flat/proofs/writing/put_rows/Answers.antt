@@ -1,4 +1,4 @@
-use Rattle.std.proofs.Common.{◌≡◌, ◌+◌, ◌-◌, ◌*◌, ◌++◌, suc, map, drop, length, sym, ap, ◌∙◌, arith, length-drop}
+use Rattle.std.proofs.Common.{◌≡◌, ◌+◌, ◌-◌, ◌*◌, ◌++◌, suc, map, length, ap, arith}
 use Rattle.hw_text.specs.Parts.{ended_lines}
 use Rattle.hw_flat.specs.TextWritten.{row_text, rows_in}
 use Rattle.hw_flat.proofs.WrittenWords.{rows_more}

@@ -1,4 +1,4 @@
-use Rattle.std.proofs.Common.{◌≡◌, ◌++◌, ◌∷◌, [], map, decimal, OnOk, sym}
+use Rattle.std.proofs.Common.{◌≡◌, ◌++◌, map, decimal, sym}
 use Rattle.hw_flat.specs.TextWritten.{led, hole_text, job_text, rule_text}
 use Rattle.hw_flat.proofs.WrittenWords.{on_ok, keyed, keyed_next}
 use Rattle.hw_flat.proofs.writing.put_rule.Goals as goal

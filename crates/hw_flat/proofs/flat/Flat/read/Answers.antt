@@ -1,5 +1,4 @@
-use Rattle.std.proofs.Common.{sym, ◌∙◌, not}
-use Rattle.std.proofs.lemmas.Bool.{not-false}
+use Rattle.std.proofs.Common.{sym, ◌∙◌}
 use Rattle.hw_text.specs.Parts.{parts_of}
 use Rattle.hw_flat.proofs.TextRows.{text_read, text_is}
 use Rattle.hw_flat.proofs.flat.Flat.read.Goals as goal
