@@ -1,11 +1,11 @@
 -- The room while a normal clause is denied, literal by literal: what the loop of a denial keeps.
-use Rattle.std.proofs.Common.{suc, add-one, drop, ◌≡◌, ℕ, ◌+◌, ◌<◌, ◌≤◌, true, List, ◌∷◌, Option, Some, None, length, get_or, refl, sym, ap, ◌∙◌, subst, arith, nat_lt, nat_le}
+use Rattle.std.proofs.Common.{drop, ◌≡◌, ℕ, ◌+◌, ◌<◌, ◌≤◌, true, List, ◌∷◌, Option, Some, None, length, get_or, refl, sym, ap, ◌∙◌, subst, arith, nat_lt, nat_le}
 use Rattle.std.proofs.lemmas.Bool.{and_parts, ltb-true}
-use Rattle.std.proofs.Math.Seq.{drop-cons}
 use Rattle.std.proofs.lemmas.List.{drop_all}
 use Rattle.hw_laws.specs.Laws.{IsLitOf}
 use Rattle.hw_flat.specs.Opened.{shape_in, opened}
 use Rattle.hw_lits.specs.Cuts.{LeavesSlots}
+use Rattle.hw_lits.proofs.Forms.{next_of}
 use Rattle.std.proofs.lemmas.List.Elements.{All-get_or}
 use Rattle.hw_model.specs.declared.lit.Lit.{Lit}
 use Rattle.hw_model.specs.declared.lit.Lit.TheVariants as lits
@@ -30,9 +30,6 @@ some_slot room ship is lt =
 
 pub denying_starts : (room : RoomModel) (all : List Lit) → IsRoom room → IsClause (shape_in room) all → IsDenyingAt (shape_in room) all 0 (opened room)
 denying_starts room all is e = record { before = None; so_far = whole_denying (shape_in room) (λ ship lt. some_slot room ship is lt); normal = e; rest = refl }
-
-next_of : (all : List Lit) (place : ℕ) (lit d : Lit) → place < length all → lit ≡ get_or all place d → drop place all ≡ lit ∷ drop (place + 1) all
-next_of all place lit d lt e = rw add-one (drop-cons all place d lt ∙ ap (λ l. l ∷ drop (suc place) all) (sym e))
 
 -- what the next literal of such a list is
 record IsNext (shape : Shape) (before : Option Lit) (lit : Lit) : Type 0 where

@@ -21,7 +21,8 @@ pub record IsTested (shape : Shape) (all : List Lit) (place : ℕ) (before : Opt
 pub place_small : (shape : Shape) (all : List Lit) (place : ℕ) (before : Option Lit) → shape.ships ≤ 40 → IsTested shape all place before → place ≤ 860
 place_small shape all place before few t = omega (arith, t.few, after_small shape before few t.fits)
 
-next_of : (all : List Lit) (place : ℕ) (lit d : Lit) → place < length all → lit ≡ get_or all place d → drop place all ≡ lit ∷ drop (place + 1) all
+-- the list from a place on
+pub next_of : (all : List Lit) (place : ℕ) (lit d : Lit) → place < length all → lit ≡ get_or all place d → drop place all ≡ lit ∷ drop (place + 1) all
 next_of all place lit d lt e = rw add-one (drop-cons all place d lt ∙ ap (λ l. l ∷ drop (suc place) all) (sym e))
 
 next : (shape : Shape) (all : List Lit) (place : ℕ) (before : Option Lit) (lit d : Lit) → IsTested shape all place before → place < length all → lit ≡ get_or all place d → first_bad_from shape place before (lit ∷ drop (place + 1) all) ≡ first_bad shape all
