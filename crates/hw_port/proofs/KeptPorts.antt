@@ -1,21 +1,17 @@
 -- A port without a fault keeps the meaning rules.
-use Rattle.std.proofs.Common.{◌≡◌, ◌<ℤ◌, ℕ, ◌+◌, ℤ, pos, negsuc, List, [], ◌∷◌, length, take, Option, Some, None, arith, All, IsTrue}
+use Rattle.std.proofs.Common.{◌≡◌, ◌<ℤ◌, ℕ, ◌+◌, ℤ, pos, negsuc, List, [], ◌∷◌, length, None, arith, All, IsTrue}
 use Rattle.std.proofs.lemmas.List.Elements.{All-cons}
 use Rattle.hw_port.specs.declared.fault.Path.{Path}
-use Rattle.hw_port.specs.declared.fault.PortWord.TheVariants.{Name, Side}
 use Rattle.hw_port.specs.declared.parts.Waypoint.{Waypoint}
 use Rattle.hw_port.specs.declared.parts.Section.{Section}
-use Rattle.hw_port.specs.declared.parts.Turnaround.{Turnaround}
 use Rattle.hw_port.specs.declared.parts.Pass.{Pass}
 use Rattle.hw_port.specs.declared.parts.Stretch.{Stretch}
 use Rattle.hw_port.specs.declared.parts.BerthPair.{BerthPair}
 use Rattle.hw_port.specs.Parts.{ShipParts}
 use Rattle.hw_port.specs.Whole.{Parts}
-use Rattle.hw_port.specs.Faults.{◌or_else◌, unless, each, at, at_item, at_part}
-use Rattle.hw_port.specs.Rules.{range, place, count, at_least, above, new_name, among, is_direction, outgoing, incoming}
 use Rattle.hw_port.specs.Ships.{sort_fault, window_fault, load_fault, pass_fault, route_fault, stretch_fault, stretches_fault, channel_fault, tugs_fault, ship_fault}
 use Rattle.hw_port.specs.Meaning.{calendar_fault, waypoint_fault, waypoints_fault, section_fault, sections_fault, gap_fault, row_fault, separation_fault, tug_fault, ships_fault, has_direction, ship_at, side_fault, berth_fault, berths_fault, port_fault}
-use Rattle.hw_port.specs.Kept.{Within, IsPlace, Counts, WaypointKept, SectionKept, RowKept, PassKept, StretchKept, Ascends, ShipKept, BerthKept, PortKept, FaultlessIsKept}
+use Rattle.hw_port.specs.Kept.{Within, IsPlace, Counts, WaypointKept, SectionKept, RowKept, PassKept, StretchKept, Ascends, ShipKept, BerthKept, FaultlessIsKept}
 use Rattle.hw_port.proofs.Keeping.{neither, unless_none, range_kept, place_kept, count_kept, at_least_kept, above_kept, name_kept, each_kept}
 
 waypoint_kept : (all : List Waypoint) (i : ℕ) (w : Waypoint) → waypoint_fault all i w ≡ None → WaypointKept w

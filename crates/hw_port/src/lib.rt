@@ -7,6 +7,8 @@ mod parts;
 mod port;
 mod rules;
 mod ships;
+#[cfg(test)]
+mod tests;
 
 pub use fault::{Path, PortFault, PortWord};
 pub use parts::{

@@ -1,5 +1,8 @@
 //! The parts of a port, as an instance gives them.
 
+ghost use Rattle.std.specs.Prelude.{◌≡◌, bytes_eq};
+ghost use Rattle.hw_port.specs.Rules.{outgoing};
+
 use std::marker::Model;
 
 /// A text, seen as the list of its bytes.
@@ -95,6 +98,15 @@ impl Model for Ship {
     ghost Value = { ShipParts };
 
     ghost view = { λ s. record { name = s.name; direction = s.direction; class = s.class; earliest = s.earliest; latest = s.latest; tpc = s.tpc; light = s.light; deep = s.deep; route = s.route.items; channel = s.channel.items; tugs = s.tugs; job = s.job; may_stay = s.may_stay } };
+}
+
+impl Ship {
+    /// Whether the ship goes out. A ship of a port that doesn't comes in.
+    pub fn is_outgoing(&self) -> bool
+        ensures { result ≡ bytes_eq self.now.direction outgoing }
+    {
+        self.direction.items.as_slice() == b"outgoing".as_slice()
+    }
 }
 
 /// An outgoing ship that clears a berth, the incoming ship that takes it, and how many slots later

@@ -1,8 +1,8 @@
 -- A walk finds the first of all faults.
-use Rattle.std.proofs.Common.{◌≡◌, ℕ, ◌+◌, ◌++◌, List, [], ◌∷◌, Bool, true, false, Option, Some, None, refl, sym, ap, ◌∙◌}
+use Rattle.std.proofs.Common.{◌≡◌, ℕ, ◌+◌, ◌++◌, List, [], ◌∷◌, Bool, true, false, Option, Some, None, refl}
 use Rattle.hw_port.specs.declared.fault.Path.{Path}
 use Rattle.hw_port.specs.declared.fault.PortFault.{PortFault}
-use Rattle.hw_port.specs.declared.fault.PortWord.TheVariants.{Missing, Kind, Other}
+use Rattle.hw_port.specs.declared.fault.PortWord.TheVariants.{Missing, Kind}
 use Rattle.hw_port.specs.Faults.{◌or_else◌, fault_of}
 use Rattle.serde_json.specs.Data.{Data, Items, no_items, item, Members as JsonMembers}
 use Rattle.serde_json.specs.Find.{get, as_str, as_bool, as_array, as_object}

@@ -1,5 +1,5 @@
 -- The forms of single values: what the value is of its kind, or the fault.
-use Rattle.std.specs.Prelude.{ℕ, ◌+◌, ◌&&◌, ℤ, List, Bool, true, false, Option, Some, None, Result, Ok, Err, is_some, option_and_then}
+use Rattle.std.specs.Prelude.{ℕ, ◌&&◌, ℤ, List, Bool, true, false, Option, Some, None, Result, Ok, Err, is_some, option_and_then}
 use Rattle.hw_lexicon.specs.Words.{find_from}
 use Rattle.hw_port.specs.declared.fault.Path.{Path}
 use Rattle.hw_port.specs.declared.fault.PortFault.{PortFault}

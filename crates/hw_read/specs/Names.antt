@@ -1,8 +1,8 @@
 -- The names of an object's members, by the table.
-use Rattle.std.specs.Prelude.{ℕ, List, Bool, codes, [], ◌∷◌}
+use Rattle.std.specs.Prelude.{ℕ, List, Bool, []}
 use Rattle.hw_read.specs.declared.table.Names.{Names}
 use Rattle.hw_read.specs.declared.table.Names.TheVariants as objects
-use Rattle.hw_read.specs.Table.{Place, Members, member, object, names_in, waypoint, turnaround, pass, stretch, berth, ship_members, port_members}
+use Rattle.hw_read.specs.Table.{Place, object, names_in, waypoint, turnaround, pass, stretch, berth, ship_members, port_members}
 
 abbrev pub names_at : Place → List (List ℕ)
 names_at (object n ms) = names_in ms

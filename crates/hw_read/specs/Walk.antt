@@ -1,6 +1,6 @@
 -- The first fault of form as a walk finds it: over the table, and over the code's copy of it.
 -- It is the first of all faults of the table, which is what the reader promises.
-use Rattle.std.specs.Prelude.{◌≡◌, ℕ, ◌+◌, List, Option, Some, None, Result, Ok, Err, Bool, if◌then◌else◌}
+use Rattle.std.specs.Prelude.{◌≡◌, ℕ, ◌+◌, Option, Some, None, Result, Ok, Err, Bool, if◌then◌else◌}
 use Rattle.hw_port.specs.declared.fault.PortFault.{PortFault}
 use Rattle.hw_port.specs.Faults.{◌or_else◌, fault_of}
 use Rattle.serde_json.specs.Data.{Data, Items, no_items, item}

@@ -1,5 +1,4 @@
 use Rattle.hw_read.proofs.FirstFault.{of_place}
-use Rattle.hw_read.specs.Walk.{place_fault}
 use Rattle.hw_read.specs.Table.{port, is_second}
 use Rattle.hw_read.specs.Places.{no_stars}
 use Rattle.serde_json.specs.View.{view}
