@@ -1,0 +1,4 @@
+pub mod Numbered
+pub mod Stored
+pub mod Replayed
+pub mod Following

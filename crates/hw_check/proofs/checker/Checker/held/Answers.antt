@@ -1,0 +1,8 @@
+use Rattle.std.proofs.Common.{◌≡◌, ◌∙◌, is_some, count_by, rules}
+use Rattle.hw_check.proofs.Following.{followed_held}
+use Rattle.hw_check.proofs.checker.Checker.held.Goals as goal
+
+pub returns-clause-followed : goal.returns-clause-followed
+returns-clause-followed c =
+    let is : c.held.result ≡ count_by is_some c.args.self.now.clauses = search rules in
+    λ all follows. is ∙ followed_held c.args.self.now all follows

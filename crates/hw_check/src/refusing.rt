@@ -1,0 +1,219 @@
+//! Why a line isn't valid, by what a checker keeps of the lines before it.
+ghost use Rattle.std.specs.Prelude.{◌≡◌, ◌+◌, ◌<◌, ◌≤◌, None, is_none, length, All, IsSome, option_copied};
+ghost use Rattle.hw_model.specs.Problem.{shape_of, IsTimetable};
+ghost use Rattle.hw_model.specs.Timetables.{first_broken, cargo, beats, restriction_count};
+ghost use Rattle.hw_model.specs.Lits.{IsClause};
+ghost use Rattle.hw_model.specs.Refuting.{IsSourceOf};
+ghost use Rattle.hw_model.specs.Tests as tests;
+ghost use Rattle.hw_model.specs.Replay.{replay};
+ghost use Rattle.hw_cert.specs.Lines as lines;
+ghost use Rattle.hw_cert.specs.Valid.{LineFits, denied_room};
+ghost use Rattle.hw_cert.specs.Refusals as refusals;
+ghost use Rattle.hw_check.specs.States.{numbered, named, LitsFit};
+ghost use Rattle.hw_check.specs.States as states;
+
+use crate::clause_list::ClauseList;
+use hw_cert::{CheckWord, Line, Refusal};
+use hw_flat::{Flat, Room, Source, Timetable};
+use hw_lits::{Clause, Narrowed, deny, narrow_lits};
+use hw_rules::{broken, cargo, refuted};
+
+/// A word that names no number.
+pub(crate) fn refused(word: CheckWord) -> Option<Refusal>
+    ensures { result ≡ refusals.refused word }
+{
+    Some(Refusal { word, hint: None })
+}
+
+fn refused_at(word: CheckWord, id: u32) -> Option<Refusal>
+    ensures { result ≡ refusals.refused_at word id }
+{
+    Some(Refusal {
+        word,
+        hint: Some(id),
+    })
+}
+
+/// The clause of a line, if it is a clause line.
+pub(crate) fn clause_of(line: &Line) -> Option<&Clause>
+    ensures { option_copied result ≡ lines.clause_of line.now }
+{
+    match line {
+        Line::Table(_) => None,
+        Line::Explain { clause, .. } => Some(clause),
+        Line::Order { clause, .. } => Some(clause),
+        Line::Goal { clause } => Some(clause),
+        Line::Lemma { clause, .. } => Some(clause),
+        Line::Delete { .. } => None,
+    }
+}
+
+/// Why what the line itself claims doesn't hold. The room is overwritten.
+pub(crate) fn claim(
+    flat: &Flat,
+    clauses: &ClauseList,
+    best: Option<u64>,
+    line: &Line,
+    room: &mut Room,
+) -> Option<Refusal>
+    requires fits { LineFits flat.now line.now }
+    requires lits { LitsFit flat.now.ships clauses.now }
+    requires ships { room.old.ships ≡ flat.now.ships }
+    requires slots { room.old.slots ≡ flat.now.slots }
+    ensures value { result ≡ states.claim flat.now clauses.now best line.now }
+    ensures same_ships { room.new.ships ≡ flat.now.ships }
+    ensures same_slots { room.new.slots ≡ flat.now.slots }
+{
+    match line {
+        Line::Table(table) => table_refusal(flat, table, best),
+        Line::Explain {
+            restriction,
+            clause,
+        } => source_refusal(flat, source_of(flat, *restriction), best, clause, room),
+        Line::Order { v, w, x, clause } => {
+            let source = Source::Order {
+                v: *v,
+                w: *w,
+                x: *x,
+            };
+            source_refusal(flat, source, best, clause, room)
+        }
+        Line::Goal { clause } => source_refusal(flat, Source::Goal, best, clause, room),
+        Line::Lemma { clause, hints } => lemma_refusal(flat, clauses, clause, &hints.items, room),
+        Line::Delete { ids } => delete_refusal(clauses, &ids.items),
+    }
+}
+
+fn table_refusal(flat: &Flat, table: &Timetable, best: Option<u64>) -> Option<Refusal>
+    requires listed { IsTimetable flat.now table.now }
+    ensures { result ≡ refusals.table_refusal (is_none (first_broken flat.now table.now)) (cargo flat.now table.now) best }
+{
+    if broken(flat, table).is_some() {
+        return refused(CheckWord::Table);
+    }
+    match cargo(flat, table) {
+        None => refused(CheckWord::Table),
+        Some(c) => if beats(c, best) {
+            None
+        } else {
+            refused(CheckWord::Worse)
+        },
+    }
+}
+
+fn beats(cargo: u64, best: Option<u64>) -> bool
+    ensures { result ≡ beats cargo best }
+{
+    match best {
+        None => true,
+        Some(most) => most < cargo,
+    }
+}
+
+fn source_of(flat: &Flat, n: u32) -> Source
+    requires numbered { n < restriction_count flat.now }
+    ensures value { result ≡ tests.source_of flat.now n }
+    ensures source { IsSourceOf flat.now result }
+{
+    let ships = flat.shape().ships;
+    if n < ships {
+        Source::Window { ship: n }
+    } else {
+        Source::Rule { place: n - ships }
+    }
+}
+
+fn source_refusal(
+    flat: &Flat,
+    source: Source,
+    best: Option<u64>,
+    clause: &Clause,
+    room: &mut Room,
+) -> Option<Refusal>
+    requires source { IsSourceOf flat.now source }
+    requires clause { IsClause (shape_of flat.now) clause.now }
+    requires ships { room.old.ships ≡ flat.now.ships }
+    requires slots { room.old.slots ≡ flat.now.slots }
+    ensures value { result ≡ states.source_claim flat.now best source clause.now }
+    ensures same_ships { room.new.ships ≡ flat.now.ships }
+    ensures same_slots { room.new.slots ≡ flat.now.slots }
+{
+    deny_in(flat, clause, room);
+    if refuted(flat, source, best, room) {
+        None
+    } else {
+        refused(CheckWord::Refute)
+    }
+}
+
+/// Makes a room of the problem the denied room of a clause.
+fn deny_in(flat: &Flat, clause: &Clause, room: &mut Room)
+    requires clause { IsClause (shape_of flat.now) clause.now }
+    requires ships { room.old.ships ≡ flat.now.ships }
+    requires slots { room.old.slots ≡ flat.now.slots }
+    ensures room { room.new ≡ denied_room flat.now clause.now }
+    ensures same_ships { room.new.ships ≡ flat.now.ships }
+    ensures same_slots { room.new.slots ≡ flat.now.slots }
+{
+    let _shape = flat.shape();
+    deny(clause, room);
+}
+
+fn lemma_refusal(
+    flat: &Flat,
+    clauses: &ClauseList,
+    clause: &Clause,
+    hints: &[u32],
+    room: &mut Room,
+) -> Option<Refusal>
+    requires clause { IsClause (shape_of flat.now) clause.now }
+    requires lits { LitsFit flat.now.ships clauses.now }
+    requires ships { room.old.ships ≡ flat.now.ships }
+    requires slots { room.old.slots ≡ flat.now.slots }
+    ensures value { result ≡ refusals.lemma_refusal (states.first_dead clauses.now hints.now) hints.now (replay (denied_room flat.now clause.now) (named clauses.now hints.now)) }
+    ensures same_ships { room.new.ships ≡ flat.now.ships }
+    ensures same_slots { room.new.slots ≡ flat.now.slots }
+{
+    match first_dead(clauses, hints) {
+        Some(id) => refused_at(CheckWord::Hint, id),
+        None => {
+            deny_in(flat, clause, room);
+            replay_refusal(clauses, hints, room)
+        }
+    }
+}
+
+/// Why the hints' clauses, in order, lead from the room to no conflict: one pass over their
+/// literals up to the conflict.
+fn replay_refusal(clauses: &ClauseList, hints: &[u32], room: &mut Room) -> Option<Refusal>
+    requires live { states.first_dead clauses.now hints.now ≡ None }
+    requires lits { LitsFit room.old.ships clauses.now }
+    ensures value { result ≡ refusals.replay_refusal hints.now (replay room.old (named clauses.now hints.now)) }
+    ensures same_ships { room.new.ships ≡ room.old.ships }
+    ensures same_slots { room.new.slots ≡ room.old.slots }
+{
+    for id in hints {
+        match narrow_lits(clauses.lits(*id), room) {
+            Narrowed::Conflict => return None,
+            Narrowed::Loose { .. } => return refused_at(CheckWord::Loose, *id),
+            Narrowed::Same | Narrowed::Cut(_) => {}
+        }
+    }
+    refused(CheckWord::Conflict)
+}
+
+/// The first of these numbers that isn't live.
+fn first_dead(clauses: &ClauseList, ids: &[u32]) -> Option<u32>
+    ensures { result ≡ states.first_dead clauses.now ids.now }
+{
+    ids.iter().copied().find(|id| clauses.is_dead(*id))
+}
+
+fn delete_refusal(clauses: &ClauseList, ids: &[u32]) -> Option<Refusal>
+    ensures { result ≡ refusals.delete_refusal (states.first_dead clauses.now ids.now) }
+{
+    match first_dead(clauses, ids) {
+        None => None,
+        Some(id) => refused_at(CheckWord::Dead, id),
+    }
+}
