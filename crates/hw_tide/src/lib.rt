@@ -14,3 +14,6 @@ mod twelfths;
 pub use fault::TideFault;
 pub use reading::{read_heights, read_tides, read_waters};
 pub use tide::Tide;
+
+#[cfg(test)]
+mod tests;
