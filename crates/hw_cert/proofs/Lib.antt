@@ -4,3 +4,9 @@ pub mod Takes
 pub mod Cuts
 pub mod Answered
 pub mod Shapes
+pub mod Streams
+pub mod WordBytes
+pub mod Written
+pub mod ReadBack
+pub mod FormBack
+pub mod WholeCerts

@@ -3,6 +3,7 @@
 
 mod check;
 mod fitting;
+mod laws;
 mod line;
 mod pending;
 mod reader;
@@ -13,6 +14,7 @@ mod version;
 mod words;
 
 pub use check::{CheckWord, Refusal, Verdict};
+pub use laws::{cert_spelled, header_spelled, line_spelled, stream_reads, stream_steps};
 pub use line::{Hints, Line};
 pub use reader::{LineReader, Next};
 pub use stop::{FormWord, LineStop};

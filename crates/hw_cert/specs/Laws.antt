@@ -1,0 +1,96 @@
+-- The laws of the text of certificates.
+use Rattle.std.specs.Prelude.{◌≡◌, ℕ, ◌-◌, ◌^◌, ◌≤◌, Bool, true, false, nat_le, List, [], ◌∷◌, ◌++◌, Some, None, Result, Ok, Err, ⊤}
+use Rattle.std.specs.List.{list_all, flat_map, AllByRecursion}
+use Rattle.hw_model.specs.declared.lit.Lit.{Lit}
+use Rattle.hw_model.specs.declared.lit.Lit.TheVariants.{AtOrAfter, Before, First, NotFirst}
+use Rattle.hw_model.specs.declared.shape.Shape.{Shape}
+use Rattle.hw_cert.specs.declared.line.Line.{Line}
+use Rattle.hw_cert.specs.declared.line.Line.TheVariants as lines
+use Rattle.hw_cert.specs.declared.version.Version.{Version}
+use Rattle.hw_cert.specs.declared.version.Version.TheVariants.{One, Two}
+use Rattle.hw_cert.specs.Texts.{line_text, header_text, cert_text}
+use Rattle.hw_cert.specs.Spelled.{version_of}
+use Rattle.hw_cert.specs.Fits.{first_fault, line_read}
+use Rattle.hw_cert.specs.Stream.{Position, NextLine, ends, comes, bad, too_long, next_of, CertEnd, complete, broken, overlong, CertLines, stopped, stream_of, cert_stream}
+use Rattle.hw_cert.specs.Certs.{Cert, BadLine, cert_read}
+
+-- the numbers of a literal
+abbrev pub lit_numbers : Lit → List ℕ
+lit_numbers (AtOrAfter ship slot) = ship ∷ slot ∷ []
+lit_numbers (Before ship slot) = ship ∷ slot ∷ []
+lit_numbers (First v w) = v ∷ w ∷ []
+lit_numbers (NotFirst v w) = v ∷ w ∷ []
+
+-- the numbers of a line
+abbrev pub line_numbers : Line → List ℕ
+line_numbers (lines.Table table) = table
+line_numbers (lines.Explain n clause) = n ∷ flat_map lit_numbers clause
+line_numbers (lines.Order v w x clause) = v ∷ w ∷ x ∷ flat_map lit_numbers clause
+line_numbers (lines.Goal clause) = flat_map lit_numbers clause
+line_numbers (lines.Lemma clause hints) = flat_map lit_numbers clause ++ hints
+line_numbers (lines.Delete ids) = ids
+
+-- the version has lines of this form
+abbrev pub has_form : Version → Line → Bool
+has_form version (lines.Table table) = true
+has_form version (lines.Explain n clause) = true
+has_form version (lines.Order v w x clause) = true
+has_form version (lines.Goal clause) = true
+has_form version (lines.Lemma clause hints) = true
+has_form One (lines.Delete ids) = false
+has_form Two (lines.Delete ids) = true
+
+-- a number that a line's text may have
+abbrev pub is_small : ℕ → Bool
+is_small n = nat_le n (2 ^ 32 - 1)
+
+-- a line of a certificate of this version, for a problem of this shape
+pub record IsLine (shape : Shape) (version : Version) (line : Line) : Type 0 where
+  pub fits : first_fault shape line ≡ None
+  pub small : list_all is_small (line_numbers line) ≡ true
+  pub formed : has_form version line ≡ true
+
+-- bytes read as a line exactly where they are the text of a line, and then as that one
+pub record SpellsLine (shape : Shape) (version : Version) (bytes : List ℕ) (line : Line) : Type 0 where
+  pub read : line_read shape version bytes ≡ Ok line → (bytes ≡ line_text line) × IsLine shape version line
+  pub written : bytes ≡ line_text line → IsLine shape version line → line_read shape version bytes ≡ Ok line
+
+abbrev pub LineSpelled : Type 0
+LineSpelled = (shape : Shape) (version : Version) (bytes : List ℕ) (line : Line) → 1 ≤ shape.ships → SpellsLine shape version bytes line
+
+-- the same of headers
+pub record SpellsHeader (bytes : List ℕ) (version : Version) : Type 0 where
+  pub read : version_of bytes ≡ Some version → bytes ≡ header_text version
+  pub written : bytes ≡ header_text version → version_of bytes ≡ Some version
+
+abbrev pub HeaderSpelled : Type 0
+HeaderSpelled = (bytes : List ℕ) (version : Version) → SpellsHeader bytes version
+
+-- bytes read as a certificate exactly where they are its text
+pub record SpellsCert (shape : Shape) (bytes : List ℕ) (version : Version) (all : List Line) : Type 0 where
+  pub read : cert_read shape bytes ≡ Ok (record { version = version; lines = all }) → (bytes ≡ cert_text version all) × AllByRecursion (IsLine shape version) all
+  pub written : bytes ≡ cert_text version all → AllByRecursion (IsLine shape version) all → cert_read shape bytes ≡ Ok (record { version = version; lines = all })
+
+abbrev pub CertSpelled : Type 0
+CertSpelled = (shape : Shape) (bytes : List ℕ) (version : Version) (all : List Line) → 1 ≤ shape.ships → SpellsCert shape bytes version all
+
+-- the lines behind what comes next
+abbrev pub following : Shape → NextLine → CertLines
+following shape ends = stopped complete
+following shape (comes line after more) = record { lines = line ∷ (stream_of shape after more).lines; stop = (stream_of shape after more).stop }
+following shape (bad number word) = stopped (broken number word)
+following shape too_long = stopped overlong
+
+-- taking what comes next, again and again, gives the lines of the stream
+abbrev pub StreamSteps : Type 0
+StreamSteps = (shape : Shape) (at : Position) (parts : List (List ℕ)) → stream_of shape at parts ≡ following shape (next_of shape at parts)
+
+-- the lines of a stream and how they end, by what the bytes read as. A limit that is passed says nothing
+abbrev pub Agrees : CertEnd → List Line → Result Cert BadLine → Type 0
+Agrees complete all read = (version : Version) × (read ≡ Ok (record { version = version; lines = all }))
+Agrees (broken number word) all read = read ≡ Err (record { number = number; word = word })
+Agrees overlong all read = ⊤
+
+-- where no limit is passed, the stream is what the bytes read as
+abbrev pub StreamReads : Type 0
+StreamReads = (shape : Shape) (bytes : List ℕ) → Agrees (cert_stream shape bytes).stop (cert_stream shape bytes).lines (cert_read shape bytes)

@@ -1,0 +1,28 @@
+//! The laws of the text of certificates: what is written reads back, and nothing else reads so.
+
+ghost use Rattle.hw_cert.specs.Laws.{LineSpelled, HeaderSpelled, CertSpelled, StreamSteps, StreamReads};
+
+/// Bytes read as a line exactly where they are the line's one text.
+pub fn line_spelled()
+    ensures { LineSpelled }
+{}
+
+/// Bytes read as a header exactly where they are the header's one text.
+pub fn header_spelled()
+    ensures { HeaderSpelled }
+{}
+
+/// Bytes read as a certificate exactly where they are its one text.
+pub fn cert_spelled()
+    ensures { CertSpelled }
+{}
+
+/// Taking what comes next, again and again, gives the lines of the stream.
+pub fn stream_steps()
+    ensures { StreamSteps }
+{}
+
+/// Where no limit is passed, the stream of lines is what the bytes read as.
+pub fn stream_reads()
+    ensures { StreamReads }
+{}
