@@ -3,7 +3,8 @@ use Rattle.std.specs.Prelude.{ℕ, ℤ, pos, negsuc, List, length, take, Bool, f
 use Rattle.std.specs.List.{slice_get}
 use Rattle.hw_port.specs.declared.fault.Path.{Path}
 use Rattle.hw_port.specs.declared.fault.PortFault.{PortFault}
-use Rattle.hw_port.specs.declared.fault.PortWord.TheVariants.{Side}
+use Rattle.hw_port.specs.declared.fault.PortWord.{PortWord}
+use Rattle.hw_port.specs.declared.fault.PortWord.TheVariants.{Missing, Kind, Other, Range, Count, Name, Repeat, Order, Side}
 use Rattle.hw_port.specs.declared.parts.Waypoint.{Waypoint}
 use Rattle.hw_port.specs.declared.parts.Section.{Section}
 use Rattle.hw_port.specs.declared.parts.Turnaround.{Turnaround}
@@ -107,3 +108,15 @@ refused_by (Some f) p = Err f
 
 abbrev pub port_of : Parts → Result Parts PortFault
 port_of p = refused_by (port_fault p) p
+
+-- a word of the meaning rules; the first three are of the form
+abbrev pub IsMeaning : PortWord → Type 0
+IsMeaning Missing = ⊥
+IsMeaning Kind = ⊥
+IsMeaning Other = ⊥
+IsMeaning Range = Unit {0}
+IsMeaning Count = Unit {0}
+IsMeaning Name = Unit {0}
+IsMeaning Repeat = Unit {0}
+IsMeaning Order = Unit {0}
+IsMeaning Side = Unit {0}

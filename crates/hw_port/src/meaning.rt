@@ -1,10 +1,10 @@
 //! The meaning rules of a port, in the order of the table.
 
-ghost use Rattle.std.specs.Prelude.{◌≡◌, ◌≤◌, length, option_map};
+ghost use Rattle.std.specs.Prelude.{◌≡◌, ◌≤◌, length, IfErr};
 ghost use Rattle.hw_port.specs.Faults.{fault_of, each};
 ghost use Rattle.hw_port.specs.Rules.{among};
 ghost use Rattle.hw_port.specs.Ships.{ship_fault};
-ghost use Rattle.hw_port.specs.Meaning.{calendar_fault, waypoint_fault, waypoints_fault, section_fault, sections_fault, gap_fault, row_fault, separation_fault, tug_fault, ships_fault, has_direction, ship_at, side_fault, berth_fault, berths_fault, port_fault};
+ghost use Rattle.hw_port.specs.Meaning.{calendar_fault, waypoint_fault, waypoints_fault, section_fault, sections_fault, gap_fault, row_fault, separation_fault, tug_fault, ships_fault, has_direction, ship_at, side_fault, berth_fault, berths_fault, port_fault, IsMeaning};
 
 use crate::fault::{Path, PortFault, PortWord};
 use crate::parts::{BerthPair, PortParts, Row, Section, Ship, Turnaround, Waypoint};
@@ -211,7 +211,7 @@ fn berths(ships: &[Ship], pairs: &[BerthPair]) -> Result<(), PortFault>
 
 /// All rules, in the order of the table.
 #[tactic(auto, unfolding(crate::specs::Meaning::port_fault))]
-pub fn test_port(p: &PortParts) -> Result<(), PortFault>
+fn all_rules(p: &PortParts) -> Result<(), PortFault>
     ensures { fault_of result ≡ port_fault p.now }
 {
     calendar(p.version, p.slots, p.slot_minutes)?;
@@ -221,4 +221,12 @@ pub fn test_port(p: &PortParts) -> Result<(), PortFault>
     tug_times(&p.turnaround, p.fleet)?;
     ships(p)?;
     berths(&p.ships, &p.berths)
+}
+
+/// The first fault of meaning.
+pub fn test_port(p: &PortParts) -> Result<(), PortFault>
+    ensures fault { fault_of result ≡ port_fault p.now }
+    ensures meaning { IfErr result (λ f. IsMeaning f.word) }
+{
+    all_rules(p)
 }

@@ -1,7 +1,7 @@
 //! A port that keeps the meaning rules.
 
-ghost use Rattle.std.specs.Prelude.{◌≡◌, None};
-ghost use Rattle.hw_port.specs.Meaning.{port_of, port_fault};
+ghost use Rattle.std.specs.Prelude.{◌≡◌, None, IfErr};
+ghost use Rattle.hw_port.specs.Meaning.{port_of, port_fault, IsMeaning};
 ghost use Rattle.hw_port.specs.Kept.{PortKept};
 
 use crate::fault::PortFault;
@@ -16,7 +16,7 @@ pub struct Port {
 }
 
 impl Model for Port {
-    ghost use Rattle.std.specs.Prelude.{◌≡◌, None};
+    ghost use Rattle.std.specs.Prelude.{◌≡◌, None, IfErr};
     ghost use Rattle.hw_port.specs.Whole.{Parts};
     ghost use Rattle.hw_port.specs.Meaning.{port_fault};
 
@@ -33,7 +33,8 @@ impl Port {
     ///
     /// It takes no memory, and goes over the parts once; names are compared with those before.
     pub fn check(parts: PortParts) -> Result<Port, PortFault>
-        ensures { result ≡ port_of parts }
+        ensures port { result ≡ port_of parts }
+        ensures meaning { IfErr result (λ f. IsMeaning f.word) }
     {
         test_port(&parts)?;
         Ok(Port { parts })
