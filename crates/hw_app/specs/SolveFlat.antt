@@ -6,7 +6,7 @@ use Rattle.hw_model.specs.Walk.{FirstBest, table_count}
 use Rattle.hw_rules.specs.Outcomes.{BestBefore}
 use Rattle.hw_desk.specs.State.{DeskState, Rose}
 use Rattle.hw_desk.specs.declared.desk.Feed.TheVariants as feed
-use Rattle.hw_app.specs.Reports.{Report, solved, bad_words, bad_flat, read_fault, too_long, no_memory}
+use Rattle.hw_app.specs.Reports.{Report, solved, bad_flat, read_fault, too_long, no_memory}
 use Rattle.hw_app.specs.declared.report.Head.{Head}
 use Rattle.hw_app.specs.declared.report.Head.TheVariants.{Optimal, Infeasible, Unfinished}
 use Rattle.hw_app.specs.Input.{BeginsFlat, IsTextOf, IsBadAt, most_bytes}
@@ -24,32 +24,24 @@ Walks budget (Optimal c) f table = (table_count f ≤ budget) × IsOptimal f c t
 Walks budget Infeasible f table = (table_count f ≤ budget) × NonePermitted f × (table ≡ None)
 Walks budget (Unfinished spent) f table = (budget < table_count f) × (spent ≡ budget) × BestBefore f budget table
 
--- what a report says of the bytes, where they are told
+-- what a report says of the bytes, where they are told. No other report is given
 abbrev pub TellsText : Option (List ℕ) → Report → Type 0
 TellsText held (solved head f table) = IfSome held (IsTextOf f)
-TellsText held (bad_words place) = ⊥
 TellsText held (bad_flat number word) = IfSome held (IsBadAt number word)
 TellsText held (read_fault f) = f ≡ feed.Flat
 TellsText held (too_long f) = (f ≡ feed.Flat) × IfSome held (λ bytes. most_bytes < length bytes)
 TellsText held no_memory = Unit {0}
+TellsText held _ = ⊥
 
 -- what a report says of the walk
 abbrev pub TellsWalk : ℕ → Report → Type 0
 TellsWalk budget (solved head f table) = Walks budget head f table
-TellsWalk budget (bad_words place) = Unit {0}
-TellsWalk budget (bad_flat number word) = Unit {0}
-TellsWalk budget (read_fault f) = Unit {0}
-TellsWalk budget (too_long f) = Unit {0}
-TellsWalk budget no_memory = Unit {0}
+TellsWalk budget _ = Unit {0}
 
 -- a read fault has its cause
 abbrev pub TellsFault : DeskState → DeskState → Report → Type 0
-TellsFault old new (solved head f table) = Unit {0}
-TellsFault old new (bad_words place) = Unit {0}
-TellsFault old new (bad_flat number word) = Unit {0}
 TellsFault old new (read_fault f) = Rose old.read_faults new.read_faults
-TellsFault old new (too_long f) = Unit {0}
-TellsFault old new no_memory = Unit {0}
+TellsFault old new _ = Unit {0}
 
 -- the work before the report: what was begun, and what the report says of the bytes, of the timetables and of a fault
 pub record SolveFlatWorks (name : List ℕ) (budget : ℕ) (old new : DeskState) (r : Report) : Type 0 where
