@@ -10,6 +10,8 @@ mod memory;
 mod name;
 mod sent;
 mod slots;
+#[cfg(test)]
+mod tests;
 mod whole;
 
 pub use calm::CalmDesk;
