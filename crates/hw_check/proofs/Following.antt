@@ -1,5 +1,5 @@
 -- What a checker keeps says all that later lines need of those before them.
-use Rattle.std.proofs.Common.{◌≡◌, ℕ, zero, suc, ◌+◌, ◌-◌, ◌^◌, ◌<◌, ◌≤◌, ◌==◌, Bool, true, false, ◌||◌, not, cond, nat_lt, List, [], ◌∷◌, ◌++◌, Option, Some, None, length, set, fold, find, filter_map, slice_get, option_and_then, is_none, is_some, count_by, filter, Result, Ok, Err, IfOk, IfErr, All, IfSome, IsSome, refl, sym, ap, ◌∙◌, subst, arith, inl, inr, length-append, append_assoc, append-nil}
+use Rattle.std.proofs.Common.{◌≡◌, ℕ, zero, suc, ◌+◌, ◌^◌, ◌<◌, ◌≤◌, ◌==◌, Bool, true, false, ◌||◌, not, cond, nat_lt, List, [], ◌∷◌, ◌++◌, Option, Some, None, length, set, fold, find, filter_map, slice_get, option_and_then, is_none, is_some, count_by, filter, Result, Ok, Err, IfOk, IfErr, All, IfSome, IsSome, refl, sym, ap, ◌∙◌, subst, arith, inl, inr, length-append, append_assoc, append-nil}
 use Rattle.std.specs.Option.{option_flatten}
 use Rattle.std.specs.List.{cons_option, list_any, range_with_len}
 use Rattle.std.proofs.lemmas.List.Sums.{sum_by-cons}
@@ -16,11 +16,10 @@ use Rattle.hw_cert.specs.declared.check.CheckWord.TheVariants as words
 use Rattle.hw_cert.specs.declared.check.Refusal.{Refusal}
 use Rattle.hw_cert.specs.declared.line.Line.{Line}
 use Rattle.hw_cert.specs.declared.line.Line.TheVariants as lines
-use Rattle.hw_cert.specs.Lines.{clause_of, clauses_of, clause_count, clause_at, deletes, live, table_after, last_table, best_of, is_end, is_closed, ends}
+use Rattle.hw_cert.specs.Lines.{clause_of, clauses_of, clause_count, clause_at, deletes, live, table_after, last_table, best_of, is_end, is_closed}
 use Rattle.hw_cert.specs.Valid.{LineFits, ValidAfter, ValidFrom, Valid, hinted, denied_room, verdict, verdict_by}
 use Rattle.hw_cert.specs.Refusals as refusals
 use Rattle.hw_cert.specs.Refusals.{refusal, refused, claim_refusal, table_refusal, lemma_refusal, delete_refusal}
-use Rattle.hw_verdict.specs.Laws.{OneMore}
 use Rattle.hw_verdict.proofs.Steps.{clauses_push}
 use Rattle.hw_verdict.proofs.Refused.{valid_from}
 use Rattle.hw_verdict.proofs.Pushed.{one_more}

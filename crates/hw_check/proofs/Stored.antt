@@ -1,9 +1,9 @@
 -- Clauses in one list of literals: one more, one less, and moved together.
-use Rattle.std.proofs.Common.{◌≡◌, ℕ, zero, suc, ◌+◌, ◌-◌, ◌^◌, ◌<◌, ◌≤◌, List, [], ◌∷◌, ◌++◌, Option, Some, None, length, get_or, map, set, take, drop, option_map, is_some, All, IfSome, sum_by, count_by, cond, refl, sym, ap, ◌∙◌, subst, arith, length-append, append_assoc, append-nil, length-drop}
-use Rattle.std.proofs.lemmas.List.{map-set, take-append-le, drop-append-le, drop_more, take_more_set, drop-set-lt, drop_all, take_all, length-set, length-take}
-use Rattle.std.proofs.lemmas.List.Elements.{All-nil, All-cons, All-head, All-tail, All-set, All-append, All-get_or}
-use Rattle.std.proofs.lemmas.List.Sums.{sum_by-cons, sum_by-append, sum_by_push, sum_by-set}
-use Rattle.std.proofs.Math.Seq.{take-append_seam, drop-append_seam, drop-append-add}
+use Rattle.std.proofs.Common.{◌≡◌, ℕ, suc, ◌+◌, ◌-◌, ◌^◌, ◌<◌, ◌≤◌, List, [], ◌∷◌, ◌++◌, Option, Some, None, length, take, drop, option_map, is_some, All, sum_by, count_by, cond, refl, sym, ap, ◌∙◌, subst, arith, length-append, append_assoc, append-nil, length-drop}
+use Rattle.std.proofs.lemmas.List.{take-append-le, drop-append-le, drop_all, take_all, length-take}
+use Rattle.std.proofs.lemmas.List.Elements.{All-nil, All-cons, All-head, All-tail}
+use Rattle.std.proofs.lemmas.List.Sums.{sum_by-cons}
+use Rattle.std.proofs.Math.Seq.{take-append_seam, drop-append_seam}
 use Rattle.hw_model.specs.declared.lit.Lit.{Lit}
 use Rattle.hw_check.specs.declared.place.Place.{Place}
 use Rattle.hw_check.specs.Places.{lits_at, clauses_at, PlaceFits, len_of, IsStored, joined, lits_in, begun_at, closed_up}

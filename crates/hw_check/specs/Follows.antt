@@ -1,5 +1,5 @@
 -- The lines that a checker has taken, by what it keeps.
-use Rattle.std.specs.Prelude.{◌≡◌, ℕ, ◌+◌, List, [], ◌∷◌, ◌++◌, Option, Some, Result, Ok, Err, All, filter, length, is_some, ⊤}
+use Rattle.std.specs.Prelude.{◌≡◌, ℕ, List, [], ◌∷◌, ◌++◌, Option, Some, Result, Ok, Err, All, filter, length, is_some, ⊤}
 use Rattle.std.specs.List.{range_with_len}
 use Rattle.hw_model.specs.Problem.{Problem}
 use Rattle.hw_cert.specs.declared.check.Refusal.{Refusal}

@@ -1,5 +1,5 @@
 -- What a checker keeps, and validity and verdict by it alone.
-use Rattle.std.specs.Prelude.{◌≡◌, All, IfSome, ℕ, zero, suc, ◌+◌, ◌^◌, Bool, true, false, not, ◌||◌, nat_lt, List, [], ◌∷◌, ◌++◌, Option, Some, None, length, fold, find, filter_map, slice_get, slice_set, is_none, if◌then◌else◌}
+use Rattle.std.specs.Prelude.{◌≡◌, All, IfSome, ℕ, zero, suc, ◌+◌, ◌^◌, Bool, false, not, ◌||◌, nat_lt, List, [], ◌∷◌, ◌++◌, Option, Some, None, length, fold, find, filter_map, slice_get, slice_set, is_none, if◌then◌else◌}
 use Rattle.std.specs.Option.{option_flatten}
 use Rattle.hw_model.specs.declared.lit.Lit.{Lit}
 use Rattle.hw_model.specs.declared.source.Source.{Source}

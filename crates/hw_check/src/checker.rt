@@ -78,14 +78,16 @@ impl<'f> Checker<'f> {
         }
     }
 
-    /// Takes one more line, exactly where it is valid after those before it. A checker that
-    /// refuses a line, or lacks memory for it, is used up.
+    /// Takes one more line of the problem's shape, exactly where it is valid after those before
+    /// it; otherwise it says why not. A checker that refuses a line, or lacks memory for it, is
+    /// used up.
     ///
     /// It costs the size of a room, the literals of the line and of its hints, and what a table or
     /// a source costs that is tested.
     pub fn line(mut self, line: Line) -> Result<Checker<'f>, CheckStop>
         requires fits { LineFits self.problem line }
         ensures state { IfOk result (λ c. c ≡ state_after self.entry line) }
+        ensures problem { IfOk result (λ c. c.problem ≡ self.entry.problem) }
         ensures taken { OnOk result (state_refusal self.entry line ≡ None) }
         ensures refused { IfErr result (λ stop. Stops stop (state_refusal self.entry line)) }
         ensures followed { (before : List Line) → Follows self.entry before → Answers self.entry.problem before line result }

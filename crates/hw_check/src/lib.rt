@@ -11,6 +11,8 @@ mod laws;
 mod place;
 mod refusing;
 mod stop;
+#[cfg(test)]
+mod tests;
 
 pub use checker::Checker;
 pub use hw_cert::{CheckWord, Refusal, Verdict};

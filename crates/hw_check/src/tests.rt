@@ -1,0 +1,265 @@
+ghost use Rattle.std.specs.Prelude.{IfOk, IfSome};
+ghost use Rattle.hw_model.specs.Problem.{shape_of};
+ghost use Rattle.hw_model.specs.Lits.{IsClause};
+ghost use Rattle.hw_cert.specs.Valid.{LineFits};
+
+use crate::checker::Checker;
+use crate::stop::CheckStop;
+use hw_cert::{CheckWord, Hints, Line, Refusal, Verdict};
+use hw_flat::{Flat, Timetable};
+use hw_lits::{Clause, Lit};
+use std::alloc::Global;
+use std::test::Fail;
+
+/// Two ships of three slots that must sail at least two slots apart.
+const TWO_SHIPS: &[u8] = b"flat 1\nsize 2 3\nv 10 20 30\nv 10 20 30\np 0 1 -1:1\nend\n";
+
+/// A line of a certificate of two ships.
+#[derive(Clone, Copy)]
+enum Step<'a> {
+    Table(u32, u32),
+    Explain(u32, &'a [Lit]),
+    Goal(&'a [Lit]),
+    Lemma(&'a [Lit], &'a [u32]),
+    Delete(u32),
+}
+
+const A01: Lit = Lit::AtOrAfter { ship: 0, slot: 1 };
+
+const A11: Lit = Lit::AtOrAfter { ship: 1, slot: 1 };
+
+const B01: Lit = Lit::Before { ship: 0, slot: 1 };
+
+const B11: Lit = Lit::Before { ship: 1, slot: 1 };
+
+/// The best timetable, and why no other one has more cargo.
+const BEST: Step = Step::Table(2, 0);
+
+const SECOND_LATE: Step = Step::Goal(&[A11]);
+
+const FIRST_LATE: Step = Step::Goal(&[A01]);
+
+const APART: Step = Step::Explain(2, &[B01, B11]);
+
+const END: Step = Step::Lemma(&[], &[1, 2, 3]);
+
+fn clause_of(alloc: Global, flat: &Flat, lits: &[Lit]) -> Result<Clause, Fail>
+    ensures fits { IfOk result (λ clause. IsClause (shape_of flat.now) clause) }
+{
+    let shape = flat.shape();
+    let clause = Clause::from_lits(alloc, shape, lits)?;
+    Ok(clause)
+}
+
+fn numbers_of(alloc: Global, numbers: &[u32]) -> Result<Hints, Fail> {
+    let items = Vec::from_slice(alloc, numbers)?;
+    Ok(Hints { items })
+}
+
+fn line_of(alloc: Global, flat: &Flat, step: Step) -> Result<Option<Line>, Fail>
+    ensures fits { IfOk result (λ line. IfSome line (LineFits flat.now)) }
+{
+    let shape = flat.shape();
+    match step {
+        Step::Table(first, second) => {
+            if shape.ships != 2 || shape.slots <= first || shape.slots <= second {
+                return Ok(None);
+            }
+            Ok(Some(Line::Table(Timetable::from_slots(alloc, &[first, second])?)))
+        }
+        Step::Explain(restriction, lits) => {
+            if shape.ships + shape.rules <= restriction {
+                return Ok(None);
+            }
+            let clause = clause_of(alloc, flat, lits)?;
+            Ok(Some(Line::Explain {
+                restriction,
+                clause,
+            }))
+        }
+        Step::Goal(lits) => {
+            let clause = clause_of(alloc, flat, lits)?;
+            Ok(Some(Line::Goal { clause }))
+        }
+        Step::Lemma(lits, hints) => {
+            let clause = clause_of(alloc, flat, lits)?;
+            let hints = numbers_of(alloc, hints)?;
+            Ok(Some(Line::Lemma { clause, hints }))
+        }
+        Step::Delete(id) => {
+            if id == 0 {
+                return Ok(None);
+            }
+            let items = Vec::from_slice(alloc, &[id])?;
+            Ok(Some(Line::Delete {
+                ids: Hints { items },
+            }))
+        }
+    }
+}
+
+/// What a checker says of lines: the verdict and the number of live clauses, or the refusal.
+type Said = Result<(Verdict, u32), CheckStop>;
+
+fn checked(alloc: Global, flat: &Flat, steps: &[Step]) -> Result<Said, Fail> {
+    let mut checker = Checker::new(alloc, flat)?;
+    for step in steps {
+        let Some(line) = line_of(alloc, flat, *step)? else {
+            return Err(Fail::new("a line that doesn't fit"));
+        };
+        match checker.line(line) {
+            Ok(next) => checker = next,
+            Err(stop) => return Ok(Err(stop)),
+        }
+    }
+    Ok(Ok((checker.verdict(), checker.held())))
+}
+
+fn refused(word: CheckWord, hint: Option<u32>) -> Said {
+    Err(CheckStop::Refused(Refusal { word, hint }))
+}
+
+#[test]
+fn two_ships_apart(rt: HostRuntime) -> Result<(), Fail> {
+    let flat = Flat::read(rt.alloc(), TWO_SHIPS)?;
+    let optimal = Ok((Verdict::Optimal(40), 4));
+    let none = Ok((Verdict::Unfinished(None), 0));
+    let open = Ok((Verdict::Unfinished(Some(40)), 3));
+    let rows: [(&[Step], Said, &str); 16] = [
+        (&[], none, "no lines"),
+        (
+            &[BEST, SECOND_LATE, FIRST_LATE, APART, END],
+            optimal,
+            "the whole certificate",
+        ),
+        (
+            &[BEST, SECOND_LATE, FIRST_LATE, APART],
+            open,
+            "without the last line",
+        ),
+        (
+            &[
+                BEST,
+                SECOND_LATE,
+                FIRST_LATE,
+                APART,
+                Step::Lemma(&[], &[3, 1, 2]),
+            ],
+            refused(CheckWord::Loose, Some(3)),
+            "two open literals at the first hint",
+        ),
+        (
+            &[BEST, SECOND_LATE, Step::Table(0, 2)],
+            refused(CheckWord::Worse, None),
+            "no more cargo",
+        ),
+        (
+            &[BEST, SECOND_LATE, Step::Table(1, 1)],
+            refused(CheckWord::Table, None),
+            "too near",
+        ),
+        (
+            &[BEST, SECOND_LATE, FIRST_LATE, APART, END, Step::Goal(&[])],
+            refused(CheckWord::Ended, None),
+            "a line after the last",
+        ),
+        (
+            &[
+                BEST,
+                SECOND_LATE,
+                FIRST_LATE,
+                APART,
+                Step::Explain(2, &[B01]),
+            ],
+            refused(CheckWord::Refute, None),
+            "ship 1 may sail apart",
+        ),
+        (
+            &[BEST, SECOND_LATE, FIRST_LATE, APART, Step::Lemma(&[], &[9])],
+            refused(CheckWord::Hint, Some(9)),
+            "a later line",
+        ),
+        (
+            &[
+                BEST,
+                SECOND_LATE,
+                FIRST_LATE,
+                APART,
+                Step::Lemma(&[], &[3, 0]),
+            ],
+            refused(CheckWord::Hint, Some(0)),
+            "no clause is numbered 0, and hints are looked at first",
+        ),
+        (
+            &[
+                BEST,
+                SECOND_LATE,
+                FIRST_LATE,
+                APART,
+                Step::Lemma(&[], &[1, 2]),
+            ],
+            refused(CheckWord::Conflict, None),
+            "hints without the conflict",
+        ),
+        (
+            &[Step::Lemma(&[], &[])],
+            refused(CheckWord::Conflict, None),
+            "no hints",
+        ),
+        (
+            &[SECOND_LATE],
+            refused(CheckWord::Refute, None),
+            "a goal without a best",
+        ),
+        (
+            &[BEST, SECOND_LATE, Step::Delete(1), Step::Lemma(&[], &[1])],
+            refused(CheckWord::Hint, Some(1)),
+            "a dead hint",
+        ),
+        (
+            &[BEST, SECOND_LATE, Step::Delete(1), Step::Delete(1)],
+            refused(CheckWord::Dead, Some(1)),
+            "deleted twice",
+        ),
+        (
+            &[
+                BEST,
+                SECOND_LATE,
+                FIRST_LATE,
+                Step::Delete(1),
+                Step::Delete(2),
+            ],
+            Ok((Verdict::Unfinished(Some(40)), 0)),
+            "none left",
+        ),
+    ];
+    for (steps, want, row) in rows {
+        assert_eq!(rt; checked(rt.alloc(), &flat, steps)?, want, "{row}");
+    }
+    Ok(())
+}
+
+#[test]
+fn dead_literals_are_given_back(rt: HostRuntime) -> Result<(), Fail> {
+    let flat = Flat::read(rt.alloc(), TWO_SHIPS)?;
+    let mut steps = vec![in rt.alloc(); BEST, SECOND_LATE, FIRST_LATE]?;
+    for id in 3..40 {
+        steps.push(APART)?;
+        steps.push(Step::Delete(id))?;
+    }
+    steps.push(APART)?;
+    let open = Ok((Verdict::Unfinished(Some(40)), 3));
+    assert_eq!(rt;
+        checked(rt.alloc(), &flat, &steps)?,
+        open,
+        "without the last line"
+    );
+    steps.push(Step::Lemma(&[], &[1, 2, 40]))?;
+    let optimal = Ok((Verdict::Optimal(40), 4));
+    assert_eq!(rt;
+        checked(rt.alloc(), &flat, &steps)?,
+        optimal,
+        "the whole certificate"
+    );
+    Ok(())
+}
