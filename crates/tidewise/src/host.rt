@@ -1,23 +1,15 @@
 ghost use Rattle.std.specs.Prelude.{◌≡◌, ◌≤◌, ◌<◌, length, true, IfOk, IsOk, OnErr};
 ghost use Rattle.hw_desk.specs.State.{Rose};
-ghost use Rattle.tidewise.specs.Feeds.{is_begun, is_made};
+ghost use Rattle.tidewise.specs.Opened.{was_opened};
 
 use hw_desk::{Desk, DeskFailed, Feed, Tray};
 use std::fs::File;
 use std::io::{Read, Write};
 use std::{fs, io};
 
-/// A feed of the host: not begun, failed at its begin, or a file.
+/// The file of a feed or a tray: not opened, failed where it was to be opened, or open.
 #[derive(Drop)]
-pub enum HostFeed {
-    Fresh,
-    Failed,
-    Open(File),
-}
-
-/// A file that is written: not made, failed at its make, or a file.
-#[derive(Drop)]
-pub enum HostTray {
+pub enum HostFile {
     Fresh,
     Failed,
     Open(File),
@@ -27,14 +19,14 @@ pub enum HostTray {
 #[derive(Drop)]
 pub struct HostDesk<'r> {
     pub rt: &'r HostRuntime,
-    pub flat: HostFeed,
-    pub instance: HostFeed,
-    pub tides: HostFeed,
-    pub certificate: HostFeed,
-    pub plan: HostFeed,
-    pub events: HostFeed,
+    pub flat: HostFile,
+    pub instance: HostFile,
+    pub tides: HostFile,
+    pub certificate: HostFile,
+    pub plan: HostFile,
+    pub events: HostFile,
     pub report_made: bool,
-    pub proof: HostTray,
+    pub proof: HostFile,
     pub read_faults: u64,
     pub write_faults: u64,
 }
@@ -49,14 +41,14 @@ impl<'r> HostDesk<'r> {
     {
         HostDesk {
             rt,
-            flat: HostFeed::Fresh,
-            instance: HostFeed::Fresh,
-            tides: HostFeed::Fresh,
-            certificate: HostFeed::Fresh,
-            plan: HostFeed::Fresh,
-            events: HostFeed::Fresh,
+            flat: HostFile::Fresh,
+            instance: HostFile::Fresh,
+            tides: HostFile::Fresh,
+            certificate: HostFile::Fresh,
+            plan: HostFile::Fresh,
+            events: HostFile::Fresh,
             report_made: false,
-            proof: HostTray::Fresh,
+            proof: HostFile::Fresh,
             read_faults: 0,
             write_faults: 0,
         }
@@ -66,21 +58,21 @@ impl<'r> HostDesk<'r> {
 /// Opens a file, or counts a fault.
 fn open_feed(
     rt: &HostRuntime,
-    feed: &mut HostFeed,
+    feed: &mut HostFile,
     name: &str,
     faults: &mut u64,
 ) -> Result<(), DeskFailed>
-    ensures begun { is_begun feed.new ≡ true }
+    ensures begun { was_opened feed.new ≡ true }
     ensures later { faults.old ≤ faults.new }
     ensures cause { OnErr result (Rose faults.old faults.new) }
 {
     match fs::open(rt, name) {
         Ok(file) => {
-            *feed = HostFeed::Open(file);
+            *feed = HostFile::Open(file);
             Ok(())
         }
         Err(_) => {
-            *feed = HostFeed::Failed;
+            *feed = HostFile::Failed;
             *faults = faults.saturating_add(1);
             Err(DeskFailed)
         }
@@ -88,14 +80,14 @@ fn open_feed(
 }
 
 /// Reads some bytes, or counts a fault. A feed whose begin failed has none.
-fn read_feed(feed: &mut HostFeed, into: &mut [u8], faults: &mut u64) -> Result<usize, DeskFailed>
-    ensures begun { is_begun feed.new ≡ is_begun feed.old }
+fn read_feed(feed: &mut HostFile, into: &mut [u8], faults: &mut u64) -> Result<usize, DeskFailed>
+    ensures begun { was_opened feed.new ≡ was_opened feed.old }
     ensures bound { IfOk result (λ n. n ≤ length into.new) }
     ensures later { faults.old ≤ faults.new }
     ensures cause { OnErr result (Rose faults.old faults.new) }
 {
     match feed {
-        HostFeed::Open(file) => match file.read(into) {
+        HostFile::Open(file) => match file.read(into) {
             Ok(count) => Ok(count),
             Err(_) => {
                 *faults = faults.saturating_add(1);
@@ -124,21 +116,21 @@ fn count_write(answer: io::Result<usize>, faults: &mut u64) -> Result<usize, Des
 /// Makes a file, or counts a fault.
 fn make_tray(
     rt: &HostRuntime,
-    tray: &mut HostTray,
+    tray: &mut HostFile,
     name: &str,
     faults: &mut u64,
 ) -> Result<(), DeskFailed>
-    ensures made { is_made tray.new ≡ true }
+    ensures made { was_opened tray.new ≡ true }
     ensures later { faults.old ≤ faults.new }
     ensures cause { OnErr result (Rose faults.old faults.new) }
 {
     match fs::create(rt, name) {
         Ok(file) => {
-            *tray = HostTray::Open(file);
+            *tray = HostFile::Open(file);
             Ok(())
         }
         Err(_) => {
-            *tray = HostTray::Failed;
+            *tray = HostFile::Failed;
             *faults = faults.saturating_add(1);
             Err(DeskFailed)
         }
@@ -146,14 +138,14 @@ fn make_tray(
 }
 
 /// Writes some bytes, or counts a fault.
-fn write_tray(tray: &mut HostTray, bytes: &[u8], faults: &mut u64) -> Result<usize, DeskFailed>
-    ensures made { is_made tray.new ≡ is_made tray.old }
+fn write_tray(tray: &mut HostFile, bytes: &[u8], faults: &mut u64) -> Result<usize, DeskFailed>
+    ensures made { was_opened tray.new ≡ was_opened tray.old }
     ensures bound { IfOk result (λ n. (0 < n) × (n ≤ length bytes.now)) }
     ensures later { faults.old ≤ faults.new }
     ensures cause { OnErr result (Rose faults.old faults.new) }
 {
     match tray {
-        HostTray::Open(file) => {
+        HostFile::Open(file) => {
             let answer = file.write(bytes);
             count_write(answer, faults)
         }

@@ -2,60 +2,45 @@
 #![tactic(auto)]
 
 mod host;
+#[cfg(test)]
+mod tests;
 
 use host::HostDesk;
 use hw_app::{Status, run};
+use hw_desk::{Tray, write_all};
 use std::alloc::AllocError;
-use std::env::{Env, FillError};
+use std::env;
+use std::io::ErrorKind;
 use std::process::ExitCode;
-use std::str;
 
-/// How many bytes an argument may have.
-const LONGEST: usize = 8192;
-
-/// A word of the command line.
-enum Argument {
-    Word(String),
-    /// It isn't text, or is longer than the system's longest path.
-    NoText,
-    /// The words end before this place.
-    Missing,
-}
-
-/// The argument at a place.
-fn argument_at(rt: &HostRuntime, place: usize) -> Result<Argument, AllocError> {
-    let mut buffer = [0u8; LONGEST];
-    match rt.arg(place, &mut buffer) {
-        Ok(count) => match str::from_utf8(&buffer[..count]) {
-            Ok(text) => Ok(Argument::Word(String::from_str(rt.alloc(), text)?)),
-            Err(_) => Ok(Argument::NoText),
-        },
-        Err(FillError::TooLong) => Ok(Argument::NoText),
-        Err(FillError::NotPresent) => Ok(Argument::Missing),
-    }
-}
-
-/// The words of the command line without the program's name: none at all where one isn't text.
+/// The words of the command line without the program's name. Where they can't be had as text there are none.
 fn words_of(rt: &HostRuntime) -> Result<Vec<String>, AllocError> {
     let mut words = Vec::new(rt.alloc());
-    for place in 1..usize::MAX {
-        match argument_at(rt, place)? {
-            Argument::Word(word) => words.push(word)?,
-            Argument::NoText => {
-                words.clear();
-                break;
+    match env::args(rt) {
+        Ok(args) => {
+            for word in args.skip(1) {
+                words.push(word)?;
             }
-            Argument::Missing => break,
         }
+        Err(e) if e.kind() == ErrorKind::OutOfMemory => return Err(AllocError),
+        Err(_) => {}
     }
     Ok(words)
+}
+
+/// How a run ends for which the words had no memory.
+fn without_words(desk: &mut HostDesk<'_>) -> Status {
+    match write_all(desk, Tray::Report, b"memory\n") {
+        Ok(()) => Status::NoMemory,
+        Err(_) => Status::WriteFault,
+    }
 }
 
 fn main(rt: HostRuntime) -> ExitCode {
     let mut desk = HostDesk::new(&rt);
     let status = match words_of(&rt) {
         Ok(words) => run(rt.alloc(), &words, &mut desk),
-        Err(_) => Status::NoMemory,
+        Err(_) => without_words(&mut desk),
     };
     ExitCode::from(status.code())
 }
