@@ -6,6 +6,8 @@ use Rattle.hw_text.specs.Numbers.{number_from_to}
 pub data Command : Type 0 where
   -- the name of the flat text, and how many timetables are looked at
   solve_flat : List ℕ → ℕ → Command
+  -- the names of the flat text and of the certificate
+  check_flat : List ℕ → List ℕ → Command
 
 infixl 10 ◌>>=◌
 abbrev pub ◌>>=◌ : {A B : Type 0} → Result A ℕ → (A → Result B ℕ) → Result B ℕ
@@ -49,8 +51,20 @@ solve_form words = do
   flat ← keyword_at 2 (codes "flat") words
   solve_flat_form flat
 
+-- `NAME CERT` behind `check flat`
+abbrev pub check_flat_form : List (List ℕ) → Result Command ℕ
+check_flat_form words = do
+  name ← name_at 3 words
+  cert ← name_at 4 name.1
+  end_at 5 (check_flat name.0 cert.0) cert.1
+
+-- the forms that begin with `check`
+abbrev pub check_form : List (List ℕ) → Result Command ℕ
+check_form words = do
+  flat ← keyword_at 2 (codes "flat") words
+  check_flat_form flat
+
 -- the command that the words are, or the first place at which no form goes on with all the words up to there
 abbrev pub command_of : List (List ℕ) → Result Command ℕ
-command_of words = do
-  solve ← keyword_at 1 (codes "solve") words
-  solve_form solve
+command_of [] = Err 1
+command_of (word ∷ words) = if bytes_eq word (codes "solve") then solve_form words else if bytes_eq word (codes "check") then check_form words else Err 1

@@ -8,4 +8,7 @@ pub mod Ends
 pub mod Input
 pub mod Outcomes
 pub mod SolveFlat
+pub mod Certificates
+pub mod Checking
+pub mod CheckFlat
 pub mod Run

@@ -1,6 +1,8 @@
 -- How a run ends.
 use Rattle.std.specs.Prelude.{ℕ}
-use Rattle.hw_app.specs.Reports.{Report, solved, bad_words, bad_flat, read_fault, too_long, no_memory}
+use Rattle.hw_cert.specs.declared.check.Verdict.{Verdict}
+use Rattle.hw_cert.specs.declared.check.Verdict.TheVariants as verdicts
+use Rattle.hw_app.specs.Reports.{Report, solved, checked, refused, bad_words, bad_flat, read_fault, too_long, no_memory}
 use Rattle.hw_app.specs.declared.report.Head.{Head}
 use Rattle.hw_app.specs.declared.report.Head.TheVariants.{Optimal, Infeasible, Unfinished}
 use Rattle.hw_app.specs.declared.status.Status.{Status}
@@ -23,9 +25,16 @@ status_of_head (Optimal c) = status.Optimal
 status_of_head Infeasible = status.Infeasible
 status_of_head (Unfinished budget) = status.Unfinished
 
+abbrev pub status_of_verdict : Verdict → Status
+status_of_verdict (verdicts.Optimal c) = status.Optimal
+status_of_verdict verdicts.Infeasible = status.Infeasible
+status_of_verdict (verdicts.Unfinished best) = status.Unfinished
+
 -- the status of a run whose report was sent
 abbrev pub status_of : Report → Status
 status_of (solved head f table) = status_of_head head
+status_of (checked verdict) = status_of_verdict verdict
+status_of (refused number word hint) = status.Refused
 status_of (bad_words place) = status.Words
 status_of (bad_flat number word) = status.BadInput
 status_of (read_fault feed) = status.ReadFault

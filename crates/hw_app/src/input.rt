@@ -1,7 +1,11 @@
 //! Reading the flat text.
 
+ghost use Rattle.std.specs.Prelude.{◌≡◌};
 ghost use Rattle.hw_desk.specs.State.{IsNew};
 ghost use Rattle.hw_app.specs.Input.{ReadsFlat};
+ghost use Rattle.hw_app.specs.Outcomes.{report_of_stop};
+ghost use Rattle.hw_app.specs.Printing.{CanPrint};
+ghost use Rattle.hw_app.specs.Seen.{report_seen};
 
 use crate::report::Report;
 use hw_desk::{Desk, Feed, ReadStop, read_whole};
@@ -38,5 +42,18 @@ pub fn read_flat<D: Desk>(alloc: Global, desk: &mut D, name: &str) -> Result<Fla
         Ok(flat) => Ok(flat),
         Err(FlatFault::Line { number, word }) => Err(FlatStop::Line { number, word }),
         Err(FlatFault::NoMemory) => Err(FlatStop::NoMemory),
+    }
+}
+
+/// The report of a flat text that gave no problem.
+pub fn stopped(stop: FlatStop) -> Report<'static>
+    ensures value { report_seen result ≡ report_of_stop stop }
+    ensures printed { CanPrint (report_seen result) }
+{
+    match stop {
+        FlatStop::ReadFault => Report::ReadFault { feed: Feed::Flat },
+        FlatStop::TooLong => Report::TooLong { feed: Feed::Flat },
+        FlatStop::Line { number, word } => Report::BadFlat { number, word },
+        FlatStop::NoMemory => Report::Memory,
     }
 }

@@ -4,6 +4,7 @@
 //! `run` goes by the command that the words are.
 #![tactic(auto)]
 
+mod check;
 mod commands;
 mod input;
 mod page;

@@ -3,12 +3,13 @@
 ghost use Rattle.std.specs.Prelude.{◌≡◌, ◌≤◌, ◌<◌, ◌+◌, ◌++◌, length, decimal, codes, unwrap_or, Some, None};
 ghost use Rattle.hw_model.specs.Problem.{IsTimetable};
 ghost use Rattle.hw_desk.specs.Whole.{SendsText};
-ghost use Rattle.hw_app.specs.Reports.{report_text, feed_text, flat_word_text, best_text, head_text, ship_text, ships_text, table_text, solved, bad_flat};
+ghost use Rattle.hw_app.specs.Reports.{report_text, feed_text, flat_word_text, best_text, head_text, ship_text, ships_text, table_text, solved, bad_flat, verdict_text, refused_word_text, form_word_text, check_word_text, hint_text, refused};
 ghost use Rattle.hw_app.specs.Seen.{report_seen};
 ghost use Rattle.hw_app.specs.Printing.{CanPrint};
 
 use crate::page::Page;
-use crate::report::{Head, Report};
+use crate::report::{Head, RefusedWord, Report};
+use hw_cert::{CheckWord, FormWord, Verdict};
 use hw_desk::{Desk, DeskFailed, Feed, Tray, write_all};
 use hw_flat::{Flat, FlatWord, ShipId, Slot, Timetable};
 use hw_rules::cargo;
@@ -40,6 +41,8 @@ fn put_report(page: &mut Page, report: &Report)
             table: None,
             ..
         } => put_none(page, head),
+        Report::Checked { verdict } => put_verdict(page, verdict),
+        Report::Refused { number, word, hint } => put_refused(page, number, word, hint),
         Report::Words { place } => put_numbered(page, b"words ", place),
         Report::BadFlat { number, word } => put_bad_flat(page, number, word),
         Report::ReadFault { feed } => put_feed(page, b"fault read ", feed),
@@ -79,6 +82,81 @@ fn put_bad_flat(page: &mut Page, number: u64, word: FlatWord)
     page.put(b" ");
     page.put(flat_word(word));
     page.put(b"\n");
+}
+
+/// Puts what valid lines show.
+fn put_verdict(page: &mut Page, verdict: Verdict)
+    requires room { length page.old + 60 ≤ 4096 }
+    ensures { page.new ≡ page.old ++ verdict_text verdict }
+{
+    match verdict {
+        Verdict::Optimal(cargo) => put_numbered(page, b"optimal ", cargo),
+        Verdict::Infeasible => page.put(b"infeasible\n"),
+        Verdict::Unfinished(Some(cargo)) => put_numbered(page, b"unfinished ", cargo),
+        Verdict::Unfinished(None) => page.put(b"unfinished none\n"),
+    }
+}
+
+/// Puts the refusal of a certificate's line.
+fn put_refused(page: &mut Page, number: u64, word: RefusedWord, hint: Option<u32>)
+    requires room { length page.old + 80 ≤ 4096 }
+    ensures { page.new ≡ page.old ++ report_text (refused number word hint) }
+{
+    page.put(b"refused ");
+    page.put_number(number);
+    page.put(b" ");
+    page.put(refused_word(word));
+    put_hint(page, hint);
+}
+
+/// Puts the end of a refusal, with the number that its word names.
+fn put_hint(page: &mut Page, hint: Option<u32>)
+    requires room { length page.old + 30 ≤ 4096 }
+    ensures { page.new ≡ page.old ++ hint_text hint }
+{
+    match hint {
+        Some(id) => put_numbered(page, b" ", u64::from(id)),
+        None => page.put(b"\n"),
+    }
+}
+
+fn refused_word(word: RefusedWord) -> &'static [u8]
+    ensures word { result.now ≡ refused_word_text word }
+    ensures short { length result.now ≤ 16 }
+{
+    match word {
+        RefusedWord::Form(word) => form_word(word),
+        RefusedWord::Check(word) => check_word(word),
+    }
+}
+
+fn form_word(word: FormWord) -> &'static [u8]
+    ensures word { result.now ≡ form_word_text word }
+    ensures short { length result.now ≤ 16 }
+{
+    match word {
+        FormWord::Header => b"header",
+        FormWord::Form => b"form",
+        FormWord::Range => b"range",
+        FormWord::Normal => b"normal",
+    }
+}
+
+fn check_word(word: CheckWord) -> &'static [u8]
+    ensures word { result.now ≡ check_word_text word }
+    ensures short { length result.now ≤ 16 }
+{
+    match word {
+        CheckWord::Ended => b"ended",
+        CheckWord::Table => b"table",
+        CheckWord::Worse => b"worse",
+        CheckWord::Refute => b"refute",
+        CheckWord::Hint => b"hint",
+        CheckWord::Loose => b"loose",
+        CheckWord::Conflict => b"conflict",
+        CheckWord::Many => b"many",
+        CheckWord::Dead => b"dead",
+    }
 }
 
 fn feed_name(feed: Feed) -> &'static [u8]

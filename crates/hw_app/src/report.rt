@@ -5,6 +5,7 @@ ghost use Rattle.hw_app.specs.Statuses.{status_of};
 ghost use Rattle.hw_app.specs.Seen.{report_seen};
 
 use crate::status::Status;
+use hw_cert::{CheckWord, FormWord, Verdict};
 use hw_desk::Feed;
 use hw_flat::{Flat, FlatWord, Timetable};
 
@@ -19,6 +20,15 @@ pub enum Head {
     Unfinished { budget: u32 },
 }
 
+/// Why a line of a certificate is refused.
+#[derive(Clone, Copy, Debug, PartialEq, Eq)]
+pub enum RefusedWord {
+    /// It is no spelling of a line.
+    Form(FormWord),
+    /// It isn't valid after those before it.
+    Check(CheckWord),
+}
+
 /// What a run reports. Lines and words are numbered from 1.
 #[derive(Clone, Copy)]
 pub enum Report<'a> {
@@ -26,6 +36,16 @@ pub enum Report<'a> {
         head: Head,
         flat: &'a Flat,
         table: Option<&'a Timetable>,
+    },
+    /// What a certificate shows.
+    Checked {
+        verdict: Verdict,
+    },
+    /// A line of a certificate is refused. The hint is the clause number that the word names.
+    Refused {
+        number: u64,
+        word: RefusedWord,
+        hint: Option<u32>,
     },
     Words {
         place: u64,
@@ -54,6 +74,12 @@ impl Report<'_> {
                 Head::Infeasible => Status::Infeasible,
                 Head::Unfinished { .. } => Status::Unfinished,
             },
+            Report::Checked { verdict } => match verdict {
+                Verdict::Optimal(_) => Status::Optimal,
+                Verdict::Infeasible => Status::Infeasible,
+                Verdict::Unfinished(_) => Status::Unfinished,
+            },
+            Report::Refused { .. } => Status::Refused,
             Report::Words { .. } => Status::Words,
             Report::BadFlat { .. } => Status::BadInput,
             Report::ReadFault { .. } => Status::ReadFault,

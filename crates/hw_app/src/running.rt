@@ -5,6 +5,7 @@ ghost use Rattle.hw_app.specs.Printing.{CanPrint};
 ghost use Rattle.hw_app.specs.Run.{RunMeets};
 ghost use Rattle.hw_app.specs.Seen.{report_seen};
 
+use crate::check::check_flat;
 use crate::commands::{Command, read_command};
 use crate::print::print_report;
 use crate::report::Report;
@@ -23,6 +24,7 @@ pub fn run<D: Desk>(alloc: Global, words: &[String], desk: &mut D) -> Status
     match read_command(words) {
         Err(place) => finish(desk, &Report::Words { place }),
         Ok(Command::SolveFlat { name, budget }) => solve_flat(alloc, desk, name, budget),
+        Ok(Command::CheckFlat { name, cert }) => check_flat(alloc, desk, name, cert),
     }
 }
 

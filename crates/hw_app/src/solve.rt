@@ -3,14 +3,14 @@
 ghost use Rattle.std.specs.Prelude.{◌≡◌};
 ghost use Rattle.hw_desk.specs.State.{IsNew};
 ghost use Rattle.hw_app.specs.SolveFlat.{SolveFlatMeets};
-ghost use Rattle.hw_app.specs.Outcomes.{report_of_stop, report_of_walk};
+ghost use Rattle.hw_app.specs.Outcomes.{report_of_walk};
 ghost use Rattle.hw_app.specs.Seen.{report_seen};
 
-use crate::input::{FlatStop, read_flat};
+use crate::input::{read_flat, stopped};
 use crate::report::{Head, Report};
 use crate::running::finish;
 use crate::status::Status;
-use hw_desk::{Desk, Feed};
+use hw_desk::Desk;
 use hw_flat::Flat;
 use hw_rules::{Walked, walk};
 use std::alloc::Global;
@@ -27,18 +27,6 @@ pub fn solve_flat<D: Desk>(alloc: Global, desk: &mut D, name: &str, budget: u32)
     match walk(alloc, &flat, budget) {
         Ok(walked) => finish(desk, &walk_report(&flat, &walked, budget)),
         Err(_) => finish(desk, &Report::Memory),
-    }
-}
-
-/// The report of a flat text that gave no problem.
-fn stopped(stop: FlatStop) -> Report<'static>
-    ensures { report_seen result ≡ report_of_stop stop }
-{
-    match stop {
-        FlatStop::ReadFault => Report::ReadFault { feed: Feed::Flat },
-        FlatStop::TooLong => Report::TooLong { feed: Feed::Flat },
-        FlatStop::Line { number, word } => Report::BadFlat { number, word },
-        FlatStop::NoMemory => Report::Memory,
     }
 }
 
