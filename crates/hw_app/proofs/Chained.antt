@@ -1,18 +1,15 @@
 -- Lines of a certificate one after another.
-use Rattle.std.proofs.Common.{◌≡◌, ◌≤◌, ℕ, List, [], ◌∷◌, ◌++◌, Option, Some, None, All, refl, sym, ap, ◌∙◌, subst, arith}
+use Rattle.std.proofs.Common.{◌≡◌, ℕ, List, Option, Some, None, ◌∙◌}
 use Rattle.std.specs.Prelude.{IfSome, IsSomeAnd}
 use Rattle.hw_model.specs.Problem.{Problem}
-use Rattle.hw_desk.specs.State.{DeskState, Rose}
-use Rattle.hw_cert.specs.declared.check.Verdict.{Verdict}
+use Rattle.hw_desk.specs.State.{DeskState}
 use Rattle.hw_cert.specs.declared.line.Line.{Line}
 use Rattle.hw_cert.specs.Nexts.{rest_of}
 use Rattle.hw_cert.specs.Reader.{ReaderModel}
-use Rattle.hw_cert.specs.Valid.{LineFits, Valid}
-use Rattle.hw_check.specs.Follows.{Follows}
 use Rattle.hw_check.specs.States.{CheckState}
-use Rattle.hw_app.specs.Checking.{Reached, Says, Finds, rest_report}
-use Rattle.hw_app.specs.Reports.{Report, solved, checked, refused, bad_words, bad_flat, read_fault, too_long, no_memory}
-use Rattle.hw_app.proofs.Checked.{told_map, some_map, some_gives}
+use Rattle.hw_app.specs.Checking.{Reached, rest_report}
+use Rattle.hw_app.specs.Reports.{Report}
+use Rattle.hw_app.proofs.Checked.{told_map, some_map}
 
 -- one line more
 pub reached_on : {f : Problem} {told : Option (List ℕ)} {report : List ℕ → Report} {before all : List Line} {r s : ReaderModel} {c d : CheckState} {x y : DeskState}

@@ -1,5 +1,5 @@
 -- One line more of a certificate.
-use Rattle.std.proofs.Common.{◌≡◌, ◌+◌, ℕ, List, [], ◌∷◌, ◌++◌, Option, Some, None, refl, sym, ap, ◌∙◌, subst, arith}
+use Rattle.std.proofs.Common.{◌≡◌, ◌+◌, ℕ, List, [], ◌∷◌, ◌++◌, Option, Some, None, sym, ap, ◌∙◌, subst, arith}
 use Rattle.std.specs.Prelude.{IfSome, IsSome, IsSomeAnd, is_none, if◌then◌else◌}
 use Rattle.hw_model.specs.declared.shape.Shape.{Shape}
 use Rattle.hw_model.specs.Problem.{Problem, shape_of}
@@ -17,7 +17,7 @@ use Rattle.hw_cert.specs.Reader.{ReaderModel}
 use Rattle.hw_cert.specs.Refusals.{refusal}
 use Rattle.hw_cert.specs.Stream.{NextLine, ends, comes, bad, too_long, next_of, CertLines, stream_of}
 use Rattle.hw_cert.specs.Valid.{verdict}
-use Rattle.hw_app.specs.Certificates.{line_report, lines_report}
+use Rattle.hw_app.specs.Certificates.{line_report}
 use Rattle.hw_app.specs.Checking.{line_number, left_report, rest_report}
 use Rattle.hw_app.specs.declared.report.RefusedWord.TheVariants.{Form, Check}
 use Rattle.hw_app.specs.Reports as reports
@@ -46,7 +46,7 @@ line_number_on {r = r} {reader = reader} h = on r.at.version reader.at.version h
 decided : (f : Problem) (before : List Line) (r : ReaderModel) (rest : List ℕ) (next : NextLine) → r.shape ≡ shape_of f → next_line r rest ≡ next → rest_report f before r.at rest ≡ left_report f before (line_number r.at) (following (shape_of f) next)
 decided f before r rest next same e =
     ap (left_report f before (line_number r.at))
-      (steps (shape_of f) r.at (parts_of 10 rest) ∙ ap (following (shape_of f)) (subst (λ (s : Shape). next_of s r.at (parts_of 10 rest) ≡ next) same e))
+    (steps (shape_of f) r.at (parts_of 10 rest) ∙ ap (following (shape_of f)) (subst (λ (s : Shape). next_of s r.at (parts_of 10 rest) ≡ next) same e))
 
 -- a line comes next, behind which the reader stands
 abbrev pub ComesNext : ReaderModel → ReaderModel → Line → DeskState → DeskState → Type 0
@@ -57,21 +57,21 @@ pub valid_comes : (x y : DeskState) (r reader : ReaderModel) (line : Line) (f : 
     → IfSome (rest_of r x) (λ rest. IsSomeAnd (rest_of reader y) (λ more. rest_report f before r.at rest ≡ rest_report f (before ++ line ∷ []) reader.at more))
 valid_comes x y r reader line f before same h none next =
     told_map (rest_of r x) (λ rest. some_map (rest_of reader y) (λ more e.
-      let left : CertLines = stream_of (shape_of f) reader.at (parts_of 10 more) in
-      decided f before r rest _ same e
-      ∙ ap (λ (found : Option Refusal). line_report (line_number r.at) found (left_report f (before ++ line ∷ []) (line_number r.at + 1) left)) none
-      ∙ ap (λ (number : ℕ). left_report f (before ++ line ∷ []) number left) (sym (line_number_on h)))) next
+    let left : CertLines = stream_of (shape_of f) reader.at (parts_of 10 more) in
+    decided f before r rest _ same e
+    ∙ ap (λ (found : Option Refusal). line_report (line_number r.at) found (left_report f (before ++ line ∷ []) (line_number r.at + 1) left)) none
+    ∙ ap (λ (number : ℕ). left_report f (before ++ line ∷ []) number left) (sym (line_number_on h)))) next
 
 -- it isn't
 pub wrong_comes : (x y : DeskState) (r reader : ReaderModel) (line : Line) (f : Problem) (before : List Line) (w : Refusal) (number : ℕ) → r.shape ≡ shape_of f → Behind r reader line → number + 1 ≡ line_number reader.at → refusal f before line ≡ Some w → ComesNext r reader line x y
     → IfSome (rest_of r x) (λ rest. reports.refused number (Check w.word) w.hint ≡ rest_report f before r.at rest)
 wrong_comes x y r reader line f before w number same h count is next =
     told_map (rest_of r x) (λ rest. some_gives (rest_of reader y) (λ more e.
-      let left : CertLines = stream_of (shape_of f) reader.at (parts_of 10 more) in
-      let e1 : line_number reader.at ≡ line_number r.at + 1 = line_number_on h in
-      let place : number ≡ line_number r.at = omega arith in
-      ap (λ (n : ℕ). reports.refused n (Check w.word) w.hint) place
-      ∙ sym (decided f before r rest _ same e ∙ ap (λ (found : Option Refusal). line_report (line_number r.at) found (left_report f (before ++ line ∷ []) (line_number r.at + 1) left)) is))) next
+    let left : CertLines = stream_of (shape_of f) reader.at (parts_of 10 more) in
+    let e1 : line_number reader.at ≡ line_number r.at + 1 = line_number_on h in
+    let place : number ≡ line_number r.at = omega arith in
+    ap (λ (n : ℕ). reports.refused n (Check w.word) w.hint) place
+    ∙ sym (decided f before r rest _ same e ∙ ap (λ (found : Option Refusal). line_report (line_number r.at) found (left_report f (before ++ line ∷ []) (line_number r.at + 1) left)) is))) next
 
 -- nothing comes next
 pub end_comes : (r : ReaderModel) (f : Problem) (before : List Line) (known : Option (List ℕ)) → r.shape ≡ shape_of f → IfSome known (λ rest. next_line r rest ≡ ends) → IfSome known (λ rest. reports.checked (verdict f before) ≡ rest_report f before r.at rest)

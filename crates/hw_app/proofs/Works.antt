@@ -1,12 +1,11 @@
 -- What a check does, behind the flat text and as a whole.
-use Rattle.std.proofs.Common.{◌≡◌, ◌≤◌, ◌<◌, ℕ, Bool, true, false, cond, nat_lt, List, [], ◌∷◌, ◌++◌, length, Option, Some, None, Result, Ok, Err, All, ◌⊎◌, inl, inr, refl, sym, ap, ◌∙◌, subst, arith}
-use Rattle.std.specs.Prelude.{IfSome, IsSomeAnd}
+use Rattle.std.proofs.Common.{◌≡◌, ◌≤◌, ℕ, cond, List, [], length, Option, Some, None, Ok, All, inr, refl, sym, ap, ◌∙◌, subst, arith}
+use Rattle.std.specs.Prelude.{IfSome}
 use Rattle.std.specs.Io.KnownBytes.{prepend_known}
 use Rattle.std.proofs.lemmas.Bool.{le-ltb}
 use Rattle.hw_model.specs.Limits.{IsFlat}
 use Rattle.hw_model.specs.Problem.{Problem}
 use Rattle.hw_desk.specs.State.{DeskState, FeedState, put_feed, Rose}
-use Rattle.hw_desk.specs.declared.desk.Feed.{Feed}
 use Rattle.hw_desk.specs.declared.desk.Feed.TheVariants.{Flat, Instance, Tides, Certificate, Plan, Events}
 use Rattle.hw_flat.specs.Text.{flat_text}
 use Rattle.hw_cert.specs.declared.check.Verdict.{Verdict}
@@ -16,9 +15,9 @@ use Rattle.hw_cert.specs.Lines.{last_table}
 use Rattle.hw_cert.specs.Valid.{LineFits, Valid, verdict}
 use Rattle.hw_verdict.proofs.Proved.{optimal, infeasible}
 use Rattle.hw_app.specs.Certificates.{read_report, texts_report, cert_report}
-use Rattle.hw_app.specs.CheckFlat.{Means, Shows, ShowsIn, IsOfBytes, BeginsBoth, CheckFlatWorks, Answers, TellsTexts, SpeaksOfLast, FaultRose}
+use Rattle.hw_app.specs.CheckFlat.{Means, BeginsBoth, CheckFlatWorks}
 use Rattle.hw_app.specs.Checking.{Says, Finds, ChecksCert}
-use Rattle.hw_app.specs.Input.{BeginsFlat, ReadsFlat, IsTextOf, IsBadAt, most_bytes}
+use Rattle.hw_app.specs.Input.{ReadsFlat, IsTextOf, most_bytes}
 use Rattle.hw_app.specs.Reports.{Report, solved, checked, refused, bad_words, bad_flat, read_fault, too_long, no_memory}
 use Rattle.hw_app.proofs.Checked.{told_map, some_gives}
 

@@ -1,5 +1,5 @@
 -- `check flat NAME CERT`: a certificate of a flat text is checked line by line.
-use Rattle.std.specs.Prelude.{◌≡◌, ◌≤◌, ◌<◌, ◌⊎◌, ℕ, List, true, Option, Result, Ok, Err, IfSome, All, ⊤, length}
+use Rattle.std.specs.Prelude.{◌≡◌, ◌≤◌, ◌<◌, ◌⊎◌, ℕ, List, true, Option, IfSome, All, ⊤, length}
 use Rattle.hw_model.specs.Limits.{IsFlat}
 use Rattle.hw_model.specs.Problem.{Problem}
 use Rattle.hw_model.specs.Timetables.{IsBest, NonePermitted}

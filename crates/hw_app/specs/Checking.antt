@@ -1,5 +1,5 @@
 -- The lines of a certificate that were taken so far.
-use Rattle.std.specs.Prelude.{◌≡◌, ◌≤◌, ◌<◌, ◌+◌, ◌^◌, ℕ, List, [], true, ◌∷◌, ◌++◌, Option, Result, Ok, Err, IfSome, IsSomeAnd, All, ⊤, is_none, if◌then◌else◌}
+use Rattle.std.specs.Prelude.{◌≡◌, ◌≤◌, ◌+◌, ◌^◌, ℕ, List, [], true, ◌∷◌, ◌++◌, Option, Result, Ok, Err, IfSome, IsSomeAnd, All, ⊤, is_none, if◌then◌else◌}
 use Rattle.hw_model.specs.Problem.{Problem, shape_of}
 use Rattle.hw_model.specs.Limits.{IsFlat}
 use Rattle.hw_text.specs.Parts.{parts_of}

@@ -1,12 +1,8 @@
-use Rattle.std.proofs.Common.{◌≡◌, ◌++◌, ◌∷◌, [], List, ℕ, refl, subst, arith}
+use Rattle.std.proofs.Common.{◌++◌, ◌∷◌, [], refl, subst}
 use Rattle.hw_model.specs.Problem.{Problem}
-use Rattle.hw_desk.specs.Calls.{Moves}
-use Rattle.hw_desk.specs.declared.desk.Feed.TheVariants.{Certificate}
 use Rattle.hw_desk.proofs.Chain.{moves_on}
 use Rattle.hw_cert.specs.Nexts.{rest_of}
-use Rattle.hw_cert.specs.declared.line.Line.{Line}
-use Rattle.hw_app.specs.Checking.{Reached, Steps, rest_report}
-use Rattle.hw_app.specs.Seen.{report_seen}
+use Rattle.hw_app.specs.Checking.{Reached, rest_report}
 use Rattle.hw_app.proofs.Chained.{reached_on}
 use Rattle.hw_app.proofs.check.check_lines.Goals as goal
 

@@ -1,4 +1,4 @@
-use Rattle.std.proofs.Common.{◌≡◌, ◌+◌, ◌-◌, ◌^◌, ℕ, List, []}
+use Rattle.std.proofs.Common.{◌-◌, ◌^◌, ℕ, List, []}
 use Rattle.hw_desk.specs.Calls.{Moves}
 use Rattle.hw_desk.specs.declared.desk.Feed.TheVariants.{Certificate}
 use Rattle.hw_cert.specs.Nexts.{rest_of}
