@@ -1,4 +1,5 @@
-//! The lines of a certificate and their text, and in `specs/` when a line is valid after others and what they prove.
+//! The lines of a certificate, their text, and the reader that takes them from a feed; in `specs/` also when a
+//! line is valid after others and what they prove.
 #![tactic(auto)]
 
 mod check;
@@ -10,6 +11,8 @@ mod reader;
 mod spelling;
 mod stop;
 mod taking;
+#[cfg(test)]
+mod tests;
 mod version;
 mod words;
 

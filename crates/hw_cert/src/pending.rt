@@ -9,7 +9,7 @@ use std::alloc::{AllocError, Global};
 use std::marker::Model;
 
 /// How many bytes a read asks for at most.
-const BLOCK: usize = 65_536;
+pub const BLOCK: usize = 65_536;
 
 /// The bytes of one read that no line has taken yet, seen as their list.
 #[derive(Drop)]

@@ -5,7 +5,7 @@ ghost use Rattle.hw_cert.specs.Stream.{start};
 
 use crate::fitting::{LineFault, read_line};
 use crate::line::Line;
-use crate::pending::Pending;
+use crate::pending::{BLOCK, Pending};
 use crate::spelling::header_version;
 use crate::stop::{FormWord, LineStop};
 use crate::taking::{MOST_OF_LINE, TakenLine, take_line};
@@ -55,13 +55,13 @@ impl LineReader {
     ghost use Rattle.hw_cert.specs.Nexts.{Takes, TakesHeader};
 
     /// A reader of a certificate for a problem of this shape, before its header. It takes one
-    /// line's buffer.
+    /// line's buffer and that of one read, which no call of the reader makes greater.
     pub fn new(alloc: Global, shape: Shape, feed: Feed) -> Result<LineReader, NoMemory>
         requires few_ships { shape.ships ≤ 40 }
         ensures value { IfOk result (λ r. r ≡ record { shape = shape; feed = feed; at = start; pending = [] }) }
     {
         let pending = Pending::new(alloc)?;
-        let line = Vec::with_capacity(alloc, MOST_OF_LINE as usize + 1)?;
+        let line = Vec::with_capacity(alloc, MOST_OF_LINE as usize + BLOCK)?;
         Ok(LineReader {
             alloc,
             shape,
@@ -124,6 +124,7 @@ impl LineReader {
         let Some(version) = self.version else {
             unreachable!()
         };
+        let number = self.number;
         match take_line(
             desk,
             self.feed,
@@ -134,7 +135,7 @@ impl LineReader {
             TakenLine::Nothing => return Ok(Next::End),
             TakenLine::Unended => {
                 return Err(LineStop::Form {
-                    number: self.number,
+                    number,
                     word: FormWord::Form,
                 });
             }
@@ -142,14 +143,11 @@ impl LineReader {
         }
         match read_line(self.alloc, self.shape, version, &self.line) {
             Ok(line) => {
-                self.number += 1;
+                self.number = number + 1;
                 self.taken += self.line.len() as u64 + 1;
                 Ok(Next::Line { reader: self, line })
             }
-            Err(LineFault::Bad(word)) => Err(LineStop::Form {
-                number: self.number,
-                word,
-            }),
+            Err(LineFault::Bad(word)) => Err(LineStop::Form { number, word }),
             Err(LineFault::NoMemory) => Err(LineStop::NoMemory),
         }
     }
