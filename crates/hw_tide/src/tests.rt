@@ -161,14 +161,16 @@ fn refuses_tables(rt: HostRuntime) -> Result<(), Fail> {
     Ok(())
 }
 
+/// Low and high waters of a day and more, behind a byte order mark.
+const WATERS: &[u8] =
+    b"\xEF\xBB\xBFwater,Berth,Basin,Channel,Bar\n0,40,40,40,40\n25,400,400,400,400\n50,60,60,60,60\n75,420,420,420,420\n100,50,50,50,50\n125,410,410,410,410\n";
+
 #[test]
 fn reads_a_day_of_waters(rt: HostRuntime) -> Result<(), Fail> {
     let alloc = rt.alloc();
     let port = port(alloc, &["Berth", "Basin", "Channel", "Bar"])?;
-    let table =
-        b"\xEF\xBB\xBFwater,Berth,Basin,Channel,Bar\n0,40,40,40,40\n25,400,400,400,400\n50,60,60,60,60\n";
-    let tide = read_tides(alloc, table, &port)?;
-    assert!(rt; tide.rows == 51 && tide.columns == 4);
+    let tide = read_tides(alloc, WATERS, &port)?;
+    assert!(rt; tide.rows == 126 && tide.columns == 4);
     let rows = [
         (16, 295),
         (17, 314),
@@ -177,6 +179,8 @@ fn reads_a_day_of_waters(rt: HostRuntime) -> Result<(), Fail> {
         (33, 319),
         (35, 281),
         (50, 60),
+        (73, 405),
+        (125, 410),
     ];
     for (row, height) in rows {
         for column in 0..4 {
