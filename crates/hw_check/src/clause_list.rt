@@ -116,12 +116,13 @@ impl ClauseList {
         }
     }
 
-    /// Gives the literals of dead clauses back where they outnumber those of the live ones, which
-    /// are then moved together: one pass over the live literals and the places.
+    /// Gives the literals of dead clauses back where they outnumber those of the live ones and the
+    /// clauses: the live ones are then moved together, in one pass over them and the places. So a
+    /// run of deletions costs as much as the literals that died in it.
     pub(crate) fn give_back(&mut self) -> Result<(), NoMemory>
         ensures same { self.new ≡ self.old }
     {
-        if self.lits.len() - self.live_lits > self.live_lits {
+        if self.lits.len() - self.live_lits > self.live_lits.max(self.places.len()) {
             self.lits = together(*self.lits.allocator(), &self.lits, &self.places)?;
             close_up(&mut self.places);
         }
