@@ -43,6 +43,12 @@ has_part p (x ∷ xs) =
       | false ↦ let r = has_part p xs in (x ∷ r.0, r.1, ap (onto_first x) r.2)
     ]
 
+pub never_none : {X : Type 0} (p : X → Bool) (xs : List X) → slice_split p xs ≡ [] → ⊥
+never_none p xs e = let r = has_part p xs in absurd_cons r.0 r.1 (sym r.2 ∙ e)
+  where
+    absurd_cons : {Y : Type 0} (y : Y) (ys : List Y) → y ∷ ys ≡ [] → ⊥
+    absurd_cons y ys h = absurd cc
+
 -- where a part is cut off, the first part has others after it
 pub first_part_is : (p : ℕ → Bool) (xs line rest : List ℕ) → slice_split p xs ≡ line ∷ slice_split p rest → Some (line, slice_split p rest) ≡ first_part (slice_split p xs)
 first_part_is p xs line rest e = let r = has_part p rest in rw (e, r.2) refl

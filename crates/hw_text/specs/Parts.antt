@@ -17,6 +17,11 @@ first_part (x ∷ y ∷ more) = Some (x, y ∷ more)
 abbrev pub words_of : List ℕ → List (List ℕ)
 words_of line = parts_of 32 line
 
+-- the parts that are left, where there are any
+abbrev pub left_parts : ℕ → Option (Bor (List ℕ)) → List (List ℕ)
+left_parts at None = []
+left_parts at (Some x) = parts_of at x.now
+
 -- the words that are left, where there are any
 abbrev pub left_words : Option (Bor (List ℕ)) → List (List ℕ)
 left_words None = []
