@@ -125,7 +125,8 @@ fn joined(alloc: Global, columns: u32, levels: &[Levels]) -> Result<Vec<i32>, Al
 
 fn tide_of_waters(alloc: Global, columns: u32, levels: &[Levels]) -> Result<Tide, TideFault>
     requires table { IsTable true columns levels.now }
-    ensures { Gives (λ t. t) result (Ok (tide_from true columns levels.now)) }
+    ensures tide { Gives (λ t. t) result (Ok (tide_from true columns levels.now)) }
+    ensures columns { IfOk result (λ t. t.columns ≡ columns) }
 {
     let rows = slot_of(levels, levels.len() - 1) + 1;
     let heights = filled(alloc, columns, levels, rows)?;
@@ -138,7 +139,8 @@ fn tide_of_waters(alloc: Global, columns: u32, levels: &[Levels]) -> Result<Tide
 
 fn tide_of_heights(alloc: Global, columns: u32, levels: &[Levels]) -> Result<Tide, TideFault>
     requires table { IsTable false columns levels.now }
-    ensures { Gives (λ t. t) result (Ok (tide_from false columns levels.now)) }
+    ensures tide { Gives (λ t. t) result (Ok (tide_from false columns levels.now)) }
+    ensures columns { IfOk result (λ t. t.columns ≡ columns) }
 {
     let heights = joined(alloc, columns, levels)?;
     Ok(Tide {
@@ -156,7 +158,8 @@ pub fn tide_of_levels(
     levels: &[Levels],
 ) -> Result<Tide, TideFault>
     requires table { IsTable waters columns levels.now }
-    ensures { Gives (λ t. t) result (Ok (tide_from waters columns levels.now)) }
+    ensures tide { Gives (λ t. t) result (Ok (tide_from waters columns levels.now)) }
+    ensures columns { IfOk result (λ t. t.columns ≡ columns) }
 {
     if waters {
         tide_of_waters(alloc, columns, levels)

@@ -1,6 +1,6 @@
 //! Reading a tide table.
 
-ghost use Rattle.std.specs.Prelude.{◌≡◌, ◌∷◌, [], true, false, map};
+ghost use Rattle.std.specs.Prelude.{◌≡◌, ◌∷◌, [], true, false, map, length, IfOk};
 ghost use Rattle.csv.specs.Records.{fields_of};
 ghost use Rattle.hw_tide.specs.Table.{Gives};
 ghost use Rattle.hw_tide.specs.Tides.{tide_of};
@@ -21,7 +21,8 @@ use std::alloc::Global;
 /// The header is `slot` and the waypoints' names. Each record has the next slot, from 0 on, and a
 /// height in centimetres for each waypoint. All records are held in memory.
 pub fn read_heights(alloc: Global, bytes: &[u8], port: &Port) -> Result<Tide, TideFault>
-    ensures { Reads bytes.now (tide_of false (waypoint_names port.now)) result }
+    ensures tide { Reads bytes.now (tide_of false (waypoint_names port.now)) result }
+    ensures columns { IfOk result (λ t. t.columns ≡ length port.now.waypoints) }
 {
     match all_records(alloc, bytes) {
         Ok(records) => tide(alloc, false, &records, port),
@@ -35,7 +36,8 @@ pub fn read_heights(alloc: Global, bytes: &[u8], port: &Port) -> Result<Tide, Ti
 /// one a later slot than that before; between two waters heights go by the rule of twelfths,
 /// rounded down. All records are held in memory.
 pub fn read_waters(alloc: Global, bytes: &[u8], port: &Port) -> Result<Tide, TideFault>
-    ensures { Reads bytes.now (tide_of true (waypoint_names port.now)) result }
+    ensures tide { Reads bytes.now (tide_of true (waypoint_names port.now)) result }
+    ensures columns { IfOk result (λ t. t.columns ≡ length port.now.waypoints) }
 {
     match all_records(alloc, bytes) {
         Ok(records) => tide(alloc, true, &records, port),
@@ -46,7 +48,8 @@ pub fn read_waters(alloc: Global, bytes: &[u8], port: &Port) -> Result<Tide, Tid
 /// The tide of a table of waters where the first field of the header is `water`, and of heights
 /// otherwise.
 pub fn read_tides(alloc: Global, bytes: &[u8], port: &Port) -> Result<Tide, TideFault>
-    ensures { Reads bytes.now (tide_by_header (waypoint_names port.now)) result }
+    ensures tide { Reads bytes.now (tide_by_header (waypoint_names port.now)) result }
+    ensures columns { IfOk result (λ t. t.columns ≡ length port.now.waypoints) }
 {
     match all_records(alloc, bytes) {
         Ok(records) => tide(alloc, is_waters(&records), &records, port),
@@ -75,7 +78,8 @@ fn begins_with_water(header: &ByteRecord) -> bool
 
 #[tactic(auto, unfolding(crate::specs::Tides::tide_of))]
 fn tide(alloc: Global, waters: bool, records: &[ByteRecord], port: &Port) -> Result<Tide, TideFault>
-    ensures { Gives (λ t. t) result (tide_of waters (waypoint_names port.now) (map fields_of records.now)) }
+    ensures tide { Gives (λ t. t) result (tide_of waters (waypoint_names port.now) (map fields_of records.now)) }
+    ensures columns { IfOk result (λ t. t.columns ≡ length port.now.waypoints) }
 {
     let waypoints = &port.parts().waypoints;
     let levels = table(alloc, waters, waypoints, records)?;
