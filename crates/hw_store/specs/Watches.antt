@@ -1,0 +1,136 @@
+-- Two watched literals of each clause, the lists of watched sides, and the clauses to look at.
+use Rattle.std.specs.Prelude.{◌≡◌, ◌≢◌, ◌⊎◌, ℕ, ◌+◌, ◌*◌, ◌^◌, ◌<◌, ◌≤◌, Bool, true, false, ◌&&◌, ◌||◌, ◌==◌, nat_le, List, [], All, Contains, length, get_or, cond, ◌∷◌, ⊤}
+use Rattle.hw_model.specs.declared.lit.Lit.{Lit}
+use Rattle.hw_model.specs.declared.lit.Lit.TheVariants as lits
+use Rattle.hw_model.specs.declared.lit.LitTruth.TheVariants.{True, False}
+use Rattle.hw_model.specs.Rooms.{RoomModel}
+use Rattle.hw_model.specs.Narrowing.{truth}
+use Rattle.hw_laws.specs.Laws.{IsLitOf}
+use Rattle.hw_store.specs.declared.store.Stored.{Stored}
+use Rattle.hw_store.specs.declared.watching.Watch.{Watch}
+use Rattle.hw_store.specs.declared.watching.Watch.TheVariants.{Due, One, Two}
+use Rattle.hw_store.specs.Looks.{StandsBefore}
+use Rattle.hw_store.specs.declared.watch.Next.{Next}
+use Rattle.hw_store.specs.declared.watch.Next.TheVariants as nexts
+use Rattle.hw_store.specs.Stores.{KeepsClauses, Finds}
+
+-- `watches` and `held` go side by side; `lists` has for each side the places of the clauses that watch it, and maybe others; `due` has the places of the clauses to look at
+pub record WatchModel : Type 0 where
+  pub ships : ℕ
+  pub held : List Stored
+  pub watches : List Watch
+  pub due : List ℕ
+  pub lists : List (List ℕ)
+
+-- ---- sides
+
+-- the bound or the pair that a literal names, as a number: lower bounds, then upper ones, then pairs
+abbrev pub side : ℕ → Lit → ℕ
+side ships (lits.AtOrAfter v k) = v
+side ships (lits.Before v k) = ships + v
+side ships (lits.First v w) = 2 * ships + (v * ships + w)
+side ships (lits.NotFirst v w) = 2 * ships + (v * ships + w)
+
+-- a cut by the first literal makes the second False
+abbrev pub hits : Lit → Lit → Bool
+hits (lits.Before v j) (lits.AtOrAfter w k) = v == w && nat_le j k
+hits (lits.AtOrAfter v j) (lits.Before w k) = v == w && nat_le k j
+hits (lits.First v w) (lits.NotFirst a b) = v == a && w == b
+hits (lits.NotFirst v w) (lits.First a b) = v == a && w == b
+hits cutting lit = false
+
+-- one of two watched literals becomes False
+abbrev pub is_hit : Lit → Watch → Bool
+is_hit cutting Due = false
+is_hit cutting (One lit) = false
+is_hit cutting (Two first second) = hits cutting first || hits cutting second
+
+-- ---- watches
+
+abbrev pub is_due : Watch → Bool
+is_due Due = true
+is_due (One lit) = false
+is_due (Two first second) = false
+
+-- how many are due
+abbrev pub count_due : List Watch → ℕ
+count_due [] = 0
+count_due (watch ∷ more) = cond (is_due watch) 1 0 + count_due more
+
+-- the watched literals are of so many ships
+abbrev pub IsWatchOf : ℕ → Watch → Type 0
+IsWatchOf ships Due = ⊤
+IsWatchOf ships (One lit) = IsLitOf ships lit
+IsWatchOf ships (Two first second) = IsLitOf ships first × IsLitOf ships second
+
+-- the watched literals stand in the clause
+abbrev pub Watches : List Lit → Watch → Type 0
+Watches clause Due = ⊤
+Watches clause (One lit) = Contains clause lit
+Watches clause (Two first second) = StandsBefore first second clause
+
+-- the clause's place is in the lists of both watched literals
+abbrev pub Listed : ℕ → List (List ℕ) → ℕ → Watch → Type 0
+Listed ships lists place Due = ⊤
+Listed ships lists place (One lit) = ⊤
+Listed ships lists place (Two first second) = Contains (get_or lists (side ships first) []) place × Contains (get_or lists (side ships second) []) place
+
+-- the watched literals show that the clause is quiet: one is True, or two aren't False
+abbrev pub Shows : RoomModel → Watch → Type 0
+Shows room Due = ⊤
+Shows room (One lit) = truth room lit ≡ True
+Shows room (Two first second) = (truth room first ≢ False) × (truth room second ≢ False)
+
+abbrev pub ShowsAll : RoomModel → List Watch → Type 0
+ShowsAll room watches = All (Shows room) watches
+
+-- ---- what is kept
+
+-- the clauses to look at are in `due`, which has room for all clauses
+pub record KeepsDue (watches : List Watch) (due : List ℕ) (capacity : ℕ) : Type 0 where
+  pub has : (i : ℕ) → i < length watches → get_or watches i Due ≡ Due → Contains due i
+  pub among : All (λ i. i < length watches) due
+  pub few : length due ≤ count_due watches
+  pub reserved : length watches ≤ capacity
+  pub small : length watches ≤ 2 ^ 32
+
+-- each watch stays or becomes Due
+pub record DropsSome (old new : List Watch) : Type 0 where
+  pub same_length : length new ≡ length old
+  pub each : (i : ℕ) → (get_or new i Due ≡ get_or old i Due) ⊎ (get_or new i Due ≡ Due)
+
+-- the lists gain nothing but this place, and lose nothing
+pub record Grows (place : ℕ) (old new : List (List ℕ)) : Type 0 where
+  pub same_length : length new ≡ length old
+  pub kept : (s p : ℕ) → Contains (get_or old s []) p → Contains (get_or new s []) p
+  pub only : (s p : ℕ) → Contains (get_or new s []) p → Contains (get_or old s []) p ⊎ (p ≡ place)
+
+-- what the store keeps for every room
+pub record KeepsWatches (s : WatchModel) (capacity : ℕ) : Type 0 where
+  pub clauses : KeepsClauses s.ships s.held
+  pub few_ships : s.ships ≤ 40
+  pub each_clause : length s.watches ≡ length s.held
+  pub each_side : length s.lists ≡ 2 * s.ships + s.ships * s.ships
+  pub among : (side place : ℕ) → Contains (get_or s.lists side []) place → place < length s.watches
+  pub watched : (i : ℕ) (d : Stored) → i < length s.held → Watches (get_or s.held i d).clause (get_or s.watches i Due)
+  pub listed : (i : ℕ) → i < length s.watches → Listed s.ships s.lists i (get_or s.watches i Due)
+  pub due : KeepsDue s.watches s.due capacity
+
+abbrev pub watch_ships : WatchModel → ℕ
+watch_ships s = s.ships
+
+abbrev pub watch_clauses : WatchModel → List Stored
+watch_clauses s = s.held
+
+-- every clause that isn't in `due` is shown to be quiet in the room
+abbrev pub WatchReady : WatchModel → RoomModel → Type 0
+WatchReady s room = (room.ships ≡ s.ships) × ShowsAll room s.watches
+
+-- a step is done, or there is one clause less to look at
+abbrev pub NextIs : WatchModel → WatchModel → RoomModel → Next → Type 0
+NextIs old new room (nexts.Found found) = Finds old.held room found
+NextIs old new room nexts.Went = length new.due < length old.due
+
+-- without clauses, and ready for every room
+abbrev pub IsNew : ℕ → WatchModel → Type 0
+IsNew ships s = (s.ships ≡ ships) × (s.held ≡ []) × ((room : RoomModel) → room.ships ≡ ships → WatchReady s room)

@@ -1,0 +1,104 @@
+ghost use Rattle.std.specs.Prelude.{IfOk, MatchOption};
+
+use crate::looking::is_quiet;
+use crate::store::{Held, Store, Stored};
+use hw_flat::{Flat, Room};
+use hw_lits::Clause;
+use hw_model::{Lit, NoMemory};
+use std::alloc::Global;
+use std::marker::Model;
+
+/// Clauses in the order in which they were added. Each step looks at every one of them.
+#[derive(Debug, Drop)]
+pub struct ScanStore {
+    ships: u32,
+    held: Vec<Stored>,
+}
+
+impl Model for ScanStore {
+    ghost use Rattle.hw_store.specs.Scans.{ScanModel};
+    ghost use Rattle.hw_store.specs.Stores.{KeepsClauses};
+
+    ghost Value = { ScanModel };
+
+    ghost view = { λ s. record { ships = s.ships; held = s.held.items } };
+
+    ghost invariant = { λ s. KeepsClauses s.ships s.held.items };
+}
+
+impl ScanStore {
+    /// A store without clauses, ready for every room.
+    pub fn new(alloc: Global, flat: &Flat) -> Result<ScanStore, NoMemory>
+        ensures value { IfOk result (λ store. IsNewScan flat.now.ships store) }
+    {
+        Ok(ScanStore {
+            ships: flat.shape().ships,
+            held: Vec::new(alloc),
+        })
+    }
+}
+
+impl Store for ScanStore {
+    ghost use Rattle.hw_store.specs.Scans.{scan_ships, scan_clauses, ScanReady};
+
+    ghost ships = { scan_ships };
+
+    ghost clauses = { scan_clauses };
+
+    ghost ready = { ScanReady };
+
+    fn add(&mut self, id: u32, clause: Clause, _room: &Room) -> Result<(), NoMemory> {
+        self.held.push(Stored { number: id, clause })?;
+        Ok(())
+    }
+
+    fn step(&mut self, room: &Room) -> Result<Held, NoMemory> {
+        Ok(first_active(&self.held, room))
+    }
+
+    fn clause(&self, id: u32) -> Option<&Clause> {
+        find(&self.held, id)
+    }
+
+    fn changed(&mut self, _before: &Room, _lit: Lit) {}
+
+    fn undone(&mut self, _room: &Room) {}
+}
+
+ghost use Rattle.hw_store.specs.Scans.{IsNewScan};
+ghost use Rattle.hw_store.specs.Stores.{Finds, IsNotHeld, IsClauseOf, Ascends, FitsShips};
+
+// The first clause that isn't quiet.
+fn first_active(held: &[Stored], room: &Room) -> Held
+    requires fits { FitsShips room.now.ships held.now }
+    ensures found { Finds held.now room.now result }
+{
+    for one in held {
+        if !is_quiet(&one.clause, room) {
+            return Held::Clause { id: one.number };
+        }
+    }
+    Held::Quiet
+}
+
+/// The clause of a number, by halves.
+pub fn find(held: &[Stored], id: u32) -> Option<&Clause>
+    requires ascends { Ascends held.now }
+    ensures tells { MatchOption result (IsNotHeld held.now id) (λ clause. IsClauseOf held.now id clause.now) }
+{
+    let mut low = 0;
+    let mut high = held.len();
+    while low < high {
+        let middle = low + (high - low) / 2;
+        let one = &held[middle];
+        if one.number == id {
+            return Some(&one.clause);
+        }
+        if one.number < id {
+            low = middle + 1;
+        } else {
+            high = middle;
+        }
+    }
+    None
+}

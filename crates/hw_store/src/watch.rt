@@ -1,0 +1,182 @@
+ghost use Rattle.std.specs.Prelude.{◌≡◌, ◌⊎◌, ◌+◌, ◌*◌, ◌<◌, ◌≤◌, [], ◌∷◌, List, ℕ, All, Contains, IfOk, OnOk, length, slice_index_or};
+ghost use Rattle.hw_model.specs.Rooms.{RoomModel};
+ghost use Rattle.hw_laws.specs.Laws.{IsLitOf};
+ghost use Rattle.hw_store.specs.Watches.{WatchModel, WatchReady, Listed, Grows, NextIs, IsNew};
+
+use crate::looking::{Look, look_at};
+use crate::scan::find;
+use crate::store::{Held, Store, Stored};
+use crate::watching::{Places, Watch, mark, resolve, review, side_of};
+use hw_flat::{Flat, Room};
+use hw_lits::Clause;
+use hw_model::{Lit, NoMemory};
+use std::alloc::Global;
+use std::marker::Model;
+
+/// Clauses with two watched literals each. A step looks only at clauses of which a watched
+/// literal became False, and at those that it has not yet seen to be quiet.
+#[derive(Debug, Drop)]
+pub struct WatchStore {
+    ships: u32,
+    held: Vec<Stored>,
+    watches: Vec<Watch>,
+    due: Vec<u32>,
+    lists: Vec<Places>,
+}
+
+impl Model for WatchStore {
+    ghost use Rattle.std.specs.Prelude.{vec_capacity};
+    ghost use Rattle.hw_store.specs.Watches.{WatchModel, KeepsWatches};
+
+    ghost Value = { WatchModel };
+
+    ghost view = { λ s. record { ships = s.ships; held = s.held.items; watches = s.watches.items; due = s.due.items; lists = s.lists.items } };
+
+    ghost invariant = { λ s. KeepsWatches (record { ships = s.ships; held = s.held.items; watches = s.watches.items; due = s.due.items; lists = s.lists.items }) (vec_capacity s.due) };
+}
+
+// What was seen of the last clause to look at.
+#[derive(Clone, Copy, Debug, PartialEq, Eq)]
+enum Next {
+    Found(Held),
+    Went,
+}
+
+impl WatchStore {
+    /// A store without clauses, ready for every room.
+    pub fn new(alloc: Global, flat: &Flat) -> Result<WatchStore, NoMemory>
+        ensures value { IfOk result (λ store. IsNew flat.now.ships store) }
+    {
+        let ships = flat.shape().ships;
+        let lists = no_places(alloc, 2 * ships + ships * ships)?;
+        Ok(WatchStore {
+            ships,
+            held: Vec::new(alloc),
+            watches: Vec::new(alloc),
+            due: Vec::new(alloc),
+            lists,
+        })
+    }
+
+    // Looks at the last of the clauses to look at.
+    fn look_next(&mut self, room: &Room) -> Result<Next, NoMemory>
+        requires ready { WatchReady self.old room.now }
+        ensures same { self.new.held ≡ self.old.held }
+        ensures ships { self.new.ships ≡ self.old.ships }
+        ensures ready { WatchReady self.new room.now }
+        ensures next { IfOk result (λ next. NextIs self.old self.new room.now next) }
+    {
+        if self.due.is_empty() {
+            return Ok(Next::Found(Held::Quiet));
+        }
+        let place = self.due[self.due.len() - 1];
+        let one = &self.held[place as usize];
+        match look_at(one.clause.as_slice(), room) {
+            Look::Dead => Ok(Next::Found(Held::Clause { id: one.number })),
+            Look::Unit { lit: _lit } => Ok(Next::Found(Held::Clause { id: one.number })),
+            Look::Sure { lit } => {
+                resolve(place, Watch::One { lit }, &mut self.watches, &mut self.due);
+                Ok(Next::Went)
+            }
+            Look::Two { first, second } => {
+                list_both(self.ships, first, second, place, &mut self.lists)?;
+                resolve(
+                    place,
+                    Watch::Two { first, second },
+                    &mut self.watches,
+                    &mut self.due,
+                );
+                Ok(Next::Went)
+            }
+        }
+    }
+}
+
+impl Store for WatchStore {
+    ghost use Rattle.hw_store.specs.Watches.{watch_ships, watch_clauses, WatchReady};
+
+    ghost ships = { watch_ships };
+
+    ghost clauses = { watch_clauses };
+
+    ghost ready = { WatchReady };
+
+    fn add(&mut self, id: u32, clause: Clause, _room: &Room) -> Result<(), NoMemory> {
+        self.held.reserve(1)?;
+        self.watches.reserve(1)?;
+        let place = self.held.len();
+        self.due.reserve(place + 1)?;
+        self.held.push_reserved(Stored { number: id, clause });
+        self.watches.push_reserved(Watch::Due);
+        self.due.push_reserved(place as u32);
+        Ok(())
+    }
+
+    fn step(&mut self, room: &Room) -> Result<Held, NoMemory> {
+        loop {
+            match self.look_next(room)? {
+                Next::Found(held) => return Ok(held),
+                Next::Went => {}
+            }
+        }
+    }
+
+    fn clause(&self, id: u32) -> Option<&Clause> {
+        find(&self.held, id)
+    }
+
+    fn changed(&mut self, before: &Room, lit: Lit) {
+        let _ships = before.ships();
+        let side = side_of(self.ships, lit.not());
+        mark(
+            self.lists[side].as_slice(),
+            lit,
+            &mut self.watches,
+            &mut self.due,
+        );
+    }
+
+    fn undone(&mut self, room: &Room) {
+        review(room, &mut self.watches, &mut self.due);
+    }
+}
+
+// So many empty lists.
+fn no_places(alloc: Global, sides: u32) -> Result<Vec<Places>, NoMemory>
+    ensures length { IfOk result (λ lists. length lists.items ≡ sides) }
+    ensures empty { IfOk result (λ lists. All (λ places. places ≡ []) lists.items) }
+{
+    let mut lists = Vec::with_capacity(alloc, sides as usize)?;
+    for _count in 0..sides {
+        lists.push(Places::new(alloc))?;
+    }
+    Ok(lists)
+}
+
+// Takes a clause's place into the list of a side.
+fn list_at(side: usize, place: u32, lists: &mut [Places]) -> Result<(), NoMemory>
+    requires inside { side < length lists.old }
+    ensures grows { Grows place lists.old lists.new }
+    ensures there { OnOk result (Contains (slice_index_or lists.new side []) place) }
+{
+    lists[side].take_in(place)
+}
+
+// Takes a clause's place into the lists of both watched literals.
+fn list_both(
+    ships: u32,
+    first: Lit,
+    second: Lit,
+    place: u32,
+    lists: &mut [Places],
+) -> Result<(), NoMemory>
+    requires few { ships ≤ 40 }
+    requires one { IsLitOf ships first }
+    requires two { IsLitOf ships second }
+    requires sides { length lists.old ≡ 2 * ships + ships * ships }
+    ensures grows { Grows place lists.old lists.new }
+    ensures listed { OnOk result (Listed ships lists.new place (Watch.Two first second)) }
+{
+    list_at(side_of(ships, first), place, lists)?;
+    list_at(side_of(ships, second), place, lists)
+}

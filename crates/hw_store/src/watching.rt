@@ -1,0 +1,207 @@
+ghost use Rattle.std.specs.Prelude.{◌≡◌, ◌≢◌, ◌⊎◌, ◌+◌, ◌-◌, ◌*◌, ◌<◌, ◌≤◌, false, true, [], All, Contains, OnOk, length, take, slice_set, slice_index_or, vec_capacity, MatchBool};
+ghost use Rattle.hw_model.specs.Narrowing.{truth};
+ghost use Rattle.hw_laws.specs.Laws.{IsLitOf};
+ghost use Rattle.hw_store.specs.Watches.{side, hits, is_hit, IsWatchOf, Shows, ShowsAll, KeepsDue, DropsSome, is_due};
+
+use hw_flat::Room;
+use hw_lits::truth;
+use hw_model::{Lit, LitTruth, NoMemory};
+use std::alloc::Global;
+use std::marker::Model;
+
+/// What is watched of a clause.
+#[derive(Clone, Copy, Debug, PartialEq, Eq)]
+pub enum Watch {
+    /// Nothing: the clause is to be looked at.
+    Due,
+    /// A literal that is True.
+    One { lit: Lit },
+    /// Two literals that aren't False.
+    Two { first: Lit, second: Lit },
+}
+
+/// Places of clauses, seen as their list.
+#[derive(Debug, Drop)]
+pub struct Places {
+    items: Vec<u32>,
+}
+
+impl Model for Places {
+    ghost use Rattle.std.specs.Prelude.{List, ℕ};
+
+    ghost Value = { List ℕ };
+
+    ghost view = { λ s. s.items.items };
+}
+
+impl Places {
+    /// No places.
+    pub fn new(alloc: Global) -> Places
+        ensures none { result ≡ [] }
+    {
+        Places {
+            items: Vec::new(alloc),
+        }
+    }
+
+    /// The places, in order.
+    pub fn as_slice(&self) -> &[u32]
+        ensures value { result.now ≡ self.now }
+    {
+        &self.items
+    }
+
+    /// Takes in a place, unless it is there.
+    pub fn take_in(&mut self, place: u32) -> Result<(), NoMemory>
+        ensures kept { (p : ℕ) → Contains self.old p → Contains self.new p }
+        ensures only { (p : ℕ) → Contains self.new p → Contains self.old p ⊎ (p ≡ place) }
+        ensures there { OnOk result (Contains self.new place) }
+    {
+        if self.items.contains(&place) {
+            return Ok(());
+        }
+        self.items.push(place)?;
+        Ok(())
+    }
+}
+
+ghost use Rattle.std.specs.Prelude.{ℕ};
+
+/// The number of a literal's bound or pair.
+pub fn side_of(ships: u32, lit: Lit) -> usize
+    requires few { ships ≤ 40 }
+    requires fits { IsLitOf ships lit }
+    ensures value { result ≡ side ships lit }
+    ensures small { result < 2 * ships + ships * ships }
+{
+    match lit {
+        Lit::AtOrAfter { ship, .. } => ship as usize,
+        Lit::Before { ship, .. } => (ships + ship) as usize,
+        Lit::First { v, w } => (2 * ships + (v * ships + w)) as usize,
+        Lit::NotFirst { v, w } => (2 * ships + (v * ships + w)) as usize,
+    }
+}
+
+// Whether a cut by the first literal makes the second one False.
+fn hits(cutting: Lit, lit: Lit) -> bool
+    ensures value { result ≡ hits cutting lit }
+{
+    match (cutting, lit) {
+        (Lit::Before { ship: v, slot: j }, Lit::AtOrAfter { ship: w, slot: k }) => v == w && j <= k,
+        (Lit::AtOrAfter { ship: v, slot: j }, Lit::Before { ship: w, slot: k }) => v == w && k <= j,
+        (Lit::First { v, w }, Lit::NotFirst { v: a, w: b }) => v == a && w == b,
+        (Lit::NotFirst { v, w }, Lit::First { v: a, w: b }) => v == a && w == b,
+        _ => false,
+    }
+}
+
+fn is_hit(cutting: Lit, watch: Watch) -> bool
+    ensures value { result ≡ is_hit cutting watch }
+{
+    match watch {
+        Watch::Due => false,
+        Watch::One { lit: _lit } => false,
+        Watch::Two { first, second } => hits(cutting, first) || hits(cutting, second),
+    }
+}
+
+fn is_open(lit: Lit, room: &Room) -> bool
+    requires fits { IsLitOf room.now.ships lit }
+    ensures value { MatchBool result (truth room.now lit ≢ LitTruth.False) ⊤ }
+{
+    match truth(lit, room) {
+        LitTruth::False => false,
+        LitTruth::True | LitTruth::Free => true,
+    }
+}
+
+ghost use Rattle.std.specs.Prelude.{⊤};
+
+// Whether what is watched shows that the clause is quiet.
+fn shows(watch: Watch, room: &Room) -> bool
+    requires fits { IsWatchOf room.now.ships watch }
+    ensures value { MatchBool result (Shows room.now watch) ⊤ }
+{
+    match watch {
+        Watch::Due => true,
+        Watch::One { lit } => match truth(lit, room) {
+            LitTruth::True => true,
+            LitTruth::False | LitTruth::Free => false,
+        },
+        Watch::Two { first, second } => is_open(first, room) && is_open(second, room),
+    }
+}
+
+// Puts a clause among those to look at.
+fn make_due(place: u32, watches: &mut [Watch], due: &mut Vec<u32>)
+    requires inside { place < length watches.old }
+    requires keeps { KeepsDue watches.old due.old.items (vec_capacity due.old) }
+    ensures watches { watches.new ≡ slice_set watches.old place Watch.Due }
+    ensures keeps { KeepsDue watches.new due.new.items (vec_capacity due.new) }
+{
+    if !is_due(watches[place as usize]) {
+        watches[place as usize] = Watch::Due;
+        due.push_reserved(place);
+    }
+}
+
+fn is_due(watch: Watch) -> bool
+    ensures value { result ≡ is_due watch }
+{
+    match watch {
+        Watch::Due => true,
+        Watch::One { lit: _lit } => false,
+        Watch::Two {
+            first: _first,
+            second: _second,
+        } => false,
+    }
+}
+
+/// Takes the last clause off those to look at, and watches what was found.
+pub fn resolve(place: u32, watch: Watch, watches: &mut [Watch], due: &mut Vec<u32>)
+    requires some { 0 < length due.old.items }
+    requires last { place ≡ slice_index_or due.old.items (length due.old.items - 1) place }
+    requires found { is_due watch ≡ false }
+    requires inside { place < length watches.old }
+    requires keeps { KeepsDue watches.old due.old.items (vec_capacity due.old) }
+    ensures watches { watches.new ≡ slice_set watches.old place watch }
+    ensures due { length due.new.items < length due.old.items }
+    ensures keeps { KeepsDue watches.new due.new.items (vec_capacity due.new) }
+{
+    let last = due.len() - 1;
+    watches[place as usize] = watch;
+    due.truncate(last);
+}
+
+/// Puts those of the clauses at these places among the ones to look at whose watch a cut makes
+/// False.
+pub fn mark(places: &[u32], cutting: Lit, watches: &mut [Watch], due: &mut Vec<u32>)
+    requires inside { All (λ place. place < length watches.old) places.now }
+    requires keeps { KeepsDue watches.old due.old.items (vec_capacity due.old) }
+    ensures keeps { KeepsDue watches.new due.new.items (vec_capacity due.new) }
+    ensures drops { DropsSome watches.old watches.new }
+    ensures marked { All (λ place. is_hit cutting (slice_index_or watches.new place Watch.Due) ≡ false) places.now }
+{
+    for place in places {
+        if is_hit(cutting, watches[*place as usize]) {
+            make_due(*place, watches, due);
+        }
+    }
+}
+
+/// Puts those of the clauses among the ones to look at whose watch doesn't show that they are
+/// quiet.
+pub fn review(room: &Room, watches: &mut [Watch], due: &mut Vec<u32>)
+    requires fits { All (IsWatchOf room.now.ships) watches.old }
+    requires keeps { KeepsDue watches.old due.old.items (vec_capacity due.old) }
+    ensures keeps { KeepsDue watches.new due.new.items (vec_capacity due.new) }
+    ensures drops { DropsSome watches.old watches.new }
+    ensures shown { ShowsAll room.now watches.new }
+{
+    for place in 0..watches.len() {
+        if !shows(watches[place], room) {
+            make_due(place as u32, watches, due);
+        }
+    }
+}
