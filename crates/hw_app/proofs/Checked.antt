@@ -7,16 +7,16 @@ use Rattle.hw_text.specs.Parts.{parts_of}
 use Rattle.hw_desk.specs.State.{DeskState}
 use Rattle.hw_desk.specs.declared.desk.Feed.TheVariants.{Certificate}
 use Rattle.hw_cert.proofs.Streams.{steps}
-use Rattle.hw_cert.specs.declared.check.Refusal.{Refusal}
-use Rattle.hw_cert.specs.declared.line.Line.{Line}
+use Rattle.hw_lines.specs.declared.check.Refusal.{Refusal}
+use Rattle.hw_lines.specs.declared.line.Line.{Line}
 use Rattle.hw_cert.specs.declared.stop.FormWord.{FormWord}
 use Rattle.hw_cert.specs.declared.version.Version.{Version}
 use Rattle.hw_cert.specs.Laws.{following}
 use Rattle.hw_cert.specs.Nexts.{rest_of, next_line, Behind}
 use Rattle.hw_cert.specs.Reader.{ReaderModel}
-use Rattle.hw_cert.specs.Refusals.{refusal}
+use Rattle.hw_lines.specs.Refusals.{refusal}
 use Rattle.hw_cert.specs.Stream.{NextLine, ends, comes, bad, too_long, next_of, CertLines, stream_of}
-use Rattle.hw_cert.specs.Valid.{verdict}
+use Rattle.hw_lines.specs.Valid.{verdict}
 use Rattle.hw_app.specs.Certificates.{line_report}
 use Rattle.hw_app.specs.Checking.{line_number, left_report, rest_report}
 use Rattle.hw_app.specs.declared.report.RefusedWord.TheVariants.{Form, Check}

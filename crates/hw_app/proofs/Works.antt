@@ -8,11 +8,11 @@ use Rattle.hw_model.specs.Problem.{Problem}
 use Rattle.hw_desk.specs.State.{DeskState, FeedState, put_feed, Rose}
 use Rattle.hw_desk.specs.declared.desk.Feed.TheVariants.{Flat, Instance, Tides, Certificate, Plan, Events}
 use Rattle.hw_flat.specs.Text.{flat_text}
-use Rattle.hw_cert.specs.declared.check.Verdict.{Verdict}
-use Rattle.hw_cert.specs.declared.check.Verdict.TheVariants as verdicts
-use Rattle.hw_cert.specs.declared.line.Line.{Line}
-use Rattle.hw_cert.specs.Lines.{last_table}
-use Rattle.hw_cert.specs.Valid.{LineFits, Valid, verdict}
+use Rattle.hw_lines.specs.declared.check.Verdict.{Verdict}
+use Rattle.hw_lines.specs.declared.check.Verdict.TheVariants as verdicts
+use Rattle.hw_lines.specs.declared.line.Line.{Line}
+use Rattle.hw_lines.specs.Lines.{last_table}
+use Rattle.hw_lines.specs.Valid.{LineFits, Valid, verdict}
 use Rattle.hw_verdict.proofs.Proved.{optimal, infeasible}
 use Rattle.hw_app.specs.Certificates.{read_report, texts_report, cert_report}
 use Rattle.hw_app.specs.CheckFlat.{Means, BeginsBoth, CheckFlatWorks}

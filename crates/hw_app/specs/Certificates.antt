@@ -3,11 +3,11 @@ use Rattle.std.specs.Prelude.{ℕ, ◌+◌, List, [], ◌∷◌, ◌++◌, Optio
 use Rattle.hw_model.specs.Problem.{Problem, shape_of}
 use Rattle.hw_desk.specs.declared.desk.Feed.TheVariants.{Flat, Certificate}
 use Rattle.hw_flat.specs.Text.{Fault, flat_text}
-use Rattle.hw_cert.specs.declared.check.Refusal.{Refusal}
-use Rattle.hw_cert.specs.declared.line.Line.{Line}
-use Rattle.hw_cert.specs.Refusals.{refusal}
+use Rattle.hw_lines.specs.declared.check.Refusal.{Refusal}
+use Rattle.hw_lines.specs.declared.line.Line.{Line}
+use Rattle.hw_lines.specs.Refusals.{refusal}
 use Rattle.hw_cert.specs.Stream.{CertEnd, complete, broken, overlong, CertLines, cert_stream}
-use Rattle.hw_cert.specs.Valid.{verdict}
+use Rattle.hw_lines.specs.Valid.{verdict}
 use Rattle.hw_app.specs.declared.report.RefusedWord.TheVariants.{Form, Check}
 use Rattle.hw_app.specs.Reports.{Report, checked, refused, bad_flat, too_long}
 use Rattle.hw_app.specs.Input.{most_bytes}

@@ -6,10 +6,10 @@ use Rattle.hw_model.specs.Timetables.{IsBest, NonePermitted}
 use Rattle.hw_desk.specs.State.{DeskState, put_feed, Rose}
 use Rattle.hw_desk.specs.declared.desk.Feed.{Feed}
 use Rattle.hw_desk.specs.declared.desk.Feed.TheVariants.{Flat, Certificate}
-use Rattle.hw_cert.specs.declared.check.Verdict.{Verdict}
-use Rattle.hw_cert.specs.declared.check.Verdict.TheVariants as verdicts
-use Rattle.hw_cert.specs.declared.line.Line.{Line}
-use Rattle.hw_cert.specs.Valid.{verdict, LineFits, Valid}
+use Rattle.hw_lines.specs.declared.check.Verdict.{Verdict}
+use Rattle.hw_lines.specs.declared.check.Verdict.TheVariants as verdicts
+use Rattle.hw_lines.specs.declared.line.Line.{Line}
+use Rattle.hw_lines.specs.Valid.{verdict, LineFits, Valid}
 use Rattle.hw_app.specs.Certificates.{cert_report, texts_report}
 use Rattle.hw_app.specs.Reports.{Report, checked, refused, bad_flat, read_fault, too_long, no_memory}
 use Rattle.hw_app.specs.Input.{IsTextOf, IsBadAt, most_bytes}

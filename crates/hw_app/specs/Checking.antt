@@ -6,11 +6,11 @@ use Rattle.hw_text.specs.Parts.{parts_of}
 use Rattle.hw_desk.specs.State.{DeskState, Rose}
 use Rattle.hw_desk.specs.Calls.{OnlyFeed}
 use Rattle.hw_desk.specs.declared.desk.Feed.TheVariants as feeds
-use Rattle.hw_cert.specs.declared.line.Line.{Line}
+use Rattle.hw_lines.specs.declared.line.Line.{Line}
 use Rattle.hw_cert.specs.Nexts.{rest_of}
 use Rattle.hw_cert.specs.Reader.{ReaderModel}
 use Rattle.hw_cert.specs.Stream.{Position, CertLines, stream_of}
-use Rattle.hw_cert.specs.Valid.{verdict, LineFits, Valid}
+use Rattle.hw_lines.specs.Valid.{verdict, LineFits, Valid}
 use Rattle.hw_check.specs.Follows.{Follows}
 use Rattle.hw_check.specs.States.{CheckState}
 use Rattle.hw_app.specs.Certificates.{lines_report, cert_report}

@@ -6,10 +6,10 @@ use Rattle.hw_desk.specs.declared.desk.Feed.{Feed}
 use Rattle.hw_desk.specs.declared.desk.Feed.TheVariants.{Flat, Instance, Tides, Certificate, Plan, Events}
 use Rattle.hw_flat.specs.declared.fault.FlatWord.{FlatWord}
 use Rattle.hw_flat.specs.declared.fault.FlatWord.TheVariants as words
-use Rattle.hw_cert.specs.declared.check.CheckWord.TheVariants as checks
-use Rattle.hw_cert.specs.declared.check.CheckWord.{CheckWord}
-use Rattle.hw_cert.specs.declared.check.Verdict.{Verdict}
-use Rattle.hw_cert.specs.declared.check.Verdict.TheVariants as verdicts
+use Rattle.hw_lines.specs.declared.check.CheckWord.TheVariants as checks
+use Rattle.hw_lines.specs.declared.check.CheckWord.{CheckWord}
+use Rattle.hw_lines.specs.declared.check.Verdict.{Verdict}
+use Rattle.hw_lines.specs.declared.check.Verdict.TheVariants as verdicts
 use Rattle.hw_cert.specs.declared.stop.FormWord.{FormWord}
 use Rattle.hw_cert.specs.declared.stop.FormWord.TheVariants as forms
 use Rattle.hw_app.specs.declared.report.RefusedWord.{RefusedWord}

@@ -1,7 +1,7 @@
 -- How a run ends.
 use Rattle.std.specs.Prelude.{ℕ}
-use Rattle.hw_cert.specs.declared.check.Verdict.{Verdict}
-use Rattle.hw_cert.specs.declared.check.Verdict.TheVariants as verdicts
+use Rattle.hw_lines.specs.declared.check.Verdict.{Verdict}
+use Rattle.hw_lines.specs.declared.check.Verdict.TheVariants as verdicts
 use Rattle.hw_app.specs.Reports.{Report, solved, checked, refused, bad_words, bad_flat, read_fault, too_long, no_memory}
 use Rattle.hw_app.specs.declared.report.Head.{Head}
 use Rattle.hw_app.specs.declared.report.Head.TheVariants.{Optimal, Infeasible, Unfinished}

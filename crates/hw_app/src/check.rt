@@ -1,7 +1,7 @@
 //! Checking a certificate of a flat text, line by line.
 
 ghost use Rattle.std.specs.Prelude.{◌≡◌, ◌<◌, [], ℕ, List, IfOk, IfErr, false};
-ghost use Rattle.hw_cert.specs.declared.line.Line.{Line as CertLine};
+ghost use Rattle.hw_lines.specs.declared.line.Line.{Line as CertLine};
 ghost use Rattle.hw_cert.specs.Nexts.{rest_of};
 ghost use Rattle.hw_check.specs.Follows.{Follows};
 ghost use Rattle.hw_desk.specs.Calls.{Moves};

@@ -15,8 +15,8 @@ use Rattle.hw_cert.specs.Stream.{Cut, whole, long, passes, cut_of, NextLine, bad
 use Rattle.hw_cert.specs.Reader.{ReaderModel, ReaderKeeps}
 use Rattle.hw_cert.specs.Taking.{TakesLine}
 use Rattle.hw_cert.specs.Nexts.{rest_of, next_line, StopsAs, Answers, GoesOn, Takes, TakesHeader}
-use Rattle.hw_cert.specs.Valid.{LineFits}
-use Rattle.hw_cert.specs.declared.line.Line.{Line}
+use Rattle.hw_lines.specs.Valid.{LineFits}
+use Rattle.hw_lines.specs.declared.line.Line.{Line}
 use Rattle.hw_cert.specs.declared.reader.Next.{Next}
 use Rattle.hw_cert.specs.declared.reader.Next.TheVariants as nexts
 use Rattle.hw_cert.specs.declared.stop.FormWord.{FormWord}

@@ -12,8 +12,8 @@ use Rattle.hw_cert.specs.Texts.{lit_text, line_words, line_text, header_text}
 use Rattle.hw_cert.specs.Spelled.{number_word, both, all_numbers, some_numbers, Lits, lits_of, unparted, only_lits, table_form, explain_form, order_form, goal_form, hinted_form, lemma_form, delete_form, form_of, line_of, spelled, version_word, header_words, version_of}
 use Rattle.hw_cert.specs.Fits.{line_read}
 use Rattle.hw_cert.specs.Laws.{lit_numbers, line_numbers, has_form, is_small, IsLine}
-use Rattle.hw_cert.specs.declared.line.Line.{Line}
-use Rattle.hw_cert.specs.declared.line.Line.TheVariants as lines
+use Rattle.hw_lines.specs.declared.line.Line.{Line}
+use Rattle.hw_lines.specs.declared.line.Line.TheVariants as lines
 use Rattle.hw_cert.specs.declared.version.Version.{Version}
 use Rattle.hw_cert.specs.declared.version.Version.TheVariants.{One, Two}
 use Rattle.hw_cert.proofs.WordBytes.{both_on}

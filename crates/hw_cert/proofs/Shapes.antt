@@ -9,9 +9,9 @@ use Rattle.hw_model.specs.Lits.{BadLit, out_of_range, not_normal, first_bad}
 use Rattle.hw_model.specs.declared.shape.Shape.{Shape}
 use Rattle.hw_cert.specs.Fits.{unless, ◌or_else◌, lit_fault, clause_fault, ascends, first_fault, refused_by, fitted, line_read}
 use Rattle.hw_cert.specs.Spelled.{spelled}
-use Rattle.hw_cert.specs.Valid.{LineFits}
-use Rattle.hw_cert.specs.declared.line.Line.{Line}
-use Rattle.hw_cert.specs.declared.line.Line.TheVariants as lines
+use Rattle.hw_lines.specs.Valid.{LineFits}
+use Rattle.hw_lines.specs.declared.line.Line.{Line}
+use Rattle.hw_lines.specs.declared.line.Line.TheVariants as lines
 use Rattle.hw_cert.specs.declared.stop.FormWord.{FormWord}
 use Rattle.hw_cert.specs.declared.stop.FormWord.TheVariants.{Range}
 use Rattle.hw_cert.specs.declared.version.Version.{Version}

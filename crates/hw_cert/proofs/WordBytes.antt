@@ -13,8 +13,8 @@ use Rattle.hw_text.specs.Parts.{lacks}
 use Rattle.hw_text.proofs.Digits.{own}
 use Rattle.hw_cert.specs.Texts.{pair_text, lit_text, line_words}
 use Rattle.hw_cert.specs.Laws.{lit_numbers, line_numbers, is_small}
-use Rattle.hw_cert.specs.declared.line.Line.{Line}
-use Rattle.hw_cert.specs.declared.line.Line.TheVariants as lines
+use Rattle.hw_lines.specs.declared.line.Line.{Line}
+use Rattle.hw_lines.specs.declared.line.Line.TheVariants as lines
 
 pub both_on : (a b : Bool) → a ≡ true → b ≡ true → (a && b) ≡ true
 both_on true b p q = q

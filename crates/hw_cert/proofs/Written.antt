@@ -13,8 +13,8 @@ use Rattle.hw_cert.specs.Texts.{pair_text, lit_text, line_words, line_text}
 use Rattle.hw_cert.specs.Spelled.{number_word, both, put_first, all_numbers, some_of, some_numbers, number_pair, lettered, lit_word, Lits, put_lit, lits_of, unparted, only_lits, hinted_form, delete_form, line_of}
 use Rattle.hw_cert.specs.Fits.{ascends, unless, first_fault, refused_by, fitted, line_read}
 use Rattle.hw_cert.specs.Laws.{lit_numbers, line_numbers, has_form, is_small, IsLine}
-use Rattle.hw_cert.specs.declared.line.Line.{Line}
-use Rattle.hw_cert.specs.declared.line.Line.TheVariants as lines
+use Rattle.hw_lines.specs.declared.line.Line.{Line}
+use Rattle.hw_lines.specs.declared.line.Line.TheVariants as lines
 use Rattle.hw_cert.specs.declared.stop.FormWord.{FormWord}
 use Rattle.hw_cert.specs.declared.stop.FormWord.TheVariants.{Range}
 use Rattle.hw_cert.specs.declared.version.Version.{Version}

@@ -4,8 +4,8 @@ use Rattle.std.specs.List.{list_all, flat_map, AllByRecursion}
 use Rattle.hw_model.specs.declared.lit.Lit.{Lit}
 use Rattle.hw_model.specs.declared.lit.Lit.TheVariants.{AtOrAfter, Before, First, NotFirst}
 use Rattle.hw_model.specs.declared.shape.Shape.{Shape}
-use Rattle.hw_cert.specs.declared.line.Line.{Line}
-use Rattle.hw_cert.specs.declared.line.Line.TheVariants as lines
+use Rattle.hw_lines.specs.declared.line.Line.{Line}
+use Rattle.hw_lines.specs.declared.line.Line.TheVariants as lines
 use Rattle.hw_cert.specs.declared.version.Version.{Version}
 use Rattle.hw_cert.specs.declared.version.Version.TheVariants.{One, Two}
 use Rattle.hw_cert.specs.Texts.{line_text, header_text, cert_text}

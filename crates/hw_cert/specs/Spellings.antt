@@ -3,8 +3,8 @@ use Rattle.std.specs.Prelude.{ℕ, List, Option, Some, None, option_map, Vec, if
 use Rattle.std.specs.declared.alloc.Global.{Global}
 use Rattle.hw_model.specs.declared.lit.Lit.{Lit}
 use Rattle.hw_text.specs.Parts.{left_words}
-use Rattle.hw_cert.specs.declared.line.Line.{Line}
-use Rattle.hw_cert.specs.declared.line.Line.TheVariants as lines
+use Rattle.hw_lines.specs.declared.line.Line.{Line}
+use Rattle.hw_lines.specs.declared.line.Line.TheVariants as lines
 use Rattle.hw_cert.specs.declared.spelling.Spelling.{Spelling}
 use Rattle.hw_cert.specs.declared.spelling.Spelling.TheVariants as spellings
 use Rattle.hw_cert.specs.declared.spelling.FoundLits.{FoundLits}

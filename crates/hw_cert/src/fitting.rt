@@ -7,11 +7,11 @@ ghost use Rattle.hw_cert.specs.Fits.{ascends, unless, clause_fault, first_fault,
 ghost use Rattle.hw_cert.specs.Reads.{GivesClause, Gives};
 ghost use Rattle.hw_cert.specs.Spellings.{spelling_view};
 
-use crate::line::{Hints, Line};
 use crate::spelling::{Spelling, spelling_of};
 use crate::stop::FormWord;
 use crate::version::Version;
 use hw_flat::Timetable;
+use hw_lines::{Hints, Line};
 use hw_lits::{Clause, ClauseFault};
 use hw_model::{Lit, NoMemory, Shape};
 use std::alloc::{AllocError, Global};

@@ -1,11 +1,8 @@
-//! The lines of a certificate, their text, and the reader that takes them from a feed; in `specs/` also when a
-//! line is valid after others and what they prove.
+//! The text of a certificate's lines, and the reader that takes them from a feed.
 #![tactic(auto)]
 
-mod check;
 mod fitting;
 mod laws;
-mod line;
 mod pending;
 mod reader;
 mod spelling;
@@ -16,9 +13,8 @@ mod tests;
 mod version;
 mod words;
 
-pub use check::{CheckWord, Refusal, Verdict};
+pub use hw_lines::{CheckWord, Hints, Line, Refusal, Verdict};
 pub use laws::{cert_spelled, header_spelled, line_spelled, stream_reads, stream_steps};
-pub use line::{Hints, Line};
 pub use reader::{LineReader, Next};
 pub use stop::{FormWord, LineStop};
 pub use version::Version;

@@ -4,13 +4,13 @@ ghost use Rattle.std.specs.Prelude.{◌≡◌, ◌≤◌, ◌+◌, ◌^◌, [], 
 ghost use Rattle.hw_cert.specs.Stream.{start};
 
 use crate::fitting::{LineFault, read_line};
-use crate::line::Line;
 use crate::pending::{BLOCK, Pending};
 use crate::spelling::header_version;
 use crate::stop::{FormWord, LineStop};
 use crate::taking::{MOST_OF_LINE, TakenLine, take_line};
 use crate::version::Version;
 use hw_desk::{Desk, Feed, NoMemory};
+use hw_lines::Line;
 use hw_model::Shape;
 use std::alloc::Global;
 use std::marker::Model;

@@ -12,14 +12,14 @@ use Rattle.hw_model.specs.Problem.{Problem}
 use Rattle.hw_model.specs.Timetables.{cargo, first_broken}
 use Rattle.hw_model.specs.Tests.{refutes, source_of}
 use Rattle.hw_model.specs.Replay.{replay}
-use Rattle.hw_cert.specs.declared.check.CheckWord.TheVariants as words
-use Rattle.hw_cert.specs.declared.check.Refusal.{Refusal}
-use Rattle.hw_cert.specs.declared.line.Line.{Line}
-use Rattle.hw_cert.specs.declared.line.Line.TheVariants as lines
-use Rattle.hw_cert.specs.Lines.{clause_of, clauses_of, clause_count, clause_at, deletes, live, table_after, last_table, best_of, is_end, is_closed}
-use Rattle.hw_cert.specs.Valid.{LineFits, ValidAfter, ValidFrom, Valid, hinted, denied_room, verdict, verdict_by}
-use Rattle.hw_cert.specs.Refusals as refusals
-use Rattle.hw_cert.specs.Refusals.{refusal, refused, claim_refusal, table_refusal, lemma_refusal, delete_refusal}
+use Rattle.hw_lines.specs.declared.check.CheckWord.TheVariants as words
+use Rattle.hw_lines.specs.declared.check.Refusal.{Refusal}
+use Rattle.hw_lines.specs.declared.line.Line.{Line}
+use Rattle.hw_lines.specs.declared.line.Line.TheVariants as lines
+use Rattle.hw_lines.specs.Lines.{clause_of, clauses_of, clause_count, clause_at, deletes, live, table_after, last_table, best_of, is_end, is_closed}
+use Rattle.hw_lines.specs.Valid.{LineFits, ValidAfter, ValidFrom, Valid, hinted, denied_room, verdict, verdict_by}
+use Rattle.hw_lines.specs.Refusals as refusals
+use Rattle.hw_lines.specs.Refusals.{refusal, refused, claim_refusal, table_refusal, lemma_refusal, delete_refusal}
 use Rattle.hw_verdict.proofs.Steps.{clauses_push}
 use Rattle.hw_verdict.proofs.Refused.{valid_from}
 use Rattle.hw_verdict.proofs.Pushed.{one_more}

@@ -2,11 +2,11 @@
 use Rattle.std.specs.Prelude.{◌≡◌, ℕ, List, [], ◌∷◌, ◌++◌, Option, Some, Result, Ok, Err, All, filter, length, is_some, ⊤}
 use Rattle.std.specs.List.{range_with_len}
 use Rattle.hw_model.specs.Problem.{Problem}
-use Rattle.hw_cert.specs.declared.check.Refusal.{Refusal}
-use Rattle.hw_cert.specs.declared.line.Line.{Line}
-use Rattle.hw_cert.specs.Lines.{clause_count, live, best_of, is_closed}
-use Rattle.hw_cert.specs.Valid.{LineFits, ValidAfter, Valid}
-use Rattle.hw_cert.specs.Refusals.{refusal}
+use Rattle.hw_lines.specs.declared.check.Refusal.{Refusal}
+use Rattle.hw_lines.specs.declared.line.Line.{Line}
+use Rattle.hw_lines.specs.Lines.{clause_count, live, best_of, is_closed}
+use Rattle.hw_lines.specs.Valid.{LineFits, ValidAfter, Valid}
+use Rattle.hw_lines.specs.Refusals.{refusal}
 use Rattle.hw_check.specs.declared.stop.CheckStop.{CheckStop}
 use Rattle.hw_check.specs.declared.stop.CheckStop.TheVariants as stops
 use Rattle.hw_check.specs.States.{CheckState, numbered}

@@ -1,8 +1,8 @@
 -- Validity, verdict and what is kept need nothing of the lines before but what is kept.
 use Rattle.std.specs.Prelude.{◌≡◌, List, [], ◌∷◌, ◌++◌, None}
-use Rattle.hw_cert.specs.declared.line.Line.{Line}
-use Rattle.hw_cert.specs.Valid.{LineFits, verdict}
-use Rattle.hw_cert.specs.Refusals.{refusal}
+use Rattle.hw_lines.specs.declared.line.Line.{Line}
+use Rattle.hw_lines.specs.Valid.{LineFits, verdict}
+use Rattle.hw_lines.specs.Refusals.{refusal}
 use Rattle.hw_check.specs.States.{CheckState, state_refusal, state_after, state_verdict}
 use Rattle.hw_check.specs.Follows.{Follows}
 

@@ -10,14 +10,14 @@ use Rattle.hw_model.specs.Tests.{refutes, source_of}
 use Rattle.hw_model.specs.Replay.{replay}
 use Rattle.hw_model.specs.Rooms.{RoomModel}
 use Rattle.hw_laws.specs.Laws.{IsLitOf}
-use Rattle.hw_cert.specs.declared.check.CheckWord.TheVariants as words
-use Rattle.hw_cert.specs.declared.check.Refusal.{Refusal}
-use Rattle.hw_cert.specs.declared.check.Verdict.{Verdict}
-use Rattle.hw_cert.specs.declared.line.Line.{Line}
-use Rattle.hw_cert.specs.declared.line.Line.TheVariants as lines
-use Rattle.hw_cert.specs.Lines.{clause_of, is_end}
-use Rattle.hw_cert.specs.Valid.{denied_room, verdict_by}
-use Rattle.hw_cert.specs.Refusals.{refused, table_refusal, lemma_refusal, delete_refusal}
+use Rattle.hw_lines.specs.declared.check.CheckWord.TheVariants as words
+use Rattle.hw_lines.specs.declared.check.Refusal.{Refusal}
+use Rattle.hw_lines.specs.declared.check.Verdict.{Verdict}
+use Rattle.hw_lines.specs.declared.line.Line.{Line}
+use Rattle.hw_lines.specs.declared.line.Line.TheVariants as lines
+use Rattle.hw_lines.specs.Lines.{clause_of, is_end}
+use Rattle.hw_lines.specs.Valid.{denied_room, verdict_by}
+use Rattle.hw_lines.specs.Refusals.{refused, table_refusal, lemma_refusal, delete_refusal}
 
 -- the clauses by number from 1, none for a dead one; the best cargo; whether a clause line had no literals
 pub record CheckState : Type 0 where

@@ -1,16 +1,16 @@
 ghost use Rattle.std.specs.Prelude.{◌≡◌, ◌+◌, ◌^◌, ◌<◌, List, [], None, All, length, count_by, is_some, false, IfOk, IfErr, IsSome, OnOk};
 ghost use Rattle.hw_model.specs.Problem.{shape_of};
 ghost use Rattle.hw_model.specs.Lits.{IsClause};
-ghost use Rattle.hw_cert.specs.declared.line.Line.{Line};
-ghost use Rattle.hw_cert.specs.Lines as lines;
-ghost use Rattle.hw_cert.specs.Valid.{LineFits, verdict};
+ghost use Rattle.hw_lines.specs.declared.line.Line.{Line};
+ghost use Rattle.hw_lines.specs.Lines as lines;
+ghost use Rattle.hw_lines.specs.Valid.{LineFits, verdict};
 ghost use Rattle.hw_check.specs.States.{no_lines, state_refusal, state_after, state_verdict, with_clause, is_past, claim, numbered};
 ghost use Rattle.hw_check.specs.Follows.{Follows, Answers, Stops, live_numbers};
 
 use crate::clause_list::ClauseList;
 use crate::refusing::{claim, clause_of, refused};
 use crate::stop::CheckStop;
-use hw_cert::{CheckWord, Line, Refusal, Verdict};
+use hw_lines::{CheckWord, Line, Refusal, Verdict};
 use hw_flat::{Flat, Room};
 use hw_lits::Clause;
 use hw_model::NoMemory;

@@ -15,7 +15,7 @@ mod stop;
 mod tests;
 
 pub use checker::Checker;
-pub use hw_cert::{CheckWord, Refusal, Verdict};
+pub use hw_lines::{CheckWord, Refusal, Verdict};
 pub use hw_verdict::{sound_lines, sound_verdict};
 pub use laws::{followed_line, followed_refusal, followed_verdict};
 pub use stop::CheckStop;

@@ -6,14 +6,14 @@ ghost use Rattle.hw_model.specs.Lits.{IsClause};
 ghost use Rattle.hw_model.specs.Refuting.{IsSourceOf};
 ghost use Rattle.hw_model.specs.Tests as tests;
 ghost use Rattle.hw_model.specs.Replay.{replay};
-ghost use Rattle.hw_cert.specs.Lines as lines;
-ghost use Rattle.hw_cert.specs.Valid.{LineFits, denied_room};
-ghost use Rattle.hw_cert.specs.Refusals as refusals;
+ghost use Rattle.hw_lines.specs.Lines as lines;
+ghost use Rattle.hw_lines.specs.Valid.{LineFits, denied_room};
+ghost use Rattle.hw_lines.specs.Refusals as refusals;
 ghost use Rattle.hw_check.specs.States.{numbered, named, LitsFit};
 ghost use Rattle.hw_check.specs.States as states;
 
 use crate::clause_list::ClauseList;
-use hw_cert::{CheckWord, Line, Refusal};
+use hw_lines::{CheckWord, Line, Refusal};
 use hw_flat::{Flat, Room, Source, Timetable};
 use hw_lits::{Clause, Narrowed, deny, narrow_lits};
 use hw_rules::{broken, cargo, refuted};

@@ -1,11 +1,11 @@
 ghost use Rattle.std.specs.Prelude.{IfOk, IfSome};
 ghost use Rattle.hw_model.specs.Problem.{shape_of};
 ghost use Rattle.hw_model.specs.Lits.{IsClause};
-ghost use Rattle.hw_cert.specs.Valid.{LineFits};
+ghost use Rattle.hw_lines.specs.Valid.{LineFits};
 
 use crate::checker::Checker;
 use crate::stop::CheckStop;
-use hw_cert::{CheckWord, Hints, Line, Refusal, Verdict};
+use hw_lines::{CheckWord, Hints, Line, Refusal, Verdict};
 use hw_flat::{Flat, Timetable};
 use hw_lits::{Clause, Lit};
 use std::alloc::Global;

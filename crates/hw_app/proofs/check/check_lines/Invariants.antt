@@ -2,7 +2,7 @@ use Rattle.std.proofs.Common.{◌-◌, ◌^◌, ℕ, List, []}
 use Rattle.hw_desk.specs.Calls.{Moves}
 use Rattle.hw_desk.specs.declared.desk.Feed.TheVariants.{Certificate}
 use Rattle.hw_cert.specs.Nexts.{rest_of}
-use Rattle.hw_cert.specs.declared.line.Line.{Line}
+use Rattle.hw_lines.specs.declared.line.Line.{Line}
 use Rattle.hw_app.specs.Checking.{IsReady, Reached, rest_report}
 use Rattle.hw_app.proofs.check.check_lines.Given as goal
 

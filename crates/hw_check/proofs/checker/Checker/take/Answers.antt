@@ -1,5 +1,5 @@
 use Rattle.std.proofs.Common.{None, ◌≡◌, subst, sym, ap, ◌∙◌}
-use Rattle.hw_cert.specs.declared.line.Line.TheVariants.{Delete}
+use Rattle.hw_lines.specs.declared.line.Line.TheVariants.{Delete}
 use Rattle.hw_check.specs.States.{state_refusal}
 use Rattle.hw_check.proofs.Following.{delete_live}
 use Rattle.hw_check.proofs.checker.Checker.take.Goals as goal

@@ -1,5 +1,5 @@
 use Rattle.std.proofs.Common.{◌≡◌, sym, ◌∙◌, rules}
-use Rattle.hw_cert.specs.declared.check.Verdict.TheVariants.{Optimal, Infeasible, Unfinished}
+use Rattle.hw_lines.specs.declared.check.Verdict.TheVariants.{Optimal, Infeasible, Unfinished}
 use Rattle.hw_check.specs.States.{state_verdict}
 use Rattle.hw_check.proofs.Following.{followed_verdict}
 use Rattle.hw_check.proofs.checker.Checker.verdict.Goals as goal
