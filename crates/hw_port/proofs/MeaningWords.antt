@@ -2,6 +2,7 @@
 use Rattle.std.proofs.Common.{◌≡◌, ℕ, ◌+◌, ℤ, negsuc, Bool, true, false, not, ◌&&◌, List, [], ◌∷◌, length, Option, Some, None, nat_le, int_le, int_lt, subst, sym, Result, Ok, Err, IfErr}
 use Rattle.hw_port.specs.declared.fault.Path.{Path}
 use Rattle.hw_port.specs.declared.fault.PortFault.{PortFault}
+use Rattle.hw_port.specs.declared.places.Place.TheVariants as places
 use Rattle.hw_port.specs.declared.fault.PortWord.{PortWord}
 use Rattle.hw_port.specs.declared.fault.PortWord.TheVariants.{Range, Count, Name, Repeat, Order, Side}
 use Rattle.hw_port.specs.declared.parts.Waypoint.{Waypoint}
@@ -96,7 +97,7 @@ of_channel i sections channel = either _ _ (of_count _ _ _ _) (of_stretches i se
 
 of_sort : (all : List ShipParts) (classes : ℤ) (i : ℕ) (s : ShipParts) → Means (sort_fault all classes i s)
 unfolding sort_fault
-of_sort all classes i s = either _ _ (of_name _ _ _) (either _ _ (of_test (at_item 20 i) Name (is_direction s.direction) tt) (of_place _ _ _))
+of_sort all classes i s = either _ _ (of_name _ _ _) (either _ _ (of_test (at_item places.ShipDirection i) Name (is_direction s.direction) tt) (of_place _ _ _))
 
 of_window : (i : ℕ) (slots earliest latest : ℤ) → Means (window_fault i slots earliest latest)
 unfolding window_fault

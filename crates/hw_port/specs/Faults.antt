@@ -3,6 +3,8 @@ use Rattle.std.specs.Prelude.{ℕ, ◌+◌, List, [], ◌∷◌, Bool, true, fal
 use Rattle.hw_port.specs.declared.fault.Path.{Path}
 use Rattle.hw_port.specs.declared.fault.PortFault.{PortFault}
 use Rattle.hw_port.specs.declared.fault.PortWord.{PortWord}
+use Rattle.hw_port.specs.declared.places.Place.{Place}
+use Rattle.hw_port.specs.Places.{number_of}
 
 -- the first of two faults
 infixr 10 ◌or_else◌
@@ -26,11 +28,11 @@ fault_of (Ok x) = None
 fault_of (Err f) = Some f
 
 -- a place with no star, with one, with two
-abbrev pub at : ℕ → Path
-at field = record { field = field; first = None; second = None }
+abbrev pub at : Place → Path
+at place = record { field = number_of place; first = None; second = None }
 
-abbrev pub at_item : ℕ → ℕ → Path
-at_item field i = record { field = field; first = Some i; second = None }
+abbrev pub at_item : Place → ℕ → Path
+at_item place i = record { field = number_of place; first = Some i; second = None }
 
-abbrev pub at_part : ℕ → ℕ → ℕ → Path
-at_part field i j = record { field = field; first = Some i; second = Some j }
+abbrev pub at_part : Place → ℕ → ℕ → Path
+at_part place i j = record { field = number_of place; first = Some i; second = Some j }

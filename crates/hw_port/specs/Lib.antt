@@ -1,5 +1,6 @@
 pub mod Parts
 pub mod Whole
+pub mod Places
 pub mod Faults
 pub mod Rules
 pub mod Ships

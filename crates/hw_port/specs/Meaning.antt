@@ -3,6 +3,7 @@ use Rattle.std.specs.Prelude.{ℕ, ℤ, pos, negsuc, List, length, take, Bool, f
 use Rattle.std.specs.List.{slice_get}
 use Rattle.hw_port.specs.declared.fault.Path.{Path}
 use Rattle.hw_port.specs.declared.fault.PortFault.{PortFault}
+use Rattle.hw_port.specs.declared.places.Place.TheVariants as places
 use Rattle.hw_port.specs.declared.fault.PortWord.{PortWord}
 use Rattle.hw_port.specs.declared.fault.PortWord.TheVariants.{Missing, Kind, Other, Range, Count, Name, Repeat, Order, Side}
 use Rattle.hw_port.specs.declared.parts.Waypoint.{Waypoint}
@@ -17,51 +18,51 @@ use Rattle.hw_port.specs.Ships.{ship_fault}
 
 unfoldable pub calendar_fault : ℤ → ℤ → ℤ → Option PortFault
 calendar_fault version slots slot_minutes =
-    range (at 1) (pos 1) (pos 2) version
-    or_else range (at 2) (pos 1) (pos 512) slots
-    or_else range (at 3) (pos 1) (pos 1440) slot_minutes
+    range (at places.Version) (pos 1) (pos 2) version
+    or_else range (at places.Slots) (pos 1) (pos 512) slots
+    or_else range (at places.SlotMinutes) (pos 1) (pos 1440) slot_minutes
 
 unfoldable pub waypoint_fault : List Waypoint → ℕ → Waypoint → Option PortFault
 waypoint_fault all i w =
-    new_name (at_item 6 i) (among (λ v. v.name) w.name (take i all)) w.name
-    or_else range (at_item 7 i) (pos 0) (pos 10000) w.depth
+    new_name (at_item places.WaypointName i) (among (λ v. v.name) w.name (take i all)) w.name
+    or_else range (at_item places.WaypointDepth i) (pos 0) (pos 10000) w.depth
 
 unfoldable pub waypoints_fault : List Waypoint → Option PortFault
 waypoints_fault waypoints =
-    count (at 4) 1 16 (length waypoints)
+    count (at places.Waypoints) 1 16 (length waypoints)
     or_else each (waypoint_fault waypoints) 0 waypoints
 
 unfoldable pub section_fault : List Section → ℕ → Section → Option PortFault
-section_fault all i s = new_name (at_item 9 i) (among (λ v. v.name) s.name (take i all)) s.name
+section_fault all i s = new_name (at_item places.Section i) (among (λ v. v.name) s.name (take i all)) s.name
 
 unfoldable pub sections_fault : List Section → Option PortFault
 sections_fault sections =
-    count (at 8) 0 8 (length sections)
+    count (at places.Sections) 0 8 (length sections)
     or_else each (section_fault sections) 0 sections
 
 unfoldable pub gap_fault : ℕ → ℕ → ℤ → Option PortFault
-gap_fault i j gap = range (at_part 12 i j) (pos 1) (pos 512) gap
+gap_fault i j gap = range (at_part places.SeparationGap i j) (pos 1) (pos 512) gap
 
 unfoldable pub row_fault : ℕ → ℕ → List ℤ → Option PortFault
 row_fault classes i row =
-    count (at_item 11 i) classes classes (length row)
+    count (at_item places.SeparationRow i) classes classes (length row)
     or_else each (gap_fault i) 0 row
 
 -- as many rows as there are classes, and as many numbers in each
 unfoldable pub separation_fault : List (List ℤ) → Option PortFault
 separation_fault separation =
-    count (at 10) 1 8 (length separation)
+    count (at places.Separation) 1 8 (length separation)
     or_else each (row_fault (length separation)) 0 separation
 
 unfoldable pub tug_fault : Turnaround → ℤ → Option PortFault
 tug_fault turnaround fleet =
-    range (at 14) (pos 0) (pos 512) turnaround.outgoing
-    or_else range (at 15) (pos 0) (pos 512) turnaround.incoming
-    or_else range (at 16) (pos 0) (pos 1000) fleet
+    range (at places.TurnaroundOutgoing) (pos 0) (pos 512) turnaround.outgoing
+    or_else range (at places.TurnaroundIncoming) (pos 0) (pos 512) turnaround.incoming
+    or_else range (at places.Fleet) (pos 0) (pos 1000) fleet
 
 unfoldable pub ships_fault : Parts → Option PortFault
 ships_fault p =
-    count (at 17) 1 40 (length p.ships)
+    count (at places.Ships) 1 40 (length p.ships)
     or_else each (ship_fault p) 0 p.ships
 
 -- the ship of a place
@@ -81,13 +82,13 @@ side_fault path direction ships ship =
 
 unfoldable pub berth_fault : List ShipParts → ℕ → BerthPair → Option PortFault
 berth_fault ships i b =
-    side_fault (at_item 41 i) outgoing ships b.outgoing
-    or_else side_fault (at_item 42 i) incoming ships b.incoming
-    or_else range (at_item 43 i) (pos 1) (pos 512) b.clear
+    side_fault (at_item places.BerthOutgoing i) outgoing ships b.outgoing
+    or_else side_fault (at_item places.BerthIncoming i) incoming ships b.incoming
+    or_else range (at_item places.BerthClear i) (pos 1) (pos 512) b.clear
 
 unfoldable pub berths_fault : List ShipParts → List BerthPair → Option PortFault
 berths_fault ships berths =
-    count (at 39) 0 200 (length berths)
+    count (at places.Berths) 0 200 (length berths)
     or_else each (berth_fault ships) 0 berths
 
 -- the first fault of meaning, in the order of the table

@@ -1,5 +1,8 @@
 //! Why an instance is refused.
 
+ghost use Rattle.std.specs.Prelude.{◌≡◌, ◌≤◌, length};
+ghost use Rattle.hw_port.specs.Places.{word_text};
+
 /// A place of an instance: the number of its row in the table of places, and the numbers of the
 /// list items on the way to it.
 #[derive(Clone, Copy, Debug, PartialEq, Eq)]
@@ -30,6 +33,26 @@ pub enum PortWord {
     Order,
     /// A ship of a berth pair has the other direction.
     Side,
+}
+
+impl PortWord {
+    /// The word by which a report tells it.
+    pub fn text(self) -> &'static [u8]
+        ensures text { result.now ≡ word_text self }
+        ensures short { length result.now ≤ 16 }
+    {
+        match self {
+            PortWord::Missing => b"missing",
+            PortWord::Kind => b"kind",
+            PortWord::Other => b"other",
+            PortWord::Range => b"range",
+            PortWord::Count => b"count",
+            PortWord::Name => b"name",
+            PortWord::Repeat => b"repeat",
+            PortWord::Order => b"order",
+            PortWord::Side => b"side",
+        }
+    }
 }
 
 /// The first fault of an instance.

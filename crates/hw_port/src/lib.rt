@@ -4,6 +4,7 @@
 mod fault;
 mod meaning;
 mod parts;
+mod places;
 mod port;
 mod rules;
 mod ships;
@@ -14,4 +15,5 @@ pub use fault::{Path, PortFault, PortWord};
 pub use parts::{
     BerthPair, Pass, PortParts, Row, Section, Ship, Stretch, Text, Turnaround, Waypoint,
 };
+pub use places::{Place, text_at_number};
 pub use port::Port;

@@ -8,6 +8,7 @@ ghost use Rattle.hw_port.specs.Meaning.{calendar_fault, waypoint_fault, waypoint
 
 use crate::fault::{Path, PortFault, PortWord};
 use crate::parts::{BerthPair, PortParts, Row, Section, Ship, Turnaround, Waypoint};
+use crate::places::Place;
 use crate::rules::{at, at_item, at_part, count, new_name, place, range, unless};
 use crate::ships::test_ship;
 
@@ -15,9 +16,9 @@ use crate::ships::test_ship;
 fn calendar(version: i64, slots: i64, slot_minutes: i64) -> Result<(), PortFault>
     ensures { fault_of result ≡ calendar_fault version slots slot_minutes }
 {
-    range(at(1), 1, 2, version)?;
-    range(at(2), 1, 512, slots)?;
-    range(at(3), 1, 1440, slot_minutes)
+    range(at(Place::Version), 1, 2, version)?;
+    range(at(Place::Slots), 1, 512, slots)?;
+    range(at(Place::SlotMinutes), 1, 1440, slot_minutes)
 }
 
 /// Whether an earlier waypoint has the name.
@@ -33,8 +34,8 @@ fn test_waypoint(all: &[Waypoint], i: u32, w: &Waypoint) -> Result<(), PortFault
     ensures { fault_of result ≡ waypoint_fault all.now i w.now }
 {
     let used = waypoint_has(&w.name.items, &all[..i as usize]);
-    new_name(at_item(6, i), used, &w.name.items)?;
-    range(at_item(7, i), 0, 10000, w.depth)
+    new_name(at_item(Place::WaypointName, i), used, &w.name.items)?;
+    range(at_item(Place::WaypointDepth, i), 0, 10000, w.depth)
 }
 
 fn each_waypoint(all: &[Waypoint]) -> Result<(), PortFault>
@@ -51,7 +52,7 @@ fn each_waypoint(all: &[Waypoint]) -> Result<(), PortFault>
 fn waypoints(all: &[Waypoint]) -> Result<(), PortFault>
     ensures { fault_of result ≡ waypoints_fault all.now }
 {
-    count(at(4), 1, 16, all.len())?;
+    count(at(Place::Waypoints), 1, 16, all.len())?;
     each_waypoint(all)
 }
 
@@ -68,7 +69,7 @@ fn test_section(all: &[Section], i: u32, s: &Section) -> Result<(), PortFault>
     ensures { fault_of result ≡ section_fault all.now i s.now }
 {
     let used = section_has(&s.name.items, &all[..i as usize]);
-    new_name(at_item(9, i), used, &s.name.items)
+    new_name(at_item(Place::Section, i), used, &s.name.items)
 }
 
 fn each_section(all: &[Section]) -> Result<(), PortFault>
@@ -85,7 +86,7 @@ fn each_section(all: &[Section]) -> Result<(), PortFault>
 fn sections(all: &[Section]) -> Result<(), PortFault>
     ensures { fault_of result ≡ sections_fault all.now }
 {
-    count(at(8), 0, 8, all.len())?;
+    count(at(Place::Sections), 0, 8, all.len())?;
     each_section(all)
 }
 
@@ -93,7 +94,7 @@ fn sections(all: &[Section]) -> Result<(), PortFault>
 fn gap(i: u32, j: u32, gap: i64) -> Result<(), PortFault>
     ensures { fault_of result ≡ gap_fault i j gap }
 {
-    range(at_part(12, i, j), 1, 512, gap)
+    range(at_part(Place::SeparationGap, i, j), 1, 512, gap)
 }
 
 fn each_gap(i: u32, row: &[i64]) -> Result<(), PortFault>
@@ -112,7 +113,12 @@ fn test_row(classes: usize, i: u32, row: &Row) -> Result<(), PortFault>
     requires { classes ≤ 8 }
     ensures { fault_of result ≡ row_fault classes i row.now }
 {
-    count(at_item(11, i), classes, classes, row.items.len())?;
+    count(
+        at_item(Place::SeparationRow, i),
+        classes,
+        classes,
+        row.items.len(),
+    )?;
     each_gap(i, &row.items)
 }
 
@@ -130,7 +136,7 @@ fn each_row(rows: &[Row]) -> Result<(), PortFault>
 fn separation(rows: &[Row]) -> Result<(), PortFault>
     ensures { fault_of result ≡ separation_fault rows.now }
 {
-    count(at(10), 1, 8, rows.len())?;
+    count(at(Place::Separation), 1, 8, rows.len())?;
     each_row(rows)
 }
 
@@ -138,9 +144,9 @@ fn separation(rows: &[Row]) -> Result<(), PortFault>
 fn tug_times(turnaround: &Turnaround, fleet: i64) -> Result<(), PortFault>
     ensures { fault_of result ≡ tug_fault turnaround.now fleet }
 {
-    range(at(14), 0, 512, turnaround.outgoing)?;
-    range(at(15), 0, 512, turnaround.incoming)?;
-    range(at(16), 0, 1000, fleet)
+    range(at(Place::TurnaroundOutgoing), 0, 512, turnaround.outgoing)?;
+    range(at(Place::TurnaroundIncoming), 0, 512, turnaround.incoming)?;
+    range(at(Place::Fleet), 0, 1000, fleet)
 }
 
 fn each_ship(p: &PortParts) -> Result<(), PortFault>
@@ -157,7 +163,7 @@ fn each_ship(p: &PortParts) -> Result<(), PortFault>
 fn ships(p: &PortParts) -> Result<(), PortFault>
     ensures { fault_of result ≡ ships_fault p.now }
 {
-    count(at(17), 1, 40, p.ships.len())?;
+    count(at(Place::Ships), 1, 40, p.ships.len())?;
     each_ship(p)
 }
 
@@ -186,9 +192,19 @@ fn side(path: Path, direction: &[u8], ships: &[Ship], ship: i64) -> Result<(), P
 fn berth(ships: &[Ship], i: u32, pair: &BerthPair) -> Result<(), PortFault>
     ensures { fault_of result ≡ berth_fault ships.now i pair.now }
 {
-    side(at_item(41, i), b"outgoing", ships, pair.outgoing)?;
-    side(at_item(42, i), b"incoming", ships, pair.incoming)?;
-    range(at_item(43, i), 1, 512, pair.clear)
+    side(
+        at_item(Place::BerthOutgoing, i),
+        b"outgoing",
+        ships,
+        pair.outgoing,
+    )?;
+    side(
+        at_item(Place::BerthIncoming, i),
+        b"incoming",
+        ships,
+        pair.incoming,
+    )?;
+    range(at_item(Place::BerthClear, i), 1, 512, pair.clear)
 }
 
 fn each_berth(ships: &[Ship], pairs: &[BerthPair]) -> Result<(), PortFault>
@@ -205,7 +221,7 @@ fn each_berth(ships: &[Ship], pairs: &[BerthPair]) -> Result<(), PortFault>
 fn berths(ships: &[Ship], pairs: &[BerthPair]) -> Result<(), PortFault>
     ensures { fault_of result ≡ berths_fault ships.now pairs.now }
 {
-    count(at(39), 0, 200, pairs.len())?;
+    count(at(Place::Berths), 0, 200, pairs.len())?;
     each_berth(ships, pairs)
 }
 

@@ -7,35 +7,36 @@ ghost use Rattle.hw_port.specs.Rules.{is_name as name_test, is_direction as dire
 ghost use Rattle.hw_port.specs.Rules.{range as range_rule, place as place_rule, count as count_rule, at_least as at_least_rule, above as above_rule, new_name as new_name_rule};
 
 use crate::fault::{Path, PortFault, PortWord};
+use crate::places::Place;
 
 /// A place on no list.
-pub fn at(field: u32) -> Path
-    ensures { result ≡ at_path field }
+pub fn at(place: Place) -> Path
+    ensures { result ≡ at_path place }
 {
     Path {
-        field,
+        field: place.number(),
         first: None,
         second: None,
     }
 }
 
 /// A place in an item of a list.
-pub fn at_item(field: u32, first: u32) -> Path
-    ensures { result ≡ item_path field first }
+pub fn at_item(place: Place, first: u32) -> Path
+    ensures { result ≡ item_path place first }
 {
     Path {
-        field,
+        field: place.number(),
         first: Some(first),
         second: None,
     }
 }
 
 /// A place in an item of a list that is in an item of a list.
-pub fn at_part(field: u32, first: u32, second: u32) -> Path
-    ensures { result ≡ part_path field first second }
+pub fn at_part(place: Place, first: u32, second: u32) -> Path
+    ensures { result ≡ part_path place first second }
 {
     Path {
-        field,
+        field: place.number(),
         first: Some(first),
         second: Some(second),
     }

@@ -7,6 +7,7 @@ ghost use Rattle.hw_port.specs.Ships.{sort_fault, window_fault, load_fault, pass
 
 use crate::fault::{PortFault, PortWord};
 use crate::parts::{Pass, PortParts, Ship, Stretch};
+use crate::places::Place;
 use crate::rules::{
     above, at_item, at_least, at_part, count, is_direction, new_name, place, range, unless,
 };
@@ -25,13 +26,13 @@ fn sort(all: &[Ship], classes: i64, i: u32, s: &Ship) -> Result<(), PortFault>
     ensures { fault_of result ≡ sort_fault all.now classes i s.now }
 {
     let used = has_name(&s.name.items, &all[..i as usize]);
-    new_name(at_item(19, i), used, &s.name.items)?;
+    new_name(at_item(Place::ShipName, i), used, &s.name.items)?;
     unless(
-        at_item(20, i),
+        at_item(Place::ShipDirection, i),
         PortWord::Name,
         is_direction(&s.direction.items),
     )?;
-    place(at_item(21, i), classes, s.class)
+    place(at_item(Place::ShipClass, i), classes, s.class)
 }
 
 /// The first and the last slot of a ship.
@@ -39,9 +40,9 @@ fn sort(all: &[Ship], classes: i64, i: u32, s: &Ship) -> Result<(), PortFault>
 fn window(i: u32, slots: i64, earliest: i64, latest: i64) -> Result<(), PortFault>
     ensures { fault_of result ≡ window_fault i slots earliest latest }
 {
-    place(at_item(22, i), slots, earliest)?;
-    place(at_item(23, i), slots, latest)?;
-    at_least(at_item(23, i), earliest, latest)
+    place(at_item(Place::ShipEarliest, i), slots, earliest)?;
+    place(at_item(Place::ShipLatest, i), slots, latest)?;
+    at_least(at_item(Place::ShipLatest, i), earliest, latest)
 }
 
 /// What a ship carries per centimetre, and its drafts.
@@ -49,19 +50,19 @@ fn window(i: u32, slots: i64, earliest: i64, latest: i64) -> Result<(), PortFaul
 fn load(i: u32, tpc: i64, light: i64, deep: i64) -> Result<(), PortFault>
     ensures { fault_of result ≡ load_fault i tpc light deep }
 {
-    range(at_item(24, i), 0, 3000, tpc)?;
-    range(at_item(25, i), 0, 10000, light)?;
-    range(at_item(26, i), 0, 10000, deep)?;
-    at_least(at_item(26, i), light, deep)
+    range(at_item(Place::ShipTpc, i), 0, 3000, tpc)?;
+    range(at_item(Place::ShipLight, i), 0, 10000, light)?;
+    range(at_item(Place::ShipDeep, i), 0, 10000, deep)?;
+    at_least(at_item(Place::ShipDeep, i), light, deep)
 }
 
 #[tactic(auto, unfolding(crate::specs::Ships::pass_fault))]
 fn pass(i: u32, waypoints: i64, j: u32, p: &Pass) -> Result<(), PortFault>
     ensures { fault_of result ≡ pass_fault i waypoints j p.now }
 {
-    place(at_part(29, i, j), waypoints, p.waypoint)?;
-    range(at_part(30, i, j), 0, 1023, p.offset)?;
-    range(at_part(31, i, j), 0, 1000, p.clearance)
+    place(at_part(Place::PassWaypoint, i, j), waypoints, p.waypoint)?;
+    range(at_part(Place::PassOffset, i, j), 0, 1023, p.offset)?;
+    range(at_part(Place::PassClearance, i, j), 0, 1000, p.clearance)
 }
 
 fn each_pass(i: u32, waypoints: i64, route: &[Pass]) -> Result<(), PortFault>
@@ -78,7 +79,7 @@ fn each_pass(i: u32, waypoints: i64, route: &[Pass]) -> Result<(), PortFault>
 fn route(i: u32, waypoints: i64, route: &[Pass]) -> Result<(), PortFault>
     ensures { fault_of result ≡ route_fault i waypoints route.now }
 {
-    count(at_item(27, i), 1, 16, route.len())?;
+    count(at_item(Place::ShipRoute, i), 1, 16, route.len())?;
     each_pass(i, waypoints, route)
 }
 
@@ -87,11 +88,11 @@ fn route(i: u32, waypoints: i64, route: &[Pass]) -> Result<(), PortFault>
 fn test_stretch(i: u32, sections: i64, j: u32, before: i64, s: &Stretch) -> Result<(), PortFault>
     ensures { fault_of result ≡ stretch_fault i sections j before s.now }
 {
-    place(at_part(34, i, j), sections, s.section)?;
-    above(at_part(34, i, j), before, s.section)?;
-    range(at_part(35, i, j), 0, 511, s.enter)?;
-    range(at_part(36, i, j), 1, 512, s.leave)?;
-    above(at_part(36, i, j), s.enter, s.leave)
+    place(at_part(Place::StretchSection, i, j), sections, s.section)?;
+    above(at_part(Place::StretchSection, i, j), before, s.section)?;
+    range(at_part(Place::StretchEnter, i, j), 0, 511, s.enter)?;
+    range(at_part(Place::StretchLeave, i, j), 1, 512, s.leave)?;
+    above(at_part(Place::StretchLeave, i, j), s.enter, s.leave)
 }
 
 fn each_stretch(i: u32, sections: i64, channel: &[Stretch]) -> Result<(), PortFault>
@@ -110,7 +111,7 @@ fn each_stretch(i: u32, sections: i64, channel: &[Stretch]) -> Result<(), PortFa
 fn channel(i: u32, sections: i64, channel: &[Stretch]) -> Result<(), PortFault>
     ensures { fault_of result ≡ channel_fault i sections channel.now }
 {
-    count(at_item(32, i), 0, 8, channel.len())?;
+    count(at_item(Place::ShipChannel, i), 0, 8, channel.len())?;
     each_stretch(i, sections, channel)
 }
 
@@ -118,8 +119,8 @@ fn channel(i: u32, sections: i64, channel: &[Stretch]) -> Result<(), PortFault>
 fn tugs(i: u32, tugs: i64, job: i64) -> Result<(), PortFault>
     ensures { fault_of result ≡ tugs_fault i tugs job }
 {
-    range(at_item(37, i), 0, 64, tugs)?;
-    range(at_item(38, i), 1, 512, job)
+    range(at_item(Place::ShipTugs, i), 0, 64, tugs)?;
+    range(at_item(Place::ShipJob, i), 1, 512, job)
 }
 
 /// All rules of the ship at a place.
