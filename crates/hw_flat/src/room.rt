@@ -62,6 +62,16 @@ impl Room {
         })
     }
 
+    /// Takes the ranges and orders of a room of as many ships. It takes no memory.
+    pub fn copy_from(&mut self, other: &Room)
+        requires same_ships { self.old.ships ≡ other.now.ships }
+        ensures value { self.new ≡ other.now }
+    {
+        self.slots = other.slots;
+        self.ranges.copy_from_slice(&other.ranges);
+        self.orders.copy_from_slice(&other.orders);
+    }
+
     /// The number of ships.
     pub fn ships(&self) -> u32
         ensures value { result ≡ self.now.ships }

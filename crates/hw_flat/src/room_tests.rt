@@ -50,6 +50,9 @@ fn readers_and_setters(rt: HostRuntime) -> Result<(), Fail> {
     assert_eq!(rt; copy.order(0, 1), Order::First);
     room.reset();
     assert_whole(&rt, &room);
+    room.copy_from(&copy);
+    assert_eq!(rt; (room.low(0), room.high(0)), (2, 2), "taken from the copy");
+    assert_eq!(rt; room.order(0, 1), Order::First, "taken from the copy");
     Ok(())
 }
 

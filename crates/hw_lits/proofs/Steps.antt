@@ -1,23 +1,21 @@
 -- One step of a replay, literal by literal.
-use Rattle.std.proofs.Common.{zero, suc, ◌-◌, ◌≡◌, ℕ, ◌+◌, ◌<◌, ◌≤◌, ◌||◌, Bool, true, false, List, [], ◌∷◌, ◌++◌, length, take, get_or, refl, sym, ap, ◌∙◌, subst, arith, All, cond}
+use Rattle.std.proofs.Common.{zero, suc, ◌-◌, ◌≡◌, ℕ, ◌+◌, ◌<◌, ◌≤◌, ◌||◌, Bool, true, false, List, [], ◌∷◌, ◌++◌, length, take, get_or, refl, sym, ap, ◌∙◌, subst, arith, cond}
 use Rattle.std.proofs.lemmas.List.{take_more, take_all}
 use Rattle.std.proofs.lemmas.List.Folds.{list_any_more, list_any_kept}
-use Rattle.std.proofs.lemmas.List.Elements.{filter-append, All-get_or}
+use Rattle.std.proofs.lemmas.List.Elements.{filter-append}
 use Rattle.hw_model.specs.declared.lit.Lit.{Lit}
 use Rattle.hw_model.specs.declared.lit.LitTruth.TheVariants.{True, False, Free}
 use Rattle.hw_model.specs.declared.narrowing.Narrowed.{Narrowed}
-use Rattle.hw_model.specs.declared.narrowing.Narrowed.TheVariants.{Same, Cut, Conflict, Loose}
+use Rattle.hw_model.specs.declared.narrowing.Narrowed.TheVariants.{Same}
 use Rattle.hw_model.specs.Rooms.{RoomModel}
 use Rattle.hw_model.specs.Narrowing.{truth}
 use Rattle.hw_model.specs.Replay.{is_true, is_free, some_true, free_lits, step_by, narrowing}
-use Rattle.hw_laws.specs.Laws.{IsLitOf}
-use Rattle.hw_lits.specs.Cuts.{CutsFree, with_free}
+use Rattle.hw_lits.specs.Steps.{with_free}
 
 -- the step of the literals up to a place, none of which is True
 pub record IsStepOf (room : RoomModel) (all : List Lit) (place : ℕ) (step : Narrowed) : Type 0 where
   pub none_true : some_true room (take place all) ≡ false
   pub so_far : step ≡ step_by false (free_lits room (take place all))
-  pub free : CutsFree room step
 
 one_more : (free : List Lit) (lit : Lit) → step_by false (free ++ lit ∷ []) ≡ with_free (step_by false free) lit
 one_more [] lit = refl
@@ -50,20 +48,12 @@ pub step_false : (room : RoomModel) (all : List Lit) (place : ℕ) (step : Narro
 step_false room all place step lit s lt e is = record {
   none_true = still_none room all place lit lt e s.none_true (ap is_true is);
   so_far = s.so_far ∙ ap (step_by false) (sym (free_of room all place lit lt e ∙ ap (λ l. free_lits room (take place all) ++ l) (free_none room lit (ap is_free is)) ∙ append_none (free_lits room (take place all))));
-  free = s.free;
 }
 
-cuts_free : (room : RoomModel) (step : Narrowed) (lit : Lit) → CutsFree room step → truth room lit ≡ Free → IsLitOf room.ships lit → CutsFree room (with_free step lit)
-cuts_free room Same lit h is of = tt
-cuts_free room Conflict lit h is of = (is, of)
-cuts_free room (Cut first) lit h is of = tt
-cuts_free room (Loose first second) lit h is of = tt
-
-pub step_free : (room : RoomModel) (all : List Lit) (place : ℕ) (step : Narrowed) (lit : Lit) → All (IsLitOf room.ships) all → IsStepOf room all place step → place < length all → lit ≡ get_or all place lit → truth room lit ≡ Free → IsStepOf room all (place + 1) (with_free step lit)
-step_free room all place step lit fits s lt e is = record {
+pub step_free : (room : RoomModel) (all : List Lit) (place : ℕ) (step : Narrowed) (lit : Lit) → IsStepOf room all place step → place < length all → lit ≡ get_or all place lit → truth room lit ≡ Free → IsStepOf room all (place + 1) (with_free step lit)
+step_free room all place step lit s lt e is = record {
   none_true = still_none room all place lit lt e s.none_true (ap is_true is);
   so_far = ap (λ n. with_free n lit) s.so_far ∙ sym (ap (step_by false) (free_of room all place lit lt e ∙ ap (λ l. free_lits room (take place all) ++ l) (free_one room lit (ap is_free is))) ∙ one_more (free_lits room (take place all)) lit);
-  free = cuts_free room step lit s.free is (subst (IsLitOf room.ships) (sym e) (All-get_or (IsLitOf room.ships) all place lit lt fits));
 }
 
 pub step_ends : (room : RoomModel) (all : List Lit) (place : ℕ) (step : Narrowed) → IsStepOf room all place step → length all ≤ place → step ≡ narrowing all room

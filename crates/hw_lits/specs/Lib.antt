@@ -1,3 +1,4 @@
 pub mod Normal
 pub mod Faults
 pub mod Cuts
+pub mod Steps

@@ -45,6 +45,15 @@ impl Clause {
         Ok(Clause { lits })
     }
 
+    /// The clause of literals that are known to be in normal form. They are neither tested nor
+    /// copied.
+    pub fn of_normal(lits: Vec<Lit>) -> Clause
+        requires normal { IsNormal lits.items }
+        ensures value { result ≡ lits.items }
+    {
+        Clause { lits }
+    }
+
     /// A clause of the same literals.
     pub fn copy(&self, alloc: Global) -> Result<Clause, NoMemory>
         ensures value { IfOk result (λ clause. clause ≡ self.now) }

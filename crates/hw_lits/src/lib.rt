@@ -8,7 +8,8 @@ mod denying;
 mod fault;
 mod form;
 mod found;
-mod narrowing;
+mod laws;
+mod stepping;
 #[cfg(test)]
 mod tests;
 
@@ -21,4 +22,5 @@ pub use hw_laws::{
     cut_is_room, cut_room, denied_is_room, denied_room, sound_replay, truth_in_room,
 };
 pub use hw_model::{Lit, LitTruth, Narrowed};
-pub use narrowing::{narrow, narrow_lits};
+pub use laws::{clause_ascends, clause_is_normal, one_of_a_side, step_tells};
+pub use stepping::{narrow, narrow_lits, narrowing, narrowing_lits};

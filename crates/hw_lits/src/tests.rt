@@ -6,7 +6,7 @@ use crate::clause::Clause;
 use crate::cutting::{cut, truth};
 use crate::denying::deny;
 use crate::fault::ClauseFault;
-use crate::narrowing::narrow;
+use crate::stepping::{narrow, narrowing};
 use hw_flat::{Order, Room, Shape};
 use hw_model::{Lit, LitTruth, Narrowed};
 use std::alloc::Global;
@@ -184,10 +184,12 @@ fn steps_of_a_replay(rt: HostRuntime) -> Result<(), Fail> {
     room.put(0, 0, 1);
     room.put(1, 0, 1);
     assert_eq!(rt;
-        narrow(&clause, &mut room),
+        narrowing(&clause, &room),
         Narrowed::Cut(f(0, 1)),
         "one open literal"
     );
+    assert_eq!(rt; room.order(0, 1), Order::Unset, "the room is only read");
+    assert_eq!(rt; narrow(&clause, &mut room), Narrowed::Cut(f(0, 1)));
     assert_eq!(rt; room.order(0, 1), Order::First, "the room is cut");
     assert_eq!(rt;
         narrow(&clause, &mut room),
