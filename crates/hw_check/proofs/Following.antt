@@ -10,7 +10,8 @@ use Rattle.hw_model.specs.declared.lit.Lit.{Lit}
 use Rattle.hw_model.specs.declared.source.Source.TheVariants as sources
 use Rattle.hw_model.specs.Problem.{Problem}
 use Rattle.hw_model.specs.Timetables.{cargo, first_broken}
-use Rattle.hw_model.specs.Tests.{refutes, source_of}
+use Rattle.hw_model.specs.RefutingComputed.{refutes}
+use Rattle.hw_model.specs.Refuting.{source_of}
 use Rattle.hw_model.specs.Replay.{replay}
 use Rattle.hw_lines.specs.declared.check.CheckWord.TheVariants as words
 use Rattle.hw_lines.specs.declared.check.Refusal.{Refusal}

@@ -6,7 +6,7 @@ use Rattle.hw_model.specs.declared.lit.Lit.{Lit}
 use Rattle.hw_model.specs.declared.narrowing.Narrowed.{Narrowed}
 use Rattle.hw_model.specs.Rooms.{RoomModel}
 use Rattle.hw_model.specs.Replay.{narrowing, room_after, ends_by, replay_from, replay}
-use Rattle.hw_laws.specs.Laws.{IsLitOf}
+use Rattle.hw_model.specs.Lits.{IsLitOf}
 use Rattle.hw_check.specs.States.{numbered, named, LitsFit}
 use Rattle.hw_check.proofs.Numbered.{all_numbered}
 

@@ -6,10 +6,11 @@ use Rattle.hw_model.specs.declared.source.Source.{Source}
 use Rattle.hw_model.specs.declared.source.Source.TheVariants as sources
 use Rattle.hw_model.specs.Problem.{Problem}
 use Rattle.hw_model.specs.Timetables.{first_broken, cargo}
-use Rattle.hw_model.specs.Tests.{refutes, source_of}
+use Rattle.hw_model.specs.RefutingComputed.{refutes}
+use Rattle.hw_model.specs.Refuting.{source_of}
 use Rattle.hw_model.specs.Replay.{replay}
 use Rattle.hw_model.specs.Rooms.{RoomModel}
-use Rattle.hw_laws.specs.Laws.{IsLitOf}
+use Rattle.hw_model.specs.Lits.{IsLitOf}
 use Rattle.hw_lines.specs.declared.check.CheckWord.TheVariants as words
 use Rattle.hw_lines.specs.declared.check.Refusal.{Refusal}
 use Rattle.hw_lines.specs.declared.check.Verdict.{Verdict}

@@ -4,7 +4,7 @@ ghost use Rattle.hw_model.specs.Problem.{shape_of, IsTimetable};
 ghost use Rattle.hw_model.specs.Timetables.{first_broken, cargo, beats, restriction_count};
 ghost use Rattle.hw_model.specs.Lits.{IsClause};
 ghost use Rattle.hw_model.specs.Refuting.{IsSourceOf};
-ghost use Rattle.hw_model.specs.Tests as tests;
+ghost use Rattle.hw_model.specs.Refuting as refuting;
 ghost use Rattle.hw_model.specs.Replay.{replay};
 ghost use Rattle.hw_lines.specs.Lines as lines;
 ghost use Rattle.hw_lines.specs.Valid.{LineFits, denied_room};
@@ -112,7 +112,7 @@ fn beats(cargo: u64, best: Option<u64>) -> bool
 
 fn source_of(flat: &Flat, n: u32) -> Source
     requires numbered { n < restriction_count flat.now }
-    ensures value { result ≡ tests.source_of flat.now n }
+    ensures value { result ≡ refuting.source_of flat.now n }
     ensures source { IsSourceOf flat.now result }
 {
     let ships = flat.shape().ships;

@@ -139,6 +139,6 @@ rule_words ships (key ∷ words) =
     else if bytes_eq key (codes "u") then tugs_words ships words
     else None
 
--- a rule: `p` and a pair, `s` and a berth, `u` and a fleet with its jobs
+-- a rule: `p` and a pair, `s` and a precedence, `u` and a fleet with its jobs
 abbrev pub rule_form : ℕ → List ℕ → Option Rule
 rule_form ships line = rule_words ships (words_of line)

@@ -1,6 +1,6 @@
 ghost use Rattle.std.specs.Prelude.{◌≡◌, ◌<◌, ◌≤◌, unwrap_or, length, All};
 ghost use Rattle.hw_model.specs.Problem.{Problem, shape_of, horizon, value_at};
-ghost use Rattle.hw_model.specs.Limits.{IsFlat};
+ghost use Rattle.hw_model.specs.Limits.{IsFlat, ShapeFits};
 
 use hw_model::{Rule, Shape, ShipId, Slot};
 use std::marker::Model;
@@ -34,6 +34,7 @@ impl Flat {
     /// The numbers of ships, slots and rules.
     pub fn shape(&self) -> Shape
         ensures value { result ≡ shape_of self.now }
+        ensures fits { ShapeFits result }
         ensures limits { IsFlat self.now }
     {
         Shape {

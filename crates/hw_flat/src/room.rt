@@ -1,5 +1,6 @@
 ghost use Rattle.std.specs.Prelude.{◌≡◌, ◌≤◌, ◌<◌, ℕ, length, IfOk, IsTrue, ◌↔◌, slice_index, replicate};
-ghost use Rattle.hw_model.specs.Rooms.{IsRoom, IsPoint, Inside, InRange, agrees, low_of, high_of, order_of, whole_room};
+ghost use Rattle.hw_model.specs.Limits.{ShapeFits};
+ghost use Rattle.hw_model.specs.Rooms.{IsRoom, IsRoomOf, IsPoint, Inside, InRange, agrees, low_of, high_of, order_of, whole_room};
 ghost use Rattle.hw_flat.specs.Opened.{opened};
 ghost use Rattle.hw_model.specs.Narrowing.{with_range, with_order};
 
@@ -32,10 +33,9 @@ impl Model for Room {
 impl Room {
     /// The room that leaves every slot and every order open.
     pub fn whole(alloc: Global, shape: Shape) -> Result<Room, NoMemory>
-        requires some_ship { 1 ≤ shape.ships }
-        requires few_ships { shape.ships ≤ 40 }
-        requires some_slot { 1 ≤ shape.slots }
+        requires fits { ShapeFits shape }
         ensures value { IfOk result (λ room. room ≡ whole_room shape) }
+        ensures room { IfOk result (λ room. IsRoomOf shape room) }
     {
         let ranges = vec![in alloc; (0, shape.slots - 1); shape.ships as usize]?;
         let pairs = (shape.ships * shape.ships) as usize;

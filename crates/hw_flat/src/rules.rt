@@ -185,7 +185,7 @@ fn tugs_of(alloc: Global, words: &[u8], ships: u32) -> Result<Option<Rule>, Allo
     Ok(Some(Rule::Tugs { fleet, jobs }))
 }
 
-/// A pair behind `p`, a berth behind `s`, or a fleet and its jobs behind `u`.
+/// A pair behind `p`, a precedence behind `s`, or a fleet and its jobs behind `u`.
 pub fn rule_of(alloc: Global, line: &[u8], ships: u32) -> Result<Option<Rule>, AllocError>
     ensures { IfOk result (λ o. o ≡ rule_form ships line.now) }
 {

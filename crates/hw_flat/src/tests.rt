@@ -6,7 +6,7 @@ const ONE_SHIP: &[u8] = b"flat 1\nsize 1 3\nv - 5 9\nend\n";
 
 const TWO_SHIPS_APART: &[u8] = b"flat 1\nsize 2 3\nv 10 20 30\nv 10 20 30\np 0 1 -1:1\nend\n";
 
-const BERTH_AND_TUGS: &[u8] =
+const PRECEDENCE_AND_TUGS: &[u8] =
     b"flat 1\nsize 2 4\nv 0 1000000000000 - 4\nv 5 9 5 1\ns 1 0 512\nu 3 0:2:3 1:64:1024\nend\n";
 
 const SHIPS_THAT_MAY_STAY: &[u8] =
@@ -47,7 +47,7 @@ fn reads_the_problem(rt: HostRuntime) -> Result<(), Fail> {
         }
         _ => assert!(rt; false, "a pair"),
     }
-    let flat = Flat::read(rt.alloc(), BERTH_AND_TUGS)?;
+    let flat = Flat::read(rt.alloc(), PRECEDENCE_AND_TUGS)?;
     assert_eq!(rt; (flat.ships, flat.slots, flat.stay), (2, 4, false));
     assert_eq!(rt; flat.rules.len(), 2);
     assert!(rt;
@@ -199,7 +199,7 @@ fn names_the_first_bad_line(rt: HostRuntime) {
             Rule,
         ),
         (
-            "berth_of_one_ship",
+            "precedence_of_one_ship",
             "flat 1\nsize 2 1\nv 5\nv 5\ns 1 1 0\nend\n",
             5,
             Rule,
@@ -262,7 +262,7 @@ fn writes_the_text_that_was_read(rt: HostRuntime) -> Result<(), Fail> {
     let rows = [
         ("one_ship", ONE_SHIP),
         ("two_ships_apart", TWO_SHIPS_APART),
-        ("berth_and_tugs", BERTH_AND_TUGS),
+        ("precedence_and_tugs", PRECEDENCE_AND_TUGS),
         ("ships_that_may_stay", SHIPS_THAT_MAY_STAY),
         ("no_ship_may_stay", b"flat 2\nsize 1 1\nv 0 n\nend\n"),
     ];

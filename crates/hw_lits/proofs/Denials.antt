@@ -2,7 +2,7 @@
 use Rattle.std.proofs.Common.{drop, ◌≡◌, ℕ, ◌+◌, ◌<◌, ◌≤◌, true, List, ◌∷◌, Option, Some, None, length, get_or, refl, sym, ap, ◌∙◌, subst, arith, nat_lt, nat_le}
 use Rattle.std.proofs.lemmas.Bool.{and_parts, ltb-true}
 use Rattle.std.proofs.lemmas.List.{drop_all}
-use Rattle.hw_laws.specs.Laws.{IsLitOf}
+use Rattle.hw_model.specs.Lits.{IsLitOf, negation, lit_fits, keeps_form, first_bad_from, IsClause}
 use Rattle.hw_flat.specs.Opened.{shape_in, opened}
 use Rattle.hw_lits.specs.Cuts.{LeavesSlots}
 use Rattle.hw_lits.proofs.Forms.{next_of}
@@ -10,7 +10,6 @@ use Rattle.std.proofs.lemmas.List.Elements.{All-get_or}
 use Rattle.hw_model.specs.declared.lit.Lit.{Lit}
 use Rattle.hw_model.specs.declared.lit.Lit.TheVariants as lits
 use Rattle.hw_model.specs.declared.shape.Shape.{Shape}
-use Rattle.hw_model.specs.Lits.{negation, lit_fits, keeps_form, first_bad_from, IsClause}
 use Rattle.hw_model.specs.Rooms.{RoomModel, IsRoom, high_of}
 use Rattle.hw_model.specs.Narrowing.{cut, denied_from, denied}
 use Rattle.hw_laws.proofs.Denials.{no_bad, lit_of}

@@ -1,7 +1,6 @@
 ghost use Rattle.std.specs.Prelude.{◌≡◌};
-ghost use Rattle.hw_model.specs.Narrowing.{truth, cut, first_truth, not_first_truth};
-ghost use Rattle.hw_laws.specs.Laws.{IsLitOf};
-ghost use Rattle.hw_laws.specs.Kept.{set_by};
+ghost use Rattle.hw_model.specs.Narrowing.{truth, cut, first_truth, not_first_truth, set_by};
+ghost use Rattle.hw_model.specs.Lits.{IsLitOf};
 
 use hw_flat::{Order, Room};
 use hw_model::{Lit, LitTruth};

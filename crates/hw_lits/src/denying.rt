@@ -1,7 +1,6 @@
 ghost use Rattle.std.specs.Prelude.{◌≡◌};
-ghost use Rattle.hw_model.specs.Lits.{negation, IsClause};
+ghost use Rattle.hw_model.specs.Lits.{negation, IsClause, IsLitOf};
 ghost use Rattle.hw_model.specs.Narrowing.{cut, denied};
-ghost use Rattle.hw_laws.specs.Laws.{IsLitOf};
 ghost use Rattle.hw_flat.specs.Opened.{shape_in};
 ghost use Rattle.hw_lits.specs.Cuts.{LeavesSlots};
 

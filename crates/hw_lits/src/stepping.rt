@@ -1,6 +1,6 @@
 ghost use Rattle.std.specs.Prelude.{◌≡◌, All};
 ghost use Rattle.hw_model.specs.Replay.{narrowing, room_after};
-ghost use Rattle.hw_laws.specs.Laws.{IsLitOf};
+ghost use Rattle.hw_model.specs.Lits.{IsLitOf};
 ghost use Rattle.hw_lits.specs.Steps.{Tells, with_free};
 
 use crate::clause::Clause;

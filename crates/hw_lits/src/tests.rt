@@ -1,6 +1,5 @@
 ghost use Rattle.std.specs.Prelude.{◌≡◌, All, IfOk};
-ghost use Rattle.hw_model.specs.Lits.{IsClause};
-ghost use Rattle.hw_laws.specs.Laws.{IsLitOf};
+ghost use Rattle.hw_model.specs.Lits.{IsClause, IsLitOf};
 
 use crate::clause::Clause;
 use crate::cutting::{cut, truth};

@@ -6,7 +6,7 @@ ghost use Rattle.hw_model.specs.Limits.{RuleFits, JobFits};
 ghost use Rattle.hw_model.specs.Rooms.{low_of, high_of, order_of};
 ghost use Rattle.hw_model.specs.Refuting as refuting;
 ghost use Rattle.hw_model.specs.Refuting.{IsSourceOf, Refutes, forced_by};
-ghost use Rattle.hw_model.specs.Tests.{refutes, rule_refutes, none_meets, slots_of, orders_clash, at_most_best};
+ghost use Rattle.hw_model.specs.RefutingComputed.{refutes, rule_refutes, none_meets, slots_of, orders_clash, at_most_best};
 ghost use Rattle.hw_rules.specs.Differences.{hole_above, hole_below};
 
 use crate::spacing::{Freeing, two_of, two_refuted};

@@ -3,7 +3,7 @@ use Rattle.std.proofs.Common.{◌≡◌, ◌≢◌, ◌⊎◌, ℕ, ◌+◌, ◌
 use Rattle.std.proofs.lemmas.List.Elements.{All-push, All-more}
 use Rattle.std.proofs.lemmas.List.{get_or_append_left, get_or_push, get_or_default, take_all}
 use Rattle.std.proofs.lemmas.Bool.{cases_eq}
-use Rattle.hw_laws.specs.Laws.{IsLitOf}
+use Rattle.hw_model.specs.Lits.{IsLitOf}
 use Rattle.hw_store.specs.declared.store.Stored.{Stored}
 use Rattle.hw_store.specs.Stores.{Ascends, FitsShips, KeepsClauses, IsClauseOf}
 

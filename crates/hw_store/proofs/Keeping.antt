@@ -5,11 +5,10 @@ use Rattle.std.proofs.lemmas.List.Elements.{All-contains, All-set, All-push, All
 use Rattle.std.proofs.lemmas.Bool.{cases_eq}
 use Rattle.hw_model.specs.declared.lit.Lit.{Lit}
 use Rattle.hw_model.specs.declared.lit.LitTruth.TheVariants.{Free}
-use Rattle.hw_model.specs.Lits.{negation}
+use Rattle.hw_model.specs.Lits.{negation, IsLitOf}
 use Rattle.hw_model.specs.Rooms.{RoomModel, IsRoom}
 use Rattle.hw_model.specs.Narrowing.{truth, cut}
 use Rattle.hw_model.specs.Replay.{QuietClause}
-use Rattle.hw_laws.specs.Laws.{IsLitOf}
 use Rattle.hw_store.specs.declared.store.Stored.{Stored}
 use Rattle.hw_store.specs.declared.watching.Watch.{Watch}
 use Rattle.hw_store.specs.declared.watching.Watch.TheVariants.{Due, One, Two}

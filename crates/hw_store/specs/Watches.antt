@@ -5,7 +5,7 @@ use Rattle.hw_model.specs.declared.lit.Lit.TheVariants as lits
 use Rattle.hw_model.specs.declared.lit.LitTruth.TheVariants.{True, False}
 use Rattle.hw_model.specs.Rooms.{RoomModel}
 use Rattle.hw_model.specs.Narrowing.{truth}
-use Rattle.hw_laws.specs.Laws.{IsLitOf}
+use Rattle.hw_model.specs.Lits.{IsLitOf}
 use Rattle.hw_store.specs.declared.store.Stored.{Stored}
 use Rattle.hw_store.specs.declared.watching.Watch.{Watch}
 use Rattle.hw_store.specs.declared.watching.Watch.TheVariants.{Due, One, Two}

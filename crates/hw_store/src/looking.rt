@@ -1,5 +1,5 @@
 ghost use Rattle.std.specs.Prelude.{◌≡◌, All};
-ghost use Rattle.hw_laws.specs.Laws.{IsLitOf};
+ghost use Rattle.hw_model.specs.Lits.{IsLitOf};
 ghost use Rattle.hw_store.specs.Looks.{Looks, look_more};
 ghost use Rattle.hw_store.specs.Stores.{WhetherQuiet};
 

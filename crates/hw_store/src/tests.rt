@@ -1,5 +1,5 @@
 ghost use Rattle.std.specs.Prelude.{◌≡◌, ◌<◌, ◌+◌, ⊤, All, IfOk, OnOk, MatchBool};
-ghost use Rattle.hw_laws.specs.Laws.{IsLitOf};
+ghost use Rattle.hw_model.specs.Lits.{IsLitOf};
 ghost use Rattle.hw_store.specs.Scans.{ScanReady};
 ghost use Rattle.hw_store.specs.Watches.{WatchReady};
 

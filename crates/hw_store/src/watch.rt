@@ -1,6 +1,6 @@
 ghost use Rattle.std.specs.Prelude.{◌≡◌, ◌⊎◌, ◌+◌, ◌*◌, ◌<◌, ◌≤◌, [], ◌∷◌, List, ℕ, All, Contains, IfOk, OnOk, length, slice_index_or};
 ghost use Rattle.hw_model.specs.Rooms.{RoomModel};
-ghost use Rattle.hw_laws.specs.Laws.{IsLitOf};
+ghost use Rattle.hw_model.specs.Lits.{IsLitOf};
 ghost use Rattle.hw_store.specs.Watches.{WatchModel, WatchReady, Listed, Grows, NextIs, IsNew};
 
 use crate::looking::{Look, look_at};

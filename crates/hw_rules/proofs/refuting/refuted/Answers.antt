@@ -1,7 +1,7 @@
 use Rattle.std.proofs.Common.{◌≡◌, ◌<◌, length, subst, sym, ap, ◌∙◌}
 use Rattle.hw_model.specs.declared.source.Source.TheVariants as sources
 use Rattle.hw_model.specs.Refuting.{IsSourceOf}
-use Rattle.hw_model.specs.Tests.{refutes}
+use Rattle.hw_model.specs.RefutingComputed.{refutes}
 use Rattle.hw_rules.proofs.Sources.{means_of, rule_at}
 use Rattle.hw_rules.proofs.refuting.refuted.Goals as goal
 

@@ -2,8 +2,7 @@ use Rattle.std.proofs.Common.{[], ◌∷◌, List, Option, Some, None, All, IfSo
 use Rattle.std.proofs.lemmas.List.Elements.{All-nil, All-cons, All-append}
 use Rattle.hw_model.specs.declared.lit.Lit.{Lit}
 use Rattle.hw_model.specs.Problem.{shape_of}
-use Rattle.hw_model.specs.Lits.{IsClause}
-use Rattle.hw_laws.specs.Laws.{IsLitOf}
+use Rattle.hw_model.specs.Lits.{IsClause, IsLitOf}
 use Rattle.hw_verdict.proofs.Denied.{lits_of}
 use Rattle.hw_check.proofs.checker.Checker.add.Goals as goal
 

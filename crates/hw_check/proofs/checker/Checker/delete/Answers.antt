@@ -1,5 +1,5 @@
 use Rattle.std.proofs.Common.{All}
-use Rattle.hw_laws.specs.Laws.{IsLitOf}
+use Rattle.hw_model.specs.Lits.{IsLitOf}
 use Rattle.hw_check.proofs.Numbered.{all_without}
 use Rattle.hw_check.proofs.checker.Checker.delete.Goals as goal
 

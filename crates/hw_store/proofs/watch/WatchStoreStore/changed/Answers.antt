@@ -1,7 +1,6 @@
 use Rattle.std.proofs.Common.{◌≡◌, ◌∙◌, sym, subst, ap, arith, All, List, ℕ, [], ◌<◌, false, get_or, length, vec_capacity}
-use Rattle.hw_model.specs.Lits.{negation}
+use Rattle.hw_model.specs.Lits.{negation, IsLitOf}
 use Rattle.hw_model.specs.Narrowing.{cut}
-use Rattle.hw_laws.specs.Laws.{IsLitOf}
 use Rattle.hw_laws.proofs.Cuts.{same_ships}
 use Rattle.hw_store.specs.declared.watching.Watch.{Watch}
 use Rattle.hw_store.specs.declared.watching.Watch.TheVariants.{Due}
