@@ -1,6 +1,7 @@
 //! The flat problem of a port.
 
 ghost use Rattle.std.specs.Prelude.{◌≡◌, length, IfOk};
+ghost use Rattle.hw_flat.specs.TextWritten.{IsWritable};
 ghost use Rattle.hw_port.specs.Kept.{PortKept};
 ghost use Rattle.hw_port_rules.specs.Flattened.{flattened};
 ghost use Rattle.hw_port_rules.specs.Alike.{IsSameProblem};
@@ -19,11 +20,13 @@ use std::alloc::Global;
 /// some ship may stay, it has one slot more, which means that.
 ///
 /// What the port permits and what that carries is the same by the flat problem, for every list of
-/// slots. It computes each ship's value in each slot once, and holds the problem in memory.
+/// slots, and the problem has a text: staying carries nothing. It computes each ship's value in
+/// each slot once, and holds the problem in memory.
 pub fn flatten(alloc: Global, port: &Port, tide: &Tide) -> Result<Flat, NoMemory>
     requires columns { tide.now.columns ≡ length port.now.waypoints }
     ensures problem { IfOk result (λ flat. flat ≡ flattened port.now tide.now) }
     ensures same { IfOk result (λ flat. IsSameProblem port.now tide.now flat) }
+    ensures writable { IfOk result (λ flat. IsWritable flat) }
 {
     let parts = port.parts();
     let horizon = natural(parts.slots);
@@ -53,6 +56,7 @@ fn assembled(
     requires rules { rules.items ≡ (flattened port.now tide.now).rules }
     ensures problem { result ≡ flattened port.now tide.now }
     ensures same { IsSameProblem port.now tide.now result }
+    ensures writable { IsWritable result }
 {
     Flat {
         ships,
