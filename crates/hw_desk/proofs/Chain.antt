@@ -89,7 +89,7 @@ read_past {f = f} {a = a} {into = into} {x = x} {n = n} limit h r le lt = past (
 
 -- a tray that could be written to can be
 pub can_still : {t : Tray} {bytes : List ℕ} {x y : DeskState} → CanSend t x → Sends t bytes x y → CanSend t y
-can_still {t = Report} can h = tt
+can_still {t = Report} can h = refl
 can_still {t = Proof} can h = h.made ∙ can
 
 -- one write more of a text, offered what is left of it
@@ -104,31 +104,15 @@ rose_on : {a b c : ℕ} → a ≤ b → Rose b c → Rose a c
 rose_on h k = omega arith
 
 -- one text after another
-pub text_on : {E : Type 0} {t : Tray} {a b : List ℕ} {x y z : DeskState} {r : Result Unit E} → Sends t a x y → SendsText t b y z r → SendsText t (a ++ b) x z r
-text_on {t = t} {a = a} {b = b} {x = x} {z = z} {r = Ok u} h k = record { only = only_tray_on h.only k.only; ok = sends_on h k.ok (a ++ b) refl; err = tt; cause = tt }
-text_on {t = t} {a = a} {b = b} {x = x} {z = z} {r = Err e} h k = record {
+pub text_on : {E : Type 0} {t : Tray} {a b : List ℕ} {x y z : DeskState} {r : Result Unit E} → Sends t a x y → y.write_faults ≡ x.write_faults → SendsText t b y z r → SendsText t (a ++ b) x z r
+text_on {t = t} {a = a} {b = b} {x = x} {z = z} {r = Ok u} h kept k = record { only = only_tray_on h.only k.only; ok = sends_on h k.ok (a ++ b) refl; err = tt; cause = tt; kept = k.kept ∙ kept }
+text_on {t = t} {a = a} {b = b} {x = x} {z = z} {r = Err e} h kept k = record {
   only = only_tray_on h.only k.only;
   ok = tt;
   err = (length a + k.err.0, simp length-append (omega (arith, k.err.1)), sends_on h k.err.2 (take (length a + k.err.0) (a ++ b)) (front a b k.err.0));
   cause = rose_on h.only.later k.cause;
+  kept = tt;
 }
   where
     front : (a b : List ℕ) (n : ℕ) → take (length a + n) (a ++ b) ≡ a ++ take n b
     front a b n = rw (take-add (length a) n (a ++ b), take-append_seam a b, drop-append_seam a b) refl
-
--- a text that stopped, whatever was to follow
-pub text_stops : {E F : Type 0} {t : Tray} {a : List ℕ} {x y : DeskState} {e : E} {f : F} (b : List ℕ) → SendsText t a x y (Err e) → SendsText t (a ++ b) x y (Err f)
-text_stops {t = t} {a = a} {x = x} {y = y} b h = record {
-  only = h.only;
-  ok = tt;
-  err = (h.err.0, simp length-append (omega (arith, h.err.1)), subst (λ (bytes : List ℕ). Sends t bytes x y) (same a b h.err.0 (omega (arith, h.err.1))) h.err.2);
-  cause = h.cause;
-}
-  where
-    same : (a b : List ℕ) (n : ℕ) → n ≤ length a → take n a ≡ take n (a ++ b)
-    same a b n le = sym (take-append-le n a b le)
-
--- the same at the exit of a `?`, which answers some error
-pub text_stopped : {E F : Type 0} {t : Tray} {a : List ℕ} {x y : DeskState} {e : E} (b : List ℕ) (r : Result Unit F) → IsErr r → SendsText t a x y (Err e) → SendsText t (a ++ b) x y r
-text_stopped b (Ok u) is_err h = absurd (cc)
-text_stopped b (Err f) is_err h = text_stops b h

@@ -40,12 +40,18 @@ pub record Sends (tray : Tray) (bytes : List ℕ) (old new : DeskState) : Type 0
   pub named : (new.trays tray).name ≡ (old.trays tray).name
   pub sent : Tells (new.trays tray).sent (append_known (old.trays tray).sent bytes)
 
--- a failure has a cause
+-- a failure has a cause: the count rose. An answer Ok leaves the count as it was
 abbrev pub ReadCause : {T E : Type 0} → DeskState → DeskState → Result T E → Type 0
 ReadCause old new result = OnErr result (Rose old.read_faults new.read_faults)
 
 abbrev pub WriteCause : {T E : Type 0} → DeskState → DeskState → Result T E → Type 0
 WriteCause old new result = OnErr result (Rose old.write_faults new.write_faults)
+
+abbrev pub ReadKept : {T E : Type 0} → DeskState → DeskState → Result T E → Type 0
+ReadKept old new result = OnOk result (new.read_faults ≡ old.read_faults)
+
+abbrev pub WriteKept : {T E : Type 0} → DeskState → DeskState → Result T E → Type 0
+WriteKept old new result = OnOk result (new.write_faults ≡ old.write_faults)
 
 -- the first n bytes at Ok n, and none at Err
 abbrev pub counted : {E : Type 0} → Result ℕ E → List ℕ → List ℕ
@@ -59,12 +65,14 @@ pub record Begins {E : Type 0} (feed : Feed) (name : List ℕ) (old new : DeskSt
   pub opened : OnOk result ((new.feeds feed).left ≡ old.held name)
   pub failed : OnErr result ((new.feeds feed).left ≡ (old.feeds feed).left)
   pub cause : ReadCause old new result
+  pub kept : ReadKept old new result
 
 pub record Reads {E : Type 0} (feed : Feed) (into : List ℕ) (old new : DeskState) (result : Result ℕ E) : Type 0 where
   pub moved : Moves feed (counted result into) old new
   pub bound : IfOk result (λ n. n ≤ length into)
   pub ended : IfOk result (λ n. n ≡ 0 → IsAtEnd (new.feeds feed).left)
   pub cause : ReadCause old new result
+  pub kept : ReadKept old new result
 
 pub record Makes {E : Type 0} (tray : Tray) (name : List ℕ) (old new : DeskState) (result : Result Unit E) : Type 0 where
   pub only : OnlyTray tray old new
@@ -73,8 +81,10 @@ pub record Makes {E : Type 0} (tray : Tray) (name : List ℕ) (old new : DeskSta
   pub opened : OnOk result (IfSome (new.trays tray).sent (λ bytes. bytes ≡ []))
   pub failed : OnErr result ((new.trays tray).sent ≡ (old.trays tray).sent)
   pub cause : WriteCause old new result
+  pub kept : WriteKept old new result
 
 pub record Writes {E : Type 0} (tray : Tray) (bytes : List ℕ) (old new : DeskState) (result : Result ℕ E) : Type 0 where
   pub sent : Sends tray (counted result bytes) old new
   pub bound : IfOk result (λ n. (0 < n) × (n ≤ length bytes))
   pub cause : WriteCause old new result
+  pub kept : WriteKept old new result

@@ -8,3 +8,4 @@ pub mod Memory
 pub mod CalmBytes
 pub mod Calm
 pub mod Whole
+pub mod Writers

@@ -61,9 +61,12 @@ pub record IsFresh (s : DeskState) : Type 0 where
   pub sent : (s.trays Proof).made ≡ false → IfSome (s.trays Proof).sent (λ bytes. bytes ≡ [])
 
 -- Report needs no make
+abbrev pub can_send : Tray → DeskState → Bool
+can_send Report s = true
+can_send Proof s = (s.trays Proof).made
+
 abbrev pub CanSend : Tray → DeskState → Type 0
-CanSend Report s = Unit {0}
-CanSend Proof s = (s.trays Proof).made ≡ true
+CanSend tray s = can_send tray s ≡ true
 
 -- no feed was begun, and no tray made
 pub record IsNew (s : DeskState) : Type 0 where

@@ -4,6 +4,7 @@
 //! call fails only where one of the desk's two counts of faults rises.
 #![tactic(auto)]
 
+mod buffer;
 mod calm;
 mod desk;
 mod memory;
@@ -13,6 +14,7 @@ mod slots;
 #[cfg(test)]
 mod tests;
 mod whole;
+mod writer;
 
 pub use calm::CalmDesk;
 pub use desk::{Desk, DeskFailed, Feed, Tray};
@@ -20,3 +22,4 @@ pub use hw_model::NoMemory;
 pub use memory::{DeskCall, FailAt, MemoryDesk};
 pub use slots::NamedBytes;
 pub use whole::{ReadStop, read_whole, write_all};
+pub use writer::{TrayWriter, Writer};
