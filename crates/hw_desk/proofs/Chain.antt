@@ -1,5 +1,5 @@
 -- One call after another.
-use Rattle.std.proofs.Common.{◌≡◌, ◌++◌, ℕ, List, Option, Some, None, refl, rules, ap, sym, ◌∙◌, arith, append_assoc, append-nil, length-drop, length-append, Result, Err, IsErr, ◌-◌, Ok, subst, IfSome, take, drop, length, ◌≤◌, ◌<◌, ◌+◌}
+use Rattle.std.proofs.Common.{◌≡◌, ◌++◌, ℕ, List, Option, Some, None, refl, rules, ap, sym, ◌∙◌, arith, append_assoc, append-nil, length-drop, length-append, Result, Err, ◌-◌, Ok, subst, IfSome, take, drop, length, ◌≤◌, ◌<◌, ◌+◌}
 use Rattle.std.proofs.lemmas.Grind.{common_steps}
 use Rattle.std.specs.Io.KnownBytes.{prepend_known, append_known, IsAtEnd}
 use Rattle.hw_desk.specs.State.{DeskState, CanSend, Rose}
@@ -8,7 +8,6 @@ use Rattle.hw_desk.specs.declared.desk.Feed.{Feed}
 use Rattle.hw_desk.specs.declared.desk.Tray.{Tray}
 use Rattle.hw_desk.specs.declared.desk.Tray.TheVariants.{Report, Proof}
 use Rattle.std.proofs.Math.Seq.{take-add, take-append_seam, drop-append_seam}
-use Rattle.std.proofs.lemmas.List.{take-append-le}
 use Rattle.hw_desk.specs.Whole.{SendsText}
 
 prepended : (a b : List ℕ) (known : Option (List ℕ)) → prepend_known a (prepend_known b known) ≡ prepend_known (a ++ b) known

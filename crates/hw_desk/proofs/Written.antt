@@ -1,13 +1,12 @@
 -- What a writer was given: one text after another.
 use Rattle.std.proofs.Common.{◌≡◌, ◌++◌, ◌≤◌, ◌<◌, ◌+◌, ◌∙◌, ℕ, List, [], Option, Some, None, Result, Ok, Err, is_err, Bool, true, false, refl, ap, sym, subst, arith, append_assoc, append-nil, length, take, length-append}
-use Rattle.std.proofs.lemmas.Grind.{common_steps}
 use Rattle.std.specs.Io.KnownBytes.{append_known}
 use Rattle.std.proofs.Math.Path.{fun_ext}
 use Rattle.std.proofs.lemmas.List.{take-append-le}
 use Rattle.hw_desk.specs.State.{DeskState, TrayState, put_tray, Rose}
 use Rattle.hw_desk.specs.Calls.{Sends, Tells}
 use Rattle.hw_desk.specs.Whole.{SendsText}
-use Rattle.hw_desk.specs.Writers.{WriterState, Waits, Stopped, WasGiven, Puts, Opens, Flushes, answer_of}
+use Rattle.hw_desk.specs.Writers.{WriterState, WasGiven, Puts, Opens, Flushes, answer_of}
 use Rattle.hw_desk.specs.declared.desk.Tray.{Tray}
 use Rattle.hw_desk.specs.declared.desk.Tray.TheVariants.{Report, Proof}
 use Rattle.hw_desk.proofs.Chain.{sends_on, text_on}
@@ -101,8 +100,10 @@ text_sent {t = t} {text = text} {s = s} {x = x} {y = y} {z = z} {r = r} o p f = 
   where
     tray : z.tray ≡ t
     tray = f.tray ∙ p.tray ∙ o.tray
+
     all : WasGiven text s z
     all = f.given text s (p.given [] s (opened o))
+
     by_answer : {E : Type 0} (r : Result Unit E) → z.spent ≡ is_err r → SendsText t text s z.desk r
     by_answer (Ok u) e =
         let w = all.going e in

@@ -3,7 +3,6 @@ use Rattle.std.specs.Prelude.{◌≡◌, ◌≤◌, ◌<◌, ◌+◌, ◌++◌, 
 use Rattle.std.specs.Borrow.{GName}
 use Rattle.hw_desk.specs.State.{DeskState, Rose}
 use Rattle.hw_desk.specs.Calls.{Sends}
-use Rattle.hw_desk.specs.Whole.{SendsText}
 use Rattle.hw_desk.specs.declared.desk.Tray.{Tray}
 
 -- the desk as it is, the borrow by which it is lent, the tray, the bytes that wait to be sent, and whether a write has failed
