@@ -67,6 +67,7 @@ pub header_stopped : {line pending : List ℕ} {x y : DeskState} (r : ReaderMode
 header_stopped {line = line} {pending = pending} {x = x} {y = y} r stop none le h = record {
   moved = (h.moved.0, h.moved.1, h.moved.2, told_map (rest_of r x) (λ rest c. stops_same _ _ stop (at_header r rest none) (stop_as (header_next r.shape r.at.number r.at.taken) (cut_of r.at.taken (parts_of 10 rest)) r.at.taken rest line (prepend_known pending (y.feeds r.feed).left) stop refl refl c)) (told_cut h le));
   fault = λ e. h.fault (err_same stop stops.Fault e);
+  kept = λ none. h.kept (λ e. none (err_same stop stops.Fault e));
 }
 
 -- no line is there, or one without its end
@@ -74,6 +75,7 @@ pub header_missing : {line pending : List ℕ} {x y : DeskState} (r : ReaderMode
 header_missing {line = line} {pending = pending} {x = x} {y = y} r t none le other h = record {
   moved = (h.moved.0, h.moved.1, h.moved.2, told_map (rest_of r x) (λ rest c. at_header r rest none ∙ by_taken t rest other c) (told_cut h le));
   fault = λ e. absurd (cc);
+  kept = λ none. h.kept (λ e. absurd (cc));
 }
   where
     by_taken : (u : TakenLine) (rest : List ℕ) → (u ≡ Whole → ⊥) → CutIs r.at.taken rest line (prepend_known pending (y.feeds r.feed).left) (Ok u) → header_next r.shape r.at.number r.at.taken (cut_of r.at.taken (parts_of 10 rest)) ≡ bad r.at.number Header
@@ -86,6 +88,7 @@ pub header_wrong : {line pending : List ℕ} {x y : DeskState} (r : ReaderModel)
 header_wrong {line = line} {pending = pending} {x = x} {y = y} r none le unnamed h = record {
   moved = (h.moved.0, h.moved.1, h.moved.2, told_map (rest_of r x) (λ rest c. at_header r rest none ∙ wrong rest (prepend_known pending (y.feeds r.feed).left) c) (told_cut h le));
   fault = λ e. absurd (cc);
+  kept = λ none. h.kept (λ e. absurd (cc));
 }
   where
     wrong : (rest : List ℕ) (left : Option (List ℕ)) → IsSomeAnd left (λ more. cut_of r.at.taken (parts_of 10 rest) ≡ whole line (parts_of 10 more)) → header_next r.shape r.at.number r.at.taken (cut_of r.at.taken (parts_of 10 rest)) ≡ bad r.at.number Header
@@ -114,6 +117,7 @@ header_taken {line = line} {pending = pending} {x = x} {y = y} r version none le
     },
   );
   fault = λ e. absurd (cc);
+  kept = λ none. h.kept (λ e. absurd (cc));
 }
 
 -- no header, and so no line
@@ -123,6 +127,7 @@ header_stops r stop h = record {
   next = h.moved.3;
   line = tt;
   fault = λ e. h.fault (err_same stop stops.Fault e);
+  kept = λ none. h.kept (λ e. none (err_same stop stops.Fault e));
 }
 
 found_both : {P Q : List ℕ → Type 0} (o : Option (List ℕ)) → IsSomeAnd o P → IfSome o Q → (x : List ℕ) × P x × Q x
@@ -142,6 +147,7 @@ header_then_line {x = x} {y = y} {z = z} r reader result none h t =
       next = told_map (rest_of r x) (λ rest c. let both = found_both (rest_of reader y) c t.next in subst (λ (n : NextLine). Answers n z result) (sym both.1) both.2) b.next;
       line = one_more result t.line;
       fault = λ e. rose_after h.moved.1.only.later (t.fault e);
+      kept = λ none. t.kept none ∙ h.kept (λ e. absurd (cc));
     }
   where
     by_version : (v : Option Version) (n : ℕ) → IsSome v → n + (if is_none v then 2 else 1) ≡ n + 1
@@ -177,6 +183,7 @@ line_stopped {line = line} {pending = pending} {x = x} {y = y} r version stop na
   next = told_map (rest_of r x) (λ rest c. stops_same _ _ stop (at_line r version rest named) (stop_as (line_next r.shape version r.at.number r.at.taken) (cut_of r.at.taken (parts_of 10 rest)) r.at.taken rest line (prepend_known pending (y.feeds r.feed).left) stop refl refl c)) (told_cut h le);
   line = tt;
   fault = λ e. h.fault (err_same stop stops.Fault e);
+  kept = λ none. h.kept (λ e. none (err_same stop stops.Fault e));
 }
 
 pub line_ends : {line pending : List ℕ} {x y : DeskState} (r : ReaderModel) (version : Version) → r.at.version ≡ Some version → r.at.taken ≤ 2 ^ 40 → TakesLine r.feed r.at.taken r.pending pending line x y (Ok Nothing) → Takes r x y (Ok nexts.End)
@@ -185,6 +192,7 @@ line_ends {line = line} {pending = pending} {x = x} {y = y} r version named le h
   next = told_map (rest_of r x) (λ rest c. at_line r version rest named ∙ ap (line_next r.shape version r.at.number r.at.taken) c) (told_cut h le);
   line = tt;
   fault = λ e. absurd (cc);
+  kept = λ none. h.kept (λ e. absurd (cc));
 }
 
 pub line_unended : {line pending : List ℕ} {x y : DeskState} (r : ReaderModel) (version : Version) → r.at.version ≡ Some version → r.at.taken ≤ 2 ^ 40 → TakesLine r.feed r.at.taken r.pending pending line x y (Ok Unended) → Takes r x y (Err (stops.Form r.at.number Form))
@@ -193,6 +201,7 @@ line_unended {line = line} {pending = pending} {x = x} {y = y} r version named l
   next = told_map (rest_of r x) (λ rest c. at_line r version rest named ∙ ap (line_next r.shape version r.at.number r.at.taken) c) (told_cut h le);
   line = tt;
   fault = λ e. absurd (cc);
+  kept = λ none. h.kept (λ e. absurd (cc));
 }
 
 -- what the bytes of a line read as, and what is left behind it
@@ -206,6 +215,7 @@ line_bad {line = line} {pending = pending} {x = x} {y = y} r version word named 
   next = told_map (rest_of r x) (λ rest c. is_bad rest (prepend_known pending (y.feeds r.feed).left) (read_as line r version rest _ named c)) (told_cut h le);
   line = tt;
   fault = λ e. absurd (cc);
+  kept = λ none. h.kept (λ e. absurd (cc));
 }
   where
     is_bad : (rest : List ℕ) (left : Option (List ℕ)) → IsSomeAnd left (λ more. next_line r rest ≡ line_by r.at.number (behind version r.at.number r.at.taken line) (parts_of 10 more) (line_read r.shape version line)) → next_line r rest ≡ bad r.at.number word
@@ -219,6 +229,7 @@ line_unread {line = line} {pending = pending} {x = x} {y = y} r h = record {
   next = told_map {P = λ _. ⊤} (rest_of r x) (λ rest c. tt) (anything (rest_of r x));
   line = tt;
   fault = λ e. absurd (cc);
+  kept = λ none. h.kept (λ e. absurd (cc));
 }
   where
     anything : (o : Option (List ℕ)) → IfSome o (λ _. ⊤)
@@ -250,6 +261,7 @@ line_taken {line = line} {pending = pending} {x = x} {y = y} r version l named l
     fits = fits;
   };
   fault = λ e. absurd (cc);
+  kept = λ none. h.kept (λ e. absurd (cc));
 }
 
 -- what every reader keeps, behind a whole line

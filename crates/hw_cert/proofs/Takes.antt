@@ -35,10 +35,10 @@ room_left : (taken : ℕ) (before bytes line pending : List ℕ) → before ++ b
 room_left taken before bytes line pending e le = omega (arith, length-append before bytes, length-append line pending, ap length e, le)
 
 -- what stands there, of a line that was begun
-pub takes : {f : Feed} {taken : ℕ} {before line pending : List ℕ} {x y : DeskState} (h : SoFar f taken before line pending x y) (found rest : List ℕ) (r : Result TakenLine LineStop) → Stands taken (before ++ h.moved.0) found rest (y.feeds f).left r → (IsErrOf r Fault → Rose x.read_faults y.read_faults)
+pub takes : {f : Feed} {taken : ℕ} {before line pending : List ℕ} {x y : DeskState} (h : SoFar f taken before line pending x y) (found rest : List ℕ) (r : Result TakenLine LineStop) → Stands taken (before ++ h.moved.0) found rest (y.feeds f).left r → (IsErrOf r Fault → Rose x.read_faults y.read_faults) → ((IsErrOf r Fault → ⊥) → y.read_faults ≡ x.read_faults)
     → TakesLine f taken before rest found x y r
-takes {f = f} {taken = taken} {before = before} {line = line} {pending = pending} {x = x} {y = y} h found rest r stands fault =
-    record { moved = (h.moved.0, h.moved.1, room_left taken before h.moved.0 line pending h.moved.2 h.room, stands); fault = fault }
+takes {f = f} {taken = taken} {before = before} {line = line} {pending = pending} {x = x} {y = y} h found rest r stands fault kept =
+    record { moved = (h.moved.0, h.moved.1, room_left taken before h.moved.0 line pending h.moved.2 h.room, stands); fault = fault; kept = kept }
 
 -- a line feed was found
 pub whole_line : {f : Feed} {taken : ℕ} {before line pending : List ℕ} {x y : DeskState} (h : SoFar f taken before line pending x y) (found rest : List ℕ) (long : Bool) → Scans pending rest line found true → passes taken (length found) 1 ≡ long

@@ -61,6 +61,8 @@ pub record Takes (r : ReaderModel) (old new : DeskState) (result : Result Next L
   pub next : IfSome (rest_of r old) (λ rest. Answers (next_line r rest) new result)
   pub line : IfOk result (λ n. GoesOn r n)
   pub fault : IsErrOf result stops.Fault → Rose old.read_faults new.read_faults
+  -- no read failed, unless the answer says so
+  pub kept : (IsErrOf result stops.Fault → ⊥) → new.read_faults ≡ old.read_faults
 
 -- the reader stands behind the header, and what comes next is the same there
 pub record BehindHeader (r reader : ReaderModel) (bytes : List ℕ) (old new : DeskState) : Type 0 where
@@ -80,3 +82,4 @@ HeaderAnswers r bytes old new (Err stop) = IfSome (rest_of r old) (λ rest. Stop
 pub record TakesHeader (r : ReaderModel) (old new : DeskState) (result : Result ReaderModel LineStop) : Type 0 where
   pub moved : (bytes : List ℕ) × Moves r.feed bytes old new × (r.at.taken + length r.pending + length bytes ≤ 2 ^ 40 + 1) × HeaderAnswers r bytes old new result
   pub fault : IsErrOf result stops.Fault → Rose old.read_faults new.read_faults
+  pub kept : (IsErrOf result stops.Fault → ⊥) → new.read_faults ≡ old.read_faults

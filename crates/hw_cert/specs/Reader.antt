@@ -2,7 +2,7 @@
 use Rattle.std.specs.Prelude.{◌≡◌, ℕ, ◌+◌, ◌^◌, ◌≤◌, List, [], ◌∷◌, ◌++◌, Result, length, Bool, true, false, IfOk}
 use Rattle.std.specs.Io.KnownBytes.{IsAtEnd}
 use Rattle.hw_desk.specs.State.{DeskState}
-use Rattle.hw_desk.specs.Calls.{Moves, ReadCause}
+use Rattle.hw_desk.specs.Calls.{Moves, ReadCause, ReadKept}
 use Rattle.hw_desk.specs.declared.desk.Feed.{Feed}
 use Rattle.hw_model.specs.declared.shape.Shape.{Shape}
 use Rattle.hw_text.specs.Parts.{lacks}
@@ -28,6 +28,7 @@ pub record Fills {E : Type 0} (feed : Feed) (most : ℕ) (pending : List ℕ) (o
   pub count : IfOk result (λ n. n ≡ length pending)
   pub ended : IfOk result (λ n. n ≡ 0 → IsAtEnd (new.feeds feed).left)
   pub cause : ReadCause old new result
+  pub kept : ReadKept old new result
 
 -- what every reader keeps
 pub record ReaderKeeps (r : ReaderModel) : Type 0 where

@@ -33,7 +33,8 @@ Stands taken all line pending left (Err stops.Fault) = ⊤
 Stands taken all line pending left (Err stops.TooLong) = WholeLine taken all line pending true ⊎ Unparted taken all line true
 Stands taken all line pending left (Err stops.NoMemory) = ⊤
 
--- bytes were moved, up to one past the limit of the whole, and these are what stands there
+-- bytes were moved, up to one past the limit of the whole, and these are what stands there. Unless the answer is Fault, no read failed
 pub record TakesLine (feed : Feed) (taken : ℕ) (before pending line : List ℕ) (old new : DeskState) (result : Result TakenLine LineStop) : Type 0 where
   pub moved : (bytes : List ℕ) × Moves feed bytes old new × (taken + length before + length bytes ≤ 2 ^ 40 + 1) × Stands taken (before ++ bytes) line pending (new.feeds feed).left result
   pub fault : IsErrOf result stops.Fault → Rose old.read_faults new.read_faults
+  pub kept : (IsErrOf result stops.Fault → ⊥) → new.read_faults ≡ old.read_faults
