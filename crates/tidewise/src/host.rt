@@ -1,4 +1,4 @@
-ghost use Rattle.std.specs.Prelude.{◌≡◌, ◌≤◌, ◌<◌, length, true, IfOk, IsOk, OnErr};
+ghost use Rattle.std.specs.Prelude.{◌≡◌, ◌≤◌, ◌<◌, length, true, IfOk, IsOk, OnErr, OnOk};
 ghost use Rattle.hw_desk.specs.State.{Rose};
 ghost use Rattle.tidewise.specs.Opened.{was_opened};
 
@@ -65,6 +65,7 @@ fn open_feed(
     ensures begun { was_opened feed.new ≡ true }
     ensures later { faults.old ≤ faults.new }
     ensures cause { OnErr result (Rose faults.old faults.new) }
+    ensures kept { OnOk result (faults.new ≡ faults.old) }
 {
     match fs::open(rt, name) {
         Ok(file) => {
@@ -85,6 +86,7 @@ fn read_feed(feed: &mut HostFile, into: &mut [u8], faults: &mut u64) -> Result<u
     ensures bound { IfOk result (λ n. n ≤ length into.new) }
     ensures later { faults.old ≤ faults.new }
     ensures cause { OnErr result (Rose faults.old faults.new) }
+    ensures kept { OnOk result (faults.new ≡ faults.old) }
 {
     match feed {
         HostFile::Open(file) => match file.read(into) {
@@ -103,6 +105,7 @@ fn count_write(answer: io::Result<usize>, faults: &mut u64) -> Result<usize, Des
     ensures same { IfOk result (λ n. (0 < n) × IfOk answer (λ m. n ≡ m) × IsOk answer) }
     ensures later { faults.old ≤ faults.new }
     ensures cause { OnErr result (Rose faults.old faults.new) }
+    ensures kept { OnOk result (faults.new ≡ faults.old) }
 {
     match answer {
         Ok(count) if count > 0 => Ok(count),
@@ -123,6 +126,7 @@ fn make_tray(
     ensures made { was_opened tray.new ≡ true }
     ensures later { faults.old ≤ faults.new }
     ensures cause { OnErr result (Rose faults.old faults.new) }
+    ensures kept { OnOk result (faults.new ≡ faults.old) }
 {
     match fs::create(rt, name) {
         Ok(file) => {
@@ -143,6 +147,7 @@ fn write_tray(tray: &mut HostFile, bytes: &[u8], faults: &mut u64) -> Result<usi
     ensures bound { IfOk result (λ n. (0 < n) × (n ≤ length bytes.now)) }
     ensures later { faults.old ≤ faults.new }
     ensures cause { OnErr result (Rose faults.old faults.new) }
+    ensures kept { OnOk result (faults.new ≡ faults.old) }
 {
     match tray {
         HostFile::Open(file) => {
@@ -161,6 +166,7 @@ fn write_out(rt: &HostRuntime, bytes: &[u8], faults: &mut u64) -> Result<usize, 
     ensures bound { IfOk result (λ n. (0 < n) × (n ≤ length bytes.now)) }
     ensures later { faults.old ≤ faults.new }
     ensures cause { OnErr result (Rose faults.old faults.new) }
+    ensures kept { OnOk result (faults.new ≡ faults.old) }
 {
     let answer = io::writer(rt).write(bytes);
     count_write(answer, faults)
