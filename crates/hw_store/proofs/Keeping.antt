@@ -1,8 +1,8 @@
 -- What a store that watches literals keeps.
-use Rattle.std.proofs.Common.{◌≡◌, ◌≢◌, ◌⊎◌, ℕ, zero, suc, ◌+◌, ◌-◌, ◌*◌, ◌^◌, ◌<◌, ◌≤◌, ◌||◌, Bool, true, false, List, [], ◌∷◌, ◌++◌, length, take, get_or, set, refl, sym, ap, ◌∙◌, subst, arith, All, Contains, inl, inr, length-append, length-set, get_or-set_same, get_or-set_other}
+use Rattle.std.proofs.Common.{◌≡◌, ◌≢◌, ◌⊎◌, ℕ, zero, suc, ◌+◌, ◌-◌, ◌*◌, ◌^◌, ◌<◌, ◌≤◌, ◌||◌, ◌==◌, Bool, true, false, List, [], ◌∷◌, ◌++◌, length, take, get_or, set, refl, sym, ap, ◌∙◌, subst, arith, All, Contains, inl, inr, length-append, length-set, get_or-set_same, get_or-set_other}
 use Rattle.std.proofs.lemmas.List.{get_or_default, get_or_append_left, get_or_push}
 use Rattle.std.proofs.lemmas.List.Elements.{All-contains, All-set, All-push, All-weaker, Contains-append_left, Contains-append_right, Contains-push}
-use Rattle.std.proofs.lemmas.Bool.{cases_eq}
+use Rattle.std.proofs.lemmas.Bool.{cases_eq, eq-eqb, or_right}
 use Rattle.hw_model.specs.declared.lit.Lit.{Lit}
 use Rattle.hw_model.specs.declared.lit.LitTruth.TheVariants.{Free}
 use Rattle.hw_model.specs.Lits.{negation, IsLitOf}
@@ -14,7 +14,7 @@ use Rattle.hw_store.specs.declared.watching.Watch.{Watch}
 use Rattle.hw_store.specs.declared.watching.Watch.TheVariants.{Due, One, Two}
 use Rattle.hw_store.specs.Looks.{StandsBefore}
 use Rattle.hw_store.specs.Stores.{Ascends}
-use Rattle.hw_store.specs.Watches.{WatchModel, side, hits, is_hit, count_due, IsWatchOf, Watches, Listed, Shows, ShowsAll, KeepsDue, DropsSome, Grows, KeepsWatches, WatchReady}
+use Rattle.hw_store.specs.Watches.{WatchModel, side, hits, is_hit, count_due, IsWatchOf, Watches, Listed, Shows, ShowsAll, KeepsDue, DropsSome, Grows, SiftsOne, is_on, KeepsWatches, WatchReady}
 use Rattle.hw_store.proofs.Views.{sure_quiet, two_quiet}
 use Rattle.hw_store.proofs.Drops.{dropped}
 use Rattle.hw_store.proofs.Sides.{hits_side, cut_sure, cut_open}
@@ -75,13 +75,13 @@ cut_shows ships lists room lit i (Two a b) is e of free fits listed f h =
     let two : hits lit b ≡ false = missed ships lists i lit b (hits lit b) listed.1 (λ c. (neither (hits lit a) (hits lit b) (f c)).1) refl in
     (cut_open room lit a is of' (subst (λ n. IsLitOf n a) (sym e) fits.0) free one h.0, cut_open room lit b is of' (subst (λ n. IsLitOf n b) (sym e) fits.1) free two h.1)
 
-pub marked_shows : (s : WatchModel) (cap : ℕ) (room : RoomModel) (lit : Lit) (ws : List Watch) → KeepsWatches s cap → WatchReady s room → IsRoom room → IsLitOf s.ships lit → truth room lit ≡ Free → DropsSome s.watches ws → All (λ q. is_hit lit (get_or ws q Due) ≡ false) (get_or s.lists (side s.ships (negation lit)) []) → ShowsAll (cut lit room) ws
+pub marked_shows : (s : WatchModel) (cap : ℕ) (room : RoomModel) (lit : Lit) (ws : List Watch) → KeepsWatches s cap → WatchReady s room → IsRoom room → IsLitOf s.ships lit → truth room lit ≡ Free → DropsSome s.watches ws → ((p : ℕ) → Contains (get_or s.lists (side s.ships (negation lit)) []) p → is_hit lit (get_or ws p Due) ≡ false) → ShowsAll (cut lit room) ws
 marked_shows s cap room lit ws k r is of free d marked i e lt = subst (Shows (cut lit room)) (get_or_default ws i Due e lt) (elim (d.each i) [
   | inr due ↦ subst (Shows (cut lit room)) (sym due) tt
   | inl same ↦ (
       let inside : i < length s.watches = omega (arith, lt, d.same_length) in
       subst (Shows (cut lit room)) (sym same) (cut_shows s.ships s.lists room lit i (get_or s.watches i Due) is r.0 of free (watch_at s cap i k inside) (k.listed i inside)
-      (λ c. subst (λ w. is_hit lit w ≡ false) same (All-contains (λ q. is_hit lit (get_or ws q Due) ≡ false) _ i marked c)) (r.1 i Due inside)))
+      (λ c. subst (λ w. is_hit lit w ≡ false) same (marked i c)) (r.1 i Due inside)))
 ])
 
 -- ---- changes of what is kept
@@ -97,6 +97,48 @@ keeps_drops s cap cap' ws due k d q = record {
   listed = λ i lt. dropped (Listed s.ships s.lists i) s.watches ws i d tt (k.listed i (subst (λ n. i < n) d.same_length lt));
   due = q;
 }
+
+-- a place stays in the list of a literal that its clause watches
+listed_on : (ships place i : ℕ) (cutting m : Lit) (ws : List Watch) (old new : List (List ℕ)) → SiftsOne ships place cutting ws old new → (side ships m ≡ place → is_on ships place (get_or ws i Due) ≡ true) → Contains (get_or old (side ships m) []) i → Contains (get_or new (side ships m) []) i
+listed_on ships place i cutting m ws old new f on h = elim (cases_eq (side ships m) place) [
+  | inl e ↦ subst (λ n. Contains (get_or new n []) i) (sym e) (f.one.stays i (subst (λ n. Contains (get_or old n []) i) e h) (on e))
+  | inr n ↦ subst (λ l. Contains l i) (sym (f.others (side ships m) n)) h
+]
+
+on_first : (ships place : ℕ) (a b : Lit) → side ships a ≡ place → is_on ships place (Two a b) ≡ true
+on_first ships place a b e = ap (λ x. x || side ships b == place) (eq-eqb (side ships a) place e)
+
+on_second : (ships place : ℕ) (a b : Lit) → side ships b ≡ place → is_on ships place (Two a b) ≡ true
+on_second ships place a b e = or_right (side ships a == place) (side ships b == place) (eq-eqb (side ships b) place e)
+
+listed_sifts : (ships place i : ℕ) (cutting : Lit) (ws : List Watch) (old new : List (List ℕ)) (w : Watch) → SiftsOne ships place cutting ws old new → get_or ws i Due ≡ w → Listed ships old i w → Listed ships new i w
+listed_sifts ships place i cutting ws old new Due f at h = tt
+listed_sifts ships place i cutting ws old new (One lit) f at h = tt
+listed_sifts ships place i cutting ws old new (Two a b) f at h = (
+  listed_on ships place i cutting a ws old new f (λ e. ap (is_on ships place) at ∙ on_first ships place a b e) h.0,
+  listed_on ships place i cutting b ws old new f (λ e. ap (is_on ships place) at ∙ on_second ships place a b e) h.1,
+)
+
+among_sifts : (s : WatchModel) (cap place : ℕ) (cutting : Lit) (ws : List Watch) (lists : List (List ℕ)) → KeepsWatches s cap → SiftsOne s.ships place cutting ws s.lists lists → (n p : ℕ) → Contains (get_or lists n []) p → p < length s.watches
+among_sifts s cap place cutting ws lists k f n p h = elim (cases_eq n place) [
+  | inl e ↦ k.among place p (f.one.only p (subst (λ m. Contains (get_or lists m []) p) e h))
+  | inr ne ↦ k.among n p (subst (λ l. Contains l p) (f.others n ne) h)
+]
+
+-- one list was gone through after a cut
+pub keeps_sifts : (s : WatchModel) (cap cap' place : ℕ) (cutting : Lit) (ws : List Watch) (due : List ℕ) (lists : List (List ℕ)) → KeepsWatches s cap → DropsSome s.watches ws → KeepsDue ws due cap' → SiftsOne s.ships place cutting ws s.lists lists → KeepsWatches (record s { watches = ws; due = due; lists = lists }) cap'
+keeps_sifts s cap cap' place cutting ws due lists k d q f =
+    let m = keeps_drops s cap cap' ws due k d q in
+    record {
+      clauses = m.clauses;
+      few_ships = m.few_ships;
+      each_clause = m.each_clause;
+      each_side = f.same_length ∙ k.each_side;
+      among = λ n p h. subst (λ x. p < x) (sym d.same_length) (among_sifts s cap place cutting ws lists k f n p h);
+      watched = m.watched;
+      listed = λ i lt. listed_sifts s.ships place i cutting ws s.lists lists (get_or ws i Due) f refl (m.listed i lt);
+      due = q;
+    }
 
 listed_more : (ships place i : ℕ) (old new : List (List ℕ)) (w : Watch) → Grows place old new → Listed ships old i w → Listed ships new i w
 listed_more ships place i old new Due g h = tt
@@ -284,8 +326,5 @@ clause_in s cap place one k lt e =
 pub two_fit : (ships : ℕ) (clause : List Lit) (a b : Lit) → All (IsLitOf ships) clause → StandsBefore a b clause → IsLitOf ships a × IsLitOf ships b
 two_fit ships clause a b h k = fits_watch ships clause (Two a b) h k
 
-pub list_of : (s : WatchModel) (cap n : ℕ) (l : List ℕ) → KeepsWatches s cap → n < 2 * s.ships + s.ships * s.ships → l ≡ get_or s.lists n l → (l ≡ get_or s.lists n []) × All (λ p. p < length s.watches) l
-list_of s cap n l k lt e =
-    let inside : n < length s.lists = omega (arith, lt, k.each_side) in
-    let same : l ≡ get_or s.lists n [] = e ∙ get_or_default s.lists n l [] inside in
-    (same, λ i d h. k.among n (get_or l i d) (subst (λ x. Contains x (get_or l i d)) same (i, h, get_or_default l i (get_or l i d) d h)))
+pub list_in : (s : WatchModel) (cap n : ℕ) → KeepsWatches s cap → All (λ p. p < length s.watches) (get_or s.lists n [])
+list_in s cap n k i d h = k.among n (get_or (get_or s.lists n []) i d) (i, h, get_or_default (get_or s.lists n []) i (get_or (get_or s.lists n []) i d) d h)

@@ -45,6 +45,12 @@ is_hit cutting Due = false
 is_hit cutting (One lit) = false
 is_hit cutting (Two first second) = hits cutting first || hits cutting second
 
+-- one of two watched literals is on the side
+abbrev pub is_on : ℕ → ℕ → Watch → Bool
+is_on ships place Due = false
+is_on ships place (One lit) = false
+is_on ships place (Two first second) = side ships first == place || side ships second == place
+
 -- ---- watches
 
 abbrev pub is_due : Watch → Bool
@@ -98,6 +104,18 @@ pub record KeepsDue (watches : List Watch) (due : List ℕ) (capacity : ℕ) : T
 pub record DropsSome (old new : List Watch) : Type 0 where
   pub same_length : length new ≡ length old
   pub each : (i : ℕ) → (get_or new i Due ≡ get_or old i Due) ⊎ (get_or new i Due ≡ Due)
+
+-- of the places of a side's list after a cut: no watch of theirs is hit, those that still watch the side stay, and none is new
+pub record Sifted (ships place : ℕ) (cutting : Lit) (ws : List Watch) (old new : List ℕ) : Type 0 where
+  pub missed : (p : ℕ) → Contains old p → is_hit cutting (get_or ws p Due) ≡ false
+  pub stays : (p : ℕ) → Contains old p → is_on ships place (get_or ws p Due) ≡ true → Contains new p
+  pub only : (p : ℕ) → Contains new p → Contains old p
+
+-- so of one side's list, and the others stay
+pub record SiftsOne (ships place : ℕ) (cutting : Lit) (ws : List Watch) (old new : List (List ℕ)) : Type 0 where
+  pub same_length : length new ≡ length old
+  pub others : (n : ℕ) → n ≢ place → get_or new n [] ≡ get_or old n []
+  pub one : Sifted ships place cutting ws (get_or old place []) (get_or new place [])
 
 -- the lists gain nothing but this place, and lose nothing
 pub record Grows (place : ℕ) (old new : List (List ℕ)) : Type 0 where

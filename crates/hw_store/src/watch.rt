@@ -1,12 +1,12 @@
-ghost use Rattle.std.specs.Prelude.{◌≡◌, ◌⊎◌, ◌+◌, ◌*◌, ◌<◌, ◌≤◌, [], ◌∷◌, List, ℕ, All, Contains, IfOk, OnOk, length, slice_index_or};
+ghost use Rattle.std.specs.Prelude.{◌≡◌, ◌⊎◌, ◌+◌, ◌*◌, ◌<◌, ◌≤◌, [], ◌∷◌, List, ℕ, All, Contains, IfOk, OnOk, length, slice_index_or, vec_capacity};
 ghost use Rattle.hw_model.specs.Rooms.{RoomModel};
 ghost use Rattle.hw_model.specs.Lits.{IsLitOf};
-ghost use Rattle.hw_store.specs.Watches.{WatchModel, WatchReady, Listed, Grows, NextIs, IsNew};
+ghost use Rattle.hw_store.specs.Watches.{WatchModel, WatchReady, Listed, Grows, SiftsOne, KeepsDue, DropsSome, IsWatchOf, NextIs, IsNew};
 
 use crate::looking::{Look, look_at};
 use crate::scan::find;
 use crate::store::{Held, Store, Stored};
-use crate::watching::{Places, Watch, mark, resolve, review, side_of};
+use crate::watching::{Places, Watch, resolve, review, side_of};
 use hw_flat::{Flat, Room};
 use hw_lits::Clause;
 use hw_model::{Lit, NoMemory};
@@ -128,9 +128,11 @@ impl Store for WatchStore {
     fn changed(&mut self, before: &Room, lit: Lit) {
         let _ships = before.ships();
         let side = side_of(self.ships, lit.not());
-        mark(
-            self.lists[side].as_slice(),
+        mark_at(
+            self.ships,
+            side,
             lit,
+            &mut self.lists,
             &mut self.watches,
             &mut self.due,
         );
@@ -179,4 +181,25 @@ fn list_both(
 {
     list_at(side_of(ships, first), place, lists)?;
     list_at(side_of(ships, second), place, lists)
+}
+
+// Goes through the list of a side after a cut.
+fn mark_at(
+    ships: u32,
+    side: usize,
+    cutting: Lit,
+    lists: &mut [Places],
+    watches: &mut [Watch],
+    due: &mut Vec<u32>,
+)
+    requires few { ships ≤ 40 }
+    requires side { side < length lists.old }
+    requires fits { All (IsWatchOf ships) watches.old }
+    requires inside { All (λ place. place < length watches.old) (slice_index_or lists.old side []) }
+    requires keeps { KeepsDue watches.old due.old.items (vec_capacity due.old) }
+    ensures keeps { KeepsDue watches.new due.new.items (vec_capacity due.new) }
+    ensures drops { DropsSome watches.old watches.new }
+    ensures sifted { SiftsOne ships side cutting watches.new lists.old lists.new }
+{
+    lists[side].mark(ships, side, cutting, watches, due);
 }

@@ -1,7 +1,7 @@
 ghost use Rattle.std.specs.Prelude.{◌≡◌, ◌≢◌, ◌⊎◌, ◌+◌, ◌-◌, ◌*◌, ◌<◌, ◌≤◌, false, true, [], All, Contains, OnOk, length, take, slice_set, slice_index_or, vec_capacity, MatchBool};
 ghost use Rattle.hw_model.specs.Narrowing.{truth};
 ghost use Rattle.hw_model.specs.Lits.{IsLitOf};
-ghost use Rattle.hw_store.specs.Watches.{side, hits, is_hit, IsWatchOf, Shows, ShowsAll, KeepsDue, DropsSome, is_due};
+ghost use Rattle.hw_store.specs.Watches.{side, hits, is_hit, IsWatchOf, Shows, ShowsAll, KeepsDue, DropsSome, Sifted, is_due, is_on};
 
 use hw_flat::Room;
 use hw_lits::truth;
@@ -44,13 +44,6 @@ impl Places {
         }
     }
 
-    /// The places, in order.
-    pub fn as_slice(&self) -> &[u32]
-        ensures value { result.now ≡ self.now }
-    {
-        &self.items
-    }
-
     /// Takes in a place, unless it is there.
     pub fn take_in(&mut self, place: u32) -> Result<(), NoMemory>
         ensures kept { (p : ℕ) → Contains self.old p → Contains self.new p }
@@ -62,6 +55,27 @@ impl Places {
         }
         self.items.push(place)?;
         Ok(())
+    }
+
+    /// Goes through the places after a cut: only those stay whose clause still watches the side.
+    pub fn mark(
+        &mut self,
+        ships: u32,
+        side: usize,
+        cutting: Lit,
+        watches: &mut [Watch],
+        due: &mut Vec<u32>,
+    )
+        requires few { ships ≤ 40 }
+        requires fits { All (IsWatchOf ships) watches.old }
+        requires inside { All (λ place. place < length watches.old) self.old }
+        requires keeps { KeepsDue watches.old due.old.items (vec_capacity due.old) }
+        ensures keeps { KeepsDue watches.new due.new.items (vec_capacity due.new) }
+        ensures drops { DropsSome watches.old watches.new }
+        ensures sifted { Sifted ships side cutting watches.new self.old self.new }
+    {
+        let kept = sift(ships, side, cutting, &mut self.items, watches, due);
+        self.items.truncate(kept);
     }
 }
 
@@ -174,20 +188,75 @@ pub fn resolve(place: u32, watch: Watch, watches: &mut [Watch], due: &mut Vec<u3
     due.truncate(last);
 }
 
-/// Puts those of the clauses at these places among the ones to look at whose watch a cut makes
-/// False.
-pub fn mark(places: &[u32], cutting: Lit, watches: &mut [Watch], due: &mut Vec<u32>)
-    requires inside { All (λ place. place < length watches.old) places.now }
+// Whether one of two watched literals is on a side.
+fn is_on(ships: u32, side: usize, watch: Watch) -> bool
+    requires few { ships ≤ 40 }
+    requires fits { IsWatchOf ships watch }
+    ensures value { result ≡ is_on ships side watch }
+{
+    match watch {
+        Watch::Due => false,
+        Watch::One { lit: _lit } => false,
+        Watch::Two { first, second } => side_of(ships, first) == side
+            || side_of(ships, second) == side,
+    }
+}
+
+// Puts a clause among those to look at where a cut makes its watch False: whether it still watches
+// the side.
+fn stays(
+    ships: u32,
+    side: usize,
+    cutting: Lit,
+    place: u32,
+    watches: &mut [Watch],
+    due: &mut Vec<u32>,
+) -> bool
+    requires few { ships ≤ 40 }
+    requires fits { IsWatchOf ships (slice_index_or watches.old place Watch.Due) }
+    requires inside { place < length watches.old }
     requires keeps { KeepsDue watches.old due.old.items (vec_capacity due.old) }
     ensures keeps { KeepsDue watches.new due.new.items (vec_capacity due.new) }
     ensures drops { DropsSome watches.old watches.new }
-    ensures marked { All (λ place. is_hit cutting (slice_index_or watches.new place Watch.Due) ≡ false) places.now }
+    ensures missed { is_hit cutting (slice_index_or watches.new place Watch.Due) ≡ false }
+    ensures value { result ≡ is_on ships side (slice_index_or watches.new place Watch.Due) }
 {
-    for place in places {
-        if is_hit(cutting, watches[*place as usize]) {
-            make_due(*place, watches, due);
+    let watch = watches[place as usize];
+    if is_hit(cutting, watch) {
+        make_due(place, watches, due);
+        return false;
+    }
+    is_on(ships, side, watch)
+}
+
+// Puts those of the clauses at these places among the ones to look at whose watch a cut makes
+// False, and moves the places that stay to the front: how many they are.
+fn sift(
+    ships: u32,
+    side: usize,
+    cutting: Lit,
+    places: &mut [u32],
+    watches: &mut [Watch],
+    due: &mut Vec<u32>,
+) -> usize
+    requires few { ships ≤ 40 }
+    requires fits { All (IsWatchOf ships) watches.old }
+    requires inside { All (λ place. place < length watches.old) places.old }
+    requires keeps { KeepsDue watches.old due.old.items (vec_capacity due.old) }
+    ensures keeps { KeepsDue watches.new due.new.items (vec_capacity due.new) }
+    ensures drops { DropsSome watches.old watches.new }
+    ensures same { length places.new ≡ length places.old }
+    ensures sifted { Sifted ships side cutting watches.new places.old (take result places.new) }
+{
+    let mut kept = 0;
+    for at in 0..places.len() {
+        let place = places[at];
+        if stays(ships, side, cutting, place, watches, due) {
+            places[kept] = place;
+            kept += 1;
         }
     }
+    kept
 }
 
 /// Puts those of the clauses among the ones to look at whose watch doesn't show that they are

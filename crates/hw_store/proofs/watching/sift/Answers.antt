@@ -1,0 +1,53 @@
+use Rattle.std.proofs.Common.{◌≡◌, ◌+◌, ◌<◌, false, arith, sym, ◌∙◌, subst, length, get_or, set}
+use Rattle.hw_store.specs.declared.watching.Watch.TheVariants.{Due}
+use Rattle.hw_store.specs.Watches.{is_hit, is_on}
+use Rattle.hw_store.proofs.Drops.{drops_none, watch_fits}
+use Rattle.hw_store.proofs.Sifting.{Sifting, drops_twice, sift_starts, sift_passes, sift_keeps, sift_ends}
+use Rattle.hw_store.proofs.watching.sift.Goals.{then-stays, else-stays}
+use Rattle.hw_store.proofs.watching.sift.Goals as goal
+
+pub loop-at-init : goal.loop-at-init
+loop-at-init c = (c.requires.keeps, drops_none c.args.watches.now, sift_starts c.args.ships c.args.side c.args.cutting c.args.watches.now c.args.places.now)
+
+pub stays-requires : goal.stays-requires
+stays-requires c =
+    let lt : c.loop-at.at < length c.args.places.now = omega arith in
+    let same : get_or c.loop-at.places c.loop-at.at 0 ≡ get_or c.args.places.now c.loop-at.at 0 = c.loop-at.invariant.2.behind c.loop-at.at (omega arith) in
+    let old : get_or c.args.places.now c.loop-at.at 0 < length c.loop-at.watches = subst (λ n. get_or c.args.places.now c.loop-at.at 0 < n) (sym c.loop-at.invariant.1.same_length) (c.requires.inside c.loop-at.at 0 lt) in
+    let in' : get_or c.loop-at.places c.loop-at.at 0 < length c.loop-at.watches = subst (λ n. n < length c.loop-at.watches) (sym same) old in
+    record {
+      few = c.requires.few;
+      fits = watch_fits c.args.ships c.args.watches.now c.loop-at.watches (get_or c.loop-at.places c.loop-at.at 0) c.loop-at.invariant.1 c.requires.fits in';
+      inside = in';
+      keeps = c.loop-at.invariant.0;
+    }
+
+pub loop-at-preserved : goal.loop-at-preserved
+loop-at-preserved c =
+    let lt : c.loop-at.at < length c.args.places.now = omega arith in
+    let same : get_or c.loop-at.places c.loop-at.at 0 ≡ get_or c.args.places.now c.loop-at.at 0 = c.loop-at.invariant.2.behind c.loop-at.at (omega arith) in
+    let missed : is_hit c.args.cutting (get_or c.stays.new.watches (get_or c.args.places.now c.loop-at.at 0) Due) ≡ false = subst (λ n. is_hit c.args.cutting (get_or c.stays.new.watches n Due) ≡ false) same c.stays.ensures.missed in
+    elim c.if-stays.branch [
+      | then-stays w ↦ rw (w.places-is, w.kept-is) (
+        c.stays.ensures.keeps,
+        drops_twice c.args.watches.now c.loop-at.watches c.stays.new.watches c.loop-at.invariant.1 c.stays.ensures.drops,
+        subst (λ n. Sifting c.args.ships c.args.side c.args.cutting c.stays.new.watches c.args.places.now (set c.loop-at.places c.loop-at.kept n) (c.loop-at.at + 1) (c.loop-at.kept + 1)) (sym same)
+            (sift_keeps c.args.ships c.args.side c.args.cutting c.loop-at.watches c.stays.new.watches c.args.places.now c.loop-at.places c.loop-at.at c.loop-at.kept c.loop-at.invariant.2 lt c.stays.ensures.drops missed),
+      )
+      | else-stays w ↦ rw (w.places-is, w.kept-is) (
+        c.stays.ensures.keeps,
+        drops_twice c.args.watches.now c.loop-at.watches c.stays.new.watches c.loop-at.invariant.1 c.stays.ensures.drops,
+        sift_passes c.args.ships c.args.side c.args.cutting c.loop-at.watches c.stays.new.watches c.args.places.now c.loop-at.places c.loop-at.at c.loop-at.kept c.loop-at.invariant.2 c.stays.ensures.drops missed
+            (subst (λ n. is_on c.args.ships c.args.side (get_or c.stays.new.watches n Due) ≡ false) same (sym c.stays.ensures.value ∙ w.if-stays.false)),
+      )
+    ]
+
+pub returns : goal.returns
+returns c =
+    let end : c.loop-at.at ≡ length c.args.places.now = omega arith in
+    record {
+      keeps = c.loop-at.invariant.0;
+      drops = c.loop-at.invariant.1;
+      same = c.loop-at.invariant.2.same_length;
+      sifted = sift_ends c.args.ships c.args.side c.args.cutting c.loop-at.watches c.args.places.now c.loop-at.places c.loop-at.at c.loop-at.kept c.loop-at.invariant.2 end;
+    }
