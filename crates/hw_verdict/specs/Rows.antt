@@ -1,0 +1,32 @@
+-- Small certificates with what was worked out for them by hand: which lines are lean, and which lemmas are new.
+use Rattle.std.specs.Prelude.{[], ◌∷◌, List}
+use Rattle.hw_model.specs.declared.lit.Lit.{Lit}
+use Rattle.hw_model.specs.declared.lit.Lit.TheVariants.{AtOrAfter, Before, First, NotFirst}
+use Rattle.hw_laws.specs.Rows.{two_apart, three_ships}
+use Rattle.hw_lines.specs.declared.line.Line.TheVariants as lines
+use Rattle.hw_lines.specs.Lemmas.{LeanAfter, IsNew}
+
+-- the first ship sails in the first slot, which lies within the room that leaves its first two slots
+abbrev pub second_slot : List Lit
+second_slot = AtOrAfter 0 1 ∷ []
+
+abbrev pub third_slot : List Lit
+third_slot = AtOrAfter 0 2 ∷ []
+
+-- a reason that speaks only of its source, and a lemma of its hints, or not
+pub record LeanRows : Type 0 where
+  pub goal_of_ships : LeanAfter two_apart [] (lines.Goal (AtOrAfter 1 1 ∷ []))
+  pub goal_of_an_order : LeanAfter two_apart [] (lines.Goal (First 0 1 ∷ [])) → ⊥
+  pub rule_of_its_ships_and_order : LeanAfter two_apart [] (lines.Explain 2 (Before 0 1 ∷ First 0 1 ∷ []))
+  pub window_of_another_ship : LeanAfter two_apart [] (lines.Explain 0 (Before 0 1 ∷ Before 1 1 ∷ [])) → ⊥
+  pub orders_of_three : LeanAfter three_ships [] (lines.Order 0 1 2 (NotFirst 0 1 ∷ First 0 2 ∷ NotFirst 1 2 ∷ []))
+  pub order_of_a_ship : LeanAfter three_ships [] (lines.Order 0 1 2 (AtOrAfter 0 1 ∷ [])) → ⊥
+  pub lemma_of_its_hint : LeanAfter two_apart (lines.Goal second_slot ∷ []) (lines.Lemma second_slot (1 ∷ []))
+  pub lemma_of_no_hint : LeanAfter two_apart (lines.Goal second_slot ∷ []) (lines.Lemma third_slot (1 ∷ [])) → ⊥
+
+-- lemmas of which none lies inside an earlier one, or one does
+pub record NewRows : Type 0 where
+  pub wider_later : IsNew two_apart (lines.Lemma second_slot [] ∷ lines.Lemma third_slot [] ∷ [])
+  pub narrower_later : IsNew two_apart (lines.Lemma third_slot [] ∷ lines.Lemma second_slot [] ∷ []) → ⊥
+  pub the_same_twice : IsNew two_apart (lines.Lemma second_slot [] ∷ lines.Lemma second_slot [] ∷ []) → ⊥
+  pub reasons_are_no_lemmas : IsNew two_apart (lines.Goal second_slot ∷ lines.Lemma second_slot [] ∷ [])
