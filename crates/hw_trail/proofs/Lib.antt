@@ -1,0 +1,5 @@
+pub mod Few
+pub mod Finds
+pub mod Returns
+pub mod Made
+pub mod Shapes
