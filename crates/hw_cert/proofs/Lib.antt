@@ -10,3 +10,6 @@ pub mod Written
 pub mod ReadBack
 pub mod FormBack
 pub mod WholeCerts
+pub mod Wordings
+pub mod Telling
+pub mod Logging

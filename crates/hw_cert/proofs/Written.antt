@@ -76,7 +76,7 @@ deletes_again : (version : Version) (ids : List ℕ) → has_form version (lines
 deletes_again One ids f lt h = absurd cc
 deletes_again Two ids f lt h = ap (option_map lines.Delete) (some_again ids lt h)
 
-line_again : (version : Version) (line : Line) → list_all is_small (line_numbers line) ≡ true → has_form version line ≡ true → HasWords line → line_of version (line_words line) ≡ Some line
+pub line_again : (version : Version) (line : Line) → list_all is_small (line_numbers line) ≡ true → has_form version line ≡ true → HasWords line → line_of version (line_words line) ≡ Some line
 line_again version (lines.Table table) h f w = ap (option_map lines.Table) (some_again table w h)
 line_again version (lines.Explain n clause) h f w =
     let p = and_parts (is_small n) (list_all is_small (flat_map lit_numbers clause)) h in

@@ -3,18 +3,23 @@
 
 mod fitting;
 mod laws;
+mod log;
 mod pending;
+mod putting;
 mod reader;
 mod spelling;
 mod stop;
 mod taking;
 #[cfg(test)]
 mod tests;
+mod tray_log;
 mod version;
 mod words;
 
 pub use hw_lines::{CheckWord, Hints, Line, Refusal, Verdict};
 pub use laws::{cert_spelled, header_spelled, line_spelled, stream_reads, stream_steps};
+pub use log::{Log, LogStop};
 pub use reader::{LineReader, Next};
 pub use stop::{FormWord, LineStop};
+pub use tray_log::{TrayLog, send_header};
 pub use version::Version;

@@ -1,0 +1,34 @@
+-- The text of a line is its words, each but the first behind a space.
+use Rattle.std.proofs.Common.{◌≡◌, ℕ, List, [], ◌∷◌, ◌++◌, map, decimal, refl, sym, ap, ◌∙◌, append_assoc, append-nil}
+use Rattle.std.specs.Prelude.{codes}
+use Rattle.std.specs.List.{flat_map, join_with_byte}
+use Rattle.hw_model.specs.declared.lit.Lit.{Lit}
+use Rattle.hw_lines.specs.declared.line.Line.{Line}
+use Rattle.hw_lines.specs.declared.line.Line.TheVariants as lines
+use Rattle.hw_cert.specs.Texts.{lit_text, line_text}
+use Rattle.hw_cert.specs.Worded.{number_text, numbers_text, lits_text, worded}
+
+joined : (w : List ℕ) (ws : List (List ℕ)) → join_with_byte 32 (w ∷ ws) ≡ w ++ flat_map (λ v. 32 ∷ v) ws
+joined w [] = sym (append-nil w)
+joined w (v ∷ vs) = ap (λ (t : List ℕ). w ++ 32 ∷ t) (joined v vs)
+
+numbers_each : (ns : List ℕ) → flat_map (λ v. 32 ∷ v) (map decimal ns) ≡ numbers_text ns
+numbers_each [] = refl
+numbers_each (n ∷ ns) = ap (λ (t : List ℕ). number_text n ++ t) (numbers_each ns)
+
+lits_each : (ls : List Lit) → flat_map (λ v. 32 ∷ v) (map lit_text ls) ≡ lits_text ls
+lits_each [] = refl
+lits_each (l ∷ ls) = ap (λ (t : List ℕ). (32 ∷ lit_text l) ++ t) (lits_each ls)
+
+lits_then : (ls : List Lit) (ws : List (List ℕ)) → flat_map (λ v. 32 ∷ v) (map lit_text ls ++ ws) ≡ lits_text ls ++ flat_map (λ v. 32 ∷ v) ws
+lits_then [] ws = refl
+lits_then (l ∷ ls) ws = ap (λ (t : List ℕ). (32 ∷ lit_text l) ++ t) (lits_then ls ws) ∙ sym (append_assoc (32 ∷ lit_text l) (lits_text ls) (flat_map (λ v. 32 ∷ v) ws))
+
+pub line_worded : (line : Line) → line_text line ≡ worded line
+line_worded (lines.Table table) = joined (codes "t") (map decimal table) ∙ ap (λ (t : List ℕ). codes "t" ++ t) (numbers_each table)
+line_worded (lines.Explain n clause) = joined (codes "e") (decimal n ∷ map lit_text clause) ∙ ap (λ (t : List ℕ). codes "e" ++ (number_text n ++ t)) (lits_each clause)
+line_worded (lines.Order v w x clause) = joined (codes "o") (decimal v ∷ decimal w ∷ decimal x ∷ map lit_text clause) ∙ ap (λ (t : List ℕ). codes "o" ++ (number_text v ++ (number_text w ++ (number_text x ++ t)))) (lits_each clause)
+line_worded (lines.Goal clause) = joined (codes "g") (map lit_text clause) ∙ ap (λ (t : List ℕ). codes "g" ++ t) (lits_each clause)
+line_worded (lines.Lemma clause hints) =
+    joined (codes "l") (map lit_text clause ++ codes ";" ∷ map decimal hints) ∙ ap (λ (t : List ℕ). codes "l" ++ t) (lits_then clause (codes ";" ∷ map decimal hints) ∙ ap (λ (t : List ℕ). lits_text clause ++ (codes " ;" ++ t)) (numbers_each hints))
+line_worded (lines.Delete ids) = joined (codes "d") (map decimal ids) ∙ ap (λ (t : List ℕ). codes "d" ++ t) (numbers_each ids)

@@ -1,0 +1,63 @@
+-- What contracts see of a log, and what taking a line does.
+use Rattle.std.specs.Prelude.{◌≡◌, ℕ, ◌<◌, ◌≤◌, List, [], ◌∷◌, ◌++◌, Option, Some, Result, Ok, Err, IfSome, IsSomeAnd, length, take}
+use Rattle.hw_lines.specs.declared.line.Line.{Line}
+use Rattle.hw_cert.specs.Texts.{line_text}
+use Rattle.hw_desk.specs.State.{Rose}
+use Rattle.hw_cert.specs.declared.log.LogStop.{LogStop}
+use Rattle.hw_cert.specs.declared.log.LogStop.TheVariants.{Failed, NoMemory}
+
+-- the lines so far, and the bytes behind them
+pub record LogTold : Type 0 where
+  pub lines : List Line
+  pub behind : List ℕ
+
+-- these are told together, or untold; how often the log has failed
+pub record LogModel : Type 0 where
+  pub told : Option LogTold
+  pub faults : ℕ
+
+-- a condition on lines is met where they are untold
+abbrev pub WhereTold : LogModel → (LogTold → Type 0) → Type 0
+WhereTold log P = IfSome log.told P
+
+-- nothing is behind the lines
+abbrev pub IsWhole : LogModel → Type 0
+IsWhole log = WhereTold log (λ told. told.behind ≡ [])
+
+-- a log without lines, and nothing behind them
+abbrev pub IsEmpty : LogModel → Type 0
+IsEmpty log = WhereTold log (λ told. (told.lines ≡ []) × (told.behind ≡ []))
+
+-- what is told after a call was told before it, and this holds of the two. Untold lines never become told
+abbrev pub Grows : LogModel → LogModel → (LogTold → LogTold → Type 0) → Type 0
+Grows old new P = WhereTold new (λ now. IsSomeAnd old.told (λ was. P was now))
+
+-- a line's text with its end
+abbrev pub ended_text : Line → List ℕ
+ended_text line = line_text line ++ 10 ∷ []
+
+-- a line that failed: a proper prefix of its text stands behind the lines, its line feed counted
+abbrev pub IsBegunLine : Line → List ℕ → Type 0
+IsBegunLine line bytes = (n : ℕ) × (n < length (ended_text line)) × (bytes ≡ take n (ended_text line))
+
+-- the lines told after a line was taken, or not
+abbrev pub TellsLine : Line → Result Unit LogStop → LogTold → LogTold → Type 0
+TellsLine line (Ok done) was now = (now.lines ≡ was.lines ++ line ∷ []) × (now.behind ≡ [])
+TellsLine line (Err Failed) was now = (now.lines ≡ was.lines) × IsBegunLine line now.behind
+TellsLine line (Err NoMemory) was now = now ≡ was
+
+-- it fails only where the count of faults rose, and else leaves it as it was
+abbrev pub LineCause : LogModel → LogModel → Result Unit LogStop → Type 0
+LineCause old new (Ok done) = new.faults ≡ old.faults
+LineCause old new (Err Failed) = Rose old.faults new.faults
+LineCause old new (Err NoMemory) = new.faults ≡ old.faults
+
+-- what the call that takes a line does
+pub record TakesLine (line : Line) (old new : LogModel) (result : Result Unit LogStop) : Type 0 where
+  pub later : old.faults ≤ new.faults
+  pub lines : Grows old new (TellsLine line result)
+  pub cause : LineCause old new result
+
+-- a log that keeps its lines in memory
+abbrev pub memory_log : List Line → LogModel
+memory_log lines = record { told = Some (record { lines = lines; behind = [] }); faults = 0 }

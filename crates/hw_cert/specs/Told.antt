@@ -1,0 +1,49 @@
+-- What bytes tell of a certificate with deletions, whatever the problem: its lines, and the bytes behind them.
+use Rattle.std.specs.Prelude.{ℕ, ◌==◌, List, [], ◌∷◌, ◌++◌, Bool, true, Option, Some, None, option_and_then, is_some, if◌then◌else◌}
+use Rattle.hw_text.specs.Parts.{parts_of}
+use Rattle.hw_desk.specs.State.{DeskState}
+use Rattle.hw_desk.specs.declared.desk.Tray.TheVariants.{Proof}
+use Rattle.hw_lines.specs.declared.line.Line.{Line}
+use Rattle.hw_cert.specs.declared.version.Version.TheVariants.{Two}
+use Rattle.hw_cert.specs.Texts.{header_text}
+use Rattle.hw_cert.specs.Spelled.{spelled}
+use Rattle.hw_cert.specs.Logs.{LogTold, LogModel}
+
+-- the header's line with its end
+abbrev pub header_line : List ℕ
+header_line = header_text Two ++ 10 ∷ []
+
+-- the bytes behind others, if they begin with those
+abbrev pub behind_text : List ℕ → List ℕ → Option (List ℕ)
+behind_text [] bytes = Some bytes
+behind_text (p ∷ ps) [] = None
+behind_text (p ∷ ps) (b ∷ bs) = if b == p then behind_text ps bs else None
+
+-- a line put before others, where all are told
+abbrev pub with_line : Option Line → Option LogTold → Option LogTold
+with_line None more = None
+with_line (Some line) None = None
+with_line (Some line) (Some told) = Some (record { lines = line ∷ told.lines; behind = told.behind })
+
+-- the parts round line feeds: each spells a line, and the last one is behind them
+abbrev pub parts_told : List (List ℕ) → Option LogTold
+parts_told [] = None
+parts_told (tail ∷ []) = Some (record { lines = []; behind = tail })
+parts_told (part ∷ next ∷ parts) = with_line (spelled Two part) (parts_told (next ∷ parts))
+
+-- what bytes behind a header tell
+abbrev pub lines_told : List ℕ → Option LogTold
+lines_told bytes = parts_told (parts_of 10 bytes)
+
+-- what bytes tell, the header first
+abbrev pub bytes_told : List ℕ → Option LogTold
+bytes_told bytes = option_and_then lines_told (behind_text header_line bytes)
+
+-- what was sent begins with the header, where it is told
+abbrev pub is_begun : Option (List ℕ) → Bool
+is_begun None = true
+is_begun (Some bytes) = is_some (behind_text header_line bytes)
+
+-- the log whose text a desk sent to Proof
+abbrev pub tray_log : DeskState → LogModel
+tray_log s = record { told = option_and_then bytes_told (s.trays Proof).sent; faults = s.write_faults }

@@ -1,0 +1,34 @@
+//! Where the lines of a certificate are handed, one by one.
+
+ghost use Rattle.std.specs.Prelude.{◌≡◌};
+ghost use Rattle.std.specs.Borrow.{GName};
+ghost use Rattle.hw_cert.specs.Logs.{LogModel, IsWhole, TakesLine};
+
+use hw_lines::Line;
+
+/// Why a log did not take a line.
+#[derive(Clone, Copy, Debug, PartialEq, Eq)]
+pub enum LogStop {
+    /// A write failed: a proper prefix of the line's text stands behind the lines.
+    Failed,
+    /// Memory was wanting: nothing was added.
+    NoMemory,
+}
+
+/// A log of lines.
+///
+/// Its lines and the bytes behind them are told together, or not. After `Failed` the lines are as they
+/// were, and the line that failed is the one of this call.
+pub trait Log {
+    /// The lines so far, the bytes behind them, and how often the log has failed.
+    ghost state: { Self → LogModel };
+
+    /// The name of the borrow that the log holds, which no call changes.
+    ghost anchor: { Self → GName };
+
+    /// Adds a line.
+    fn line(&mut self, line: &Line) -> Result<(), LogStop>
+        requires whole { IsWhole (state self.old) }
+        ensures takes { TakesLine line.now (state self.old) (state self.new) result }
+        ensures same_reference { anchor self.new ≡ anchor self.old };
+}

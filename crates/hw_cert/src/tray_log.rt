@@ -1,0 +1,86 @@
+ghost use Rattle.std.specs.Prelude.{◌≡◌, [], true, IfOk, IfSome, OnOk};
+ghost use Rattle.std.specs.List.{list_all};
+ghost use Rattle.hw_desk.specs.State.{CanSend};
+ghost use Rattle.hw_desk.specs.Calls.{Sends};
+ghost use Rattle.hw_desk.specs.Whole.{SendsText};
+ghost use Rattle.hw_desk.specs.declared.desk.Tray.TheVariants.{Proof};
+ghost use Rattle.hw_cert.specs.Laws.{is_small, line_numbers};
+ghost use Rattle.hw_cert.specs.Logs.{IsEmpty, ended_text};
+ghost use Rattle.hw_cert.specs.Told.{header_line, is_begun, tray_log};
+
+use crate::putting::put_line;
+use crate::{Log, LogStop};
+use hw_desk::{Desk, DeskFailed, Tray, TrayWriter, Writer, write_all};
+use hw_lines::Line;
+
+/// A log whose text goes to the proof of a lent desk. It takes no memory.
+///
+/// Each line is one write where it fits the writer's buffer, and so is the header.
+#[derive(Drop)]
+pub struct TrayLog<'d, D: Desk> {
+    pub desk: &'d mut D,
+    ghost made: { ((D.state desk.now).trays Proof).made ≡ true },
+    ghost begun: { is_begun ((D.state desk.now).trays Proof).sent ≡ true },
+}
+
+/// Sends the header of a certificate with deletions, `cert 2`, by a write of its own.
+pub fn send_header<D: Desk>(desk: &mut D) -> Result<(), DeskFailed>
+    requires made { ((D.state desk.old).trays Tray.Proof).made ≡ true }
+    requires none { IfSome ((D.state desk.old).trays Tray.Proof).sent (λ bytes. bytes ≡ []) }
+    ensures sends { SendsText Tray.Proof header_line (D.state desk.old) (D.state desk.new) result }
+    ensures begun { OnOk result (is_begun ((D.state desk.new).trays Tray.Proof).sent ≡ true) }
+    ensures empty { OnOk result (IsEmpty (tray_log (D.state desk.new))) }
+{
+    write_all(desk, Tray::Proof, b"cert 2\n")
+}
+
+impl<'d, D: Desk> TrayLog<'d, D> {
+    /// A log without lines: the header is sent. A caller that goes on after a failure sends the header
+    /// itself, by `send_header`, and takes `over`: of a desk that was lent and failed this call tells nothing.
+    pub fn new(desk: &'d mut D) -> Result<TrayLog<'d, D>, DeskFailed>
+        requires made { ((D.state desk.old).trays Tray.Proof).made ≡ true }
+        requires none { IfSome ((D.state desk.old).trays Tray.Proof).sent (λ bytes. bytes ≡ []) }
+        ensures same_reference { IfOk result (λ log. log.desk.ghost_name ≡ desk.entry.ghost_name) }
+        ensures sent { IfOk result (λ log. Sends Tray.Proof header_line (D.state desk.old) (D.state log.desk.now)) }
+        ensures kept { IfOk result (λ log. (D.state log.desk.now).write_faults ≡ (D.state desk.old).write_faults) }
+        ensures empty { IfOk result (λ log. IsEmpty (tray_log (D.state log.desk.now))) }
+    {
+        send_header(desk)?;
+        Ok(TrayLog { desk })
+    }
+
+    /// A log over a desk whose proof begins with the header.
+    pub fn over(desk: &'d mut D) -> TrayLog<'d, D>
+        requires made { ((D.state desk.old).trays Tray.Proof).made ≡ true }
+        requires begun { is_begun ((D.state desk.old).trays Tray.Proof).sent ≡ true }
+        ensures same_reference { result.desk.ghost_name ≡ desk.entry.ghost_name }
+        ensures same { D.state result.desk.now ≡ D.state desk.old }
+    {
+        TrayLog { desk }
+    }
+}
+
+/// Sends a line with its end.
+fn send_line<D: Desk>(desk: &mut D, line: &Line) -> Result<(), DeskFailed>
+    requires made { CanSend Tray.Proof (D.state desk.old) }
+    ensures sends { SendsText Tray.Proof (ended_text line.now) (D.state desk.old) (D.state desk.new) result }
+    ensures small { list_all is_small (line_numbers line.now) ≡ true }
+{
+    let mut out = TrayWriter::new(desk, Tray::Proof);
+    put_line(&mut out, line);
+    out.put(b"\n");
+    out.flush()
+}
+
+impl<D: Desk> Log for TrayLog<'_, D> {
+    ghost state = { λ log. tray_log (D.state log.desk.now) };
+
+    ghost anchor = { λ log. log.desk.ghost_name };
+
+    fn line(&mut self, line: &Line) -> Result<(), LogStop> {
+        match send_line(self.desk, line) {
+            Ok(()) => Ok(()),
+            Err(_) => Err(LogStop::Failed),
+        }
+    }
+}
