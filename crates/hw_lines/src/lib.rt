@@ -3,7 +3,12 @@
 #![tactic(auto)]
 
 mod check;
+mod laws;
 mod line;
 
 pub use check::{CheckWord, Refusal, Verdict};
+pub use laws::{
+    clause_pushed, closed_ends, deletion_pushed, kept_live, kept_numbers, kept_pushed, kept_verdict,
+    lines_pushed, table_pushed, valid_deletes,
+};
 pub use line::{Hints, Line};

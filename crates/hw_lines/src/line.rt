@@ -1,5 +1,8 @@
-use hw_flat::{ShipId, Timetable};
+ghost use Rattle.std.specs.Prelude.{◌≡◌, IfOk};
+
+use hw_flat::{NoMemory, ShipId, Timetable};
 use hw_lits::Clause;
+use std::alloc::Global;
 use std::marker::Model;
 
 /// Numbers of clause lines, which count from 1.
@@ -14,6 +17,16 @@ impl Model for Hints {
     ghost Value = { List ℕ };
 
     ghost view = { λ h. h.items.items };
+}
+
+impl Hints {
+    /// The same numbers.
+    pub fn copy(&self, alloc: Global) -> Result<Hints, NoMemory>
+        ensures value { IfOk result (λ hints. hints ≡ self.now) }
+    {
+        let items = Vec::from_slice(alloc, &self.items)?;
+        Ok(Hints { items })
+    }
 }
 
 /// A line of a certificate. All but a table and a deletion are clause lines, numbered in order.
@@ -46,4 +59,46 @@ pub enum Line {
     Delete {
         ids: Hints,
     },
+}
+
+impl Line {
+    /// The same line, as a log that keeps its lines needs it. It copies the line's list of slots,
+    /// literals or numbers once.
+    pub fn copy(&self, alloc: Global) -> Result<Line, NoMemory>
+        ensures value { IfOk result (λ line. line ≡ self.now) }
+    {
+        Ok(match self {
+            Line::Table(table) => Line::Table(copy_table(alloc, table)?),
+            Line::Explain {
+                restriction,
+                clause,
+            } => Line::Explain {
+                restriction: *restriction,
+                clause: clause.copy(alloc)?,
+            },
+            Line::Order { v, w, x, clause } => Line::Order {
+                v: *v,
+                w: *w,
+                x: *x,
+                clause: clause.copy(alloc)?,
+            },
+            Line::Goal { clause } => Line::Goal {
+                clause: clause.copy(alloc)?,
+            },
+            Line::Lemma { clause, hints } => Line::Lemma {
+                clause: clause.copy(alloc)?,
+                hints: hints.copy(alloc)?,
+            },
+            Line::Delete { ids } => Line::Delete {
+                ids: ids.copy(alloc)?,
+            },
+        })
+    }
+}
+
+fn copy_table(alloc: Global, table: &Timetable) -> Result<Timetable, NoMemory>
+    ensures value { IfOk result (λ copied. copied ≡ table.now) }
+{
+    let _few = table.len();
+    Timetable::from_slots(alloc, table.as_slice())
 }

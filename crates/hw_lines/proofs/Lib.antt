@@ -1,0 +1,4 @@
+pub mod Pushed
+pub mod Deleted
+pub mod Closed
+pub mod Keeping

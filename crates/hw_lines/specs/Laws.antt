@@ -1,0 +1,82 @@
+-- The laws of lines: what one more changes, and what is kept of them.
+use Rattle.std.specs.Prelude.{◌≡◌, ℕ, ◌+◌, ◌≤◌, ◌==◌, ◌||◌, List, [], ◌∷◌, ◌++◌, Option, Some, None, IfSome, map, option_and_then, false, if◌then◌else◌}
+use Rattle.std.specs.List.{list_any}
+use Rattle.hw_model.specs.declared.lit.Lit.{Lit}
+use Rattle.hw_model.specs.Problem.{Problem}
+use Rattle.hw_model.specs.Timetables.{cargo}
+use Rattle.hw_lines.specs.declared.line.Line.{Line}
+use Rattle.hw_lines.specs.declared.line.Line.TheVariants as lines
+use Rattle.hw_lines.specs.Lines.{clause_of, clause_count, clause_at, deletes, live, live_numbers, DeletesEarlier, table_after, last_table, best_of, is_end, is_closed, ends}
+use Rattle.hw_lines.specs.Valid.{Valid, verdict, verdict_by}
+use Rattle.hw_lines.specs.Kept.{clause_under, kept_of, kept_after}
+
+-- what any line changes
+pub record OneMore (f : Problem) (before : List Line) (line : Line) : Type 0 where
+  pub best : best_of f (before ++ line ∷ []) ≡ option_and_then (cargo f) (table_after (last_table before) line)
+  pub closed : is_closed (before ++ line ∷ []) ≡ (is_closed before || is_end (clause_of line))
+  pub ended : ends (before ++ line ∷ []) ≡ is_end (clause_of line)
+  pub counted : IfSome (clause_of line) (λ clause. clause_count (before ++ line ∷ []) ≡ clause_count before + 1)
+  pub uncounted : clause_of line ≡ None → clause_count (before ++ line ∷ []) ≡ clause_count before
+  pub earlier : (id : ℕ) → id ≤ clause_count before → deletes id line ≡ false → live (before ++ line ∷ []) id ≡ live before id
+  pub added : IfSome (clause_of line) (λ clause. clause_at (before ++ line ∷ []) (clause_count before + 1) ≡ Some clause)
+
+-- what one more line changes, of every problem and line
+abbrev pub LinesPushed : Type 0
+LinesPushed = (f : Problem) (before : List Line) (line : Line) → OneMore f before line
+
+-- a clause line brings one number more, which is live, and changes no other
+pub record ClauseAdded (f : Problem) (before after : List Line) (clause : List Lit) : Type 0 where
+  pub count : clause_count after ≡ clause_count before + 1
+  pub live_ones : (id : ℕ) → live after id ≡ if id == clause_count before + 1 then Some clause else live before id
+  pub table : last_table after ≡ last_table before
+  pub best : best_of f after ≡ best_of f before
+  pub closed : is_closed after ≡ (is_closed before || is_end (Some clause))
+
+abbrev pub ClausePushed : Type 0
+ClausePushed = (f : Problem) (before : List Line) (line : Line) (clause : List Lit) → DeletesEarlier before → clause_of line ≡ Some clause → ClauseAdded f before (before ++ line ∷ []) clause
+
+-- a table is the last one from then on, and changes nothing else
+pub record TableAdded (f : Problem) (before after : List Line) (slots : List ℕ) : Type 0 where
+  pub count : clause_count after ≡ clause_count before
+  pub live_ones : (id : ℕ) → live after id ≡ live before id
+  pub table : last_table after ≡ Some slots
+  pub best : best_of f after ≡ cargo f slots
+  pub closed : is_closed after ≡ is_closed before
+
+abbrev pub TablePushed : Type 0
+TablePushed = (f : Problem) (before : List Line) (table : List ℕ) → TableAdded f before (before ++ lines.Table table ∷ []) table
+
+-- a deletion takes its numbers, and changes nothing else
+pub record NumbersDeleted (f : Problem) (before after : List Line) (ids : List ℕ) : Type 0 where
+  pub count : clause_count after ≡ clause_count before
+  pub live_ones : (id : ℕ) → live after id ≡ if list_any (λ other. other == id) ids then None else live before id
+  pub table : last_table after ≡ last_table before
+  pub best : best_of f after ≡ best_of f before
+  pub closed : is_closed after ≡ is_closed before
+
+abbrev pub DeletionPushed : Type 0
+DeletionPushed = (f : Problem) (before : List Line) (ids : List ℕ) → NumbersDeleted f before (before ++ lines.Delete ids ∷ []) ids
+
+-- valid lines delete no number that no clause line has yet
+abbrev pub ValidDeletes : Type 0
+ValidDeletes = (f : Problem) (all : List Line) → Valid f all → DeletesEarlier all
+
+-- valid lines end with a clause line without literals exactly where they have one
+abbrev pub ClosedEnds : Type 0
+ClosedEnds = (f : Problem) (all : List Line) → Valid f all → ends all ≡ is_closed all
+
+-- the clause that is kept under a number is the live one
+abbrev pub KeptLive : Type 0
+KeptLive = (f : Problem) (all : List Line) (id : ℕ) → clause_under (kept_of f all).live id ≡ live all id
+
+-- the kept numbers are the live ones
+abbrev pub KeptNumbers : Type 0
+KeptNumbers = (f : Problem) (all : List Line) → map (λ one. one.id) (kept_of f all).live ≡ live_numbers all
+
+-- what is kept after one more line needs only what was kept
+abbrev pub KeptPushed : Type 0
+KeptPushed = (f : Problem) (before : List Line) (line : Line) → DeletesEarlier before → kept_of f (before ++ line ∷ []) ≡ kept_after f (kept_of f before) line
+
+-- the verdict needs only what is kept
+abbrev pub KeptVerdict : Type 0
+KeptVerdict = (f : Problem) (all : List Line) → Valid f all → verdict f all ≡ verdict_by (kept_of f all).closed (kept_of f all).best
