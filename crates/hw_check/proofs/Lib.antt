@@ -1,4 +1,5 @@
-pub mod Numbered
-pub mod Stored
+pub mod Places
+pub mod Storing
+pub mod Searched
 pub mod Replayed
 pub mod Following

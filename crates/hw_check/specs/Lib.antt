@@ -1,4 +1,3 @@
 pub mod States
 pub mod Places
 pub mod Follows
-pub mod Laws

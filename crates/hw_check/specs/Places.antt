@@ -1,49 +1,59 @@
--- Clauses that stand in one list of literals.
-use Rattle.std.specs.Prelude.{◌≡◌, ℕ, ◌+◌, ◌^◌, ◌<◌, ◌≤◌, List, [], ◌∷◌, ◌++◌, Option, Some, None, length, map, option_map, slice_range, is_some, All, IfSome, sum_by, count_by}
+-- Clauses that stand in one list of literals, the dead ones among them.
+use Rattle.std.specs.Prelude.{◌≡◌, ℕ, ◌+◌, ◌<◌, ◌≤◌, List, [], ◌∷◌, Option, Some, None, length, map, filter, filter_map, slice_range, All, AllPairs, ◌≢◌, if◌then◌else◌}
+use Rattle.std.specs.List.{HoldsAt}
 use Rattle.hw_model.specs.declared.lit.Lit.{Lit}
+use Rattle.hw_lines.specs.Kept.{NumberedClause}
 use Rattle.hw_check.specs.declared.place.Place.{Place}
+use Rattle.hw_check.specs.States.{literals}
 
 -- the literals at a place
 abbrev pub lits_at : List Lit → Place → List Lit
 lits_at lits place = slice_range lits place.start (place.start + place.len)
 
--- the clauses at these places
-abbrev pub clauses_at : List Lit → List (Option Place) → List (Option (List Lit))
-clauses_at lits places = map (option_map (lits_at lits)) places
+-- the clause at a place, unless it is dead
+abbrev pub clause_at : List Lit → Place → Option NumberedClause
+clause_at lits place = if place.is_live then Some (record { id = place.id; clause = lits_at lits place }) else None
 
--- the place ends before this one, if there is one
-abbrev pub PlaceFits : ℕ → Option Place → Type 0
-PlaceFits end place = IfSome place (λ p. p.start + p.len ≤ end)
+-- the live clauses at these places
+abbrev pub clauses_at : List Lit → List Place → List NumberedClause
+clauses_at lits places = filter_map (clause_at lits) places
 
--- how many literals stand there
-abbrev pub len_of : Option Place → ℕ
-len_of None = 0
-len_of (Some place) = place.len
+-- the place ends before this one
+abbrev pub PlaceFits : ℕ → Place → Type 0
+PlaceFits end place = place.start + place.len ≤ end
 
--- what the type of the list keeps
-pub record IsStored (lits : List Lit) (places : List (Option Place)) (live held : ℕ) : Type 0 where
-  pub few : length places < 2 ^ 32
+-- each number is above those of the places before it
+abbrev pub Ascends : List Place → Type 0
+Ascends places = AllPairs (λ a b. a.id < b.id) places
+
+-- no place has this number
+abbrev pub NoneHas : List Place → ℕ → Type 0
+NoneHas places id = All (λ place. place.id ≢ id) places
+
+-- the place of this number stands at this index
+pub record StandsAt (places : List Place) (id index : ℕ) : Type 0 where
+  pub in_list : index < length places
+  pub has_number : HoldsAt (λ place. place.id ≡ id) places index
+
+-- where the place of a number stands, if one has it
+abbrev pub Finds : List Place → ℕ → Option ℕ → Type 0
+Finds places id (Some index) = StandsAt places id index
+Finds places id None = NoneHas places id
+
+-- what the type of the list keeps: so many numbers were given, so many clauses are live, with so many literals
+pub record IsStored (lits : List Lit) (places : List Place) (count held live_lits : ℕ) : Type 0 where
   pub fit : All (PlaceFits (length lits)) places
-  pub live_lits : live ≡ sum_by len_of places
-  pub among : live ≤ length lits
-  pub counted : held ≡ count_by is_some places
+  pub ascend : Ascends places
+  pub given : All (λ place. place.id ≤ count) places
+  pub few : length places ≤ count
+  pub counted : held ≡ length (clauses_at lits places)
+  pub weighed : live_lits ≡ literals (clauses_at lits places)
+  pub among : live_lits ≤ length lits
 
--- the literals at a place, none where there is no place
-abbrev pub lits_in : List Lit → Option Place → List Lit
-lits_in lits None = []
-lits_in lits (Some place) = lits_at lits place
-
--- the literals at the places, one after another
-abbrev pub joined : List Lit → List (Option Place) → List Lit
-joined lits [] = []
-joined lits (place ∷ places) = lits_in lits place ++ joined lits places
-
--- the place of as many literals that begins here
-abbrev pub begun_at : ℕ → Option Place → Option Place
-begun_at start None = None
-begun_at start (Some place) = Some (record { start = start; len = place.len })
-
--- the places, each where the one before it ends
-abbrev pub closed_up : ℕ → List (Option Place) → List (Option Place)
-closed_up start [] = []
-closed_up start (place ∷ places) = begun_at start place ∷ closed_up (start + len_of place) places
+-- the live clauses of these places, and nothing else, stand in the new lists
+pub record Gathers (lits : List Lit) (places : List Place) (new_lits : List Lit) (new_places : List Place) : Type 0 where
+  pub same : clauses_at new_lits new_places ≡ clauses_at lits places
+  pub numbers : map (λ place. place.id) new_places ≡ map (λ place. place.id) (filter (λ place. place.is_live) places)
+  pub fit : All (PlaceFits (length new_lits)) new_places
+  pub no_other : length new_places ≡ length (clauses_at lits places)
+  pub no_more : length new_lits ≡ literals (clauses_at lits places)

@@ -1,14 +1,17 @@
-ghost use Rattle.std.specs.Prelude.{◌≡◌, ◌+◌, ◌^◌, ◌<◌, List, [], None, All, length, count_by, is_some, false, IfOk, IfErr, IsSome, OnOk};
+ghost use Rattle.std.specs.Prelude.{◌≡◌, ◌+◌, ◌*◌, ◌^◌, ◌<◌, ◌≤◌, List, [], None, length, false, IfOk, IfErr, OnOk};
 ghost use Rattle.hw_model.specs.Problem.{shape_of};
 ghost use Rattle.hw_model.specs.Lits.{IsClause};
 ghost use Rattle.hw_lines.specs.declared.line.Line.{Line};
-ghost use Rattle.hw_lines.specs.Lines as lines;
-ghost use Rattle.hw_lines.specs.Valid.{LineFits, verdict};
-ghost use Rattle.hw_check.specs.States.{no_lines, state_refusal, state_after, state_verdict, with_clause, is_past, claim, numbered};
-ghost use Rattle.hw_check.specs.Follows.{Follows, Answers, Stops, live_numbers};
+ghost use Rattle.hw_lines.specs.Lines.{clause_of, live_numbers};
+ghost use Rattle.hw_lines.specs.Valid.{LineFits, verdict, verdict_by};
+ghost use Rattle.hw_lines.specs.Kept.{kept_after, with_clause};
+ghost use Rattle.hw_lines.specs.Refusals.{is_past, kept_refusal};
+ghost use Rattle.hw_check.specs.States.{no_lines, literals};
+ghost use Rattle.hw_check.specs.Follows.{Follows, Answers, Stops};
 
 use crate::clause_list::ClauseList;
 use crate::refusing::{claim, clause_of, refused};
+use crate::space::Space;
 use crate::stop::CheckStop;
 use hw_lines::{CheckWord, Line, Refusal, Verdict};
 use hw_flat::{Flat, Room};
@@ -20,8 +23,8 @@ use std::marker::Model;
 
 /// Takes the lines of a certificate of one problem, one by one.
 ///
-/// Seen as the live clauses with their numbers, the best cargo so far in tenths of a tonne, and
-/// whether a clause line had no literals.
+/// Seen as the live clauses with their numbers, the number of the next clause line, the best cargo
+/// so far in tenths of a tonne, and whether a clause line had no literals.
 #[derive(Drop)]
 pub struct Checker<'f> {
     flat: &'f Flat,
@@ -37,7 +40,7 @@ impl<'f> Model for Checker<'f> {
 
     ghost Value = { CheckState };
 
-    ghost view = { λ c. record { problem = c.flat.now; clauses = c.clauses; best = c.best; closed = c.is_closed } };
+    ghost view = { λ c. record { problem = c.flat.now; kept = record { live = c.clauses.live; next = c.clauses.next; best = c.best; closed = c.is_closed }; kept_lits = c.clauses.kept_lits; kept_places = c.clauses.kept_places } };
 
     ghost invariant = { λ c. IsKept c.flat.now c.clauses c.room };
 }
@@ -60,15 +63,31 @@ impl<'f> Checker<'f> {
 
     /// The number of live clauses.
     pub fn held(&self) -> u32
-        ensures state { result ≡ count_by is_some self.now.clauses }
+        ensures state { result ≡ length self.now.kept.live }
         ensures followed { (all : List Line) → Follows self.now all → result ≡ length (live_numbers all) }
     {
         self.clauses.held()
     }
 
+    /// How much is kept: never more than twice what the live clauses need.
+    pub fn space(&self) -> Space
+        ensures live_lits { result.live_lits ≡ literals self.now.kept.live }
+        ensures live_clauses { result.live_clauses ≡ length self.now.kept.live }
+        ensures kept_lits { result.kept_lits ≡ self.now.kept_lits }
+        ensures kept_places { result.kept_places ≡ self.now.kept_places }
+        ensures bounded { result.kept_lits + result.kept_places ≤ 2 * (result.live_clauses + result.live_lits) }
+    {
+        Space {
+            live_lits: self.clauses.live_lits(),
+            live_clauses: self.clauses.held() as usize,
+            kept_lits: self.clauses.kept_lits(),
+            kept_places: self.clauses.kept_places(),
+        }
+    }
+
     /// What the lines prove.
     pub fn verdict(&self) -> Verdict
-        ensures state { result ≡ state_verdict self.now }
+        ensures state { result ≡ verdict_by self.now.kept.closed self.now.kept.best }
         ensures followed { (all : List Line) → Follows self.now all → result ≡ verdict self.now.problem all }
     {
         match (self.is_closed, self.best) {
@@ -81,72 +100,97 @@ impl<'f> Checker<'f> {
     /// Takes one more line of the problem's shape, exactly where it is valid after those before
     /// it; otherwise it says why not. A checker that refuses a line, or lacks memory for it, is
     /// used up.
-    ///
-    /// It costs the size of a room, the literals of the line and of its hints, and what a table or
-    /// a source costs that is tested.
-    pub fn line(mut self, line: Line) -> Result<Checker<'f>, CheckStop>
+    pub fn line(self, line: Line) -> Result<Checker<'f>, CheckStop>
         requires fits { LineFits self.problem line }
-        ensures state { IfOk result (λ c. c ≡ state_after self.entry line) }
+        ensures state { IfOk result (λ c. c.kept ≡ kept_after self.entry.problem self.entry.kept line) }
         ensures problem { IfOk result (λ c. c.problem ≡ self.entry.problem) }
-        ensures taken { OnOk result (state_refusal self.entry line ≡ None) }
-        ensures refused { IfErr result (λ stop. Stops stop (state_refusal self.entry line)) }
+        ensures taken { OnOk result (kept_refusal self.entry.problem self.entry.kept line ≡ None) }
+        ensures refused { IfErr result (λ stop. Stops stop (kept_refusal self.entry.problem self.entry.kept line)) }
         ensures followed { (before : List Line) → Follows self.entry before → Answers self.entry.problem before line result }
     {
-        if let Some(refusal) = self.refusal(&line) {
+        self.borrowed_line(&line)
+    }
+
+    /// The same by a line that is lent, as one that is sent afterwards.
+    ///
+    /// It costs the size of a room, the literals of the line and of its hints, the search for each
+    /// hint among the live clauses, and what a table or a source costs that is tested. A deletion
+    /// costs a search for each of its numbers, and giving back, which is paid for by what died.
+    pub fn borrowed_line(mut self, line: &Line) -> Result<Checker<'f>, CheckStop>
+        requires fits { LineFits self.problem line.now }
+        ensures state { IfOk result (λ c. c.kept ≡ kept_after self.entry.problem self.entry.kept line.now) }
+        ensures problem { IfOk result (λ c. c.problem ≡ self.entry.problem) }
+        ensures taken { OnOk result (kept_refusal self.entry.problem self.entry.kept line.now ≡ None) }
+        ensures refused { IfErr result (λ stop. Stops stop (kept_refusal self.entry.problem self.entry.kept line.now)) }
+        ensures followed { (before : List Line) → Follows self.entry before → Answers self.entry.problem before line.now result }
+    {
+        if let Some(refusal) = self.refusal(line) {
             return Err(CheckStop::Refused(refusal));
         }
-        self.take(&line)?;
-        Ok(self)
+        Ok(self.taken(line)?)
     }
 
     fn refusal(&mut self, line: &Line) -> Option<Refusal>
         requires fits { LineFits self.old.problem line.now }
-        ensures value { result ≡ state_refusal self.old line.now }
+        ensures value { result ≡ kept_refusal self.old.problem self.old.kept line.now }
         ensures same { self.new ≡ self.old }
     {
         if self.is_closed {
             return refused(CheckWord::Ended);
         }
-        if clause_of(line).is_some() && self.clauses.len() == u32::MAX {
+        if self.is_past(line) {
             return refused(CheckWord::Many);
         }
         claim(self.flat, &self.clauses, self.best, line, &mut self.room)
     }
 
-    fn take(&mut self, line: &Line) -> Result<(), NoMemory>
-        requires fits { LineFits self.old.problem line.now }
-        requires valid { state_refusal self.old line.now ≡ None }
-        ensures state { OnOk result (self.new ≡ state_after self.old line.now) }
+    /// Whether the line would have a number past the last one.
+    fn is_past(&self, line: &Line) -> bool
+        ensures value { result ≡ is_past self.now.kept.next (clause_of line.now) }
+    {
+        match clause_of(line) {
+            None => false,
+            Some(_) => !self.clauses.has_number(),
+        }
+    }
+
+    fn taken(mut self, line: &Line) -> Result<Checker<'f>, NoMemory>
+        requires fits { LineFits self.problem line.now }
+        requires valid { kept_refusal self.problem self.kept line.now ≡ None }
+        ensures state { IfOk result (λ c. c.kept ≡ kept_after self.entry.problem self.entry.kept line.now) }
+        ensures problem { IfOk result (λ c. c.problem ≡ self.entry.problem) }
     {
         match line {
             Line::Table(table) => {
                 self.best = cargo(self.flat, table);
-                Ok(())
+                Ok(self)
             }
-            Line::Explain { clause, .. } => self.add(clause),
-            Line::Order { clause, .. } => self.add(clause),
-            Line::Goal { clause } => self.add(clause),
-            Line::Lemma { clause, .. } => self.add(clause),
-            Line::Delete { ids } => self.delete(&ids.items),
+            Line::Explain { clause, .. } => self.with_clause(clause),
+            Line::Order { clause, .. } => self.with_clause(clause),
+            Line::Goal { clause } => self.with_clause(clause),
+            Line::Lemma { clause, .. } => self.with_clause(clause),
+            Line::Delete { ids } => self.without(&ids.items),
         }
     }
 
-    fn add(&mut self, clause: &Clause) -> Result<(), NoMemory>
-        requires fits { IsClause (shape_of self.old.problem) clause.now }
-        requires open { self.old.closed ≡ false }
-        requires numbered { length self.old.clauses + 1 < 2 ^ 32 }
-        ensures state { OnOk result (self.new ≡ with_clause self.old clause.now) }
+    fn with_clause(mut self, clause: &Clause) -> Result<Checker<'f>, NoMemory>
+        requires fits { IsClause (shape_of self.problem) clause.now }
+        requires open { self.kept.closed ≡ false }
+        requires numbered { self.kept.next < 2 ^ 32 }
+        ensures state { IfOk result (λ c. c.kept ≡ with_clause self.entry.kept clause.now) }
+        ensures problem { IfOk result (λ c. c.problem ≡ self.entry.problem) }
     {
         self.clauses.push(clause.as_slice())?;
         self.is_closed = clause.len() == 0;
-        Ok(())
+        Ok(self)
     }
 
-    fn delete(&mut self, ids: &[u32]) -> Result<(), NoMemory>
-        requires live { All (λ id. IsSome (numbered self.old.clauses id)) ids.now }
-        ensures state { OnOk result (self.new ≡ state_after self.old (Line.Delete ids.now)) }
+    fn without(mut self, ids: &[u32]) -> Result<Checker<'f>, NoMemory>
+        ensures state { IfOk result (λ c. c.kept ≡ kept_after self.entry.problem self.entry.kept (Line.Delete ids.now)) }
+        ensures problem { IfOk result (λ c. c.problem ≡ self.entry.problem) }
     {
         self.clauses.remove_all(ids);
-        self.clauses.give_back()
+        self.clauses.give_back()?;
+        Ok(self)
     }
 }

@@ -1,142 +1,151 @@
-ghost use Rattle.std.specs.Prelude.{◌≡◌, ◌∷◌, ◌++◌, [], ◌+◌, ◌-◌, ◌^◌, ◌<◌, ◌≤◌, Some, None, length, is_some, is_none, slice_set, count_by, fold, All, IsSome, OnOk, OnErr};
-ghost use Rattle.hw_check.specs.States.{numbered, without};
+ghost use Rattle.std.specs.Prelude.{◌≡◌, ◌∷◌, ◌++◌, [], ◌+◌, ◌*◌, ◌^◌, ◌<◌, ◌≤◌, Some, length, nat_lt, option_copied, OnOk, OnErr};
+ghost use Rattle.hw_lines.specs.Kept.{clause_under, without};
+ghost use Rattle.hw_check.specs.States.{IsBounded, literals};
 
-use crate::gathering::{close_up, lits_in, together};
-use crate::place::Place;
+use crate::stored::{Stored, find_place, gathered, lits_at};
 use hw_model::{Lit, NoMemory};
 use std::alloc::Global;
 use std::marker::Model;
 
-/// Clauses by number, counted from 1, in one list of literals.
+/// The live clauses by ascending numbers.
 ///
-/// Seen as the list of the clauses, none in the place of a dead one.
+/// Dead ones stay among them until `give_back`.
 #[derive(Drop)]
 pub(crate) struct ClauseList {
-    lits: Vec<Lit>,
-    /// Where each live clause's literals stand.
-    places: Vec<Option<Place>>,
-    /// How many literals the live clauses have.
-    live_lits: usize,
+    stored: Stored,
+    /// How many numbers were given, those of dead clauses among them.
+    count: u32,
     /// How many clauses are live.
     held: u32,
+    /// How many literals the live clauses have.
+    live_lits: usize,
 }
 
 impl Model for ClauseList {
-    ghost use Rattle.std.specs.Prelude.{List, Option};
-    ghost use Rattle.hw_model.specs.declared.lit.Lit.{Lit};
+    ghost use Rattle.std.specs.Prelude.{◌+◌, length};
+    ghost use Rattle.hw_check.specs.States.{ClauseStore};
     ghost use Rattle.hw_check.specs.Places.{clauses_at, IsStored};
 
-    ghost Value = { List (Option (List Lit)) };
+    ghost Value = { ClauseStore };
 
-    ghost view = { λ c. clauses_at c.lits.items c.places.items };
+    ghost view = { λ c. record { live = clauses_at c.stored.lits.items c.stored.places.items; next = c.count + 1; kept_lits = length c.stored.lits.items; kept_places = length c.stored.places.items } };
 
-    ghost invariant = { λ c. IsStored c.lits.items c.places.items c.live_lits c.held };
+    ghost invariant = { λ c. IsStored c.stored.lits.items c.stored.places.items c.count c.held c.live_lits };
 }
 
 impl ClauseList {
     /// No clauses.
     pub(crate) fn new(alloc: Global) -> ClauseList
-        ensures none { result ≡ [] }
+        ensures none { result ≡ record { live = []; next = 1; kept_lits = 0; kept_places = 0 } }
     {
         ClauseList {
-            lits: Vec::new(alloc),
-            places: Vec::new(alloc),
-            live_lits: 0,
+            stored: Stored::new(alloc),
+            count: 0,
             held: 0,
+            live_lits: 0,
         }
     }
 
-    /// The number of clauses, the dead ones among them.
-    pub(crate) fn len(&self) -> u32
-        ensures value { result ≡ length self.now }
+    /// Whether there is a number for one more clause.
+    pub(crate) fn has_number(&self) -> bool
+        ensures value { result ≡ nat_lt self.now.next (2 ^ 32) }
     {
-        self.places.len() as u32
+        self.count < u32::MAX
     }
 
     /// The number of live clauses.
     pub(crate) fn held(&self) -> u32
-        ensures value { result ≡ count_by is_some self.now }
+        ensures value { result ≡ length self.now.live }
     {
         self.held
     }
 
-    /// Whether no live clause has this number.
-    pub(crate) fn is_dead(&self, id: u32) -> bool
-        ensures value { result ≡ is_none (numbered self.now id) }
+    /// The number of their literals.
+    pub(crate) fn live_lits(&self) -> usize
+        ensures value { result ≡ literals self.now.live }
     {
-        place_of(&self.places, id).is_none()
+        self.live_lits
     }
 
-    /// The literals of the live clause of this number.
-    pub(crate) fn lits(&self, id: u32) -> &[Lit]
-        requires live { IsSome (numbered self.now id) }
-        ensures value { numbered self.now id ≡ Some result.now }
+    /// The number of literals that are kept, those of dead clauses among them.
+    pub(crate) fn kept_lits(&self) -> usize
+        ensures value { result ≡ self.now.kept_lits }
     {
-        lits_in(&self.lits, place_of(&self.places, id))
+        self.stored.lits.len()
     }
 
-    /// Adds a clause, which is live, at the end.
+    /// The number of places that are kept.
+    pub(crate) fn kept_places(&self) -> usize
+        ensures value { result ≡ self.now.kept_places }
+    {
+        self.stored.places.len()
+    }
+
+    /// The literals of the live clause of this number, if there is one.
+    pub(crate) fn lits(&self, id: u32) -> Option<&[Lit]>
+        ensures value { option_copied result ≡ clause_under self.now.live id }
+    {
+        let Some(index) = find_place(&self.stored.places, id) else {
+            return None;
+        };
+        let place = self.stored.places[index];
+        if place.is_live {
+            Some(lits_at(&self.stored.lits, place))
+        } else {
+            None
+        }
+    }
+
+    /// Adds a clause, which is live, under the next number.
     pub(crate) fn push(&mut self, lits: &[Lit]) -> Result<(), NoMemory>
-        requires numbered { length self.old + 1 < 2 ^ 32 }
-        ensures added { OnOk result (self.new ≡ self.old ++ Some lits.now ∷ []) }
+        requires numbered { self.old.next < 2 ^ 32 }
+        ensures added { OnOk result (self.new ≡ record { live = self.old.live ++ (record { id = self.old.next; clause = lits.now }) ∷ []; next = self.old.next + 1; kept_lits = self.old.kept_lits + length lits.now; kept_places = self.old.kept_places + 1 }) }
         ensures kept { OnErr result (self.new ≡ self.old) }
     {
-        let place = Place {
-            start: self.lits.len(),
-            len: lits.len(),
-        };
-        self.lits.extend_from_slice(lits)?;
-        self.places.push(Some(place))?;
-        self.live_lits += lits.len();
+        self.stored.add(self.count + 1, lits)?;
+        self.count += 1;
         self.held += 1;
+        self.live_lits += lits.len();
         Ok(())
     }
 
-    /// Makes a clause dead. Its literals stay until `give_back`.
+    /// Makes the clause of this number dead, if there is one. Its literals stay until `give_back`.
     pub(crate) fn remove(&mut self, id: u32)
-        requires some { 1 ≤ id }
-        requires in_list { id ≤ length self.old }
-        ensures dead { self.new ≡ slice_set self.old (id - 1) None }
+        ensures dead { self.new ≡ record self.old { live = without (id ∷ []) self.old.live } }
     {
-        let index = id as usize - 1;
-        if let Some(place) = self.places[index] {
-            self.live_lits -= place.len;
+        let Some(index) = find_place(&self.stored.places, id) else {
+            return;
+        };
+        let place = self.stored.places[index];
+        if place.is_live {
             self.held -= 1;
+            self.live_lits -= place.len;
+            self.stored.places[index].is_live = false;
         }
-        self.places[index] = None;
     }
 
-    /// Makes these clauses dead.
+    /// Makes the clauses of these numbers dead.
     pub(crate) fn remove_all(&mut self, ids: &[u32])
-        requires live { All (λ id. IsSome (numbered self.old id)) ids.now }
-        ensures dead { self.new ≡ fold without self.old ids.now }
+        ensures dead { self.new ≡ record self.old { live = without ids.now self.old.live } }
     {
         for id in ids {
             self.remove(*id);
         }
     }
 
-    /// Gives the literals of dead clauses back where they outnumber those of the live ones and the
-    /// clauses: the live ones are then moved together, in one pass over them and the places. So a
-    /// run of deletions costs as much as the literals that died in it.
+    /// Gives back what is kept of dead clauses where it is more than what the live ones need, by
+    /// one pass over all that is kept. It costs at most twice what died since the last pass.
     pub(crate) fn give_back(&mut self) -> Result<(), NoMemory>
-        ensures same { self.new ≡ self.old }
+        ensures same { self.new.live ≡ self.old.live }
+        ensures numbered { self.new.next ≡ self.old.next }
+        ensures bounded { OnOk result (IsBounded self.new) }
     {
-        if self.lits.len() - self.live_lits > self.live_lits.max(self.places.len()) {
-            self.lits = together(*self.lits.allocator(), &self.lits, &self.places)?;
-            close_up(&mut self.places);
+        let kept = self.stored.lits.len() + self.stored.places.len();
+        let needed = self.live_lits + self.held as usize;
+        if kept - needed > needed {
+            let alloc = *self.stored.lits.allocator();
+            self.stored = gathered(alloc, &self.stored.lits, &self.stored.places)?;
         }
         Ok(())
     }
-}
-
-/// The place of the live clause of this number.
-#[tactic(auto, using(crate::proofs::Numbered::numbered_in, crate::proofs::Numbered::numbered_past))]
-fn place_of(places: &[Option<Place>], id: u32) -> Option<Place>
-    ensures { result ≡ numbered places.now id }
-{
-    if id == 0 || id as usize > places.len() {
-        return None;
-    }
-    places[id as usize - 1]
 }

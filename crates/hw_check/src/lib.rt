@@ -6,16 +6,16 @@
 
 mod checker;
 mod clause_list;
-mod gathering;
-mod laws;
 mod place;
 mod refusing;
+mod space;
 mod stop;
+mod stored;
 #[cfg(test)]
 mod tests;
 
 pub use checker::Checker;
-pub use hw_lines::{CheckWord, Refusal, Verdict};
-pub use hw_verdict::{sound_lines, sound_verdict};
-pub use laws::{followed_line, followed_refusal, followed_verdict};
+pub use hw_lines::{CheckWord, Refusal, Verdict, kept_pushed, kept_verdict};
+pub use hw_verdict::{refusal_computed, sound_lines, sound_verdict};
+pub use space::Space;
 pub use stop::CheckStop;

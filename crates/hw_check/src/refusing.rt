@@ -9,8 +9,8 @@ ghost use Rattle.hw_model.specs.Replay.{replay};
 ghost use Rattle.hw_lines.specs.Lines as lines;
 ghost use Rattle.hw_lines.specs.Valid.{LineFits, denied_room};
 ghost use Rattle.hw_lines.specs.Refusals as refusals;
-ghost use Rattle.hw_check.specs.States.{numbered, named, LitsFit};
-ghost use Rattle.hw_check.specs.States as states;
+ghost use Rattle.hw_lines.specs.Kept.{clause_under};
+ghost use Rattle.hw_check.specs.States.{LitsFit};
 
 use crate::clause_list::ClauseList;
 use hw_lines::{CheckWord, Line, Refusal};
@@ -57,10 +57,10 @@ pub(crate) fn claim(
     room: &mut Room,
 ) -> Option<Refusal>
     requires fits { LineFits flat.now line.now }
-    requires lits { LitsFit flat.now.ships clauses.now }
+    requires lits { LitsFit flat.now.ships clauses.now.live }
     requires ships { room.old.ships ≡ flat.now.ships }
     requires slots { room.old.slots ≡ flat.now.slots }
-    ensures value { result ≡ states.claim flat.now clauses.now best line.now }
+    ensures value { result ≡ refusals.claim_refusal flat.now clauses.now.live best line.now }
     ensures same_ships { room.new.ships ≡ flat.now.ships }
     ensures same_slots { room.new.slots ≡ flat.now.slots }
 {
@@ -134,7 +134,7 @@ fn source_refusal(
     requires clause { IsClause (shape_of flat.now) clause.now }
     requires ships { room.old.ships ≡ flat.now.ships }
     requires slots { room.old.slots ≡ flat.now.slots }
-    ensures value { result ≡ states.source_claim flat.now best source clause.now }
+    ensures value { result ≡ refusals.source_refusal flat.now best source clause.now }
     ensures same_ships { room.new.ships ≡ flat.now.ships }
     ensures same_slots { room.new.slots ≡ flat.now.slots }
 {
@@ -167,10 +167,10 @@ fn lemma_refusal(
     room: &mut Room,
 ) -> Option<Refusal>
     requires clause { IsClause (shape_of flat.now) clause.now }
-    requires lits { LitsFit flat.now.ships clauses.now }
+    requires lits { LitsFit flat.now.ships clauses.now.live }
     requires ships { room.old.ships ≡ flat.now.ships }
     requires slots { room.old.slots ≡ flat.now.slots }
-    ensures value { result ≡ refusals.lemma_refusal (states.first_dead clauses.now hints.now) hints.now (replay (denied_room flat.now clause.now) (named clauses.now hints.now)) }
+    ensures value { result ≡ refusals.lemma_refusal (refusals.first_dead clauses.now.live hints.now) hints.now (replay (denied_room flat.now clause.now) (refusals.named clauses.now.live hints.now)) }
     ensures same_ships { room.new.ships ≡ flat.now.ships }
     ensures same_slots { room.new.slots ≡ flat.now.slots }
 {
@@ -186,14 +186,17 @@ fn lemma_refusal(
 /// Why the hints' clauses, in order, lead from the room to no conflict: one pass over their
 /// literals up to the conflict.
 fn replay_refusal(clauses: &ClauseList, hints: &[u32], room: &mut Room) -> Option<Refusal>
-    requires live { states.first_dead clauses.now hints.now ≡ None }
-    requires lits { LitsFit room.old.ships clauses.now }
-    ensures value { result ≡ refusals.replay_refusal hints.now (replay room.old (named clauses.now hints.now)) }
+    requires live { refusals.first_dead clauses.now.live hints.now ≡ None }
+    requires lits { LitsFit room.old.ships clauses.now.live }
+    ensures value { result ≡ refusals.replay_refusal hints.now (replay room.old (refusals.named clauses.now.live hints.now)) }
     ensures same_ships { room.new.ships ≡ room.old.ships }
     ensures same_slots { room.new.slots ≡ room.old.slots }
 {
     for id in hints {
-        match narrow_lits(clauses.lits(*id), room) {
+        let Some(lits) = clauses.lits(*id) else {
+            return refused_at(CheckWord::Hint, *id);
+        };
+        match narrow_lits(lits, room) {
             Narrowed::Conflict => return None,
             Narrowed::Loose { .. } => return refused_at(CheckWord::Loose, *id),
             Narrowed::Same | Narrowed::Cut(_) => {}
@@ -204,13 +207,13 @@ fn replay_refusal(clauses: &ClauseList, hints: &[u32], room: &mut Room) -> Optio
 
 /// The first of these numbers that isn't live.
 fn first_dead(clauses: &ClauseList, ids: &[u32]) -> Option<u32>
-    ensures { result ≡ states.first_dead clauses.now ids.now }
+    ensures { result ≡ refusals.first_dead clauses.now.live ids.now }
 {
-    ids.iter().copied().find(|id| clauses.is_dead(*id))
+    ids.iter().copied().find(|id| clauses.lits(*id).is_none())
 }
 
 fn delete_refusal(clauses: &ClauseList, ids: &[u32]) -> Option<Refusal>
-    ensures { result ≡ refusals.delete_refusal (states.first_dead clauses.now ids.now) }
+    ensures { result ≡ refusals.delete_refusal (refusals.first_dead clauses.now.live ids.now) }
 {
     match first_dead(clauses, ids) {
         None => None,

@@ -1,16 +1,15 @@
-use Rattle.std.proofs.Common.{◌≡◌, Result, Ok, Err, OnErr, refl, rules}
-use Rattle.hw_check.specs.Places.{clauses_at}
-use Rattle.hw_check.proofs.Stored.{more_lits, pushed_at}
+use Rattle.std.proofs.Common.{◌+◌, ◌≤◌, ◌<◌, ◌^◌, arith, refl, rules}
+use Rattle.hw_check.proofs.Storing.{held_few, stored_push, pushed_store}
 use Rattle.hw_check.proofs.clause_list.ClauseList.push.Goals as goal
 
-on_err : {T E : Type 0} (r : Result T E) (P : Type 0) → P → OnErr r P
-on_err (Ok x) P h = tt
-on_err (Err e) P h = h
+pub overflow_add-self-2 : goal.overflow_add-self-2
+overflow_add-self-2 c =
+    let few = held_few _ _ _ _ _ c.self.invariant in
+    let room : c.self.inside.count + 1 < 2 ^ 32 = search rules in
+    omega (arith, few, room)
 
-pub returns-in_err-push-clause-kept : goal.returns-in_err-push-clause-kept
-returns-in_err-push-clause-kept c =
-    let same : clauses_at c.extend_from_slice.new.self.items c.push.new.self.items ≡ c.args.self.now = rw (c.in_ok-extend_from_slice.ensures.items, c.in_err-push.ensures.items, ← c.self.view_is) (more_lits _ _ _ c.self.invariant.fit) in
-    on_err _ _ same
+pub invariant_of-self-2 : goal.invariant_of-self-2
+invariant_of-self-2 c = rw (c.in_ok-add.ensures.lits, c.in_ok-add.ensures.places) (stored_push _ _ _ c.self.inside.count _ _ (c.self.inside.count + 1) refl c.self.invariant)
 
 pub returns-clause-added : goal.returns-clause-added
-returns-clause-added c = rw (c.in_ok-extend_from_slice.ensures.items, c.in_ok-push.ensures.items, ← c.self.view_is) (pushed_at _ _ _ _ c.self.invariant.fit (search rules) refl)
+returns-clause-added c = rw (c.in_ok-add.ensures.lits, c.in_ok-add.ensures.places, ← c.self.view_is) (pushed_store _ _ _ _ c.self.invariant.fit)

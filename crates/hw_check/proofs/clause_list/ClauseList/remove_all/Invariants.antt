@@ -1,6 +1,6 @@
-use Rattle.std.proofs.Common.{◌≡◌, take, fold}
-use Rattle.hw_check.specs.States.{without}
+use Rattle.std.proofs.Common.{◌≡◌, take}
+use Rattle.hw_lines.specs.Kept.{without}
 use Rattle.hw_check.proofs.clause_list.ClauseList.remove_all.Given as goal
 
 abbrev pub invariant-loop-id : goal.invariant-loop-id
-invariant-loop-id l = l.self ≡ fold without l.fn.self (take l.id-index l.ids)
+invariant-loop-id l = l.self ≡ record l.fn.self { live = without (take l.id-index l.ids) l.fn.self.live }

@@ -1,0 +1,12 @@
+/// How much a checker keeps.
+#[derive(Clone, Copy, Debug, PartialEq, Eq)]
+pub struct Space {
+    /// The literals of the live clauses.
+    pub live_lits: usize,
+    /// The live clauses.
+    pub live_clauses: usize,
+    /// The literals that are kept, those of dead clauses among them.
+    pub kept_lits: usize,
+    /// The places of clauses that are kept, one for each live clause and for some dead ones.
+    pub kept_places: usize,
+}
