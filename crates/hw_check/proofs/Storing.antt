@@ -13,7 +13,6 @@ use Rattle.hw_check.specs.States.{ClauseStore, IsBounded, literals, needed}
 use Rattle.hw_check.specs.Places.{lits_at, clause_at, clauses_at, PlaceFits, Ascends, StandsAt, IsStored, Gathers}
 use Rattle.hw_check.proofs.Places.{clauses_few, more_lits, new_place, pushed_at, literals_push, length-lits_at, one_less, literals_less, removed_at, IsRead}
 
-
 -- lists of the same numbers
 same_number : (xs ys : List Place) (i : ℕ) (d : Place) → map (λ place. place.id) xs ≡ map (λ place. place.id) ys → i < length xs → i < length ys → (get_or xs i d).id ≡ (get_or ys i d).id
 same_number xs ys i d e lx ly = sym (get_or-map (λ (place : Place). place.id) xs i d 0 lx) ∙ ap (λ ns. get_or ns i 0) e ∙ get_or-map (λ (place : Place). place.id) ys i d 0 ly
@@ -63,7 +62,6 @@ stored_push lits more places count held live_lits id is_next is =
       weighed = ap (λ n. n + length more) is.weighed ∙ sym (ap literals same ∙ literals_push (clauses_at lits places) id more);
       among = omega (arith, size, is.among);
     }
-
 
 -- ---- one less
 

@@ -13,8 +13,8 @@ ghost use Rattle.hw_lines.specs.Kept.{clause_under};
 ghost use Rattle.hw_check.specs.States.{LitsFit};
 
 use crate::clause_list::ClauseList;
-use hw_lines::{CheckWord, Line, Refusal};
 use hw_flat::{Flat, Room, Source, Timetable};
+use hw_lines::{CheckWord, Line, Refusal};
 use hw_lits::{Clause, Narrowed, deny, narrow_lits};
 use hw_rules::{broken, cargo, refuted};
 

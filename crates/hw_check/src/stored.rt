@@ -46,11 +46,7 @@ impl Stored {
 }
 
 /// The live clauses alone, moved together: one pass over the places and over what is live.
-pub(crate) fn gathered(
-    alloc: Global,
-    lits: &[Lit],
-    places: &[Place],
-) -> Result<Stored, NoMemory>
+pub(crate) fn gathered(alloc: Global, lits: &[Lit], places: &[Place]) -> Result<Stored, NoMemory>
     requires fit { All (PlaceFits (length lits.now)) places.now }
     requires ascend { Ascends places.now }
     ensures gathered { IfOk result (λ stored. Gathers lits.now places.now stored.lits.items stored.places.items) }

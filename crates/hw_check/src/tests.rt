@@ -5,8 +5,8 @@ ghost use Rattle.hw_lines.specs.Valid.{LineFits};
 
 use crate::checker::Checker;
 use crate::stop::CheckStop;
-use hw_lines::{CheckWord, Hints, Line, Refusal, Verdict};
 use hw_flat::{Flat, Timetable};
+use hw_lines::{CheckWord, Hints, Line, Refusal, Verdict};
 use hw_lits::{Clause, Lit};
 use std::alloc::Global;
 use std::test::Fail;

@@ -145,12 +145,12 @@ clause_kept f before line clause earlier of =
     let new : live after (1 + n) ≡ Some clause = more.live_ones (1 + n) ∙ ap (λ b. cond b (Some clause) (live before (1 + n))) (eq-eqb (1 + n) (n + 1) (omega arith)) in
     let old : (id : ℕ) → 1 ≤ id → id < 1 + n → live after id ≡ live before id = λ id le lt. more.live_ones id ∙ ap (λ b. cond b (Some clause) (live before id)) (ne_eqb id (n + 1) (λ e. omega (arith, e, lt))) in
     let all : live_clauses after ≡ live_clauses before ++ (record { id = n + 1; clause = clause }) ∷ [] =
-        ap (λ k. numbered (live after) (range_with_len 1 k)) more.count
-        ∙ ap (numbered (live after)) (range_more 1 n)
-        ∙ filter_map-append (λ id. with_number id (live after id)) (range_with_len 1 n) ((1 + n) ∷ [])
-        ∙ ap (λ xs. xs ++ cons_option (with_number (1 + n) (live after (1 + n))) []) (numbered_same (live after) (live before) 1 n old)
-        ∙ ap (λ o. live_clauses before ++ cons_option (with_number (1 + n) o) []) new
-        ∙ ap (λ k. live_clauses before ++ (record { id = k; clause = clause }) ∷ []) (turned n) in
+    ap (λ k. numbered (live after) (range_with_len 1 k)) more.count
+    ∙ ap (numbered (live after)) (range_more 1 n)
+    ∙ filter_map-append (λ id. with_number id (live after id)) (range_with_len 1 n) ((1 + n) ∷ [])
+    ∙ ap (λ xs. xs ++ cons_option (with_number (1 + n) (live after (1 + n))) []) (numbered_same (live after) (live before) 1 n old)
+    ∙ ap (λ o. live_clauses before ++ cons_option (with_number (1 + n) o) []) new
+    ∙ ap (λ k. live_clauses before ++ (record { id = k; clause = clause }) ∷ []) (turned n) in
     same_kept (kept_of f after) (with_clause (kept_of f before) clause) all (ap (λ k. k + 1) more.count) more.best more.closed
   where
     turned : (n : ℕ) → 1 + n ≡ n + 1
@@ -174,18 +174,18 @@ table_kept f before table =
     let more = table_added f before table in
     let after = before ++ lines.Table table ∷ [] in
     same_kept (kept_of f after) (kept_after f (kept_of f before) (lines.Table table))
-      (ap (λ k. numbered (live after) (range_with_len 1 k)) more.count ∙ numbered_same (live after) (live before) 1 (clause_count before) (λ id le lt. more.live_ones id))
-      (ap (λ k. k + 1) more.count) more.best more.closed
+    (ap (λ k. numbered (live after) (range_with_len 1 k)) more.count ∙ numbered_same (live after) (live before) 1 (clause_count before) (λ id le lt. more.live_ones id))
+    (ap (λ k. k + 1) more.count) more.best more.closed
 
 delete_kept : (f : Problem) (before : List Line) (ids : List ℕ) → kept_of f (before ++ lines.Delete ids ∷ []) ≡ kept_after f (kept_of f before) (lines.Delete ids)
 delete_kept f before ids =
     let more = numbers_deleted f before ids in
     let after = before ++ lines.Delete ids ∷ [] in
     same_kept (kept_of f after) (kept_after f (kept_of f before) (lines.Delete ids))
-      (ap (λ k. numbered (live after) (range_with_len 1 k)) more.count
-      ∙ numbered_same (live after) (λ id. cond (list_any (λ other. other == id) ids) None (live before id)) 1 (clause_count before) (λ id le lt. more.live_ones id)
-      ∙ deleted (live before) ids (range_with_len 1 (clause_count before)))
-      (ap (λ k. k + 1) more.count) more.best more.closed
+    (ap (λ k. numbered (live after) (range_with_len 1 k)) more.count
+    ∙ numbered_same (live after) (λ id. cond (list_any (λ other. other == id) ids) None (live before id)) 1 (clause_count before) (λ id le lt. more.live_ones id)
+    ∙ deleted (live before) ids (range_with_len 1 (clause_count before)))
+    (ap (λ k. k + 1) more.count) more.best more.closed
 
 pub kept_pushed : (f : Problem) (before : List Line) (line : Line) → DeletesEarlier before → kept_of f (before ++ line ∷ []) ≡ kept_after f (kept_of f before) line
 kept_pushed f before (lines.Table table) earlier = table_kept f before table
