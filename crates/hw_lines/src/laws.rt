@@ -1,6 +1,7 @@
 //! What one more line changes, and that what is kept of lines says all that later ones need.
 
 ghost use Rattle.hw_lines.specs.Laws.{LinesPushed, ClausePushed, TablePushed, DeletionPushed, ValidDeletes, ClosedEnds, KeptLive, KeptNumbers, KeptPushed, KeptVerdict};
+ghost use Rattle.hw_lines.specs.Rows.{RefusalRows};
 
 /// What any line changes.
 pub fn lines_pushed()
@@ -50,4 +51,9 @@ pub fn kept_pushed()
 /// The verdict needs only what is kept.
 pub fn kept_verdict()
     ensures { KeptVerdict }
+{}
+
+/// Worked rows: why lines behind a small certificate are refused.
+pub fn refusal_rows()
+    ensures { RefusalRows }
 {}

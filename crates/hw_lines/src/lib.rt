@@ -9,6 +9,6 @@ mod line;
 pub use check::{CheckWord, Refusal, Verdict};
 pub use laws::{
     clause_pushed, closed_ends, deletion_pushed, kept_live, kept_numbers, kept_pushed,
-    kept_verdict, lines_pushed, table_pushed, valid_deletes,
+    kept_verdict, lines_pushed, refusal_rows, table_pushed, valid_deletes,
 };
 pub use line::{Hints, Line};
