@@ -1,10 +1,10 @@
 //! Why a line isn't valid, by what a checker keeps of the lines before it.
 ghost use Rattle.std.specs.Prelude.{◌≡◌, ◌+◌, ◌<◌, ◌≤◌, None, is_none, length, All, IsSome, option_copied};
 ghost use Rattle.hw_model.specs.Problem.{shape_of, IsTimetable};
-ghost use Rattle.hw_model.specs.Timetables.{first_broken, cargo, beats, restriction_count};
+ghost use Rattle.hw_model.specs.Timetables.{first_broken, cargo};
 ghost use Rattle.hw_model.specs.Lits.{IsClause};
+ghost use Rattle.hw_model.specs.Rooms.{RoomFits};
 ghost use Rattle.hw_model.specs.Refuting.{IsSourceOf};
-ghost use Rattle.hw_model.specs.Refuting as refuting;
 ghost use Rattle.hw_model.specs.Replay.{replay};
 ghost use Rattle.hw_lines.specs.Lines as lines;
 ghost use Rattle.hw_lines.specs.Valid.{LineFits, denied_room};
@@ -16,7 +16,7 @@ use crate::clause_list::ClauseList;
 use hw_flat::{Flat, Room, Source, Timetable};
 use hw_lines::{CheckWord, Line, Refusal};
 use hw_lits::{Clause, Narrowed, deny, narrow_lits};
-use hw_rules::{broken, cargo, refuted};
+use hw_rules::{beats, broken, cargo, refuted, source_of};
 
 /// A word that names no number.
 pub(crate) fn refused(word: CheckWord) -> Option<Refusal>
@@ -101,28 +101,6 @@ fn table_refusal(flat: &Flat, table: &Timetable, best: Option<u64>) -> Option<Re
     }
 }
 
-fn beats(cargo: u64, best: Option<u64>) -> bool
-    ensures { result ≡ beats cargo best }
-{
-    match best {
-        None => true,
-        Some(most) => most < cargo,
-    }
-}
-
-fn source_of(flat: &Flat, n: u32) -> Source
-    requires numbered { n < restriction_count flat.now }
-    ensures value { result ≡ refuting.source_of flat.now n }
-    ensures source { IsSourceOf flat.now result }
-{
-    let ships = flat.shape().ships;
-    if n < ships {
-        Source::Window { ship: n }
-    } else {
-        Source::Rule { place: n - ships }
-    }
-}
-
 fn source_refusal(
     flat: &Flat,
     source: Source,
@@ -152,11 +130,13 @@ fn deny_in(flat: &Flat, clause: &Clause, room: &mut Room)
     requires ships { room.old.ships ≡ flat.now.ships }
     requires slots { room.old.slots ≡ flat.now.slots }
     ensures room { room.new ≡ denied_room flat.now clause.now }
+    ensures fits { RoomFits flat.now room.new }
     ensures same_ships { room.new.ships ≡ flat.now.ships }
     ensures same_slots { room.new.slots ≡ flat.now.slots }
 {
     let _shape = flat.shape();
     deny(clause, room);
+    let _ships = room.ships();
 }
 
 fn lemma_refusal(

@@ -4,7 +4,8 @@ pub mod Spans
 pub mod Freed
 pub mod Meets
 pub mod Passes
-pub mod Sources
+pub mod Named
+pub mod Numbers
 pub mod Rank
 pub mod Order
 pub mod Walks

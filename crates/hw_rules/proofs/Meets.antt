@@ -1,7 +1,7 @@
 -- What refutes two ships, said of a room.
-use Rattle.std.proofs.Common.{◌≡◌, ℕ, ◌+◌, ◌<◌, Bool, true, false, not, nat_le, nat_lt, ◌&&◌, ◌||◌, List, [], ◌∷◌, IsTrue, ◌↔◌, refl, sym, ap, ◌∙◌, arith, None}
+use Rattle.std.proofs.Common.{◌≡◌, ◌≢◌, ℕ, ◌+◌, ◌<◌, Bool, true, false, not, nat_le, nat_lt, ◌&&◌, ◌||◌, List, [], ◌∷◌, IsTrue, ◌↔◌, refl, sym, ap, ◌∙◌, arith, None}
 use Rattle.std.proofs.lemmas.Int.{ints}
-use Rattle.std.proofs.lemmas.Bool.{ltb-true, lt-ltb, le-ltb, leb-true, le-leb}
+use Rattle.std.proofs.lemmas.Bool.{ltb-true, ltb-false, lt-ltb, le-ltb, leb-true, le-leb}
 use Rattle.std.proofs.lemmas.Bool.Decides.{nat_tests}
 use Rattle.hw_model.specs.declared.order.Order.{Order}
 use Rattle.hw_model.specs.declared.order.Order.TheVariants.{Unset, First, NotFirst}
@@ -16,6 +16,7 @@ use Rattle.hw_model.specs.Refuting.{NoneMeets, fits_order}
 use Rattle.hw_model.specs.RefutingComputed.{none_meets}
 use Rattle.hw_laws.proofs.Tested.{tested, tests}
 use Rattle.hw_rules.specs.declared.spacing.Freeing.TheVariants.{Either, Lesser, Greater}
+use Rattle.hw_rules.specs.OneHole.{one_hole_by, one_hole}
 use Rattle.hw_rules.specs.Differences.{HasSlots, Agrees, NonePasses, passes, clears, two_at, hole_above, hole_below}
 
 agrees_from : (o : Order) (x y : ℕ) → agrees o x y ≡ true → Agrees o x y
@@ -99,3 +100,13 @@ above_answer f room v w gap b lt slots is =
 pub below_answer : (f : Problem) (room : RoomModel) (v w gap : ℕ) (b : Bool) → w < v → HasSlots (two_at room w v) → (IsTrue b ↔ NonePasses (passes (horizon f) Lesser (hole_below gap ∷ [])) (two_at room w v)) → b ≡ none_meets f room (After v w gap) v w
 below_answer f room v w gap b lt slots is =
     same_test b _ (both_ways b is (meets_down f room (After v w gap) v w _ lt slots (below_holds f v w gap))) (after_tested f room v w gap)
+
+-- by which ship is the lesser one
+by_side : (f : Problem) (room : RoomModel) (v w gap : ℕ) (b t : Bool) → nat_lt v w ≡ t → v ≢ w → HasSlots (two_at room (one_hole_by t v w gap).lesser (one_hole_by t v w gap).greater) → (IsTrue b ↔ NonePasses (passes (horizon f) (one_hole_by t v w gap).freeing ((one_hole_by t v w gap).hole ∷ [])) (two_at room (one_hole_by t v w gap).lesser (one_hole_by t v w gap).greater)) → b ≡ none_meets f room (After v w gap) v w
+by_side f room v w gap b true e apart slots is = above_answer f room v w gap b (ltb-true v w e) slots is
+by_side f room v w gap b false e apart slots is =
+    let less : w < v = grind (arith, ltb-false v w e, apart) in
+    below_answer f room v w gap b less slots is
+
+pub precedence_answer : (f : Problem) (room : RoomModel) (v w gap : ℕ) (b : Bool) → v ≢ w → HasSlots (two_at room (one_hole v w gap).lesser (one_hole v w gap).greater) → (IsTrue b ↔ NonePasses (passes (horizon f) (one_hole v w gap).freeing ((one_hole v w gap).hole ∷ [])) (two_at room (one_hole v w gap).lesser (one_hole v w gap).greater)) → b ≡ none_meets f room (After v w gap) v w
+precedence_answer f room v w gap b apart slots is = by_side f room v w gap b (nat_lt v w) refl apart slots is

@@ -1,4 +1,6 @@
 pub mod Breaches
 pub mod Differences
+pub mod OneHole
 pub mod Outcomes
 pub mod Listing
+pub mod Sources

@@ -1,4 +1,5 @@
 ghost use Rattle.hw_rules.specs.Listing.{RankFollowsOrder, EachListOnce};
+ghost use Rattle.hw_rules.specs.Sources.{RestrictionNumbers};
 
 /// A walk takes the lists of slots in lexicographic order.
 pub fn rank_follows_order()
@@ -8,4 +9,9 @@ pub fn rank_follows_order()
 /// A walk comes to each list of slots once.
 pub fn each_list_once()
     ensures { EachListOnce }
+{}
+
+/// A restriction and its source give each other's number and name.
+pub fn restriction_numbers()
+    ensures { RestrictionNumbers }
 {}

@@ -5,29 +5,34 @@
 #![tactic(auto)]
 
 mod breach;
-#[cfg(test)]
-mod fixtures;
+mod goal;
 mod laws;
 mod lists;
+mod orders;
 mod outcome;
-mod pairs;
+mod pair;
+mod precedence;
 mod refuting;
 #[cfg(test)]
 mod refuting_tests;
+mod sources;
 mod spacing;
 mod timetables;
 mod tugs;
 mod walking;
 #[cfg(test)]
 mod walking_tests;
+mod window;
 
 pub use breach::Breach;
+pub use goal::{beats, cargo, greatest_sum, greatest_value};
 pub use hw_laws::{point_room, rising_best, sound_refutation, whole_walk};
-pub use laws::{each_list_once, rank_follows_order};
+pub use laws::{each_list_once, rank_follows_order, restriction_numbers};
 pub use outcome::Walked;
-pub use pairs::allowed_pair;
+pub use precedence::{OneHole, forbidden_above, forbidden_below, one_hole};
 pub use refuting::refuted;
-pub use spacing::{Freeing, Two, covered, two_of, two_refuted};
-pub use timetables::{broken, cargo};
-pub use tugs::busy;
+pub use sources::{number_of, source_of};
+pub use spacing::{Freeing, Two, covered, sailing_slots, two_of, two_refuted};
+pub use timetables::{allowed_pair, broken};
+pub use tugs::{busy, forced_tugs};
 pub use walking::walk;

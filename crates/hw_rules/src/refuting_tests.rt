@@ -1,15 +1,24 @@
-ghost use Rattle.std.specs.Prelude.{◌≡◌, ◌≢◌, ◌<◌, ◌≤◌, IfOk, IsTrue};
+ghost use Rattle.std.specs.Prelude.{◌≡◌, ◌<◌, IsTrue};
+ghost use Rattle.hw_model.specs.Rooms.{RoomFits};
 ghost use Rattle.hw_model.specs.Refuting.{IsSourceOf};
-ghost use Rattle.hw_model.specs.Limits.{RuleFits};
 
-use crate::fixtures::{flat_of, pair, tugs};
-use crate::pairs::allowed_pair;
 use crate::refuting::refuted;
+use crate::{
+    Freeing, beats, forced_tugs, greatest_sum, greatest_value, number_of, one_hole, source_of,
+};
 use hw_flat::Order::{First, NotFirst, Unset};
 use hw_flat::{Flat, NoMemory, Order, Room, Rule, ShipId, Slot, Source};
-use std::alloc::{AllocError, Global};
+use std::alloc::Global;
 use std::process::Abort;
 use std::test::Fail;
+
+/// Three ships and six slots, in all of which ships sail.
+const SAILING_PROBLEM: &[u8] =
+    b"flat 1\nsize 3 6\nv - 0 - - - -\nv 5 9 7 - 2 1\nv 0 3 3 3 3 4\np 0 1 -1:1\np 0 1 0:0 2:3\ns 0 1 2\ns 1 0 2\nu 1 0:1:2 1:1:2\nend\n";
+
+/// Three ships that sail in slots 0 to 3, or stay.
+const STAYING_PROBLEM: &[u8] =
+    b"flat 2\nsize 3 4\nv 1 1 1 1 y\nv 1 1 1 1 y\nv 1 1 1 1 y\np 0 1 -3:3\ns 0 1 1\ns 1 0 1\nu 1 0:1:4 1:1:4\nend\n";
 
 /// Three orders: of ships 0 and 1, of 1 and 2, of 0 and 2.
 type Orders = [Order; 3];
@@ -116,55 +125,41 @@ fn is_source(flat: &Flat, source: Source) -> bool
     }
 }
 
-/// Gives a ship another range of the problem's slots.
-fn put(room: &mut Room, ship: ShipId, low: Slot, high: Slot)
-    ensures ships { room.new.ships ≡ room.old.ships }
-    ensures slots { room.new.slots ≡ room.old.slots }
-{
-    if ship < room.ships() && low <= high && high < room.slots() {
-        room.put(ship, low, high);
+/// Gives a ship another range, where it is one of the room's slots.
+fn put(room: &mut Room, ship: ShipId, range: (Slot, Slot)) {
+    if ship < room.ships() && range.0 <= range.1 && range.1 < room.slots() {
+        room.put(ship, range.0, range.1);
     }
 }
 
 /// Gives two ships another order, the lesser one first.
-fn put_order(room: &mut Room, v: ShipId, w: ShipId, order: Order)
-    ensures ships { room.new.ships ≡ room.old.ships }
-    ensures slots { room.new.slots ≡ room.old.slots }
-{
+fn put_order(room: &mut Room, v: ShipId, w: ShipId, order: Order) {
     if v < w && w < room.ships() {
         room.put_order(v, w, order);
     }
 }
 
-/// The whole room of the problem.
-fn whole(alloc: Global, flat: &Flat) -> Result<Room, NoMemory>
-    ensures ships { IfOk result (λ room. room.ships ≡ flat.now.ships) }
-    ensures slots { IfOk result (λ room. room.slots ≡ flat.now.slots) }
-{
-    let _horizon = flat.horizon();
-    Room::whole(alloc, flat.shape())
-}
-
-fn room_of(alloc: Global, flat: &Flat, ranges: &Ranges, orders: &Orders) -> Result<Room, NoMemory>
-    ensures ships { IfOk result (λ room. room.ships ≡ flat.now.ships) }
-    ensures slots { IfOk result (λ room. room.slots ≡ flat.now.slots) }
-{
-    let mut room = whole(alloc, flat)?;
-    put(&mut room, 0, ranges[0].0, ranges[0].1);
-    put(&mut room, 1, ranges[1].0, ranges[1].1);
-    put(&mut room, 2, ranges[2].0, ranges[2].1);
+fn room_of(alloc: Global, flat: &Flat, ranges: &Ranges, orders: &Orders) -> Result<Room, NoMemory> {
+    let mut room = Room::whole(alloc, flat.shape())?;
+    put(&mut room, 0, ranges[0]);
+    put(&mut room, 1, ranges[1]);
+    put(&mut room, 2, ranges[2]);
     put_order(&mut room, 0, 1, orders[0]);
     put_order(&mut room, 1, 2, orders[1]);
     put_order(&mut room, 0, 2, orders[2]);
     Ok(room)
 }
 
-/// Whether a source refutes the room, or none where it isn't one of the problem.
-fn answer(flat: &Flat, source: Source, best: Option<u64>, room: &Room) -> Option<bool>
-    requires ships { room.now.ships ≡ flat.now.ships }
-    requires slots { room.now.slots ≡ flat.now.slots }
+fn fits(flat: &Flat, room: &Room) -> bool
+    ensures { IsTrue result → RoomFits flat.now room.now }
 {
-    if is_source(flat, source) {
+    let shape = flat.shape();
+    room.ships() == shape.ships && room.slots() == shape.slots
+}
+
+/// Whether a source refutes the room, or none where it or the room isn't one of the problem.
+fn answer(flat: &Flat, source: Source, best: Option<u64>, room: &Room) -> Option<bool> {
+    if fits(flat, room) && is_source(flat, source) {
         Some(refuted(flat, source, best, room))
     } else {
         None
@@ -186,25 +181,10 @@ fn try_rules(
     Ok(())
 }
 
-/// Three ships and six slots, in all of which ships sail.
-fn sailing_problem(alloc: Global) -> Result<Option<Flat>, AllocError> {
-    let mut rules = Vec::new(alloc);
-    rules.push(pair(alloc, 0, 1, &[(-1, 1)])?)?;
-    rules.push(pair(alloc, 0, 1, &[(0, 0), (2, 3)])?)?;
-    rules.push(Rule::After { v: 0, w: 1, gap: 2 })?;
-    rules.push(Rule::After { v: 1, w: 0, gap: 2 })?;
-    rules.push(tugs(alloc, 1, &[(0, 1, 2), (1, 1, 2)])?)?;
-    let mut values = Vec::new(alloc);
-    values.extend_from_slice(&[None, Some(0), None, None, None, None])?;
-    values.extend_from_slice(&[Some(5), Some(9), Some(7), None, Some(2), Some(1)])?;
-    values.extend_from_slice(&[Some(0), Some(3), Some(3), Some(3), Some(3), Some(4)])?;
-    Ok(flat_of(3, 6, false, values, rules))
-}
-
 #[test]
 fn sources_refute(rt: HostRuntime) -> Result<(), Fail> {
     let alloc = rt.alloc();
-    let flat = sailing_problem(alloc)?.ok_or("a limit")?;
+    let flat = Flat::read(alloc, SAILING_PROBLEM)?;
     for (name, range, wanted) in WINDOWS {
         let room = room_of(alloc, &flat, &[range, (0, 0), (0, 0)], &OPEN)?;
         let source = Source::Window { ship: 0 };
@@ -237,138 +217,61 @@ fn sources_refute(rt: HostRuntime) -> Result<(), Fail> {
 #[test]
 fn rules_refute(rt: HostRuntime) -> Result<(), Fail> {
     let alloc = rt.alloc();
-    let flat = sailing_problem(alloc)?.ok_or("a limit")?;
+    let flat = Flat::read(alloc, SAILING_PROBLEM)?;
     try_rules(&rt, alloc, &flat, &SAILING)?;
-    Ok(())
-}
-
-/// Three ships that sail in slots 0 to 3, or stay.
-fn staying_problem(alloc: Global) -> Result<Option<Flat>, AllocError> {
-    let mut rules = Vec::new(alloc);
-    rules.push(pair(alloc, 0, 1, &[(-3, 3)])?)?;
-    rules.push(Rule::After { v: 0, w: 1, gap: 1 })?;
-    rules.push(Rule::After { v: 1, w: 0, gap: 1 })?;
-    rules.push(tugs(alloc, 1, &[(0, 1, 4), (1, 1, 4)])?)?;
-    let values = vec![in alloc; Some(1); 15]?;
-    Ok(flat_of(3, 5, true, values, rules))
-}
-
-#[test]
-fn staying_frees(rt: HostRuntime) -> Result<(), Fail> {
-    let alloc = rt.alloc();
-    let flat = staying_problem(alloc)?.ok_or("a limit")?;
+    let flat = Flat::read(alloc, STAYING_PROBLEM)?;
     try_rules(&rt, alloc, &flat, &STAYING)?;
     Ok(())
 }
 
-/// One of the ranges of so many slots, each under some number below the square of the slots.
-fn range(number: u32, slots: u32) -> (Slot, Slot)
-    requires { 1 ≤ slots }
-{
-    let low = number % slots;
-    (low, low + number / slots % (slots - low))
-}
-
-fn order(number: u32) -> Order {
-    match number % 3 {
-        0 => Unset,
-        1 => First,
-        _ => NotFirst,
-    }
-}
-
-/// Whether slots of two ships agree with their order.
-fn agree(room: &Room, v: ShipId, w: ShipId, x: Slot, y: Slot) -> bool
-    requires ascends { v < w }
-    requires ship_in { w < room.now.ships }
-{
-    match room.order(v, w) {
-        Unset => true,
-        First => x < y,
-        NotFirst => y <= x,
-    }
-}
-
-/// Whether no slots of the two ranges agree with the order and meet the rule, by trying each two.
-fn none_allowed(flat: &Flat, rule: &Rule, v: ShipId, w: ShipId, room: &Room) -> bool
-    requires rule_fits { RuleFits flat.now.ships rule.now }
-    requires two_ships { v ≢ w }
-    requires first_in { v < room.now.ships }
-    requires second_in { w < room.now.ships }
-{
-    let slots = flat.shape().slots;
-    for x in 0..slots {
-        for y in 0..slots {
-            let within = room.low(v) <= x
-                && x <= room.high(v)
-                && room.low(w) <= y
-                && y <= room.high(w);
-            let agrees = if v < w {
-                agree(room, v, w, x, y)
-            } else {
-                agree(room, w, v, y, x)
-            };
-            if within && agrees && allowed_pair(flat, rule, x, y) {
-                return false;
-            }
+#[test]
+fn numbers_of_restrictions(rt: HostRuntime) -> Result<(), Fail> {
+    let flat = Flat::read(rt.alloc(), SAILING_PROBLEM)?;
+    let rows = [
+        (2, Source::Window { ship: 2 }),
+        (3, Source::Rule { place: 0 }),
+        (7, Source::Rule { place: 4 }),
+    ];
+    for (number, source) in rows {
+        let shape = flat.shape();
+        if number < shape.ships + shape.rules && is_source(&flat, source) {
+            assert_eq!(rt; source_of(&flat, number), source, "restriction {number}");
+            assert_eq!(rt;
+                number_of(&flat, source),
+                Some(number),
+                "restriction {number}"
+            );
+        } else {
+            assert!(rt; false, "no restriction {number}");
         }
     }
-    true
-}
-
-/// Two ships that sail in slots 0 to 3, or in slots 0 to 2 and may stay.
-fn tiny_problem(alloc: Global, stay: bool) -> Result<Option<Flat>, AllocError> {
-    let mut rules = Vec::new(alloc);
-    rules.push(pair(alloc, 0, 1, &[(0, 0)])?)?;
-    rules.push(pair(alloc, 0, 1, &[(1, 1), (-2, 0)])?)?;
-    rules.push(pair(alloc, 0, 1, &[(2, 1_023), (-1, 1), (-1_023, -3)])?)?;
-    rules.push(Rule::After { v: 0, w: 1, gap: 0 })?;
-    rules.push(Rule::After { v: 0, w: 1, gap: 2 })?;
-    rules.push(Rule::After { v: 1, w: 0, gap: 0 })?;
-    rules.push(Rule::After { v: 1, w: 0, gap: 1 })?;
-    rules.push(Rule::After {
-        v: 1,
-        w: 0,
-        gap: 512,
-    })?;
-    let values = vec![in alloc; None; 8]?;
-    Ok(flat_of(2, 4, stay, values, rules))
-}
-
-/// Tries each rule of a problem in a room.
-fn try_room(rt: &impl Abort, flat: &Flat, room: &Room)
-    requires ships { room.now.ships ≡ flat.now.ships }
-    requires slots { room.now.slots ≡ flat.now.slots }
-{
-    let rules = flat.rules();
-    for place in 0..rules.len() {
-        let rule = &rules[place];
-        let wanted = match rule {
-            Rule::Pair { v, w, .. } => none_allowed(flat, rule, *v, *w, room),
-            Rule::After { v, w, .. } => none_allowed(flat, rule, *v, *w, room),
-            Rule::Tugs { .. } => false,
-        };
-        let source = Source::Rule {
-            place: place as u32,
-        };
-        assert_eq!(rt; refuted(flat, source, None, room), wanted, "rule {place}");
-    }
+    assert_eq!(rt; number_of(&flat, Source::Goal), None);
+    Ok(())
 }
 
 #[test]
-fn agrees_with_trying_each_two(rt: HostRuntime) -> Result<(), Fail> {
+fn figures_of_rooms(rt: HostRuntime) -> Result<(), Fail> {
     let alloc = rt.alloc();
-    for stay in [false, true] {
-        let flat = tiny_problem(alloc, stay)?.ok_or("a limit")?;
-        for number in 0..768 {
-            let mut room = whole(alloc, &flat)?;
-            let (low, high) = range(number % 16, 4);
-            put(&mut room, 0, low, high);
-            let (low, high) = range(number / 16 % 16, 4);
-            put(&mut room, 1, low, high);
-            put_order(&mut room, 0, 1, order(number / 256));
-            try_room(&rt, &flat, &room);
+    let flat = Flat::read(alloc, SAILING_PROBLEM)?;
+    let room = room_of(alloc, &flat, &[(1, 1), (2, 5), (0, 4)], &OPEN)?;
+    if fits(&flat, &room) && flat.shape().ships == 3 && flat.shape().slots == 6 {
+        assert_eq!(rt; greatest_value(&flat, 1, 2, 5), 7);
+        assert_eq!(rt; greatest_sum(&flat, &room), 10, "0, 7 and 3");
+        for rule in flat.rules() {
+            if let Rule::Tugs { jobs, .. } = rule {
+                assert_eq!(rt; forced_tugs(&jobs.items, &room, 2), 1, "ship 0 alone");
+            }
         }
+    } else {
+        assert!(rt; false, "the problem's sizes");
     }
+    let rule = one_hole(4, 1, 3);
+    assert_eq!(rt; (rule.lesser, rule.greater), (1, 4));
+    assert_eq!(rt; (rule.hole.lo, rule.hole.hi), (-2, 1_023));
+    assert!(rt;
+        matches!(rule.freeing, Freeing::Lesser),
+        "the second ship is the lesser"
+    );
+    assert!(rt; beats(8, Some(7)) && beats(0, None) && !beats(7, Some(7)));
     Ok(())
 }

@@ -1,10 +1,11 @@
 //! Rules on the difference of two ships' slots: which rooms they refute.
 ghost use Rattle.std.specs.Prelude.{◌≡◌, ◌+◌, ◌<◌, ◌≤◌, ℕ, IsTrue, ◌↔◌, MatchOption, true, ◌+ℤ◌, pos};
 ghost use Rattle.std.specs.List.{list_all};
+ghost use Rattle.hw_model.specs.Problem.{horizon};
 ghost use Rattle.hw_model.specs.Rules.{misses};
 ghost use Rattle.hw_rules.specs.Differences.{HasSlots, AreSlots, NonePasses, frees, passes, least, greatest, Covered, HoleAt, two_at};
 
-use hw_flat::{Hole, Order, Room, ShipId, Slot};
+use hw_flat::{Flat, Hole, Order, Room, ShipId, Slot};
 
 /// The ranges of two ships and what is set of their order; `v` is the lesser ship, `w` the greater.
 #[derive(Clone, Copy)]
@@ -22,6 +23,15 @@ pub enum Freeing {
     Either,
     Lesser,
     Greater,
+}
+
+/// The number of slots in which ships sail: all but the one that means staying.
+pub fn sailing_slots(flat: &Flat) -> Slot
+    ensures value { result ≡ horizon flat.now }
+    ensures few { result ≤ 512 }
+    ensures last { flat.now.slots ≤ result + 1 }
+{
+    flat.horizon()
 }
 
 /// What a room says of two of its ships, of a problem with at most 1,023 slots.

@@ -1,24 +1,33 @@
-ghost use Rattle.std.specs.Prelude.{◌≡◌, ◌↔◌, ◌+◌, ◌<◌, ◌≤◌, IsTrue, IsNone, IfSome, length, option_map, nat_lt, None, slice_get, if◌then◌else◌, ◌-◌};
+//! Permitted timetables, and the first restriction that a timetable breaks.
+ghost use Rattle.std.specs.Prelude.{◌≡◌, ◌↔◌, ◌<◌, IsTrue, IsNone, IfSome, option_map, nat_lt, None, slice_get, if◌then◌else◌, ◌-◌};
 ghost use Rattle.hw_model.specs.Problem.{IsTimetable};
-ghost use Rattle.hw_model.specs.Rules.{rule_holds, first_overfull};
-ghost use Rattle.hw_model.specs.Timetables.{Permits, FirstBroken, breach, cargo, restriction_count, restriction_holds, first_broken, overfull_at};
+ghost use Rattle.hw_model.specs.Rules.{pair_holds, rule_holds, first_overfull};
+ghost use Rattle.hw_model.specs.Timetables.{Permits, FirstBroken, breach, restriction_count, restriction_holds, first_broken, overfull_at};
 ghost use Rattle.hw_model.specs.Limits.{RuleFits};
 ghost use Rattle.hw_rules.specs.Breaches.{breach_parts};
 
 use crate::breach::Breach;
-use crate::pairs::allowed_pair;
+use crate::pair::pair_holds;
+use crate::precedence::precedence_holds;
 use crate::tugs::{fleet_holds, overfull};
+use crate::window::window_holds;
 use hw_flat::{Flat, Timetable};
 use hw_model::{Rule, Slot};
 
-/// The sum of the ships' values in their slots, in tenths of a tonne, or none where a ship has no
-/// value in its slot.
-pub fn cargo(flat: &Flat, table: &Timetable) -> Option<u64>
-    requires listed { IsTimetable flat.now table.now }
-    ensures value { result ≡ cargo flat.now table.now }
-    ensures small { IfSome result (λ c. c ≤ 40_000_000_000_000) }
+/// Whether a rule holds where the first of its two ships has the slot `x` and the second `y`.
+///
+/// It does for every rule on tugs. At most 8 holes are looked at.
+pub fn allowed_pair(flat: &Flat, rule: &Rule, x: Slot, y: Slot) -> bool
+    requires rule_fits { RuleFits flat.now.ships rule.now }
+    requires first_in { x < flat.now.slots }
+    requires second_in { y < flat.now.slots }
+    ensures value { result ≡ pair_holds flat.now rule.now x y }
 {
-    cargo_of(flat, table.as_slice())
+    match rule {
+        Rule::Pair { holes, .. } => pair_holds(flat, &holes.items, x, y),
+        Rule::After { gap, .. } => precedence_holds(flat, *gap, x, y),
+        Rule::Tugs { .. } => true,
+    }
 }
 
 /// The first restriction that a timetable breaks, or none where it is permitted.
@@ -38,21 +47,6 @@ pub fn broken(flat: &Flat, table: &Timetable) -> Option<Breach>
             slot: overfull_slot(flat, slots, restriction),
         }),
     }
-}
-
-pub(crate) fn cargo_of(flat: &Flat, table: &[Slot]) -> Option<u64>
-    requires listed { IsTimetable flat.now table.now }
-    ensures value { result ≡ cargo flat.now table.now }
-    ensures small { IfSome result (λ c. c ≤ 40_000_000_000_000) }
-{
-    let mut sum: u64 = 0;
-    for ship in 0..flat.shape().ships {
-        match flat.value(ship, table[ship as usize]) {
-            None => return None,
-            Some(value) => sum += value,
-        }
-    }
-    Some(sum)
 }
 
 /// Whether no restriction is broken.
@@ -76,11 +70,11 @@ fn first_broken(flat: &Flat, table: &[Slot]) -> Option<u32>
 fn restriction_holds(flat: &Flat, table: &[Slot], n: u32) -> bool
     requires listed { IsTimetable flat.now table.now }
     requires numbered { n < restriction_count flat.now }
-    ensures { result ≡ restriction_holds flat.now table.now n }
+    ensures value { result ≡ restriction_holds flat.now table.now n }
 {
     let ships = flat.shape().ships;
     if n < ships {
-        flat.value(n, table[n as usize]).is_some()
+        window_holds(flat, n, table[n as usize])
     } else {
         rule_holds(flat, &flat.rules()[(n - ships) as usize], table)
     }
@@ -89,7 +83,7 @@ fn restriction_holds(flat: &Flat, table: &[Slot], n: u32) -> bool
 fn rule_holds(flat: &Flat, rule: &Rule, table: &[Slot]) -> bool
     requires listed { IsTimetable flat.now table.now }
     requires rule_fits { RuleFits flat.now.ships rule.now }
-    ensures { result ≡ rule_holds flat.now table.now rule.now }
+    ensures value { result ≡ rule_holds flat.now table.now rule.now }
 {
     match rule {
         Rule::Pair { v, w, .. } => allowed_pair(flat, rule, table[*v as usize], table[*w as usize]),
@@ -107,7 +101,7 @@ fn rule_holds(flat: &Flat, rule: &Rule, table: &[Slot]) -> bool
 fn overfull_slot(flat: &Flat, table: &[Slot], n: u32) -> Option<Slot>
     requires listed { IsTimetable flat.now table.now }
     requires numbered { n < restriction_count flat.now }
-    ensures { result ≡ (if nat_lt n flat.now.ships then None else overfull_at flat.now table.now (slice_get flat.now.rules (n - flat.now.ships))) }
+    ensures value { result ≡ (if nat_lt n flat.now.ships then None else overfull_at flat.now table.now (slice_get flat.now.rules (n - flat.now.ships))) }
 {
     let ships = flat.shape().ships;
     if n < ships {
@@ -120,7 +114,7 @@ fn overfull_slot(flat: &Flat, table: &[Slot], n: u32) -> Option<Slot>
 fn first_overfull(flat: &Flat, rule: &Rule, table: &[Slot]) -> Option<Slot>
     requires listed { IsTimetable flat.now table.now }
     requires rule_fits { RuleFits flat.now.ships rule.now }
-    ensures { result ≡ first_overfull flat.now rule.now table.now }
+    ensures value { result ≡ first_overfull flat.now rule.now table.now }
 {
     match rule {
         Rule::Pair { .. } | Rule::After { .. } => None,

@@ -1,10 +1,14 @@
+//! Tugs: whether the jobs hold no more tugs than a fleet has, in each slot of the horizon.
+//!
+//! Wrong bodies that are refused: `held_from_the_lowest_slot`, `tugs_counted_in_the_staying_slot`.
 ghost use Rattle.std.specs.Prelude.{◌≡◌, ◌≤◌, ◌<◌, length, All, nat_lt, nat_le, find, sum_by};
-ghost use Rattle.std.specs.List.{list_all, range_with_len};
+ghost use Rattle.std.specs.List.{list_all, list_any, range_with_len};
 ghost use Rattle.hw_model.specs.Problem.{horizon};
 ghost use Rattle.hw_model.specs.Rules.{held_by, busy};
 ghost use Rattle.hw_model.specs.Limits.{RuleFits, JobFits};
+ghost use Rattle.hw_model.specs.Refuting.{forced_by};
 
-use hw_flat::{Flat, Timetable};
+use hw_flat::{Flat, Room, Timetable};
 use hw_model::{Job, Rule, Slot};
 
 /// The tugs that a rule's jobs hold in a slot; none for a rule on two ships.
@@ -42,7 +46,7 @@ pub(crate) fn held(jobs: &[Job], table: &[Slot], slot: Slot) -> u64
 pub(crate) fn overfull(flat: &Flat, fleet: u32, jobs: &[Job], table: &[Slot]) -> Option<Slot>
     requires few { length jobs.now ≤ 40 }
     requires fit { All (JobFits (length table.now)) jobs.now }
-    ensures { result ≡ find (λ slot. nat_lt fleet (sum_by (held_by table.now slot) jobs.now)) (range_with_len 0 (horizon flat.now)) }
+    ensures value { result ≡ find (λ slot. nat_lt fleet (sum_by (held_by table.now slot) jobs.now)) (range_with_len 0 (horizon flat.now)) }
 {
     (0..flat.horizon()).find(|slot| u64::from(fleet) < held(jobs, table, *slot))
 }
@@ -51,7 +55,35 @@ pub(crate) fn overfull(flat: &Flat, fleet: u32, jobs: &[Job], table: &[Slot]) ->
 pub(crate) fn fleet_holds(flat: &Flat, fleet: u32, jobs: &[Job], table: &[Slot]) -> bool
     requires few { length jobs.now ≤ 40 }
     requires fit { All (JobFits (length table.now)) jobs.now }
-    ensures { result ≡ list_all (λ slot. nat_le (sum_by (held_by table.now slot) jobs.now) fleet) (range_with_len 0 (horizon flat.now)) }
+    ensures value { result ≡ list_all (λ slot. nat_le (sum_by (held_by table.now slot) jobs.now) fleet) (range_with_len 0 (horizon flat.now)) }
 {
     (0..flat.horizon()).all(|slot| held(jobs, table, slot) <= u64::from(fleet))
+}
+
+/// The tugs that the jobs hold in a slot wherever their ships sail in their ranges. At most 40
+/// jobs are looked at.
+pub fn forced_tugs(jobs: &[Job], room: &Room, slot: Slot) -> u64
+    requires few { length jobs.now ≤ 40 }
+    requires fit { All (JobFits room.now.ships) jobs.now }
+    ensures value { result ≡ sum_by (forced_by room.now slot) jobs.now }
+    ensures small { result ≤ 2_560 }
+{
+    let mut sum: u64 = 0;
+    for job in jobs {
+        let low = u64::from(room.low(job.ship));
+        if room.high(job.ship) <= slot && u64::from(slot) < low + u64::from(job.hold) {
+            sum += u64::from(job.tugs);
+        }
+    }
+    sum
+}
+
+/// Whether these tugs exceed the fleet in some slot of the horizon. It takes at most as many
+/// steps as the horizon has slots, times the jobs.
+pub(crate) fn tugs_refuted(flat: &Flat, fleet: u32, jobs: &[Job], room: &Room) -> bool
+    requires few { length jobs.now ≤ 40 }
+    requires fit { All (JobFits room.now.ships) jobs.now }
+    ensures value { result ≡ list_any (λ slot. nat_lt fleet (sum_by (forced_by room.now slot) jobs.now)) (range_with_len 0 (horizon flat.now)) }
+{
+    (0..flat.horizon()).any(|slot| u64::from(fleet) < forced_tugs(jobs, room, slot))
 }

@@ -5,9 +5,10 @@ ghost use Rattle.hw_model.specs.Walk.{rank, table_count};
 ghost use Rattle.hw_rules.specs.Outcomes.{WalkedTo, SomePermitted, IsBestFound, IsNoneLeft, IsSpent, FoundIsBest};
 ghost use Rattle.hw_rules.specs.Listing.{kept, BestSoFar, answer};
 
+use crate::goal::{beats, cargo_of};
 use crate::lists::{advance, first_list};
 use crate::outcome::Walked;
-use crate::timetables::{cargo_of, is_permitted};
+use crate::timetables::is_permitted;
 use hw_flat::{Flat, Timetable};
 use hw_model::{NoMemory, Slot};
 use std::alloc::Global;
@@ -72,17 +73,8 @@ fn better_cargo(flat: &Flat, current: &[Slot], most: Option<u64>) -> Option<u64>
     ensures no_better { IfNone result ((c : ℕ) → Permits flat.now current.now → cargo flat.now current.now ≡ Some c → beats c most ≡ false) }
 {
     match cargo_of(flat, current) {
-        Some(cargo) if is_above(cargo, most) && is_permitted(flat, current) => Some(cargo),
+        Some(cargo) if beats(cargo, most) && is_permitted(flat, current) => Some(cargo),
         _ => None,
-    }
-}
-
-fn is_above(cargo: u64, most: Option<u64>) -> bool
-    ensures { result ≡ beats cargo most }
-{
-    match most {
-        None => true,
-        Some(most) => most < cargo,
     }
 }
 
