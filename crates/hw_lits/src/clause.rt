@@ -45,6 +45,17 @@ impl Clause {
         Ok(Clause { lits })
     }
 
+    /// The same of a list that it takes, in one pass and without a copy.
+    pub fn from_list(shape: Shape, lits: Vec<Lit>) -> Result<Clause, ClauseFault>
+        requires few_ships { shape.ships ≤ 40 }
+        ensures value { IfOk result (λ clause. clause ≡ lits.items) }
+        ensures normal { OnOk result (IsClause shape lits.items) }
+        ensures refused { IfErr result (λ fault. TellsBad fault (first_bad shape lits.items)) }
+    {
+        test_form(shape, &lits)?;
+        Ok(Clause { lits })
+    }
+
     /// The clause of literals that are known to be in normal form. They are neither tested nor
     /// copied.
     pub fn of_normal(lits: Vec<Lit>) -> Clause
