@@ -1,10 +1,9 @@
 //! The forms of the lines before the rules.
 
 ghost use Rattle.std.specs.Prelude.{◌≡◌, ◌≤◌, true, [], ◌∷◌, IfOk, IfSome, option_map};
-ghost use Rattle.hw_text.specs.Parts.{left_words, words_of};
 ghost use Rattle.hw_flat.specs.TextForms.{header_form, size_form, value_word, stay_word, last_values, row_values, row_form, with_front};
 
-use hw_text::{first_word, is_text, read_number, read_small, three_parts};
+use hw_text::{Words, is_text, read_number, read_small};
 use std::alloc::{AllocError, Global};
 
 /// Whether ships may stay: `flat 1` or `flat 2`.
@@ -26,18 +25,16 @@ pub fn size_of(line: &[u8]) -> Option<(u32, u32)>
     ensures few_ships { IfSome result (λ size. size.0 ≤ 40) }
     ensures few_slots { IfSome result (λ size. size.1 ≤ 512) }
 {
-    let Some((key, ships, slots)) = three_parts(line, b' ') else {
-        return None;
-    };
+    let mut words = Words::of(line);
+    let key = words.word()?;
+    let ships = words.word()?;
+    let slots = words.word()?;
+    words.end()?;
     if !is_text(key, b"size") {
         return None;
     }
-    let Some(ships) = read_small(ships, 1, 40) else {
-        return None;
-    };
-    let Some(slots) = read_small(slots, 1, 512) else {
-        return None;
-    };
+    let ships = read_small(ships, 1, 40)?;
+    let slots = read_small(slots, 1, 512)?;
     Some((ships, slots))
 }
 
@@ -68,29 +65,27 @@ fn stay_of(word: &[u8]) -> Option<Option<u64>>
 }
 
 /// What a ship carries that stays, where the one word left says it.
-fn last_of(words: &[u8]) -> Option<Option<u64>>
-    ensures { option_map (λ v. v ∷ []) result ≡ last_values true (words_of words.now) }
+fn last_of(mut words: Words<'_>) -> Option<Option<u64>>
+    ensures { option_map (λ v. v ∷ []) result ≡ last_values true words.entry }
 {
-    let (word, rest) = first_word(words);
-    match rest {
-        None => stay_of(word),
-        Some(_) => None,
-    }
+    let word = words.word()?;
+    words.end()?;
+    stay_of(word)
 }
 
 /// The values, and behind them the one of a ship that stays, where there is to be one.
 fn with_last(
     mut values: Vec<Option<u64>>,
-    words: Option<&[u8]>,
+    words: Words<'_>,
     stay: bool,
 ) -> Result<Option<Vec<Option<u64>>>, AllocError>
-    ensures { IfOk result (λ o. option_map (λ v. v.items) o ≡ with_front values.items (last_values stay (left_words words.entry))) }
+    ensures { IfOk result (λ o. option_map (λ v. v.items) o ≡ with_front values.items (last_values stay words.entry)) }
 {
-    let Some(words) = words else {
-        return if stay { Ok(None) } else { Ok(Some(values)) };
-    };
     if !stay {
-        return Ok(None);
+        return match words.end() {
+            Some(()) => Ok(Some(values)),
+            None => Ok(None),
+        };
     }
     let Some(value) = last_of(words) else {
         return Ok(None);
@@ -102,26 +97,23 @@ fn with_last(
 /// The values of the words, of which there are to be so many.
 fn values_of(
     alloc: Global,
-    words: Option<&[u8]>,
+    mut words: Words<'_>,
     slots: u32,
     stay: bool,
 ) -> Result<Option<Vec<Option<u64>>>, AllocError>
-    ensures { IfOk result (λ o. option_map (λ v. v.items) o ≡ row_values stay slots (left_words words.entry)) }
+    ensures { IfOk result (λ o. option_map (λ v. v.items) o ≡ row_values stay slots words.entry) }
 {
     let mut values = Vec::new(alloc);
-    let mut left = words;
     for slot in 0..slots {
-        let Some(words) = left else {
+        let Some(word) = words.word() else {
             return Ok(None);
         };
-        let (word, rest) = first_word(words);
         let Some(value) = value_of(word) else {
             return Ok(None);
         };
         values.push(value)?;
-        left = rest;
     }
-    with_last(values, left, stay)
+    with_last(values, words, stay)
 }
 
 /// `v` and the values of a ship.
@@ -133,9 +125,9 @@ pub fn row_of(
 ) -> Result<Option<Vec<Option<u64>>>, AllocError>
     ensures { IfOk result (λ o. option_map (λ v. v.items) o ≡ row_form stay slots line.now) }
 {
-    let (key, rest) = first_word(line);
-    if !is_text(key, b"v") {
-        return Ok(None);
+    let mut words = Words::of(line);
+    match words.word() {
+        Some(key) if is_text(key, b"v") => values_of(alloc, words, slots, stay),
+        _ => Ok(None),
     }
-    values_of(alloc, rest, slots, stay)
 }

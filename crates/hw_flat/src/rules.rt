@@ -1,11 +1,10 @@
 //! The forms of rules.
 
 ghost use Rattle.std.specs.Prelude.{◌≡◌, ◌<◌, IfOk, IfSome, option_map};
-ghost use Rattle.hw_text.specs.Parts.{words_of};
 ghost use Rattle.hw_flat.specs.TextForms.{ship_word, hole_form, job_form, some_items, ascend_from, pair_words, after_words, tugs_words, rule_form};
 
 use hw_model::{Hole, Holes, Job, Jobs, Rule, ShipId};
-use hw_text::{cut, first_word, is_text, read_signed, read_small, three_parts, two_parts};
+use hw_text::{Words, is_text, read_signed, read_small};
 use std::alloc::{AllocError, Global};
 
 const MOST_HOLES: usize = 8;
@@ -27,15 +26,12 @@ fn ship_of(word: &[u8], ships: u32) -> Option<ShipId>
 fn hole_of(word: &[u8]) -> Option<Hole>
     ensures { result ≡ hole_form word.now }
 {
-    let Some((lo, hi)) = two_parts(word, b':') else {
-        return None;
-    };
-    let Some(lo) = read_signed(lo, 1023) else {
-        return None;
-    };
-    let Some(hi) = read_signed(hi, 1023) else {
-        return None;
-    };
+    let mut parts = Words::parted_by(b':', word);
+    let lo = parts.word()?;
+    let hi = parts.word()?;
+    parts.end()?;
+    let lo = read_signed(lo, 1023)?;
+    let hi = read_signed(hi, 1023)?;
     if lo <= hi {
         Some(Hole { lo, hi })
     } else {
@@ -44,21 +40,21 @@ fn hole_of(word: &[u8]) -> Option<Hole>
 }
 
 /// Holes, of which there are 1 to 8.
-fn holes_of(alloc: Global, words: &[u8]) -> Result<Option<Vec<Hole>>, AllocError>
-    ensures { IfOk result (λ o. option_map (λ v. v.items) o ≡ some_items hole_form 8 (words_of words.now)) }
+fn holes_of(alloc: Global, mut words: Words<'_>) -> Result<Option<Vec<Hole>>, AllocError>
+    ensures { IfOk result (λ o. option_map (λ v. v.items) o ≡ some_items hole_form 8 words.entry) }
 {
     let mut holes = Vec::new(alloc);
-    let mut left = Some(words);
-    while let Some(words) = left {
+    while let Some(word) = words.word() {
         if holes.len() == MOST_HOLES {
             return Ok(None);
         }
-        let (word, rest) = first_word(words);
         let Some(hole) = hole_of(word) else {
             return Ok(None);
         };
         holes.push(hole)?;
-        left = rest;
+    }
+    if holes.is_empty() {
+        return Ok(None);
     }
     Ok(Some(holes))
 }
@@ -67,37 +63,33 @@ fn holes_of(alloc: Global, words: &[u8]) -> Result<Option<Vec<Hole>>, AllocError
 fn job_of(word: &[u8], ships: u32) -> Option<Job>
     ensures form { result ≡ job_form ships word.now }
 {
-    let Some((ship, tugs, hold)) = three_parts(word, b':') else {
-        return None;
-    };
-    let Some(ship) = ship_of(ship, ships) else {
-        return None;
-    };
-    let Some(tugs) = read_small(tugs, 1, 64) else {
-        return None;
-    };
-    let Some(hold) = read_small(hold, 1, 1024) else {
-        return None;
-    };
+    let mut parts = Words::parted_by(b':', word);
+    let ship = parts.word()?;
+    let tugs = parts.word()?;
+    let hold = parts.word()?;
+    parts.end()?;
+    let ship = ship_of(ship, ships)?;
+    let tugs = read_small(tugs, 1, 64)?;
+    let hold = read_small(hold, 1, 1024)?;
     Some(Job { ship, tugs, hold })
 }
 
 /// Jobs, of which there are 1 to 40.
-fn jobs_of(alloc: Global, words: &[u8], ships: u32) -> Result<Option<Vec<Job>>, AllocError>
-    ensures { IfOk result (λ o. option_map (λ v. v.items) o ≡ some_items (job_form ships) 40 (words_of words.now)) }
+fn jobs_of(alloc: Global, mut words: Words<'_>, ships: u32) -> Result<Option<Vec<Job>>, AllocError>
+    ensures { IfOk result (λ o. option_map (λ v. v.items) o ≡ some_items (job_form ships) 40 words.entry) }
 {
     let mut jobs = Vec::new(alloc);
-    let mut left = Some(words);
-    while let Some(words) = left {
+    while let Some(word) = words.word() {
         if jobs.len() == MOST_JOBS {
             return Ok(None);
         }
-        let (word, rest) = first_word(words);
         let Some(job) = job_of(word, ships) else {
             return Ok(None);
         };
         jobs.push(job)?;
-        left = rest;
+    }
+    if jobs.is_empty() {
+        return Ok(None);
     }
     Ok(Some(jobs))
 }
@@ -117,22 +109,16 @@ fn ascend(jobs: &[Job]) -> bool
 }
 
 /// `V W LO:HI ..`, where V is below W.
-fn pair_of(alloc: Global, words: &[u8], ships: u32) -> Result<Option<Rule>, AllocError>
-    ensures { IfOk result (λ o. o ≡ pair_words ships (words_of words.now)) }
+fn pair_of(alloc: Global, mut words: Words<'_>, ships: u32) -> Result<Option<Rule>, AllocError>
+    ensures { IfOk result (λ o. o ≡ pair_words ships words.entry) }
 {
-    let Some((v, rest)) = cut(words, b' ') else {
+    let (Some(v), Some(w)) = (words.word(), words.word()) else {
         return Ok(None);
     };
-    let Some((w, rest)) = cut(rest, b' ') else {
+    let (Some(v), Some(w)) = (ship_of(v, ships), ship_of(w, ships)) else {
         return Ok(None);
     };
-    let Some(v) = ship_of(v, ships) else {
-        return Ok(None);
-    };
-    let Some(w) = ship_of(w, ships) else {
-        return Ok(None);
-    };
-    let Some(items) = holes_of(alloc, rest)? else {
+    let Some(items) = holes_of(alloc, words)? else {
         return Ok(None);
     };
     if v >= w {
@@ -143,21 +129,16 @@ fn pair_of(alloc: Global, words: &[u8], ships: u32) -> Result<Option<Rule>, Allo
 }
 
 /// `V W GAP`, where V is not W.
-fn after_of(words: &[u8], ships: u32) -> Option<Rule>
-    ensures { result ≡ after_words ships (words_of words.now) }
+fn after_of(mut words: Words<'_>, ships: u32) -> Option<Rule>
+    ensures { result ≡ after_words ships words.entry }
 {
-    let Some((v, w, gap)) = three_parts(words, b' ') else {
-        return None;
-    };
-    let Some(v) = ship_of(v, ships) else {
-        return None;
-    };
-    let Some(w) = ship_of(w, ships) else {
-        return None;
-    };
-    let Some(gap) = read_small(gap, 0, 512) else {
-        return None;
-    };
+    let v = words.word()?;
+    let w = words.word()?;
+    let gap = words.word()?;
+    words.end()?;
+    let v = ship_of(v, ships)?;
+    let w = ship_of(w, ships)?;
+    let gap = read_small(gap, 0, 512)?;
     if v < w || w < v {
         Some(Rule::After { v, w, gap })
     } else {
@@ -166,16 +147,16 @@ fn after_of(words: &[u8], ships: u32) -> Option<Rule>
 }
 
 /// `FLEET SHIP:TUGS:HOLD ..`, where the ships ascend.
-fn tugs_of(alloc: Global, words: &[u8], ships: u32) -> Result<Option<Rule>, AllocError>
-    ensures { IfOk result (λ o. o ≡ tugs_words ships (words_of words.now)) }
+fn tugs_of(alloc: Global, mut words: Words<'_>, ships: u32) -> Result<Option<Rule>, AllocError>
+    ensures { IfOk result (λ o. o ≡ tugs_words ships words.entry) }
 {
-    let Some((fleet, rest)) = cut(words, b' ') else {
+    let Some(fleet) = words.word() else {
         return Ok(None);
     };
     let Some(fleet) = read_small(fleet, 0, 1000) else {
         return Ok(None);
     };
-    let Some(items) = jobs_of(alloc, rest, ships)? else {
+    let Some(items) = jobs_of(alloc, words, ships)? else {
         return Ok(None);
     };
     if !ascend(&items) {
@@ -189,17 +170,11 @@ fn tugs_of(alloc: Global, words: &[u8], ships: u32) -> Result<Option<Rule>, Allo
 pub fn rule_of(alloc: Global, line: &[u8], ships: u32) -> Result<Option<Rule>, AllocError>
     ensures { IfOk result (λ o. o ≡ rule_form ships line.now) }
 {
-    let Some((key, words)) = cut(line, b' ') else {
-        return Ok(None);
-    };
-    if is_text(key, b"p") {
-        return pair_of(alloc, words, ships);
+    let mut words = Words::of(line);
+    match words.word() {
+        Some(key) if is_text(key, b"p") => pair_of(alloc, words, ships),
+        Some(key) if is_text(key, b"s") => Ok(after_of(words, ships)),
+        Some(key) if is_text(key, b"u") => tugs_of(alloc, words, ships),
+        _ => Ok(None),
     }
-    if is_text(key, b"s") {
-        return Ok(after_of(words, ships));
-    }
-    if is_text(key, b"u") {
-        return tugs_of(alloc, words, ships);
-    }
-    Ok(None)
 }
