@@ -1,10 +1,10 @@
 //! A list of different words.
 
-ghost use Rattle.std.specs.Prelude.{◌≡◌, ◌∷◌, ◌+◌, ◌<◌, ◌≤◌, IsTrue, Some, length, bytes_eq, option_map};
+ghost use Rattle.std.specs.Prelude.{◌≡◌, ◌<◌, ◌^◌, IsTrue, Some, length, option_map};
 ghost use Rattle.std.specs.List.{slice_get};
-ghost use Rattle.hw_lexicon.specs.Words.{words_in, is_lexicon, find_from, left_words, left_len};
+ghost use Rattle.hw_lexicon.specs.Words.{words_in, is_lexicon, find_from};
 
-use crate::splitting::cut;
+use hw_text::{Words, is_text};
 use std::marker::Model;
 
 /// A list of different nonempty words in one text, one space between two of them.
@@ -26,66 +26,27 @@ impl<'w> Model for Lexicon<'w> {
     ghost invariant = { λ s. IsTrue (is_lexicon s.words.now) };
 }
 
-/// The first word, and the bytes of the words after it.
-fn first_word(words: &[u8]) -> (&[u8], Option<&[u8]>)
-    ensures parts { left_words (Some words.entry) ≡ result.0.now ∷ left_words result.1 }
-    ensures shorter { left_len result.1 < length words.now + 1 }
+fn place_of(mut words: Words<'_>, word: &[u8]) -> Option<usize>
+    requires { length words < 2 ^ 64 }
+    ensures { result ≡ find_from 0 word.now words.entry }
 {
-    match cut(words) {
-        Some((word, rest)) => (word, Some(rest)),
-        None => (words, None),
-    }
-}
-
-/// The bytes of the words of a text, where it has any.
-fn words_of(text: &[u8]) -> Option<&[u8]>
-    ensures words { left_words result ≡ words_in text.now }
-    ensures small { left_len result ≤ length text.now + 1 }
-{
-    if text.is_empty() { None } else { Some(text) }
-}
-
-fn is_same(first: &[u8], second: &[u8]) -> bool
-    ensures { result ≡ bytes_eq first.now second.now }
-{
-    let same = first == second;
-    same
-}
-
-fn place_of(text: &[u8], word: &[u8]) -> Option<usize>
-    ensures { result ≡ find_from 0 word.now (words_in text.now) }
-{
-    let mut left = words_of(text);
     let mut place: usize = 0;
-    while let Some(bytes) = left {
-        let (first, rest) = first_word(bytes);
-        if is_same(first, word) {
+    while let Some(first) = words.word() {
+        if is_text(first, word) {
             return Some(place);
         }
         place += 1;
-        left = rest;
     }
     None
 }
 
-fn word_at(words: Option<&[u8]>, place: usize) -> Option<&[u8]>
-    ensures { option_map (λ w. w.now) result ≡ slice_get (left_words words.entry) place }
+fn word_at(mut words: Words<'_>, place: usize) -> Option<&[u8]>
+    ensures { option_map (λ w. w.now) result ≡ slice_get words.entry place }
 {
-    let mut left = words;
     for _ in 0..place {
-        let Some(bytes) = left else {
-            return None;
-        };
-        let (_, rest) = first_word(bytes);
-        left = rest;
+        words.word()?;
     }
-    match left {
-        None => None,
-        Some(bytes) => {
-            let (word, _) = first_word(bytes);
-            Some(word)
-        }
-    }
+    words.word()
 }
 
 impl<'w> Lexicon<'w> {
@@ -104,7 +65,10 @@ impl<'w> Lexicon<'w> {
     pub fn find(&self, word: &[u8]) -> Option<usize>
         ensures { result ≡ find_from 0 word.now self.now }
     {
-        place_of(self.words, word)
+        if self.words.is_empty() {
+            return None;
+        }
+        place_of(Words::of(self.words), word)
     }
 
     /// The word at a place. It goes through the words before it.
@@ -112,7 +76,7 @@ impl<'w> Lexicon<'w> {
         requires { place < length self.now }
         ensures { slice_get self.now place ≡ Some result.now }
     {
-        match word_at(words_of(self.words), place) {
+        match word_at(Words::of(self.words), place) {
             Some(word) => word,
             None => unreachable!(),
         }

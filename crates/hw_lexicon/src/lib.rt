@@ -4,7 +4,6 @@
 mod each;
 mod laws;
 mod lexicon;
-mod splitting;
 #[cfg(test)]
 mod tests;
 

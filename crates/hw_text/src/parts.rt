@@ -59,22 +59,6 @@ pub fn two_parts(bytes: &[u8], at: u8) -> Option<(&[u8], &[u8])>
     }
 }
 
-/// The three parts of a text that has three.
-pub fn three_parts(bytes: &[u8], at: u8) -> Option<(&[u8], &[u8], &[u8])>
-    ensures { MatchOption result (length (parts_of at bytes.now) ≢ 3) (λ x. parts_of at bytes.now ≡ x.0.now ∷ x.1.now ∷ x.2.now ∷ []) }
-{
-    let Some((first, rest)) = cut(bytes, at) else {
-        return None;
-    };
-    let Some((second, third)) = cut(rest, at) else {
-        return None;
-    };
-    match cut(third, at) {
-        None => Some((first, second, third)),
-        Some(_) => None,
-    }
-}
-
 /// Whether no byte is left after the last line.
 pub fn is_end(bytes: &[u8]) -> bool
     ensures { result ≡ at_end (parts_of 10 bytes.now) }

@@ -51,22 +51,30 @@ fn cuts_texts(rt: HostRuntime) -> Result<(), Fail> {
         "two line feeds in a row end an empty line"
     );
     assert!(rt; cut_line(last).is_none(), "the last bytes have no end");
-    let (word, more) = first_word(line);
-    assert!(rt; is_text(word, b"a"));
-    let (second, third) = first_word(more.ok_or("more words")?);
-    assert!(rt; is_text(second, b""), "two spaces part an empty word");
-    assert_eq!(rt; third.ok_or("a third word")?, b"b".as_slice());
-    assert_eq!(rt;
-        two_parts(b"-1:1", b':').ok_or("two parts")?.0,
-        b"-1".as_slice()
-    );
-    assert!(rt; two_parts(b"1:2:3", b':').is_none());
-    assert_eq!(rt;
-        three_parts(b"0:2:3", b':').ok_or("three parts")?.2,
-        b"3".as_slice()
-    );
-    assert!(rt; three_parts(b"0:2", b':').is_none());
     Ok(())
+}
+
+#[test]
+fn reads_words(rt: HostRuntime) {
+    let rows = [
+        (b' ', "a  b", 3, "two spaces part an empty word"),
+        (b' ', "", 1, "an empty line has one word"),
+        (b' ', "a ", 2, "a word after a space at the end"),
+        (b':', "0:2:3", 3, "parts round a colon"),
+    ];
+    for (between, text, wanted, name) in rows {
+        let mut words = Words::parted_by(between, text.as_bytes());
+        for _ in 0..wanted {
+            assert!(rt; words.word().is_some(), "{name}");
+        }
+        assert!(rt; words.end().is_some(), "{name}");
+    }
+    let mut words = Words::of(b"a  b");
+    assert_eq!(rt; words.word(), Some(b"a".as_slice()));
+    assert_eq!(rt; words.word(), Some(b"".as_slice()));
+    assert!(rt; words.end().is_none());
+    assert_eq!(rt; words.word(), Some(b"b".as_slice()));
+    assert_eq!(rt; words.word(), None);
 }
 
 #[test]

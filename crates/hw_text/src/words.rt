@@ -1,6 +1,6 @@
 //! A cursor over the words of a line.
 
-ghost use Rattle.std.specs.Prelude.{◌≡◌, ◌∷◌, ◌≢◌, [], MatchOption};
+ghost use Rattle.std.specs.Prelude.{◌≡◌, ◌≤◌, ◌+◌, ◌∷◌, ◌≢◌, [], length, MatchOption};
 ghost use Rattle.hw_text.specs.Parts.{parts_of, words_of};
 
 use crate::parts::cut;
@@ -28,14 +28,16 @@ impl<'t> Model for Words<'t> {
 impl<'t> Words<'t> {
     /// The words of a line, with a space between two of them. There is always one.
     pub fn of(line: &'t [u8]) -> Words<'t>
-        ensures { result ≡ words_of line.now }
+        ensures words { result ≡ words_of line.now }
+        ensures few { length result ≤ length line.now + 1 }
     {
         Words::parted_by(b' ', line)
     }
 
     /// The parts of a text with this byte between two of them. There is always one.
     pub fn parted_by(between: u8, text: &'t [u8]) -> Words<'t>
-        ensures { result ≡ parts_of between text.now }
+        ensures parts { result ≡ parts_of between text.now }
+        ensures few { length result ≤ length text.now + 1 }
     {
         Words {
             between,
