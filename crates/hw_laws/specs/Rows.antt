@@ -12,6 +12,7 @@ use Rattle.hw_model.specs.Quiet.{QuietSource}
 abbrev pub one_ship : Problem
 one_ship = record { ships = 1; slots = 4; stay = false; values = None ∷ Some 5 ∷ None ∷ Some 9 ∷ []; rules = [] }
 
+-- a room of that ship
 abbrev pub from_to : ℕ → ℕ → RoomModel
 from_to low high = record { ships = 1; slots = 4; ranges = (low, high) ∷ []; orders = Unset ∷ [] }
 
@@ -31,6 +32,7 @@ two_ranges first second order = record { ships = 2; slots = 3; ranges = first �
 abbrev pub tug_pair : Problem
 tug_pair = record { ships = 2; slots = 6; stay = false; values = Some 0 ∷ Some 1 ∷ Some 5 ∷ Some 9 ∷ Some 5 ∷ Some 1 ∷ Some 0 ∷ Some 1 ∷ Some 5 ∷ Some 9 ∷ Some 5 ∷ Some 1 ∷ []; rules = Tugs 3 (record { ship = 0; tugs = 2; hold = 3 } ∷ record { ship = 1; tugs = 2; hold = 3 } ∷ []) ∷ [] }
 
+-- a room of those two
 abbrev pub tug_room : ℕ × ℕ → ℕ × ℕ → RoomModel
 tug_room first second = record { ships = 2; slots = 6; ranges = first ∷ second ∷ []; orders = Unset ∷ Unset ∷ Unset ∷ Unset ∷ [] }
 
@@ -38,6 +40,7 @@ tug_room first second = record { ships = 2; slots = 6; ranges = first ∷ second
 abbrev pub one_stays : Problem
 one_stays = record { ships = 2; slots = 4; stay = true; values = Some 10 ∷ Some 20 ∷ Some 30 ∷ None ∷ Some 10 ∷ Some 20 ∷ Some 30 ∷ Some 0 ∷ []; rules = Pair 0 1 (record { lo = neg_ℤ (pos 2); hi = pos 2 } ∷ []) ∷ [] }
 
+-- a room of those two
 abbrev pub staying_room : ℕ × ℕ → ℕ × ℕ → Order → RoomModel
 staying_room first second order = record { ships = 2; slots = 4; ranges = first ∷ second ∷ []; orders = Unset ∷ order ∷ Unset ∷ Unset ∷ [] }
 

@@ -35,6 +35,7 @@ pub record TrailChanges (t : TrailModel) : Type 0 where
   pub back : (level : ℕ) → level ≤ t.level → IsTrail (back_to t level)
   pub cuts : (event : Event) → room_of (with_event t event) ≡ cut event.lit (room_of t)
 
+-- no event is a trail, and each change of a trail gives one
 abbrev pub TrailKept : Type 0
 TrailKept = ((shape : Shape) → ShapeFits shape → IsTrail (no_events shape)) × ((t : TrailModel) → IsTrail t → TrailChanges t)
 
@@ -45,6 +46,7 @@ pub record TellsRooms (t : TrailModel) : Type 0 where
   pub known : (place : ℕ) → place ≤ length t.events → (lit : Lit) → ((knows (room_before t place) lit ≡ true) ↔ (room_at (story_of t) place lit ≡ true))
   pub last : room_before t (length t.events) ≡ room_of t
 
+-- each trail is such a story
 abbrev pub TrailTells : Type 0
 TrailTells = (t : TrailModel) → IsTrail t → TellsRooms t
 
@@ -55,6 +57,7 @@ pub record HasLevels (t : TrailModel) : Type 0 where
   pub decisions : (p : ℕ) → p < length t.events → (event_at t p).why ≡ None → (1 ≤ level_at t p) × ((q : ℕ) → q < p → level_at t q < level_at t p)
   pub each : (level : ℕ) → 1 ≤ level → level ≤ t.level → (p : ℕ) × (p < length t.events) × ((event_at t p).why ≡ None) × (level_at t p ≡ level)
 
+-- each trail has such levels
 abbrev pub TrailLevels : Type 0
 TrailLevels = (t : TrailModel) → IsTrail t → HasLevels t
 
@@ -68,6 +71,7 @@ pub record IsEventOf (t : TrailModel) (lit : Lit) (place : ℕ) : Type 0 where
   pub after : truth (room_before t (place + 1)) lit ≡ False
   pub before : (earlier : ℕ) → earlier ≤ place → (truth (room_before t earlier) lit ≡ False) → ⊥
 
+-- `event_of` gives that place, and none exactly where the literal isn't False in the room
 abbrev pub EventComputed : Type 0
 EventComputed = (t : TrailModel) (lit : Lit) → IsTrail t → lit_fits (trail_shape t) lit ≡ true → (((place : ℕ) → (event_of t lit ≡ Some place) ↔ IsEventOf t lit place) × ((truth (room_of t) lit ≡ False) ↔ IsSomeAnd (event_of t lit) (λ place. place < length t.events)))
 
@@ -94,6 +98,7 @@ pub record QuietChanges (t : TrailModel) (clauses : List (List Lit)) : Type 0 wh
   pub back : (level : ℕ) → level ≤ t.level → QuietBelow (back_to t level) clauses
   pub lemma : (clause lemma : List Lit) (back : ℕ) (places : List ℕ) → Learns t clause lemma back places → 1 ≤ top_level t clause → (back < t.level) × QuietBelow (back_to t back) (clauses ++ lemma ∷ [])
 
+-- each change of a trail keeps them so
 abbrev pub QuietKept : Type 0
 QuietKept = (t : TrailModel) (clauses : List (List Lit)) → IsTrail t → QuietBelow t clauses → QuietChanges t clauses
 
