@@ -1,5 +1,5 @@
 -- A port without a fault keeps the meaning rules.
-use Rattle.std.proofs.Common.{◌≡◌, ◌<ℤ◌, ℕ, ◌+◌, ℤ, pos, negsuc, List, [], ◌∷◌, length, None, arith, All, IsTrue}
+use Rattle.std.proofs.Common.{◌≡◌, ◌<ℤ◌, ℕ, ◌+◌, ℤ, pos, negsuc, List, [], ◌∷◌, length, None, refl, arith, All, IsTrue}
 use Rattle.std.proofs.lemmas.List.Elements.{All-cons}
 use Rattle.hw_port.specs.declared.fault.Path.{Path}
 use Rattle.hw_port.specs.declared.parts.Waypoint.{Waypoint}
@@ -11,8 +11,9 @@ use Rattle.hw_port.specs.Parts.{ShipParts}
 use Rattle.hw_port.specs.Whole.{Parts}
 use Rattle.hw_port.specs.Ships.{sort_fault, window_fault, load_fault, pass_fault, route_fault, stretch_fault, stretches_fault, channel_fault, tugs_fault, ship_fault}
 use Rattle.hw_port.specs.Meaning.{calendar_fault, waypoint_fault, waypoints_fault, section_fault, sections_fault, gap_fault, row_fault, separation_fault, tug_fault, ships_fault, has_direction, ship_at, side_fault, berth_fault, berths_fault, port_fault}
-use Rattle.hw_port.specs.Kept.{Within, IsPlace, Counts, WaypointKept, SectionKept, RowKept, PassKept, StretchKept, Ascends, ShipKept, BerthKept, FaultlessIsKept}
+use Rattle.hw_port.specs.Kept.{Within, IsPlace, Counts, WaypointKept, SectionKept, RowKept, PassKept, StretchKept, Ascends, ShipKept, BerthKept, PortKept}
 use Rattle.hw_port.proofs.Keeping.{neither, unless_none, range_kept, place_kept, count_kept, at_least_kept, above_kept, name_kept, each_kept}
+use Rattle.hw_port.proofs.Differing.{used_not, at_place, differ_by}
 
 waypoint_kept : (all : List Waypoint) (i : ℕ) (w : Waypoint) → waypoint_fault all i w ≡ None → WaypointKept w
 unfolding waypoint_fault
@@ -126,8 +127,8 @@ berth_kept ships i b e =
     let in_ = side_kept _ _ _ _ c.0 in
     record { outgoing_place = out.0; outgoing_side = out.1; incoming_place = in_.0; incoming_side = in_.1; clear = range_kept _ _ _ _ c.1 }
 
-pub port_kept : FaultlessIsKept
-unfolding port_fault calendar_fault waypoints_fault sections_fault separation_fault tug_fault ships_fault berths_fault
+pub port_kept : (p : Parts) → port_fault p ≡ None → PortKept p
+unfolding port_fault calendar_fault waypoints_fault waypoint_fault sections_fault section_fault separation_fault tug_fault ships_fault ship_fault sort_fault berths_fault
 port_kept p e =
     let a = neither (calendar_fault p.version p.slots p.slot_minutes) _ e in
     let b = neither (waypoints_fault p.waypoints) _ a.1 in
@@ -150,8 +151,10 @@ port_kept p e =
       slot_minutes = range_kept _ _ _ _ slots.1;
       waypoint_count = count_kept _ _ _ _ waypoints.0;
       waypoints = each_kept (waypoint_fault p.waypoints) WaypointKept (waypoint_kept p.waypoints) 0 p.waypoints waypoints.1;
+      waypoint_names = differ_by (λ w. w.name) p.waypoints (λ j w at. used_not _ _ _ (neither _ _ (at_place (waypoint_fault p.waypoints) 0 p.waypoints j j w (omega arith) waypoints.1 at)).0);
       section_count = count_kept _ _ _ _ sections.0;
       sections = each_kept (section_fault p.sections) SectionKept (section_kept p.sections) 0 p.sections sections.1;
+      section_names = differ_by (λ s. s.name) p.sections (λ j s at. used_not _ _ _ (at_place (section_fault p.sections) 0 p.sections j j s (omega arith) sections.1 at));
       class_count = count_kept _ _ _ _ rows.0;
       separation = each_kept (row_fault (length p.separation)) (RowKept (length p.separation)) (row_kept (length p.separation)) 0 p.separation rows.1;
       turnaround_outgoing = range_kept _ _ _ _ out.0;
@@ -159,6 +162,7 @@ port_kept p e =
       fleet = range_kept _ _ _ _ fleet.1;
       ship_count = count_kept _ _ _ _ ships.0;
       ships = each_kept (ship_fault p) (ShipKept p) (ship_kept p) 0 p.ships ships.1;
+      ship_names = differ_by (λ s. s.name) p.ships (λ j s at. used_not _ _ _ (neither _ _ (neither (sort_fault p.ships (pos (length p.separation)) j s) _ (at_place (ship_fault p) 0 p.ships j j s (omega arith) ships.1 at)).0).0);
       berth_count = count_kept _ _ _ _ berths.0;
       berths = each_kept (berth_fault p.ships) (BerthKept p.ships) (berth_kept p.ships) 0 p.berths berths.1;
     }

@@ -1,3 +1,5 @@
 pub mod Keeping
 pub mod KeptPorts
 pub mod MeaningWords
+pub mod Differing
+pub mod Faultless

@@ -1,5 +1,5 @@
 -- What the parts of a port that keeps the meaning rules are like, as callers use it.
-use Rattle.std.specs.Prelude.{◌≡◌, ◌≤◌, ◌≤ℤ◌, ◌<ℤ◌, ℕ, ℤ, pos, negsuc, List, [], ◌∷◌, length, IsTrue, All, None}
+use Rattle.std.specs.Prelude.{◌≡◌, ◌≢◌, ◌↔◌, ◌<◌, ◌≤◌, ◌≤ℤ◌, ◌<ℤ◌, ℕ, ℤ, pos, negsuc, List, [], ◌∷◌, length, IsTrue, All, Some, None, slice_get}
 use Rattle.hw_port.specs.declared.parts.Waypoint.{Waypoint}
 use Rattle.hw_port.specs.declared.parts.Section.{Section}
 use Rattle.hw_port.specs.declared.parts.Pass.{Pass}
@@ -24,6 +24,10 @@ pub record IsPlace (many value : ℤ) : Type 0 where
 pub record Counts (fewest most many : ℕ) : Type 0 where
   pub low : fewest ≤ many
   pub high : many ≤ most
+
+-- no two of these have the same name
+abbrev pub Differ : {A : Type 0} → (A → List ℕ) → List A → Type 0
+Differ {A} named xs = (i j : ℕ) (x y : A) → i < j → slice_get xs i ≡ Some x → slice_get xs j ≡ Some y → named x ≢ named y
 
 pub record WaypointKept (w : Waypoint) : Type 0 where
   pub name : IsTrue (is_name w.name)
@@ -85,8 +89,10 @@ pub record PortKept (p : Parts) : Type 0 where
   pub slot_minutes : Within (pos 1) (pos 1440) p.slot_minutes
   pub waypoint_count : Counts 1 16 (length p.waypoints)
   pub waypoints : All WaypointKept p.waypoints
+  pub waypoint_names : Differ (λ w. w.name) p.waypoints
   pub section_count : Counts 0 8 (length p.sections)
   pub sections : All SectionKept p.sections
+  pub section_names : Differ (λ s. s.name) p.sections
   pub class_count : Counts 1 8 (length p.separation)
   pub separation : All (RowKept (length p.separation)) p.separation
   pub turnaround_outgoing : Within (pos 0) (pos 512) p.turnaround.outgoing
@@ -94,9 +100,10 @@ pub record PortKept (p : Parts) : Type 0 where
   pub fleet : Within (pos 0) (pos 1000) p.fleet
   pub ship_count : Counts 1 40 (length p.ships)
   pub ships : All (ShipKept p) p.ships
+  pub ship_names : Differ (λ s. s.name) p.ships
   pub berth_count : Counts 0 200 (length p.berths)
   pub berths : All (BerthKept p.ships) p.berths
 
--- parts without a fault are kept
+-- parts have no fault exactly where they are kept
 abbrev pub FaultlessIsKept : Type 0
-FaultlessIsKept = (p : Parts) → port_fault p ≡ None → PortKept p
+FaultlessIsKept = (p : Parts) → ((port_fault p ≡ None) ↔ PortKept p)

@@ -2,6 +2,7 @@
 #![tactic(auto)]
 
 mod fault;
+mod laws;
 mod meaning;
 mod parts;
 mod places;
@@ -12,6 +13,7 @@ mod ships;
 mod tests;
 
 pub use fault::{Path, PortFault, PortWord};
+pub use laws::faultless_is_kept;
 pub use parts::{
     BerthPair, Pass, PortParts, Row, Section, Ship, Stretch, Text, Turnaround, Waypoint,
 };

@@ -1,5 +1,5 @@
 -- The laws of a port and its flat problem.
-use Rattle.std.specs.Prelude.{◌≡◌, ◌↔◌, ℕ, ◌+◌, ◌<◌, ◌≤◌, ℤ, pos, ◌-ℤ◌, Bool, List, length, Some, Ok, slice_get, unwrap_or, IsTrue, IsFalse}
+use Rattle.std.specs.Prelude.{◌≡◌, ◌↔◌, ℕ, ◌+◌, ◌<◌, ◌≤◌, ℤ, pos, ◌-ℤ◌, List, length, Some, Ok, slice_get, unwrap_or, IsTrue, IsFalse}
 use Rattle.hw_model.specs.Limits.{IsFlat}
 use Rattle.hw_model.specs.Problem.{horizon, value_at}
 use Rattle.hw_model.specs.Rules.{misses}
@@ -9,6 +9,7 @@ use Rattle.hw_port.specs.declared.parts.Waypoint.{Waypoint}
 use Rattle.hw_port.specs.Kept.{PortKept, StretchKept}
 use Rattle.hw_port.specs.Parts.{ShipParts}
 use Rattle.hw_port.specs.Whole.{Parts}
+use Rattle.hw_tide.specs.declared.kind.TableKind.{TableKind}
 use Rattle.hw_tide.specs.Levels.{TideParts}
 use Rattle.hw_tide.specs.Tides.{tide_of}
 use Rattle.hw_tide.specs.Whole.{waypoint_names}
@@ -67,4 +68,4 @@ SameNone = (p : Parts) (h : TideParts) → PortKept p → (NonePortPermitted p h
 
 -- a tide that was read for a port has a column for each of its waypoints
 abbrev pub TideColumns : Type 0
-TideColumns = (p : Parts) (waters : Bool) (records : List (List (List ℕ))) (t : TideParts) → tide_of waters (waypoint_names p) records ≡ Ok t → t.columns ≡ length p.waypoints
+TideColumns = (p : Parts) (kind : TableKind) (records : List (List (List ℕ))) (t : TideParts) → tide_of kind (waypoint_names p) records ≡ Ok t → t.columns ≡ length p.waypoints

@@ -9,8 +9,8 @@ use Rattle.serde_json.specs.Find.{get, as_str, as_bool, as_array, as_object}
 use Rattle.hw_read.specs.declared.stars.Stars.{Stars}
 use Rattle.hw_read.specs.Places.{path, deeper}
 use Rattle.hw_read.specs.Form.{formed, whole_number, all_named, named_only, ◌>>=◌}
-use Rattle.hw_read.specs.Table.{Place, Members, number, text, truth, list, object, no_more, member, field_of, names_in, kind_faults, each_faults, list_faults, other_faults, object_faults, member_faults, place_faults, members_faults, first_of}
-use Rattle.hw_read.specs.Walk.{Test, each_fault, items_fault, member_fault, place_fault, members_fault}
+use Rattle.hw_read.specs.Table.{Entry, Members, number, text, truth, list, object, no_more, member, place_of, names_in, kind_faults, each_faults, list_faults, other_faults, object_faults, member_faults, entry_faults, members_faults, first_of}
+use Rattle.hw_read.specs.Walk.{Test, each_fault, items_fault, member_fault, entry_fault, members_fault}
 
 first_append : (xs ys : List PortFault) → first_of xs or_else first_of ys ≡ first_of (xs ++ ys)
 first_append [] ys = refl
@@ -47,13 +47,13 @@ of_object p names a inside e None = refl
 of_object p names a inside e (Some ms) = joined (fault_of (named_only p (all_named names ms))) a (other_faults p (all_named names ms)) inside (of_names p (all_named names ms)) e
 
 mutual
-  pub of_place : (p : Place) (s : Stars) (d : Data) → place_fault p s d ≡ first_of (place_faults p s d)
-  of_place (number n) s d = of_kind (path n s) (whole_number d)
-  of_place (text n) s d = of_kind (path n s) (as_str d)
-  of_place (truth n) s d = of_kind (path n s) (as_bool d)
-  of_place (list n p) s d = of_list (place_fault p) (place_faults p) (of_place p) (path n s) s (as_array d)
-  of_place (object n ms) s d = of_object (path n s) (names_in ms) (members_fault ms s d) (members_faults ms s d) (of_members ms s d) (as_object d)
+  pub of_entry : (p : Entry) (s : Stars) (d : Data) → entry_fault p s d ≡ first_of (entry_faults p s d)
+  of_entry (number n) s d = of_kind (path n s) (whole_number d)
+  of_entry (text n) s d = of_kind (path n s) (as_str d)
+  of_entry (truth n) s d = of_kind (path n s) (as_bool d)
+  of_entry (list n p) s d = of_list (entry_fault p) (entry_faults p) (of_entry p) (path n s) s (as_array d)
+  of_entry (object n ms) s d = of_object (path n s) (names_in ms) (members_fault ms s d) (members_faults ms s d) (of_members ms s d) (as_object d)
 
   pub of_members : (ms : Members) (s : Stars) (d : Data) → members_fault ms s d ≡ first_of (members_faults ms s d)
   of_members no_more s d = refl
-  of_members (member name p ms) s d = joined _ _ _ _ (of_member (place_fault p) (place_faults p) (of_place p) (path (field_of p) s) s (get name d)) (of_members ms s d)
+  of_members (member name p ms) s d = joined _ _ _ _ (of_member (entry_fault p) (entry_faults p) (of_entry p) (path (place_of p) s) s (get name d)) (of_members ms s d)

@@ -1,13 +1,15 @@
--- A field's path, and the numbers of the list items on the way to it.
+-- A place's path, and the numbers of the list items on the way to it.
 use Rattle.std.specs.Prelude.{ℕ, Option, Some, None}
 use Rattle.hw_port.specs.declared.fault.Path.{Path}
+use Rattle.hw_port.specs.declared.places.Place.{Place}
+use Rattle.hw_port.specs.Places.{number_of}
 use Rattle.hw_read.specs.declared.stars.Stars.{Stars}
 
 abbrev pub no_stars : Stars
 no_stars = record { first = None; second = None }
 
-abbrev pub path : ℕ → Stars → Path
-path field s = record { field = field; first = s.first; second = s.second }
+abbrev pub path : Place → Stars → Path
+path place s = record { field = number_of place; first = s.first; second = s.second }
 
 abbrev pub next_star : Option ℕ → ℕ → Stars
 next_star None i = record { first = Some i; second = None }

@@ -3,102 +3,110 @@ use Rattle.std.specs.Prelude.{ℕ, ◌+◌, ◌++◌, ℤ, pos, List, [], ◌∷
 use Rattle.std.specs.Ordering.{int_eq}
 use Rattle.hw_port.specs.declared.fault.Path.{Path}
 use Rattle.hw_port.specs.declared.fault.PortFault.{PortFault}
+use Rattle.hw_port.specs.declared.places.Place.{Place}
+use Rattle.hw_port.specs.declared.places.Place.TheVariants as places
 use Rattle.hw_port.specs.declared.fault.PortWord.{PortWord}
 use Rattle.hw_port.specs.declared.fault.PortWord.TheVariants.{Missing, Kind, Other}
 use Rattle.serde_json.specs.Data.{Data, Items, no_items, item, Members as JsonMembers}
 use Rattle.serde_json.specs.Find.{get, as_str, as_bool, as_array, as_object}
 use Rattle.hw_read.specs.declared.stars.Stars.{Stars}
+use Rattle.hw_read.specs.declared.table.Version.{Version}
+use Rattle.hw_read.specs.declared.table.Version.TheVariants.{First, Second}
 use Rattle.hw_read.specs.Places.{path, deeper}
 use Rattle.hw_read.specs.Form.{whole_number, all_named}
 
--- a place has a number and a kind; a list's items have one place, an object's members one each
+-- an entry is a place with its kind; a list's items have one entry, an object's members one each
 mutual
-  pub data Place : Type 0 where
-    number : ℕ → Place
-    text : ℕ → Place
-    truth : ℕ → Place
-    list : ℕ → Place → Place
-    object : ℕ → Members → Place
+  pub data Entry : Type 0 where
+    number : Place → Entry
+    text : Place → Entry
+    truth : Place → Entry
+    list : Place → Entry → Entry
+    object : Place → Members → Entry
 
   pub data Members : Type 0 where
     no_more : Members
-    member : List ℕ → Place → Members → Members
+    member : List ℕ → Entry → Members → Members
 
-abbrev pub waypoint : Place
-waypoint = object 5 (
-    member (codes "name") (text 6) (
-    member (codes "depth") (number 7) no_more))
+abbrev pub waypoint : Entry
+waypoint = object places.Waypoint (
+    member (codes "name") (text places.WaypointName) (
+    member (codes "depth") (number places.WaypointDepth) no_more))
 
-abbrev pub turnaround : Place
-turnaround = object 13 (
-    member (codes "outgoing") (number 14) (
-    member (codes "incoming") (number 15) no_more))
+abbrev pub turnaround : Entry
+turnaround = object places.Turnaround (
+    member (codes "outgoing") (number places.TurnaroundOutgoing) (
+    member (codes "incoming") (number places.TurnaroundIncoming) no_more))
 
-abbrev pub pass : Place
-pass = object 28 (
-    member (codes "waypoint") (number 29) (
-    member (codes "offset") (number 30) (
-    member (codes "clearance") (number 31) no_more)))
+abbrev pub pass : Entry
+pass = object places.Pass (
+    member (codes "waypoint") (number places.PassWaypoint) (
+    member (codes "offset") (number places.PassOffset) (
+    member (codes "clearance") (number places.PassClearance) no_more)))
 
-abbrev pub stretch : Place
-stretch = object 33 (
-    member (codes "section") (number 34) (
-    member (codes "enter") (number 35) (
-    member (codes "leave") (number 36) no_more)))
+abbrev pub stretch : Entry
+stretch = object places.Stretch (
+    member (codes "section") (number places.StretchSection) (
+    member (codes "enter") (number places.StretchEnter) (
+    member (codes "leave") (number places.StretchLeave) no_more)))
 
--- the last member stands in the table only where ships may stay
-abbrev pub ship_members : Bool → Members
-ship_members stays =
-    member (codes "name") (text 19) (
-    member (codes "direction") (text 20) (
-    member (codes "class") (number 21) (
-    member (codes "earliest") (number 22) (
-    member (codes "latest") (number 23) (
-    member (codes "tpc") (number 24) (
-    member (codes "light") (number 25) (
-    member (codes "deep") (number 26) (
-    member (codes "route") (list 27 pass) (
-    member (codes "channel") (list 32 stretch) (
-    member (codes "tugs") (number 37) (
-    member (codes "job") (number 38) (
-    if stays then member (codes "may_stay") (truth 44) no_more else no_more))))))))))))
+-- the member of ships that may stay, which stands in the second version's table alone
+abbrev pub staying : Version → Members
+staying First = no_more
+staying Second = member (codes "may_stay") (truth places.ShipMayStay) no_more
 
-abbrev pub berth : Place
-berth = object 40 (
-    member (codes "outgoing") (number 41) (
-    member (codes "incoming") (number 42) (
-    member (codes "clear") (number 43) no_more)))
+abbrev pub ship_members : Version → Members
+ship_members version =
+    member (codes "name") (text places.ShipName) (
+    member (codes "direction") (text places.ShipDirection) (
+    member (codes "class") (number places.ShipClass) (
+    member (codes "earliest") (number places.ShipEarliest) (
+    member (codes "latest") (number places.ShipLatest) (
+    member (codes "tpc") (number places.ShipTpc) (
+    member (codes "light") (number places.ShipLight) (
+    member (codes "deep") (number places.ShipDeep) (
+    member (codes "route") (list places.ShipRoute pass) (
+    member (codes "channel") (list places.ShipChannel stretch) (
+    member (codes "tugs") (number places.ShipTugs) (
+    member (codes "job") (number places.ShipJob) (
+    staying version))))))))))))
 
-abbrev pub port_members : Bool → Members
-port_members stays =
-    member (codes "version") (number 1) (
-    member (codes "slots") (number 2) (
-    member (codes "slot_minutes") (number 3) (
-    member (codes "waypoints") (list 4 waypoint) (
-    member (codes "sections") (list 8 (text 9)) (
-    member (codes "separation") (list 10 (list 11 (number 12))) (
+abbrev pub berth : Entry
+berth = object places.BerthPair (
+    member (codes "outgoing") (number places.BerthOutgoing) (
+    member (codes "incoming") (number places.BerthIncoming) (
+    member (codes "clear") (number places.BerthClear) no_more)))
+
+abbrev pub port_members : Version → Members
+port_members version =
+    member (codes "version") (number places.Version) (
+    member (codes "slots") (number places.Slots) (
+    member (codes "slot_minutes") (number places.SlotMinutes) (
+    member (codes "waypoints") (list places.Waypoints waypoint) (
+    member (codes "sections") (list places.Sections (text places.Section)) (
+    member (codes "separation") (list places.Separation (list places.SeparationRow (number places.SeparationGap))) (
     member (codes "turnaround") turnaround (
-    member (codes "fleet") (number 16) (
-    member (codes "ships") (list 17 (object 18 (ship_members stays))) (
-    member (codes "berths") (list 39 berth) no_more)))))))))
+    member (codes "fleet") (number places.Fleet) (
+    member (codes "ships") (list places.Ships (object places.Ship (ship_members version))) (
+    member (codes "berths") (list places.Berths berth) no_more)))))))))
 
-unfoldable pub port : Bool → Place
-port stays = object 0 (port_members stays)
+unfoldable pub port : Version → Entry
+port version = object places.Root (port_members version)
 
-abbrev pub is_two : Option ℤ → Bool
-is_two None = false
-is_two (Some z) = int_eq z (pos 2)
+abbrev pub version_by : Option ℤ → Version
+version_by None = First
+version_by (Some z) = if int_eq z (pos 2) then Second else First
 
--- ships may stay where the member `version` is the number 2
-abbrev pub is_second : Data → Bool
-is_second d = is_two (option_and_then whole_number (get (codes "version") d))
+-- the second version where the member `version` is the number 2, and the first elsewhere
+abbrev pub version_of : Data → Version
+version_of d = version_by (option_and_then whole_number (get (codes "version") d))
 
-abbrev pub field_of : Place → ℕ
-field_of (number n) = n
-field_of (text n) = n
-field_of (truth n) = n
-field_of (list n p) = n
-field_of (object n ms) = n
+abbrev pub place_of : Entry → Place
+place_of (number n) = n
+place_of (text n) = n
+place_of (truth n) = n
+place_of (list n p) = n
+place_of (object n ms) = n
 
 abbrev pub names_in : Members → List (List ℕ)
 names_in no_more = []
@@ -137,16 +145,16 @@ member_faults faults path s (Some d) = faults s d
 
 -- all faults of a value at a place, in the order of the table
 abbrev mutual
-  pub place_faults : Place → Stars → Data → List PortFault
-  place_faults (number n) s d = kind_faults (path n s) (whole_number d)
-  place_faults (text n) s d = kind_faults (path n s) (as_str d)
-  place_faults (truth n) s d = kind_faults (path n s) (as_bool d)
-  place_faults (list n p) s d = list_faults (place_faults p) (path n s) s (as_array d)
-  place_faults (object n ms) s d = object_faults (path n s) (names_in ms) (members_faults ms s d) (as_object d)
+  pub entry_faults : Entry → Stars → Data → List PortFault
+  entry_faults (number n) s d = kind_faults (path n s) (whole_number d)
+  entry_faults (text n) s d = kind_faults (path n s) (as_str d)
+  entry_faults (truth n) s d = kind_faults (path n s) (as_bool d)
+  entry_faults (list n p) s d = list_faults (entry_faults p) (path n s) s (as_array d)
+  entry_faults (object n ms) s d = object_faults (path n s) (names_in ms) (members_faults ms s d) (as_object d)
 
   pub members_faults : Members → Stars → Data → List PortFault
   members_faults no_more s d = []
-  members_faults (member name p ms) s d = member_faults (place_faults p) (path (field_of p) s) s (get name d) ++ members_faults ms s d
+  members_faults (member name p ms) s d = member_faults (entry_faults p) (path (place_of p) s) s (get name d) ++ members_faults ms s d
 
 -- the first of these faults
 abbrev pub first_of : List PortFault → Option PortFault

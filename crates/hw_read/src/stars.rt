@@ -3,7 +3,7 @@
 ghost use Rattle.std.specs.Prelude.{◌≡◌};
 ghost use Rattle.hw_read.specs.Places.{path, deeper};
 
-use hw_port::Path;
+use hw_port::{Path, Place};
 
 /// The numbers of the list items on the way to a place, the outer one first.
 #[derive(Clone, Copy, Debug)]
@@ -12,12 +12,12 @@ pub struct Stars {
     pub second: Option<u32>,
 }
 
-/// The place of a field.
-pub fn path_of(field: u32, stars: Stars) -> Path
-    ensures { result ≡ path field stars }
+/// The path of a place.
+pub fn path_of(place: Place, stars: Stars) -> Path
+    ensures { result ≡ path place stars }
 {
     Path {
-        field,
+        field: place.number(),
         first: stars.first,
         second: stars.second,
     }

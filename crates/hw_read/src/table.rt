@@ -1,9 +1,11 @@
 //! The table of places: what stands where in an instance.
 
 ghost use Rattle.std.specs.Prelude.{◌≡◌};
+ghost use Rattle.hw_read.specs.declared.table.Names.TheVariants.{Ship};
 ghost use Rattle.hw_read.specs.Names.{names_of};
 
 use hw_lexicon::Lexicon;
+use hw_port::Place;
 
 /// The kinds of objects.
 #[derive(Clone, Copy, Debug)]
@@ -17,9 +19,30 @@ pub enum Names {
     Berth,
 }
 
-/// The names of an object's members; a ship has one more where ships may stay.
-pub fn lexicon_of(names: Names, stays: bool) -> Lexicon<'static>
-    ensures { result ≡ names_of stays names }
+/// The version of an instance, which its table goes by: in the second ships may stay.
+#[derive(Clone, Copy, Debug)]
+pub enum Version {
+    First,
+    Second,
+}
+
+/// The names of a ship's members.
+fn ship_lexicon(version: Version) -> Lexicon<'static>
+    ensures { result ≡ names_of version Ship }
+{
+    match version {
+        Version::First => Lexicon::new(
+            b"name direction class earliest latest tpc light deep route channel tugs job",
+        ),
+        Version::Second => Lexicon::new(
+            b"name direction class earliest latest tpc light deep route channel tugs job may_stay",
+        ),
+    }
+}
+
+/// The names of an object's members; a ship has one more in the second version.
+pub fn lexicon_of(names: Names, version: Version) -> Lexicon<'static>
+    ensures { result ≡ names_of version names }
 {
     match names {
         Names::Port => Lexicon::new(
@@ -27,36 +50,28 @@ pub fn lexicon_of(names: Names, stays: bool) -> Lexicon<'static>
         ),
         Names::Waypoint => Lexicon::new(b"name depth"),
         Names::Turnaround => Lexicon::new(b"outgoing incoming"),
-        Names::Ship => if stays {
-            Lexicon::new(
-                b"name direction class earliest latest tpc light deep route channel tugs job may_stay",
-            )
-        } else {
-            Lexicon::new(
-                b"name direction class earliest latest tpc light deep route channel tugs job",
-            )
-        },
+        Names::Ship => ship_lexicon(version),
         Names::Pass => Lexicon::new(b"waypoint offset clearance"),
         Names::Stretch => Lexicon::new(b"section enter leave"),
         Names::Berth => Lexicon::new(b"outgoing incoming clear"),
     }
 }
 
-/// What a value looks like, with the numbers of its places.
+/// What a value looks like, with its places.
 pub enum Form<'t> {
     /// A whole number.
-    Number(u32),
+    Number(Place),
     /// A text.
-    Text(u32),
+    Text(Place),
     /// A truth value.
-    Truth(u32),
+    Truth(Place),
     /// A list of items of one form.
-    List(u32, &'t Form<'t>),
+    List(Place, &'t Form<'t>),
     /// An object with these members, the first of which follows.
-    Object(u32, Names, &'t Form<'t>),
+    Object(Place, Names, &'t Form<'t>),
     /// A member of the object by its name, its form, and the object's further members.
-    Member(u32, &'t str, &'t Form<'t>, &'t Form<'t>),
-    /// Further members where ships may stay, and none elsewhere.
+    Member(Place, &'t str, &'t Form<'t>, &'t Form<'t>),
+    /// Further members in the second version, and none in the first.
     Stays(&'t Form<'t>),
     /// No further member.
     End,
@@ -65,92 +80,252 @@ pub enum Form<'t> {
 type Entry = Form<'static>;
 
 // A line for each place, in the order of refusals; the last name is that of the next member.
-pub const PORT: Entry = Form::Object(0, Names::Port, &VERSION);
+pub const PORT: Entry = Form::Object(Place::Root, Names::Port, &VERSION);
 
-const VERSION: Entry = Form::Member(1, "version", &Form::Number(1), &SLOTS);
+const VERSION: Entry = Form::Member(
+    Place::Version,
+    "version",
+    &Form::Number(Place::Version),
+    &SLOTS,
+);
 
-const SLOTS: Entry = Form::Member(2, "slots", &Form::Number(2), &SLOT_MINUTES);
+const SLOTS: Entry = Form::Member(
+    Place::Slots,
+    "slots",
+    &Form::Number(Place::Slots),
+    &SLOT_MINUTES,
+);
 
-const SLOT_MINUTES: Entry = Form::Member(3, "slot_minutes", &Form::Number(3), &WAYPOINTS);
+const SLOT_MINUTES: Entry = Form::Member(
+    Place::SlotMinutes,
+    "slot_minutes",
+    &Form::Number(Place::SlotMinutes),
+    &WAYPOINTS,
+);
 
-const WAYPOINTS: Entry = Form::Member(4, "waypoints", &Form::List(4, &WAYPOINT), &SECTIONS);
+const WAYPOINTS: Entry = Form::Member(
+    Place::Waypoints,
+    "waypoints",
+    &Form::List(Place::Waypoints, &WAYPOINT),
+    &SECTIONS,
+);
 
-const WAYPOINT: Entry = Form::Object(5, Names::Waypoint, &WAYPOINT_NAME);
+const WAYPOINT: Entry = Form::Object(Place::Waypoint, Names::Waypoint, &WAYPOINT_NAME);
 
-const WAYPOINT_NAME: Entry = Form::Member(6, "name", &Form::Text(6), &DEPTH);
+const WAYPOINT_NAME: Entry = Form::Member(
+    Place::WaypointName,
+    "name",
+    &Form::Text(Place::WaypointName),
+    &DEPTH,
+);
 
-const DEPTH: Entry = Form::Member(7, "depth", &Form::Number(7), &Form::End);
+const DEPTH: Entry = Form::Member(
+    Place::WaypointDepth,
+    "depth",
+    &Form::Number(Place::WaypointDepth),
+    &Form::End,
+);
 
-const SECTIONS: Entry = Form::Member(8, "sections", &Form::List(8, &Form::Text(9)), &SEPARATION);
+const SECTIONS: Entry = Form::Member(
+    Place::Sections,
+    "sections",
+    &Form::List(Place::Sections, &Form::Text(Place::Section)),
+    &SEPARATION,
+);
 
-const SEPARATION: Entry = Form::Member(10, "separation", &Form::List(10, &ROW), &TURNAROUND);
+const SEPARATION: Entry = Form::Member(
+    Place::Separation,
+    "separation",
+    &Form::List(Place::Separation, &ROW),
+    &TURNAROUND,
+);
 
-const ROW: Entry = Form::List(11, &Form::Number(12));
+const ROW: Entry = Form::List(Place::SeparationRow, &Form::Number(Place::SeparationGap));
 
-const TURNAROUND: Entry = Form::Member(13, "turnaround", &TURNAROUNDS, &FLEET);
+const TURNAROUND: Entry = Form::Member(Place::Turnaround, "turnaround", &TURNAROUNDS, &FLEET);
 
-const TURNAROUNDS: Entry = Form::Object(13, Names::Turnaround, &AFTER_OUTGOING);
+const TURNAROUNDS: Entry = Form::Object(Place::Turnaround, Names::Turnaround, &AFTER_OUTGOING);
 
-const AFTER_OUTGOING: Entry = Form::Member(14, "outgoing", &Form::Number(14), &AFTER_INCOMING);
+const AFTER_OUTGOING: Entry = Form::Member(
+    Place::TurnaroundOutgoing,
+    "outgoing",
+    &Form::Number(Place::TurnaroundOutgoing),
+    &AFTER_INCOMING,
+);
 
-const AFTER_INCOMING: Entry = Form::Member(15, "incoming", &Form::Number(15), &Form::End);
+const AFTER_INCOMING: Entry = Form::Member(
+    Place::TurnaroundIncoming,
+    "incoming",
+    &Form::Number(Place::TurnaroundIncoming),
+    &Form::End,
+);
 
-const FLEET: Entry = Form::Member(16, "fleet", &Form::Number(16), &SHIPS);
+const FLEET: Entry = Form::Member(Place::Fleet, "fleet", &Form::Number(Place::Fleet), &SHIPS);
 
-const SHIPS: Entry = Form::Member(17, "ships", &Form::List(17, &SHIP), &BERTHS);
+const SHIPS: Entry = Form::Member(
+    Place::Ships,
+    "ships",
+    &Form::List(Place::Ships, &SHIP),
+    &BERTHS,
+);
 
-const SHIP: Entry = Form::Object(18, Names::Ship, &SHIP_NAME);
+const SHIP: Entry = Form::Object(Place::Ship, Names::Ship, &SHIP_NAME);
 
-const SHIP_NAME: Entry = Form::Member(19, "name", &Form::Text(19), &DIRECTION);
+const SHIP_NAME: Entry = Form::Member(
+    Place::ShipName,
+    "name",
+    &Form::Text(Place::ShipName),
+    &DIRECTION,
+);
 
-const DIRECTION: Entry = Form::Member(20, "direction", &Form::Text(20), &CLASS);
+const DIRECTION: Entry = Form::Member(
+    Place::ShipDirection,
+    "direction",
+    &Form::Text(Place::ShipDirection),
+    &CLASS,
+);
 
-const CLASS: Entry = Form::Member(21, "class", &Form::Number(21), &EARLIEST);
+const CLASS: Entry = Form::Member(
+    Place::ShipClass,
+    "class",
+    &Form::Number(Place::ShipClass),
+    &EARLIEST,
+);
 
-const EARLIEST: Entry = Form::Member(22, "earliest", &Form::Number(22), &LATEST);
+const EARLIEST: Entry = Form::Member(
+    Place::ShipEarliest,
+    "earliest",
+    &Form::Number(Place::ShipEarliest),
+    &LATEST,
+);
 
-const LATEST: Entry = Form::Member(23, "latest", &Form::Number(23), &TPC);
+const LATEST: Entry = Form::Member(
+    Place::ShipLatest,
+    "latest",
+    &Form::Number(Place::ShipLatest),
+    &TPC,
+);
 
-const TPC: Entry = Form::Member(24, "tpc", &Form::Number(24), &LIGHT);
+const TPC: Entry = Form::Member(Place::ShipTpc, "tpc", &Form::Number(Place::ShipTpc), &LIGHT);
 
-const LIGHT: Entry = Form::Member(25, "light", &Form::Number(25), &DEEP);
+const LIGHT: Entry = Form::Member(
+    Place::ShipLight,
+    "light",
+    &Form::Number(Place::ShipLight),
+    &DEEP,
+);
 
-const DEEP: Entry = Form::Member(26, "deep", &Form::Number(26), &ROUTE);
+const DEEP: Entry = Form::Member(
+    Place::ShipDeep,
+    "deep",
+    &Form::Number(Place::ShipDeep),
+    &ROUTE,
+);
 
-const ROUTE: Entry = Form::Member(27, "route", &Form::List(27, &PASS), &CHANNEL);
+const ROUTE: Entry = Form::Member(
+    Place::ShipRoute,
+    "route",
+    &Form::List(Place::ShipRoute, &PASS),
+    &CHANNEL,
+);
 
-const PASS: Entry = Form::Object(28, Names::Pass, &PASSED);
+const PASS: Entry = Form::Object(Place::Pass, Names::Pass, &PASSED);
 
-const PASSED: Entry = Form::Member(29, "waypoint", &Form::Number(29), &OFFSET);
+const PASSED: Entry = Form::Member(
+    Place::PassWaypoint,
+    "waypoint",
+    &Form::Number(Place::PassWaypoint),
+    &OFFSET,
+);
 
-const OFFSET: Entry = Form::Member(30, "offset", &Form::Number(30), &CLEARANCE);
+const OFFSET: Entry = Form::Member(
+    Place::PassOffset,
+    "offset",
+    &Form::Number(Place::PassOffset),
+    &CLEARANCE,
+);
 
-const CLEARANCE: Entry = Form::Member(31, "clearance", &Form::Number(31), &Form::End);
+const CLEARANCE: Entry = Form::Member(
+    Place::PassClearance,
+    "clearance",
+    &Form::Number(Place::PassClearance),
+    &Form::End,
+);
 
-const CHANNEL: Entry = Form::Member(32, "channel", &Form::List(32, &STRETCH), &TUGS);
+const CHANNEL: Entry = Form::Member(
+    Place::ShipChannel,
+    "channel",
+    &Form::List(Place::ShipChannel, &STRETCH),
+    &TUGS,
+);
 
-const STRETCH: Entry = Form::Object(33, Names::Stretch, &SECTION);
+const STRETCH: Entry = Form::Object(Place::Stretch, Names::Stretch, &SECTION);
 
-const SECTION: Entry = Form::Member(34, "section", &Form::Number(34), &ENTER);
+const SECTION: Entry = Form::Member(
+    Place::StretchSection,
+    "section",
+    &Form::Number(Place::StretchSection),
+    &ENTER,
+);
 
-const ENTER: Entry = Form::Member(35, "enter", &Form::Number(35), &LEAVE);
+const ENTER: Entry = Form::Member(
+    Place::StretchEnter,
+    "enter",
+    &Form::Number(Place::StretchEnter),
+    &LEAVE,
+);
 
-const LEAVE: Entry = Form::Member(36, "leave", &Form::Number(36), &Form::End);
+const LEAVE: Entry = Form::Member(
+    Place::StretchLeave,
+    "leave",
+    &Form::Number(Place::StretchLeave),
+    &Form::End,
+);
 
-const TUGS: Entry = Form::Member(37, "tugs", &Form::Number(37), &JOB);
+const TUGS: Entry = Form::Member(
+    Place::ShipTugs,
+    "tugs",
+    &Form::Number(Place::ShipTugs),
+    &JOB,
+);
 
-const JOB: Entry = Form::Member(38, "job", &Form::Number(38), &STAYS);
+const JOB: Entry = Form::Member(Place::ShipJob, "job", &Form::Number(Place::ShipJob), &STAYS);
 
 const STAYS: Entry = Form::Stays(&MAY_STAY);
 
-const MAY_STAY: Entry = Form::Member(44, "may_stay", &Form::Truth(44), &Form::End);
+const MAY_STAY: Entry = Form::Member(
+    Place::ShipMayStay,
+    "may_stay",
+    &Form::Truth(Place::ShipMayStay),
+    &Form::End,
+);
 
-const BERTHS: Entry = Form::Member(39, "berths", &Form::List(39, &BERTH), &Form::End);
+const BERTHS: Entry = Form::Member(
+    Place::Berths,
+    "berths",
+    &Form::List(Place::Berths, &BERTH),
+    &Form::End,
+);
 
-const BERTH: Entry = Form::Object(40, Names::Berth, &BERTH_OUTGOING);
+const BERTH: Entry = Form::Object(Place::BerthPair, Names::Berth, &BERTH_OUTGOING);
 
-const BERTH_OUTGOING: Entry = Form::Member(41, "outgoing", &Form::Number(41), &BERTH_INCOMING);
+const BERTH_OUTGOING: Entry = Form::Member(
+    Place::BerthOutgoing,
+    "outgoing",
+    &Form::Number(Place::BerthOutgoing),
+    &BERTH_INCOMING,
+);
 
-const BERTH_INCOMING: Entry = Form::Member(42, "incoming", &Form::Number(42), &CLEAR);
+const BERTH_INCOMING: Entry = Form::Member(
+    Place::BerthIncoming,
+    "incoming",
+    &Form::Number(Place::BerthIncoming),
+    &CLEAR,
+);
 
-const CLEAR: Entry = Form::Member(43, "clear", &Form::Number(43), &Form::End);
+const CLEAR: Entry = Form::Member(
+    Place::BerthClear,
+    "clear",
+    &Form::Number(Place::BerthClear),
+    &Form::End,
+);

@@ -178,3 +178,101 @@ fn parts_of_day(rt: HostRuntime) -> Result<(), Fail> {
     assert_eq!(rt; parts.berths[2].incoming, 8);
     Ok(())
 }
+
+/// Items of a list, with commas between them: two texts with the item's number between, or the
+/// first of them alone.
+fn items(alloc: Global, many: usize, head: &str, tail: Option<&str>) -> Result<String, AllocError> {
+    let mut text = String::new(alloc);
+    for i in 0..many {
+        if 0 < i {
+            text.push(',')?;
+        }
+        text.push_str(head)?;
+        if let Some(tail) = tail {
+            text.push_str(format!(in alloc; "{i}{tail}")?.as_str())?;
+        }
+    }
+    Ok(text)
+}
+
+/// The most waypoints, sections, classes, ships, passes, stretches and berth pairs, with the place
+/// of each list.
+const MOST: [(usize, &[u32]); 7] = [
+    (16, &[4]),
+    (8, &[8]),
+    (8, &[10]),
+    (40, &[17]),
+    (16, &[27, 0]),
+    (8, &[32, 0]),
+    (200, &[39]),
+];
+
+/// The ships of an instance, every second one coming in, with their numbers at the limits.
+fn ships(
+    alloc: Global,
+    many: usize,
+    passes: usize,
+    stretches: usize,
+) -> Result<String, AllocError> {
+    let pass = Some(r#","offset":1023,"clearance":1000}"#);
+    let route = items(alloc, passes, r#"{"waypoint":"#, pass)?;
+    let stretch = Some(r#","enter":511,"leave":512}"#);
+    let channel = items(alloc, stretches, r#"{"section":"#, stretch)?;
+    let mut text = String::new(alloc);
+    for i in 0..many {
+        let side = if i % 2 == 0 { "outgoing" } else { "incoming" };
+        let comma = if i == 0 { "" } else { "," };
+        let head = format!(in alloc;
+            r#"{comma}{{"name":"Ship {i}","direction":"{side}","class":7,"earliest":511,"latest":511,"tpc":3000,"light":10000,"deep":10000,"tugs":64,"job":512,"may_stay":true,"route":["#
+        )?;
+        text.push_str(head.as_str())?;
+        text.push_str(route.as_str())?;
+        text.push_str(r#"],"channel":["#)?;
+        text.push_str(channel.as_str())?;
+        text.push_str("]}")?;
+    }
+    Ok(text)
+}
+
+/// An instance with so many items in its lists, in the order of `MOST`.
+fn largest(alloc: Global, many: [usize; 7]) -> Result<String, AllocError> {
+    let waypoints = items(
+        alloc,
+        many[0],
+        r#"{"name":"Point "#,
+        Some(r#"","depth":10000}"#),
+    )?;
+    let sections = items(alloc, many[1], r#""Section "#, Some(r#"""#))?;
+    let row = items(alloc, many[2], "512", None)?;
+    let row = format!(in alloc; "[{row}]")?;
+    let rows = items(alloc, many[2], row.as_str(), None)?;
+    let pair = r#"{"outgoing":0,"incoming":1,"clear":512}"#;
+    let berths = items(alloc, many[6], pair, None)?;
+    let ships = ships(alloc, many[3], many[4], many[5])?;
+    let head =
+        r#"{"version":2,"slots":512,"slot_minutes":1440,"fleet":1000,"turnaround":{"outgoing":512,"incoming":512},"#;
+    format!(in alloc;
+        r#"{head}"waypoints":[{waypoints}],"sections":[{sections}],"separation":[{rows}],"ships":[{ships}],"berths":[{berths}]}}"#
+    )
+}
+
+#[test]
+fn largest_instances(rt: HostRuntime) -> Result<(), Fail> {
+    let alloc = rt.alloc();
+    let most = MOST.map(|(most, _)| most);
+    let text = largest(alloc, most)?;
+    let port = port_of(alloc, text.as_str())?;
+    let parts = port.parts();
+    assert!(rt; parts.ships.len() == 40 && parts.berths.len() == 200);
+    assert!(rt; parts.ships[39].route.len() == 16 && parts.ships[39].channel.len() == 8);
+    for (i, (_, place)) in MOST.iter().enumerate() {
+        let mut many = most;
+        many[i] += 1;
+        let fault = fault_of(alloc, largest(alloc, many)?.as_bytes());
+        assert!(rt;
+            fault == at(place, PortWord::Count),
+            "one more of list {i} is {fault:?}"
+        );
+    }
+    Ok(())
+}

@@ -1,15 +1,16 @@
 //! The form pass: one walk over the table of places.
 
-ghost use Rattle.std.specs.Prelude.{◌≡◌, true, false};
+ghost use Rattle.std.specs.Prelude.{◌≡◌};
 ghost use Rattle.serde_json.specs.View.{view};
+ghost use Rattle.hw_read.specs.declared.table.Version.TheVariants.{First, Second};
 ghost use Rattle.hw_read.specs.Places.{no_stars};
-ghost use Rattle.hw_read.specs.Table.{port, is_second, first_of, place_faults};
-ghost use Rattle.hw_read.specs.Walk.{Tells, form_fault, place_fault};
+ghost use Rattle.hw_read.specs.Table.{port, version_of as told_version, first_of, entry_faults};
+ghost use Rattle.hw_read.specs.Walk.{Tells, form_fault, form_long, entry_fault, entry_long};
 
 use crate::fault::ReadFault;
 use crate::members::{items, member, number, object, text, truth};
 use crate::stars::{Stars, path_of, stars_of};
-use crate::table::{Form, PORT, lexicon_of};
+use crate::table::{Form, PORT, Version, lexicon_of};
 use serde_json::Value;
 
 const NO_STARS: Stars = Stars {
@@ -18,9 +19,9 @@ const NO_STARS: Stars = Stars {
 };
 
 /// The first fault of a value that is to have a form. An object's members are tested in the
-/// order of the table, each by one look-up.
-fn walk(form: &Form<'_>, stays: bool, stars: Stars, value: &Value) -> Result<(), ReadFault>
-    ensures { Tells result (form_fault stays form.now stars (view value.now)) }
+/// order of the table, each by one look-up. `NoMemory` says that a list has more than 2^32 items.
+fn walk(form: &Form<'_>, version: Version, stars: Stars, value: &Value) -> Result<(), ReadFault>
+    ensures { Tells (form_long version form.now (view value.now)) result (form_fault version form.now stars (view value.now)) }
 {
     match form {
         Form::Number(field) => {
@@ -38,68 +39,69 @@ fn walk(form: &Form<'_>, stays: bool, stars: Stars, value: &Value) -> Result<(),
         Form::List(field, inner) => {
             let items = items(path_of(*field, stars), value)?;
             for (i, item) in items.iter().enumerate() {
-                // A list of 2^32 items doesn't fit into memory.
+                // A path can't tell the number of an item behind 2^32 others.
                 let Ok(place) = u32::try_from(i) else {
                     return Err(ReadFault::NoMemory);
                 };
-                walk(inner, stays, stars_of(stars, place), item)?;
+                walk(inner, version, stars_of(stars, place), item)?;
             }
             Ok(())
         }
         Form::Object(field, names, members) => {
-            object(path_of(*field, stars), &lexicon_of(*names, stays), value)?;
-            walk(members, stays, stars, value)
+            object(path_of(*field, stars), &lexicon_of(*names, version), value)?;
+            walk(members, version, stars, value)
         }
         Form::Member(field, name, form, more) => {
             let value_of = member(path_of(*field, stars), name, value)?;
-            walk(form, stays, stars, value_of)?;
-            walk(more, stays, stars, value)
+            walk(form, version, stars, value_of)?;
+            walk(more, version, stars, value)
         }
         Form::Stays(more) => {
-            if stays {
-                walk(more, stays, stars, value)
-            } else {
-                Ok(())
+            match version {
+                Version::First => Ok(()),
+                Version::Second => walk(more, version, stars, value),
             }
         }
         Form::End => Ok(()),
     }
 }
 
-/// Whether the instance is of the version in which ships may stay.
-fn may_stay(value: &Value) -> bool
-    ensures { result ≡ is_second (view value.now) }
+/// The version of an instance.
+fn version_of(value: &Value) -> Version
+    ensures { result ≡ told_version (view value.now) }
 {
-    value.get("version").and_then(Value::as_i64) == Some(2)
+    match value.get("version").and_then(Value::as_i64) {
+        Some(2) => Version::Second,
+        _ => Version::First,
+    }
 }
 
 #[tactic(auto, unfolding(crate::specs::Table::port))]
 fn test_first(value: &Value) -> Result<(), ReadFault>
-    ensures { Tells result (place_fault (port false) no_stars (view value.now)) }
+    ensures { Tells (entry_long (port First) (view value.now)) result (entry_fault (port First) no_stars (view value.now)) }
 {
-    walk(&PORT, false, NO_STARS, value)
+    walk(&PORT, Version::First, NO_STARS, value)
 }
 
 #[tactic(auto, unfolding(crate::specs::Table::port))]
 fn test_second(value: &Value) -> Result<(), ReadFault>
-    ensures { Tells result (place_fault (port true) no_stars (view value.now)) }
+    ensures { Tells (entry_long (port Second) (view value.now)) result (entry_fault (port Second) no_stars (view value.now)) }
 {
-    walk(&PORT, true, NO_STARS, value)
+    walk(&PORT, Version::Second, NO_STARS, value)
 }
 
-fn test_by(stays: bool, value: &Value) -> Result<(), ReadFault>
-    ensures { Tells result (place_fault (port stays) no_stars (view value.now)) }
+fn test_by(version: Version, value: &Value) -> Result<(), ReadFault>
+    ensures { Tells (entry_long (port version) (view value.now)) result (entry_fault (port version) no_stars (view value.now)) }
 {
-    if stays {
-        test_second(value)
-    } else {
-        test_first(value)
+    match version {
+        Version::First => test_first(value),
+        Version::Second => test_second(value),
     }
 }
 
 /// The first fault of form of an instance, by the table of its version.
 pub fn test_form(value: &Value) -> Result<(), ReadFault>
-    ensures { Tells result (first_of (place_faults (port (is_second (view value.now))) no_stars (view value.now))) }
+    ensures { Tells (entry_long (port (told_version (view value.now))) (view value.now)) result (first_of (entry_faults (port (told_version (view value.now))) no_stars (view value.now))) }
 {
-    test_by(may_stay(value), value)
+    test_by(version_of(value), value)
 }

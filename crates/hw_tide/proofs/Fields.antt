@@ -1,5 +1,6 @@
 -- The fields from a place on.
-use Rattle.std.proofs.Common.{◌≡◌, ℕ, zero, suc, ◌+◌, ◌++◌, List, [], ◌∷◌, drop, Option, Some, None, Result, Ok, Err, refl, sym, Bor, MatchOption, option_map, add-one}
+use Rattle.std.proofs.Common.{◌≡◌, ℕ, zero, suc, ◌+◌, ◌++◌, List, [], ◌∷◌, drop, Option, Some, None, Result, Ok, Err, refl, sym, Bor, MatchOption, option_map, add-one, length, ◌<◌, arith}
+use Rattle.std.proofs.lemmas.List.{length-drop}
 use Rattle.csv.specs.Records.{field_at}
 use Rattle.hw_tide.specs.declared.fault.TideFault.{TideFault}
 use Rattle.std.proofs.Common.{ℤ, append_assoc, ap, ◌∙◌}
@@ -41,3 +42,10 @@ next_height row column front f fs rest h whole at is so_far =
     let first : heights_from row column fs ≡ heights_from row column (f ∷ rest) = ap (heights_from row column) at in
     let second : heights_from row column (f ∷ rest) ≡ (heights_from row (column + 1) rest >>= λ hs. Ok (h ∷ hs)) = ap (λ (o : Option ℤ). formed (Field row column) o >>= λ h. heights_from row (column + 1) rest >>= λ hs. Ok (h ∷ hs)) is in
     one_more front h (heights_from row (column + 1) rest) ∙ ap (with_front front) (sym (first ∙ second)) ∙ so_far
+
+-- a place of a record has a field
+pub left_over : (xs : List (List ℕ)) (i : ℕ) → i < length xs → drop i xs ≡ [] → ⊥
+left_over xs i lt e =
+    let none : length (drop i xs) ≡ 0 = ap length e in
+    let size = length-drop i xs in
+    omega (arith, lt, none, size)

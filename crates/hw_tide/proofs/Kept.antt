@@ -7,6 +7,8 @@ use Rattle.std.proofs.lemmas.Int.{ints}
 use Rattle.std.proofs.lemmas.List.{length-drop}
 use Rattle.std.proofs.lemmas.List.Elements.{All-nil, All-cons}
 use Rattle.hw_text.specs.Numbers.{is_number, number_up_to, number_from_to, signed_up_to}
+use Rattle.hw_tide.specs.declared.kind.TableKind.{TableKind}
+use Rattle.hw_tide.specs.declared.kind.TableKind.TheVariants.{Heights, Waters}
 use Rattle.hw_tide.specs.Twelfths.{InLimits}
 use Rattle.hw_tide.specs.Levels.{LevelsParts, IsLevels}
 use Rattle.hw_tide.specs.Tides.{IsTable, slot_at}
@@ -88,53 +90,53 @@ heights_kept row column (f ∷ fs) heights e =
     let is : one.0 ∷ rest.0 ≡ heights = same_Ok (one.0 ∷ rest.0) heights rest.2 in
     subst (λ (hs : List ℤ). (length hs ≡ suc (length fs)) × All InLimits hs) is (ap (λ n. suc n) more.0, All-cons InLimits one.0 rest.0 small more.1)
 
-fitted : (waters : Bool) (row : ℕ) (last : Option ℕ) (o : Option ℕ) (slot : ℕ) → option_and_then (fitting waters row last) o ≡ Some slot → (o ≡ Some slot) × (slot_fits waters row last slot ≡ true)
-fitted waters row last None slot e = absurd cc
-fitted waters row last (Some m) slot e =
-    let p = some_if (slot_fits waters row last m) m slot e in
-    (ap (λ k. Some k) p.1, subst (λ k. slot_fits waters row last k ≡ true) p.1 p.0)
+fitted : (kind : TableKind) (row : ℕ) (last : Option ℕ) (o : Option ℕ) (slot : ℕ) → option_and_then (fitting kind row last) o ≡ Some slot → (o ≡ Some slot) × (slot_fits kind row last slot ≡ true)
+fitted kind row last None slot e = absurd cc
+fitted kind row last (Some m) slot e =
+    let p = some_if (slot_fits kind row last m) m slot e in
+    (ap (λ k. Some k) p.1, subst (λ k. slot_fits kind row last k ≡ true) p.1 p.0)
 
-pub levels_kept : (waters : Bool) (waypoints row : ℕ) (last : Option ℕ) (fields : List (List ℕ)) (l : LevelsParts) → levels_form waters (1 + waypoints) row last fields ≡ Ok l → IsLevels waypoints l × (slot_fits waters row last l.slot ≡ true)
+pub levels_kept : (kind : TableKind) (waypoints row : ℕ) (last : Option ℕ) (fields : List (List ℕ)) (l : LevelsParts) → levels_form kind (1 + waypoints) row last fields ≡ Ok l → IsLevels waypoints l × (slot_fits kind row last l.slot ≡ true)
 unfolding levels_form
-levels_kept waters waypoints row last fields l e =
+levels_kept kind waypoints row last fields l e =
     let a = bound (needed (Length row) (length fields == 1 + waypoints)) _ l e in
     let size : length fields ≡ 1 + waypoints = eqb-true (length fields) (1 + waypoints) (was_needed (Length row) (length fields == 1 + waypoints) a.0 a.1) in
-    let b = bound (formed (Field row 0) (option_and_then (fitting waters row last) (number_up_to 2_047 (first_field (drop 0 fields))))) _ l a.2 in
-    let f = fitted waters row last (number_up_to 2_047 (first_field (drop 0 fields))) b.0 (was_formed (Field row 0) _ b.0 b.1) in
+    let b = bound (formed (Field row 0) (option_and_then (fitting kind row last) (number_up_to 2_047 (first_field (drop 0 fields))))) _ l a.2 in
+    let f = fitted kind row last (number_up_to 2_047 (first_field (drop 0 fields))) b.0 (was_formed (Field row 0) _ b.0 b.1) in
     let few : b.0 ≤ 2_047 = up_to 2_047 (first_field (drop 0 fields)) b.0 f.0 in
     let c = bound (heights_from row 1 (drop 1 fields)) _ l b.2 in
     let h = heights_kept row 1 (drop 1 fields) c.0 c.1 in
     let one : LevelsParts = record { slot = b.0; heights = c.0 } in
     let each : length c.0 ≡ waypoints = omega (arith, h.0, length-drop 1 fields, size) in
-    subst (λ (x : LevelsParts). IsLevels waypoints x × (slot_fits waters row last x.slot ≡ true)) (same_Ok one l c.2) (record { few_slots = few; each_height = each; small_heights = h.1 }, f.1)
+    subst (λ (x : LevelsParts). IsLevels waypoints x × (slot_fits kind row last x.slot ≡ true)) (same_Ok one l c.2) (record { few_slots = few; each_height = each; small_heights = h.1 }, f.1)
 
 -- ---- all records
 
-pub each_kept : (waters : Bool) (waypoints row : ℕ) (last : Option ℕ) (records : List (List (List ℕ))) (levels : List LevelsParts) → levels_from waters (1 + waypoints) row last records ≡ Ok levels → All (IsLevels waypoints) levels
-each_kept waters waypoints row last [] levels e = subst (All (IsLevels waypoints)) (same_Ok [] levels e) (All-nil (IsLevels waypoints))
-each_kept waters waypoints row last (x ∷ xs) levels e =
-    let a = bound (levels_form waters (1 + waypoints) row last x) _ levels e in
-    let b = bound (levels_from waters (1 + waypoints) (row + 1) (Some a.0.slot) xs) _ levels a.2 in
-    let rest = each_kept waters waypoints (row + 1) (Some a.0.slot) xs b.0 b.1 in
-    subst (All (IsLevels waypoints)) (same_Ok (a.0 ∷ b.0) levels b.2) (All-cons (IsLevels waypoints) a.0 b.0 (levels_kept waters waypoints row last x a.0 a.1).0 rest)
+pub each_kept : (kind : TableKind) (waypoints row : ℕ) (last : Option ℕ) (records : List (List (List ℕ))) (levels : List LevelsParts) → levels_from kind (1 + waypoints) row last records ≡ Ok levels → All (IsLevels waypoints) levels
+each_kept kind waypoints row last [] levels e = subst (All (IsLevels waypoints)) (same_Ok [] levels e) (All-nil (IsLevels waypoints))
+each_kept kind waypoints row last (x ∷ xs) levels e =
+    let a = bound (levels_form kind (1 + waypoints) row last x) _ levels e in
+    let b = bound (levels_from kind (1 + waypoints) (row + 1) (Some a.0.slot) xs) _ levels a.2 in
+    let rest = each_kept kind waypoints (row + 1) (Some a.0.slot) xs b.0 b.1 in
+    subst (All (IsLevels waypoints)) (same_Ok (a.0 ∷ b.0) levels b.2) (All-cons (IsLevels waypoints) a.0 b.0 (levels_kept kind waypoints row last x a.0 a.1).0 rest)
 
-begins : (waters : Bool) (slot : ℕ) → slot_fits waters 1 None slot ≡ true → slot ≡ 0
-begins true slot e = eqb-true slot 0 e
-begins false slot e = eqb-true slot 0 e
+begins : (kind : TableKind) (slot : ℕ) → slot_fits kind 1 None slot ≡ true → slot ≡ 0
+begins Waters slot e = eqb-true slot 0 e
+begins Heights slot e = eqb-true slot 0 e
 
-first_slot : (waters : Bool) (waypoints : ℕ) (records : List (List (List ℕ))) (levels : List LevelsParts) → levels_from waters (1 + waypoints) 1 None records ≡ Ok levels → slot_at levels 0 ≡ 0
-first_slot waters waypoints [] levels e = subst (λ ls. slot_at ls 0 ≡ 0) (same_Ok [] levels e) refl
-first_slot waters waypoints (x ∷ xs) levels e =
-    let a = bound (levels_form waters (1 + waypoints) 1 None x) _ levels e in
-    let b = bound (levels_from waters (1 + waypoints) (1 + 1) (Some a.0.slot) xs) _ levels a.2 in
-    subst (λ ls. slot_at ls 0 ≡ 0) (same_Ok (a.0 ∷ b.0) levels b.2) (begins waters a.0.slot (levels_kept waters waypoints 1 None x a.0 a.1).1)
+first_slot : (kind : TableKind) (waypoints : ℕ) (records : List (List (List ℕ))) (levels : List LevelsParts) → levels_from kind (1 + waypoints) 1 None records ≡ Ok levels → slot_at levels 0 ≡ 0
+first_slot kind waypoints [] levels e = subst (λ ls. slot_at ls 0 ≡ 0) (same_Ok [] levels e) refl
+first_slot kind waypoints (x ∷ xs) levels e =
+    let a = bound (levels_form kind (1 + waypoints) 1 None x) _ levels e in
+    let b = bound (levels_from kind (1 + waypoints) (1 + 1) (Some a.0.slot) xs) _ levels a.2 in
+    subst (λ ls. slot_at ls 0 ≡ 0) (same_Ok (a.0 ∷ b.0) levels b.2) (begins kind a.0.slot (levels_kept kind waypoints 1 None x a.0 a.1).1)
 
-few_records : (waypoints row : ℕ) (last : Option ℕ) (records : List (List (List ℕ))) (levels : List LevelsParts) → 1 ≤ row → levels_from false (1 + waypoints) row last records ≡ Ok levels → (length levels ≡ 0) ⊎ (length levels + row ≤ 2_049)
+few_records : (waypoints row : ℕ) (last : Option ℕ) (records : List (List (List ℕ))) (levels : List LevelsParts) → 1 ≤ row → levels_from Heights (1 + waypoints) row last records ≡ Ok levels → (length levels ≡ 0) ⊎ (length levels + row ≤ 2_049)
 few_records waypoints row last [] levels some e = inl (ap length (sym (same_Ok [] levels e)))
 few_records waypoints row last (x ∷ xs) levels some e =
-    let a = bound (levels_form false (1 + waypoints) row last x) _ levels e in
-    let b = bound (levels_from false (1 + waypoints) (row + 1) (Some a.0.slot) xs) _ levels a.2 in
-    let k = levels_kept false waypoints row last x a.0 a.1 in
+    let a = bound (levels_form Heights (1 + waypoints) row last x) _ levels e in
+    let b = bound (levels_from Heights (1 + waypoints) (row + 1) (Some a.0.slot) xs) _ levels a.2 in
+    let k = levels_kept Heights waypoints row last x a.0 a.1 in
     let slot : a.0.slot ≡ row - 1 = eqb-true a.0.slot (row - 1) k.1 in
     let here : row ≤ 2_048 = omega (arith, slot, k.0.few_slots, some) in
     let size : suc (length b.0) ≡ length levels = ap length (same_Ok (a.0 ∷ b.0) levels b.2) in
@@ -143,9 +145,9 @@ few_records waypoints row last (x ∷ xs) levels some e =
       | inr le ↦ inr (omega (arith, le, size))
     ]
 
-few_heights : (waters : Bool) (waypoints : ℕ) (records : List (List (List ℕ))) (levels : List LevelsParts) → levels_from waters (1 + waypoints) 1 None records ≡ Ok levels → waters ≡ false → length levels ≤ 2_048
-few_heights true waypoints records levels e no' = absurd cc
-few_heights false waypoints records levels e no' = elim (few_records waypoints 1 None records levels (omega arith) e) [
+few_heights : (kind : TableKind) (waypoints : ℕ) (records : List (List (List ℕ))) (levels : List LevelsParts) → levels_from kind (1 + waypoints) 1 None records ≡ Ok levels → kind ≡ Heights → length levels ≤ 2_048
+few_heights Waters waypoints records levels e no' = absurd cc
+few_heights Heights waypoints records levels e no' = elim (few_records waypoints 1 None records levels (omega arith) e) [
   | inl none ↦ omega (arith, none)
   | inr le ↦ omega (arith, le)
 ]
@@ -157,17 +159,17 @@ was_some (x ∷ xs) ys e =
     (is, subst (λ l. 1 ≤ length l) is (omega arith))
 
 -- the heights of a table are one
-pub table_kept : (waters : Bool) (names : List (List ℕ)) (records : List (List (List ℕ))) (levels : List LevelsParts) → table_of waters names records ≡ Ok levels → IsTable waters (length names) levels
+pub table_kept : (kind : TableKind) (names : List (List ℕ)) (records : List (List (List ℕ))) (levels : List LevelsParts) → table_of kind names records ≡ Ok levels → IsTable kind (length names) levels
 unfolding table_of
-table_kept waters names [] levels e = absurd cc
-table_kept waters names (first ∷ records) levels e =
-    let a = bound (header_of (wrong_column 0 (kind_word waters ∷ names) (drop 0 first))) _ levels e in
-    let b = bound (levels_from waters (1 + length names) 1 None records) _ levels a.2 in
+table_kept kind names [] levels e = absurd cc
+table_kept kind names (first ∷ records) levels e =
+    let a = bound (header_of (wrong_column 0 (kind_word kind ∷ names) (drop 0 first))) _ levels e in
+    let b = bound (levels_from kind (1 + length names) 1 None records) _ levels a.2 in
     let s = was_some b.0 levels b.2 in
-    let from : levels_from waters (1 + length names) 1 None records ≡ Ok levels = b.1 ∙ ap (λ ls. Ok ls) s.0 in
+    let from : levels_from kind (1 + length names) 1 None records ≡ Ok levels = b.1 ∙ ap (λ ls. Ok ls) s.0 in
     record {
       some = s.1;
-      begins = first_slot waters (length names) records levels from;
-      each = each_kept waters (length names) 1 None records levels from;
-      few = few_heights waters (length names) records levels from;
+      begins = first_slot kind (length names) records levels from;
+      each = each_kept kind (length names) 1 None records levels from;
+      few = few_heights kind (length names) records levels from;
     }

@@ -3,3 +3,4 @@ pub mod Levels
 pub mod Table
 pub mod Tides
 pub mod Whole
+pub mod Laws

@@ -2,6 +2,8 @@
 use Rattle.std.specs.Prelude.{◌≡◌, ℕ, ◌+◌, ◌-◌, ◌==◌, ℤ, List, [], ◌∷◌, length, drop, Bool, true, false, Option, Some, None, option_and_then, Result, Ok, Err, nat_lt, bytes_eq, codes, if◌then◌else◌}
 use Rattle.hw_text.specs.Numbers.{number_up_to, signed_up_to}
 use Rattle.hw_tide.specs.Levels.{LevelsParts}
+use Rattle.hw_tide.specs.declared.kind.TableKind.{TableKind}
+use Rattle.hw_tide.specs.declared.kind.TableKind.TheVariants.{Heights, Waters}
 use Rattle.hw_tide.specs.declared.fault.TideFault.{TideFault}
 use Rattle.hw_tide.specs.declared.fault.TideFault.TheVariants.{Header, Length, Field, Few, NoMemory}
 
@@ -28,8 +30,9 @@ needed fault true = Ok true
 needed fault false = Err fault
 
 -- the first word of the header
-abbrev pub kind_word : Bool → List ℕ
-kind_word waters = if waters then codes "water" else codes "slot"
+abbrev pub kind_word : TableKind → List ℕ
+kind_word Heights = codes "slot"
+kind_word Waters = codes "water"
 
 -- the first column that is wrong, missing or extra
 abbrev pub wrong_column : ℕ → List (List ℕ) → List (List ℕ) → Option ℕ
@@ -43,13 +46,13 @@ header_of None = Ok true
 header_of (Some column) = Err (Header column)
 
 -- heights go slot by slot from 0 on; waters begin at 0 and rise
-abbrev pub slot_fits : Bool → ℕ → Option ℕ → ℕ → Bool
-slot_fits false row last slot = slot == row - 1
-slot_fits true row None slot = slot == 0
-slot_fits true row (Some before) slot = nat_lt before slot
+abbrev pub slot_fits : TableKind → ℕ → Option ℕ → ℕ → Bool
+slot_fits Heights row last slot = slot == row - 1
+slot_fits Waters row None slot = slot == 0
+slot_fits Waters row (Some before) slot = nat_lt before slot
 
-abbrev pub fitting : Bool → ℕ → Option ℕ → ℕ → Option ℕ
-fitting waters row last slot = if slot_fits waters row last slot then Some slot else None
+abbrev pub fitting : TableKind → ℕ → Option ℕ → ℕ → Option ℕ
+fitting kind row last slot = if slot_fits kind row last slot then Some slot else None
 
 abbrev pub first_field : List (List ℕ) → List ℕ
 first_field [] = []
@@ -61,26 +64,26 @@ heights_from row column [] = Ok []
 heights_from row column (f ∷ fs) = formed (Field row column) (signed_up_to 2_000 f) >>= λ h. heights_from row (column + 1) fs >>= λ hs. Ok (h ∷ hs)
 
 -- a record of so many columns behind one with the slot `last`, the first field among them
-unfoldable pub levels_form : Bool → ℕ → ℕ → Option ℕ → List (List ℕ) → Result LevelsParts TideFault
-levels_form waters columns row last fields = do
+unfoldable pub levels_form : TableKind → ℕ → ℕ → Option ℕ → List (List ℕ) → Result LevelsParts TideFault
+levels_form kind columns row last fields = do
   size ← needed (Length row) (length fields == columns)
-  slot ← formed (Field row 0) (option_and_then (fitting waters row last) (number_up_to 2_047 (first_field (drop 0 fields))))
+  slot ← formed (Field row 0) (option_and_then (fitting kind row last) (number_up_to 2_047 (first_field (drop 0 fields))))
   heights ← heights_from row 1 (drop 1 fields)
   Ok (record { slot = slot; heights = heights })
 
 -- the records from one on
-abbrev pub levels_from : Bool → ℕ → ℕ → Option ℕ → List (List (List ℕ)) → Result (List LevelsParts) TideFault
-levels_from waters columns row last [] = Ok []
-levels_from waters columns row last (x ∷ xs) = levels_form waters columns row last x >>= λ one. levels_from waters columns (row + 1) (Some one.slot) xs >>= λ more. Ok (one ∷ more)
+abbrev pub levels_from : TableKind → ℕ → ℕ → Option ℕ → List (List (List ℕ)) → Result (List LevelsParts) TideFault
+levels_from kind columns row last [] = Ok []
+levels_from kind columns row last (x ∷ xs) = levels_form kind columns row last x >>= λ one. levels_from kind columns (row + 1) (Some one.slot) xs >>= λ more. Ok (one ∷ more)
 
 abbrev pub not_empty : {A : Type 0} → List A → Result (List A) TideFault
 not_empty [] = Err Few
 not_empty (x ∷ xs) = Ok (x ∷ xs)
 
 -- the table of all records, behind a header of the waypoints' names
-unfoldable pub table_of : Bool → List (List ℕ) → List (List (List ℕ)) → Result (List LevelsParts) TideFault
-table_of waters names [] = Err (Header 0)
-table_of waters names (first ∷ records) = do
-  header ← header_of (wrong_column 0 (kind_word waters ∷ names) (drop 0 first))
-  levels ← levels_from waters (1 + length names) 1 None records
+unfoldable pub table_of : TableKind → List (List ℕ) → List (List (List ℕ)) → Result (List LevelsParts) TideFault
+table_of kind names [] = Err (Header 0)
+table_of kind names (first ∷ records) = do
+  header ← header_of (wrong_column 0 (kind_word kind ∷ names) (drop 0 first))
+  levels ← levels_from kind (1 + length names) 1 None records
   not_empty levels

@@ -1,10 +1,12 @@
 -- What the bytes of a tide table are read as.
-use Rattle.std.specs.Prelude.{ℕ, List, [], ◌∷◌, Bool, false, Result, Err, map, bytes_eq, codes}
+use Rattle.std.specs.Prelude.{ℕ, List, [], ◌∷◌, Result, Err, map, bytes_eq, codes, if◌then◌else◌}
 use Rattle.csv.specs.Reading.{AreRecords, default_config, strip_bom}
 use Rattle.csv.specs.declared.parser.State.TheVariants as st
 use Rattle.hw_port.specs.Whole.{Parts}
 use Rattle.hw_tide.specs.declared.fault.TideFault.{TideFault}
 use Rattle.hw_tide.specs.declared.fault.TideFault.TheVariants.{NoMemory}
+use Rattle.hw_tide.specs.declared.kind.TableKind.{TableKind}
+use Rattle.hw_tide.specs.declared.kind.TableKind.TheVariants.{Heights, Waters}
 use Rattle.hw_tide.specs.Levels.{TideParts}
 use Rattle.hw_tide.specs.Table.{Gives}
 use Rattle.hw_tide.specs.Tides.{tide_of}
@@ -22,12 +24,12 @@ Reads bytes read result = (records : List (List (List ℕ))) × HasRecords bytes
 abbrev pub waypoint_names : Parts → List (List ℕ)
 waypoint_names p = map (λ w. w.name) p.waypoints
 
--- the first field of the first record is `water`
-abbrev pub says_water : List (List (List ℕ)) → Bool
-says_water [] = false
-says_water ([] ∷ records) = false
-says_water ((f ∷ fs) ∷ records) = bytes_eq f (codes "water")
+-- waters where the first field of the first record is `water`, else heights
+abbrev pub kind_said : List (List (List ℕ)) → TableKind
+kind_said [] = Heights
+kind_said ([] ∷ records) = Heights
+kind_said ((f ∷ fs) ∷ records) = if bytes_eq f (codes "water") then Waters else Heights
 
--- waters where the header says so, else heights
+-- the tide of the kind that the header says
 abbrev pub tide_by_header : List (List ℕ) → List (List (List ℕ)) → Result TideParts TideFault
-tide_by_header names records = tide_of (says_water records) names records
+tide_by_header names records = tide_of (kind_said records) names records

@@ -1,13 +1,15 @@
 //! The rows of a tide, from the heights of a table.
 
-ghost use Rattle.std.specs.Prelude.{◌≡◌, ◌≤◌, ◌<◌, ◌+◌, ◌-◌, ◌*◌, ◌++◌, ℕ, length, drop, All, OnOk, IfOk, Ok, [], ◌∷◌, ℤ, true, false};
+ghost use Rattle.std.specs.Prelude.{◌≡◌, ◌≤◌, ◌<◌, ◌+◌, ◌-◌, ◌*◌, ◌++◌, ℕ, length, drop, All, OnOk, IfOk, Ok, [], ◌∷◌, ℤ};
 ghost use Rattle.std.specs.List.{flat_map, range_with_len};
+ghost use Rattle.hw_tide.specs.declared.kind.TableKind.TheVariants.{Heights, Waters};
 ghost use Rattle.hw_tide.specs.Twelfths.{InLimits};
 ghost use Rattle.hw_tide.specs.Levels.{IsLevels};
 ghost use Rattle.hw_tide.specs.Table.{Gives};
 ghost use Rattle.hw_tide.specs.Tides.{IsTable, heights_between, row_at, slot_at, row_count, tide_from};
 
 use crate::fault::TideFault;
+use crate::kind::TableKind;
 use crate::levels::Levels;
 use crate::tide::Tide;
 use crate::twelfths::height_between;
@@ -97,7 +99,7 @@ fn slot_of(levels: &[Levels], place: usize) -> u32
 
 /// The rows of the slots up to the last water.
 fn filled(alloc: Global, columns: u32, levels: &[Levels], rows: u32) -> Result<Vec<i32>, AllocError>
-    requires table { IsTable true columns levels.now }
+    requires table { IsTable Waters columns levels.now }
     ensures rows { IfOk result (λ v. v.items ≡ flat_map (row_at levels.now) (range_with_len 0 rows)) }
     ensures small { IfOk result (λ v. All InLimits v.items) }
 {
@@ -124,8 +126,8 @@ fn joined(alloc: Global, columns: u32, levels: &[Levels]) -> Result<Vec<i32>, Al
 }
 
 fn tide_of_waters(alloc: Global, columns: u32, levels: &[Levels]) -> Result<Tide, TideFault>
-    requires table { IsTable true columns levels.now }
-    ensures tide { Gives (λ t. t) result (Ok (tide_from true columns levels.now)) }
+    requires table { IsTable Waters columns levels.now }
+    ensures tide { Gives (λ t. t) result (Ok (tide_from Waters columns levels.now)) }
     ensures columns { IfOk result (λ t. t.columns ≡ columns) }
 {
     let rows = slot_of(levels, levels.len() - 1) + 1;
@@ -138,8 +140,8 @@ fn tide_of_waters(alloc: Global, columns: u32, levels: &[Levels]) -> Result<Tide
 }
 
 fn tide_of_heights(alloc: Global, columns: u32, levels: &[Levels]) -> Result<Tide, TideFault>
-    requires table { IsTable false columns levels.now }
-    ensures tide { Gives (λ t. t) result (Ok (tide_from false columns levels.now)) }
+    requires table { IsTable Heights columns levels.now }
+    ensures tide { Gives (λ t. t) result (Ok (tide_from Heights columns levels.now)) }
     ensures columns { IfOk result (λ t. t.columns ≡ columns) }
 {
     let heights = joined(alloc, columns, levels)?;
@@ -153,17 +155,16 @@ fn tide_of_heights(alloc: Global, columns: u32, levels: &[Levels]) -> Result<Tid
 /// The tide of a table's heights, with a column for each of so many waypoints.
 pub fn tide_of_levels(
     alloc: Global,
-    waters: bool,
+    kind: TableKind,
     columns: u32,
     levels: &[Levels],
 ) -> Result<Tide, TideFault>
-    requires table { IsTable waters columns levels.now }
-    ensures tide { Gives (λ t. t) result (Ok (tide_from waters columns levels.now)) }
+    requires table { IsTable kind columns levels.now }
+    ensures tide { Gives (λ t. t) result (Ok (tide_from kind columns levels.now)) }
     ensures columns { IfOk result (λ t. t.columns ≡ columns) }
 {
-    if waters {
-        tide_of_waters(alloc, columns, levels)
-    } else {
-        tide_of_heights(alloc, columns, levels)
+    match kind {
+        TableKind::Heights => tide_of_heights(alloc, columns, levels),
+        TableKind::Waters => tide_of_waters(alloc, columns, levels),
     }
 }

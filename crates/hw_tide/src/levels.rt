@@ -6,6 +6,7 @@ ghost use Rattle.hw_text.specs.Numbers.{number_up_to};
 ghost use Rattle.hw_tide.specs.Table.{Gives, slot_fits, fitting, first_field, heights_from, levels_form, levels_from};
 
 use crate::fault::TideFault;
+use crate::kind::TableKind;
 use csv::ByteRecord;
 use hw_text::{read_number, read_signed};
 use std::alloc::Global;
@@ -41,7 +42,7 @@ fn heights_of(alloc: Global, row: u64, fields: &ByteRecord) -> Result<Vec<i32>, 
     let mut heights = Vec::new(alloc);
     for column in 1..fields.len() {
         let Some(field) = field_of(fields, column) else {
-            return Err(TideFault::NoMemory);
+            unreachable!()
         };
         let Some(height) = read_signed(field, 2_000) else {
             return Err(TideFault::Field {
@@ -54,16 +55,14 @@ fn heights_of(alloc: Global, row: u64, fields: &ByteRecord) -> Result<Vec<i32>, 
     Ok(heights)
 }
 
-fn slot_fits(waters: bool, row: u64, last: Option<u32>, slot: u64) -> bool
+fn slot_fits(kind: TableKind, row: u64, last: Option<u32>, slot: u64) -> bool
     requires { 1 ≤ row }
-    ensures { result ≡ slot_fits waters row last slot }
+    ensures { result ≡ slot_fits kind row last slot }
 {
-    if !waters {
-        return slot == row - 1;
-    }
-    match last {
-        None => slot == 0,
-        Some(before) => u64::from(before) < slot,
+    match (kind, last) {
+        (TableKind::Heights, _) => slot == row - 1,
+        (TableKind::Waters, None) => slot == 0,
+        (TableKind::Waters, Some(before)) => u64::from(before) < slot,
     }
 }
 
@@ -77,12 +76,12 @@ fn first_of(fields: &ByteRecord) -> &[u8]
 }
 
 /// The slot of a record behind one with the slot `last`.
-fn slot_of(waters: bool, row: u64, last: Option<u32>, field: &[u8]) -> Option<u32>
+fn slot_of(kind: TableKind, row: u64, last: Option<u32>, field: &[u8]) -> Option<u32>
     requires { 1 ≤ row }
-    ensures { result ≡ option_and_then (fitting waters row last) (number_up_to 2_047 field.now) }
+    ensures { result ≡ option_and_then (fitting kind row last) (number_up_to 2_047 field.now) }
 {
     match read_number(field, 2_047) {
-        Some(slot) if slot_fits(waters, row, last, slot) => Some(slot as u32),
+        Some(slot) if slot_fits(kind, row, last, slot) => Some(slot as u32),
         _ => None,
     }
 }
@@ -91,7 +90,7 @@ fn slot_of(waters: bool, row: u64, last: Option<u32>, field: &[u8]) -> Option<u3
 #[tactic(auto, unfolding(crate::specs::Table::levels_form))]
 fn levels_of(
     alloc: Global,
-    waters: bool,
+    kind: TableKind,
     columns: usize,
     row: u64,
     last: Option<u32>,
@@ -99,12 +98,12 @@ fn levels_of(
 ) -> Result<Levels, TideFault>
     requires some { 1 ≤ row }
     requires few { columns ≤ 17 }
-    ensures { Gives (λ x. x) result (levels_form waters columns row last (fields_of fields.now)) }
+    ensures { Gives (λ x. x) result (levels_form kind columns row last (fields_of fields.now)) }
 {
     if fields.len() != columns {
         return Err(TideFault::Length { row });
     }
-    let Some(slot) = slot_of(waters, row, last, first_of(fields)) else {
+    let Some(slot) = slot_of(kind, row, last, first_of(fields)) else {
         return Err(TideFault::Field { row, column: 0 });
     };
     let heights = heights_of(alloc, row, fields)?;
@@ -114,17 +113,17 @@ fn levels_of(
 /// The heights of all records behind the header.
 pub fn all_levels(
     alloc: Global,
-    waters: bool,
+    kind: TableKind,
     columns: usize,
     records: &[ByteRecord],
 ) -> Result<Vec<Levels>, TideFault>
     requires { columns ≤ 17 }
-    ensures { Gives (λ v. v.items) result (levels_from waters columns 1 None (map fields_of records.now)) }
+    ensures { Gives (λ v. v.items) result (levels_from kind columns 1 None (map fields_of records.now)) }
 {
     let mut levels = Vec::new(alloc);
     let mut last = None;
     for (i, fields) in records.iter().enumerate() {
-        let one = levels_of(alloc, waters, columns, i as u64 + 1, last, fields)?;
+        let one = levels_of(alloc, kind, columns, i as u64 + 1, last, fields)?;
         last = Some(one.slot);
         levels.push(one)?;
     }

@@ -4,6 +4,8 @@
 
 mod fault;
 mod filling;
+mod kind;
+mod laws;
 mod levels;
 mod reading;
 mod records;
@@ -12,6 +14,8 @@ mod tide;
 mod twelfths;
 
 pub use fault::TideFault;
+pub use kind::TableKind;
+pub use laws::one_list;
 pub use reading::{read_heights, read_tides, read_waters};
 pub use tide::Tide;
 

@@ -1,15 +1,27 @@
 //! The records of a text.
 
-ghost use Rattle.std.specs.Prelude.{◌≡◌, map, IfOk};
-ghost use Rattle.csv.specs.Reading.{AreRecords, default_config, strip_bom};
+ghost use Rattle.std.specs.Prelude.{◌≡◌, true, map, IfOk};
+ghost use Rattle.csv.specs.Reading.{AreRecords, default_config, strip_bom, error_kind, stops_reader};
 ghost use Rattle.csv.specs.Records.{fields_of};
 ghost use Rattle.csv.specs.declared.parser.State.TheVariants as st;
+ghost use Rattle.hw_tide.specs.declared.fault.TideFault.TheVariants.{NoMemory};
 
+use crate::fault::TideFault;
 use csv::{ByteRecord, Error, ReaderBuilder};
 use std::alloc::Global;
 
+/// What is left of an error of `csv` over bytes in memory: memory was wanting, or, as its clauses
+/// leave open, a read of the bytes failed. No other one comes here.
+fn stopped(error: &Error) -> TideFault
+    requires { stops_reader (error_kind error.now) ≡ true }
+    ensures { result ≡ NoMemory }
+{
+    let _kind = error.kind();
+    TideFault::NoMemory
+}
+
 /// Every record of a text, however many fields each has.
-pub fn all_records(alloc: Global, text: &[u8]) -> Result<Vec<ByteRecord>, Error>
+pub fn all_records(alloc: Global, text: &[u8]) -> Result<Vec<ByteRecord>, TideFault>
     ensures { IfOk result (λ v. AreRecords default_config st.StartRecord (strip_bom text.now) (map fields_of v.items)) }
 {
     let rdr = ReaderBuilder::new()
@@ -18,8 +30,9 @@ pub fn all_records(alloc: Global, text: &[u8]) -> Result<Vec<ByteRecord>, Error>
         .from_reader(alloc, text);
     let mut rows = Vec::new(alloc);
     for row in rdr.into_byte_records() {
-        if rows.push(row?).is_err() {
-            return Err(Error::out_of_memory());
+        match row {
+            Ok(fields) => rows.push(fields)?,
+            Err(error) => return Err(stopped(&error)),
         }
     }
     Ok(rows)

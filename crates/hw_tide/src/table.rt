@@ -5,6 +5,7 @@ ghost use Rattle.csv.specs.Records.{fields_of};
 ghost use Rattle.hw_tide.specs.Table.{Gives, kind_word, wrong_column, header_of, not_empty, table_of};
 
 use crate::fault::TideFault;
+use crate::kind::TableKind;
 use crate::levels::{Levels, all_levels, field_of};
 use csv::ByteRecord;
 use hw_port::Waypoint;
@@ -37,31 +38,34 @@ fn is_word(field: &[u8], word: &[u8]) -> bool
 }
 
 /// Whether a field is the first word of the header.
-fn is_kind(waters: bool, field: &[u8]) -> bool
-    ensures { result ≡ bytes_eq field.now (kind_word waters) }
+fn is_kind(kind: TableKind, field: &[u8]) -> bool
+    ensures { result ≡ bytes_eq field.now (kind_word kind) }
 {
-    if waters {
-        is_word(field, b"water")
-    } else {
-        is_word(field, b"slot")
+    match kind {
+        TableKind::Heights => is_word(field, b"slot"),
+        TableKind::Waters => is_word(field, b"water"),
     }
 }
 
-fn wrong_of(waters: bool, waypoints: &[Waypoint], header: &ByteRecord) -> Option<u32>
+fn wrong_of(kind: TableKind, waypoints: &[Waypoint], header: &ByteRecord) -> Option<u32>
     requires { length waypoints.now ≤ 16 }
-    ensures { result ≡ wrong_column 0 (kind_word waters ∷ map (λ w. w.name) waypoints.now) (drop 0 (fields_of header.now)) }
+    ensures { result ≡ wrong_column 0 (kind_word kind ∷ map (λ w. w.name) waypoints.now) (drop 0 (fields_of header.now)) }
 {
     match field_of(header, 0) {
-        Some(field) if is_kind(waters, field) => wrong_name(waypoints, header),
+        Some(field) if is_kind(kind, field) => wrong_name(waypoints, header),
         _ => Some(0),
     }
 }
 
-fn test_header(waters: bool, waypoints: &[Waypoint], header: &ByteRecord) -> Result<(), TideFault>
+fn test_header(
+    kind: TableKind,
+    waypoints: &[Waypoint],
+    header: &ByteRecord,
+) -> Result<(), TideFault>
     requires { length waypoints.now ≤ 16 }
-    ensures { Gives (λ _. true) result (header_of (wrong_column 0 (kind_word waters ∷ map (λ w. w.name) waypoints.now) (drop 0 (fields_of header.now)))) }
+    ensures { Gives (λ _. true) result (header_of (wrong_column 0 (kind_word kind ∷ map (λ w. w.name) waypoints.now) (drop 0 (fields_of header.now)))) }
 {
-    match wrong_of(waters, waypoints, header) {
+    match wrong_of(kind, waypoints, header) {
         None => Ok(()),
         Some(column) => Err(TideFault::Header { column }),
     }
@@ -81,17 +85,17 @@ fn some_levels(levels: Vec<Levels>) -> Result<Vec<Levels>, TideFault>
 #[tactic(auto, unfolding(crate::specs::Table::table_of))]
 pub fn table(
     alloc: Global,
-    waters: bool,
+    kind: TableKind,
     waypoints: &[Waypoint],
     records: &[ByteRecord],
 ) -> Result<Vec<Levels>, TideFault>
     requires { length waypoints.now ≤ 16 }
-    ensures { Gives (λ v. v.items) result (table_of waters (map (λ w. w.name) waypoints.now) (map fields_of records.now)) }
+    ensures { Gives (λ v. v.items) result (table_of kind (map (λ w. w.name) waypoints.now) (map fields_of records.now)) }
 {
     let [header, rest @ ..] = records else {
         return Err(TideFault::Header { column: 0 });
     };
-    test_header(waters, waypoints, header)?;
-    let levels = all_levels(alloc, waters, 1 + waypoints.len(), rest)?;
+    test_header(kind, waypoints, header)?;
+    let levels = all_levels(alloc, kind, 1 + waypoints.len(), rest)?;
     some_levels(levels)
 }

@@ -189,3 +189,109 @@ fn reads_a_day_of_waters(rt: HostRuntime) -> Result<(), Fail> {
     }
     Ok(())
 }
+
+/// Tables of a port with a berth and a bar, and what they are read as: quotes in the header and in
+/// records, other ends of lines, lines without a byte, the numbers at the limits and past them, and
+/// other spellings of numbers.
+const TABLES: [(&[u8], Result<(u32, &[i32]), TideFault>); 13] = [
+    (b"\"slot\",\"Berth\",Bar\n0,\"1\",2\n", Ok((1, &[1, 2]))),
+    (b"slot,Berth,Bar\r\n0,1,2\r\n", Ok((1, &[1, 2]))),
+    (
+        b"\n\nslot,Berth,Bar\n\n0,1,2\n\n1,3,4\n\n",
+        Ok((2, &[1, 2, 3, 4])),
+    ),
+    (
+        b"slot,Berth,Bar\n\n0,1,2\n\n1,3,x\n",
+        Err(TideFault::Field { row: 2, column: 2 }),
+    ),
+    (b"slot,Berth,Bar\n0,-2000,2000\n", Ok((1, &[-2_000, 2_000]))),
+    (
+        b"slot,Berth,Bar\n0,-2001,2000\n",
+        Err(TideFault::Field { row: 1, column: 1 }),
+    ),
+    (
+        b"slot,Berth,Bar\n0,0,2001\n",
+        Err(TideFault::Field { row: 1, column: 2 }),
+    ),
+    (
+        b"slot,Berth,Bar\n0,-0,1\n",
+        Err(TideFault::Field { row: 1, column: 1 }),
+    ),
+    (
+        b"slot,Berth,Bar\n0,1,01\n",
+        Err(TideFault::Field { row: 1, column: 2 }),
+    ),
+    (
+        b"slot,Berth,Bar\n00,1,1\n",
+        Err(TideFault::Field { row: 1, column: 0 }),
+    ),
+    (
+        b"slot,Berth,Bar\n0,1, 1\n",
+        Err(TideFault::Field { row: 1, column: 2 }),
+    ),
+    (
+        b"water,Berth,Bar\n0,1,1\n0,1,1\n",
+        Err(TideFault::Field { row: 2, column: 0 }),
+    ),
+    (
+        b"\"sl\"\"ot\",Berth,Bar\n0,1,1\n",
+        Err(TideFault::Header { column: 0 }),
+    ),
+];
+
+#[test]
+fn reads_tables(rt: HostRuntime) -> Result<(), Fail> {
+    let alloc = rt.alloc();
+    let port = port(alloc, &["Berth", "Bar"])?;
+    for (table, wanted) in TABLES {
+        let read = read_tides(alloc, table, &port);
+        assert!(rt; is_read(&read, wanted), "{read:?} in place of {wanted:?}");
+    }
+    Ok(())
+}
+
+const POINTS: [&str; 16] = [
+    "a", "b", "c", "d", "e", "f", "g", "h", "i", "j", "k", "l", "m", "n", "o", "p",
+];
+
+/// A table with a height of the same number for each of the sixteen waypoints in each of the slots
+/// that end the steps up to the last one.
+fn long_table(alloc: Global, head: &str, last: u32, step: usize) -> Result<String, AllocError> {
+    let mut table = String::from_str(alloc, head)?;
+    for name in POINTS {
+        table.push(',')?;
+        table.push_str(name)?;
+    }
+    for slot in (0..last + 1).step_by(step) {
+        table.push_str(format!(in alloc; "\n{slot}")?.as_str())?;
+        for _ in POINTS {
+            table.push_str(if slot % 2 == 0 { ",-2000" } else { ",2000" })?;
+        }
+    }
+    Ok(table)
+}
+
+#[test]
+fn reads_the_longest_tables(rt: HostRuntime) -> Result<(), Fail> {
+    let alloc = rt.alloc();
+    let port = port(alloc, &POINTS)?;
+    for (head, step) in [("slot", 1), ("water", 1), ("water", 2_047)] {
+        let text = long_table(alloc, head, 2_047, step)?;
+        let tide = read_tides(alloc, text.as_bytes(), &port)?;
+        assert!(rt;
+            tide.rows == 2_048 && tide.columns == 16,
+            "{head} by {step}"
+        );
+        assert!(rt; tide.height(0, 15) == -2_000 && tide.height(2_047, 15) == 2_000);
+    }
+    for head in ["slot", "water"] {
+        let text = long_table(alloc, head, 2_048, 1)?;
+        let read = read_tides(alloc, text.as_bytes(), &port);
+        let fault = TideFault::Field {
+            row: 2_049,
+            column: 0,
+        };
+        assert!(rt; is_read(&read, Err(fault)), "{head} past the end");
+    }
+    Ok(())
+}
