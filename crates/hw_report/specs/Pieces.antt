@@ -1,0 +1,22 @@
+-- The pieces of a line: words and numbers, one after another.
+use Rattle.std.specs.Prelude.{ℕ, ◌/◌, ◌%◌, List, [], ◌∷◌, ◌++◌, codes, decimal}
+use Rattle.hw_report.specs.declared.piece.Piece.{Piece}
+use Rattle.hw_report.specs.declared.piece.Piece.TheVariants.{Word, Number, Tonnes}
+
+-- texts one after another
+abbrev pub joined : List (List ℕ) → List ℕ
+joined [] = []
+joined (text ∷ texts) = text ++ joined texts
+
+-- tenths of a tonne as tonnes, with one digit behind the point
+abbrev pub tenths : ℕ → List ℕ
+tenths c = joined (decimal (c / 10) ∷ codes "." ∷ decimal (c % 10) ∷ [])
+
+abbrev pub piece_text : Piece → List ℕ
+piece_text (Word word) = word.now
+piece_text (Number n) = decimal n
+piece_text (Tonnes c) = tenths c
+
+abbrev pub pieces_text : List Piece → List ℕ
+pieces_text [] = []
+pieces_text (piece ∷ pieces) = piece_text piece ++ pieces_text pieces

@@ -1,0 +1,21 @@
+-- Which reports can be printed.
+use Rattle.std.specs.Prelude.{◌≡◌, List, ℕ, length, Option, Some, None, ⊤}
+use Rattle.hw_model.specs.Problem.{Problem, IsTimetable}
+use Rattle.hw_port_rules.specs.Flattened.{flattened}
+use Rattle.hw_report.specs.Reports.{Naming, by_number, by_name, Report, solved, repaired}
+
+-- the timetable, if there is one, is one of the problem
+abbrev pub IsTableOf : Problem → Option (List ℕ) → Type 0
+IsTableOf f None = ⊤
+IsTableOf f (Some table) = IsTimetable f table
+
+-- the names are of the port whose flat problem this is
+abbrev pub AreNamesOf : Problem → Naming → Type 0
+AreNamesOf f by_number = ⊤
+AreNamesOf f (by_name p h) = (f ≡ flattened p h) × (h.columns ≡ length p.waypoints)
+
+-- a report's timetable is one of its problem, and the names are of the port whose problem that is
+abbrev pub CanPrint : Report → Type 0
+CanPrint (solved head f names table) = IsTableOf f table × AreNamesOf f names
+CanPrint (repaired head f table moved) = IsTableOf f table
+CanPrint _ = ⊤

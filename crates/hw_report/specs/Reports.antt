@@ -1,0 +1,50 @@
+-- What is reported.
+use Rattle.std.specs.Prelude.{ℕ, List, Option}
+use Rattle.hw_model.specs.Problem.{Problem}
+use Rattle.hw_desk.specs.declared.desk.Feed.{Feed}
+use Rattle.hw_flat.specs.declared.fault.FlatWord.{FlatWord}
+use Rattle.hw_lines.specs.declared.check.Verdict.{Verdict}
+use Rattle.hw_port.specs.declared.fault.PortFault.{PortFault}
+use Rattle.hw_port.specs.Whole.{Parts}
+use Rattle.hw_tide.specs.declared.fault.TideFault.{TideFault}
+use Rattle.hw_tide.specs.Levels.{TideParts}
+use Rattle.hw_report.specs.declared.report.Head.{Head}
+use Rattle.hw_report.specs.declared.report.RefusedWord.{RefusedWord}
+
+-- how ships and cargo are printed: by number and in tenths of a tonne, or by a port's names and in tonnes
+pub data Naming : Type 0 where
+  by_number : Naming
+  by_name : Parts → TideParts → Naming
+
+pub data Report : Type 0 where
+  -- a problem that was solved, with its timetable or none
+  solved : Head → Problem → Naming → Option (List ℕ) → Report
+  -- what a certificate shows
+  checked : Verdict → Naming → Report
+  -- a demonstration: how it was solved, its cargo or none, what its certificate shows, and the lemmas of that
+  demo : Head → Option ℕ → Verdict → ℕ → Report
+  bad_words : ℕ → Report
+  bad_flat : ℕ → FlatWord → Report
+  bad_json : Report
+  bad_field : PortFault → Report
+  bad_tides : TideFault → Report
+  -- the number of a certificate's line, its word, and the clause number that the word names
+  refused : ℕ → RefusedWord → Option ℕ → Report
+  read_fault : Feed → Report
+  too_long : Feed → Report
+  no_memory : Report
+  -- a repaired plan: how its problem was solved, with the problem's own cargo, and the ships that moved
+  repaired : Head → Problem → Option (List ℕ) → ℕ → Report
+  -- what a repair's certificate shows, for so many ships
+  rechecked : Verdict → ℕ → Report
+  -- the first wrong line of a plan or of events, with its word
+  bad_text : Feed → ℕ → List ℕ → Report
+  -- the restrictions that can't be met together, and for each one a timetable that meets the others
+  clashed : List ℕ → List (List ℕ) → Report
+  met : List ℕ → Report
+  -- the budget was spent in a step
+  spent_step : ℕ → ℕ → Report
+  clash_holds : Report
+  -- the restrictions broken after so many events
+  after : ℕ → List ℕ → Report
+  audit_end : Report

@@ -1,0 +1,68 @@
+-- The text of a report, each line ended.
+use Rattle.std.specs.Prelude.{ℕ, List, [], ◌∷◌, Option, Some, None, codes, decimal, option_and_then}
+use Rattle.hw_model.specs.Timetables.{cargo}
+use Rattle.hw_lines.specs.declared.check.CheckWord.TheVariants as checks
+use Rattle.hw_lines.specs.declared.check.Verdict.{Verdict}
+use Rattle.hw_tide.specs.declared.fault.TideFault.{TideFault}
+use Rattle.hw_tide.specs.declared.fault.TideFault.TheVariants as tides
+use Rattle.hw_report.specs.declared.report.Head.{Head}
+use Rattle.hw_report.specs.declared.report.Head.TheVariants.{Memory}
+use Rattle.hw_report.specs.declared.report.RefusedWord.{RefusedWord}
+use Rattle.hw_report.specs.declared.report.RefusedWord.TheVariants.{Check}
+use Rattle.hw_report.specs.Reports.{Report, by_number, solved, checked, demo, bad_words, bad_flat, bad_json, bad_field, bad_tides, refused, read_fault, too_long, no_memory, repaired, rechecked, bad_text, clashed, met, spent_step, clash_holds, after, audit_end}
+use Rattle.hw_report.specs.Words.{feed_text, flat_word_text, refused_word_text}
+use Rattle.hw_report.specs.Pieces.{joined}
+use Rattle.hw_port.specs.Places.{path_text, word_text}
+use Rattle.hw_report.specs.Lines.{numbered, verdict_text, head_text, table_text, numbers_text, repair_verdict_text, moved_text, drop_lines, broken_text}
+
+-- the first fault of a tide table; want of memory is none
+abbrev pub tide_fault_text : TideFault → List ℕ
+tide_fault_text (tides.Header column) = numbered (codes "bad tides header ") column
+tide_fault_text (tides.Length row) = numbered (codes "bad tides length ") row
+tide_fault_text (tides.Field row column) = joined (codes "bad tides field " ∷ decimal row ∷ codes " " ∷ decimal column ∷ codes "\n" ∷ [])
+tide_fault_text tides.Few = codes "bad tides few\n"
+tide_fault_text tides.NoMemory = codes "memory\n"
+
+-- the clause number that a word names: only these three name one
+abbrev pub named_by : RefusedWord → Option ℕ → Option ℕ
+named_by (Check checks.Hint) hint = hint
+named_by (Check checks.Loose) hint = hint
+named_by (Check checks.Dead) hint = hint
+named_by _ hint = None
+
+-- a line's number, the word of its refusal, and the number that the word names
+abbrev pub refused_text : ℕ → RefusedWord → Option ℕ → List ℕ
+refused_text number word None = joined (codes "refused " ∷ decimal number ∷ codes " " ∷ refused_word_text word ∷ codes "\n" ∷ [])
+refused_text number word (Some id) = joined (codes "refused " ∷ decimal number ∷ codes " " ∷ refused_word_text word ∷ codes " " ∷ decimal id ∷ codes "\n" ∷ [])
+
+-- a demonstration's summary
+abbrev pub summary_text : Head → Option ℕ → Verdict → ℕ → List ℕ
+summary_text head best verdict lemmas = joined (head_text by_number head best ∷ codes "check " ∷ verdict_text by_number verdict ∷ codes "lemmas " ∷ decimal lemmas ∷ codes "\nend\n" ∷ [])
+
+-- where memory was wanting there is no summary
+abbrev pub demo_text : Head → Option ℕ → Verdict → ℕ → List ℕ
+demo_text Memory best verdict lemmas = codes "memory\n"
+demo_text head best verdict lemmas = summary_text head best verdict lemmas
+
+abbrev pub report_text : Report → List ℕ
+report_text (solved head f names table) = joined (head_text names head (option_and_then (cargo f) table) ∷ table_text f names table ∷ [])
+report_text (checked verdict names) = verdict_text names verdict
+report_text (demo head best verdict lemmas) = demo_text head best verdict lemmas
+report_text (bad_words place) = numbered (codes "words ") place
+report_text (bad_flat number word) = joined (codes "bad flat " ∷ decimal number ∷ codes " " ∷ flat_word_text word ∷ codes "\n" ∷ [])
+report_text bad_json = codes "bad instance json\n"
+report_text (bad_field fault) = joined (codes "bad instance " ∷ path_text fault.path ∷ codes " " ∷ word_text fault.word ∷ codes "\n" ∷ [])
+report_text (bad_tides fault) = tide_fault_text fault
+report_text (refused number word hint) = refused_text number word (named_by word hint)
+report_text (read_fault feed) = joined (codes "fault read " ∷ feed_text feed ∷ codes "\n" ∷ [])
+report_text (too_long feed) = joined (codes "long " ∷ feed_text feed ∷ codes "\n" ∷ [])
+report_text no_memory = codes "memory\n"
+report_text (repaired head f table moved) = joined (head_text by_number head (option_and_then (cargo f) table) ∷ moved_text f table moved ∷ [])
+report_text (rechecked verdict ships) = repair_verdict_text ships verdict
+report_text (bad_text feed number word) = joined (codes "bad " ∷ feed_text feed ∷ codes " " ∷ decimal number ∷ codes " " ∷ word ∷ codes "\n" ∷ [])
+report_text (clashed kept drops) = joined (codes "clash 1\nkeep" ∷ numbers_text kept ∷ codes "\n" ∷ drop_lines kept drops ∷ codes "end\n" ∷ [])
+report_text (met table) = joined (codes "met" ∷ numbers_text table ∷ codes "\n" ∷ [])
+report_text (spent_step budget step) = joined (codes "unfinished " ∷ decimal budget ∷ codes " step " ∷ decimal step ∷ codes "\n" ∷ [])
+report_text clash_holds = codes "clash holds\n"
+report_text (after number broken) = joined (codes "after " ∷ decimal number ∷ broken_text broken ∷ codes "\n" ∷ [])
+report_text audit_end = codes "end\n"

@@ -1,0 +1,19 @@
+//! What a run reports, and its text.
+//!
+//! The text is a function of the report, and goes out through one writer, whatever its length.
+#![tactic(auto)]
+
+mod lines;
+mod lists;
+mod piece;
+mod places;
+mod print;
+mod refusals;
+mod report;
+mod reporting;
+#[cfg(test)]
+mod tests;
+mod words;
+
+pub use report::{Head, Names, RefusedWord, Report};
+pub use reporting::print_report;

@@ -1,0 +1,253 @@
+//! The lines of reports.
+
+ghost use Rattle.std.specs.Prelude.{◌≡◌, ◌≤◌, ◌<◌, ◌*◌, length, pos, unwrap_or, Some};
+ghost use Rattle.hw_model.specs.Problem.{IsTimetable};
+ghost use Rattle.hw_port.specs.Kept.{Within};
+ghost use Rattle.hw_port_rules.specs.Drafts.{sailing as sailing_draft};
+ghost use Rattle.hw_port_rules.specs.Numbers.{whole, horizon_of};
+ghost use Rattle.hw_report.specs.Lines.{numbered, carried, cargo_text, verdict_text, unfinished_text, memory_text, head_text, number_line, name_in, sail_line, sailing_line, name_line, ship_line, ship_lines, table_text};
+ghost use Rattle.hw_report.specs.Pieces.{piece_text};
+ghost use Rattle.hw_report.specs.Printing.{AreNamesOf};
+ghost use Rattle.hw_desk.specs.Writers.{Puts};
+ghost use Rattle.hw_report.specs.Seen.{names_seen};
+
+use crate::piece::{Piece, put_pieces};
+use crate::report::{Head, Names};
+use hw_cert::Verdict;
+use hw_desk::Writer;
+use hw_draft::{sailing, value};
+use hw_flat::{Flat, ShipId, Slot, Timetable};
+use hw_port::{Port, Ship};
+use hw_tide::Tide;
+
+/// Puts a word and a number on a line.
+pub fn put_numbered<W: Writer>(out: &mut W, label: &[u8], number: u64)
+    ensures { Puts (numbered label.now number) (W.state out.old) (W.state out.new) }
+{
+    put_pieces(
+        out,
+        &[
+            Piece::Word(label),
+            Piece::Number(number),
+            Piece::Word(b"\n"),
+        ],
+    );
+}
+
+/// A cargo, in tenths of a tonne, as it is printed.
+fn cargo_piece(names: Names, cargo: u64) -> Piece<'static>
+    ensures { piece_text result ≡ cargo_text (names_seen names.entry) cargo }
+{
+    match names {
+        Names::Flat => Piece::Number(cargo),
+        Names::Port { .. } => Piece::Tonnes(cargo),
+    }
+}
+
+/// Puts a word and a cargo on a line.
+fn put_carried<W: Writer>(out: &mut W, label: &[u8], names: Names, cargo: u64)
+    ensures { Puts (carried label.now (names_seen names.entry) cargo) (W.state out.old) (W.state out.new) }
+{
+    let cargo = cargo_piece(names, cargo);
+    put_pieces(out, &[Piece::Word(label), cargo, Piece::Word(b"\n")]);
+}
+
+/// Puts what valid lines show.
+pub fn put_verdict<W: Writer>(out: &mut W, names: Names, verdict: Verdict)
+    ensures { Puts (verdict_text (names_seen names.entry) verdict) (W.state out.old) (W.state out.new) }
+{
+    match verdict {
+        Verdict::Optimal(cargo) => put_carried(out, b"optimal ", names, cargo),
+        Verdict::Infeasible => out.put(b"infeasible\n"),
+        Verdict::Unfinished(Some(cargo)) => put_carried(out, b"unfinished ", names, cargo),
+        Verdict::Unfinished(None) => out.put(b"unfinished none\n"),
+    }
+}
+
+fn put_unfinished<W: Writer>(out: &mut W, names: Names, budget: u32, best: Option<u64>)
+    ensures { Puts (unfinished_text (names_seen names.entry) budget best) (W.state out.old) (W.state out.new) }
+{
+    let budget = Piece::Number(u64::from(budget));
+    match best {
+        None => put_pieces(
+            out,
+            &[Piece::Word(b"unfinished "), budget, Piece::Word(b" none\n")],
+        ),
+        Some(cargo) => {
+            let cargo = cargo_piece(names, cargo);
+            put_pieces(
+                out,
+                &[
+                    Piece::Word(b"unfinished "),
+                    budget,
+                    Piece::Word(b" best "),
+                    cargo,
+                    Piece::Word(b"\n"),
+                ],
+            );
+        }
+    }
+}
+
+fn put_memory<W: Writer>(out: &mut W, names: Names, best: Option<u64>)
+    ensures { Puts (memory_text (names_seen names.entry) best) (W.state out.old) (W.state out.new) }
+{
+    match best {
+        None => out.put(b"memory none\n"),
+        Some(cargo) => put_carried(out, b"memory best ", names, cargo),
+    }
+}
+
+/// Puts the head line; `best` is the timetable's cargo.
+pub fn put_head<W: Writer>(out: &mut W, names: Names, head: Head, best: Option<u64>)
+    ensures { Puts (head_text (names_seen names.entry) head best) (W.state out.old) (W.state out.new) }
+{
+    match head {
+        Head::Optimal { cargo } => put_carried(out, b"optimal ", names, cargo),
+        Head::Infeasible => out.put(b"infeasible\n"),
+        Head::Unfinished { budget } => put_unfinished(out, names, budget, best),
+        Head::Memory => put_memory(out, names, best),
+    }
+}
+
+/// Puts a ship's line by number: its slot and value, or that it stays.
+fn put_number_line<W: Writer>(out: &mut W, flat: &Flat, ship: ShipId, slot: Slot)
+    requires ship_in { ship < flat.now.ships }
+    requires slot_in { slot < flat.now.slots }
+    ensures { Puts (number_line flat.now ship slot) (W.state out.old) (W.state out.new) }
+{
+    if slot >= flat.horizon() {
+        put_numbered(out, b"stay ", u64::from(ship));
+        return;
+    }
+    let value = flat.value(ship, slot).unwrap_or(0);
+    put_pieces(
+        out,
+        &[
+            Piece::Word(b"sail "),
+            Piece::Number(u64::from(slot)),
+            Piece::Word(b" "),
+            Piece::Number(value),
+            Piece::Word(b" "),
+            Piece::Number(u64::from(ship)),
+            Piece::Word(b"\n"),
+        ],
+    );
+}
+
+/// The name of a ship.
+fn name<'s>(ships: &'s [Ship], ship: ShipId) -> &'s [u8]
+    requires ship_in { ship < length ships.now }
+    ensures { result.now ≡ name_in ships.now ship }
+{
+    let ship = &ships[ship as usize];
+    &ship.name.items
+}
+
+/// The minute in which a slot begins.
+fn minute(slot: Slot, slot_minutes: i64) -> u64
+    requires slot { slot ≤ 512 }
+    requires minutes { Within (pos 1) (pos 1_440) slot_minutes }
+    ensures { result ≡ slot * whole slot_minutes }
+{
+    u64::from(slot) * slot_minutes.unsigned_abs()
+}
+
+/// Puts the line of a ship that sails: its slot and minute, its draft and cargo, and its name.
+#[tactic(auto, unfolding(crate::specs::Lines::sail_line))]
+fn put_sail<W: Writer>(out: &mut W, slot: Slot, minute: u64, draft: u64, cargo: u64, name: &[u8])
+    ensures { Puts (sail_line slot minute draft cargo name.now) (W.state out.old) (W.state out.new) }
+{
+    put_pieces(
+        out,
+        &[
+            Piece::Word(b"sail "),
+            Piece::Number(u64::from(slot)),
+            Piece::Word(b" "),
+            Piece::Number(minute),
+            Piece::Word(b" "),
+            Piece::Number(draft),
+            Piece::Word(b" "),
+            Piece::Tonnes(cargo),
+            Piece::Word(b" "),
+            Piece::Word(name),
+            Piece::Word(b"\n"),
+        ],
+    );
+}
+
+/// The sailing draft of a ship in centimetres, 0 where it may not sail.
+fn draft_of(port: &Port, tide: &Tide, ship: ShipId, slot: Slot) -> u64
+    requires ship_in { ship < length port.now.ships }
+    requires slot_in { slot < horizon_of port.now }
+    requires columns { tide.now.columns ≡ length port.now.waypoints }
+    ensures { result ≡ whole (unwrap_or (sailing_draft port.now tide.now ship slot) (pos 0)) }
+{
+    sailing(port, tide, ship, slot).unwrap_or(0).unsigned_abs()
+}
+
+/// Puts the line of a ship that sails, by a port's names.
+fn put_sailing<W: Writer>(out: &mut W, port: &Port, tide: &Tide, ship: ShipId, slot: Slot)
+    requires ship_in { ship < length port.now.ships }
+    requires slot_in { slot < horizon_of port.now }
+    requires columns { tide.now.columns ≡ length port.now.waypoints }
+    ensures { Puts (sailing_line port.now tide.now ship slot) (W.state out.old) (W.state out.new) }
+{
+    let parts = port.parts();
+    let minute = minute(slot, parts.slot_minutes);
+    let draft = draft_of(port, tide, ship, slot);
+    let cargo = value(port, tide, ship, slot).unwrap_or(0);
+    put_sail(out, slot, minute, draft, cargo, name(&parts.ships, ship));
+}
+
+/// Puts a ship's line by a port's names.
+fn put_name_line<W: Writer>(out: &mut W, port: &Port, tide: &Tide, ship: ShipId, slot: Slot)
+    requires ship_in { ship < length port.now.ships }
+    requires columns { tide.now.columns ≡ length port.now.waypoints }
+    ensures { Puts (name_line port.now tide.now ship slot) (W.state out.old) (W.state out.new) }
+{
+    let parts = port.parts();
+    if u64::from(slot) < parts.slots.unsigned_abs() {
+        put_sailing(out, port, tide, ship, slot);
+        return;
+    }
+    let name = name(&parts.ships, ship);
+    put_pieces(
+        out,
+        &[Piece::Word(b"stay "), Piece::Word(name), Piece::Word(b"\n")],
+    );
+}
+
+/// Puts a ship's line.
+fn put_ship<W: Writer>(out: &mut W, flat: &Flat, names: Names, ship: ShipId, slot: Slot)
+    requires ship_in { ship < flat.now.ships }
+    requires slot_in { slot < flat.now.slots }
+    requires names { AreNamesOf flat.now (names_seen names) }
+    ensures { Puts (ship_line flat.now (names_seen names.entry) ship slot) (W.state out.old) (W.state out.new) }
+{
+    match names {
+        Names::Flat => put_number_line(out, flat, ship, slot),
+        Names::Port { port, tide } => put_name_line(out, port, tide, ship, slot),
+    }
+}
+
+/// Puts a line for each ship.
+fn put_ships<W: Writer>(out: &mut W, flat: &Flat, names: Names, table: &Timetable)
+    requires table { IsTimetable flat.now table.now }
+    requires names { AreNamesOf flat.now (names_seen names) }
+    ensures { Puts (ship_lines flat.now (names_seen names.entry) 0 table.now) (W.state out.old) (W.state out.new) }
+{
+    for ship in 0..table.len() {
+        put_ship(out, flat, names, ship, table.slot(ship));
+    }
+}
+
+/// Puts a line for each ship of a timetable, and the last line.
+pub fn put_table<W: Writer>(out: &mut W, flat: &Flat, names: Names, table: &Timetable)
+    requires table { IsTimetable flat.now table.now }
+    requires names { AreNamesOf flat.now (names_seen names) }
+    ensures { Puts (table_text flat.now (names_seen names.entry) (Some table.now)) (W.state out.old) (W.state out.new) }
+{
+    put_ships(out, flat, names, table);
+    out.put(b"end\n");
+}

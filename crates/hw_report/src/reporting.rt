@@ -1,0 +1,83 @@
+//! Sending a report.
+
+ghost use Rattle.hw_desk.specs.Whole.{SendsText};
+ghost use Rattle.hw_desk.specs.Writers.{Puts};
+ghost use Rattle.hw_report.specs.Printing.{CanPrint};
+ghost use Rattle.hw_report.specs.Seen.{report_seen};
+ghost use Rattle.hw_report.specs.Texts.{report_text};
+
+use crate::lines::{put_numbered, put_verdict};
+use crate::lists::{put_after, put_clash, put_met};
+use crate::print::{put_demo, put_none, put_rechecked, put_repaired, put_solved, put_step};
+use crate::refusals::{
+    put_bad_field, put_bad_flat, put_bad_text, put_bad_tides, put_feed, put_refused,
+};
+use crate::report::{Names, Report};
+use hw_desk::{Desk, DeskFailed, Tray, TrayWriter, Writer};
+
+/// Sends a report. After an error a proper prefix of its text was sent, and nothing more will be.
+/// It takes no memory, and a report of at most 8192 bytes is offered at once.
+pub fn print_report<D: Desk>(desk: &mut D, report: &Report) -> Result<(), DeskFailed>
+    requires { CanPrint (report_seen report.now) }
+    ensures { SendsText Tray.Report (report_text (report_seen report.now)) (D.state desk.old) (D.state desk.new) result }
+{
+    let mut out = TrayWriter::new(desk, Tray::Report);
+    put_report(&mut out, report);
+    out.flush()
+}
+
+/// Puts the text of a report.
+fn put_report<W: Writer>(out: &mut W, report: &Report)
+    requires can { CanPrint (report_seen report.now) }
+    ensures { Puts (report_text (report_seen report.now)) (W.state out.old) (W.state out.new) }
+{
+    match *report {
+        Report::Solved {
+            head,
+            flat,
+            names,
+            table: Some(table),
+        } => put_solved(out, head, flat, names, table),
+        Report::Solved {
+            head,
+            names,
+            table: None,
+            ..
+        } => put_none(out, head, names),
+        Report::Checked { verdict, names } => put_verdict(out, names, verdict),
+        Report::Demo {
+            head,
+            best,
+            verdict,
+            lemmas,
+        } => put_demo(out, head, best, verdict, lemmas),
+        Report::Words { place } => put_numbered(out, b"words ", place),
+        Report::BadFlat { number, word } => put_bad_flat(out, number, word),
+        Report::BadJson => out.put(b"bad instance json\n"),
+        Report::BadField { fault } => put_bad_field(out, fault),
+        Report::BadTides { fault } => put_bad_tides(out, fault),
+        Report::Refused { number, word, hint } => put_refused(out, number, word, hint),
+        Report::ReadFault { feed } => put_feed(out, b"fault read ", feed),
+        Report::TooLong { feed } => put_feed(out, b"long ", feed),
+        Report::Memory => out.put(b"memory\n"),
+        Report::Repaired {
+            head,
+            flat,
+            table: Some(table),
+            moved,
+        } => put_repaired(out, head, flat, table, moved),
+        Report::Repaired {
+            head,
+            table: None,
+            ..
+        } => put_none(out, head, Names::Flat),
+        Report::Rechecked { verdict, ships } => put_rechecked(out, verdict, ships),
+        Report::BadText { feed, number, word } => put_bad_text(out, feed, number, word),
+        Report::Clashed { kept, drops } => put_clash(out, kept, drops),
+        Report::Met { table } => put_met(out, table),
+        Report::Step { budget, step } => put_step(out, budget, step),
+        Report::ClashHolds => out.put(b"clash holds\n"),
+        Report::After { number, broken } => put_after(out, number, broken),
+        Report::AuditEnd => out.put(b"end\n"),
+    }
+}
