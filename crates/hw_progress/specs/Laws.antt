@@ -1,0 +1,236 @@
+-- The laws of a search: what it keeps, and that its lines are valid, lean and new and fit it.
+use Rattle.std.specs.Prelude.{◌≡◌, ◌⊎◌, ℕ, ◌+◌, ◌-◌, ◌^◌, ◌<◌, ◌≤◌, true, false, List, [], ◌∷◌, ◌++◌, Option, Some, None, All, Contains, IsSome, IsSomeAnd, IsTrue, length, map, take}
+use Rattle.std.specs.List.{range_with_len}
+use Rattle.hw_model.specs.declared.lit.Lit.{Lit}
+use Rattle.hw_model.specs.declared.lit.LitTruth.TheVariants.{Free}
+use Rattle.hw_model.specs.declared.narrowing.Narrowed.TheVariants.{Cut}
+use Rattle.hw_model.specs.declared.source.Source.{Source}
+use Rattle.hw_model.specs.Problem.{Problem, shape_of}
+use Rattle.hw_model.specs.Limits.{IsFlat}
+use Rattle.hw_model.specs.Timetables.{Permits, cargo, beats, IsBest, NonePermitted}
+use Rattle.hw_model.specs.Lits.{lit_fits, IsClause}
+use Rattle.hw_model.specs.Rooms.{RoomModel, RoomFits, IsPoint, point_of, room_count}
+use Rattle.hw_model.specs.Narrowing.{truth}
+use Rattle.hw_model.specs.Replay.{narrowing}
+use Rattle.hw_lines.specs.declared.line.Line.{Line}
+use Rattle.hw_lines.specs.declared.line.Line.TheVariants as lines
+use Rattle.hw_lines.specs.Lines.{clause_count, live, is_closed}
+use Rattle.hw_lines.specs.Valid.{LineFits, ValidAfter, Valid}
+use Rattle.hw_lines.specs.Lemmas.{LeanAfter, lemmas_of, IsNew}
+use Rattle.hw_story.specs.declared.event.Event.{Event}
+use Rattle.hw_story.specs.declared.event.Why.{Why}
+use Rattle.hw_story.specs.declared.event.Why.TheVariants as whys
+use Rattle.hw_story.specs.Trails.{trail_shape, clause_of, decided, most_events}
+use Rattle.hw_story.specs.Learning.{Learns}
+use Rattle.hw_progress.specs.declared.outcome.Branching.{Branching}
+use Rattle.hw_progress.specs.Luby.{luby}
+use Rattle.hw_progress.specs.Branches.{branch_literal}
+use Rattle.hw_cert.specs.Logs.{LogTold, LogModel}
+use Rattle.hw_progress.specs.Searches.{SearchModel, new_search, IsSearch, IsReason, OfBetter, FitsOpen, LiveKept, LogFits, DeletesEarlier, room_in, best_cargo, written_at, why_at, kept_numbers}
+use Rattle.hw_progress.specs.Settling.{AllQuiet, with_events, IsConflict}
+use Rattle.hw_progress.specs.Turns.{source_line, with_written, Cited, cited, cite_conflict, with_lemma, to_level, gone_back, unkept, deletion, DoesEnd, WritesWell}
+use Rattle.hw_progress.specs.declared.outcome.Solved.{Solved}
+use Rattle.hw_progress.specs.Living.{FewLive, FewLiveThroughout, FewLiveFrom}
+use Rattle.hw_progress.specs.Solving.{SolveWrites, AnswerMeans}
+
+-- ---- the beginning
+
+-- a new search keeps what it must, and fits a log without lines
+abbrev pub NewSearch : Type 0
+NewSearch = (f : Problem) (branching : Branching) (told : LogTold) → IsFlat f → told.lines ≡ [] → told.behind ≡ [] → IsSearch (new_search f branching) × LogFits told (new_search f branching)
+
+-- ---- what each line leaves
+
+-- a line is of the problem's shape, valid after these lines, and lean
+pub record GoodLine (f : Problem) (before : List Line) (line : Line) : Type 0 where
+  pub fits : LineFits f line
+  pub valid : ValidAfter f before line
+  pub lean : LeanAfter f before line
+
+-- the fit goes from one search to another with these lines, also its exact part
+pub record FitGoes (before : List Line) (s : SearchModel) (after : List Line) (u : SearchModel) : Type 0 where
+  pub opened : FitsOpen after u
+  pub kept : LiveKept before s → LiveKept after u
+
+-- a reason that a source gave, at the place of an event for which no line was written yet
+abbrev pub ReasonLine : Type 0
+ReasonLine = (s : SearchModel) (before : List Line) (place : ℕ) (source : Source) (clause : List Lit) → IsSearch s → FitsOpen before s → why_at s.trail place ≡ Some (whys.Source source clause) → written_at s place ≡ None → s.clause_lines + 1 < 2 ^ 32
+    → GoodLine s.problem before (source_line s.problem source clause) × FitGoes before s (before ++ source_line s.problem source clause ∷ []) (with_written s place)
+
+-- a conflict that a source gave. Its line stands, and nobody keeps its number
+abbrev pub ConflictLine : Type 0
+ConflictLine = (s : SearchModel) (before : List Line) (source : Source) (clause : List Lit) → IsSearch s → FitsOpen before s → IsConflict s (whys.Source source clause) → s.clause_lines + 1 < 2 ^ 32
+    → GoodLine s.problem before (source_line s.problem source clause) × (1 ≤ length clause → FitsOpen (before ++ source_line s.problem source clause ∷ []) (record s { clause_lines = s.clause_lines + 1 })) × (clause ≡ [] → is_closed (before ++ source_line s.problem source clause ∷ []) ≡ true)
+
+-- a permitted timetable that beats the best, found or offered
+abbrev pub TableLine : Type 0
+TableLine = (s : SearchModel) (before : List Line) (table : List ℕ) (c : ℕ) → IsSearch s → FitsOpen before s → Permits s.problem table → cargo s.problem table ≡ Some c → IsTrue (beats c (best_cargo s))
+    → GoodLine s.problem before (lines.Table table) × FitGoes before s (before ++ lines.Table table ∷ []) (record s { best = Some table }) × IsSearch (record s { best = Some table })
+
+-- the timetable of a quiet point room is such a one
+abbrev pub PointTable : Type 0
+PointTable = (s : SearchModel) → IsSearch s → AllQuiet s → IsPoint (room_in s) → Permits s.problem (point_of (room_in s)) × (c : ℕ) × (cargo s.problem (point_of (room_in s)) ≡ Some c) × IsTrue (beats c (best_cargo s))
+
+-- one deletion makes the fit exact
+abbrev pub DeleteLine : Type 0
+DeleteLine = (s : SearchModel) (before : List Line) → FitsOpen before s → ((ids : List ℕ) → unkept before s ≡ ids → (1 ≤ length ids → GoodLine s.problem before (lines.Delete ids))) × FitsOpen (before ++ deletion (unkept before s)) s × LiveKept (before ++ deletion (unkept before s)) s
+
+-- ---- what changes without a line
+
+pub record FitChanges (s : SearchModel) (before : List Line) : Type 0 where
+  pub implied : (more : List Event) → FitGoes before s before (with_events s more)
+  pub decision : (lit : Lit) → FitGoes before s before (record s { trail = decided s.trail lit; written = s.written ++ None ∷ [] })
+  pub back : (level : ℕ) → FitsOpen before (to_level s level)
+
+abbrev pub FitKept : Type 0
+FitKept = (s : SearchModel) (before : List Line) → IsSearch s → FitsOpen before s → FitChanges s before
+
+pub record SearchChanges (s : SearchModel) : Type 0 where
+  pub implied : (lit : Lit) (why : Why) → lit_fits (trail_shape s.trail) lit ≡ true → IsClause (trail_shape s.trail) (clause_of why) → truth (room_in s) lit ≡ Free → narrowing (clause_of why) (room_in s) ≡ Cut lit → IsReason s why → IsSearch (with_events s (record { lit = lit; level = s.trail.level; why = Some why } ∷ []))
+  pub decision : (lit : Lit) → AllQuiet s → lit_fits (trail_shape s.trail) lit ≡ true → truth (room_in s) lit ≡ Free → IsSearch (record s { trail = decided s.trail lit; written = s.written ++ None ∷ [] })
+  pub better : (table : List ℕ) (c : ℕ) → Permits s.problem table → cargo s.problem table ≡ Some c → IsTrue (beats c (best_cargo s)) → IsSearch (record s { best = Some table })
+
+abbrev pub SearchKept : Type 0
+SearchKept = (s : SearchModel) → IsSearch s → SearchChanges s
+
+-- a reason that was made under an older best is one under a better best
+abbrev pub ReasonRises : Type 0
+ReasonRises = (s : SearchModel) (table : List ℕ) (c : ℕ) (why : Why) → cargo s.problem table ≡ Some c → IsTrue (beats c (best_cargo s)) → IsReason s why → IsReason (record s { best = Some table }) why
+
+-- ---- a whole turn that found a lemma
+
+-- the reasons and the conflict that are written, and then the lemma
+abbrev pub lemma_lines : Cited → List Lit → List Line
+lemma_lines c lemma = c.lines ++ lines.Lemma lemma c.hints ∷ []
+
+pub record LemmaMeets (s : SearchModel) (before : List Line) (why : Why) (lemma : List Lit) (back : ℕ) (c : Cited) (after : SearchModel) : Type 0 where
+  pub well : WritesWell s.problem before (lemma_lines c lemma ++ deletion (unkept (before ++ lemma_lines c lemma) after))
+  pub fits : FitsOpen ((before ++ lemma_lines c lemma) ++ deletion (unkept (before ++ lemma_lines c lemma) after)) after
+  pub kept : LiveKept ((before ++ lemma_lines c lemma) ++ deletion (unkept (before ++ lemma_lines c lemma) after)) after
+  pub few : clause_count (lemma_lines c lemma) ≤ most_events s.problem.ships s.problem.slots + 2
+  pub search : IsSearch after
+
+abbrev pub LemmaTurn : Type 0
+LemmaTurn = (s : SearchModel) (before : List Line) (why : Why) (lemma : List Lit) (back : ℕ) (places : List ℕ) → IsSearch s → s.over ≡ false → s.lemmas < 100000 → FitsOpen before s → LiveKept before s → IsConflict s why → 1 ≤ length (clause_of why) → Learns s.trail (clause_of why) lemma back places → 1 ≤ length lemma
+    → LemmaMeets s before why lemma back (cite_conflict (cited s places) why) (gone_back (with_lemma (cite_conflict (cited s places) why).search lemma) back)
+
+-- a lemma without literals ends the certificate
+pub record EndMeets (s : SearchModel) (before : List Line) (c : Cited) : Type 0 where
+  pub well : WritesWell s.problem before (lemma_lines c [])
+  pub closed : is_closed (before ++ lemma_lines c []) ≡ true
+  pub few : clause_count (lemma_lines c []) ≤ most_events s.problem.ships s.problem.slots + 2
+
+abbrev pub LastTurn : Type 0
+LastTurn = (s : SearchModel) (before : List Line) (why : Why) (back : ℕ) (places : List ℕ) → IsSearch s → s.over ≡ false → s.lemmas < 100000 → FitsOpen before s → LiveKept before s → IsConflict s why → 1 ≤ length (clause_of why) → Learns s.trail (clause_of why) [] back places
+    → EndMeets s before (cite_conflict (cited s places) why)
+
+-- ---- a turn that ended
+
+-- no permitted timetable beats the best
+abbrev pub NothingBetter : SearchModel → Type 0
+NothingBetter s = OfBetter s (λ table. ⊥)
+
+-- the best timetable is a best one, and where there is none, none is permitted
+pub record EndedMeans (s : SearchModel) : Type 0 where
+  pub nothing_better : NothingBetter s
+  pub optimal : (table : List ℕ) (c : ℕ) → s.best ≡ Some table → cargo s.problem table ≡ Some c → IsBest s.problem table c
+  pub infeasible : s.best ≡ None → NonePermitted s.problem
+
+-- so it is where a turn ended, also where no line is told
+abbrev pub EndMeans : Type 0
+EndMeans = (s after : SearchModel) (old new : LogModel) → IsSearch s → DoesEnd s after old new → EndedMeans s
+
+-- ---- what the type of a search keeps where a turn went back, or stopped
+
+-- whatever a log tells: the numbers that naming leaves
+pub record NumbersKept (s : SearchModel) (c : Cited) (most : ℕ) : Type 0 where
+  pub same : c.search ≡ record s { written = c.search.written; clause_lines = c.search.clause_lines }
+  pub long : length c.search.written ≡ length s.written
+  pub low : s.clause_lines ≤ c.search.clause_lines
+  pub high : c.search.clause_lines ≤ s.clause_lines + most
+
+pub record BackKeeps (s gone : SearchModel) : Type 0 where
+  pub kept : IsSearch gone
+  pub over : IsSearch (record gone { over = true })
+  pub lacks : IsSearch (record gone { stored = s.stored; over = true })
+
+pub record StopKeeps (s : SearchModel) : Type 0 where
+  pub numbers : (why : Why) (places : List ℕ) → NumbersKept s (cite_conflict (cited s places) why) (length places + 1)
+  pub before : (written : List (Option ℕ)) (lines lemmas : ℕ) → length written ≡ length s.written → s.clause_lines ≤ lines → IsSearch (record s { written = written; clause_lines = lines; lemmas = lemmas; over = true })
+  pub past : (why : Why) (lemma : List Lit) (back : ℕ) (places : List ℕ) → s.over ≡ false → IsConflict s why → Learns s.trail (clause_of why) lemma back places → 1 ≤ length lemma → BackKeeps s (gone_back (with_lemma (cite_conflict (cited s places) why).search lemma) back)
+
+abbrev pub StopKept : Type 0
+StopKept = (s : SearchModel) → IsSearch s → StopKeeps s
+
+-- ---- bounds
+
+-- where each live number but one is kept, few are live
+abbrev pub LiveBound : Type 0
+LiveBound = (s : SearchModel) (before : List Line) (extra : ℕ) → length s.written ≤ most_events s.problem.ships s.problem.slots → FitsOpen before s → ((number : ℕ) → IsSome (live before number) → Contains (kept_numbers s) number ⊎ (number ≡ extra)) → FewLive s.problem before
+
+-- after each line of a turn from a fitting log few clauses are live: of one that found a lemma, of one that ended, and of a conflict without literals
+pub record LiveTurn (s : SearchModel) (before : List Line) : Type 0 where
+  pub lemma : (why : Why) (lemma : List Lit) (back : ℕ) (places : List ℕ) → IsConflict s why → 1 ≤ length (clause_of why) → Learns s.trail (clause_of why) lemma back places → 1 ≤ length lemma → (after : SearchModel) → after ≡ gone_back (with_lemma (cite_conflict (cited s places) why).search lemma) back
+      → FewLiveFrom s.problem before (lemma_lines (cite_conflict (cited s places) why) lemma ++ deletion (unkept (before ++ lemma_lines (cite_conflict (cited s places) why) lemma) after))
+  pub last : (why : Why) (back : ℕ) (places : List ℕ) → Learns s.trail (clause_of why) [] back places → FewLiveFrom s.problem before (lemma_lines (cite_conflict (cited s places) why) [])
+  pub conflict : (source : Source) (clause : List Lit) → FewLiveFrom s.problem before (source_line s.problem source clause ∷ [])
+  pub table : (table : List ℕ) → FitsOpen (before ++ lines.Table table ∷ []) (record s { best = Some table }) → FewLiveFrom s.problem before (lines.Table table ∷ [])
+
+abbrev pub TurnLive : Type 0
+TurnLive = (s : SearchModel) (before : List Line) → IsSearch s → s.over ≡ false → s.lemmas < 100000 → FitsOpen before s → LiveKept before s → LiveTurn s before
+
+-- few are live throughout: of no lines, and of lines with those of a turn behind them
+abbrev pub LiveThroughout : Type 0
+LiveThroughout = (f : Problem) → FewLiveThroughout f [] × ((before more : List Line) → FewLiveThroughout f before → FewLiveFrom f before more → FewLiveThroughout f (before ++ more))
+
+-- the first lines of what is written well are written well: what a turn that was cut short leaves
+pub record PartMeets (f : Problem) (before more part : List Line) : Type 0 where
+  pub well : WritesWell f before part
+  pub few_live : FewLiveFrom f before part
+  pub few : clause_count part ≤ clause_count more
+
+abbrev pub PartWritten : Type 0
+PartWritten = (f : Problem) (before more : List Line) (n : ℕ) → WritesWell f before more → FewLiveFrom f before more → PartMeets f before more (take n more)
+
+-- a search has few written reasons, and a trail has at most 21,260 events
+abbrev pub FewWritten : Type 0
+FewWritten = (s : SearchModel) → IsSearch s → (length s.written ≤ most_events s.problem.ships s.problem.slots) × (most_events s.problem.ships s.problem.slots ≤ 21260)
+
+-- there are at most as many new lemmas as rooms: in lines, and in a search
+abbrev pub FewNew : Type 0
+FewNew = (f : Problem) (all : List Line) → IsFlat f → All (LineFits f) all → IsNew f all → length (lemmas_of all) ≤ room_count f
+
+abbrev pub FewStored : Type 0
+FewStored = (s : SearchModel) → IsSearch s → length s.stored ≤ room_count s.problem
+
+-- a search with fewer than 100,000 lemmas has numbers left for a turn's lines
+abbrev pub FewNumbers : Type 0
+FewNumbers = (s : SearchModel) → IsSearch s → s.over ≡ false → s.lemmas < 100000 → s.clause_lines + most_events s.problem.ships s.problem.slots + 2 < 2 ^ 32
+
+-- and its restarts have numbers
+abbrev pub FewRestarts : Type 0
+FewRestarts = (s : SearchModel) → IsSearch s → s.over ≡ false → s.lemmas < 100000 → s.restarts + 1 ≤ 100000
+
+-- valid lines delete only what stands before
+abbrev pub ValidDeletes : Type 0
+ValidDeletes = (f : Problem) (all : List Line) → Valid f all → DeletesEarlier all
+
+-- ---- branching and restarts
+
+-- the literal of the branching rule is there, in range and open
+abbrev pub BranchOpen : Type 0
+BranchOpen = (branching : Branching) (f : Problem) (room : RoomModel) → RoomFits f room → (IsPoint room → ⊥) → IsSomeAnd (branch_literal branching f room) (λ lit. (lit_fits (shape_of f) lit ≡ true) × (truth room lit ≡ Free))
+
+-- the first restart numbers
+abbrev pub FirstLubys : Type 0
+FirstLubys = map luby (range_with_len 1 15) ≡ 1 ∷ 1 ∷ 2 ∷ 1 ∷ 1 ∷ 2 ∷ 4 ∷ 1 ∷ 1 ∷ 2 ∷ 1 ∷ 1 ∷ 2 ∷ 4 ∷ 8 ∷ []
+
+-- the k of 2^k - 1 gives 2^(k-1), and each other place up to 2^k - 1 that of what is left behind 2^(k-1) - 1
+abbrev pub LubyRule : Type 0
+LubyRule = (i k : ℕ) → 1 ≤ k → (i + 1 ≡ 2 ^ k → luby i ≡ 2 ^ (k - 1)) × (2 ^ (k - 1) ≤ i → i + 1 < 2 ^ k → luby i ≡ luby (i + 1 - 2 ^ (k - 1)))
+
+-- ---- what a solution means
+
+-- Optimal's timetable is a best one, Infeasible says that none is permitted, and Unfinished comes with no more lemmas than rooms
+abbrev pub SolvedSound : Type 0
+SolvedSound = (f : Problem) (budget : ℕ) (answer : Solved) (before now : ℕ) (all : List Line) → IsFlat f → SolveWrites f budget answer before now all → AnswerMeans f budget answer

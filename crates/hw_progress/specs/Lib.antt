@@ -1,0 +1,9 @@
+pub mod Luby
+pub mod Branches
+pub mod Living
+pub mod Searches
+pub mod Settling
+pub mod Turns
+pub mod Solving
+pub mod Laws
+pub mod Starting
