@@ -1,7 +1,7 @@
 -- What a checker keeps.
 use Rattle.std.specs.Prelude.{◌≡◌, ℕ, ◌+◌, ◌*◌, ◌≤◌, List, [], All, length, sum_by}
 use Rattle.hw_model.specs.Problem.{Problem}
-use Rattle.hw_model.specs.Rooms.{RoomModel}
+use Rattle.hw_model.specs.Rooms.{RoomModel, RoomFits}
 use Rattle.hw_model.specs.Lits.{IsLitOf}
 use Rattle.hw_lines.specs.Kept.{NumberedClause, Kept, none_kept}
 
@@ -43,5 +43,4 @@ IsBounded store = store.kept_lits + store.kept_places ≤ 2 * needed store.live
 pub record IsKept (f : Problem) (store : ClauseStore) (room : RoomModel) : Type 0 where
   pub lits : LitsFit f.ships store.live
   pub bounded : IsBounded store
-  pub same_ships : room.ships ≡ f.ships
-  pub same_slots : room.slots ≡ f.slots
+  pub fits : RoomFits f room

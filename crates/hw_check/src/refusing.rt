@@ -58,11 +58,9 @@ pub(crate) fn claim(
 ) -> Option<Refusal>
     requires fits { LineFits flat.now line.now }
     requires lits { LitsFit flat.now.ships clauses.now.live }
-    requires ships { room.old.ships ≡ flat.now.ships }
-    requires slots { room.old.slots ≡ flat.now.slots }
+    requires room { RoomFits flat.now room.old }
     ensures value { result ≡ refusals.claim_refusal flat.now clauses.now.live best line.now }
-    ensures same_ships { room.new.ships ≡ flat.now.ships }
-    ensures same_slots { room.new.slots ≡ flat.now.slots }
+    ensures room { RoomFits flat.now room.new }
 {
     match line {
         Line::Table(table) => table_refusal(flat, table, best),
@@ -110,11 +108,9 @@ fn source_refusal(
 ) -> Option<Refusal>
     requires source { IsSourceOf flat.now source }
     requires clause { IsClause (shape_of flat.now) clause.now }
-    requires ships { room.old.ships ≡ flat.now.ships }
-    requires slots { room.old.slots ≡ flat.now.slots }
+    requires room { RoomFits flat.now room.old }
     ensures value { result ≡ refusals.source_refusal flat.now best source clause.now }
-    ensures same_ships { room.new.ships ≡ flat.now.ships }
-    ensures same_slots { room.new.slots ≡ flat.now.slots }
+    ensures room { RoomFits flat.now room.new }
 {
     deny_in(flat, clause, room);
     if refuted(flat, source, best, room) {
@@ -127,12 +123,9 @@ fn source_refusal(
 /// Makes a room of the problem the denied room of a clause.
 fn deny_in(flat: &Flat, clause: &Clause, room: &mut Room)
     requires clause { IsClause (shape_of flat.now) clause.now }
-    requires ships { room.old.ships ≡ flat.now.ships }
-    requires slots { room.old.slots ≡ flat.now.slots }
+    requires room { RoomFits flat.now room.old }
     ensures room { room.new ≡ denied_room flat.now clause.now }
     ensures fits { RoomFits flat.now room.new }
-    ensures same_ships { room.new.ships ≡ flat.now.ships }
-    ensures same_slots { room.new.slots ≡ flat.now.slots }
 {
     let _shape = flat.shape();
     deny(clause, room);
@@ -148,17 +141,17 @@ fn lemma_refusal(
 ) -> Option<Refusal>
     requires clause { IsClause (shape_of flat.now) clause.now }
     requires lits { LitsFit flat.now.ships clauses.now.live }
-    requires ships { room.old.ships ≡ flat.now.ships }
-    requires slots { room.old.slots ≡ flat.now.slots }
+    requires room { RoomFits flat.now room.old }
     ensures value { result ≡ refusals.lemma_refusal (refusals.first_dead clauses.now.live hints.now) hints.now (replay (denied_room flat.now clause.now) (refusals.named clauses.now.live hints.now)) }
-    ensures same_ships { room.new.ships ≡ flat.now.ships }
-    ensures same_slots { room.new.slots ≡ flat.now.slots }
+    ensures room { RoomFits flat.now room.new }
 {
     match first_dead(clauses, hints) {
         Some(id) => refused_at(CheckWord::Hint, id),
         None => {
             deny_in(flat, clause, room);
-            replay_refusal(clauses, hints, room)
+            let refusal = replay_refusal(clauses, hints, room);
+            let _ships = room.ships();
+            refusal
         }
     }
 }

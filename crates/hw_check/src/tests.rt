@@ -5,8 +5,8 @@ ghost use Rattle.hw_lines.specs.Valid.{LineFits};
 
 use crate::checker::Checker;
 use crate::stop::CheckStop;
-use hw_flat::{Flat, Timetable};
 use hw_lines::{CheckWord, Hints, Line, Refusal, Verdict};
+use hw_flat::{Flat, Timetable};
 use hw_lits::{Clause, Lit};
 use std::alloc::Global;
 use std::test::Fail;
@@ -101,18 +101,29 @@ fn line_of(alloc: Global, flat: &Flat, step: Step) -> Result<Option<Line>, Fail>
 /// What a checker says of lines: the verdict and the number of live clauses, or the refusal.
 type Said = Result<(Verdict, u32), CheckStop>;
 
-fn checked(alloc: Global, flat: &Flat, steps: &[Step]) -> Result<Said, Fail> {
+/// What it says of lines, and the most literals and the most places that it kept on the way.
+fn checked(
+    alloc: Global,
+    flat: &Flat,
+    steps: &[Step],
+) -> Result<(Said, (usize, usize)), Fail> {
     let mut checker = Checker::new(alloc, flat)?;
+    let mut most = (0, 0);
     for step in steps {
         let Some(line) = line_of(alloc, flat, *step)? else {
             return Err(Fail::new("a line that doesn't fit"));
         };
         match checker.line(line) {
             Ok(next) => checker = next,
-            Err(stop) => return Ok(Err(stop)),
+            Err(stop) => return Ok((Err(stop), most)),
         }
+        let space = checker.space();
+        most = (
+            space.kept_lits.max(most.0),
+            space.kept_places.max(most.1),
+        );
     }
-    Ok(Ok((checker.verdict(), checker.held())))
+    Ok((Ok((checker.verdict(), checker.held())), most))
 }
 
 fn refused(word: CheckWord, hint: Option<u32>) -> Said {
@@ -234,32 +245,28 @@ fn two_ships_apart(rt: HostRuntime) -> Result<(), Fail> {
         ),
     ];
     for (steps, want, row) in rows {
-        assert_eq!(rt; checked(rt.alloc(), &flat, steps)?, want, "{row}");
+        let (said, _) = checked(rt.alloc(), &flat, steps)?;
+        assert_eq!(rt; said, want, "{row}");
     }
     Ok(())
 }
 
 #[test]
-fn dead_literals_are_given_back(rt: HostRuntime) -> Result<(), Fail> {
+fn dead_clauses_are_given_back(rt: HostRuntime) -> Result<(), Fail> {
     let flat = Flat::read(rt.alloc(), TWO_SHIPS)?;
     let mut steps = vec![in rt.alloc(); BEST, SECOND_LATE, FIRST_LATE]?;
-    for id in 3..40 {
-        steps.push(APART)?;
+    for id in 3..100_003 {
+        steps.push(SECOND_LATE)?;
         steps.push(Step::Delete(id))?;
     }
     steps.push(APART)?;
-    let open = Ok((Verdict::Unfinished(Some(40)), 3));
+    steps.push(Step::Lemma(&[], &[1, 2, 100_003]))?;
+    let said = Ok((Verdict::Optimal(40), 4));
+    let most = (5, 5);
     assert_eq!(rt;
         checked(rt.alloc(), &flat, &steps)?,
-        open,
-        "without the last line"
-    );
-    steps.push(Step::Lemma(&[], &[1, 2, 40]))?;
-    let optimal = Ok((Verdict::Optimal(40), 4));
-    assert_eq!(rt;
-        checked(rt.alloc(), &flat, &steps)?,
-        optimal,
-        "the whole certificate"
+        (said, most),
+        "two clauses are live all the while"
     );
     Ok(())
 }

@@ -10,6 +10,5 @@ invariant_of-self c =
     record {
       lits = rw (c.in_ok-give_back.ensures.same, c.remove_all.ensures.dead) (All-filter _ P c.self.inside.clauses.live c.self.invariant.lits);
       bounded = c.in_ok-give_back.ensures.bounded;
-      same_ships = c.self.invariant.same_ships;
-      same_slots = c.self.invariant.same_slots;
+      fits = c.self.invariant.fits;
     }
