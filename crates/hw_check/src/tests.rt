@@ -5,8 +5,8 @@ ghost use Rattle.hw_lines.specs.Valid.{LineFits};
 
 use crate::checker::Checker;
 use crate::stop::CheckStop;
-use hw_lines::{CheckWord, Hints, Line, Refusal, Verdict};
 use hw_flat::{Flat, Timetable};
+use hw_lines::{CheckWord, Hints, Line, Refusal, Verdict};
 use hw_lits::{Clause, Lit};
 use std::alloc::Global;
 use std::test::Fail;
@@ -102,11 +102,7 @@ fn line_of(alloc: Global, flat: &Flat, step: Step) -> Result<Option<Line>, Fail>
 type Said = Result<(Verdict, u32), CheckStop>;
 
 /// What it says of lines, and the most literals and the most places that it kept on the way.
-fn checked(
-    alloc: Global,
-    flat: &Flat,
-    steps: &[Step],
-) -> Result<(Said, (usize, usize)), Fail> {
+fn checked(alloc: Global, flat: &Flat, steps: &[Step]) -> Result<(Said, (usize, usize)), Fail> {
     let mut checker = Checker::new(alloc, flat)?;
     let mut most = (0, 0);
     for step in steps {
@@ -118,10 +114,7 @@ fn checked(
             Err(stop) => return Ok((Err(stop), most)),
         }
         let space = checker.space();
-        most = (
-            space.kept_lits.max(most.0),
-            space.kept_places.max(most.1),
-        );
+        most = (space.kept_lits.max(most.0), space.kept_places.max(most.1));
     }
     Ok((Ok((checker.verdict(), checker.held())), most))
 }
