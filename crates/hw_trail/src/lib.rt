@@ -6,6 +6,8 @@
 mod bounds;
 mod cuts;
 mod implied;
+#[cfg(test)]
+mod tests;
 mod trail;
 
 pub use hw_story::{Event, Why};
