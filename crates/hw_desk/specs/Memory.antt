@@ -1,5 +1,5 @@
 -- A desk in memory, as a contract sees it.
-use Rattle.std.specs.Prelude.{◌≡◌, ◌+◌, ◌-◌, ◌^◌, ◌&&◌, ◌==◌, ℕ, List, [], Bool, true, false, Some, None, IfSome, cond, min, refl}
+use Rattle.std.specs.Prelude.{◌≡◌, ◌+◌, ◌-◌, ◌^◌, ◌&&◌, ◌==◌, ℕ, List, [], Bool, true, false, Some, None, Result, Ok, Err, IfSome, cond, min, refl}
 use Rattle.std.specs.List.{list_any}
 use Rattle.hw_desk.specs.State.{FeedState, TrayState, DeskState, IsFresh}
 use Rattle.hw_desk.specs.Files.{held_in}
@@ -136,6 +136,21 @@ pub record Counts (c : DeskCall) (old new : MemoryModel) : Type 0 where
   pub most : new.most ≡ old.most
   pub fails : new.fails ≡ old.fails
   pub calls : new.calls ≡ counted_call old.calls c
+
+-- a count of faults after an answer: one more after a failure
+abbrev pub after_answer : {T E : Type 0} → Result T E → ℕ → ℕ
+after_answer (Ok x) n = n
+after_answer (Err e) n = next_count n
+
+-- what an answer of a begin or a read does to both counts of faults
+pub record ReadFaults {T E : Type 0} (old new : MemoryModel) (result : Result T E) : Type 0 where
+  pub reads : new.read_faults ≡ after_answer result old.read_faults
+  pub writes : new.write_faults ≡ old.write_faults
+
+-- the same of a make or a write
+pub record WriteFaults {T E : Type 0} (old new : MemoryModel) (result : Result T E) : Type 0 where
+  pub reads : new.read_faults ≡ old.read_faults
+  pub writes : new.write_faults ≡ after_answer result old.write_faults
 
 unbegun : (d : MemoryModel) (f : Feed) → (feeds_of d f).begun ≡ false → IfSome (feeds_of d f).left (λ bytes. bytes ≡ [])
 unbegun d Flat h = rw h refl

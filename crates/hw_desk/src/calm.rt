@@ -184,9 +184,9 @@ impl CalmDesk {
 }
 
 impl Desk for CalmDesk {
-    ghost use Rattle.hw_desk.specs.State.{CanSend};
+    ghost use Rattle.hw_desk.specs.State.{CanSend, same_tray};
     ghost use Rattle.hw_desk.specs.Calls.{Begins, Reads, Makes, Writes};
-    ghost use Rattle.hw_desk.specs.Calm.{calm_state, calm_fresh};
+    ghost use Rattle.hw_desk.specs.Calm.{calm_state, calm_fresh, calm_sent};
 
     ghost state = { calm_state };
 
@@ -195,6 +195,7 @@ impl Desk for CalmDesk {
     fn begin(&mut self, feed: Feed, name: &str) -> Result<(), DeskFailed>
         requires fresh { ((calm_state self.old).feeds feed).begun ≡ false }
         ensures begins { Begins feed name.now (calm_state self.old) (calm_state self.new) result }
+        ensures named { ((calm_state self.new).feeds feed).name ≡ kept_name name.now }
         ensures ok { IsOk result }
     {
         let file = find(&self.files, name);
@@ -228,6 +229,7 @@ impl Desk for CalmDesk {
     fn make(&mut self, tray: Tray, name: &str) -> Result<(), DeskFailed>
         requires fresh { ((calm_state self.old).trays tray).made ≡ false }
         ensures makes { Makes tray name.now (calm_state self.old) (calm_state self.new) result }
+        ensures named { ((calm_state self.new).trays tray).name ≡ kept_name name.now }
         ensures ok { IsOk result }
     {
         match tray {
@@ -241,6 +243,9 @@ impl Desk for CalmDesk {
         requires made { CanSend tray (calm_state self.old) }
         requires some { 0 < length bytes.now }
         ensures writes { Writes tray bytes.now (calm_state self.old) (calm_state self.new) result }
+        ensures all { IfOk result (λ n. n ≡ length bytes.now) }
+        ensures sent { calm_sent self.new tray ≡ sent_more (calm_sent self.old tray) bytes.now }
+        ensures others { (t : Tray) → same_tray t tray ≡ false → calm_sent self.new t ≡ calm_sent self.old t }
         ensures ok { IsOk result }
     {
         match tray {
