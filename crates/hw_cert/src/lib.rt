@@ -4,6 +4,9 @@
 mod fitting;
 mod laws;
 mod log;
+#[cfg(test)]
+mod log_tests;
+mod memory_log;
 mod pending;
 mod putting;
 mod reader;
@@ -19,6 +22,7 @@ mod words;
 pub use hw_lines::{CheckWord, Hints, Line, Refusal, Verdict};
 pub use laws::{cert_spelled, header_spelled, line_spelled, stream_reads, stream_steps};
 pub use log::{Log, LogStop};
+pub use memory_log::MemoryLog;
 pub use reader::{LineReader, Next};
 pub use stop::{FormWord, LineStop};
 pub use tray_log::{TrayLog, send_header};

@@ -1,0 +1,122 @@
+//! The log over a desk in memory, with each of its writes failing in turn.
+
+ghost use Rattle.std.specs.Prelude.{IfOk};
+ghost use Rattle.hw_desk.specs.State.{IsNew};
+ghost use Rattle.hw_desk.specs.Memory.{memory_state};
+ghost use Rattle.hw_cert.specs.Logs.{IsWhole};
+
+use super::*;
+use hw_desk::{Desk, DeskCall, FailAt, MemoryDesk, Tray};
+use hw_flat::Timetable;
+use std::test::Fail;
+
+/// The most bytes that a write moves, and how many were sent when the first, second .. write failed,
+/// and at last when none did: of `cert 2`, `t 1 2` and `d 3 14`, each with its end.
+const SHORT: [(u32, &[usize]); 3] = [
+    (1, &[0, 1, 2, 3, 4, 5, 6, 7, 8, 9, 10, 11, 12, 13, 14, 15, 16, 17, 18, 19, 20]),
+    (3, &[0, 3, 6, 7, 10, 13, 16, 19, 20]),
+    (4096, &[0, 7, 13, 20]),
+];
+
+/// The same where 5000 numbers of one digit are deleted, which are 10,002 bytes with the end.
+const LONG: [(u32, &[usize]); 2] = [
+    (4096, &[0, 7, 13, 4109, 8205, 10015]),
+    (65_536, &[0, 7, 13, 8205, 10015]),
+];
+
+/// A desk with room for 16384 bytes, whose write of the proof at this place fails.
+fn memory(rt: &HostRuntime, most: u32, place: u32) -> Result<MemoryDesk, Fail>
+    ensures { IfOk result (λ desk. IsNew (memory_state desk)) }
+{
+    let call = DeskCall::WriteProof;
+    let fails = Vec::from_slice(rt.alloc(), &[FailAt { call, place }])?;
+    Ok(MemoryDesk::new(
+        rt.alloc(),
+        Vec::new(rt.alloc()),
+        most.max(1),
+        16_384,
+        fails,
+    )?)
+}
+
+/// How many of two lines a log took.
+fn log_two<L: Log>(log: &mut L, first: &Line, second: &Line) -> usize
+    requires { IsWhole (L.state log.old) }
+{
+    if log.line(first).is_err() {
+        return 0;
+    }
+    if log.line(second).is_err() {
+        return 1;
+    }
+    2
+}
+
+/// The same of a log over a desk, or none where its header failed.
+fn send_two<D: Desk>(desk: &mut D, first: &Line, second: &Line) -> Option<usize>
+    requires { IsNew (D.state desk.old) }
+{
+    desk.make(Tray::Proof, "proof").ok()?;
+    let mut log = TrayLog::new(desk).ok()?;
+    Some(log_two(&mut log, first, second))
+}
+
+/// How many lines were taken when so many bytes of the three were sent.
+fn taken(sent: usize, all: usize) -> Option<usize> {
+    if sent < 7 {
+        None
+    } else if sent < 13 {
+        Some(0)
+    } else if sent < all {
+        Some(1)
+    } else {
+        Some(2)
+    }
+}
+
+/// A table and a deletion are sent, and each write fails in turn.
+fn each_fails(
+    rt: &HostRuntime,
+    ids: &[u32],
+    text: &[u8],
+    most: u32,
+    lengths: &[usize],
+) -> Result<(), Fail> {
+    let first = Line::Table(Timetable::from_slots(rt.alloc(), &[1, 2])?);
+    let second = Line::Delete {
+        ids: Hints {
+            items: Vec::from_slice(rt.alloc(), ids)?,
+        },
+    };
+    let mut kept = MemoryLog::new(rt.alloc());
+    let many = log_two(&mut kept, &first, &second);
+    assert_eq!(rt; many, kept.lines().len());
+    assert_eq!(rt; kept.into_lines().len(), 2);
+    let mut place = 0;
+    for sent in lengths {
+        place += 1;
+        let mut desk = memory(rt, most, place)?;
+        let lines = send_two(&mut desk, &first, &second);
+        assert_eq!(rt; lines, taken(*sent, text.len()), "{most} {place}");
+        assert_eq!(rt; Some(desk.sent(Tray::Proof)), text.get(..*sent), "{most} {place}");
+    }
+    Ok(())
+}
+
+#[test]
+fn log_sends_whole_lines(rt: HostRuntime) -> Result<(), Fail> {
+    let short = b"cert 2\nt 1 2\nd 3 14\n";
+    for (most, lengths) in SHORT {
+        each_fails(&rt, &[3, 14], short, most, lengths)?;
+    }
+    let mut long = Vec::from_slice(rt.alloc(), b"cert 2\nt 1 2\nd")?;
+    for _ in 0..5000 {
+        long.extend_from_slice(b" 7")?;
+    }
+    long.push(b'\n')?;
+    let ids = vec![in rt.alloc(); 7u32; 5000]?;
+    for (most, lengths) in LONG {
+        each_fails(&rt, &ids, &long, most, lengths)?;
+    }
+    Ok(())
+}
