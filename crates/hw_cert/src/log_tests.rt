@@ -13,7 +13,12 @@ use std::test::Fail;
 /// The most bytes that a write moves, and how many were sent when the first, second .. write failed,
 /// and at last when none did: of `cert 2`, `t 1 2` and `d 3 14`, each with its end.
 const SHORT: [(u32, &[usize]); 3] = [
-    (1, &[0, 1, 2, 3, 4, 5, 6, 7, 8, 9, 10, 11, 12, 13, 14, 15, 16, 17, 18, 19, 20]),
+    (
+        1,
+        &[
+            0, 1, 2, 3, 4, 5, 6, 7, 8, 9, 10, 11, 12, 13, 14, 15, 16, 17, 18, 19, 20,
+        ],
+    ),
     (3, &[0, 3, 6, 7, 10, 13, 16, 19, 20]),
     (4096, &[0, 7, 13, 20]),
 ];
@@ -30,13 +35,7 @@ fn memory(rt: &HostRuntime, most: u32, place: u32) -> Result<MemoryDesk, Fail>
 {
     let call = DeskCall::WriteProof;
     let fails = Vec::from_slice(rt.alloc(), &[FailAt { call, place }])?;
-    Ok(MemoryDesk::new(
-        rt.alloc(),
-        Vec::new(rt.alloc()),
-        most.max(1),
-        16_384,
-        fails,
-    )?)
+    Ok(MemoryDesk::new(rt.alloc(), Vec::new(rt.alloc()), most.max(1), 16_384, fails)?)
 }
 
 /// How many of two lines a log took.
@@ -98,7 +97,11 @@ fn each_fails(
         let mut desk = memory(rt, most, place)?;
         let lines = send_two(&mut desk, &first, &second);
         assert_eq!(rt; lines, taken(*sent, text.len()), "{most} {place}");
-        assert_eq!(rt; Some(desk.sent(Tray::Proof)), text.get(..*sent), "{most} {place}");
+        assert_eq!(rt;
+            Some(desk.sent(Tray::Proof)),
+            text.get(..*sent),
+            "{most} {place}"
+        );
     }
     Ok(())
 }
