@@ -132,7 +132,7 @@ pub record SpellsText (version : Version) (bytes : List ℕ) (line : Line) : Typ
   pub small : list_all is_small (line_numbers line) ≡ true
   pub formed : has_form version line ≡ true
 
-text_back : (version : Version) (bytes : List ℕ) (line : Line) (ws : List (List ℕ)) → ws ≡ words_of bytes → line_of version ws ≡ Some line → SpellsText version bytes line
+pub text_back : (version : Version) (bytes : List ℕ) (line : Line) (ws : List (List ℕ)) → ws ≡ words_of bytes → line_of version ws ≡ Some line → SpellsText version bytes line
 text_back version bytes line [] e h = absurd cc
 text_back version bytes line (kind ∷ ws) e h =
     let r = form_back version kind ws line h in

@@ -13,3 +13,5 @@ pub mod WholeCerts
 pub mod Wordings
 pub mod Telling
 pub mod Logging
+pub mod FormText
+pub mod ValidText

@@ -10,9 +10,10 @@ use Rattle.hw_text.specs.Parts.{parts_of}
 use Rattle.hw_text.proofs.Joins.{one_part, part_before, cut_joined}
 use Rattle.hw_text.proofs.Spelled.{reads_back}
 use Rattle.hw_cert.specs.Texts.{pair_text, lit_text, line_words, line_text}
-use Rattle.hw_cert.specs.Spelled.{number_word, both, put_first, all_numbers, some_of, some_numbers, number_pair, lettered, lit_word, Lits, put_lit, lits_of, unparted, only_lits, hinted_form, delete_form, line_of}
+use Rattle.hw_cert.specs.Spelled.{number_word, both, put_first, all_numbers, some_of, some_numbers, number_pair, lettered, lit_word, Lits, put_lit, lits_of, unparted, only_lits, hinted_form, delete_form, line_of, spelled}
 use Rattle.hw_cert.specs.Fits.{ascends, unless, first_fault, refused_by, fitted, line_read}
 use Rattle.hw_cert.specs.Laws.{lit_numbers, line_numbers, has_form, is_small, IsLine}
+use Rattle.hw_cert.specs.Forms.{HasWords}
 use Rattle.hw_lines.specs.declared.line.Line.{Line}
 use Rattle.hw_lines.specs.declared.line.Line.TheVariants as lines
 use Rattle.hw_cert.specs.declared.stop.FormWord.{FormWord}
@@ -63,15 +64,6 @@ lits_again (l ∷ ls) tail b h e =
 only_again : (ls : List Lit) → list_all is_small (flat_map lit_numbers ls) ≡ true → only_lits (map lit_text ls) ≡ Some ls
 only_again ls h = ap (option_and_then (λ (found : Lits). unparted found.lits found.behind)) (ap lits_of (sym (append-nil (map lit_text ls))) ∙ lits_again ls [] None h refl)
 
--- the lists that a form wants nonempty are so
-abbrev pub HasWords : Line → Type 0
-HasWords (lines.Table table) = 0 < length table
-HasWords (lines.Explain n clause) = Unit {0}
-HasWords (lines.Order v w x clause) = Unit {0}
-HasWords (lines.Goal clause) = Unit {0}
-HasWords (lines.Lemma clause hints) = Unit {0}
-HasWords (lines.Delete ids) = 0 < length ids
-
 deletes_again : (version : Version) (ids : List ℕ) → has_form version (lines.Delete ids) ≡ true → 0 < length ids → list_all is_small ids ≡ true → delete_form version (map decimal ids) ≡ Some (lines.Delete ids)
 deletes_again One ids f lt h = absurd cc
 deletes_again Two ids f lt h = ap (option_map lines.Delete) (some_again ids lt h)
@@ -121,7 +113,10 @@ word_count (lines.Goal clause) = omega arith
 word_count (lines.Lemma clause hints) = omega arith
 word_count (lines.Delete ids) = omega arith
 
+pub text_spelled : (version : Version) (line : Line) → list_all is_small (line_numbers line) ≡ true → has_form version line ≡ true → HasWords line → spelled version (line_text line) ≡ Some line
+text_spelled version line small formed words = ap (line_of version) (cut_joined 32 (line_words line) (word_count line) (words_lack 32 line (omega arith) small)) ∙ line_again version line small formed words
+
 pub text_read : (shape : Shape) (version : Version) (line : Line) → 1 ≤ shape.ships → IsLine shape version line → line_read shape version (line_text line) ≡ Ok line
 text_read shape version line some is =
-    ap (fitted shape) (ap (line_of version) (cut_joined 32 (line_words line) (word_count line) (words_lack 32 line (omega arith) is.small)) ∙ line_again version line is.small is.formed (has_words shape line some is.fits))
+    ap (fitted shape) (text_spelled version line is.small is.formed (has_words shape line some is.fits))
     ∙ ap (refused_by line) is.fits

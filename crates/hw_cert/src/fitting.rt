@@ -65,12 +65,12 @@ fn is_ascending(ids: &[u32]) -> bool
     true
 }
 
-/// The clause of the literals, or the word of the first bad one.
-fn clause_of(alloc: Global, shape: Shape, lits: &[Lit]) -> Result<Clause, LineFault>
+/// The clause of the literals, which it takes, or the word of the first bad one.
+fn clause_of(shape: Shape, lits: Vec<Lit>) -> Result<Clause, LineFault>
     requires few_ships { shape.ships ≤ 40 }
-    ensures { GivesClause result lits.now (clause_fault shape lits.now) }
+    ensures { GivesClause result lits.items (clause_fault shape lits.items) }
 {
-    match Clause::from_lits(alloc, shape, lits) {
+    match Clause::from_list(shape, lits) {
         Ok(clause) => Ok(clause),
         Err(ClauseFault::Range { .. }) => Err(LineFault::Bad(FormWord::Range)),
         Err(ClauseFault::NotNormal { .. }) => Err(LineFault::Bad(FormWord::Normal)),
@@ -89,56 +89,44 @@ fn table_line(alloc: Global, shape: Shape, slots: &[u32]) -> Result<Line, LineFa
     Ok(Line::Table(table))
 }
 
-fn explain_line(
-    alloc: Global,
-    shape: Shape,
-    restriction: u32,
-    lits: &[Lit],
-) -> Result<Line, LineFault>
+fn explain_line(shape: Shape, restriction: u32, lits: Vec<Lit>) -> Result<Line, LineFault>
     requires few_ships { shape.ships ≤ 40 }
-    ensures { Gives result (refused_by (Line.Explain restriction lits.now) (first_fault shape (Line.Explain restriction lits.now))) }
+    ensures { Gives result (refused_by (Line.Explain restriction lits.items) (first_fault shape (Line.Explain restriction lits.items))) }
 {
     if u64::from(restriction) >= u64::from(shape.ships) + u64::from(shape.rules) {
         return Err(LineFault::Bad(FormWord::Range));
     }
-    let clause = clause_of(alloc, shape, lits)?;
+    let clause = clause_of(shape, lits)?;
     Ok(Line::Explain {
         restriction,
         clause,
     })
 }
 
-fn order_line(
-    alloc: Global,
-    shape: Shape,
-    v: u32,
-    w: u32,
-    x: u32,
-    lits: &[Lit],
-) -> Result<Line, LineFault>
+fn order_line(shape: Shape, v: u32, w: u32, x: u32, lits: Vec<Lit>) -> Result<Line, LineFault>
     requires few_ships { shape.ships ≤ 40 }
-    ensures { Gives result (refused_by (Line.Order v w x lits.now) (first_fault shape (Line.Order v w x lits.now))) }
+    ensures { Gives result (refused_by (Line.Order v w x lits.items) (first_fault shape (Line.Order v w x lits.items))) }
 {
     if !(v < w && w < x && x < shape.ships) {
         return Err(LineFault::Bad(FormWord::Range));
     }
-    let clause = clause_of(alloc, shape, lits)?;
+    let clause = clause_of(shape, lits)?;
     Ok(Line::Order { v, w, x, clause })
 }
 
-fn goal_line(alloc: Global, shape: Shape, lits: &[Lit]) -> Result<Line, LineFault>
+fn goal_line(shape: Shape, lits: Vec<Lit>) -> Result<Line, LineFault>
     requires few_ships { shape.ships ≤ 40 }
-    ensures { Gives result (refused_by (Line.Goal lits.now) (first_fault shape (Line.Goal lits.now))) }
+    ensures { Gives result (refused_by (Line.Goal lits.items) (first_fault shape (Line.Goal lits.items))) }
 {
-    let clause = clause_of(alloc, shape, lits)?;
+    let clause = clause_of(shape, lits)?;
     Ok(Line::Goal { clause })
 }
 
-fn lemma_line(alloc: Global, shape: Shape, lits: &[Lit], hints: Vec<u32>) -> Result<Line, LineFault>
+fn lemma_line(shape: Shape, lits: Vec<Lit>, hints: Vec<u32>) -> Result<Line, LineFault>
     requires few_ships { shape.ships ≤ 40 }
-    ensures { Gives result (refused_by (Line.Lemma lits.now hints.items) (first_fault shape (Line.Lemma lits.now hints.items))) }
+    ensures { Gives result (refused_by (Line.Lemma lits.items hints.items) (first_fault shape (Line.Lemma lits.items hints.items))) }
 {
-    let clause = clause_of(alloc, shape, lits)?;
+    let clause = clause_of(shape, lits)?;
     if !each_above_zero(&hints) {
         return Err(LineFault::Bad(FormWord::Range));
     }
@@ -166,10 +154,10 @@ fn fitted_line(alloc: Global, shape: Shape, spelling: Spelling) -> Result<Line, 
 {
     match spelling {
         Spelling::Table { slots } => table_line(alloc, shape, &slots),
-        Spelling::Explain { restriction, lits } => explain_line(alloc, shape, restriction, &lits),
-        Spelling::Order { v, w, x, lits } => order_line(alloc, shape, v, w, x, &lits),
-        Spelling::Goal { lits } => goal_line(alloc, shape, &lits),
-        Spelling::Lemma { lits, hints } => lemma_line(alloc, shape, &lits, hints),
+        Spelling::Explain { restriction, lits } => explain_line(shape, restriction, lits),
+        Spelling::Order { v, w, x, lits } => order_line(shape, v, w, x, lits),
+        Spelling::Goal { lits } => goal_line(shape, lits),
+        Spelling::Lemma { lits, hints } => lemma_line(shape, lits, hints),
         Spelling::Delete { ids } => delete_line(ids),
     }
 }

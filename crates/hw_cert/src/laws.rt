@@ -1,5 +1,6 @@
 //! The laws of the text of certificates: what is written reads back, and nothing else reads so.
 
+ghost use Rattle.hw_cert.specs.Forms.{FormSpelled, ValidReads};
 ghost use Rattle.hw_cert.specs.Laws.{LineSpelled, HeaderSpelled, CertSpelled, StreamSteps, StreamReads};
 
 /// Bytes read as a line exactly where they are the line's one text.
@@ -25,4 +26,14 @@ pub fn stream_steps()
 /// Where no limit is passed, the stream of lines is what the bytes read as.
 pub fn stream_reads()
     ensures { StreamReads }
+{}
+
+/// Bytes have a form of a version exactly where they are the text of a line of that form.
+pub fn form_spelled()
+    ensures { FormSpelled }
+{}
+
+/// Valid lines of a problem have a text, with deletions, that reads back as them.
+pub fn valid_reads()
+    ensures { ValidReads }
 {}

@@ -20,7 +20,10 @@ mod version;
 mod words;
 
 pub use hw_lines::{CheckWord, Hints, Line, Refusal, Verdict};
-pub use laws::{cert_spelled, header_spelled, line_spelled, stream_reads, stream_steps};
+pub use laws::{
+    cert_spelled, form_spelled, header_spelled, line_spelled, stream_reads, stream_steps,
+    valid_reads,
+};
 pub use log::{Log, LogStop};
 pub use memory_log::MemoryLog;
 pub use reader::{LineReader, Next};

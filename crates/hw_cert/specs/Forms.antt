@@ -1,0 +1,41 @@
+-- Which lines have a form of a version, and the laws that tie them to their text.
+use Rattle.std.specs.Prelude.{◌≡◌, ℕ, ◌<◌, List, All, Some, Ok, ⊤, true, length}
+use Rattle.std.specs.List.{list_all}
+use Rattle.hw_model.specs.Problem.{Problem, shape_of}
+use Rattle.hw_model.specs.Limits.{IsFlat}
+use Rattle.hw_lines.specs.declared.line.Line.{Line}
+use Rattle.hw_lines.specs.declared.line.Line.TheVariants as lines
+use Rattle.hw_lines.specs.Valid.{LineFits, Valid}
+use Rattle.hw_cert.specs.declared.version.Version.{Version}
+use Rattle.hw_cert.specs.declared.version.Version.TheVariants.{Two}
+use Rattle.hw_cert.specs.Texts.{line_text, cert_text}
+use Rattle.hw_cert.specs.Spelled.{spelled}
+use Rattle.hw_cert.specs.Certs.{cert_read}
+use Rattle.hw_cert.specs.Laws.{line_numbers, has_form, is_small}
+
+-- a table has a slot, and a deletion a number
+abbrev pub HasWords : Line → Type 0
+HasWords (lines.Table table) = 0 < length table
+HasWords (lines.Explain n clause) = ⊤
+HasWords (lines.Order v w x clause) = ⊤
+HasWords (lines.Goal clause) = ⊤
+HasWords (lines.Lemma clause hints) = ⊤
+HasWords (lines.Delete ids) = 0 < length ids
+
+-- a line of one of the forms of the version, with numbers up to 4,294,967,295, whatever the problem
+pub record IsOfForm (version : Version) (line : Line) : Type 0 where
+  pub formed : has_form version line ≡ true
+  pub small : list_all is_small (line_numbers line) ≡ true
+  pub some_word : HasWords line
+
+-- bytes have the form exactly where they are the text of such a line, and then of that one
+pub record SpellsForm (version : Version) (bytes : List ℕ) (line : Line) : Type 0 where
+  pub read : spelled version bytes ≡ Some line → (bytes ≡ line_text line) × IsOfForm version line
+  pub written : bytes ≡ line_text line → IsOfForm version line → spelled version bytes ≡ Some line
+
+abbrev pub FormSpelled : Type 0
+FormSpelled = (version : Version) (bytes : List ℕ) (line : Line) → SpellsForm version bytes line
+
+-- the text of valid lines of a problem, with deletions, reads back as these lines
+abbrev pub ValidReads : Type 0
+ValidReads = (f : Problem) (all : List Line) → IsFlat f → All (LineFits f) all → Valid f all → cert_read (shape_of f) (cert_text Two all) ≡ Ok (record { version = Two; lines = all })
