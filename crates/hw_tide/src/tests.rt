@@ -1,3 +1,5 @@
+ghost use Rattle.std.specs.Prelude.{◌≤◌};
+
 use crate::{Tide, TideFault, read_heights, read_tides, read_waters};
 use hw_port::{Pass, Port, PortParts, Row, Ship, Text, Turnaround, Waypoint};
 use std::alloc::{AllocError, Global};
@@ -256,7 +258,10 @@ const POINTS: [&str; 16] = [
 
 /// A table with a height of the same number for each of the sixteen waypoints in each of the slots
 /// that end the steps up to the last one.
-fn long_table(alloc: Global, head: &str, last: u32, step: usize) -> Result<String, AllocError> {
+fn long_table(alloc: Global, head: &str, last: u32, step: usize) -> Result<String, AllocError>
+    requires last { last ≤ 2_048 }
+    requires step { 1 ≤ step }
+{
     let mut table = String::from_str(alloc, head)?;
     for name in POINTS {
         table.push(',')?;
