@@ -1,3 +1,6 @@
-pub mod Checked
-pub mod Chained
-pub mod Works
+mod Begun
+mod FlatForms
+mod Checked
+mod Chained
+mod Solved
+mod Shown

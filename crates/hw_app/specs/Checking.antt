@@ -1,34 +1,42 @@
 -- The lines of a certificate that were taken so far.
-use Rattle.std.specs.Prelude.{◌≡◌, ◌≤◌, ◌+◌, ◌^◌, ℕ, List, [], true, ◌∷◌, ◌++◌, Option, Result, Ok, Err, IfSome, IsSomeAnd, All, ⊤, is_none, if◌then◌else◌}
+use Rattle.std.specs.Prelude.{◌≡◌, ◌≤◌, ◌<◌, ◌+◌, ◌^◌, ℕ, List, [], true, ◌∷◌, ◌++◌, Option, None, Result, Ok, Err, IfSome, IsSomeAnd, All, ⊤, is_none, if◌then◌else◌}
 use Rattle.hw_model.specs.Problem.{Problem, shape_of}
 use Rattle.hw_model.specs.Limits.{IsFlat}
 use Rattle.hw_text.specs.Parts.{parts_of}
 use Rattle.hw_desk.specs.State.{DeskState, Rose}
-use Rattle.hw_desk.specs.Calls.{OnlyFeed}
 use Rattle.hw_desk.specs.declared.desk.Feed.TheVariants as feeds
-use Rattle.hw_lines.specs.declared.line.Line.{Line}
 use Rattle.hw_cert.specs.Nexts.{rest_of}
 use Rattle.hw_cert.specs.Reader.{ReaderModel}
 use Rattle.hw_cert.specs.Stream.{Position, CertLines, stream_of}
+use Rattle.hw_cert.specs.declared.stop.LineStop.{LineStop}
+use Rattle.hw_cert.specs.declared.stop.LineStop.TheVariants as lines
+use Rattle.hw_lines.specs.declared.line.Line.{Line}
 use Rattle.hw_lines.specs.Valid.{verdict, LineFits, Valid}
 use Rattle.hw_check.specs.Follows.{Follows}
 use Rattle.hw_check.specs.States.{CheckState}
-use Rattle.hw_app.specs.Certificates.{lines_report, cert_report}
-use Rattle.hw_app.specs.Reports.{Report, checked, refused, read_fault, too_long, no_memory}
-use Rattle.hw_app.specs.declared.report.Report.{Report as Told}
-use Rattle.hw_app.specs.Seen.{report_seen}
+use Rattle.hw_check.specs.declared.stop.CheckStop.{CheckStop}
+use Rattle.hw_check.specs.declared.stop.CheckStop.TheVariants as checks
+use Rattle.hw_report.specs.declared.report.RefusedWord.TheVariants.{Form, Check}
+use Rattle.hw_app.specs.Certificates.{lines_outcome, cert_outcome}
+use Rattle.hw_app.specs.Inputs.{Enters}
+use Rattle.hw_app.specs.declared.cert.CertStep.{CertStep}
+use Rattle.hw_app.specs.declared.cert.CertStep.TheVariants.{Further, Ended}
+use Rattle.hw_app.specs.declared.outcome.CertOutcome.{CertOutcome}
+use Rattle.hw_app.specs.declared.outcome.CertOutcome.TheVariants.{Shows, Wrong, TooLong}
+use Rattle.hw_app.specs.declared.outcome.CertStop.{CertStop}
+use Rattle.hw_app.specs.declared.outcome.CertStop.TheVariants.{Fault, NoMemory}
 
 -- the number of the line that comes next behind the header
 abbrev pub line_number : Position → ℕ
 line_number at = at.number + (if is_none at.version then 1 else 0)
 
 -- what is left of a certificate, behind the lines before
-abbrev pub left_report : Problem → List Line → ℕ → CertLines → Report
-left_report f before number left = lines_report f before number left.lines left.stop
+abbrev pub left_outcome : Problem → List Line → ℕ → CertLines → CertOutcome
+left_outcome f before number left = lines_outcome f before number left.lines left.stop
 
 -- the same, where the reading stands there and these are the bytes left
-abbrev pub rest_report : Problem → List Line → Position → List ℕ → Report
-rest_report f before at rest = left_report f before (line_number at) (stream_of (shape_of f) at (parts_of 10 rest))
+abbrev pub rest_outcome : Problem → List Line → Position → List ℕ → CertOutcome
+rest_outcome f before at rest = left_outcome f before (line_number at) (stream_of (shape_of f) at (parts_of 10 rest))
 
 -- a reader and a checker of one problem, of which lines may be taken
 pub record IsReady (reader : ReaderModel) (checker : CheckState) (now : DeskState) : Type 0 where
@@ -37,37 +45,63 @@ pub record IsReady (reader : ReaderModel) (checker : CheckState) (now : DeskStat
   pub limit : reader.at.taken ≤ 2 ^ 40
   pub begun : (now.feeds feeds.Certificate).begun ≡ true
 
--- these lines of the problem were taken by now, and what is left decides the report that was to be made, where the bytes are told
-pub record Reached (f : Problem) (told : Option (List ℕ)) (report : List ℕ → Report) (all : List Line) (reader : ReaderModel) (checker : CheckState) (now : DeskState) : Type 0 where
+-- these lines of the problem were taken by now, and what is left decides the outcome that was to come, where the bytes are told
+pub record Reached (f : Problem) (told : Option (List ℕ)) (outcome : List ℕ → CertOutcome) (all : List Line) (reader : ReaderModel) (checker : CheckState) (now : DeskState) : Type 0 where
   pub follows : Follows checker all
   pub problem : checker.problem ≡ f
-  pub rest : IfSome told (λ bytes. IsSomeAnd (rest_of reader now) (λ rest. report bytes ≡ rest_report f all reader.at rest))
+  pub rest : IfSome told (λ bytes. IsSomeAnd (rest_of reader now) (λ rest. outcome bytes ≡ rest_outcome f all reader.at rest))
 
--- a report behind these lines: the one that was to be made, where the bytes are told, or a fault with its cause, or want of memory
-abbrev pub Says : Problem → List Line → Option (List ℕ) → (List ℕ → Report) → DeskState → DeskState → Report → Type 0
-Says f all told report old new (checked v) = (v ≡ verdict f all) × IfSome told (λ bytes. checked v ≡ report bytes)
-Says f all told report old new (refused number word hint) = IfSome told (λ bytes. refused number word hint ≡ report bytes)
-Says f all told report old new (too_long of) = (of ≡ feeds.Certificate) × IfSome told (λ bytes. too_long of ≡ report bytes)
-Says f all told report old new (read_fault of) = (of ≡ feeds.Certificate) × Rose old.read_faults new.read_faults
-Says f all told report old new no_memory = ⊤
-Says f all told report old new _ = ⊥
+-- an outcome behind these lines: the one that was to come, where the bytes are told
+abbrev pub Comes : Problem → List Line → Option (List ℕ) → (List ℕ → CertOutcome) → CertOutcome → Type 0
+Comes f all told outcome (Shows v) = (v ≡ verdict f all) × IfSome told (λ bytes. Shows v ≡ outcome bytes)
+Comes f all told outcome (Wrong number word hint) = IfSome told (λ bytes. Wrong number word hint ≡ outcome bytes)
+Comes f all told outcome TooLong = IfSome told (λ bytes. TooLong ≡ outcome bytes)
 
--- one more line was taken, or why not
-abbrev pub Steps : Problem → List Line → ReaderModel → DeskState → DeskState → Result (ReaderModel × CheckState) Told → Type 0
-Steps f before r old new (Ok pair) = (line : Line) × Reached f (rest_of r old) (rest_report f before r.at) (before ++ line ∷ []) pair.0 pair.1 new
-Steps f before r old new (Err report) = Says f before (rest_of r old) (rest_report f before r.at) old new (report_seen report)
+-- why there is no outcome: a fault has its cause, and otherwise no read failed
+abbrev pub NoOutcome : DeskState → DeskState → CertStop → Type 0
+NoOutcome old new Fault = Rose old.read_faults new.read_faults
+NoOutcome old new NoMemory = new.read_faults ≡ old.read_faults
 
--- a report, and the valid lines behind which it stands
-pub record Finds (f : Problem) (told : Option (List ℕ)) (report : List ℕ → Report) (old new : DeskState) (r : Report) : Type 0 where
+-- what a certificate comes to behind these lines, and no read failed; or why it isn't known
+abbrev pub ComesOrStops : Problem → List Line → Option (List ℕ) → (List ℕ → CertOutcome) → DeskState → DeskState → Result CertOutcome CertStop → Type 0
+ComesOrStops f all told outcome old new (Ok o) = (new.read_faults ≡ old.read_faults) × Comes f all told outcome o
+ComesOrStops f all told outcome old new (Err stop) = NoOutcome old new stop
+
+-- one more line was taken and no read failed, or the check has ended
+abbrev pub Steps : Problem → List Line → ReaderModel → DeskState → DeskState → CertStep → Type 0
+Steps f before r old new (Further reader checker) = (new.read_faults ≡ old.read_faults) × (line : Line) × Reached f (rest_of r old) (rest_outcome f before r.at) (before ++ line ∷ []) reader checker new
+Steps f before r old new (Ended found) = ComesOrStops f before (rest_of r old) (rest_outcome f before r.at) old new found
+
+-- behind a line more can be taken
+abbrev pub GoesFurther : ReaderModel → DeskState → CertStep → Type 0
+GoesFurther r now (Further reader checker) = IsReady reader checker now × (r.at.taken < reader.at.taken)
+GoesFurther r now (Ended found) = ⊤
+
+-- what a certificate comes to whose line of this number isn't taken
+abbrev pub of_check_stop : ℕ → CheckStop → Result CertOutcome CertStop
+of_check_stop number (checks.Refused r) = Ok (Wrong number (Check r.word) r.hint)
+of_check_stop number checks.NoMemory = Err NoMemory
+
+-- what a certificate comes to of which no line more is had
+abbrev pub of_line_stop : LineStop → Result CertOutcome CertStop
+of_line_stop (lines.Form number word) = Ok (Wrong number (Form word) None)
+of_line_stop lines.Fault = Err Fault
+of_line_stop lines.TooLong = Ok TooLong
+of_line_stop lines.NoMemory = Err NoMemory
+
+-- an outcome, and the valid lines behind which it stands
+pub record Finds (f : Problem) (told : Option (List ℕ)) (outcome : List ℕ → CertOutcome) (o : CertOutcome) : Type 0 where
   pub lines : List Line
   pub fit : All (LineFits f) lines
   pub valid : Valid f lines
-  pub says : Says f lines told report old new r
+  pub comes : Comes f lines told outcome o
 
--- the certificate alone was begun, under its name, and this is its report
-pub record ChecksCert (f : Problem) (cert : List ℕ) (old new : DeskState) (r : Report) : Type 0 where
-  pub only : OnlyFeed feeds.Certificate old new
-  pub begun : (new.feeds feeds.Certificate).begun ≡ true
-  pub named : IfSome (new.feeds feeds.Certificate).name (λ n. n ≡ cert)
-  pub limits : IsFlat f
-  pub finds : Finds f (old.held cert) (cert_report f) old new r
+-- an outcome without a failed read, or why there is none
+abbrev pub FindsOrStops : Problem → Option (List ℕ) → (List ℕ → CertOutcome) → DeskState → DeskState → Result CertOutcome CertStop → Type 0
+FindsOrStops f told outcome old new (Ok o) = (new.read_faults ≡ old.read_faults) × Finds f told outcome o
+FindsOrStops f told outcome old new (Err stop) = NoOutcome old new stop
+
+-- the certificate is begun under its name, and this is its outcome
+pub record ChecksCert (f : Problem) (cert : List ℕ) (old new : DeskState) (result : Result CertOutcome CertStop) : Type 0 where
+  pub enters : Enters feeds.Certificate cert old new
+  pub finds : FindsOrStops f (old.held cert) (cert_outcome f) old new result

@@ -1,18 +1,39 @@
 -- What a run does, by its words.
-use Rattle.std.specs.Prelude.{ℕ, List, Result, Ok, Err}
+use Rattle.std.specs.Prelude.{◌≡◌, ℕ, List, false, Option, Some, None, Result, Ok, Err}
 use Rattle.hw_desk.specs.State.{DeskState}
-use Rattle.hw_app.specs.Commands.{Command, solve_flat, check_flat, command_of}
-use Rattle.hw_app.specs.Reports.{bad_words}
-use Rattle.hw_app.specs.Ends.{Ends}
-use Rattle.hw_app.specs.SolveFlat.{SolveFlatMeets}
-use Rattle.hw_app.specs.CheckFlat.{CheckFlatMeets}
+use Rattle.hw_report.specs.Reports.{Report, bad_words}
+use Rattle.hw_app.specs.Ends.{Ends, EndsWith}
+use Rattle.hw_app.specs.Forms.{words_of, form_of, word_at, number_in}
+use Rattle.hw_app.specs.Scope.{inputs_of, proof_of}
+use Rattle.hw_app.specs.Works.{WorksTo, is_common}
+use Rattle.hw_app.specs.SolveFlat.{SolveFlatSays}
+use Rattle.hw_app.specs.CheckFlat.{CheckFlatSays}
+use Rattle.hw_app.specs.declared.form.Form.{Form}
+use Rattle.hw_app.specs.declared.form.Form.TheVariants.{SolveFlat, CheckFlat}
 use Rattle.hw_app.specs.declared.status.Status.{Status}
 
+-- what a form's answer says, of the words, of the desk before and after the work, and of the report; none is a write fault on Proof
+abbrev pub says_of : Form → List (List ℕ) → DeskState → DeskState → Option Report → Type 0
+says_of SolveFlat words old new r = SolveFlatSays (word_at words 2) (number_in 1 100_000 (word_at words 3)) old r
+says_of CheckFlat words old new r = CheckFlatSays (word_at words 2) (word_at words 3) old r
+
+-- the same, but for the reports whose causes are common to all forms
+abbrev pub SaysOwn : Form → List (List ℕ) → DeskState → DeskState → Option Report → Type 0
+SaysOwn form words old new None = says_of form words old new None
+SaysOwn form words old new (Some r) = is_common r ≡ false → says_of form words old new (Some r)
+
+-- a form's work, and then its report
+pub record FormMeets (form : Form) (words : List (List ℕ)) (old new : DeskState) (s : Status) : Type 0 where
+  pub mid : DeskState
+  pub report : Option Report
+  pub works : WorksTo (inputs_of (words_of form) words) (proof_of (words_of form) words) old mid report
+  pub says : SaysOwn form words old mid report
+  pub ends : EndsWith report mid new s
+
 -- a command is carried out; of words that are no command the place of the first bad one is reported, and nothing is begun or made
-abbrev pub CommandMeets : Result Command ℕ → DeskState → DeskState → Status → Type 0
-CommandMeets (Err place) old new s = Ends (bad_words place) old new s
-CommandMeets (Ok (solve_flat name budget)) old new s = SolveFlatMeets name budget old new s
-CommandMeets (Ok (check_flat name cert)) old new s = CheckFlatMeets name cert old new s
+abbrev pub CommandMeets : Result Form ℕ → List (List ℕ) → DeskState → DeskState → Status → Type 0
+CommandMeets (Err place) words old new s = Ends (bad_words place) old new s
+CommandMeets (Ok form) words old new s = FormMeets form words old new s
 
 abbrev pub RunMeets : List (List ℕ) → DeskState → DeskState → Status → Type 0
-RunMeets words old new s = CommandMeets (command_of words) old new s
+RunMeets words old new s = CommandMeets (form_of words) words old new s

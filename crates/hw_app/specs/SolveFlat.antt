@@ -1,17 +1,17 @@
 -- `solve flat NAME BUDGET`: a walk through the lists of slots of a flat text.
-use Rattle.std.specs.Prelude.{◌≡◌, ◌≤◌, ◌<◌, ℕ, List, Option, Some, None, IfSome, length}
+use Rattle.std.specs.Prelude.{◌≡◌, ◌≤◌, ◌<◌, ℕ, List, Option, Some, None, IfSome}
+use Rattle.hw_model.specs.Limits.{IsFlat}
 use Rattle.hw_model.specs.Problem.{Problem}
 use Rattle.hw_model.specs.Timetables.{IsBest, NonePermitted}
 use Rattle.hw_model.specs.Walk.{FirstBest, table_count}
 use Rattle.hw_rules.specs.Outcomes.{BestBefore}
-use Rattle.hw_desk.specs.State.{DeskState, Rose}
-use Rattle.hw_desk.specs.declared.desk.Feed.TheVariants as feed
-use Rattle.hw_app.specs.Reports.{Report, solved, bad_flat, read_fault, too_long, no_memory}
-use Rattle.hw_app.specs.declared.report.Head.{Head}
-use Rattle.hw_app.specs.declared.report.Head.TheVariants.{Optimal, Infeasible, Unfinished}
-use Rattle.hw_app.specs.Input.{BeginsFlat, IsTextOf, IsBadAt, most_bytes}
-use Rattle.hw_app.specs.Ends.{Ends}
-use Rattle.hw_app.specs.declared.status.Status.{Status}
+use Rattle.hw_rules.specs.declared.outcome.Walked.{Walked}
+use Rattle.hw_rules.specs.declared.outcome.Walked.TheVariants.{Best, NoneLeft, Spent}
+use Rattle.hw_desk.specs.State.{DeskState}
+use Rattle.hw_report.specs.Reports.{Report, Naming, by_number, solved, bad_flat}
+use Rattle.hw_report.specs.declared.report.Head.{Head}
+use Rattle.hw_report.specs.declared.report.Head.TheVariants.{Optimal, Infeasible, Unfinished, Memory}
+use Rattle.hw_app.specs.Inputs.{IsTextOf, IsBadAt}
 
 -- a timetable is there, is the first best of all lists, and carries this
 abbrev pub IsOptimal : Problem → ℕ → Option (List ℕ) → Type 0
@@ -23,33 +23,26 @@ abbrev pub Walks : ℕ → Head → Problem → Option (List ℕ) → Type 0
 Walks budget (Optimal c) f table = (table_count f ≤ budget) × IsOptimal f c table
 Walks budget Infeasible f table = (table_count f ≤ budget) × NonePermitted f × (table ≡ None)
 Walks budget (Unfinished spent) f table = (budget < table_count f) × (spent ≡ budget) × BestBefore f budget table
+Walks budget Memory f table = ⊥
 
--- what a report says of the bytes, where they are told. No other report is given
-abbrev pub TellsText : Option (List ℕ) → Report → Type 0
-TellsText held (solved head f table) = IfSome held (IsTextOf f)
-TellsText held (bad_flat number word) = IfSome held (IsBadAt number word)
-TellsText held (read_fault f) = f ≡ feed.Flat
-TellsText held (too_long f) = (f ≡ feed.Flat) × IfSome held (λ bytes. most_bytes < length bytes)
-TellsText held no_memory = Unit {0}
-TellsText held _ = ⊥
+-- a problem within the limits, that of the text where it is told, and what was found of it
+pub record Solves (text : Option (List ℕ)) (budget : ℕ) (head : Head) (f : Problem) (naming : Naming) (table : Option (List ℕ)) : Type 0 where
+  pub limits : IsFlat f
+  pub reads : IfSome text (IsTextOf f)
+  pub names : naming ≡ by_number
+  pub walks : Walks budget head f table
 
--- what a report says of the walk
-abbrev pub TellsWalk : ℕ → Report → Type 0
-TellsWalk budget (solved head f table) = Walks budget head f table
-TellsWalk budget _ = Unit {0}
+-- what a report says of the text, where it is told, and of the timetables. No two reports hold together, and no other is given
+abbrev pub SolvesText : Option (List ℕ) → ℕ → Option Report → Type 0
+SolvesText text budget (Some (solved head f names table)) = Solves text budget head f names table
+SolvesText text budget (Some (bad_flat number word)) = IfSome text (IsBadAt number word)
+SolvesText text budget _ = ⊥
 
--- a read fault has its cause
-abbrev pub TellsFault : DeskState → DeskState → Report → Type 0
-TellsFault old new (read_fault f) = Rose old.read_faults new.read_faults
-TellsFault old new _ = Unit {0}
+abbrev pub SolveFlatSays : List ℕ → ℕ → DeskState → Option Report → Type 0
+SolveFlatSays name budget old r = SolvesText (old.held name) budget r
 
--- the work before the report: what was begun, and what the report says of the bytes, of the timetables and of a fault
-pub record SolveFlatWorks (name : List ℕ) (budget : ℕ) (old new : DeskState) (r : Report) : Type 0 where
-  pub scope : BeginsFlat name old new
-  pub text : TellsText (old.held name) r
-  pub walk : TellsWalk budget r
-  pub fault : TellsFault old new r
-
--- the work, and then its report
-abbrev pub SolveFlatMeets : List ℕ → ℕ → DeskState → DeskState → Status → Type 0
-SolveFlatMeets name budget old new s = (mid : DeskState) × (r : Report) × SolveFlatWorks name budget old mid r × Ends r mid new s
+-- the report of what a walk with a budget found
+abbrev pub report_of_walk : ℕ → Problem → Walked → Report
+report_of_walk budget f (Best table c) = solved (Optimal c) f by_number (Some table)
+report_of_walk budget f NoneLeft = solved Infeasible f by_number None
+report_of_walk budget f (Spent table) = solved (Unfinished budget) f by_number table

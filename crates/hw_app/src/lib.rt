@@ -1,22 +1,20 @@
 //! The top call: the words of a command, its work over a desk, and its report.
 //!
-//! Each command has a record in `specs/` with a field for each of its promises, and the clause of
-//! `run` goes by the command that the words are.
+//! The forms of a command are a table. What every command keeps is said and proved once; each form
+//! has a file of definitions for what its answer says, and a file of code.
 #![tactic(auto)]
 
-mod check;
-#[cfg(test)]
-mod check_tests;
-mod commands;
+mod cert;
+mod check_flat;
+mod form;
 mod input;
-mod page;
-mod print;
-mod report;
+mod outcome;
 mod running;
-mod solve;
+mod solve_flat;
 mod status;
 #[cfg(test)]
 mod tests;
+mod words;
 
 pub use running::run;
 pub use status::Status;

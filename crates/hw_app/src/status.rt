@@ -1,5 +1,9 @@
 ghost use Rattle.std.specs.Prelude.{◌≡◌};
-ghost use Rattle.hw_app.specs.Statuses.{code_of};
+ghost use Rattle.hw_app.specs.Statuses.{code_of, status_of, status_of_head, status_of_verdict};
+ghost use Rattle.hw_report.specs.Seen.{report_seen};
+
+use hw_cert::Verdict;
+use hw_report::{Head, Report};
 
 /// How a run ends.
 #[derive(Clone, Copy, Debug, PartialEq, Eq)]
@@ -43,5 +47,53 @@ impl Status {
             Status::TooLong => 8,
             Status::NoMemory => 9,
         }
+    }
+}
+
+fn status_of_head(head: Head) -> Status
+    ensures { result ≡ status_of_head head }
+{
+    match head {
+        Head::Optimal { .. } => Status::Optimal,
+        Head::Infeasible => Status::Infeasible,
+        Head::Unfinished { .. } => Status::Unfinished,
+        Head::Memory => Status::NoMemory,
+    }
+}
+
+fn status_of_verdict(verdict: Verdict) -> Status
+    ensures { result ≡ status_of_verdict verdict }
+{
+    match verdict {
+        Verdict::Optimal(_) => Status::Optimal,
+        Verdict::Infeasible => Status::Infeasible,
+        Verdict::Unfinished(_) => Status::Unfinished,
+    }
+}
+
+/// How a run ends whose report was sent.
+pub fn status_of(report: &Report) -> Status
+    ensures { result ≡ status_of (report_seen report.now) }
+{
+    match *report {
+        Report::Solved { head, .. } | Report::Demo { head, .. } | Report::Repaired { head, .. } => {
+            status_of_head(head)
+        }
+        Report::Checked { verdict, .. } | Report::Rechecked { verdict, .. } => {
+            status_of_verdict(verdict)
+        }
+        Report::Words { .. } => Status::Words,
+        Report::BadFlat { .. }
+        | Report::BadJson
+        | Report::BadField { .. }
+        | Report::BadTides { .. }
+        | Report::BadText { .. } => Status::BadInput,
+        Report::Refused { .. } => Status::Refused,
+        Report::ReadFault { .. } => Status::ReadFault,
+        Report::TooLong { .. } => Status::TooLong,
+        Report::Memory => Status::NoMemory,
+        Report::Clashed { .. } | Report::ClashHolds => Status::Infeasible,
+        Report::Met { .. } | Report::After { .. } | Report::AuditEnd => Status::Optimal,
+        Report::Step { .. } => Status::Unfinished,
     }
 }

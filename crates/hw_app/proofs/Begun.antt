@@ -1,0 +1,150 @@
+-- Inputs that were begun, one after another, and the work that ends at one of them.
+use Rattle.std.proofs.Common.{◌≡◌, ◌≤◌, ◌<◌, ◌==◌, ◌||◌, ◌++◌, ◌∙◌, ℕ, Bool, true, false, cond, List, [], ◌∷◌, Option, Some, None, length, append-nil, inl, refl, sym, ap, subst, arith}
+use Rattle.std.specs.Prelude.{IfSome, IsSomeAnd}
+use Rattle.hw_desk.specs.Calls.{OnlyFeed}
+use Rattle.hw_desk.specs.State.{DeskState, FeedState, put_feed, place_of, same_feed, Rose}
+use Rattle.hw_desk.specs.declared.desk.Feed.{Feed}
+use Rattle.hw_desk.specs.declared.desk.Feed.TheVariants.{Flat, Instance, Tides, Certificate, Plan, Events}
+use Rattle.hw_desk.specs.declared.whole.ReadStop.{ReadStop}
+use Rattle.hw_desk.specs.declared.whole.ReadStop.TheVariants as stops
+use Rattle.hw_report.specs.Reports.{Report, read_fault, too_long, no_memory}
+use Rattle.hw_app.specs.Inputs.{Enters, StopsFor, report_of_stop}
+use Rattle.hw_app.specs.Scope.{Named, named, is_among, last_of, IsBegun, AllBegun, BeginsAll}
+use Rattle.hw_app.specs.Works.{Speaks, of_answer, of_input, of_memory, speaks, UpTo, TraysOf, ReadCauseOf, PassesLimit, LongCauseOf, Works, most_bytes}
+
+-- these inputs were begun, and neither a tray nor a write was touched
+pub record Entered (done : List Named) (x y : DeskState) : Type 0 where
+  pub begins : BeginsAll done x y
+  pub trays : y.trays ≡ x.trays
+  pub write_faults : y.write_faults ≡ x.write_faults
+
+not_first : (a b : Bool) → (a || b) ≡ false → a ≡ false
+not_first true b e = absurd (cc)
+not_first false b e = refl
+
+not_second : (a b : Bool) → (a || b) ≡ false → b ≡ false
+not_second true b e = absurd (cc)
+not_second false b e = e
+
+same_back : (m n : ℕ) → (m == n) ≡ false → (n == m) ≡ false
+same_back m n e = grind arith
+
+-- another feed than the one that was entered is as before
+other_kept : {feed : Feed} {x y : DeskState} (f : Feed) → OnlyFeed feed x y → same_feed f feed ≡ false → y.feeds f ≡ x.feeds f
+other_kept {feed = feed} {x = x} {y = y} f h e = ap (λ feeds. feeds f) h.feeds ∙ ap (λ b. cond b (y.feeds feed) (x.feeds f)) e
+
+begun_kept : {feed : Feed} {x y : DeskState} (input : Named) → OnlyFeed feed x y → same_feed feed input.feed ≡ false → IsBegun x input → IsBegun y input
+begun_kept {feed = feed} {x = x} {y = y} input h e b =
+    let same : y.feeds input.feed ≡ x.feeds input.feed = other_kept input.feed h (same_back (place_of feed) (place_of input.feed) e) in
+    record {
+      begun = ap (λ (s : FeedState). s.begun) same ∙ b.begun;
+      named = subst (λ (s : FeedState). IfSome s.name (λ n. n ≡ input.name)) (sym same) b.named;
+    }
+
+all_kept : {feed : Feed} {x y : DeskState} (done : List Named) → OnlyFeed feed x y → is_among done feed ≡ false → AllBegun x done → AllBegun y done
+all_kept [] h e b = tt
+all_kept {feed = feed} (input ∷ more) h e b = (begun_kept input h (not_first (same_feed feed input.feed) (is_among more feed) e) b.0, all_kept more h (not_second (same_feed feed input.feed) (is_among more feed) e) b.1)
+
+all_more : {y : DeskState} (done : List Named) (last : Named) → AllBegun y done → IsBegun y last → AllBegun y (done ++ last ∷ [])
+all_more [] last b l = (l, tt)
+all_more (input ∷ more) last b l = (b.0, all_more more last b.1 l)
+
+among_front : (done : List Named) (last : Named) (f : Feed) → is_among (done ++ last ∷ []) f ≡ false → is_among done f ≡ false
+among_front [] last f e = refl
+among_front (input ∷ more) last f e = neither (same_feed f input.feed) (is_among (more ++ last ∷ []) f) (is_among more f) e (among_front more last f)
+  where
+    neither : (a b c : Bool) → (a || b) ≡ false → (b ≡ false → c ≡ false) → (a || c) ≡ false
+    neither true b c e h = absurd (cc)
+    neither false b c e h = h e
+
+among_last : (done : List Named) (last : Named) (f : Feed) → is_among (done ++ last ∷ []) f ≡ false → same_feed f last.feed ≡ false
+among_last [] last f e = not_first (same_feed f last.feed) false e
+among_last (input ∷ more) last f e = among_last more last f (not_second (same_feed f input.feed) (is_among (more ++ last ∷ []) f) e)
+
+pub entered_none : (x : DeskState) → Entered [] x x
+entered_none x = record { begins = record { held = refl; begun = tt; others = λ f e. refl }; trays = refl; write_faults = refl }
+
+-- one input more
+pub entered_on : {feed : Feed} {name : List ℕ} {x y z : DeskState} (done : List Named) → Entered done x y → Enters feed name y z → is_among done feed ≡ false → Entered (done ++ named feed name ∷ []) x z
+entered_on {feed = feed} {name = name} {x = x} {y = y} {z = z} done h k e = record {
+  begins = record {
+    held = k.only.held ∙ h.begins.held;
+    begun = all_more done (named feed name) (all_kept done k.only e h.begins.begun) (record { begun = k.begun; named = k.named });
+    others = λ f out. other_kept f k.only (among_last done (named feed name) f out) ∙ h.begins.others f (among_front done (named feed name) f out);
+  };
+  trays = k.only.trays ∙ h.trays;
+  write_faults = k.only.write_faults ∙ h.write_faults;
+}
+
+pub last_is : (done : List Named) (last : Named) → last_of (done ++ last ∷ []) ≡ Some last
+last_is [] last = refl
+last_is (input ∷ []) last = refl
+last_is (input ∷ next ∷ more) last = last_is (next ∷ more) last
+
+some_is : (P : Named → Type 0) (o : Option Named) (x : Named) → o ≡ Some x → P x → IsSomeAnd o P
+some_is P o x e p = subst (λ (v : Option Named). IsSomeAnd v P) (sym e) p
+
+no_tray : (x y : DeskState) (proof : Option (List ℕ)) (s : Speaks) → y.trays ≡ x.trays → TraysOf proof x y s
+no_tray x y None of_answer e = e
+no_tray x y (Some name) of_answer e = inl e
+no_tray x y proof (of_input feed) e = e
+no_tray x y proof of_memory e = e
+
+-- the work that ends before an answer
+pub answers : {inputs : List Named} {x y : DeskState} (proof : Option (List ℕ)) (r : Report) → speaks r ≡ of_answer → Entered inputs x y → ReadCauseOf x y r → LongCauseOf inputs x r → Works inputs proof x y r
+answers {inputs = inputs} {x = x} {y = y} proof r e h read long = record {
+  done = inputs;
+  rest = [];
+  parts = sym (append-nil inputs);
+  begins = h.begins;
+  upto = subst (λ (s : Speaks). UpTo inputs [] s) (sym e) refl;
+  trays = no_tray x y proof (speaks r) h.trays;
+  read_cause = read;
+  long_cause = long;
+  write_faults = h.write_faults;
+}
+
+-- the work that ends at the input that was begun last
+pub refuses : {inputs : List Named} {x y : DeskState} (proof : Option (List ℕ)) (done : List Named) (last : Named) (rest : List Named) (r : Report) → inputs ≡ (done ++ last ∷ []) ++ rest → speaks r ≡ of_input last.feed → Entered (done ++ last ∷ []) x y → ReadCauseOf x y r → LongCauseOf (done ++ last ∷ []) x r → Works inputs proof x y r
+refuses {x = x} {y = y} proof done last rest r parts e h read long = record {
+  done = done ++ last ∷ [];
+  rest = rest;
+  parts = parts;
+  begins = h.begins;
+  upto = subst (λ (s : Speaks). UpTo (done ++ last ∷ []) rest s) (sym e) (some_is _ (last_of (done ++ last ∷ [])) last (last_is done last) refl);
+  trays = no_tray x y proof (speaks r) h.trays;
+  read_cause = read;
+  long_cause = long;
+  write_faults = h.write_faults;
+}
+
+-- the work that ends for want of memory
+pub wants_memory : {inputs : List Named} {x y : DeskState} (proof : Option (List ℕ)) (done rest : List Named) → inputs ≡ done ++ rest → Entered done x y → y.read_faults ≡ x.read_faults → Works inputs proof x y no_memory
+wants_memory proof done rest parts h read = record {
+  done = done;
+  rest = rest;
+  parts = parts;
+  begins = h.begins;
+  upto = tt;
+  trays = h.trays;
+  read_cause = read;
+  long_cause = tt;
+  write_faults = h.write_faults;
+}
+
+passes : (feed : Feed) (told : Option (List ℕ)) → IfSome told (λ bytes. most_bytes < length bytes) → PassesLimit feed told
+passes Flat told h = h
+passes Instance told h = h
+passes Tides told h = h
+passes Certificate told h = tt
+passes Plan told h = h
+passes Events told h = h
+
+pub rose_on : {a b c : ℕ} → b ≡ a → Rose b c → Rose a c
+rose_on e h = omega arith
+
+-- the work that ends at an input that isn't had
+pub stops_at : {inputs : List Named} {x z : DeskState} (y : DeskState) (proof : Option (List ℕ)) (done : List Named) (feed : Feed) (name : List ℕ) (rest : List Named) (stop : ReadStop) → inputs ≡ (done ++ named feed name ∷ []) ++ rest → Entered (done ++ named feed name ∷ []) x z → y.read_faults ≡ x.read_faults → StopsFor (x.held name) y z stop → Works inputs proof x z (report_of_stop feed stop)
+stops_at y proof done feed name rest stops.Fault parts h before s = refuses proof done (named feed name) rest (read_fault feed) parts refl h (rose_on before s) tt
+stops_at {x = x} y proof done feed name rest stops.TooLong parts h before s = refuses proof done (named feed name) rest (too_long feed) parts refl h (s.1 ∙ before) (some_is _ (last_of (done ++ named feed name ∷ [])) (named feed name) (last_is done (named feed name)) (passes feed (x.held name) s.0))
+stops_at y proof done feed name rest stops.NoMemory parts h before s = wants_memory proof (done ++ named feed name ∷ []) rest parts h (s ∙ before)

@@ -1,0 +1,68 @@
+-- The forms of a command, as data. A form is what each of its words has to be.
+use Rattle.std.specs.Prelude.{ℕ, ◌+◌, ◌==◌, ◌&&◌, List, [], ◌∷◌, Bool, length, max, nat_lt, Result, Ok, Err, Option, Some, None, is_some, unwrap_or, codes, bytes_eq, if◌then◌else◌}
+use Rattle.std.specs.List.{slice_index_or}
+use Rattle.hw_desk.specs.declared.desk.Feed.TheVariants as feed
+use Rattle.hw_text.specs.Numbers.{number_from_to}
+use Rattle.hw_app.specs.declared.form.Form.{Form}
+use Rattle.hw_app.specs.declared.form.Form.TheVariants.{SolveFlat, CheckFlat}
+use Rattle.hw_app.specs.declared.form.Keyword.{Keyword as KeywordOf}
+use Rattle.hw_app.specs.declared.form.Keyword.TheVariants as key
+use Rattle.hw_app.specs.declared.form.Wanted.{Wanted}
+use Rattle.hw_app.specs.declared.form.Wanted.TheVariants.{Keyword, Input, Proof, Number}
+
+abbrev pub keyword_text : KeywordOf → List ℕ
+keyword_text key.Solve = codes "solve"
+keyword_text key.Check = codes "check"
+keyword_text key.Flat = codes "flat"
+
+-- the forms that there are
+abbrev pub forms : List Form
+forms = SolveFlat ∷ CheckFlat ∷ []
+
+-- what the words of a form have to be
+abbrev pub words_of : Form → List Wanted
+words_of SolveFlat = Keyword key.Solve ∷ Keyword key.Flat ∷ Input feed.Flat ∷ Number 1 100_000 ∷ []
+words_of CheckFlat = Keyword key.Check ∷ Keyword key.Flat ∷ Input feed.Flat ∷ Input feed.Certificate ∷ []
+
+-- a keyword is itself, a name any word that isn't empty, and a number one in plain decimal within its limits
+abbrev pub takes : Wanted → List ℕ → Bool
+takes (Keyword keyword) word = bytes_eq word (keyword_text keyword)
+takes (Input feed) word = nat_lt 0 (length word)
+takes Proof word = nat_lt 0 (length word)
+takes (Number least most) word = is_some (number_from_to least most word)
+
+-- how many of the words, from the first on, are what is wanted
+abbrev pub agreed : List Wanted → List (List ℕ) → ℕ
+agreed [] words = 0
+agreed (wanted ∷ more) [] = 0
+agreed (wanted ∷ more) (word ∷ words) = if takes wanted word then agreed more words + 1 else 0
+
+-- the words are what is wanted, one for one
+abbrev pub fits : List Wanted → List (List ℕ) → Bool
+fits wanted words = (length words == length wanted) && (agreed wanted words == length wanted)
+
+-- the first form that the words are of
+abbrev pub first_fitting : List Form → List (List ℕ) → Option Form
+first_fitting [] words = None
+first_fitting (form ∷ more) words = if fits (words_of form) words then Some form else first_fitting more words
+
+-- how many of the words some form goes on with
+abbrev pub furthest : List Form → List (List ℕ) → ℕ
+furthest [] words = 0
+furthest (form ∷ more) words = max (agreed (words_of form) words) (furthest more words)
+
+abbrev pub or_place : ℕ → Option Form → Result Form ℕ
+or_place place None = Err place
+or_place place (Some form) = Ok form
+
+-- the form that the words are of, or the first place at which no form goes on with all the words up to there. Places count from 1; a missing word has the place behind the last, and an extra word its own
+abbrev pub form_of : List (List ℕ) → Result Form ℕ
+form_of words = or_place (furthest forms words + 1) (first_fitting forms words)
+
+-- the word at a place, counted from 0
+abbrev pub word_at : List (List ℕ) → ℕ → List ℕ
+word_at words place = slice_index_or words place []
+
+-- the number that a word of a form is
+abbrev pub number_in : ℕ → ℕ → List ℕ → ℕ
+number_in least most word = unwrap_or (number_from_to least most word) 0

@@ -1,0 +1,79 @@
+-- Reading an input.
+use Rattle.std.specs.Prelude.{◌≡◌, ◌≤◌, ◌<◌, ℕ, List, true, Option, Result, Ok, Err, IfSome, IfOk, IsErrOf, ⊤, length, Vec}
+use Rattle.std.specs.declared.alloc.Global.{Global}
+use Rattle.hw_model.specs.Limits.{IsFlat}
+use Rattle.hw_model.specs.Problem.{Problem}
+use Rattle.hw_desk.specs.Calls.{OnlyFeed}
+use Rattle.hw_desk.specs.State.{DeskState, Rose}
+use Rattle.hw_desk.specs.declared.desk.Feed.{Feed}
+use Rattle.hw_desk.specs.declared.desk.Feed.TheVariants as feeds
+use Rattle.hw_desk.specs.declared.whole.ReadStop.{ReadStop}
+use Rattle.hw_desk.specs.declared.whole.ReadStop.TheVariants as stops
+use Rattle.hw_flat.specs.Text.{flat_text}
+use Rattle.hw_flat.specs.declared.fault.FlatFault.{FlatFault}
+use Rattle.hw_flat.specs.declared.fault.FlatFault.TheVariants as faults
+use Rattle.hw_flat.specs.declared.fault.FlatWord.{FlatWord}
+use Rattle.hw_report.specs.Reports.{Report, bad_flat, read_fault, too_long, no_memory}
+use Rattle.hw_app.specs.Works.{most_bytes}
+use Rattle.hw_app.specs.declared.input.FlatStop.{FlatStop}
+use Rattle.hw_app.specs.declared.input.FlatStop.TheVariants.{Input, Line}
+
+-- an input is begun under its name, and nothing else is touched
+pub record Enters (feed : Feed) (name : List ℕ) (old new : DeskState) : Type 0 where
+  pub only : OnlyFeed feed old new
+  pub begun : (new.feeds feed).begun ≡ true
+  pub named : IfSome (new.feeds feed).name (λ n. n ≡ name)
+
+-- why an input isn't had: a fault has its cause, and otherwise no read failed
+abbrev pub StopsFor : Option (List ℕ) → DeskState → DeskState → ReadStop → Type 0
+StopsFor told old new stops.Fault = Rose old.read_faults new.read_faults
+StopsFor told old new stops.TooLong = IfSome told (λ bytes. most_bytes < length bytes) × (new.read_faults ≡ old.read_faults)
+StopsFor told old new stops.NoMemory = new.read_faults ≡ old.read_faults
+
+-- the bytes that were read are all those that are told, and keep the limit
+abbrev pub IsWholeOf : Option (List ℕ) → List ℕ → Type 0
+IsWholeOf told bytes = IfSome told (λ all. all ≡ bytes) × (length bytes ≤ most_bytes)
+
+abbrev pub InputAnswer : Option (List ℕ) → DeskState → DeskState → Result (Vec ℕ Global) ReadStop → Type 0
+InputAnswer told old new (Ok v) = IsWholeOf told v.items × (new.read_faults ≡ old.read_faults)
+InputAnswer told old new (Err stop) = StopsFor told old new stop
+
+-- an input is begun under its name and read to its end
+pub record ReadsInput (feed : Feed) (name : List ℕ) (old new : DeskState) (result : Result (Vec ℕ Global) ReadStop) : Type 0 where
+  pub enters : Enters feed name old new
+  pub answer : InputAnswer (old.held name) old new result
+
+-- the bytes keep the limit and are the text of this problem
+abbrev pub IsTextOf : Problem → List ℕ → Type 0
+IsTextOf f bytes = (length bytes ≤ most_bytes) × (flat_text bytes ≡ Ok f)
+
+-- the bytes keep the limit, and this is their first bad line
+abbrev pub IsBadAt : ℕ → FlatWord → List ℕ → Type 0
+IsBadAt number word bytes = (length bytes ≤ most_bytes) × (flat_text bytes ≡ Err (record { number = number; word = word }))
+
+-- why a text isn't that of a problem
+abbrev pub stop_of_fault : FlatFault → FlatStop
+stop_of_fault (faults.Line number word) = Line number word
+stop_of_fault faults.NoMemory = Input stops.NoMemory
+
+-- a problem within the limits, and that of the bytes held under the name, where they are told; or why there is none
+abbrev pub FlatAnswer : Option (List ℕ) → DeskState → DeskState → Result Problem FlatStop → Type 0
+FlatAnswer told old new (Ok f) = IsFlat f × IfSome told (IsTextOf f) × (new.read_faults ≡ old.read_faults)
+FlatAnswer told old new (Err (Line number word)) = IfSome told (IsBadAt number word) × (new.read_faults ≡ old.read_faults)
+FlatAnswer told old new (Err (Input stop)) = StopsFor told old new stop
+
+-- the flat text is begun under its name, read to its end and parsed
+pub record ReadsFlat (name : List ℕ) (old new : DeskState) (result : Result Problem FlatStop) : Type 0 where
+  pub enters : Enters feeds.Flat name old new
+  pub answer : FlatAnswer (old.held name) old new result
+
+-- the report of an input that isn't had
+abbrev pub report_of_stop : Feed → ReadStop → Report
+report_of_stop feed stops.Fault = read_fault feed
+report_of_stop feed stops.TooLong = too_long feed
+report_of_stop feed stops.NoMemory = no_memory
+
+-- the report of a flat text that gives no problem
+abbrev pub report_of_flat : FlatStop → Report
+report_of_flat (Input stop) = report_of_stop feeds.Flat stop
+report_of_flat (Line number word) = bad_flat number word

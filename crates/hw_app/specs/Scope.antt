@@ -1,0 +1,75 @@
+-- What a command may touch: its inputs, in order, and Proof.
+use Rattle.std.specs.Prelude.{◌≡◌, ◌⊎◌, ◌||◌, ◌+◌, ℕ, List, [], ◌∷◌, Bool, true, false, Option, Some, None, IfSome, ⊤}
+use Rattle.hw_desk.specs.State.{DeskState, put_tray, same_feed}
+use Rattle.hw_desk.specs.declared.desk.Feed.{Feed}
+use Rattle.hw_desk.specs.declared.desk.Tray.TheVariants as tray
+use Rattle.hw_app.specs.Forms.{word_at}
+use Rattle.hw_app.specs.declared.form.Wanted.{Wanted}
+use Rattle.hw_app.specs.declared.form.Wanted.TheVariants.{Keyword, Input, Proof, Number}
+
+-- a feed, and the name under which it is begun
+pub record Named : Type 0 where
+  pub feed : Feed
+  pub name : List ℕ
+
+abbrev pub named : Feed → List ℕ → Named
+named feed name = record { feed = feed; name = name }
+
+-- the inputs that are wanted from a place of the words on, in the order in which they are begun
+abbrev pub inputs_at : ℕ → List Wanted → List (List ℕ) → List Named
+inputs_at place [] words = []
+inputs_at place (Input feed ∷ more) words = named feed (word_at words place) ∷ inputs_at (place + 1) more words
+inputs_at place (Keyword keyword ∷ more) words = inputs_at (place + 1) more words
+inputs_at place (Proof ∷ more) words = inputs_at (place + 1) more words
+inputs_at place (Number least most ∷ more) words = inputs_at (place + 1) more words
+
+abbrev pub inputs_of : List Wanted → List (List ℕ) → List Named
+inputs_of wanted words = inputs_at 0 wanted words
+
+-- the name under which Proof is made, if it is wanted from a place of the words on
+abbrev pub proof_at : ℕ → List Wanted → List (List ℕ) → Option (List ℕ)
+proof_at place [] words = None
+proof_at place (Proof ∷ more) words = Some (word_at words place)
+proof_at place (Input feed ∷ more) words = proof_at (place + 1) more words
+proof_at place (Keyword keyword ∷ more) words = proof_at (place + 1) more words
+proof_at place (Number least most ∷ more) words = proof_at (place + 1) more words
+
+abbrev pub proof_of : List Wanted → List (List ℕ) → Option (List ℕ)
+proof_of wanted words = proof_at 0 wanted words
+
+-- whether a feed is one of some inputs
+abbrev pub is_among : List Named → Feed → Bool
+is_among [] feed = false
+is_among (input ∷ more) feed = same_feed feed input.feed || is_among more feed
+
+-- the last of some inputs
+abbrev pub last_of : List Named → Option Named
+last_of [] = None
+last_of (input ∷ []) = Some input
+last_of (input ∷ next ∷ more) = last_of (next ∷ more)
+
+-- an input was begun under its name
+pub record IsBegun (now : DeskState) (input : Named) : Type 0 where
+  pub begun : (now.feeds input.feed).begun ≡ true
+  pub named : IfSome (now.feeds input.feed).name (λ n. n ≡ input.name)
+
+abbrev pub AllBegun : DeskState → List Named → Type 0
+AllBegun now [] = ⊤
+AllBegun now (input ∷ more) = IsBegun now input × AllBegun now more
+
+-- these inputs were begun, each under its name, and no other feed was touched
+pub record BeginsAll (inputs : List Named) (old new : DeskState) : Type 0 where
+  pub held : new.held ≡ old.held
+  pub begun : AllBegun new inputs
+  pub others : (feed : Feed) → is_among inputs feed ≡ false → new.feeds feed ≡ old.feeds feed
+
+-- Proof was made under its name, and no other tray was touched
+pub record MakesProof (name : List ℕ) (old new : DeskState) : Type 0 where
+  pub trays : new.trays ≡ put_tray old.trays tray.Proof (new.trays tray.Proof)
+  pub made : (new.trays tray.Proof).made ≡ true
+  pub named : IfSome (new.trays tray.Proof).name (λ n. n ≡ name)
+
+-- no tray was touched but Proof, where the form makes it
+abbrev pub MakesAtMost : Option (List ℕ) → DeskState → DeskState → Type 0
+MakesAtMost None old new = new.trays ≡ old.trays
+MakesAtMost (Some name) old new = (new.trays ≡ old.trays) ⊎ MakesProof name old new

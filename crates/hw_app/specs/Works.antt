@@ -1,0 +1,89 @@
+-- What the work of every command keeps before its report: its scope, the cause of each fault and of
+-- each limit, and which inputs were begun. What its answer says stands in a file of the form's own.
+use Rattle.std.specs.Prelude.{◌≡◌, ◌<◌, ℕ, List, [], ◌++◌, Bool, true, false, Option, Some, None, IfSome, IsSomeAnd, ⊤, length}
+use Rattle.hw_desk.specs.State.{DeskState, Rose}
+use Rattle.hw_desk.specs.declared.desk.Feed.{Feed}
+use Rattle.hw_desk.specs.declared.desk.Feed.TheVariants.{Flat, Instance, Tides, Certificate}
+use Rattle.hw_report.specs.Reports.{Report, bad_flat, bad_json, bad_field, bad_tides, refused, read_fault, too_long, no_memory, bad_text}
+use Rattle.hw_app.specs.Scope.{Named, BeginsAll, MakesProof, MakesAtMost, last_of}
+
+-- the most bytes of a feed other than the certificate
+abbrev pub most_bytes : ℕ
+most_bytes = 4_194_304
+
+-- what a report speaks of: the answer of a command, an input that is refused or not had, or want of memory alone
+pub data Speaks : Type 0 where
+  of_answer : Speaks
+  of_input : Feed → Speaks
+  of_memory : Speaks
+
+abbrev pub speaks : Report → Speaks
+speaks (bad_flat number word) = of_input Flat
+speaks bad_json = of_input Instance
+speaks (bad_field fault) = of_input Instance
+speaks (bad_tides fault) = of_input Tides
+speaks (bad_text feed number word) = of_input feed
+speaks (refused number word hint) = of_input Certificate
+speaks (read_fault feed) = of_input feed
+speaks (too_long feed) = of_input feed
+speaks no_memory = of_memory
+speaks r = of_answer
+
+-- how far the inputs were begun: all of them before an answer, and else up to the one of which is spoken; memory may be wanting at any place
+abbrev pub UpTo : List Named → List Named → Speaks → Type 0
+UpTo done rest of_answer = rest ≡ []
+UpTo done rest (of_input feed) = IsSomeAnd (last_of done) (λ input. input.feed ≡ feed)
+UpTo done rest of_memory = ⊤
+
+-- where an input is refused or memory was wanting, no tray was touched
+abbrev pub TraysOf : Option (List ℕ) → DeskState → DeskState → Speaks → Type 0
+TraysOf proof old new of_answer = MakesAtMost proof old new
+TraysOf proof old new (of_input feed) = new.trays ≡ old.trays
+TraysOf proof old new of_memory = new.trays ≡ old.trays
+
+-- a read fault has its cause, and before every other report no begin and no read failed
+abbrev pub ReadCauseOf : DeskState → DeskState → Report → Type 0
+ReadCauseOf old new (read_fault feed) = Rose old.read_faults new.read_faults
+ReadCauseOf old new r = new.read_faults ≡ old.read_faults
+
+-- an input passes its limit; what a certificate's limits are, its own definitions say
+abbrev pub PassesLimit : Feed → Option (List ℕ) → Type 0
+PassesLimit Certificate told = ⊤
+PassesLimit feed told = IfSome told (λ bytes. most_bytes < length bytes)
+
+abbrev pub LongCauseOf : List Named → DeskState → Report → Type 0
+LongCauseOf done old (too_long feed) = IsSomeAnd (last_of done) (λ input. PassesLimit feed (old.held input.name))
+LongCauseOf done old r = ⊤
+
+-- the work before a report, of a form with these inputs that makes Proof under this name, if it makes it
+pub record Works (inputs : List Named) (proof : Option (List ℕ)) (old new : DeskState) (r : Report) : Type 0 where
+  -- a first part of the inputs was begun, and no other feed
+  pub done : List Named
+  pub rest : List Named
+  pub parts : inputs ≡ done ++ rest
+  pub begins : BeginsAll done old new
+  pub upto : UpTo done rest (speaks r)
+  pub trays : TraysOf proof old new (speaks r)
+  pub read_cause : ReadCauseOf old new r
+  pub long_cause : LongCauseOf done old r
+  pub write_faults : new.write_faults ≡ old.write_faults
+
+-- the work that ends at a failed make or write of Proof
+pub record Breaks (inputs : List Named) (proof : Option (List ℕ)) (old new : DeskState) : Type 0 where
+  pub begins : BeginsAll inputs old new
+  pub makes : IsSomeAnd proof (λ name. MakesProof name old new)
+  pub read_faults : new.read_faults ≡ old.read_faults
+  pub write_cause : Rose old.write_faults new.write_faults
+
+-- the work before its report, or before a write fault on Proof
+abbrev pub WorksTo : List Named → Option (List ℕ) → DeskState → DeskState → Option Report → Type 0
+WorksTo inputs proof old new None = Breaks inputs proof old new
+WorksTo inputs proof old new (Some r) = Works inputs proof old new r
+
+-- whether a report's cause stands here alone: a read fault, want of memory, or the limit of an input other than the certificate
+abbrev pub is_common : Report → Bool
+is_common (read_fault feed) = true
+is_common no_memory = true
+is_common (too_long Certificate) = false
+is_common (too_long feed) = true
+is_common r = false

@@ -1,0 +1,125 @@
+//! Checking a certificate of a problem, line by line.
+
+ghost use Rattle.std.specs.Prelude.{◌≡◌, [], ℕ, List, false};
+ghost use Rattle.hw_cert.specs.Nexts.{rest_of};
+ghost use Rattle.hw_lines.specs.declared.line.Line.{Line as CertLine};
+ghost use Rattle.hw_check.specs.Follows.{Follows};
+ghost use Rattle.hw_desk.specs.Calls.{Moves};
+ghost use Rattle.hw_app.specs.Checking.{ChecksCert, FindsOrStops, GoesFurther, IsReady, Steps, rest_outcome, of_line_stop, of_check_stop};
+
+use crate::outcome::{CertOutcome, CertStop};
+use hw_cert::{LineReader, LineStop, Next};
+use hw_check::{CheckStop, Checker};
+use hw_desk::{Desk, Feed};
+use hw_flat::Flat;
+use hw_report::RefusedWord;
+use std::alloc::Global;
+
+/// Where a check stands behind one line more.
+#[derive(Drop)]
+pub enum CertStep<'f> {
+    Further {
+        reader: LineReader,
+        checker: Checker<'f>,
+    },
+    Ended(Result<CertOutcome, CertStop>),
+}
+
+/// Begins the certificate under its name, and checks its lines one by one up to its end or up to the
+/// first wrong one.
+pub fn check_cert<D: Desk>(
+    alloc: Global,
+    desk: &mut D,
+    flat: &Flat,
+    name: &str,
+) -> Result<CertOutcome, CertStop>
+    requires { ((D.state desk.old).feeds Feed.Certificate).begun ≡ false }
+    ensures checks { ChecksCert flat.now name.now (D.state desk.old) (D.state desk.new) result }
+{
+    let shape = flat.shape();
+    if desk.begin(Feed::Certificate, name).is_err() {
+        return Err(CertStop::Fault);
+    }
+    let Ok(reader) = LineReader::new(alloc, shape, Feed::Certificate) else {
+        return Err(CertStop::NoMemory);
+    };
+    let Ok(checker) = Checker::new(alloc, flat) else {
+        return Err(CertStop::NoMemory);
+    };
+    check_lines(desk, reader, checker)
+}
+
+/// Takes the lines that are left, each at least one byte of at most 2^40.
+fn check_lines<D: Desk>(
+    desk: &mut D,
+    mut reader: LineReader,
+    mut checker: Checker<'_>,
+) -> Result<CertOutcome, CertStop>
+    requires ready { IsReady reader checker (D.state desk.old) }
+    requires fresh { Follows checker [] }
+    ensures moved { (bytes : List ℕ) × Moves Feed.Certificate bytes (D.state desk.old) (D.state desk.new) }
+    ensures finds { FindsOrStops checker.entry.problem (rest_of reader (D.state desk.old)) (rest_outcome checker.entry.problem [] reader.at) (D.state desk.old) (D.state desk.new) result }
+{
+    'lines: loop {
+        match check_line(desk, reader, checker) {
+            CertStep::Further {
+                reader: behind,
+                checker: followed,
+            } => {
+                reader = behind;
+                checker = followed;
+            }
+            CertStep::Ended(found) => return found,
+        }
+    }
+}
+
+/// Takes one line more.
+fn check_line<'f, D: Desk>(desk: &mut D, reader: LineReader, checker: Checker<'f>) -> CertStep<'f>
+    requires ready { IsReady reader checker (D.state desk.old) }
+    ensures moved { (bytes : List ℕ) × Moves Feed.Certificate bytes (D.state desk.old) (D.state desk.new) }
+    ensures further { GoesFurther reader (D.state desk.new) result }
+    ensures steps { (before : List CertLine) → Follows checker.entry before → Steps checker.entry.problem before reader (D.state desk.old) (D.state desk.new) result }
+{
+    match reader.next(desk) {
+        Ok(Next::Line { reader, line }) => {
+            let number = reader.number() - 1;
+            match checker.line(line) {
+                Ok(checker) => CertStep::Further { reader, checker },
+                Err(stop) => CertStep::Ended(refused_line(number, stop)),
+            }
+        }
+        Ok(Next::End) => CertStep::Ended(Ok(CertOutcome::Shows(checker.verdict()))),
+        Err(stop) => CertStep::Ended(no_line(stop)),
+    }
+}
+
+/// What a certificate comes to whose line of this number isn't taken.
+fn refused_line(number: u64, stop: CheckStop) -> Result<CertOutcome, CertStop>
+    ensures { result ≡ of_check_stop number stop }
+{
+    match stop {
+        CheckStop::Refused(refusal) => Ok(CertOutcome::Wrong {
+            number,
+            word: RefusedWord::Check(refusal.word),
+            hint: refusal.hint,
+        }),
+        CheckStop::NoMemory => Err(CertStop::NoMemory),
+    }
+}
+
+/// What a certificate comes to of which no line more is had.
+fn no_line(stop: LineStop) -> Result<CertOutcome, CertStop>
+    ensures { result ≡ of_line_stop stop }
+{
+    match stop {
+        LineStop::Form { number, word } => Ok(CertOutcome::Wrong {
+            number,
+            word: RefusedWord::Form(word),
+            hint: None,
+        }),
+        LineStop::Fault => Err(CertStop::Fault),
+        LineStop::TooLong => Ok(CertOutcome::TooLong),
+        LineStop::NoMemory => Err(CertStop::NoMemory),
+    }
+}

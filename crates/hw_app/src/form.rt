@@ -1,0 +1,75 @@
+//! The table of forms of a command.
+
+ghost use Rattle.std.specs.Prelude.{◌≡◌};
+ghost use Rattle.hw_app.specs.Forms.{keyword_text, words_of};
+
+use hw_desk::Feed;
+
+/// A form of a command.
+#[derive(Clone, Copy, Debug, PartialEq, Eq)]
+pub enum Form {
+    /// `solve flat NAME BUDGET` goes through the timetables of a flat text, at most BUDGET of them.
+    SolveFlat,
+    /// `check flat NAME CERT` checks a certificate of a flat text.
+    CheckFlat,
+}
+
+/// A word that stands for itself.
+#[derive(Clone, Copy, Debug, PartialEq, Eq)]
+pub enum Keyword {
+    Solve,
+    Check,
+    Flat,
+}
+
+/// What a word of a form has to be.
+#[derive(Clone, Copy, Debug, PartialEq, Eq)]
+pub enum Wanted {
+    Keyword(Keyword),
+    /// The name of an input.
+    Input(Feed),
+    /// The name under which the proof is made.
+    Proof,
+    /// A number in plain decimal within these limits.
+    Number { least: u32, most: u32 },
+}
+
+/// The forms that there are.
+pub const FORMS: [Form; 2] = [Form::SolveFlat, Form::CheckFlat];
+
+/// The greatest budget, in timetables that are looked at.
+pub const MOST_BUDGET: u32 = 100_000;
+
+/// What the words of a form have to be.
+pub fn words_of(form: Form) -> &'static [Wanted]
+    ensures { result.now ≡ words_of form }
+{
+    match form {
+        Form::SolveFlat => &[
+            Wanted::Keyword(Keyword::Solve),
+            Wanted::Keyword(Keyword::Flat),
+            Wanted::Input(Feed::Flat),
+            Wanted::Number {
+                least: 1,
+                most: MOST_BUDGET,
+            },
+        ],
+        Form::CheckFlat => &[
+            Wanted::Keyword(Keyword::Check),
+            Wanted::Keyword(Keyword::Flat),
+            Wanted::Input(Feed::Flat),
+            Wanted::Input(Feed::Certificate),
+        ],
+    }
+}
+
+/// How a keyword is written.
+pub fn keyword_text(keyword: Keyword) -> &'static str
+    ensures { result.now ≡ keyword_text keyword }
+{
+    match keyword {
+        Keyword::Solve => "solve",
+        Keyword::Check => "check",
+        Keyword::Flat => "flat",
+    }
+}
