@@ -1,0 +1,50 @@
+//! What comes of one run.
+
+use crate::shown::put_lines;
+use hw_desk::{CalmDesk, MemoryDesk, Tray};
+use hw_text::put_number;
+use std::alloc::{AllocError, Global};
+
+/// The exit code of a run, and the bytes that it sent to each tray.
+#[derive(Drop)]
+pub struct Outcome {
+    code: u8,
+    report: Vec<u8>,
+    proof: Vec<u8>,
+}
+
+impl Outcome {
+    /// What was sent to a desk whose calls may fail.
+    pub fn of_memory(alloc: Global, code: u8, desk: &MemoryDesk) -> Result<Outcome, AllocError> {
+        Ok(Outcome {
+            code,
+            report: Vec::from_slice(alloc, desk.sent(Tray::Report))?,
+            proof: Vec::from_slice(alloc, desk.sent(Tray::Proof))?,
+        })
+    }
+
+    /// What was sent to a desk whose calls never fail; no bytes where there were too many to tell.
+    pub fn of_calm(alloc: Global, code: u8, desk: &CalmDesk) -> Result<Outcome, AllocError> {
+        Ok(Outcome {
+            code,
+            report: Vec::from_slice(alloc, desk.sent(Tray::Report).unwrap_or(&[]))?,
+            proof: Vec::from_slice(alloc, desk.sent(Tray::Proof).unwrap_or(&[]))?,
+        })
+    }
+
+    /// Whether two runs came to the same.
+    pub fn is_same(&self, other: &Outcome) -> bool {
+        self.code == other.code && self.report == other.report && self.proof == other.proof
+    }
+
+    /// Appends the lines that are printed for the run.
+    pub fn put(&self, out: &mut Vec<u8>) -> Result<(), AllocError> {
+        put_lines(out, &self.report)?;
+        out.extend_from_slice(b"status ")?;
+        put_number(out, u64::from(self.code))?;
+        out.extend_from_slice(b" proof ")?;
+        put_number(out, self.proof.len() as u64)?;
+        out.push(b'\n')?;
+        put_lines(out, &self.proof)
+    }
+}

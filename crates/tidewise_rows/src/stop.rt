@@ -1,0 +1,32 @@
+use hw_desk::NoMemory;
+use std::alloc::AllocError;
+use std::io;
+
+/// Why the cases weren't all run.
+#[derive(Debug, Drop)]
+pub enum Stop {
+    /// A line of the input has no form.
+    Line { number: u64 },
+    /// Memory was wanting.
+    NoMemory,
+    /// The input couldn't be read, or what came of it not be printed.
+    Io(io::Error),
+}
+
+impl From<AllocError> for Stop {
+    fn from(_e: AllocError) -> Stop {
+        Stop::NoMemory
+    }
+}
+
+impl From<NoMemory> for Stop {
+    fn from(_e: NoMemory) -> Stop {
+        Stop::NoMemory
+    }
+}
+
+impl From<io::Error> for Stop {
+    fn from(e: io::Error) -> Stop {
+        Stop::Io(e)
+    }
+}
