@@ -102,7 +102,7 @@ fn a_report_of_many_buffers(rt: HostRuntime) -> Result<(), Fail> {
         assert!(rt; !went_well, "{most} at once, write {place}");
         assert!(rt; text.starts_with(sent.as_slice()) && sent.len() < text.len());
         assert!(rt;
-            most > 1 || sent.len() == place as usize - 1,
+            most > 1 || sent.len() == (place as usize).saturating_sub(1),
             "write {place}"
         );
     }
