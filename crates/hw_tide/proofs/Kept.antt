@@ -60,19 +60,19 @@ in_limits word z e = by_sign (slice_index word 0 == 45) e
 
 -- ---- steps
 
-bound : {A B : Type 0} (r : Result A TideFault) (g : A → Result B TideFault) (y : B) → (r >>= g) ≡ Ok y → (x : A) × (r ≡ Ok x) × (g x ≡ Ok y)
+pub bound : {A B : Type 0} (r : Result A TideFault) (g : A → Result B TideFault) (y : B) → (r >>= g) ≡ Ok y → (x : A) × (r ≡ Ok x) × (g x ≡ Ok y)
 bound (Ok x) g y e = (x, refl, e)
 bound (Err f) g y e = absurd cc
 
-was_formed : {A : Type 0} (fault : TideFault) (o : Option A) (x : A) → formed fault o ≡ Ok x → o ≡ Some x
+pub was_formed : {A : Type 0} (fault : TideFault) (o : Option A) (x : A) → formed fault o ≡ Ok x → o ≡ Some x
 was_formed fault None x e = absurd cc
 was_formed fault (Some a) x e = cc
 
-was_needed : (fault : TideFault) (b x : Bool) → needed fault b ≡ Ok x → b ≡ true
+pub was_needed : (fault : TideFault) (b x : Bool) → needed fault b ≡ Ok x → b ≡ true
 was_needed fault true x e = refl
 was_needed fault false x e = absurd cc
 
-same_Ok : {A : Type 0} (x y : A) → ◌≡◌ {A = Result A TideFault} (Ok x) (Ok y) → x ≡ y
+pub same_Ok : {A : Type 0} (x y : A) → ◌≡◌ {A = Result A TideFault} (Ok x) (Ok y) → x ≡ y
 same_Ok x y e = cc
 
 -- ---- a record
@@ -90,7 +90,7 @@ heights_kept row column (f ∷ fs) heights e =
     let is : one.0 ∷ rest.0 ≡ heights = same_Ok (one.0 ∷ rest.0) heights rest.2 in
     subst (λ (hs : List ℤ). (length hs ≡ suc (length fs)) × All InLimits hs) is (ap (λ n. suc n) more.0, All-cons InLimits one.0 rest.0 small more.1)
 
-fitted : (kind : TableKind) (row : ℕ) (last : Option ℕ) (o : Option ℕ) (slot : ℕ) → option_and_then (fitting kind row last) o ≡ Some slot → (o ≡ Some slot) × (slot_fits kind row last slot ≡ true)
+pub fitted : (kind : TableKind) (row : ℕ) (last : Option ℕ) (o : Option ℕ) (slot : ℕ) → option_and_then (fitting kind row last) o ≡ Some slot → (o ≡ Some slot) × (slot_fits kind row last slot ≡ true)
 fitted kind row last None slot e = absurd cc
 fitted kind row last (Some m) slot e =
     let p = some_if (slot_fits kind row last m) m slot e in
@@ -152,7 +152,7 @@ few_heights Heights waypoints records levels e no' = elim (few_records waypoints
   | inr le ↦ omega (arith, le)
 ]
 
-was_some : {A : Type 0} (xs ys : List A) → not_empty xs ≡ Ok ys → (xs ≡ ys) × (1 ≤ length ys)
+pub was_some : {A : Type 0} (xs ys : List A) → not_empty xs ≡ Ok ys → (xs ≡ ys) × (1 ≤ length ys)
 was_some [] ys e = absurd cc
 was_some (x ∷ xs) ys e =
     let is = same_Ok (x ∷ xs) ys e in

@@ -5,3 +5,5 @@ pub mod Sizes
 pub mod Kept
 pub mod OneList
 pub mod Causes
+pub mod ToldTables
+pub mod ToldTides

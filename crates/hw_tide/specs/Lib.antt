@@ -4,3 +4,4 @@ pub mod Table
 pub mod Tides
 pub mod Whole
 pub mod Laws
+pub mod Told

@@ -1,8 +1,20 @@
 //! What a tide table's bytes tell.
 
 ghost use Rattle.hw_tide.specs.Laws.{OneList};
+ghost use Rattle.hw_tide.specs.Told.{TableTold, TideTold};
 
 /// The records of given bytes are one list.
 pub fn one_list()
     ensures { OneList }
+{}
+
+/// A table is read as these levels exactly where its records tell them.
+pub fn table_told()
+    ensures { TableTold }
+{}
+
+/// A table is read as a tide exactly where the tide is that of its records: in each row and
+/// column the height by the formula from the two water records around it, or the record's own.
+pub fn tide_told()
+    ensures { TideTold }
 {}
