@@ -7,3 +7,4 @@ pub mod OneList
 pub mod Causes
 pub mod ToldTables
 pub mod ToldTides
+pub mod ToldFaults

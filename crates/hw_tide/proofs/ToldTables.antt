@@ -16,11 +16,11 @@ use Rattle.hw_tide.proofs.Kept.{bound, was_formed, was_needed, same_Ok, fitted, 
 
 -- ---- the header
 
-was_right : (o : Option ℕ) (x : Bool) → header_of o ≡ Ok x → o ≡ None
+pub was_right : (o : Option ℕ) (x : Bool) → header_of o ≡ Ok x → o ≡ None
 was_right None x e = refl
 was_right (Some c) x e = absurd cc
 
-same_words : (i : ℕ) (ns fs : List (List ℕ)) → wrong_column i ns fs ≡ None → fs ≡ ns
+pub same_words : (i : ℕ) (ns fs : List (List ℕ)) → wrong_column i ns fs ≡ None → fs ≡ ns
 same_words i [] [] e = refl
 same_words i [] (f ∷ fs) e = absurd cc
 same_words i (n ∷ ns) [] e = absurd cc
@@ -30,7 +30,7 @@ same_words i (n ∷ ns) (f ∷ fs) e = by (λ h. same_words (i + 1) ns fs h) (by
     by rest true is e = ap₂ (λ a b. a ∷ b) ((bytes_eq-Decides f n).0 is) (rest e)
     by rest false is e = absurd cc
 
-right_words : (i : ℕ) (ns : List (List ℕ)) → wrong_column i ns ns ≡ None
+pub right_words : (i : ℕ) (ns : List (List ℕ)) → wrong_column i ns ns ≡ None
 right_words i [] = refl
 right_words i (n ∷ ns) = ap (λ b. cond b (wrong_column (i + 1) ns ns) (Some i)) ((bytes_eq-Decides n n).1 refl) ∙ right_words (i + 1) ns
 
@@ -80,11 +80,11 @@ record_again kind waypoints row last fields l told fits =
 
 -- ---- all records
 
-abbrev Chain : TableKind → ℕ → Option ℕ → List LevelsParts → Type 0
+abbrev pub Chain : TableKind → ℕ → Option ℕ → List LevelsParts → Type 0
 Chain kind row last [] = Unit {0}
 Chain kind row last (l ∷ ls) = (slot_fits kind row last l.slot ≡ true) × Chain kind (row + 1) (Some l.slot) ls
 
-rows_told : (kind : TableKind) (waypoints row : ℕ) (last : Option ℕ) (rows : List (List (List ℕ))) (levels : List LevelsParts) → levels_from kind (1 + waypoints) row last rows ≡ Ok levels → EachTells waypoints rows levels × Chain kind row last levels
+pub rows_told : (kind : TableKind) (waypoints row : ℕ) (last : Option ℕ) (rows : List (List (List ℕ))) (levels : List LevelsParts) → levels_from kind (1 + waypoints) row last rows ≡ Ok levels → EachTells waypoints rows levels × Chain kind row last levels
 rows_told kind waypoints row last [] levels e = subst (λ ls. EachTells waypoints [] ls × Chain kind row last ls) (same_Ok [] levels e) (tt, tt)
 rows_told kind waypoints row last (x ∷ xs) levels e =
     let a = bound (levels_form kind (1 + waypoints) row last x) _ levels e in
@@ -93,7 +93,7 @@ rows_told kind waypoints row last (x ∷ xs) levels e =
     let rest = rows_told kind waypoints (row + 1) (Some a.0.slot) xs b.0 b.1 in
     subst (λ ls. EachTells waypoints (x ∷ xs) ls × Chain kind row last ls) (same_Ok (a.0 ∷ b.0) levels b.2) ((one.0, rest.0), (one.1, rest.1))
 
-rows_again : (kind : TableKind) (waypoints row : ℕ) (last : Option ℕ) (rows : List (List (List ℕ))) (levels : List LevelsParts) → EachTells waypoints rows levels → Chain kind row last levels → levels_from kind (1 + waypoints) row last rows ≡ Ok levels
+pub rows_again : (kind : TableKind) (waypoints row : ℕ) (last : Option ℕ) (rows : List (List (List ℕ))) (levels : List LevelsParts) → EachTells waypoints rows levels → Chain kind row last levels → levels_from kind (1 + waypoints) row last rows ≡ Ok levels
 rows_again kind waypoints row last [] [] told chain = refl
 rows_again kind waypoints row last [] (l ∷ ls) told chain = absurd told
 rows_again kind waypoints row last (x ∷ xs) [] told chain = absurd told
@@ -104,19 +104,19 @@ rows_again kind waypoints row last (x ∷ xs) (l ∷ ls) told chain =
 
 -- ---- slots
 
-next_from : (kind : TableKind) (row slot next : ℕ) (last : Option ℕ) → 1 ≤ row → slot_fits kind row last slot ≡ true → slot_fits kind (row + 1) (Some slot) next ≡ true → Next kind slot next
+pub next_from : (kind : TableKind) (row slot next : ℕ) (last : Option ℕ) → 1 ≤ row → slot_fits kind row last slot ≡ true → slot_fits kind (row + 1) (Some slot) next ≡ true → Next kind slot next
 next_from Heights row slot next last some here there =
     let a : slot ≡ row - 1 = eqb-true slot (row - 1) here in
     let b : next ≡ row + 1 - 1 = eqb-true next (row + 1 - 1) there in
     omega (arith, some, a, b)
 next_from Waters row slot next last some here there = ltb-true slot next there
 
-rise_from : (kind : TableKind) (row : ℕ) (last : Option ℕ) (ls : List LevelsParts) → 1 ≤ row → Chain kind row last ls → Rise kind ls
+pub rise_from : (kind : TableKind) (row : ℕ) (last : Option ℕ) (ls : List LevelsParts) → 1 ≤ row → Chain kind row last ls → Rise kind ls
 rise_from kind row last [] some chain = tt
 rise_from kind row last (l ∷ []) some chain = tt
 rise_from kind row last (l ∷ m ∷ more) some chain = (next_from kind row l.slot m.slot last some chain.0 chain.1.0, rise_from kind (row + 1) (Some l.slot) (m ∷ more) (omega arith) chain.1)
 
-fits_after : (kind : TableKind) (row slot next : ℕ) → (kind ≡ Heights → slot + 1 ≡ row) → Next kind slot next → slot_fits kind (row + 1) (Some slot) next ≡ true
+pub fits_after : (kind : TableKind) (row slot next : ℕ) → (kind ≡ Heights → slot + 1 ≡ row) → Next kind slot next → slot_fits kind (row + 1) (Some slot) next ≡ true
 fits_after Heights row slot next at up =
     let here = at refl in
     equal next (row + 1 - 1) (omega (arith, here, up))
@@ -135,15 +135,15 @@ chain_from : (kind : TableKind) (row : ℕ) (l : LevelsParts) (ls : List LevelsP
 chain_from kind row l [] at rise = tt
 chain_from kind row l (m ∷ more) at rise = (fits_after kind row l.slot m.slot at rise.0, chain_from kind (row + 1) m more (at_next kind row l.slot m.slot at rise.0) rise.1)
 
-first_fits : (kind : TableKind) (slot : ℕ) → slot ≡ 0 → slot_fits kind 1 None slot ≡ true
+pub first_fits : (kind : TableKind) (slot : ℕ) → slot ≡ 0 → slot_fits kind 1 None slot ≡ true
 first_fits Heights slot e = grind (arith, nat_tests)
 first_fits Waters slot e = grind (arith, nat_tests)
 
-first_chain : (kind : TableKind) (levels : List LevelsParts) → slot_at levels 0 ≡ 0 → Rise kind levels → Chain kind 1 None levels
+pub first_chain : (kind : TableKind) (levels : List LevelsParts) → slot_at levels 0 ≡ 0 → Rise kind levels → Chain kind 1 None levels
 first_chain kind [] begins rise = tt
 first_chain kind (l ∷ ls) begins rise = (first_fits kind l.slot begins, chain_from kind 1 l ls (λ is. omega (arith, begins)) rise)
 
-begins_from : (kind : TableKind) (levels : List LevelsParts) → Chain kind 1 None levels → slot_at levels 0 ≡ 0
+pub begins_from : (kind : TableKind) (levels : List LevelsParts) → Chain kind 1 None levels → slot_at levels 0 ≡ 0
 begins_from kind [] chain = refl
 begins_from Heights (l ∷ ls) chain = eqb-true l.slot 0 chain.0
 begins_from Waters (l ∷ ls) chain = eqb-true l.slot 0 chain.0

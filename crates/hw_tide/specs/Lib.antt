@@ -5,3 +5,4 @@ pub mod Tides
 pub mod Whole
 pub mod Laws
 pub mod Told
+pub mod Faults

@@ -1,5 +1,6 @@
 //! What a tide table's bytes tell.
 
+ghost use Rattle.hw_tide.specs.Faults.{FaultTold};
 ghost use Rattle.hw_tide.specs.Laws.{OneList};
 ghost use Rattle.hw_tide.specs.Told.{TableTold, TideTold};
 
@@ -17,4 +18,10 @@ pub fn table_told()
 /// column the height by the formula from the two water records around it, or the record's own.
 pub fn tide_told()
     ensures { TideTold }
+{}
+
+/// A table is refused for a fault exactly where that is its first one: the header's, else that
+/// of the first record that is wrong behind records without fault, else that none is there.
+pub fn fault_told()
+    ensures { FaultTold }
 {}
