@@ -1,5 +1,5 @@
 -- Two watched literals of each clause, the lists of watched sides, and the clauses to look at.
-use Rattle.std.specs.Prelude.{◌≡◌, ◌≢◌, ◌⊎◌, ℕ, ◌+◌, ◌*◌, ◌^◌, ◌<◌, ◌≤◌, Bool, true, false, ◌&&◌, ◌||◌, ◌==◌, nat_le, List, [], All, Contains, length, get_or, cond, ◌∷◌, ⊤}
+use Rattle.std.specs.Prelude.{◌≡◌, ◌≢◌, ◌⊎◌, ℕ, ◌+◌, ◌*◌, ◌^◌, ◌<◌, ◌≤◌, Bool, true, false, ◌&&◌, ◌||◌, ◌==◌, nat_le, List, [], All, Contains, length, get_or, cond, ◌∷◌, ⊤, Option, Some, None}
 use Rattle.hw_model.specs.declared.lit.Lit.{Lit}
 use Rattle.hw_model.specs.declared.lit.Lit.TheVariants as lits
 use Rattle.hw_model.specs.declared.lit.LitTruth.TheVariants.{True, False}
@@ -7,6 +7,7 @@ use Rattle.hw_model.specs.Rooms.{RoomModel}
 use Rattle.hw_model.specs.Narrowing.{truth}
 use Rattle.hw_model.specs.Lits.{IsLitOf}
 use Rattle.hw_store.specs.declared.store.Stored.{Stored}
+use Rattle.hw_store.specs.declared.watching.Sides.{Sides}
 use Rattle.hw_store.specs.declared.watching.Watch.{Watch}
 use Rattle.hw_store.specs.declared.watching.Watch.TheVariants.{Due, One, Two}
 use Rattle.hw_store.specs.Looks.{StandsBefore}
@@ -122,6 +123,42 @@ pub record Grows (place : ℕ) (old new : List (List ℕ)) : Type 0 where
   pub same_length : length new ≡ length old
   pub kept : (s p : ℕ) → Contains (get_or old s []) p → Contains (get_or new s []) p
   pub only : (s p : ℕ) → Contains (get_or new s []) p → Contains (get_or old s []) p ⊎ (p ≡ place)
+
+-- ---- where a clause's place is known to stand
+
+abbrev pub is_side : Option ℕ → ℕ → Bool
+is_side None n = false
+is_side (Some side) n = side == n
+
+abbrev pub is_among : Sides → ℕ → Bool
+is_among sides n = is_side sides.first n || is_side sides.second n
+
+abbrev pub other_side : Option ℕ → ℕ → Option ℕ
+other_side None n = None
+other_side (Some side) n = cond (side == n) None (Some side)
+
+abbrev pub without : Sides → ℕ → Sides
+without sides n = record { first = other_side sides.first n; second = other_side sides.second n }
+
+abbrev pub nowhere : Sides
+nowhere = record { first = None; second = None }
+
+-- the place is in the lists of these sides
+abbrev pub StandsAt : List (List ℕ) → ℕ → Sides → Type 0
+StandsAt lists place sides = (n : ℕ) → is_among sides n ≡ true → Contains (get_or lists n []) place
+
+-- so for each clause
+abbrev pub KeepsSides : List (List ℕ) → List Sides → Type 0
+KeepsSides lists stands = (i : ℕ) → StandsAt lists i (get_or stands i nowhere)
+
+-- no side is new
+pub record Forgets (old new : List Sides) : Type 0 where
+  pub same_length : length new ≡ length old
+  pub only : (i n : ℕ) → is_among (get_or new i nowhere) n ≡ true → is_among (get_or old i nowhere) n ≡ true
+
+-- a place that left the side's list isn't known to stand there
+pub record Leaves (side : ℕ) (stands : List Sides) (old new : List ℕ) : Type 0 where
+  pub each : (p : ℕ) → Contains old p → Contains new p ⊎ (is_among (get_or stands p nowhere) side ≡ false)
 
 -- what the store keeps for every room
 pub record KeepsWatches (s : WatchModel) (capacity : ℕ) : Type 0 where

@@ -1,12 +1,12 @@
 ghost use Rattle.std.specs.Prelude.{◌≡◌, ◌⊎◌, ◌+◌, ◌*◌, ◌<◌, ◌≤◌, [], ◌∷◌, List, ℕ, All, Contains, IfOk, OnOk, length, slice_index_or, vec_capacity};
 ghost use Rattle.hw_model.specs.Rooms.{RoomModel};
 ghost use Rattle.hw_model.specs.Lits.{IsLitOf};
-ghost use Rattle.hw_store.specs.Watches.{WatchModel, WatchReady, Listed, Grows, SiftsOne, KeepsDue, DropsSome, IsWatchOf, NextIs, IsNew};
+ghost use Rattle.hw_store.specs.Watches.{WatchModel, WatchReady, Listed, Grows, SiftsOne, KeepsDue, DropsSome, IsWatchOf, NextIs, IsNew, StandsAt, KeepsSides};
 
 use crate::looking::{Look, look_at};
 use crate::scan::find;
 use crate::store::{Held, Store, Stored};
-use crate::watching::{Places, Watch, resolve, review, side_of};
+use crate::watching::{Places, Sides, Watch, is_among, resolve, review, side_of};
 use hw_flat::{Flat, Room};
 use hw_lits::Clause;
 use hw_model::{Lit, NoMemory};
@@ -22,17 +22,19 @@ pub struct WatchStore {
     watches: Vec<Watch>,
     due: Vec<u32>,
     lists: Vec<Places>,
+    // beside each clause: so no list is gone through where a watch is new
+    stands: Vec<Sides>,
 }
 
 impl Model for WatchStore {
-    ghost use Rattle.std.specs.Prelude.{vec_capacity};
-    ghost use Rattle.hw_store.specs.Watches.{WatchModel, KeepsWatches};
+    ghost use Rattle.std.specs.Prelude.{◌≡◌, length, vec_capacity};
+    ghost use Rattle.hw_store.specs.Watches.{WatchModel, KeepsWatches, KeepsSides};
 
     ghost Value = { WatchModel };
 
     ghost view = { λ s. record { ships = s.ships; held = s.held.items; watches = s.watches.items; due = s.due.items; lists = s.lists.items } };
 
-    ghost invariant = { λ s. KeepsWatches (record { ships = s.ships; held = s.held.items; watches = s.watches.items; due = s.due.items; lists = s.lists.items }) (vec_capacity s.due) };
+    ghost invariant = { λ s. KeepsWatches (record { ships = s.ships; held = s.held.items; watches = s.watches.items; due = s.due.items; lists = s.lists.items }) (vec_capacity s.due) × (length s.stands.items ≡ length s.watches.items) × KeepsSides s.lists.items s.stands.items };
 }
 
 // What was seen of the last clause to look at.
@@ -55,6 +57,7 @@ impl WatchStore {
             watches: Vec::new(alloc),
             due: Vec::new(alloc),
             lists,
+            stands: Vec::new(alloc),
         })
     }
 
@@ -79,7 +82,14 @@ impl WatchStore {
                 Ok(Next::Went)
             }
             Look::Two { first, second } => {
-                list_both(self.ships, first, second, place, &mut self.lists)?;
+                list_both(
+                    self.ships,
+                    first,
+                    second,
+                    place,
+                    &mut self.stands,
+                    &mut self.lists,
+                )?;
                 resolve(
                     place,
                     Watch::Two { first, second },
@@ -104,10 +114,15 @@ impl Store for WatchStore {
     fn add(&mut self, id: u32, clause: Clause, _room: &Room) -> Result<(), NoMemory> {
         self.held.reserve(1)?;
         self.watches.reserve(1)?;
+        self.stands.reserve(1)?;
         let place = self.held.len();
         self.due.reserve(place + 1)?;
         self.held.push_reserved(Stored { number: id, clause });
         self.watches.push_reserved(Watch::Due);
+        self.stands.push_reserved(Sides {
+            first: None,
+            second: None,
+        });
         self.due.push_reserved(place as u32);
         Ok(())
     }
@@ -134,6 +149,7 @@ impl Store for WatchStore {
             lit,
             &mut self.lists,
             &mut self.watches,
+            &mut self.stands,
             &mut self.due,
         );
     }
@@ -155,12 +171,16 @@ fn no_places(alloc: Global, sides: u32) -> Result<Vec<Places>, NoMemory>
     Ok(lists)
 }
 
-// Takes a clause's place into the list of a side.
-fn list_at(side: usize, place: u32, lists: &mut [Places]) -> Result<(), NoMemory>
+// Takes a clause's place into the list of a side, unless it is known to stand there.
+fn list_at(side: usize, place: u32, sides: Sides, lists: &mut [Places]) -> Result<(), NoMemory>
     requires inside { side < length lists.old }
+    requires known { StandsAt lists.old place sides }
     ensures grows { Grows place lists.old lists.new }
     ensures there { OnOk result (Contains (slice_index_or lists.new side []) place) }
 {
+    if is_among(sides, side) {
+        return Ok(());
+    }
     lists[side].take_in(place)
 }
 
@@ -170,17 +190,30 @@ fn list_both(
     first: Lit,
     second: Lit,
     place: u32,
+    stands: &mut [Sides],
     lists: &mut [Places],
 ) -> Result<(), NoMemory>
     requires few { ships ≤ 40 }
     requires one { IsLitOf ships first }
     requires two { IsLitOf ships second }
+    requires inside { place < length stands.old }
     requires sides { length lists.old ≡ 2 * ships + ships * ships }
+    requires known { KeepsSides lists.old stands.old }
     ensures grows { Grows place lists.old lists.new }
     ensures listed { OnOk result (Listed ships lists.new place (Watch.Two first second)) }
+    ensures same { length stands.new ≡ length stands.old }
+    ensures known { KeepsSides lists.new stands.new }
 {
-    list_at(side_of(ships, first), place, lists)?;
-    list_at(side_of(ships, second), place, lists)
+    let sides = stands[place as usize];
+    let one = side_of(ships, first);
+    let two = side_of(ships, second);
+    list_at(one, place, sides, lists)?;
+    list_at(two, place, sides, lists)?;
+    stands[place as usize] = Sides {
+        first: Some(one),
+        second: Some(two),
+    };
+    Ok(())
 }
 
 // Goes through the list of a side after a cut.
@@ -190,9 +223,12 @@ fn mark_at(
     cutting: Lit,
     lists: &mut [Places],
     watches: &mut [Watch],
+    stands: &mut [Sides],
     due: &mut Vec<u32>,
 )
     requires few { ships ≤ 40 }
+    requires beside { length stands.old ≡ length watches.old }
+    requires known { KeepsSides lists.old stands.old }
     requires side { side < length lists.old }
     requires fits { All (IsWatchOf ships) watches.old }
     requires inside { All (λ place. place < length watches.old) (slice_index_or lists.old side []) }
@@ -200,6 +236,8 @@ fn mark_at(
     ensures keeps { KeepsDue watches.new due.new.items (vec_capacity due.new) }
     ensures drops { DropsSome watches.old watches.new }
     ensures sifted { SiftsOne ships side cutting watches.new lists.old lists.new }
+    ensures same { length stands.new ≡ length stands.old }
+    ensures known { KeepsSides lists.new stands.new }
 {
-    lists[side].mark(ships, side, cutting, watches, due);
+    lists[side].mark(ships, side, cutting, watches, stands, due);
 }

@@ -1,7 +1,7 @@
 ghost use Rattle.std.specs.Prelude.{◌≡◌, ◌≢◌, ◌⊎◌, ◌+◌, ◌-◌, ◌*◌, ◌<◌, ◌≤◌, false, true, [], All, Contains, OnOk, length, take, slice_set, slice_index_or, vec_capacity, MatchBool};
 ghost use Rattle.hw_model.specs.Narrowing.{truth};
 ghost use Rattle.hw_model.specs.Lits.{IsLitOf};
-ghost use Rattle.hw_store.specs.Watches.{side, hits, is_hit, IsWatchOf, Shows, ShowsAll, KeepsDue, DropsSome, Sifted, is_due, is_on};
+ghost use Rattle.hw_store.specs.Watches.{side, hits, is_hit, IsWatchOf, Shows, ShowsAll, KeepsDue, DropsSome, Sifted, is_due, is_on, is_side, is_among, other_side, without, nowhere, Forgets, Leaves};
 
 use hw_flat::Room;
 use hw_lits::truth;
@@ -18,6 +18,13 @@ pub enum Watch {
     One { lit: Lit },
     /// Two literals that aren't False.
     Two { first: Lit, second: Lit },
+}
+
+/// The sides in whose lists a clause's place is known to stand.
+#[derive(Clone, Copy, Debug, PartialEq, Eq)]
+pub struct Sides {
+    pub first: Option<usize>,
+    pub second: Option<usize>,
 }
 
 /// Places of clauses, seen as their list.
@@ -44,15 +51,12 @@ impl Places {
         }
     }
 
-    /// Takes in a place, unless it is there.
+    /// Takes in a place, without looking whether it is there.
     pub fn take_in(&mut self, place: u32) -> Result<(), NoMemory>
         ensures kept { (p : ℕ) → Contains self.old p → Contains self.new p }
         ensures only { (p : ℕ) → Contains self.new p → Contains self.old p ⊎ (p ≡ place) }
         ensures there { OnOk result (Contains self.new place) }
     {
-        if self.items.contains(&place) {
-            return Ok(());
-        }
         self.items.push(place)?;
         Ok(())
     }
@@ -64,17 +68,21 @@ impl Places {
         side: usize,
         cutting: Lit,
         watches: &mut [Watch],
+        stands: &mut [Sides],
         due: &mut Vec<u32>,
     )
         requires few { ships ≤ 40 }
+        requires beside { length stands.old ≡ length watches.old }
         requires fits { All (IsWatchOf ships) watches.old }
         requires inside { All (λ place. place < length watches.old) self.old }
         requires keeps { KeepsDue watches.old due.old.items (vec_capacity due.old) }
         ensures keeps { KeepsDue watches.new due.new.items (vec_capacity due.new) }
         ensures drops { DropsSome watches.old watches.new }
         ensures sifted { Sifted ships side cutting watches.new self.old self.new }
+        ensures forgets { Forgets stands.old stands.new }
+        ensures leaves { Leaves side stands.new self.old self.new }
     {
-        let kept = sift(ships, side, cutting, &mut self.items, watches, due);
+        let kept = sift(ships, side, cutting, &mut self.items, watches, stands, due);
         self.items.truncate(kept);
     }
 }
@@ -229,6 +237,44 @@ fn stays(
     is_on(ships, side, watch)
 }
 
+fn is_side(one: Option<usize>, side: usize) -> bool
+    ensures value { result ≡ is_side one side }
+{
+    match one {
+        None => false,
+        Some(at) => at == side,
+    }
+}
+
+/// Whether a clause's place is known to stand in a side's list.
+pub fn is_among(sides: Sides, side: usize) -> bool
+    ensures value { result ≡ is_among sides side }
+{
+    is_side(sides.first, side) || is_side(sides.second, side)
+}
+
+fn other_side(one: Option<usize>, side: usize) -> Option<usize>
+    ensures value { result ≡ other_side one side }
+{
+    match one {
+        None => None,
+        Some(at) => { if at == side { None } else { Some(at) } }
+    }
+}
+
+// A clause's place leaves the list of a side.
+fn leave(place: u32, side: usize, stands: &mut [Sides])
+    requires inside { place < length stands.old }
+    ensures forgets { Forgets stands.old stands.new }
+    ensures gone { is_among (slice_index_or stands.new place nowhere) side ≡ false }
+{
+    let sides = stands[place as usize];
+    stands[place as usize] = Sides {
+        first: other_side(sides.first, side),
+        second: other_side(sides.second, side),
+    };
+}
+
 // Puts those of the clauses at these places among the ones to look at whose watch a cut makes
 // False, and moves the places that stay to the front: how many they are.
 fn sift(
@@ -237,9 +283,11 @@ fn sift(
     cutting: Lit,
     places: &mut [u32],
     watches: &mut [Watch],
+    stands: &mut [Sides],
     due: &mut Vec<u32>,
 ) -> usize
     requires few { ships ≤ 40 }
+    requires beside { length stands.old ≡ length watches.old }
     requires fits { All (IsWatchOf ships) watches.old }
     requires inside { All (λ place. place < length watches.old) places.old }
     requires keeps { KeepsDue watches.old due.old.items (vec_capacity due.old) }
@@ -247,6 +295,8 @@ fn sift(
     ensures drops { DropsSome watches.old watches.new }
     ensures same { length places.new ≡ length places.old }
     ensures sifted { Sifted ships side cutting watches.new places.old (take result places.new) }
+    ensures forgets { Forgets stands.old stands.new }
+    ensures leaves { Leaves side stands.new places.old (take result places.new) }
 {
     let mut kept = 0;
     for at in 0..places.len() {
@@ -254,6 +304,8 @@ fn sift(
         if stays(ships, side, cutting, place, watches, due) {
             places[kept] = place;
             kept += 1;
+        } else {
+            leave(place, side, stands);
         }
     }
     kept
