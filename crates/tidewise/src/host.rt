@@ -1,4 +1,4 @@
-ghost use Rattle.std.specs.Prelude.{◌≡◌, ◌≤◌, ◌<◌, length, true, IfOk, IsOk, OnErr, OnOk};
+ghost use Rattle.std.specs.Prelude.{◌≡◌, ◌≤◌, ◌<◌, length, true, IfOk, IsOk, IsErr, OnErr, OnOk, MatchResult};
 ghost use Rattle.hw_desk.specs.State.{Rose};
 ghost use Rattle.tidewise.specs.Opened.{was_opened};
 
@@ -55,6 +55,15 @@ impl<'r> HostDesk<'r> {
     }
 }
 
+/// Counts a fault.
+fn failed(faults: &mut u64) -> DeskFailed
+    ensures later { faults.old ≤ faults.new }
+    ensures cause { Rose faults.old faults.new }
+{
+    *faults = faults.saturating_add(1);
+    DeskFailed
+}
+
 /// Opens a file, or counts a fault.
 fn open_feed(
     rt: &HostRuntime,
@@ -74,9 +83,21 @@ fn open_feed(
         }
         Err(_) => {
             *feed = HostFile::Failed;
-            *faults = faults.saturating_add(1);
-            Err(DeskFailed)
+            Err(failed(faults))
         }
+    }
+}
+
+/// A read's answer, where an error is a fault.
+fn count_read(answer: io::Result<usize>, faults: &mut u64) -> Result<usize, DeskFailed>
+    ensures same { MatchResult result (λ n. IfOk answer (λ m. n ≡ m) × IsOk answer) (λ _. IsErr answer) }
+    ensures later { faults.old ≤ faults.new }
+    ensures cause { OnErr result (Rose faults.old faults.new) }
+    ensures kept { OnOk result (faults.new ≡ faults.old) }
+{
+    match answer {
+        Ok(count) => Ok(count),
+        Err(_) => Err(failed(faults)),
     }
 }
 
@@ -89,30 +110,24 @@ fn read_feed(feed: &mut HostFile, into: &mut [u8], faults: &mut u64) -> Result<u
     ensures kept { OnOk result (faults.new ≡ faults.old) }
 {
     match feed {
-        HostFile::Open(file) => match file.read(into) {
-            Ok(count) => Ok(count),
-            Err(_) => {
-                *faults = faults.saturating_add(1);
-                Err(DeskFailed)
-            }
-        },
+        HostFile::Open(file) => {
+            let answer = file.read(into);
+            count_read(answer, faults)
+        }
         _ => Ok(0),
     }
 }
 
-/// A write's answer, where taking nothing is a fault.
+/// A write's answer, where taking nothing is a fault too.
 fn count_write(answer: io::Result<usize>, faults: &mut u64) -> Result<usize, DeskFailed>
-    ensures same { IfOk result (λ n. (0 < n) × IfOk answer (λ m. n ≡ m) × IsOk answer) }
+    ensures same { MatchResult result (λ n. (0 < n) × IfOk answer (λ m. n ≡ m) × IsOk answer) (λ _. IfOk answer (λ m. m ≡ 0)) }
     ensures later { faults.old ≤ faults.new }
     ensures cause { OnErr result (Rose faults.old faults.new) }
     ensures kept { OnOk result (faults.new ≡ faults.old) }
 {
     match answer {
         Ok(count) if count > 0 => Ok(count),
-        _ => {
-            *faults = faults.saturating_add(1);
-            Err(DeskFailed)
-        }
+        _ => Err(failed(faults)),
     }
 }
 
@@ -135,8 +150,7 @@ fn make_tray(
         }
         Err(_) => {
             *tray = HostFile::Failed;
-            *faults = faults.saturating_add(1);
-            Err(DeskFailed)
+            Err(failed(faults))
         }
     }
 }
@@ -154,10 +168,7 @@ fn write_tray(tray: &mut HostFile, bytes: &[u8], faults: &mut u64) -> Result<usi
             let answer = file.write(bytes);
             count_write(answer, faults)
         }
-        _ => {
-            *faults = faults.saturating_add(1);
-            Err(DeskFailed)
-        }
+        _ => { Err(failed(faults)) }
     }
 }
 
