@@ -1,0 +1,160 @@
+ghost use Rattle.std.specs.Prelude.{◌≡◌, [], All, Contains, IfOk, Some, map, slice_get};
+ghost use Rattle.std.specs.Option.{option_copied};
+ghost use Rattle.hw_model.specs.declared.source.Source.TheVariants.{Goal};
+ghost use Rattle.hw_model.specs.Problem.{shape_of};
+ghost use Rattle.hw_model.specs.Rooms.{whole_room};
+ghost use Rattle.hw_progress.specs.Searches.{new_search, room_in};
+ghost use Rattle.hw_progress.specs.Starting.{EachSourceOnce};
+
+use crate::speakers::Speakers;
+use hw_flat::{Flat, Room, Source, Timetable};
+use hw_model::NoMemory;
+use hw_progress::Branching;
+use hw_prop::Propagator;
+use hw_store::Store;
+use hw_trail::Trail;
+use std::alloc::Global;
+use std::marker::Model;
+
+/// What a search works on. Besides the search, the calls of this crate see its sources in order,
+/// and which of them are marked: one without a mark is known to be quiet in the room.
+///
+/// The best timetable has its memory from the start; before one is found its slots mean nothing.
+#[derive(Drop)]
+pub struct Engine<'f, S: Store + Drop, P: Propagator + Drop> {
+    pub flat: &'f Flat,
+    pub branching: Branching,
+    pub trail: Trail,
+    pub store: S,
+    pub props: Vec<P>,
+    pub marks: Vec<bool>,
+    pub speakers: Speakers,
+    pub goal: usize,
+    pub written: Vec<Option<u32>>,
+    pub found: bool,
+    pub best: Timetable,
+    pub worth: Option<u64>,
+    pub clause_lines: u32,
+    pub lemmas: u32,
+    pub restarts: u32,
+    pub since: u32,
+    pub over: bool,
+}
+
+impl<'f, S: Store + Drop, P: Propagator + Drop> Model for Engine<'f, S, P> {
+    ghost use Rattle.std.specs.Prelude.{◌≡◌, Some, None, if◌then◌else◌, All, map, vec_capacity};
+    ghost use Rattle.hw_progress.specs.Searches.{SearchModel};
+    ghost use Rattle.hw_search.specs.Engines.{EngineModel, KeepsEngine};
+    ghost use Rattle.hw_story.specs.Trails.{room_of};
+
+    ghost Value = { EngineModel };
+
+    ghost view = { λ s. record { search = record { problem = s.flat.now; branching = s.branching; trail = s.trail; stored = S.clauses s.store; written = s.written.items; best = if s.found then Some s.best else None; clause_lines = s.clause_lines; lemmas = s.lemmas; restarts = s.restarts; since = s.since; over = s.over }; sources = map P.source s.props.items; marks = s.marks.items } };
+
+    ghost invariant = { λ s.
+        KeepsEngine (record { search = record { problem = s.flat.now; branching = s.branching; trail = s.trail; stored = S.clauses s.store; written = s.written.items; best = if s.found then Some s.best else None; clause_lines = s.clause_lines; lemmas = s.lemmas; restarts = s.restarts; since = s.since; over = s.over }; sources = map P.source s.props.items; marks = s.marks.items }) s.speakers s.goal s.best s.worth (vec_capacity s.written)
+        × (S.ships s.store ≡ s.flat.now.ships)
+        × S.ready s.store (room_of s.trail)
+        × All (λ one. P.serves one s.flat.now) s.props.items };
+}
+
+// The sources of the propagators, in order.
+fn sources_of<P: Propagator>(alloc: Global, props: &[P]) -> Result<Vec<Source>, NoMemory>
+    ensures value { IfOk result (λ sources. sources.items ≡ map P.source props.now) }
+{
+    let mut sources = Vec::with_capacity(alloc, props.len())?;
+    for one in props {
+        sources.push(one.source())?;
+    }
+    Ok(sources)
+}
+
+// The place of the goal.
+fn goal_of(sources: &[Source]) -> usize
+    requires there { Contains sources.now Goal }
+    ensures value { slice_get sources.now result ≡ Some Goal }
+{
+    let mut place = 0;
+    while sources[place] != Source::Goal {
+        place += 1;
+    }
+    place
+}
+
+impl<'f, S: Store + Drop, P: Propagator + Drop> Engine<'f, S, P> {
+    /// A search that has done nothing, with every source marked. The best timetable, the numbers
+    /// of lines and the marks have their memory from then on.
+    pub fn new(
+        alloc: Global,
+        flat: &'f Flat,
+        store: S,
+        props: Vec<P>,
+        branching: Branching,
+    ) -> Result<Engine<'f, S, P>, NoMemory>
+        requires empty { S.clauses store ≡ [] }
+        requires ships { S.ships store ≡ flat.now.ships }
+        requires right { S.ready store (whole_room (shape_of flat.now)) }
+        requires sources { EachSourceOnce flat.now (map P.source props.items) }
+        requires ready { All (λ one. P.ready one flat.now (whole_room (shape_of flat.now))) props.items }
+        ensures value { IfOk result (λ engine. engine.search ≡ new_search flat.now branching) }
+    {
+        let trail = Trail::new(alloc, flat)?;
+        let shape = flat.shape();
+        let narrowings = shape.ships * (shape.slots - 1);
+        let most = narrowings + shape.ships * (shape.ships - 1) / 2;
+        let written = Vec::with_capacity(alloc, most as usize)?;
+        let slots = vec![in alloc; 0; shape.ships as usize]?;
+        let best = Timetable::from_slots(alloc, &slots)?;
+        let sources = sources_of(alloc, &props)?;
+        let goal = goal_of(&sources);
+        let speakers = Speakers::new(alloc, flat, &sources)?;
+        let marks = vec![in alloc; true; props.len()]?;
+        Ok(Engine {
+            flat,
+            branching,
+            trail,
+            store,
+            props,
+            marks,
+            speakers,
+            goal,
+            written,
+            found: false,
+            best,
+            worth: None,
+            clause_lines: 0,
+            lemmas: 0,
+            restarts: 0,
+            since: 0,
+            over: false,
+        })
+    }
+
+    /// The best timetable so far.
+    pub fn best(&self) -> Option<&Timetable>
+        ensures value { option_copied result ≡ self.now.search.best }
+    {
+        if self.found { Some(&self.best) } else { None }
+    }
+
+    /// The number of lemmas.
+    pub fn lemmas(&self) -> u32
+        ensures value { result ≡ self.now.search.lemmas }
+    {
+        self.lemmas
+    }
+
+    /// The trail's level.
+    pub fn level(&self) -> u32
+        ensures value { result ≡ self.now.search.trail.level }
+    {
+        self.trail.level()
+    }
+
+    /// The trail's room.
+    pub fn room(&self) -> &Room
+        ensures value { result.now ≡ room_in self.now.search }
+    {
+        self.trail.room()
+    }
+}

@@ -1,0 +1,11 @@
+//! The certified search: settling, branching, a turn, and a whole solution.
+//!
+//! Every line that a search hands to its log is valid, lean and new after those before it.
+#![tactic(auto)]
+
+mod engine;
+mod search;
+mod settling;
+mod speakers;
+
+pub use search::Search;

@@ -1,0 +1,92 @@
+ghost use Rattle.std.specs.Prelude.{◌≡◌, ◌<◌, [], false, All, IfOk, map};
+ghost use Rattle.std.specs.Option.{option_copied};
+ghost use Rattle.hw_model.specs.Problem.{shape_of};
+ghost use Rattle.hw_model.specs.Rooms.{whole_room};
+ghost use Rattle.hw_progress.specs.Searches.{new_search, room_in};
+ghost use Rattle.hw_progress.specs.Settling.{SettleMeets};
+ghost use Rattle.hw_progress.specs.Starting.{EachSourceOnce};
+
+use crate::engine::Engine;
+use hw_flat::{Flat, Room, Timetable};
+use hw_model::NoMemory;
+use hw_progress::{Branching, Settled};
+use hw_prop::Propagator;
+use hw_store::Store;
+use std::alloc::Global;
+use std::marker::Model;
+
+/// A search on a problem, over a store of lemmas and a propagator for each source.
+#[derive(Drop)]
+pub struct Search<'f, S: Store + Drop, P: Propagator + Drop> {
+    engine: Engine<'f, S, P>,
+}
+
+impl<'f, S: Store + Drop, P: Propagator + Drop> Model for Search<'f, S, P> {
+    ghost use Rattle.hw_progress.specs.Searches.{SearchModel};
+
+    ghost Value = { SearchModel };
+
+    ghost view = { λ s. s.engine.search };
+}
+
+impl<'f, S: Store + Drop, P: Propagator + Drop> Search<'f, S, P> {
+    /// A search that has done nothing. All that it will need but copies of clauses has its memory
+    /// from then on.
+    pub fn new(
+        alloc: Global,
+        flat: &'f Flat,
+        store: S,
+        props: Vec<P>,
+        branching: Branching,
+    ) -> Result<Search<'f, S, P>, NoMemory>
+        requires empty { S.clauses store ≡ [] }
+        requires ships { S.ships store ≡ flat.now.ships }
+        requires right { S.ready store (whole_room (shape_of flat.now)) }
+        requires sources { EachSourceOnce flat.now (map P.source props.items) }
+        requires ready { All (λ one. P.ready one flat.now (whole_room (shape_of flat.now))) props.items }
+        ensures value { IfOk result (λ search. search ≡ new_search flat.now branching) }
+    {
+        let engine = Engine::new(alloc, flat, store, props, branching)?;
+        Ok(Search { engine })
+    }
+
+    /// Asks the store and the marked sources until all are quiet or a clause has no literal left.
+    ///
+    /// After want of memory literals that were Free may have been implied; the lemmas, the best and
+    /// the level are as before.
+    pub fn settle(&mut self, alloc: Global) -> Result<Settled, NoMemory>
+        requires going { self.old.over ≡ false }
+        requires few { self.old.lemmas < 100000 }
+        ensures meets { SettleMeets self.old self.new result }
+    {
+        self.engine.settle(alloc)
+    }
+
+    /// The best timetable so far.
+    pub fn best(&self) -> Option<&Timetable>
+        ensures value { option_copied result ≡ self.now.best }
+    {
+        self.engine.best()
+    }
+
+    /// The number of lemmas.
+    pub fn lemmas(&self) -> u32
+        ensures value { result ≡ self.now.lemmas }
+    {
+        self.engine.lemmas()
+    }
+
+    /// The trail's level.
+    pub fn level(&self) -> u32
+        ensures value { result ≡ self.now.trail.level }
+    {
+        self.engine.level()
+    }
+
+    /// The trail's room.
+    pub fn room(&self) -> &Room
+        ensures value { result.now ≡ room_in self.now }
+    {
+        self.engine.room()
+    }
+}
