@@ -10,6 +10,7 @@ use Rattle.hw_story.specs.Trails.{most_events}
 use Rattle.hw_progress.specs.Searches.{SearchModel, IsSearch, room_in, best_cargo}
 use Rattle.hw_progress.specs.Starting.{EachSourceOnce}
 use Rattle.hw_search.specs.Speaking.{SpeakersModel, TellsSpeakers}
+use Rattle.hw_search.specs.Marks.{is_marked}
 
 -- the search, its sources in order, and for each whether it is marked: one without a mark is known to be quiet
 pub record EngineModel : Type 0 where
@@ -19,7 +20,7 @@ pub record EngineModel : Type 0 where
 
 -- each source without a mark is quiet in the room
 abbrev pub QuietUnmarked : Problem → Option ℕ → RoomModel → List Source → List Bool → Type 0
-QuietUnmarked f best room sources marks = (place : ℕ) (source : Source) → slice_get sources place ≡ Some source → slice_get marks place ≡ Some false → QuietSource f source best room
+QuietUnmarked f best room sources marks = (place : ℕ) (source : Source) → slice_get sources place ≡ Some source → is_marked marks place ≡ false → QuietSource f source best room
 
 -- what the type keeps besides what the store and the propagators keep: `goal` is the place of the goal among the sources, `worth` the cargo of the best, and `best` and `written` have their memory
 pub record KeepsEngine (e : EngineModel) (table : SpeakersModel) (goal : ℕ) (best : List ℕ) (worth : Option ℕ) (capacity : ℕ) : Type 0 where

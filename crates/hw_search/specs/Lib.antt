@@ -1,2 +1,4 @@
 pub mod Speaking
 pub mod Engines
+pub mod Marks
+pub mod Askings

@@ -3,7 +3,9 @@
 //! Every line that a search hands to its log is valid, lean and new after those before it.
 #![tactic(auto)]
 
+mod asking;
 mod engine;
+mod marking;
 mod search;
 mod settling;
 mod speakers;

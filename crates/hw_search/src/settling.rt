@@ -1,19 +1,159 @@
-ghost use Rattle.std.specs.Prelude.{◌≡◌, ◌<◌, false};
-ghost use Rattle.hw_progress.specs.Settling.{SettleMeets};
+ghost use Rattle.std.specs.Prelude.{◌≡◌, ◌<◌, [], ◌∷◌, false, true, Ok, Some, length, slice_set};
+ghost use Rattle.hw_model.specs.declared.lit.LitTruth.TheVariants.{Free};
+ghost use Rattle.hw_model.specs.declared.narrowing.Narrowed.TheVariants.{Cut as CutBy};
+ghost use Rattle.hw_model.specs.Lits.{lit_fits, IsClause};
+ghost use Rattle.hw_model.specs.Narrowing.{truth};
+ghost use Rattle.hw_model.specs.Problem.{shape_of};
+ghost use Rattle.hw_model.specs.Replay.{narrowing};
+ghost use Rattle.hw_prop.specs.Finds.{IsActive};
+ghost use Rattle.hw_story.specs.Trails.{trail_shape, clause_of};
+ghost use Rattle.hw_progress.specs.Searches.{room_in, IsReason};
+ghost use Rattle.hw_progress.specs.Settling.{SettleMeets, with_events};
+ghost use Rattle.hw_search.specs.Marks.{is_marked, ClearWithin};
+ghost use Rattle.hw_search.specs.Askings.{AskMeets, StoreMeets, LemmasQuiet, SourcesQuiet};
 
+use crate::asking::{ask_at, clause_of, lemma_of};
 use crate::engine::Engine;
-use hw_model::NoMemory;
+use crate::marking::{mark, next_marked};
+use hw_lits::{Found, narrowing};
+use hw_model::{Lit, Narrowed, NoMemory};
 use hw_progress::Settled;
 use hw_prop::Propagator;
-use hw_store::Store;
+use hw_store::{Held, Store};
+use hw_story::Why;
 use std::alloc::Global;
 
+/// What asking brought: all that was asked is quiet, a literal was implied, or a clause has no
+/// literal left.
+#[derive(Debug, Drop)]
+pub enum Asked {
+    Quiet,
+    Cut,
+    Conflict(Why),
+}
+
 impl<'f, S: Store + Drop, P: Propagator + Drop> Engine<'f, S, P> {
-    /// Asks the store and the marked sources until all are quiet or a clause has no literal left.
+    /// Takes an implied literal, and marks the sources that speak of it. It takes no memory.
+    pub fn imply(&mut self, lit: Lit, why: Why)
+        requires fits { lit_fits (trail_shape self.old.search.trail) lit ≡ true }
+        requires clause { IsClause (trail_shape self.old.search.trail) (clause_of why) }
+        requires free { truth (room_in self.old.search) lit ≡ Free }
+        requires only { narrowing (clause_of why) (room_in self.old.search) ≡ CutBy lit }
+        requires reason { IsReason self.old.search why }
+        ensures search { self.new.search ≡ with_events self.old.search (record { lit = lit; level = self.old.search.trail.level; why = Some why } ∷ []) }
+        ensures sources { self.new.sources ≡ self.old.sources }
+    {
+        self.store.changed(self.trail.room(), lit);
+        self.trail.imply(lit, why);
+        self.written.push_reserved(None);
+        mark(&mut self.marks, self.speakers.of(lit));
+    }
+
+    // Takes the literal that a clause has left, or tells that it has none. It takes no memory.
+    fn take(&mut self, why: Why) -> Asked
+        requires fits { IsClause (shape_of self.old.search.problem) (clause_of why) }
+        requires active { IsActive (clause_of why) (room_in self.old.search) }
+        requires reason { IsReason self.old.search why }
+        ensures meets { AskMeets ⊥ self.old.search self.new.search (Ok result) }
+        ensures sources { self.new.sources ≡ self.old.sources }
+    {
+        match narrowing(clause_of(&why), self.trail.room()) {
+            Narrowed::Cut(lit) => {
+                self.imply(lit, why);
+                Asked::Cut
+            }
+            Narrowed::Conflict => Asked::Conflict(why),
+            Narrowed::Same | Narrowed::Loose { .. } => unreachable!(),
+        }
+    }
+
+    // Asks the store once.
+    fn look(&mut self, alloc: Global) -> Result<Asked, NoMemory>
+        ensures meets { AskMeets (LemmasQuiet self.new.search) self.old.search self.new.search result }
+        ensures sources { self.new.sources ≡ self.old.sources }
+    {
+        match self.store.step(self.trail.room())? {
+            Held::Quiet => Ok(Asked::Quiet),
+            Held::Clause { id } => {
+                let why = lemma_of(alloc, &self.store, id)?;
+                Ok(self.take(why))
+            }
+        }
+    }
+
+    // Asks the store until it is quiet.
+    fn ask_store(&mut self, alloc: Global) -> Result<Option<Why>, NoMemory>
+        ensures meets { StoreMeets self.old.search self.new.search result }
+        ensures sources { self.new.sources ≡ self.old.sources }
+    {
+        loop {
+            match self.look(alloc)? {
+                Asked::Quiet => return Ok(None),
+                Asked::Cut => {}
+                Asked::Conflict(why) => return Ok(Some(why)),
+            }
+        }
+    }
+
+    // Asks the source at a place once. Where it is quiet it loses its mark.
+    fn ask(&mut self, alloc: Global, place: usize) -> Result<Asked, NoMemory>
+        requires inside { place < length self.old.sources }
+        ensures meets { AskMeets (self.new.marks ≡ slice_set self.old.marks place false) self.old.search self.new.search result }
+        ensures sources { self.new.sources ≡ self.old.sources }
+    {
+        let source = self.props[place].source();
+        let found = ask_at(
+            alloc,
+            &mut self.props,
+            place,
+            self.flat,
+            self.worth,
+            self.trail.room(),
+        )?;
+        match found {
+            Found::Quiet => {
+                self.marks[place] = false;
+                Ok(Asked::Quiet)
+            }
+            Found::Clause(clause) => Ok(self.take(Why::Source { source, clause })),
+        }
+    }
+
+    // Asks each marked source in turn, each until it is quiet. A round that brings a cut may leave
+    // marks behind. It goes over all marks once, and asks no other source.
+    fn ask_round(&mut self, alloc: Global) -> Result<Asked, NoMemory>
+        ensures meets { AskMeets (SourcesQuiet self.new.search) self.old.search self.new.search result }
+        ensures sources { self.new.sources ≡ self.old.sources }
+    {
+        let mut cut = false;
+        let mut from = 0;
+        while let Some(place) = next_marked(&self.marks, from) {
+            match self.ask(alloc, place)? {
+                Asked::Quiet => from = place + 1,
+                Asked::Cut => {
+                    cut = true;
+                    from = place;
+                }
+                Asked::Conflict(why) => return Ok(Asked::Conflict(why)),
+            }
+        }
+        Ok(if cut { Asked::Cut } else { Asked::Quiet })
+    }
+
+    /// Asks the store and the marked sources, in rounds, until all are quiet or a clause has no
+    /// literal left. A round that brought a cut is followed by another one.
     pub fn settle(&mut self, alloc: Global) -> Result<Settled, NoMemory>
         ensures meets { SettleMeets self.old.search self.new.search result }
     {
-        let _ = alloc;
-        Err(NoMemory)
+        loop {
+            if let Some(why) = self.ask_store(alloc)? {
+                return Ok(Settled::Conflict(why));
+            }
+            match self.ask_round(alloc)? {
+                Asked::Quiet => return Ok(Settled::Quiet),
+                Asked::Cut => {}
+                Asked::Conflict(why) => return Ok(Settled::Conflict(why)),
+            }
+        }
     }
 }

@@ -1,0 +1,21 @@
+-- Marks of sources: one that has none is known to be quiet.
+use Rattle.std.specs.Prelude.{◌≡◌, ℕ, ◌<◌, ◌≤◌, Bool, true, false, List, Option, Some, None, Contains, length, slice_index_or}
+
+-- the mark at a place; there is one behind the last place
+abbrev pub is_marked : List Bool → ℕ → Bool
+is_marked marks place = slice_index_or marks place true
+
+-- the places are marked, and no mark is taken away
+pub record MarksPlaces (places : List ℕ) (old new : List Bool) : Type 0 where
+  pub same_length : length new ≡ length old
+  pub marked : (place : ℕ) → Contains places place → is_marked new place ≡ true
+  pub stays : (place : ℕ) → is_marked old place ≡ true → is_marked new place ≡ true
+
+-- no place from the first one on and before the second is marked
+abbrev pub ClearWithin : List Bool → ℕ → ℕ → Type 0
+ClearWithin marks from upto = (place : ℕ) → from ≤ place → place < upto → is_marked marks place ≡ false
+
+-- the first marked place from a place on, none where there is none
+abbrev pub NextMarked : List Bool → ℕ → Option ℕ → Type 0
+NextMarked marks from None = ClearWithin marks from (length marks)
+NextMarked marks from (Some place) = (from ≤ place) × (place < length marks) × ClearWithin marks from place
