@@ -2,3 +2,5 @@ pub mod Speaking
 pub mod Engines
 pub mod Marks
 pub mod Askings
+pub mod Dropped
+pub mod Powers

@@ -1,5 +1,6 @@
 -- Which sources speak of a literal, by lists that are made once.
-use Rattle.std.specs.Prelude.{◌≡◌, ℕ, ◌+◌, ◌*◌, true, List, [], Option, Some, Contains, slice_get, slice_index_or}
+use Rattle.std.specs.Prelude.{◌≡◌, ℕ, ◌+◌, ◌*◌, ◌<◌, ◌≤◌, Bool, true, false, List, [], ◌∷◌, ◌++◌, Option, Some, None, Contains, cond, filter, length, slice_get, slice_index_or}
+use Rattle.std.specs.List.{range_with_len}
 use Rattle.hw_model.specs.declared.lit.Lit.{Lit}
 use Rattle.hw_model.specs.declared.lit.Lit.TheVariants as lits
 use Rattle.hw_model.specs.declared.source.Source.{Source}
@@ -24,3 +25,38 @@ speakers_of table (lits.NotFirst v w) = slice_index_or table.by_pair (v * table.
 pub record TellsSpeakers (f : Problem) (sources : List Source) (table : SpeakersModel) : Type 0 where
   pub same_ships : table.ships ≡ f.ships
   pub each : (lit : Lit) (place : ℕ) (source : Source) → IsLitOf f.ships lit → slice_get sources place ≡ Some source → names_lit f source lit ≡ true → Contains (speakers_of table lit) place
+
+-- the source, where there is one, speaks of what the literal speaks of
+abbrev pub names_at : Problem → Lit → Option Source → Bool
+names_at f lit None = false
+names_at f lit (Some source) = names_lit f source lit
+
+-- the places, ascending, of the sources that speak of what the literal speaks of
+abbrev pub speaking : Problem → List Source → Lit → List ℕ
+speaking f sources lit = filter (λ place. names_at f lit (slice_get sources place)) (range_with_len 0 (length sources))
+
+-- ---- how the lists are made
+
+-- a list for each ship and for each two
+pub record KeepsLists (s : SpeakersModel) : Type 0 where
+  pub few : s.ships ≤ 40
+  pub each_ship : length s.by_ship ≡ s.ships
+  pub each_pair : length s.by_pair ≡ s.ships * s.ships
+
+-- the list of a ship
+abbrev pub ship_places : SpeakersModel → ℕ → List ℕ
+ship_places s ship = slice_index_or s.by_ship ship []
+
+-- the list of a pair
+abbrev pub pair_places : SpeakersModel → ℕ → ℕ → List ℕ
+pair_places s v w = slice_index_or s.by_pair (v * s.ships + w) []
+
+-- the place, where it is to be added
+abbrev pub added : Bool → ℕ → List ℕ
+added named place = cond named (place ∷ []) []
+
+-- a place was added to the lists of these ships and these pairs, and to no other
+pub record Adds (place : ℕ) (named : ℕ → Bool) (ordered : ℕ → ℕ → Bool) (old new : SpeakersModel) : Type 0 where
+  pub same_ships : new.ships ≡ old.ships
+  pub ships : (ship : ℕ) → ship < old.ships → ship_places new ship ≡ ship_places old ship ++ added (named ship) place
+  pub pairs : (v w : ℕ) → v < w → w < old.ships → pair_places new v w ≡ pair_places old v w ++ added (ordered v w) place

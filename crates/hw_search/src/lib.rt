@@ -4,10 +4,13 @@
 #![tactic(auto)]
 
 mod asking;
+mod dropped;
 mod engine;
 mod marking;
+mod restarts;
 mod search;
 mod settling;
 mod speakers;
 
+pub use restarts::luby;
 pub use search::Search;

@@ -1,0 +1,31 @@
+ghost use Rattle.std.specs.Prelude.{◌≡◌, ◌≤◌, ◌<◌};
+ghost use Rattle.hw_progress.specs.Luby.{luby};
+ghost use Rattle.hw_search.specs.Powers.{IsPowerAbove};
+
+fn power_above(i: u64) -> u64
+    requires some { 1 ≤ i }
+    requires few { i ≤ 100000 }
+    ensures power { IsPowerAbove i result }
+{
+    let mut power = 2;
+    while power <= i {
+        power *= 2;
+    }
+    power
+}
+
+/// The number of a restart, counted from 1: after how many times 32 lemmas it comes. It goes
+/// through the powers of two up to the number, and takes no memory.
+pub fn luby(i: u64) -> u64
+    requires some { 1 ≤ i }
+    requires few { i ≤ 100000 }
+    ensures value { result ≡ luby i }
+{
+    let mut rest = i;
+    let mut power = power_above(rest);
+    while rest + 1 != power {
+        rest = rest + 1 - power / 2;
+        power = power_above(rest);
+    }
+    power / 2
+}
