@@ -4,3 +4,5 @@ pub mod Marks
 pub mod Askings
 pub mod Dropped
 pub mod Powers
+pub mod Handing
+pub mod Naming

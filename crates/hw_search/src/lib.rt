@@ -6,7 +6,9 @@
 mod asking;
 mod dropped;
 mod engine;
+mod handing;
 mod marking;
+mod naming;
 mod restarts;
 mod search;
 mod settling;

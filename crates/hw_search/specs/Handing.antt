@@ -1,0 +1,37 @@
+-- Lines that are handed to a log one after another, and how far that came.
+use Rattle.std.specs.Prelude.{◌≡◌, ℕ, ◌≤◌, List, [], ◌++◌, Option, Result, Ok, Err, IsSomeAnd, length, take, slice_get}
+use Rattle.hw_desk.specs.State.{Rose}
+use Rattle.hw_lines.specs.declared.line.Line.{Line}
+use Rattle.hw_cert.specs.declared.log.LogStop.{LogStop}
+use Rattle.hw_cert.specs.declared.log.LogStop.TheVariants.{Failed, NoMemory}
+use Rattle.hw_cert.specs.Logs.{LogTold, LogModel, Grows, IsBegunLine}
+
+-- these lines were taken, and nothing is behind them
+pub record TakesAll (plan : List Line) (old new : LogModel) : Type 0 where
+  pub faults : new.faults ≡ old.faults
+  pub told : Grows old new (λ was now. (now.lines ≡ was.lines ++ plan) × (now.behind ≡ []))
+
+-- why it stopped: a log fails only where its faults rose
+abbrev pub StopCause : LogStop → LogModel → LogModel → Type 0
+StopCause Failed old new = Rose old.faults new.faults
+StopCause NoMemory old new = new.faults ≡ old.faults
+
+-- what is behind the lines: of the line that failed a proper prefix, for want of memory nothing
+abbrev pub StopBehind : LogStop → Option Line → List ℕ → Type 0
+StopBehind Failed next behind = IsSomeAnd next (λ line. IsBegunLine line behind)
+StopBehind NoMemory next behind = behind ≡ []
+
+-- so many first lines of a plan were taken, and the next one was not
+pub record StopsAfter (stop : LogStop) (plan : List Line) (count : ℕ) (was now : LogTold) : Type 0 where
+  pub lines : now.lines ≡ was.lines ++ take count plan
+  pub behind : StopBehind stop (slice_get plan count) now.behind
+
+-- at most so many first lines of a plan were taken
+pub record StopsWithin (stop : LogStop) (plan : List Line) (most : ℕ) (old new : LogModel) : Type 0 where
+  pub cause : StopCause stop old new
+  pub told : Grows old new (λ was now. (count : ℕ) × (count ≤ most) × StopsAfter stop plan count was now)
+
+-- the lines are handed to a log in order, up to the first that it doesn't take
+abbrev pub Hands : {A : Type 0} → List Line → LogModel → LogModel → Result A LogStop → Type 0
+Hands plan old new (Ok done) = TakesAll plan old new
+Hands plan old new (Err stop) = StopsWithin stop plan (length plan) old new
