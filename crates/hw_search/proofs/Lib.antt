@@ -1,2 +1,4 @@
+pub mod Markings
+pub mod Kept
 pub mod Handed
 pub mod Named

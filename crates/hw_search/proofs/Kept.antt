@@ -1,0 +1,72 @@
+-- What an engine keeps, through an implied literal.
+use Rattle.std.proofs.Common.{◌≡◌, ℕ, ◌<◌, ◌+◌, ◌≤◌, Bool, true, List, [], ◌∷◌, ◌++◌, Option, Some, None, length, refl, sym, ap, ◌∙◌, subst, arith, length-append}
+use Rattle.hw_model.specs.declared.lit.Lit.{Lit}
+use Rattle.hw_model.specs.declared.lit.LitTruth.TheVariants.{Free}
+use Rattle.hw_model.specs.declared.narrowing.Narrowed.TheVariants.{Cut}
+use Rattle.hw_model.specs.Lits.{lit_fits, IsClause, IsLitOf}
+use Rattle.hw_model.specs.Narrowing.{truth, cut}
+use Rattle.hw_model.specs.Replay.{narrowing}
+use Rattle.hw_model.specs.Rooms.{RoomModel, RoomFits}
+use Rattle.hw_laws.proofs.Denials.{lit_of}
+use Rattle.hw_store.specs.declared.store.Stored.{Stored}
+use Rattle.hw_story.specs.declared.event.Event.{Event}
+use Rattle.hw_story.specs.declared.event.Why.{Why}
+use Rattle.hw_story.specs.Trails.{TrailModel, trail_shape, clause_of, room_of, implied, most_events}
+use Rattle.hw_story.proofs.Kept.{more_room}
+use Rattle.hw_story.proofs.Many.{few_events}
+use Rattle.hw_progress.specs.Searches.{SearchModel, IsSearch, IsReason, room_in, best_cargo}
+use Rattle.hw_progress.specs.Settling.{with_events}
+use Rattle.hw_progress.proofs.Holds.{room_fits}
+use Rattle.hw_progress.proofs.Keeps.{implied_search}
+use Rattle.hw_search.specs.Engines.{EngineModel, KeepsEngine, QuietUnmarked}
+use Rattle.hw_search.specs.Marks.{MarksPlaces}
+use Rattle.hw_search.specs.Speaking.{SpeakersModel, speakers_of}
+use Rattle.hw_search.proofs.Markings.{quiet_cut}
+
+-- in the words of a call: what is asked of the view is so of the parts
+pub of_view : {A : Type 0} (e u : A) (P : A → Type 0) → e ≡ u → P u → P e
+of_view e u P same h = subst P (sym same) h
+
+-- the literal's ships are those of the problem
+pub lit_here : (s : SearchModel) (lit : Lit) → IsSearch s → lit_fits (trail_shape s.trail) lit ≡ true → IsLitOf s.problem.ships lit
+lit_here s lit is fits = subst (λ n. IsLitOf n lit) is.same_ships (lit_of (trail_shape s.trail) lit fits)
+
+-- the room is one of the problem
+pub room_here : (s : SearchModel) → IsSearch s → RoomFits s.problem (room_in s)
+room_here s is = room_fits s is.trail is.same_ships is.same_slots
+
+-- a trail has few events
+pub few_in : (s : SearchModel) → IsSearch s → length s.trail.events ≤ most_events s.problem.ships s.problem.slots
+few_in s is = subst (λ n. length s.trail.events ≤ most_events n s.problem.slots) is.same_ships (subst (λ n. length s.trail.events ≤ most_events s.trail.ships n) is.same_slots (few_events s.trail is.trail))
+
+-- there is room for the number of one more event
+pub one_more : (e : EngineModel) (table : SpeakersModel) (goal : ℕ) (best : List ℕ) (worth : Option ℕ) (capacity : ℕ) (lit : Lit) (why : Why) → KeepsEngine e table goal best worth capacity → lit_fits (trail_shape e.search.trail) lit ≡ true → IsClause (trail_shape e.search.trail) (clause_of why) → truth (room_in e.search) lit ≡ Free → narrowing (clause_of why) (room_in e.search) ≡ Cut lit → IsReason e.search why
+    → length e.search.written < capacity
+one_more e table goal best worth capacity lit why k fits clause free only reason =
+    let event : Event = record { lit = lit; level = e.search.trail.level; why = Some why } in
+    let more = few_in (with_events e.search (event ∷ [])) (implied_search e.search lit why k.search fits clause free only reason) in
+    omega (arith, more, length-append e.search.trail.events (event ∷ []), k.search.each_event, k.reserved)
+
+-- one more event
+pub kept_implied : (e : EngineModel) (table : SpeakersModel) (goal : ℕ) (best : List ℕ) (worth : Option ℕ) (capacity capacity' : ℕ) (lit : Lit) (why : Why) (trail : TrailModel) (stored : List Stored) (written : List (Option ℕ)) (marks : List Bool) → KeepsEngine e table goal best worth capacity → lit_fits (trail_shape e.search.trail) lit ≡ true → IsClause (trail_shape e.search.trail) (clause_of why) → truth (room_in e.search) lit ≡ Free → narrowing (clause_of why) (room_in e.search) ≡ Cut lit → IsReason e.search why
+    → trail ≡ implied e.search.trail lit why → stored ≡ e.search.stored → written ≡ e.search.written ++ None ∷ [] → MarksPlaces (speakers_of table lit) e.marks marks → capacity' ≡ capacity → KeepsEngine (record { search = record e.search { trail = trail; stored = stored; written = written }; sources = e.sources; marks = marks }) table goal best worth capacity'
+kept_implied e table goal best worth capacity capacity' lit why trail stored written marks k fits clause free only reason t st w m c =
+    let event : Event = record { lit = lit; level = e.search.trail.level; why = Some why } in
+    let s = e.search in
+    let after : SearchModel = with_events s (event ∷ []) in
+    let room : RoomModel = room_in s in
+    let kept : KeepsEngine (record { search = after; sources = e.sources; marks = marks }) table goal best worth capacity' = record {
+      search = implied_search s lit why k.search fits clause free only reason;
+      once = k.once;
+      of_problem = k.of_problem;
+      each_mark = m.same_length ∙ k.each_mark;
+      quiet = subst (λ r. QuietUnmarked s.problem (best_cargo s) r e.sources marks) (sym (more_room s.trail event)) (quiet_cut s.problem (best_cargo s) room e.sources table e.marks marks lit k.search.flat k.of_problem (room_here s k.search) (lit_here s lit k.search fits) free k.speakers m k.quiet);
+      speakers = k.speakers;
+      goal_at = k.goal_at;
+      best_ready = k.best_ready;
+      worth_is = k.worth_is;
+      reserved = omega (arith, k.reserved, c);
+    } in
+    subst (λ x. KeepsEngine (record { search = record s { trail = x; stored = stored; written = written }; sources = e.sources; marks = marks }) table goal best worth capacity') (sym t)
+    (subst (λ x. KeepsEngine (record { search = record s { trail = implied s.trail lit why; stored = x; written = written }; sources = e.sources; marks = marks }) table goal best worth capacity') (sym st)
+    (subst (λ x. KeepsEngine (record { search = record s { trail = implied s.trail lit why; stored = s.stored; written = x }; sources = e.sources; marks = marks }) table goal best worth capacity') (sym w) kept))

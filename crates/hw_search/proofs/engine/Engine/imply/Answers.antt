@@ -1,0 +1,46 @@
+use Rattle.std.proofs.Common.{◌≡◌, ◌<◌, true, length, ℕ, List, Bool, Some, subst, sym, ◌∙◌, ap, arith}
+use Rattle.hw_model.specs.declared.lit.LitTruth.TheVariants.{Free}
+use Rattle.hw_model.specs.declared.narrowing.Narrowed.TheVariants.{Cut}
+use Rattle.hw_model.specs.Lits.{lit_fits, IsClause, IsLitOf}
+use Rattle.hw_model.specs.Narrowing.{truth, cut}
+use Rattle.hw_model.specs.Replay.{narrowing}
+use Rattle.hw_model.specs.Rooms.{RoomModel}
+use Rattle.hw_story.specs.declared.event.Event.{Event}
+use Rattle.hw_story.specs.Trails.{trail_shape, clause_of, room_of, implied}
+use Rattle.hw_story.proofs.Kept.{more_room}
+use Rattle.hw_progress.specs.Searches.{room_in, IsReason}
+use Rattle.hw_search.specs.Engines.{EngineModel}
+use Rattle.hw_search.specs.Marks.{MarksPlaces}
+use Rattle.hw_search.proofs.Markings.{marks_through}
+use Rattle.hw_search.proofs.Kept.{of_view, one_more, kept_implied}
+use Rattle.hw_search.proofs.engine.Engine.imply.Goals as goal
+
+pub push_reserved-requires : goal.push_reserved-requires
+push_reserved-requires g c =
+    let h = one_more _ _ _ _ _ _ c.args.lit c.args.why c.self.invariant.0
+    (of_view _ _ (λ (e : EngineModel). lit_fits (trail_shape e.search.trail) c.args.lit ≡ true) c.self.view_is c.requires.fits)
+    (of_view _ _ (λ (e : EngineModel). IsClause (trail_shape e.search.trail) (clause_of c.args.why)) c.self.view_is c.requires.clause)
+    (of_view _ _ (λ (e : EngineModel). truth (room_in e.search) c.args.lit ≡ Free) c.self.view_is c.requires.free)
+    (of_view _ _ (λ (e : EngineModel). narrowing (clause_of c.args.why) (room_in e.search) ≡ Cut c.args.lit) c.self.view_is c.requires.only)
+    (of_view _ _ (λ (e : EngineModel). IsReason e.search c.args.why) c.self.view_is c.requires.reason) in
+    omega (arith, h, c.self.inside.written.ok.0)
+
+pub invariant_of-self : goal.invariant_of-self
+invariant_of-self g c =
+    let lit = c.args.lit in
+    let whole : c.deref_mut.result.now ≡ c.self.inside.marks.items = c.deref_mut.ensures.value in
+    let n : c.self.inside.marks.len ≡ length c.mark.new.marks = omega (arith, c.self.inside.marks.ok.0, ap length whole, c.mark.ensures.marks.same_length) in
+    let event : Event = record { lit = c.args.lit; level = c.self.inside.trail.level; why = Some c.args.why } in (
+      kept_implied _ _ _ _ _ _ _ c.args.lit c.args.why _ _ _ _ c.self.invariant.0
+          (of_view _ _ (λ (e : EngineModel). lit_fits (trail_shape e.search.trail) c.args.lit ≡ true) c.self.view_is c.requires.fits)
+          (of_view _ _ (λ (e : EngineModel). IsClause (trail_shape e.search.trail) (clause_of c.args.why)) c.self.view_is c.requires.clause)
+          (of_view _ _ (λ (e : EngineModel). truth (room_in e.search) c.args.lit ≡ Free) c.self.view_is c.requires.free)
+          (of_view _ _ (λ (e : EngineModel). narrowing (clause_of c.args.why) (room_in e.search) ≡ Cut c.args.lit) c.self.view_is c.requires.only)
+          (of_view _ _ (λ (e : EngineModel). IsReason e.search c.args.why) c.self.view_is c.requires.reason)
+          c.imply.ensures.value c.changed.ensures.same c.push_reserved.ensures.items
+          (marks_through _ _ _ _ _ _ c.of.ensures.value whole n c.mark.ensures.marks)
+          c.push_reserved.ensures.capacity,
+      c.changed.ensures.ships ∙ c.self.invariant.1,
+      subst (g.S.Store.ready c.changed.new.self) (ap (cut lit) c.room.ensures.value ∙ sym (more_room c.self.inside.trail event) ∙ ap room_of (sym c.imply.ensures.value)) c.changed.ensures.ready,
+      c.self.invariant.3,
+    )
