@@ -2,3 +2,4 @@ pub mod Markings
 pub mod Kept
 pub mod Handed
 pub mod Named
+pub mod Adding

@@ -1,6 +1,6 @@
--- The numbers of lines that a search no longer keeps.
-use Rattle.std.specs.Prelude.{◌≡◌, ◌≢◌, ℕ, ◌≤◌, List, [], ◌∷◌, ◌++◌, Option, Some, None, All, AllPairs, filter_map, drop}
-use Rattle.hw_progress.specs.Searches.{SearchModel, kept_numbers}
+-- The numbers of lines that a search keeps, and those that it no longer does.
+use Rattle.std.specs.Prelude.{ℕ, List, [], ◌∷◌, ◌++◌, Option, Some, None, drop, filter_map, map}
+use Rattle.hw_store.specs.declared.store.Stored.{Stored}
 
 -- the number, if there is one
 abbrev pub number_list : Option ℕ → List ℕ
@@ -11,7 +11,6 @@ number_list (Some number) = number ∷ []
 abbrev pub dropped : List (Option ℕ) → ℕ → Option ℕ → List ℕ
 dropped written keep conflict = filter_map (λ number. number) (drop keep written) ++ number_list conflict
 
--- no number was given twice
-pub record NumbersApart (s : SearchModel) : Type 0 where
-  pub low : All (λ number. number ≤ s.clause_lines) (kept_numbers s)
-  pub once : AllPairs (λ a b. a ≢ b) (kept_numbers s)
+-- the numbers of stored lemmas, and those that were written for reasons
+abbrev pub kept : List Stored → List (Option ℕ) → List ℕ
+kept stored written = map (λ one. one.number) stored ++ filter_map (λ number. number) written

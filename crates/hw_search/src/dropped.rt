@@ -1,8 +1,10 @@
-ghost use Rattle.std.specs.Prelude.{◌≡◌, ◌≤◌, ◌++◌, ℕ, Contains, IfOk, OnOk, filter_map, length};
+ghost use Rattle.std.specs.Prelude.{◌≡◌, ◌≤◌, ◌++◌, ◌==◌, ℕ, ⊤, Contains, IfOk, OnOk, MatchBool, filter, filter_map, length, not, take};
+ghost use Rattle.std.specs.List.{list_any};
 ghost use Rattle.std.specs.List.Sorted.{IsStrictlyIncreasing};
-ghost use Rattle.hw_search.specs.Dropped.{dropped, number_list};
+ghost use Rattle.hw_search.specs.Dropped.{dropped, kept, number_list};
 
 use hw_model::NoMemory;
+use hw_store::Store;
 use std::alloc::Global;
 
 // The numbers that there are.
@@ -30,9 +32,8 @@ fn push_number(numbers: &mut Vec<u32>, number: Option<u32>) -> Result<(), NoMemo
     }
 }
 
-/// The numbers of the lines that were written for reasons of events from a place on, and the
-/// conflict's own, each once, ascending.
-pub fn dropped_numbers(
+// The numbers from a place on, and the conflict's own, each once, ascending.
+fn ascending(
     alloc: Global,
     written: &[Option<u32>],
     keep: usize,
@@ -48,4 +49,67 @@ pub fn dropped_numbers(
     numbers.sort_unstable();
     numbers.dedup();
     Ok(numbers)
+}
+
+// Whether some number is a written one too. A binary search for each written one.
+fn meet(numbers: &[u32], written: &[Option<u32>]) -> bool
+    requires ascends { IsStrictlyIncreasing numbers.now }
+    ensures apart { MatchBool result ⊤ ((number : ℕ) → Contains numbers.now number → Contains (filter_map (λ number. number) written.now) number → ⊥) }
+{
+    for one in written {
+        if let Some(number) = one {
+            if numbers.binary_search(number).is_ok() {
+                return true;
+            }
+        }
+    }
+    false
+}
+
+fn is_written(written: &[Option<u32>], number: u32) -> bool
+    ensures value { result ≡ list_any (λ one. one == number) (filter_map (λ number. number) written.now) }
+{
+    for one in written {
+        if *one == Some(number) {
+            return true;
+        }
+    }
+    false
+}
+
+fn is_stored<S: Store>(store: &S, number: u32) -> bool
+    ensures value { result ≡ list_any (λ one. one.number == number) (S.clauses store.now) }
+{
+    store.clause(number).is_some()
+}
+
+/// The numbers of the lines that were written for reasons of events from a place on, and the
+/// conflict's own, each once, ascending, but for those of stored lemmas and of reasons before the
+/// place.
+///
+/// It goes through the written numbers once, and asks the store for each that is dropped.
+pub fn dropped_numbers<S: Store>(
+    alloc: Global,
+    written: &[Option<u32>],
+    keep: usize,
+    conflict: Option<u32>,
+    store: &S,
+) -> Result<Vec<u32>, NoMemory>
+    requires upto { keep ≤ length written.now }
+    ensures ascends { IfOk result (λ ids. IsStrictlyIncreasing ids.items) }
+    ensures holds { IfOk result (λ ids. (number : ℕ) → Contains ids.items number → Contains (dropped written.now keep conflict) number) }
+    ensures unkept { IfOk result (λ ids. (number : ℕ) → Contains ids.items number → Contains (kept (S.clauses store.now) (take keep written.now)) number → ⊥) }
+    ensures all { IfOk result (λ ids. (number : ℕ) → Contains (dropped written.now keep conflict) number → (Contains (kept (S.clauses store.now) (take keep written.now)) number → ⊥) → Contains ids.items number) }
+{
+    let numbers = ascending(alloc, written, keep, conflict)?;
+    let before = &written[..keep];
+    let met = meet(&numbers, before);
+    let mut ids = Vec::new(alloc);
+    for number in &numbers {
+        let kept = is_stored(store, *number) || (met && is_written(before, *number));
+        if !kept {
+            ids.push(*number)?;
+        }
+    }
+    Ok(ids)
 }

@@ -8,7 +8,7 @@ use Rattle.std.proofs.lemmas.List.Kept.{Contains-dedup_nat, Contains-from_dedup}
 use Rattle.std.proofs.lemmas.List.Sorted.{Contains-permutation, IsPermutation-sym}
 use Rattle.std.proofs.lemmas.Map.Keys.{IsStrictlyIncreasing-dedup}
 use Rattle.hw_search.specs.Dropped.{dropped, number_list}
-use Rattle.hw_search.proofs.dropped.dropped_numbers.Goals as goal
+use Rattle.hw_search.proofs.dropped.ascending.Goals as goal
 
 pub returns-clause-ascends : goal.returns-clause-ascends
 returns-clause-ascends c =
