@@ -1,4 +1,4 @@
-ghost use Rattle.std.specs.Prelude.{◌≡◌, ◌≤◌, ◌++◌, ◌==◌, ℕ, ⊤, Contains, IfOk, OnOk, MatchBool, filter, filter_map, length, not, take};
+ghost use Rattle.std.specs.Prelude.{◌≡◌, ◌≤◌, ◌++◌, ◌==◌, ℕ, ⊤, Contains, IfOk, OnOk, MatchBool, filter, filter_map, length, map, not, take};
 ghost use Rattle.std.specs.List.{list_any};
 ghost use Rattle.std.specs.List.Sorted.{IsStrictlyIncreasing};
 ghost use Rattle.hw_search.specs.Dropped.{dropped, kept, number_list};
@@ -51,26 +51,13 @@ fn ascending(
     Ok(numbers)
 }
 
-// Whether some number is a written one too. A binary search for each written one.
-fn meet(numbers: &[u32], written: &[Option<u32>]) -> bool
+// Whether some earlier number is among these too. A binary search for each earlier one.
+fn meet(numbers: &[u32], earlier: &[u32]) -> bool
     requires ascends { IsStrictlyIncreasing numbers.now }
-    ensures apart { MatchBool result ⊤ ((number : ℕ) → Contains numbers.now number → Contains (filter_map (λ number. number) written.now) number → ⊥) }
+    ensures apart { MatchBool result ⊤ ((number : ℕ) → Contains numbers.now number → Contains earlier.now number → ⊥) }
 {
-    for one in written {
-        if let Some(number) = one {
-            if numbers.binary_search(number).is_ok() {
-                return true;
-            }
-        }
-    }
-    false
-}
-
-fn is_written(written: &[Option<u32>], number: u32) -> bool
-    ensures value { result ≡ list_any (λ one. one == number) (filter_map (λ number. number) written.now) }
-{
-    for one in written {
-        if *one == Some(number) {
+    for number in earlier {
+        if numbers.binary_search(number).is_ok() {
             return true;
         }
     }
@@ -78,9 +65,54 @@ fn is_written(written: &[Option<u32>], number: u32) -> bool
 }
 
 fn is_stored<S: Store>(store: &S, number: u32) -> bool
-    ensures value { result ≡ list_any (λ one. one.number == number) (S.clauses store.now) }
+    ensures value { result ≡ list_any (λ one. one == number) (map (λ one. one.number) (S.clauses store.now)) }
 {
-    store.clause(number).is_some()
+    match store.clause(number) {
+        None => false,
+        Some(_clause) => true,
+    }
+}
+
+fn is_among(numbers: &[u32], number: u32) -> bool
+    ensures value { result ≡ list_any (λ one. one == number) numbers.now }
+{
+    for one in numbers {
+        if *one == number {
+            return true;
+        }
+    }
+    false
+}
+
+// Whether a number is kept; `met` is false where it is no earlier one.
+fn is_kept<S: Store>(store: &S, earlier: &[u32], met: bool, number: u32) -> bool
+    requires apart { MatchBool met ⊤ (Contains earlier.now number → ⊥) }
+    ensures value { result ≡ list_any (λ one. one == number) (map (λ one. one.number) (S.clauses store.now) ++ earlier.now) }
+{
+    if is_stored(store, number) {
+        return true;
+    }
+    met && is_among(earlier, number)
+}
+
+// The numbers that are neither stored nor earlier ones.
+fn unkept_of<S: Store>(
+    alloc: Global,
+    numbers: &[u32],
+    earlier: &[u32],
+    store: &S,
+) -> Result<Vec<u32>, NoMemory>
+    requires ascends { IsStrictlyIncreasing numbers.now }
+    ensures value { IfOk result (λ ids. ids.items ≡ filter (λ number. not (list_any (λ one. one == number) (map (λ one. one.number) (S.clauses store.now) ++ earlier.now))) numbers.now) }
+{
+    let met = meet(numbers, earlier);
+    let mut ids = Vec::new(alloc);
+    for number in numbers {
+        if !is_kept(store, earlier, met, *number) {
+            ids.push(*number)?;
+        }
+    }
+    Ok(ids)
 }
 
 /// The numbers of the lines that were written for reasons of events from a place on, and the
@@ -102,14 +134,6 @@ pub fn dropped_numbers<S: Store>(
     ensures all { IfOk result (λ ids. (number : ℕ) → Contains (dropped written.now keep conflict) number → (Contains (kept (S.clauses store.now) (take keep written.now)) number → ⊥) → Contains ids.items number) }
 {
     let numbers = ascending(alloc, written, keep, conflict)?;
-    let before = &written[..keep];
-    let met = meet(&numbers, before);
-    let mut ids = Vec::new(alloc);
-    for number in &numbers {
-        let kept = is_stored(store, *number) || (met && is_written(before, *number));
-        if !kept {
-            ids.push(*number)?;
-        }
-    }
-    Ok(ids)
+    let earlier = numbers_of(alloc, &written[..keep])?;
+    unkept_of(alloc, &numbers, &earlier, store)
 }
