@@ -114,10 +114,14 @@ pub stop_on : (stop : LogStop) (p q : List Line) (most : ℕ) (old mid new : Log
 stop_on stop p q most old mid new a b = record {
   cause = cause_on stop old mid new a.faults b.cause;
   told = grows_on old mid new (λ was now. (now.lines ≡ was.lines ++ p) × (now.behind ≡ [])) (λ was now. (count : ℕ) × (count ≤ most) × StopsAfter stop q count was now) (λ was now. (count : ℕ) × (count ≤ length p + most) × StopsAfter stop (p ++ q) count was now)
-      (λ was now then h k. (length p + k.0, omega (arith, k.1), record {
-        lines = k.2.lines ∙ ap (λ xs. xs ++ take k.0 q) h.0 ∙ append_assoc was.lines p (take k.0 q) ∙ ap (λ xs. was.lines ++ xs) (sym (take_past p q k.0));
-        behind = subst (λ o. StopBehind stop o then.behind) (sym (get_past p q k.0)) k.2.behind;
-      })) a.told b.told;
+      (λ was now then h k. (
+        length p + k.0,
+        omega (arith, k.1),
+        record {
+          lines = k.2.lines ∙ ap (λ xs. xs ++ take k.0 q) h.0 ∙ append_assoc was.lines p (take k.0 q) ∙ ap (λ xs. was.lines ++ xs) (sym (take_past p q k.0));
+          behind = subst (λ o. StopBehind stop o then.behind) (sym (get_past p q k.0)) k.2.behind;
+        },
+      )) a.told b.told;
 }
 
 -- the plan was longer
@@ -125,10 +129,14 @@ pub stop_in : (stop : LogStop) (p q : List Line) (most : ℕ) (old new : LogMode
 stop_in stop p q most old new le a = record {
   cause = a.cause;
   told = grows_by old new (λ was now. (count : ℕ) × (count ≤ most) × StopsAfter stop p count was now) (λ was now. (count : ℕ) × (count ≤ most) × StopsAfter stop (p ++ q) count was now)
-      (λ was now k. (k.0, k.1, record {
-        lines = k.2.lines ∙ ap (λ xs. was.lines ++ xs) (sym (take_front p q k.0 (omega (arith, k.1, le))));
-        behind = behind_front stop p q k.0 now.behind k.2.behind;
-      })) a.told;
+      (λ was now k. (
+        k.0,
+        k.1,
+        record {
+          lines = k.2.lines ∙ ap (λ xs. was.lines ++ xs) (sym (take_front p q k.0 (omega (arith, k.1, le))));
+          behind = behind_front stop p q k.0 now.behind k.2.behind;
+        },
+      )) a.told;
 }
 
 pub stop_more : (stop : LogStop) (p : List Line) (least most : ℕ) (old new : LogModel) → least ≤ most → StopsWithin stop p least old new → StopsWithin stop p most old new

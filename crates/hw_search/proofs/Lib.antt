@@ -1,5 +1,6 @@
 pub mod Markings
 pub mod Kept
+pub mod Steps
 pub mod Handed
 pub mod Named
 pub mod Adding

@@ -1,10 +1,10 @@
 -- Marks after a cut, and a slice written through its vector.
-use Rattle.std.proofs.Common.{◌≡◌, ℕ, ◌<◌, ◌+◌, Bool, true, false, List, ◌++◌, Option, Some, length, get_or, take, drop, slice_get, refl, sym, ap, ◌∙◌, subst, inl, inr, arith}
+use Rattle.std.proofs.Common.{◌≡◌, ℕ, ◌<◌, ◌+◌, Bool, true, false, List, ◌++◌, Option, Some, length, get_or, take, drop, map, option_map, slice_get, refl, sym, ap, ◌∙◌, subst, inl, inr, arith}
 use Rattle.std.specs.Prelude.{All, Contains}
 use Rattle.std.proofs.Math.Seq.{take-append_seam}
 use Rattle.std.proofs.lemmas.Bool.{cases_Bool}
 use Rattle.std.proofs.lemmas.List.Elements.{All-get_or}
-use Rattle.std.proofs.lemmas.Option.{slice_get_within, get_or_from_slice_get}
+use Rattle.std.proofs.lemmas.Option.{slice_get_within, slice_get-get_or, slice_get-map, get_or_from_slice_get}
 use Rattle.hw_model.specs.declared.lit.Lit.{Lit}
 use Rattle.hw_model.specs.declared.lit.LitTruth.TheVariants.{Free}
 use Rattle.hw_model.specs.declared.source.Source.{Source}
@@ -53,3 +53,10 @@ quiet_all f best room sources marks all place source at clear = absurd (never (s
 pub marks_through : (places given : List ℕ) (old lent new : List Bool) (n : ℕ) → given ≡ places → lent ≡ old → n ≡ length new → MarksPlaces given lent new → MarksPlaces places old (take n (new ++ drop (length new) old))
 marks_through places given old lent new n p l e m =
     subst (λ xs. MarksPlaces places old xs) (sym (written_whole n new old e)) (subst (λ xs. MarksPlaces places xs new) l (subst (λ xs. MarksPlaces xs lent new) p m))
+
+some_same : {A : Type 0} (x y : A) → Some x ≡ Some y → x ≡ y
+some_same x y e = cc
+
+-- what a list of values has at a place is the value there
+pub mapped_at : {A B : Type 0} (f : A → B) (xs : List A) (place : ℕ) (d : A) (y : B) → place < length xs → slice_get (map f xs) place ≡ Some y → f (get_or xs place d) ≡ y
+mapped_at f xs place d y lt h = some_same (f (get_or xs place d)) y (sym (slice_get-map f xs place ∙ ap (option_map f) (slice_get-get_or xs place d lt)) ∙ h)

@@ -46,12 +46,7 @@ pub fn known_number(why: &Why, written: Option<u32>) -> Option<u32>
 }
 
 /// Hands the log the line that says why a clause holds, which it copies. A stored lemma has one.
-pub fn hand_why<L: Log>(
-    alloc: Global,
-    flat: &Flat,
-    why: &Why,
-    log: &mut L,
-) -> Result<(), LogStop>
+pub fn hand_why<L: Log>(alloc: Global, flat: &Flat, why: &Why, log: &mut L) -> Result<(), LogStop>
     requires source { IsOfProblem flat.now why.now }
     requires whole { IsWhole (L.state log.old) }
     ensures hands { Hands (lines_of flat.now why.now) (L.state log.old) (L.state log.new) result }

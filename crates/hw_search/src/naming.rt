@@ -92,7 +92,16 @@ pub fn name_reasons<L: Log>(
     ensures same_reference { L.anchor log.new ≡ L.anchor log.old }
 {
     for place in places {
-        name_reason(alloc, flat, trail, *place, written, clause_lines, hints, log)?;
+        name_reason(
+            alloc,
+            flat,
+            trail,
+            *place,
+            written,
+            clause_lines,
+            hints,
+            log,
+        )?;
     }
     Ok(())
 }

@@ -1,0 +1,90 @@
+-- How the steps of settling follow one another.
+use Rattle.std.proofs.Common.{◌≡◌, ℕ, zero, suc, ◌<◌, ◌+◌, ◌≤◌, true, false, List, [], ◌∷◌, ◌++◌, Option, Some, None, length, slice_get, replicate, refl, sym, ap, ◌∙◌, subst, inl, inr, arith, append_assoc, length-append}
+use Rattle.std.specs.Prelude.{All, Contains, IsSome}
+use Rattle.std.proofs.lemmas.List.{append-nil, replicate-append-replicate}
+use Rattle.std.proofs.lemmas.List.Elements.{All-nil, All-cons, All-append}
+use Rattle.hw_model.specs.declared.lit.Lit.{Lit}
+use Rattle.hw_model.specs.declared.lit.LitTruth.TheVariants.{False, Free}
+use Rattle.hw_model.specs.declared.narrowing.Narrowed.TheVariants.{Cut}
+use Rattle.hw_model.specs.Lits.{lit_fits, IsClause}
+use Rattle.hw_model.specs.Narrowing.{truth}
+use Rattle.hw_model.specs.Problem.{Problem, shape_of}
+use Rattle.hw_model.specs.Replay.{narrowing}
+use Rattle.hw_story.specs.declared.event.Event.{Event}
+use Rattle.hw_story.specs.declared.event.Why.{Why}
+use Rattle.hw_story.specs.Trails.{trail_shape, clause_of}
+use Rattle.hw_story.specs.Walks.{In}
+use Rattle.hw_story.proofs.Denials.{in_fits}
+use Rattle.hw_progress.specs.Searches.{SearchModel, IsSearch, IsReason, room_in}
+use Rattle.hw_progress.specs.Settling.{Implies, with_events, IsConflict}
+use Rattle.hw_progress.proofs.Holds.{problem_clause}
+use Rattle.hw_progress.proofs.Keeps.{implied_search}
+use Rattle.hw_search.specs.Askings.{Goes, Gains, Fails}
+
+-- ---- a literal of a clause fits
+
+in_at : (clause : List Lit) (place : ℕ) (lit : Lit) → slice_get clause place ≡ Some lit → In lit clause
+in_at [] place lit e = absurd cc
+in_at (l ∷ more) zero lit e = let same : l ≡ lit = cc in inl same
+in_at (l ∷ more) (suc place) lit e = inr (in_at more place lit e)
+
+pub unit_fits : (s : SearchModel) (clause : List Lit) (place : ℕ) (lit : Lit) → IsSearch s → IsClause (shape_of s.problem) clause → slice_get clause place ≡ Some lit → lit_fits (trail_shape s.trail) lit ≡ true
+unit_fits s clause place lit is fits at = in_fits (trail_shape s.trail) clause 0 None (problem_clause s is.same_ships is.same_slots clause fits) lit (in_at clause place lit at)
+
+-- ---- events that come
+
+with_none : (s : SearchModel) → s ≡ with_events s []
+with_none s =
+    let t = s.trail in
+    let a : SearchModel → List Event → List (Option ℕ) → SearchModel = λ s es ws. record s { trail = record { ships = s.trail.ships; slots = s.trail.slots; events = es; level = s.trail.level }; written = ws } in
+    sym (ap (λ es. a s es (s.written ++ [])) (append-nil s.trail.events) ∙ ap (λ ws. a s s.trail.events ws) (append-nil s.written))
+
+with_both : (s : SearchModel) (one two : List Event) → with_events (with_events s one) two ≡ with_events s (one ++ two)
+with_both s one two =
+    let a : List Event → List (Option ℕ) → SearchModel = λ es ws. record s { trail = record { ships = s.trail.ships; slots = s.trail.slots; events = es; level = s.trail.level }; written = ws } in
+    let ws : (s.written ++ replicate (length one) None) ++ replicate (length two) None ≡ s.written ++ replicate (length (one ++ two)) None =
+    append_assoc s.written (replicate (length one) None) (replicate (length two) None) ∙ ap (λ xs. s.written ++ xs) (replicate-append-replicate (length one) (length two) None ∙ ap (λ n. replicate n None) (sym (length-append one two))) in
+    ap (λ es. a es ((s.written ++ replicate (length one) None) ++ replicate (length two) None)) (append_assoc s.trail.events one two) ∙ ap (λ ws. a (s.trail.events ++ (one ++ two)) ws) ws
+
+pub implies_none : (s : SearchModel) → Implies s s
+implies_none s = record { more = []; implied = All-nil (λ (event : Event). IsSome event.why); only = with_none s }
+
+pub implies_more : (s mid after : SearchModel) → Implies s mid → Implies mid after → Implies s after
+implies_more s mid after a b = record {
+  more = a.more ++ b.more;
+  implied = All-append (λ (event : Event). IsSome event.why) a.more b.more a.implied b.implied;
+  only = b.only ∙ ap (λ m. with_events m b.more) a.only ∙ with_both s a.more b.more;
+}
+
+pub same_problem : (s after : SearchModel) → Implies s after → after.problem ≡ s.problem
+same_problem s after i = ap (λ (x : SearchModel). x.problem) i.only
+
+pub no_fewer : (s after : SearchModel) → Implies s after → length s.trail.events ≤ length after.trail.events
+no_fewer s after i = omega (arith, ap (λ (x : SearchModel). length x.trail.events) i.only, length-append s.trail.events i.more)
+
+pub goes_none : (s : SearchModel) → IsSearch s → Goes s s
+goes_none s is = record { implies = implies_none s; kept = is }
+
+pub goes_more : (s mid after : SearchModel) → Implies s mid → Goes mid after → Goes s after
+goes_more s mid after a b = record { implies = implies_more s mid after a b.implies; kept = b.kept }
+
+pub gains_more : (s mid after : SearchModel) → Implies s mid → Gains mid after → Gains s after
+gains_more s mid after a b = record { goes = goes_more s mid after a b.goes; more = omega (arith, no_fewer s mid a, b.more) }
+
+pub gains_then : (s mid after : SearchModel) → Gains s mid → Goes mid after → Gains s after
+gains_then s mid after a b = record { goes = goes_more s mid after a.goes.implies b; more = omega (arith, no_fewer mid after b.implies, a.more) }
+
+pub fails_more : (s mid after : SearchModel) (why : Why) → Implies s mid → Fails mid after why → Fails s after why
+fails_more s mid after why a b = record { goes = goes_more s mid after a b.goes; conflict = b.conflict }
+
+-- one implied literal
+pub gains_one : (s after : SearchModel) (lit : Lit) (why : Why) → IsSearch s → lit_fits (trail_shape s.trail) lit ≡ true → IsClause (trail_shape s.trail) (clause_of why) → truth (room_in s) lit ≡ Free → narrowing (clause_of why) (room_in s) ≡ Cut lit → IsReason s why → after ≡ with_events s (record { lit = lit; level = s.trail.level; why = Some why } ∷ []) → Gains s after
+gains_one s after lit why is fits clause free only reason e =
+    let event : Event = record { lit = lit; level = s.trail.level; why = Some why } in
+    record {
+      goes = record {
+        implies = record { more = event ∷ []; implied = All-cons (λ (event : Event). IsSome event.why) event [] refl (All-nil (λ (event : Event). IsSome event.why)); only = e };
+        kept = subst IsSearch (sym e) (implied_search s lit why is fits clause free only reason);
+      };
+      more = omega (arith, ap (λ (x : SearchModel). length x.trail.events) e, length-append s.trail.events (event ∷ []));
+    }
