@@ -4,3 +4,4 @@ pub mod Steps
 pub mod Handed
 pub mod Named
 pub mod Adding
+pub mod Dropping
