@@ -38,12 +38,12 @@ pair_added old v w place before after long up inside was e =
       ships = λ u h. sym (append-nil (ship_places old u));
       pairs = λ a b ab bs. one_set old.by_pair (v * old.ships + w) (a * old.ships + b) place before after (a == v && b == w) lt was e
           (λ t. let p = and_parts (a == v) (b == w) t in
-              let x : a ≡ v = eqb-true a v p.0 in
-              let y : b ≡ w = eqb-true b w p.1 in
-              ap (λ n. n * old.ships + b) x ∙ ap (λ n. v * old.ships + n) y)
+          let x : a ≡ v = eqb-true a v p.0 in
+          let y : b ≡ w = eqb-true b w p.1 in
+          ap (λ n. n * old.ships + b) x ∙ ap (λ n. v * old.ships + n) y)
           (λ f same. let p = same_from_place a b v w old.ships bs inside same in
-              let t : (a == v && b == w) ≡ true = and_from (a == v) (b == w) (eq-eqb a v p.0) (eq-eqb b w p.1) in
-              absurd (let z : true ≡ false = sym t ∙ f in cc));
+          let t : (a == v && b == w) ≡ true = and_from (a == v) (b == w) (eq-eqb a v p.0) (eq-eqb b w p.1) in
+          absurd (let z : true ≡ false = sym t ∙ f in cc));
     }
 
 -- ---- one after another
