@@ -112,6 +112,7 @@ cause_on stops.NoMemory old mid new e h = h ∙ e
 
 pub stop_on : (stop : LogStop) (p q : List Line) (most : ℕ) (old mid new : LogModel) → TakesAll p old mid → StopsWithin stop q most mid new → StopsWithin stop (p ++ q) (length p + most) old new
 stop_on stop p q most old mid new a b = record {
+  later = omega (arith, a.faults, b.later);
   cause = cause_on stop old mid new a.faults b.cause;
   told = grows_on old mid new (λ was now. (now.lines ≡ was.lines ++ p) × (now.behind ≡ [])) (λ was now. (count : ℕ) × (count ≤ most) × StopsAfter stop q count was now) (λ was now. (count : ℕ) × (count ≤ length p + most) × StopsAfter stop (p ++ q) count was now)
       (λ was now then h k. (
@@ -127,6 +128,7 @@ stop_on stop p q most old mid new a b = record {
 -- the plan was longer
 pub stop_in : (stop : LogStop) (p q : List Line) (most : ℕ) (old new : LogModel) → most ≤ length p → StopsWithin stop p most old new → StopsWithin stop (p ++ q) most old new
 stop_in stop p q most old new le a = record {
+  later = a.later;
   cause = a.cause;
   told = grows_by old new (λ was now. (count : ℕ) × (count ≤ most) × StopsAfter stop p count was now) (λ was now. (count : ℕ) × (count ≤ most) × StopsAfter stop (p ++ q) count was now)
       (λ was now k. (
@@ -141,6 +143,7 @@ stop_in stop p q most old new le a = record {
 
 pub stop_more : (stop : LogStop) (p : List Line) (least most : ℕ) (old new : LogModel) → least ≤ most → StopsWithin stop p least old new → StopsWithin stop p most old new
 stop_more stop p least most old new le a = record {
+  later = a.later;
   cause = a.cause;
   told = grows_by old new (λ was now. (count : ℕ) × (count ≤ least) × StopsAfter stop p count was now) (λ was now. (count : ℕ) × (count ≤ most) × StopsAfter stop p count was now) (λ was now k. (k.0, omega (arith, k.1, le), k.2)) a.told;
 }
@@ -148,6 +151,7 @@ stop_more stop p least most old new le a = record {
 -- for want of memory, after all of a plan
 pub memory_after : (p : List Line) (old new : LogModel) → TakesAll p old new → StopsWithin stops.NoMemory p (length p) old new
 memory_after p old new a = record {
+  later = omega (arith, a.faults);
   cause = a.faults;
   told = grows_by old new (λ was now. (now.lines ≡ was.lines ++ p) × (now.behind ≡ [])) (λ was now. (count : ℕ) × (count ≤ length p) × StopsAfter stops.NoMemory p count was now)
       (λ was now h. (length p, omega arith, record { lines = h.0 ∙ ap (λ xs. was.lines ++ xs) (sym (take_all p)); behind = h.1 })) a.told;
@@ -172,6 +176,7 @@ one_tells line stops.NoMemory was now w h = record { lines = ap (λ (t : LogTold
 
 pub one_stopped : (line : Line) (stop : LogStop) (old new : LogModel) → IsWhole old → TakesLine line old new (Err stop) → StopsWithin stop (line ∷ []) 0 old new
 one_stopped line stop old new whole t = record {
+  later = t.later;
   cause = one_cause line stop old new t;
   told = grown_with old new (TellsLine line (Err stop)) (λ was now. (count : ℕ) × (count ≤ 0) × StopsAfter stop (line ∷ []) count was now) (λ told. told.behind ≡ []) (λ was now w h. (0, omega arith, one_tells line stop was now w h)) whole t.lines;
 }
@@ -183,6 +188,7 @@ one_line line old new (Err stop) whole t = stop_more stop (line ∷ []) 0 1 old 
 -- nothing was handed for want of memory
 pub no_memory : (plan : List Line) (log : LogModel) → IsWhole log → StopsWithin stops.NoMemory plan 0 log log
 no_memory plan log whole = record {
+  later = omega arith;
   cause = refl;
   told = grows_none log (λ was now. (count : ℕ) × (count ≤ 0) × StopsAfter stops.NoMemory plan count was now) (λ told. told.behind ≡ []) (λ now h. (0, omega arith, record { lines = sym (ap (λ xs. now.lines ++ xs) (take_none plan) ∙ append-nil now.lines); behind = h })) whole;
 }

@@ -6,3 +6,6 @@ pub mod Handed
 pub mod Named
 pub mod Adding
 pub mod Dropping
+pub mod Stopping
+pub mod Answering
+pub mod Unkept

@@ -28,6 +28,7 @@ pub record StopsAfter (stop : LogStop) (plan : List Line) (count : ℕ) (was now
 
 -- at most so many first lines of a plan were taken
 pub record StopsWithin (stop : LogStop) (plan : List Line) (most : ℕ) (old new : LogModel) : Type 0 where
+  pub later : old.faults ≤ new.faults
   pub cause : StopCause stop old new
   pub told : Grows old new (λ was now. (count : ℕ) × (count ≤ most) × StopsAfter stop plan count was now)
 

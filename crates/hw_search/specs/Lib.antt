@@ -6,3 +6,4 @@ pub mod Dropped
 pub mod Powers
 pub mod Handing
 pub mod Naming
+pub mod Turning
