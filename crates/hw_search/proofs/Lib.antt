@@ -9,3 +9,4 @@ pub mod Dropping
 pub mod Stopping
 pub mod Answering
 pub mod Unkept
+pub mod Teaching
