@@ -1,25 +1,28 @@
 -- How the steps of settling follow one another.
-use Rattle.std.proofs.Common.{◌≡◌, ℕ, zero, suc, ◌<◌, ◌+◌, ◌≤◌, true, false, List, [], ◌∷◌, ◌++◌, Option, Some, None, length, slice_get, replicate, refl, sym, ap, ◌∙◌, subst, inl, inr, arith, append_assoc, length-append}
+use Rattle.std.proofs.Common.{◌≡◌, ℕ, zero, suc, ◌<◌, ◌+◌, ◌-◌, ◌≤◌, true, false, List, [], ◌∷◌, ◌++◌, Option, Some, None, Ok, length, slice_get, replicate, refl, sym, ap, ◌∙◌, subst, inl, inr, arith, append_assoc, length-append}
 use Rattle.std.specs.Prelude.{All, Contains, IsSome}
 use Rattle.std.proofs.lemmas.List.{append-nil, replicate-append-replicate}
 use Rattle.std.proofs.lemmas.List.Elements.{All-nil, All-cons, All-append}
 use Rattle.hw_model.specs.declared.lit.Lit.{Lit}
 use Rattle.hw_model.specs.declared.lit.LitTruth.TheVariants.{False, Free}
-use Rattle.hw_model.specs.declared.narrowing.Narrowed.TheVariants.{Cut}
+use Rattle.hw_model.specs.declared.narrowing.Narrowed.TheVariants.{Cut as CutBy}
+use Rattle.hw_search.specs.declared.settling.Asked.{Asked}
+use Rattle.hw_search.specs.declared.settling.Asked.TheVariants.{Quiet, Cut, Conflict}
 use Rattle.hw_model.specs.Lits.{lit_fits, IsClause}
 use Rattle.hw_model.specs.Narrowing.{truth}
 use Rattle.hw_model.specs.Problem.{Problem, shape_of}
 use Rattle.hw_model.specs.Replay.{narrowing}
 use Rattle.hw_story.specs.declared.event.Event.{Event}
 use Rattle.hw_story.specs.declared.event.Why.{Why}
-use Rattle.hw_story.specs.Trails.{trail_shape, clause_of}
+use Rattle.hw_story.specs.Trails.{trail_shape, clause_of, most_events}
 use Rattle.hw_story.specs.Walks.{In}
 use Rattle.hw_story.proofs.Denials.{in_fits}
 use Rattle.hw_progress.specs.Searches.{SearchModel, IsSearch, IsReason, room_in}
 use Rattle.hw_progress.specs.Settling.{Implies, with_events, IsConflict}
 use Rattle.hw_progress.proofs.Holds.{problem_clause}
 use Rattle.hw_progress.proofs.Keeps.{implied_search}
-use Rattle.hw_search.specs.Askings.{Goes, Gains, Fails}
+use Rattle.hw_search.proofs.Kept.{few_in}
+use Rattle.hw_search.specs.Askings.{Goes, Gains, Fails, AskMeets}
 
 -- ---- a literal of a clause fits
 
@@ -78,7 +81,7 @@ pub fails_more : (s mid after : SearchModel) (why : Why) → Implies s mid → F
 fails_more s mid after why a b = record { goes = goes_more s mid after a b.goes; conflict = b.conflict }
 
 -- one implied literal
-pub gains_one : (s after : SearchModel) (lit : Lit) (why : Why) → IsSearch s → lit_fits (trail_shape s.trail) lit ≡ true → IsClause (trail_shape s.trail) (clause_of why) → truth (room_in s) lit ≡ Free → narrowing (clause_of why) (room_in s) ≡ Cut lit → IsReason s why → after ≡ with_events s (record { lit = lit; level = s.trail.level; why = Some why } ∷ []) → Gains s after
+pub gains_one : (s after : SearchModel) (lit : Lit) (why : Why) → IsSearch s → lit_fits (trail_shape s.trail) lit ≡ true → IsClause (trail_shape s.trail) (clause_of why) → truth (room_in s) lit ≡ Free → narrowing (clause_of why) (room_in s) ≡ CutBy lit → IsReason s why → after ≡ with_events s (record { lit = lit; level = s.trail.level; why = Some why } ∷ []) → Gains s after
 gains_one s after lit why is fits clause free only reason e =
     let event : Event = record { lit = lit; level = s.trail.level; why = Some why } in
     record {
@@ -88,3 +91,23 @@ gains_one s after lit why is fits clause free only reason e =
       };
       more = omega (arith, ap (λ (x : SearchModel). length x.trail.events) e, length-append s.trail.events (event ∷ []));
     }
+
+-- ---- what is left to come
+
+-- with one more there are fewer left
+pub left_less : (s after : SearchModel) → Gains s after → most_events after.problem.ships after.problem.slots - length after.trail.events < most_events s.problem.ships s.problem.slots - length s.trail.events
+left_less s after g =
+    let few = few_in after g.goes.kept in
+    let same : most_events after.problem.ships after.problem.slots ≡ most_events s.problem.ships s.problem.slots = ap (λ (f : Problem). most_events f.ships f.slots) (same_problem s after g.goes.implies) in
+    omega (arith, few, same, g.more)
+
+-- ---- what an answer tells
+
+pub as_quiet : (quiet : Type 0) (s after : SearchModel) (asked : Asked) → asked ≡ Quiet → AskMeets quiet s after (Ok asked) → (after ≡ s) × IsSearch after × quiet
+as_quiet quiet s after asked e m = subst (λ a. AskMeets quiet s after (Ok a)) e m
+
+pub as_cut : (quiet : Type 0) (s after : SearchModel) (asked : Asked) → asked ≡ Cut → AskMeets quiet s after (Ok asked) → Gains s after
+as_cut quiet s after asked e m = subst (λ a. AskMeets quiet s after (Ok a)) e m
+
+pub as_conflict : (quiet : Type 0) (s after : SearchModel) (asked : Asked) (why : Why) → asked ≡ Conflict why → AskMeets quiet s after (Ok asked) → Fails s after why
+as_conflict quiet s after asked why e m = subst (λ a. AskMeets quiet s after (Ok a)) e m

@@ -40,7 +40,7 @@ pub record Fails (s after : SearchModel) (why : Why) : Type 0 where
 
 -- what was asked is quiet and nothing changed, literals were implied, or there is a conflict
 abbrev pub AskMeets : Type 0 → SearchModel → SearchModel → Result Asked NoMemory → Type 0
-AskMeets quiet s after (Ok Quiet) = (after ≡ s) × quiet
+AskMeets quiet s after (Ok Quiet) = (after ≡ s) × IsSearch after × quiet
 AskMeets quiet s after (Ok Cut) = Gains s after
 AskMeets quiet s after (Ok (Conflict why)) = Fails s after why
 AskMeets quiet s after (Err stop) = Implies s after

@@ -1,9 +1,11 @@
-use Rattle.std.proofs.Common.{subst}
+use Rattle.std.proofs.Common.{sym, subst}
 use Rattle.hw_model.specs.Rooms.{RoomModel}
 use Rattle.hw_store.specs.declared.store.Held.{Held}
 use Rattle.hw_store.specs.declared.store.Stored.{Stored}
 use Rattle.hw_store.specs.Stores.{Finds, IsNotHeld, IsActive}
 use Rattle.hw_story.specs.Trails.{clause_of}
+use Rattle.hw_progress.specs.Searches.{IsSearch}
+use Rattle.hw_search.specs.Engines.{EngineModel}
 use Rattle.hw_search.specs.Askings.{IsHeldWhy}
 use Rattle.std.specs.Prelude.{List}
 use Rattle.hw_search.proofs.Lemmas.{held_fits, held_active, held_reason, held_there, all_quiet, same_stored}
@@ -34,4 +36,9 @@ pub returns-in-Quiet-clause-meets : goal.returns-in-Quiet-clause-meets
 returns-in-Quiet-clause-meets g c =
     let f = c.in_ok-step.ensures in
     let found = subst (Finds (g.S.Store.clauses c.self.inside.store) c.room.result.now) c.in-Quiet.is f.found in
-    (same_stored _ _ _ f.same c.self.view_is, all_quiet (g.S.Store.clauses c.step.new.self) (g.S.Store.clauses c.self.inside.store) c.room.result.now _ f.same c.room.ensures.value found)
+    let same = same_stored _ _ _ f.same c.self.view_is in
+    let was = subst (λ (e : EngineModel). IsSearch e.search) c.self.view_is c.self.invariant.0.search in (
+      same,
+      subst IsSearch (sym same) was,
+      all_quiet (g.S.Store.clauses c.step.new.self) (g.S.Store.clauses c.self.inside.store) c.room.result.now _ f.same c.room.ensures.value found,
+    )
