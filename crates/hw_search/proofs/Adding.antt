@@ -6,7 +6,8 @@ use Rattle.std.proofs.lemmas.Bool.{cases_Bool, and_parts, and_from, eqb-true, eq
 use Rattle.std.proofs.lemmas.Bool.Decides.{nat_tests}
 use Rattle.std.proofs.lemmas.List.{get_or-set_same, get_or-set_other, get_or_default, get_or-take, length-take}
 use Rattle.std.proofs.lemmas.List.Folds.{list_any_more, Any-from_list_any}
-use Rattle.std.proofs.lemmas.List.FromFn.{filter_of_map_range_with_len_more, length-range_with_len, get_or-range_with_len}
+use Rattle.std.proofs.lemmas.List.FromFn.{length-range_with_len, get_or-range_with_len}
+use Rattle.hw_search.proofs.Ranges.{filter_range}
 use Rattle.std.proofs.lemmas.Option.{slice_get_within}
 use Rattle.hw_progress.proofs.Backs.{contains_any, in_filter}
 use Rattle.std.proofs.lemmas.Nat.{mul-add-lt, same_from_place}
@@ -144,15 +145,8 @@ next_listed f sources n place source old new same here at upto adds lit fits =
     let h : Adds n (names_ship f source) (names_order f source) old new = subst (λ (k : ℕ). Adds k (names_ship f source) (names_order f source) old new) here adds in
     let p : ℕ → Bool = λ place. names_at f lit (slice_get sources place) in
     let now : p n ≡ names_lit f source lit = ap (names_at f lit) at in
-    let step : filter p (range_with_len 0 (n + 1)) ≡ filter p (range_with_len 0 n) ++ added (p n) n = filter_more_range p n in
+    let step : filter p (range_with_len 0 (n + 1)) ≡ filter p (range_with_len 0 n) ++ added (p n) n = filter_range p n in
     one_listed f source n old new same h lit fits ∙ ap (λ xs. xs ++ added (names_lit f source lit) n) (upto lit fits) ∙ ap (λ t. filter p (range_with_len 0 n) ++ added t n) (sym now) ∙ sym step
-  where
-    map_same : (xs : List ℕ) → map (λ (x : ℕ). x) xs ≡ xs
-    map_same [] = refl
-    map_same (x ∷ xs) = ap (λ ys. x ∷ ys) (map_same xs)
-
-    filter_more_range : (p : ℕ → Bool) (n : ℕ) → filter p (range_with_len 0 (n + 1)) ≡ filter p (range_with_len 0 n) ++ added (p n) n
-    filter_more_range p n = ap (filter p) (sym (map_same (range_with_len 0 (n + 1)))) ∙ filter_of_map_range_with_len_more p (λ (x : ℕ). x) 0 n n (omega arith) ∙ ap (λ xs. filter p xs ++ added (p n) n) (map_same (range_with_len 0 n))
 
 -- no source is listed of no ship and of no pair
 pub none_listed : (f : Problem) (sources : List Source) (s : SpeakersModel) → KeepsLists s → s.ships ≡ f.ships → All (λ (places : List ℕ). places ≡ []) s.by_ship → All (λ (places : List ℕ). places ≡ []) s.by_pair → ListedUpto f sources 0 s

@@ -10,3 +10,5 @@ pub mod Stopping
 pub mod Answering
 pub mod Unkept
 pub mod Teaching
+pub mod Choosing
+pub mod Ranges

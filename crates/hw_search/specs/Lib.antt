@@ -7,3 +7,4 @@ pub mod Powers
 pub mod Handing
 pub mod Naming
 pub mod Turning
+pub mod Branching

@@ -4,6 +4,7 @@
 #![tactic(auto)]
 
 mod asking;
+mod branching;
 mod dropped;
 mod engine;
 mod handing;
