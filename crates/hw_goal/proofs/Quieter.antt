@@ -1,5 +1,5 @@
 -- Where the goal is quiet, by the kept figures.
-use Rattle.std.proofs.Common.{◌≡◌, ℕ, ◌+◌, ◌<◌, ◌≤◌, Some, None, sym, ◌∙◌, ap, subst, arith}
+use Rattle.std.proofs.Common.{◌≡◌, ℕ, ◌+◌, ◌<◌, ◌≤◌, Some, None, sym, ap, subst, arith}
 use Rattle.hw_model.specs.declared.source.Source.TheVariants.{Goal}
 use Rattle.hw_model.specs.Problem.{Problem}
 use Rattle.hw_model.specs.Rooms.{RoomModel, RoomFits, low_of, high_of}

@@ -1,5 +1,5 @@
 -- What is kept of the ships' greatest values.
-use Rattle.std.specs.Prelude.{◌≡◌, ◌⊎◌, ℕ, ◌-◌, ◌<◌, ◌≤◌, List, length, sum_by, slice_index_or, unwrap_or}
+use Rattle.std.specs.Prelude.{◌≡◌, ◌⊎◌, ℕ, ◌<◌, ◌≤◌, List, length, sum_by, slice_index_or, unwrap_or}
 use Rattle.hw_model.specs.Problem.{Problem, value_at}
 use Rattle.hw_model.specs.Rooms.{RoomModel, low_of, high_of}
 use Rattle.hw_goal.specs.declared.tops.Peak.{Peak}

@@ -1,4 +1,4 @@
-use Rattle.std.proofs.Common.{◌≤◌, ◌<◌, ◌-◌}
+use Rattle.std.proofs.Common.{◌≤◌, ◌<◌}
 use Rattle.hw_goal.specs.Kept.{IsPeak}
 use Rattle.hw_goal.proofs.tops.peak_of.Given as goal
 

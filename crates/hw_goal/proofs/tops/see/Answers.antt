@@ -1,4 +1,4 @@
-use Rattle.std.proofs.Common.{◌≡◌, ◌<◌, ◌≤◌, ◌∙◌, refl, ap, arith}
+use Rattle.std.proofs.Common.{◌≡◌, ◌≤◌, ◌∙◌, refl, ap, arith}
 use Rattle.std.proofs.lemmas.List.{get_or_default}
 use Rattle.hw_goal.specs.Kept.{top_at}
 use Rattle.hw_goal.proofs.Greatest.{top_small}

@@ -1,4 +1,4 @@
-use Rattle.std.proofs.Common.{◌≡◌, ◌<◌, ◌-◌, ℕ}
+use Rattle.std.proofs.Common.{◌<◌, ◌-◌, ℕ}
 use Rattle.hw_goal.specs.Kept.{AreKept, SeenAt}
 use Rattle.hw_goal.proofs.tops.whole_figures.Given as goal
 

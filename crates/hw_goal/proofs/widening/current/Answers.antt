@@ -1,5 +1,5 @@
-use Rattle.std.proofs.Common.{◌≡◌, ◌∙◌, ◌<◌, ◌≤◌, arith}
-use Rattle.hw_goal.proofs.Greatest.{top_value, within_row, top_small}
+use Rattle.std.proofs.Common.{◌∙◌, arith}
+use Rattle.hw_goal.proofs.Greatest.{top_value, within_row}
 use Rattle.hw_goal.proofs.widening.current.Goals as goal
 
 pub returns-then-top-high-clause-value : goal.returns-then-top-high-clause-value

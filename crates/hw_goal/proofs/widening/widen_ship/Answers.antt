@@ -1,4 +1,4 @@
-use Rattle.std.proofs.Common.{◌≡◌, ◌+◌, ◌≤◌, ◌<◌, ◌-◌, sym, subst, arith}
+use Rattle.std.proofs.Common.{◌≡◌, ◌+◌, ◌≤◌, ◌-◌, sym, subst, arith}
 use Rattle.hw_model.specs.Rooms.{RoomModel, RoomFits, low_of, high_of}
 use Rattle.hw_model.specs.Refuting.{greatest_value, greatest_sum}
 use Rattle.hw_laws.proofs.Alikes.{values_alike}
