@@ -1,12 +1,12 @@
 -- Bytes have a form exactly where they are the text of a line of that form.
-use Rattle.std.proofs.Common.{◌≡◌, ◌<◌, ℕ, true, List, [], ◌∷◌, length, Option, Some, None, refl, sym, ap, ◌∙◌, arith}
+use Rattle.std.proofs.Common.{◌≡◌, ℕ, List, [], ◌∷◌, Option, Some, None, refl, sym, ap, ◌∙◌, arith}
 use Rattle.hw_lines.specs.declared.line.Line.{Line}
 use Rattle.hw_lines.specs.declared.line.Line.TheVariants as lines
 use Rattle.hw_text.specs.Parts.{words_of}
 use Rattle.hw_cert.specs.declared.version.Version.{Version}
 use Rattle.hw_cert.specs.declared.version.Version.TheVariants.{One, Two}
 use Rattle.hw_cert.specs.Texts.{line_text}
-use Rattle.hw_cert.specs.Spelled.{line_of, spelled}
+use Rattle.hw_cert.specs.Spelled.{spelled}
 use Rattle.hw_cert.specs.Forms.{HasWords, IsOfForm}
 use Rattle.hw_cert.proofs.FormBack.{text_back}
 use Rattle.hw_cert.proofs.Written.{text_spelled}

@@ -1,27 +1,26 @@
 -- Valid lines of a problem have a text that reads back as them.
-use Rattle.std.proofs.Common.{◌≡◌, ◌==◌, ◌+◌, ◌-◌, ◌^◌, ◌≤◌, ◌<◌, ◌&&◌, not, cond, nat_lt, nat_le, ℕ, zero, suc, Bool, true, false, List, [], ◌∷◌, ◌++◌, length, slice_index, Option, Some, None, Ok, All, IfSome, IsSome, refl, sym, ap, ◌∙◌, subst, arith, append_assoc}
-use Rattle.std.proofs.lemmas.Bool.{and_parts, cases_Bool, eq-eqb, lt-ltb, le-leb, leb-true, ltb-true}
+use Rattle.std.proofs.Common.{◌≡◌, ◌==◌, ◌+◌, ◌-◌, ◌^◌, ◌≤◌, ◌<◌, ◌&&◌, not, cond, nat_lt, nat_le, ℕ, zero, suc, Bool, true, false, List, [], ◌∷◌, ◌++◌, length, slice_index, Option, Some, None, All, IfSome, IsSome, refl, ap, ◌∙◌, subst, arith}
+use Rattle.std.proofs.lemmas.Bool.{and_parts, eq-eqb, lt-ltb, le-leb, ltb-true}
 use Rattle.std.proofs.lemmas.List.Elements.{All-head, All-tail}
 use Rattle.std.proofs.lemmas.List.Folds.{list_all-append}
 use Rattle.std.specs.List.{list_all, flat_map, AllByRecursion}
-use Rattle.std.specs.List.Sorted.{IsStrictlyIncreasing}
 use Rattle.hw_model.specs.declared.lit.Lit.{Lit}
 use Rattle.hw_model.specs.declared.lit.Lit.TheVariants.{AtOrAfter, Before, First, NotFirst}
 use Rattle.hw_model.specs.declared.shape.Shape.{Shape}
 use Rattle.hw_model.specs.Limits.{IsFlat}
 use Rattle.hw_model.specs.Lits.{BadLit, lit_fits, keeps_form, first_bad, first_bad_from}
-use Rattle.hw_model.specs.Problem.{Problem, horizon, shape_of}
+use Rattle.hw_model.specs.Problem.{Problem, shape_of}
 use Rattle.hw_lines.specs.declared.line.Line.{Line}
 use Rattle.hw_lines.specs.declared.line.Line.TheVariants as lines
 use Rattle.hw_lines.specs.Lines.{clause_of, clause_count, live}
-use Rattle.hw_lines.specs.Valid.{LineFits, ValidAfter, ValidFrom, Valid}
+use Rattle.hw_lines.specs.Valid.{LineFits, ValidAfter, ValidFrom}
 use Rattle.hw_lines.proofs.Pushed.{one_more}
 use Rattle.hw_lines.proofs.Deleted.{live_in}
 use Rattle.hw_cert.specs.declared.stop.FormWord.{FormWord}
 use Rattle.hw_cert.specs.declared.stop.FormWord.TheVariants.{Range}
 use Rattle.hw_cert.specs.declared.version.Version.TheVariants.{Two}
-use Rattle.hw_cert.specs.Fits.{unless, ◌or_else◌, lit_fault, clause_fault, ascends, first_fault}
-use Rattle.hw_cert.specs.Laws.{lit_numbers, line_numbers, is_small, IsLine}
+use Rattle.hw_cert.specs.Fits.{unless, ◌or_else◌, lit_fault, ascends}
+use Rattle.hw_cert.specs.Laws.{lit_numbers, is_small, IsLine}
 use Rattle.hw_cert.proofs.WordBytes.{both_on}
 
 -- ---- small numbers

@@ -1,7 +1,8 @@
 -- What bytes tell of a certificate with deletions, whatever the problem: its lines, and the bytes behind them.
-use Rattle.std.specs.Prelude.{ℕ, ◌==◌, List, [], ◌∷◌, ◌++◌, Bool, true, Option, Some, None, option_and_then, is_some, if◌then◌else◌}
+use Rattle.std.specs.Prelude.{ℕ, ◌==◌, List, [], ◌∷◌, ◌++◌, Bool, true, Option, Some, None, length, take, ◌<◌, option_and_then, is_some, if◌then◌else◌}
 use Rattle.hw_text.specs.Parts.{parts_of}
-use Rattle.hw_desk.specs.State.{DeskState}
+use Rattle.hw_desk.specs.State.{DeskState, Rose}
+use Rattle.hw_desk.specs.Calls.{Sends}
 use Rattle.hw_desk.specs.declared.desk.Tray.TheVariants.{Proof}
 use Rattle.hw_lines.specs.declared.line.Line.{Line}
 use Rattle.hw_cert.specs.declared.version.Version.TheVariants.{Two}
@@ -12,6 +13,10 @@ use Rattle.hw_cert.specs.Logs.{LogTold, LogModel}
 -- the header's line with its end
 abbrev pub header_line : List ℕ
 header_line = header_text Two ++ 10 ∷ []
+
+-- the header was not sent whole: a proper prefix of it was, and then a write failed
+abbrev pub FailsHeader : DeskState → DeskState → Type 0
+FailsHeader old new = ((n : ℕ) × (n < length header_line) × Sends Proof (take n header_line) old new) × Rose old.write_faults new.write_faults
 
 -- the bytes behind others, if they begin with those
 abbrev pub behind_text : List ℕ → List ℕ → Option (List ℕ)

@@ -28,5 +28,5 @@ pub use log::{Log, LogStop};
 pub use memory_log::MemoryLog;
 pub use reader::{LineReader, Next};
 pub use stop::{FormWord, LineStop};
-pub use tray_log::{TrayLog, send_header};
+pub use tray_log::{HeaderFailed, TrayLog, send_header};
 pub use version::Version;

@@ -1,4 +1,4 @@
-ghost use Rattle.std.specs.Prelude.{◌≡◌, [], true, IfOk, IfSome, OnOk};
+ghost use Rattle.std.specs.Prelude.{◌≡◌, [], true, IfErr, IfOk, IfSome, OnOk};
 ghost use Rattle.std.specs.List.{list_all};
 ghost use Rattle.hw_desk.specs.State.{CanSend};
 ghost use Rattle.hw_desk.specs.Calls.{Sends};
@@ -6,7 +6,7 @@ ghost use Rattle.hw_desk.specs.Whole.{SendsText};
 ghost use Rattle.hw_desk.specs.declared.desk.Tray.TheVariants.{Proof};
 ghost use Rattle.hw_cert.specs.Laws.{is_small, line_numbers};
 ghost use Rattle.hw_cert.specs.Logs.{IsEmpty, ended_text};
-ghost use Rattle.hw_cert.specs.Told.{header_line, is_begun, tray_log};
+ghost use Rattle.hw_cert.specs.Told.{FailsHeader, header_line, is_begun, tray_log};
 
 use crate::putting::put_line;
 use crate::{Log, LogStop};
@@ -23,6 +23,22 @@ pub struct TrayLog<'d, D: Desk> {
     ghost begun: { is_begun ((D.state desk.now).trays Proof).sent ≡ true },
 }
 
+/// The header of a log was not sent whole. The desk that was lent comes back.
+#[derive(Drop)]
+pub struct HeaderFailed<'d, D: Desk> {
+    pub desk: &'d mut D,
+}
+
+impl<'d, D: Desk> From<HeaderFailed<'d, D>> for DeskFailed {
+    /// The failure without the desk, which stays as it is.
+    fn from(failed: HeaderFailed<'d, D>) -> DeskFailed
+        ensures same { D.state failed.exit.0.now ≡ D.state failed.entry.desk.now }
+    {
+        let HeaderFailed { desk: _ } = failed;
+        DeskFailed
+    }
+}
+
 /// Sends the header of a certificate with deletions, `cert 2`, by a write of its own.
 pub fn send_header<D: Desk>(desk: &mut D) -> Result<(), DeskFailed>
     requires made { ((D.state desk.old).trays Tray.Proof).made ≡ true }
@@ -35,18 +51,22 @@ pub fn send_header<D: Desk>(desk: &mut D) -> Result<(), DeskFailed>
 }
 
 impl<'d, D: Desk> TrayLog<'d, D> {
-    /// A log without lines: the header is sent. A caller that goes on after a failure sends the header
-    /// itself, by `send_header`, and takes `over`: of a desk that was lent and failed this call tells nothing.
-    pub fn new(desk: &'d mut D) -> Result<TrayLog<'d, D>, DeskFailed>
+    /// A log without lines: the header is sent, by one `write_all`. After a failure the desk comes back in
+    /// the error: a write failed, and a proper prefix of the header was sent.
+    pub fn new(desk: &'d mut D) -> Result<TrayLog<'d, D>, HeaderFailed<'d, D>>
         requires made { ((D.state desk.old).trays Tray.Proof).made ≡ true }
         requires none { IfSome ((D.state desk.old).trays Tray.Proof).sent (λ bytes. bytes ≡ []) }
         ensures same_reference { IfOk result (λ log. log.desk.ghost_name ≡ desk.entry.ghost_name) }
         ensures sent { IfOk result (λ log. Sends Tray.Proof header_line (D.state desk.old) (D.state log.desk.now)) }
         ensures kept { IfOk result (λ log. (D.state log.desk.now).write_faults ≡ (D.state desk.old).write_faults) }
         ensures empty { IfOk result (λ log. IsEmpty (tray_log (D.state log.desk.now))) }
+        ensures desk_back { IfErr result (λ failed. failed.desk.ghost_name ≡ desk.entry.ghost_name) }
+        ensures failed { IfErr result (λ failed. FailsHeader (D.state desk.old) (D.state failed.desk.now)) }
     {
-        send_header(desk)?;
-        Ok(TrayLog { desk })
+        match send_header(desk) {
+            Ok(()) => Ok(TrayLog { desk }),
+            Err(_) => Err(HeaderFailed { desk }),
+        }
     }
 
     /// A log over a desk whose proof begins with the header.

@@ -10,6 +10,6 @@ pub use laws::{
     branch_open, conflict_line, delete_line, end_means, few_new, few_numbers, few_restarts,
     few_stored, few_written, first_lubys, fit_kept, last_turn, lemma_turn, live_bound,
     live_throughout, luby_rule, new_search, part_written, point_table, reason_line, reason_rises,
-    search_kept, solved_sound, stop_kept, table_line, turn_live, valid_deletes,
+    search_kept, solved_sound, sources_once, stop_kept, table_line, turn_live, valid_deletes,
 };
 pub use outcome::{Branching, Settled, Solved, Turn};

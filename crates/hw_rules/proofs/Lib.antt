@@ -9,3 +9,4 @@ pub mod Numbers
 pub mod Rank
 pub mod Order
 pub mod Walks
+pub mod Listed

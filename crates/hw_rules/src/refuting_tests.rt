@@ -5,6 +5,7 @@ ghost use Rattle.hw_model.specs.Refuting.{IsSourceOf};
 use crate::refuting::refuted;
 use crate::{
     Freeing, beats, forced_tugs, greatest_sum, greatest_value, number_of, one_hole, source_of,
+    sources,
 };
 use hw_flat::Order::{First, NotFirst, Unset};
 use hw_flat::{Flat, NoMemory, Order, Room, Rule, ShipId, Slot, Source};
@@ -19,6 +20,20 @@ const SAILING_PROBLEM: &[u8] =
 /// Three ships that sail in slots 0 to 3, or stay.
 const STAYING_PROBLEM: &[u8] =
     b"flat 2\nsize 3 4\nv 1 1 1 1 y\nv 1 1 1 1 y\nv 1 1 1 1 y\np 0 1 -3:3\ns 0 1 1\ns 1 0 1\nu 1 0:1:4 1:1:4\nend\n";
+
+/// The sources of the first of them.
+const SOURCES: [Source; 10] = [
+    Source::Window { ship: 0 },
+    Source::Window { ship: 1 },
+    Source::Window { ship: 2 },
+    Source::Rule { place: 0 },
+    Source::Rule { place: 1 },
+    Source::Rule { place: 2 },
+    Source::Rule { place: 3 },
+    Source::Rule { place: 4 },
+    Source::Order { v: 0, w: 1, x: 2 },
+    Source::Goal,
+];
 
 /// Three orders: of ships 0 and 1, of 1 and 2, of 0 and 2.
 type Orders = [Order; 3];
@@ -246,6 +261,8 @@ fn numbers_of_restrictions(rt: HostRuntime) -> Result<(), Fail> {
         }
     }
     assert_eq!(rt; number_of(&flat, Source::Goal), None);
+    let listed = sources(rt.alloc(), &flat)?;
+    assert_eq!(rt; listed.as_slice(), SOURCES.as_slice());
     Ok(())
 }
 

@@ -1,4 +1,4 @@
-//! The sources of a problem, and the numbers of its restrictions.
+//! The numbers of a problem's restrictions and their sources, in both directions.
 ghost use Rattle.std.specs.Prelude.{◌≡◌, ◌<◌};
 ghost use Rattle.hw_model.specs.Timetables.{restriction_count};
 ghost use Rattle.hw_model.specs.Refuting.{IsSourceOf};

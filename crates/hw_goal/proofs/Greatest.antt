@@ -1,0 +1,89 @@
+-- The greatest value of a range: what bounds it, and a slot that has it.
+use Rattle.std.proofs.Common.{◌≡◌, ℕ, zero, suc, ◌+◌, ◌-◌, ◌<◌, ◌≤◌, max, fold, zero-le, sym, ◌∙◌, ap, subst, arith, inl, inr}
+use Rattle.std.proofs.lemmas.Bool.{cases_lt}
+use Rattle.std.specs.List.{range_with_len}
+use Rattle.hw_model.specs.Problem.{Problem}
+use Rattle.hw_model.specs.Refuting.{greatest_value}
+use Rattle.hw_laws.proofs.Alikes.{values_alike}
+use Rattle.hw_laws.proofs.Sound.{value_le}
+use Rattle.hw_goal.specs.declared.tops.Peak.{Peak}
+use Rattle.hw_goal.specs.declared.tops.Top.{Top}
+use Rattle.hw_goal.specs.Kept.{worth, IsPeak, IsHigher, IsTop}
+
+range_le : (h : ℕ → ℕ) (a n m most : ℕ) → m ≤ most → ((k : ℕ) → a ≤ k → k < a + n → h k ≤ most) → fold (λ best k. max best (h k)) m (range_with_len a n) ≤ most
+range_le h a zero m most le each = le
+range_le h a (suc n) m most le each =
+    let here : h a ≤ most = each a (omega arith) (omega arith) in
+    range_le h (a + 1) n (max m (h a)) most (omega (arith, le, here)) (λ k from upto. each k (omega (arith, from)) (omega (arith, upto)))
+
+-- what bounds each value of a range bounds the greatest
+pub greatest_le : (f : Problem) (ship low high most : ℕ) → ((slot : ℕ) → low ≤ slot → slot ≤ high → worth f ship slot ≤ most) → greatest_value f ship low high ≤ most
+greatest_le f ship low high most each = range_le (worth f ship) low (high + 1 - low) 0 most (zero-le) (λ k from upto. each k from (omega (arith, from, upto)))
+
+-- the greatest of a range is at most that of one around it
+pub greatest_inner : (f : Problem) (ship low high low' high' : ℕ) → low' ≤ low → high ≤ high' → greatest_value f ship low high ≤ greatest_value f ship low' high'
+greatest_inner f ship low high low' high' a b = greatest_le f ship low high (greatest_value f ship low' high') (λ slot from upto. value_le f ship low' high' slot (omega (arith, a, from)) (omega (arith, b, upto)))
+
+-- the greatest of a wider range stays within a bound where the values beside are
+pub greatest_wider : (f : Problem) (ship low high low' high' most : ℕ) → greatest_value f ship low high ≤ most → ((slot : ℕ) → low' ≤ slot → slot < low → worth f ship slot ≤ most) → ((slot : ℕ) → high < slot → slot ≤ high' → worth f ship slot ≤ most) → greatest_value f ship low' high' ≤ most
+greatest_wider f ship low high low' high' most le below above =
+    greatest_le f ship low' high' most (λ slot from upto. elim (cases_lt slot low) [
+      | inl lt ↦ below slot from lt
+      | inr ge ↦ elim (cases_lt high slot) [
+        | inl gt ↦ above slot gt upto
+        | inr inside ↦ let v : worth f ship slot ≤ greatest_value f ship low high = value_le f ship low high slot ge inside in omega (arith, v, le)
+      ]
+    ])
+
+-- the value of the peak is the greatest
+pub peak_is : (f : Problem) (ship low high : ℕ) (peak : Peak) → IsPeak f ship low high peak → greatest_value f ship low high ≡ peak.value
+peak_is f ship low high peak p =
+    let le : greatest_value f ship low high ≤ peak.value = greatest_le f ship low high peak.value p.most in
+    let ge : worth f ship peak.slot ≤ greatest_value f ship low high = value_le f ship low high peak.slot p.above p.below in
+    omega (arith, le, ge, p.told)
+
+-- one more slot below
+pub peak_more : (f : Problem) (ship at high k : ℕ) (here peak new : Peak) → k + 1 ≡ at → IsPeak f ship at high peak → here.slot ≡ k → here.value ≡ worth f ship k → IsHigher here peak new → IsPeak f ship k high new
+peak_more f ship at high k here peak new next p slot value h = elim h [
+  | inl e ↦ subst (IsPeak f ship k high) (sym e.0) (record {
+    above = omega (arith, slot);
+    below = omega (arith, slot, next, p.above, p.below);
+    told = ap (worth f ship) slot ∙ sym value;
+    most = λ s from upto. elim (cases_lt k s) [
+      | inl lt ↦ omega (arith, e.1, p.most s (omega (arith, next, lt)) upto)
+      | inr le ↦ first s (omega (arith, from, le))
+    ];
+  })
+  | inr e ↦ subst (IsPeak f ship k high) (sym e.0) (record {
+    above = omega (arith, next, p.above);
+    below = p.below;
+    told = p.told;
+    most = λ s from upto. elim (cases_lt k s) [
+      | inl lt ↦ p.most s (omega (arith, next, lt)) upto
+      | inr le ↦ omega (arith, e.1, first s (omega (arith, from, le)))
+    ];
+  })
+]
+  where
+    first : (s : ℕ) → s ≡ k → worth f ship s ≤ here.value
+    first s e = let same : worth f ship s ≡ worth f ship k = ap (worth f ship) e in omega (arith, same, value)
+
+-- a narrower range that has the peak's slot
+pub peak_narrower : (f : Problem) (ship low high low' high' : ℕ) (peak : Peak) → IsPeak f ship low high peak → low ≤ low' → high' ≤ high → low' ≤ peak.slot → peak.slot ≤ high' → IsPeak f ship low' high' peak
+peak_narrower f ship low high low' high' peak p a b from upto = record {
+  above = from;
+  below = upto;
+  told = p.told;
+  most = λ s over under. p.most s (omega (arith, a, over)) (omega (arith, b, under));
+}
+
+-- what is kept of a ship
+pub top_value : (f : Problem) (ship low high : ℕ) (top : Top) → IsTop f ship top → top.low ≡ low → top.high ≡ high → top.peak.value ≡ greatest_value f ship low high
+top_value f ship low high top p a b = sym (peak_is f ship top.low top.high top.peak p.peak) ∙ values_alike f ship low high top.low top.high a b
+
+pub top_small : (f : Problem) (ship : ℕ) (top : Top) → IsTop f ship top → top.peak.value ≤ 1_000_000_000_000
+top_small f ship top p = omega (arith, p.small, p.peak.told, p.row top.peak.slot (omega (arith, p.peak.below, p.in_slots)))
+
+-- the greatest of a range is at most the row's
+pub within_row : (f : Problem) (ship low high : ℕ) (top : Top) → IsTop f ship top → high < f.slots → greatest_value f ship low high ≤ top.row
+within_row f ship low high top p lt = greatest_le f ship low high top.row (λ slot from upto. p.row slot (omega (arith, upto, lt)))

@@ -1,0 +1,183 @@
+//! Widens a room that holds nothing above the best as far as this stays so, ship by ship: it goes
+//! twice through each range at most, and not through all of them for each try.
+ghost use Rattle.std.specs.Prelude.{◌≡◌, ◌≤◌, ◌<◌, ◌+◌, ℕ};
+ghost use Rattle.hw_model.specs.Rooms.{low_of, high_of};
+ghost use Rattle.hw_model.specs.Refuting as refuting;
+ghost use Rattle.hw_prop.specs.Explains.{Explains};
+ghost use Rattle.hw_goal.specs.Kept as kept;
+ghost use Rattle.hw_goal.specs.Kept.{IsTop, AreKept};
+
+use crate::tops::{Figures, Top, worth};
+use hw_flat::{Flat, Room, ShipId, Slot};
+use hw_prop::Side;
+use hw_rules::greatest_value;
+
+/// The greatest value of a ship in its range in a room: the kept one where the ship was last seen
+/// with this range, else by a look at each slot.
+fn current(flat: &Flat, top: Top, room: &Room, ship: ShipId) -> u64
+    requires ship_in { ship < flat.now.ships }
+    requires top { IsTop flat.now ship top }
+    requires ships { room.now.ships ≡ flat.now.ships }
+    requires slots { room.now.slots ≡ flat.now.slots }
+    ensures value { result ≡ refuting.greatest_value flat.now ship (low_of room.now ship) (high_of room.now ship) }
+    ensures small { result ≤ 1_000_000_000_000 }
+    ensures row { result ≤ top.row }
+{
+    let low = room.low(ship);
+    let high = room.high(ship);
+    if top.low == low && top.high == high {
+        return top.peak.value;
+    }
+    greatest_value(flat, ship, low, high)
+}
+
+/// The sum of the greatest values in a room, of which most ranges were seen last.
+fn sum_in(flat: &Flat, figures: &Figures, room: &Room) -> u64
+    requires kept { AreKept flat.now flat.now.ships figures.now }
+    requires ships { room.now.ships ≡ flat.now.ships }
+    requires slots { room.now.slots ≡ flat.now.slots }
+    ensures value { result ≡ refuting.greatest_sum flat.now room.now }
+    ensures small { result ≤ 40_000_000_000_000 }
+{
+    let mut sum: u64 = 0;
+    for ship in 0..flat.shape().ships {
+        sum += current(flat, figures.tops[ship as usize], room, ship);
+    }
+    sum
+}
+
+/// Opens a ship's range whole where the greatest sum may rise by so much; what is spared then.
+fn open_ship(
+    flat: &Flat,
+    top: Top,
+    side: Side,
+    room: &Room,
+    denied: &mut Room,
+    ship: ShipId,
+    spare: u64,
+) -> u64
+    requires ship_in { ship < flat.now.ships }
+    requires top { IsTop flat.now ship top }
+    requires ships { denied.old.ships ≡ flat.now.ships }
+    requires slots { denied.old.slots ≡ flat.now.slots }
+    requires small { spare ≤ 40_000_000_000_000 }
+    requires explains { Explains side room.now denied.old }
+    ensures ships { denied.new.ships ≡ flat.now.ships }
+    ensures slots { denied.new.slots ≡ flat.now.slots }
+    ensures spared { result ≤ spare }
+    ensures sum { refuting.greatest_sum flat.now denied.new + result ≤ refuting.greatest_sum flat.now denied.old + spare }
+    ensures explains { Explains side room.now denied.new }
+{
+    let _ships = denied.ships();
+    let last = flat.shape().slots - 1;
+    let now = current(flat, top, denied, ship);
+    if now + spare < top.row {
+        return spare;
+    }
+    denied.put(ship, 0, last);
+    now + spare - top.row
+}
+
+/// The lowest slot from which on all values below a range are within a bound.
+fn lowest_within(flat: &Flat, ship: ShipId, low: Slot, most: u64) -> Slot
+    requires ship_in { ship < flat.now.ships }
+    requires slot_in { low < flat.now.slots }
+    ensures below { result ≤ low }
+    ensures within { (slot : ℕ) → result ≤ slot → slot < low → kept.worth flat.now ship slot ≤ most }
+{
+    let mut at = low;
+    while 0 < at {
+        if most < worth(flat, ship, at - 1) {
+            return at;
+        }
+        at -= 1;
+    }
+    at
+}
+
+/// The highest slot up to which all values above a range are within a bound.
+fn highest_within(flat: &Flat, ship: ShipId, high: Slot, most: u64) -> Slot
+    requires ship_in { ship < flat.now.ships }
+    requires slot_in { high < flat.now.slots }
+    ensures above { high ≤ result }
+    ensures slot_in { result < flat.now.slots }
+    ensures within { (slot : ℕ) → high < slot → slot ≤ result → kept.worth flat.now ship slot ≤ most }
+{
+    let last = flat.shape().slots - 1;
+    let mut at = high;
+    while at < last {
+        if most < worth(flat, ship, at + 1) {
+            return at;
+        }
+        at += 1;
+    }
+    at
+}
+
+/// Moves the ends of a ship's range outwards while the greatest sum rises by so much at most; what
+/// is spared then.
+fn widen_ship(
+    flat: &Flat,
+    top: Top,
+    side: Side,
+    room: &Room,
+    denied: &mut Room,
+    ship: ShipId,
+    spare: u64,
+) -> u64
+    requires ship_in { ship < flat.now.ships }
+    requires top { IsTop flat.now ship top }
+    requires ships { denied.old.ships ≡ flat.now.ships }
+    requires slots { denied.old.slots ≡ flat.now.slots }
+    requires small { spare ≤ 40_000_000_000_000 }
+    requires explains { Explains side room.now denied.old }
+    ensures ships { denied.new.ships ≡ flat.now.ships }
+    ensures slots { denied.new.slots ≡ flat.now.slots }
+    ensures spared { result ≤ spare }
+    ensures sum { refuting.greatest_sum flat.now denied.new + result ≤ refuting.greatest_sum flat.now denied.old + spare }
+    ensures explains { Explains side room.now denied.new }
+{
+    let _ships = denied.ships();
+    let low = denied.low(ship);
+    let high = denied.high(ship);
+    if low == 0 && high + 1 == denied.slots() {
+        return spare;
+    }
+    let most = current(flat, top, denied, ship) + spare;
+    let lowest = lowest_within(flat, ship, low, most);
+    let highest = highest_within(flat, ship, high, most);
+    denied.put(ship, lowest, highest);
+    most - greatest_value(flat, ship, lowest, highest)
+}
+
+/// Widens a denied room as far as it holds nothing above the best: ships are opened whole where
+/// this is spared, then the other ranges are widened.
+pub(crate) fn widen(
+    flat: &Flat,
+    figures: &Figures,
+    best: u64,
+    side: Side,
+    room: &Room,
+    denied: &mut Room,
+)
+    requires kept { AreKept flat.now flat.now.ships figures.now }
+    requires ships { denied.old.ships ≡ flat.now.ships }
+    requires slots { denied.old.slots ≡ flat.now.slots }
+    requires sum { refuting.greatest_sum flat.now denied.old ≤ best }
+    requires explains { Explains side room.now denied.old }
+    ensures ships { denied.new.ships ≡ flat.now.ships }
+    ensures slots { denied.new.slots ≡ flat.now.slots }
+    ensures sum { refuting.greatest_sum flat.now denied.new ≤ best }
+    ensures explains { Explains side room.now denied.new }
+{
+    let ships = flat.shape().ships;
+    let mut spare = (best - sum_in(flat, figures, denied)).min(40_000_000_000_000);
+    for ship in 0..ships {
+        let top = figures.tops[ship as usize];
+        spare = open_ship(flat, top, side, room, denied, ship, spare);
+    }
+    for ship in 0..ships {
+        let top = figures.tops[ship as usize];
+        spare = widen_ship(flat, top, side, room, denied, ship, spare);
+    }
+}

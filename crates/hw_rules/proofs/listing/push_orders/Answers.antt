@@ -1,0 +1,9 @@
+use Rattle.std.proofs.Common.{◌≡◌, ap, arith}
+use Rattle.hw_model.specs.declared.shape.Shape.{Shape}
+use Rattle.hw_rules.proofs.Listed.{orders_end}
+use Rattle.hw_rules.proofs.listing.push_orders.Goals as goal
+
+pub returns : goal.returns
+returns c h =
+    let ships : c.shape-ships.result.ships ≡ c.args.flat.now.ships = ap (λ (s : Shape). s.ships) c.shape-ships.ensures.value in
+    orders_end c.args.flat.now c.loop-v.v c.loop-v.out.items (omega (arith, ships)) (c.loop-v.invariant h)
