@@ -2,6 +2,7 @@ pub mod Markings
 pub mod Kept
 pub mod Steps
 pub mod Lemmas
+pub mod Asked
 pub mod Handed
 pub mod Named
 pub mod Adding

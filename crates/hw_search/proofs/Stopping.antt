@@ -170,8 +170,7 @@ wrote_lines stop turn s p count was now most le t m =
 failed_at : (s : SearchModel) (p : List Line) (count : ℕ) (was now : LogTold) → count ≤ length p → StopsAfter stops.Failed p count was now → Planned s was.lines p → FailsAt s.problem now
 failed_at s p count was now le t m =
     let line = some_and (slice_get (p ++ m.rest) count) (λ line. IsBegunLine line now.behind) (get_front p m.rest count (λ line. IsBegunLine line now.behind) t.behind) in
-    let e = lines_in stops.Failed s p count was now le t m in
-    (
+    let e = lines_in stops.Failed s p count was now le t m in (
       line.0,
       fits_at s.problem (p ++ m.rest) count line.0 m.well.fit line.1,
       subst (λ xs. ValidAfter s.problem xs line.0) (sym e) (valid_at s.problem was.lines (p ++ m.rest) count line.0 m.well.valid line.1),

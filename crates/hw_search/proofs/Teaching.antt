@@ -306,9 +306,9 @@ past_meets s mid why lemma back places stored more stop old new b a some literal
     } in
     stop_meets s after stop (p ++ more) (Just (length p)) old new b st (λ count z. omega (arith, z, length-append p more)) later cause t
     (λ was fit.
-      let w = whole_lemma s mid was why lemma back places e (K was fit) a some literal in
-      let r = behind was fit in
-      part_of s was.lines (p ++ more) r.0 (subst (Whole s was.lines) (ap (λ xs. p ++ xs) (sym r.1) ∙ sym (append_assoc p more r.0)) w))
+    let w = whole_lemma s mid was why lemma back places e (K was fit) a some literal in
+    let r = behind was fit in
+    part_of s was.lines (p ++ more) r.0 (subst (Whole s was.lines) (ap (λ xs. p ++ xs) (sym r.1) ∙ sym (append_assoc p more r.0)) w))
     (λ told count fit z. subst (λ xs. Left after (told.lines ++ xs)) (sym (ap (λ k. take k (p ++ more)) z ∙ take_front p more (length p) (omega arith) ∙ take_all (length p) p (omega arith))) (past_left s mid told why lemma back places stored b.kept b.going (K told fit) a literal))
     (Stops.past_lemma (record {
       mid = mid;

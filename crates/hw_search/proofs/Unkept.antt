@@ -63,12 +63,12 @@ same_members low [] [] a b to back = refl
 same_members low [] (y ∷ ys) a b to back = absurd (contains_none y (back y (contains_here y ys y refl)))
 same_members low (x ∷ xs) [] a b to back = absurd (contains_none x (to x (contains_here x xs x refl)))
 same_members low (x ∷ xs) (y ∷ ys) a b to back =
-    let down : y ≤ x = elim (contains_cases y ys x (to x (contains_here x xs x refl))) [ | inl e ↦ omega (arith, e) | inr more ↦ omega (arith, least (y + 1) ys x b.1 more) ] in
-    let up : x ≤ y = elim (contains_cases x xs y (back y (contains_here y ys y refl))) [ | inl e ↦ omega (arith, e) | inr more ↦ omega (arith, least (x + 1) xs y a.1 more) ] in
+    let down : y ≤ x = elim (contains_cases y ys x (to x (contains_here x xs x refl))) [ inl e ↦ omega (arith, e) | inr more ↦ omega (arith, least (y + 1) ys x b.1 more) ] in
+    let up : x ≤ y = elim (contains_cases x xs y (back y (contains_here y ys y refl))) [ inl e ↦ omega (arith, e) | inr more ↦ omega (arith, least (x + 1) xs y a.1 more) ] in
     let e : x ≡ y = omega (arith, down, up) in
     ap (λ z. z ∷ xs) e ∙ ap (λ zs. y ∷ zs) (same_members (x + 1) xs ys a.1 (subst (λ z. Above (z + 1) ys) (sym e) b.1)
-    (λ n c. elim (contains_cases y ys n (to n (contains_there x xs n c))) [ | inl f ↦ absurd (omega (arith, f, e, least (x + 1) xs n a.1 c)) | inr more ↦ more ])
-    (λ n c. elim (contains_cases x xs n (back n (contains_there y ys n c))) [ | inl f ↦ absurd (omega (arith, f, e, least (y + 1) ys n b.1 c)) | inr more ↦ more ]))
+    (λ n c. elim (contains_cases y ys n (to n (contains_there x xs n c))) [ inl f ↦ absurd (omega (arith, f, e, least (x + 1) xs n a.1 c)) | inr more ↦ more ])
+    (λ n c. elim (contains_cases x xs n (back n (contains_there y ys n c))) [ inl f ↦ absurd (omega (arith, f, e, least (y + 1) ys n b.1 c)) | inr more ↦ more ]))
 
 any_contains : (xs : List ℕ) (n : ℕ) → list_any (λ x. x == n) xs ≡ true → Contains xs n
 any_contains [] n e = absurd cc
@@ -89,9 +89,9 @@ unkept_is before s ids rises is_live not_kept all =
     same_members 0 ids (unkept before s) (above_pairs 0 ids (AllPairs-from_increasing ids rises) (omega arith)) (above_lower 0 1 (unkept before s) (omega arith) (above_filter (λ id. is_some (live before id) && not (list_any (λ kept. kept == id) (kept_numbers s))) 1 (clause_count before)))
     (λ n c. any_contains (unkept before s) n (there n (is_live n c) (not_kept n c) (list_any (λ x. x == n) (unkept before s)) refl))
     (λ n c.
-      let e = contains_any (unkept before s) n c in
-      let r = from_filter (λ id. is_some (live before id) && not (list_any (λ kept. kept == id) (kept_numbers s))) (range_with_len 1 (clause_count before)) n e in
-      all n (both_left (is_some (live before n)) (not (list_any (λ kept. kept == n) (kept_numbers s))) r.0) (λ k. let f : true ≡ false = sym e ∙ unkept_not before s n k in cc))
+    let e = contains_any (unkept before s) n c in
+    let r = from_filter (λ id. is_some (live before id) && not (list_any (λ kept. kept == id) (kept_numbers s))) (range_with_len 1 (clause_count before)) n e in
+    all n (both_left (is_some (live before n)) (not (list_any (λ kept. kept == n) (kept_numbers s))) r.0) (λ k. let f : true ≡ false = sym e ∙ unkept_not before s n k in cc))
   where
     there : (n : ℕ) → IsSome (live before n) → (Contains (kept_numbers s) n → ⊥) → (b : Bool) → list_any (λ x. x == n) (unkept before s) ≡ b → list_any (λ x. x == n) (unkept before s) ≡ true
     there n l k true e = e
