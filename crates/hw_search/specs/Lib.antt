@@ -8,3 +8,4 @@ pub mod Handing
 pub mod Naming
 pub mod Turning
 pub mod Branching
+pub mod Any

@@ -3,6 +3,7 @@
 //! Every line that a search hands to its log is valid, lean and new after those before it.
 #![tactic(auto)]
 
+mod any;
 mod asking;
 mod branching;
 mod dropped;
