@@ -3,6 +3,7 @@ pub mod Kept
 pub mod Steps
 pub mod Lemmas
 pub mod Asked
+pub mod Rounds
 pub mod Handed
 pub mod Named
 pub mod Adding

@@ -3,7 +3,7 @@ ghost use Rattle.std.specs.Option.{option_copied};
 ghost use Rattle.hw_model.specs.declared.source.Source.TheVariants.{Goal};
 ghost use Rattle.hw_model.specs.Problem.{shape_of};
 ghost use Rattle.hw_model.specs.Rooms.{whole_room};
-ghost use Rattle.hw_progress.specs.Searches.{new_search, room_in};
+ghost use Rattle.hw_progress.specs.Searches.{new_search, room_in, IsSearch};
 ghost use Rattle.hw_progress.specs.Starting.{EachSourceOnce};
 
 use crate::speakers::Speakers;
@@ -140,6 +140,7 @@ impl<'f, S: Store + Drop, P: Propagator + Drop> Engine<'f, S, P> {
     /// The number of lemmas.
     pub fn lemmas(&self) -> u32
         ensures value { result ≡ self.now.search.lemmas }
+        ensures search { IsSearch self.now.search }
     {
         self.lemmas
     }

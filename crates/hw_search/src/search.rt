@@ -2,7 +2,7 @@ ghost use Rattle.std.specs.Prelude.{◌≡◌, ◌<◌, [], false, All, IfOk, ma
 ghost use Rattle.std.specs.Option.{option_copied};
 ghost use Rattle.hw_model.specs.Problem.{shape_of};
 ghost use Rattle.hw_model.specs.Rooms.{whole_room};
-ghost use Rattle.hw_progress.specs.Searches.{new_search, room_in};
+ghost use Rattle.hw_progress.specs.Searches.{new_search, room_in, IsSearch};
 ghost use Rattle.hw_progress.specs.Settling.{SettleMeets};
 ghost use Rattle.hw_progress.specs.Starting.{EachSourceOnce};
 
@@ -72,6 +72,7 @@ impl<'f, S: Store + Drop, P: Propagator + Drop> Search<'f, S, P> {
     /// The number of lemmas.
     pub fn lemmas(&self) -> u32
         ensures value { result ≡ self.now.lemmas }
+        ensures search { IsSearch self.now }
     {
         self.engine.lemmas()
     }

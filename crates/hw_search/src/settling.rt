@@ -137,7 +137,11 @@ impl<'f, S: Store + Drop, P: Propagator + Drop> Engine<'f, S, P> {
                 Asked::Conflict(why) => return Ok(Asked::Conflict(why)),
             }
         }
-        Ok(if cut { Asked::Cut } else { Asked::Quiet })
+        if cut {
+            Ok(Asked::Cut)
+        } else {
+            Ok(Asked::Quiet)
+        }
     }
 
     /// Asks the store and the marked sources, in rounds, until all are quiet or a clause has no

@@ -16,7 +16,6 @@ returns-then-unwrap_or-most-clause-value c =
     sym (subst (λ (m : ℕ). find (λ slot. v slot == m) (range_with_len low n) ≡ Some c.loop-slot.slot) c.requires.most
     (find_at (λ slot. v slot == c.args.most) low n c.loop-slot.slot (omega arith) (omega arith) c.loop-slot.invariant (eq-eqb (v c.loop-slot.slot) c.args.most at)))
 
-
 pub returns-clause-value : goal.returns-clause-value
 returns-clause-value c =
     let low = low_of c.args.room.now c.args.ship in

@@ -1,0 +1,42 @@
+-- A round over the marked sources.
+use Rattle.std.proofs.Common.{◌≡◌, ℕ, ◌<◌, ◌+◌, ◌-◌, ◌≤◌, Bool, true, false, List, Some, length, get_or, slice_get, refl, sym, ap, ◌∙◌, subst, inl, inr, arith}
+use Rattle.std.specs.Prelude.{Contains, slice_set}
+use Rattle.std.proofs.lemmas.Bool.{cases_lt, cases_eq}
+use Rattle.std.proofs.lemmas.List.{get_or-set_other, get_or-set_same}
+use Rattle.std.proofs.lemmas.Option.{slice_get-get_or}
+use Rattle.hw_model.specs.declared.source.Source.{Source}
+use Rattle.hw_story.specs.Trails.{most_events}
+use Rattle.hw_progress.specs.Searches.{SearchModel}
+use Rattle.hw_search.specs.Askings.{SourcesQuiet, Gains}
+use Rattle.hw_search.specs.Engines.{EngineModel, KeepsEngine}
+use Rattle.hw_search.specs.Marks.{is_marked, ClearWithin}
+use Rattle.hw_search.specs.Speaking.{SpeakersModel}
+use Rattle.hw_search.proofs.Steps.{left_less}
+
+pub clear_joined : (marks : List Bool) (from upto : ℕ) → ClearWithin marks 0 from → ClearWithin marks from upto → ClearWithin marks 0 upto
+clear_joined marks from upto a b place low lt = elim (cases_lt place from) [
+  | inl less ↦ a place low less
+  | inr more ↦ b place more lt
+]
+
+-- one more source has lost its mark
+pub clear_more : (marks new : List Bool) (place : ℕ) → place < length marks → new ≡ slice_set marks place false → ClearWithin marks 0 place → ClearWithin new 0 (place + 1)
+clear_more marks new place inside e clear other low lt = subst (λ xs. is_marked xs other ≡ false) (sym e) (elim (cases_eq other place) [
+  | inl same ↦ subst (λ n. is_marked (slice_set marks place false) n ≡ false) (sym same) (get_or-set_same marks place false true inside)
+  | inr ne ↦ get_or-set_other marks place other false true ne ∙ clear other low (less other place lt ne)
+])
+  where
+    less : (a b : ℕ) → a < b + 1 → (a ≡ b → ⊥) → a < b
+    less a b lt ne = grind arith
+
+-- where no source is marked, each is quiet
+pub sources_quiet : (e : EngineModel) (table : SpeakersModel) (goal : ℕ) (best : List ℕ) (worth : _) (capacity : ℕ) → KeepsEngine e table goal best worth capacity → ClearWithin e.marks 0 (length e.marks) → SourcesQuiet e.search
+sources_quiet e table goal best worth capacity k clear source of =
+    let there : Contains e.sources source = k.once.each source of in
+    let at : slice_get e.sources there.0 ≡ Some source = slice_get-get_or e.sources there.0 source there.1 ∙ ap (λ x. Some x) there.2 in
+    k.quiet there.0 source at (clear there.0 (omega arith) (omega (arith, there.1, k.each_mark)))
+
+-- an event less may come, or a source less is to be asked
+pub less_left : (s after : SearchModel) (sources given : List Source) (from place : ℕ) → Gains s after → sources ≡ given → from ≤ place
+    → (most_events after.problem.ships after.problem.slots - length after.trail.events) + (length sources - place) < (most_events s.problem.ships s.problem.slots - length s.trail.events) + (length given - from)
+less_left s after sources given from place g same le = omega (arith, left_less s after g, ap length same, le)
