@@ -5,19 +5,22 @@ use Rattle.std.specs.Option.{option_flatten}
 use Rattle.std.proofs.lemmas.List.{take-append-drop}
 use Rattle.std.proofs.lemmas.List.Sums.{fold-append, fold_more}
 use Rattle.hw_model.specs.Problem.{Problem}
+use Rattle.hw_model.specs.declared.lit.Lit.{Lit}
 use Rattle.hw_lines.specs.declared.line.Line.{Line}
+use Rattle.hw_lines.specs.declared.line.Line.TheVariants as lines
 use Rattle.hw_story.specs.declared.event.Event.{Event}
 use Rattle.hw_story.specs.declared.event.Why.{Why}
 use Rattle.hw_story.specs.declared.event.Why.TheVariants as whys
 use Rattle.hw_story.specs.Trails.{TrailModel}
 use Rattle.hw_cert.specs.declared.log.LogStop.{LogStop}
 use Rattle.hw_cert.specs.declared.log.LogStop.TheVariants as stops
-use Rattle.hw_cert.specs.Logs.{LogModel, IsWhole}
+use Rattle.hw_cert.specs.Logs.{LogModel, IsWhole, TakesLine}
 use Rattle.hw_progress.specs.Searches.{SearchModel, why_at, written_at}
-use Rattle.hw_progress.specs.Turns.{source_line, with_written, Cited, cite_by, cite, cite_conflict}
+use Rattle.hw_progress.specs.Turns.{source_line, with_written, Cited, cite_by, cite, cited, cite_conflict}
+use Rattle.hw_progress.specs.Laws.{lemma_lines}
 use Rattle.hw_search.specs.Handing.{TakesAll, StopsWithin, Hands}
-use Rattle.hw_search.specs.Naming.{known_number, lines_of, IsOfProblem, search_on, naming, Numbers, FewerNumbers, NamesBy}
-use Rattle.hw_search.proofs.Handed.{all_none, memory_after, all_on, stop_on, stop_in, stop_more}
+use Rattle.hw_search.specs.Naming.{known_number, lines_of, IsOfProblem, search_on, naming, taught, Numbers, FewerNumbers, NamesBy}
+use Rattle.hw_search.proofs.Handed.{all_none, all_whole, memory_after, all_on, stop_on, stop_in, stop_more, one_taken, one_stopped}
 
 pub why_of_event : (t : TrailModel) (q : ℕ) (event : Event) (why : Why) → slice_get t.events q ≡ Some event → event.why ≡ Some why → why_at t q ≡ Some why
 why_of_event t q event why e f = ap (option_and_then (λ (x : Event). x.why)) e ∙ f
@@ -175,3 +178,79 @@ step_stops s f t ws now n lines old hints qs i d stop begun log new lt m a b =
     subst (λ xs. StopsWithin stop xs (length xs) begun new) (sym whole)
     (stop_more stop ((c.lines ++ one) ++ more.0) (length c.lines + length one) (length ((c.lines ++ one) ++ more.0)) begun new (omega (arith, l, l2))
     (stop_in stop (c.lines ++ one) more.0 (length c.lines + length one) begun new (omega (arith, l)) all))
+
+-- ---- the conflict
+
+pub conflict_from : (c : Cited) (why : Why) → cite_conflict c why ≡ record { search = (cite_conflict (naming c.search c.hints) why).search; lines = c.lines ++ (cite_conflict (naming c.search c.hints) why).lines; hints = (cite_conflict (naming c.search c.hints) why).hints }
+conflict_from c (whys.Lemma number clause) = ap (λ xs. record c { lines = xs; hints = c.hints ++ number ∷ [] }) (sym (append-nil c.lines))
+conflict_from c (whys.Source source clause) = refl
+
+pub taught_lines : (s : SearchModel) (f : Problem) (t : TrailModel) (ws now : List (Option ℕ)) (n lines : ℕ) (hints : List ℕ) (qs : List ℕ) (why : Why) → Numbers (cited (search_on s f t ws n) qs) now lines hints
+    → (taught (search_on s f t ws n) why qs).lines ≡ (cited (search_on s f t ws n) qs).lines ++ (cite_conflict (naming (search_on s f t now lines) hints) why).lines
+taught_lines s f t ws now n lines hints qs why m =
+    let c = cited (search_on s f t ws n) qs in
+    ap (λ (x : Cited). x.lines) (conflict_from c why) ∙ ap (λ (x : Cited). c.lines ++ (cite_conflict x why).lines) (sym (naming_is s f t ws now n lines [] hints qs m))
+
+pub taught_hands : (s : SearchModel) (f : Problem) (t : TrailModel) (ws now : List (Option ℕ)) (n lines : ℕ) (hints qs : List ℕ) (why : Why) (old mid new : LogModel) → Numbers (cited (search_on s f t ws n) qs) now lines hints
+    → TakesAll (cited (search_on s f t ws n) qs).lines old mid → TakesAll (cite_conflict (naming (search_on s f t now lines) hints) why).lines mid new
+    → TakesAll (taught (search_on s f t ws n) why qs).lines old new
+taught_hands s f t ws now n lines hints qs why old mid new m a b =
+    subst (λ xs. TakesAll xs old new) (sym (taught_lines s f t ws now n lines hints qs why m)) (all_on (cited (search_on s f t ws n) qs).lines (cite_conflict (naming (search_on s f t now lines) hints) why).lines old mid new a b)
+
+-- it stopped at a reason
+pub reasons_stop : (s : SearchModel) (f : Problem) (t : TrailModel) (ws : List (Option ℕ)) (n : ℕ) (qs : List ℕ) (why : Why) (stop : LogStop) (old new : LogModel)
+    → StopsWithin stop (cited (search_on s f t ws n) qs).lines (length (cited (search_on s f t ws n) qs).lines) old new
+    → StopsWithin stop (taught (search_on s f t ws n) why qs).lines (length (taught (search_on s f t ws n) why qs).lines) old new
+reasons_stop s f t ws n qs why stop old new a =
+    let c = cited (search_on s f t ws n) qs in
+    let more = (cite_conflict (naming c.search c.hints) why).lines in
+    let e : (taught (search_on s f t ws n) why qs).lines ≡ c.lines ++ more = ap (λ (x : Cited). x.lines) (conflict_from c why) in
+    subst (λ xs. StopsWithin stop xs (length xs) old new) (sym e) (stop_more stop (c.lines ++ more) (length c.lines) (length (c.lines ++ more)) old new (omega (arith, length-append c.lines more)) (stop_in stop c.lines more (length c.lines) old new (omega arith) a))
+
+-- it stopped at the conflict
+pub conflict_stops : (s : SearchModel) (f : Problem) (t : TrailModel) (ws now : List (Option ℕ)) (n lines : ℕ) (hints qs : List ℕ) (why : Why) (stop : LogStop) (old mid new : LogModel) → Numbers (cited (search_on s f t ws n) qs) now lines hints
+    → TakesAll (cited (search_on s f t ws n) qs).lines old mid → StopsWithin stop (cite_conflict (naming (search_on s f t now lines) hints) why).lines (length (cite_conflict (naming (search_on s f t now lines) hints) why).lines) mid new
+    → StopsWithin stop (taught (search_on s f t ws n) why qs).lines (length (taught (search_on s f t ws n) why qs).lines) old new
+conflict_stops s f t ws now n lines hints qs why stop old mid new m a b =
+    let c = cited (search_on s f t ws n) qs in
+    let more = (cite_conflict (naming (search_on s f t now lines) hints) why).lines in
+    subst (λ xs. StopsWithin stop xs (length xs) old new) (sym (taught_lines s f t ws now n lines hints qs why m)) (stop_more stop (c.lines ++ more) (length c.lines + length more) (length (c.lines ++ more)) old new (omega (arith, length-append c.lines more)) (stop_on stop c.lines more (length more) old mid new a b))
+
+same_conflict : (c : Cited) (why : Why) → (cite_conflict c why).search.written ≡ c.search.written
+same_conflict c (whys.Lemma number clause) = refl
+same_conflict c (whys.Source source clause) = refl
+
+pub taught_numbers : (s : SearchModel) (f : Problem) (t : TrailModel) (ws now : List (Option ℕ)) (n lines after : ℕ) (hints new qs : List ℕ) (why : Why) → Numbers (cited (search_on s f t ws n) qs) now lines hints
+    → after ≡ (cite_conflict (naming (search_on s f t now lines) hints) why).search.clause_lines → new ≡ (cite_conflict (naming (search_on s f t now lines) hints) why).hints
+    → Numbers (taught (search_on s f t ws n) why qs) now after new
+taught_numbers s f t ws now n lines after hints new qs why m e h =
+    let c = cited (search_on s f t ws n) qs in
+    let same = naming_is s f t ws now n lines [] hints qs m in
+    record {
+      same_written = m.same_written ∙ sym (same_conflict c why);
+      same_lines = e ∙ ap (λ (x : Cited). (cite_conflict x why).search.clause_lines) same ∙ sym (ap (λ (x : Cited). x.search.clause_lines) (conflict_from c why));
+      same_hints = h ∙ ap (λ (x : Cited). (cite_conflict x why).hints) same ∙ sym (ap (λ (x : Cited). x.hints) (conflict_from c why));
+    }
+
+-- where nothing was named before
+pub numbers_from : (s : SearchModel) (f : Problem) (t : TrailModel) (ws now : List (Option ℕ)) (n lines : ℕ) (none hints qs : List ℕ) → none ≡ [] → Numbers (fold cite (naming (search_on s f t ws n) none) qs) now lines hints → Numbers (cited (search_on s f t ws n) qs) now lines hints
+numbers_from s f t ws now n lines none hints qs e m = subst (λ xs. Numbers (fold cite (naming (search_on s f t ws n) xs) qs) now lines hints) e m
+
+pub taken_from : (s : SearchModel) (f : Problem) (t : TrailModel) (ws : List (Option ℕ)) (n : ℕ) (none qs : List ℕ) (old new : LogModel) → none ≡ [] → TakesAll (fold cite (naming (search_on s f t ws n) none) qs).lines old new → TakesAll (cited (search_on s f t ws n) qs).lines old new
+taken_from s f t ws n none qs old new e m = subst (λ xs. TakesAll (fold cite (naming (search_on s f t ws n) xs) qs).lines old new) e m
+
+-- ---- the lemma behind them
+
+pub lemma_taken : (c : Cited) (lemma : List Lit) (hints : List ℕ) (old mid new : LogModel) (done : Unit {0}) → hints ≡ c.hints → TakesAll c.lines old mid → TakesLine (lines.Lemma lemma hints) mid new (Ok done) → TakesAll (lemma_lines c lemma) old new
+lemma_taken c lemma hints old mid new done e a t = all_on c.lines (lines.Lemma lemma c.hints ∷ []) old mid new a (subst (λ xs. TakesAll (lines.Lemma lemma xs ∷ []) mid new) e (one_taken (lines.Lemma lemma hints) mid new done t))
+
+pub lemma_stopped : (c : Cited) (lemma : List Lit) (hints : List ℕ) (stop : LogStop) (old mid new : LogModel) → hints ≡ c.hints → TakesAll c.lines old mid → TakesLine (lines.Lemma lemma hints) mid new (Err stop) → StopsWithin stop (lemma_lines c lemma) (length c.lines) old new
+lemma_stopped c lemma hints stop old mid new e a t =
+    stop_more stop (lemma_lines c lemma) (length c.lines + 0) (length c.lines) old new (omega arith)
+    (stop_on stop c.lines (lines.Lemma lemma c.hints ∷ []) 0 old mid new a (subst (λ xs. StopsWithin stop (lines.Lemma lemma xs ∷ []) 0 mid new) e (one_stopped (lines.Lemma lemma hints) stop mid new (all_whole c.lines old mid a) t)))
+
+pub lemma_early : (c : Cited) (lemma : List Lit) (stop : LogStop) (old new : LogModel) → StopsWithin stop c.lines (length c.lines) old new → StopsWithin stop (lemma_lines c lemma) (length c.lines) old new
+lemma_early c lemma stop old new a = stop_in stop c.lines (lines.Lemma lemma c.hints ∷ []) (length c.lines) old new (omega arith) a
+
+pub table_stopped : (table row : List ℕ) (stop : LogStop) (old new : LogModel) → table ≡ row → IsWhole old → TakesLine (lines.Table table) old new (Err stop) → StopsWithin stop (lines.Table row ∷ []) 0 old new
+table_stopped table row stop old new e whole t = subst (λ xs. StopsWithin stop (lines.Table xs ∷ []) 0 old new) e (one_stopped (lines.Table table) stop old new whole t)

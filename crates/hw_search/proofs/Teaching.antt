@@ -30,14 +30,11 @@ use Rattle.hw_progress.proofs.Told.{grown}
 use Rattle.hw_progress.proofs.Turned.{few_for, lemma_meets, last}
 use Rattle.hw_progress.proofs.Living.{turn_lives}
 use Rattle.hw_search.specs.Handing.{TakesAll, StopCause, StopsAfter, StopsWithin}
+use Rattle.hw_search.specs.Naming.{taught}
 use Rattle.hw_search.specs.Turning.{Begins, turn_of, halted}
 use Rattle.hw_search.proofs.Handed.{grows_by, grows_none, grown_with, told_by, take_front, take_past, stop_on}
 use Rattle.hw_search.proofs.Stopping.{Left, Planned, Stopped, left_fit, left_sourced, cited_sourced, stop_meets}
 use Rattle.hw_search.proofs.Answering.{Same, same_mid, mid_fits, before_stops, halts, Tells, tells}
-
--- the lemma with its reasons and its conflict
-abbrev pub taught : SearchModel → Why → List ℕ → Cited
-taught mid why places = cite_conflict (cited mid places) why
 
 -- the search that has gone back
 abbrev pub gone : SearchModel → Why → List Lit → ℕ → List ℕ → SearchModel

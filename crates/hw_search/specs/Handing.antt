@@ -2,9 +2,13 @@
 use Rattle.std.specs.Prelude.{◌≡◌, ℕ, ◌≤◌, List, [], ◌++◌, Option, Result, Ok, Err, IsSomeAnd, length, take, slice_get}
 use Rattle.hw_desk.specs.State.{Rose}
 use Rattle.hw_lines.specs.declared.line.Line.{Line}
+use Rattle.hw_lines.specs.declared.line.Line.TheVariants as lines
 use Rattle.hw_cert.specs.declared.log.LogStop.{LogStop}
 use Rattle.hw_cert.specs.declared.log.LogStop.TheVariants.{Failed, NoMemory}
+use Rattle.hw_model.specs.declared.lit.Lit.{Lit}
 use Rattle.hw_cert.specs.Logs.{LogTold, LogModel, Grows, IsBegunLine}
+use Rattle.hw_progress.specs.Turns.{Cited}
+use Rattle.hw_progress.specs.Laws.{lemma_lines}
 
 -- these lines were taken, and nothing is behind them
 pub record TakesAll (plan : List Line) (old new : LogModel) : Type 0 where
@@ -36,3 +40,16 @@ pub record StopsWithin (stop : LogStop) (plan : List Line) (most : ℕ) (old new
 abbrev pub Hands : {A : Type 0} → List Line → LogModel → LogModel → Result A LogStop → Type 0
 Hands plan old new (Ok done) = TakesAll plan old new
 Hands plan old new (Err stop) = StopsWithin stop plan (length plan) old new
+
+-- the lines of a lemma are handed to a log: its reasons, its conflict and itself. A stop comes before the lemma
+abbrev pub HandsLemma : {A : Type 0} → Cited → List Lit → LogModel → LogModel → Result A LogStop → Type 0
+HandsLemma c lemma old new (Ok done) = TakesAll (lemma_lines c lemma) old new
+HandsLemma c lemma old new (Err stop) = StopsWithin stop (lemma_lines c lemma) (length c.lines) old new
+
+-- the line is a table's
+abbrev pub IsTable : Line → Type 0
+IsTable line = (table : List ℕ) × (line ≡ lines.Table table)
+
+-- the line is a lemma's
+abbrev pub IsLemma : Line → Type 0
+IsLemma line = (clause : List Lit) × (hints : List ℕ) × (line ≡ lines.Lemma clause hints)

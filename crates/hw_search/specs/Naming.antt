@@ -9,7 +9,7 @@ use Rattle.hw_story.specs.Trails.{TrailModel}
 use Rattle.hw_cert.specs.declared.log.LogStop.{LogStop}
 use Rattle.hw_cert.specs.Logs.{LogModel}
 use Rattle.hw_progress.specs.Searches.{SearchModel}
-use Rattle.hw_progress.specs.Turns.{source_line, Cited, cite, cite_conflict}
+use Rattle.hw_progress.specs.Turns.{source_line, Cited, cite, cited, cite_conflict}
 use Rattle.hw_search.specs.Handing.{Hands}
 
 -- the number by which a clause is named already: that of a stored lemma, or that of the line that was written for it
@@ -55,3 +55,12 @@ NamesBy c (Err stop) old_written old_lines written lines hints = FewerNumbers ol
 abbrev pub own_number : Why → ℕ → Option ℕ
 own_number (whys.Lemma number clause) next = None
 own_number (whys.Source source clause) next = Some next
+
+-- a lemma's reasons and its conflict
+abbrev pub taught : SearchModel → Why → List ℕ → Cited
+taught s why places = cite_conflict (cited s places) why
+
+-- the numbers after the lemma
+pub record Taught (c : Cited) (written : List (Option ℕ)) (lines : ℕ) : Type 0 where
+  pub same_written : written ≡ c.search.written
+  pub same_lines : lines ≡ c.search.clause_lines + 1

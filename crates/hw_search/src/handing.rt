@@ -1,10 +1,10 @@
 //! The line that says why a clause holds, handed to a log.
 
-ghost use Rattle.std.specs.Prelude.{◌≡◌, ◌∷◌, []};
+ghost use Rattle.std.specs.Prelude.{◌≡◌, ◌∷◌, [], IfErr};
 ghost use Rattle.hw_model.specs.Refuting.{IsSourceOf};
 ghost use Rattle.hw_progress.specs.Turns.{source_line};
 ghost use Rattle.hw_cert.specs.Logs.{IsWhole};
-ghost use Rattle.hw_search.specs.Handing.{Hands};
+ghost use Rattle.hw_search.specs.Handing.{StopsWithin, Hands};
 ghost use Rattle.hw_search.specs.Naming.{known_number, lines_of, IsOfProblem};
 
 use hw_cert::{Line, Log, LogStop};
@@ -50,6 +50,7 @@ pub fn hand_why<L: Log>(alloc: Global, flat: &Flat, why: &Why, log: &mut L) -> R
     requires source { IsOfProblem flat.now why.now }
     requires whole { IsWhole (L.state log.old) }
     ensures hands { Hands (lines_of flat.now why.now) (L.state log.old) (L.state log.new) result }
+    ensures stops { IfErr result (λ stop. StopsWithin stop (lines_of flat.now why.now) 0 (L.state log.old) (L.state log.new)) }
     ensures same_reference { L.anchor log.new ≡ L.anchor log.old }
 {
     match why {
@@ -68,6 +69,7 @@ fn hand_source<L: Log>(
     requires source { IsSourceOf flat.now source }
     requires whole { IsWhole (L.state log.old) }
     ensures hands { Hands (source_line flat.now source clause.now ∷ []) (L.state log.old) (L.state log.new) result }
+    ensures stops { IfErr result (λ stop. StopsWithin stop (source_line flat.now source clause.now ∷ []) 0 (L.state log.old) (L.state log.new)) }
     ensures same_reference { L.anchor log.new ≡ L.anchor log.old }
 {
     let Ok(copied) = clause.copy(alloc) else {

@@ -15,6 +15,7 @@ mod restarts;
 mod search;
 mod settling;
 mod speakers;
+mod writing;
 
 pub use restarts::luby;
 pub use search::Search;

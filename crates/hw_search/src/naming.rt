@@ -1,8 +1,6 @@
 //! The reasons of a lemma and its conflict, named by the numbers of their lines.
 
-ghost use Rattle.std.specs.Prelude.{◌≡◌, ◌+◌, ◌^◌, ◌<◌, ◌≤◌, ℕ, [], ◌∷◌, ◌++◌, All, IfErr, IfOk, IfSome, OnOk, IsSome, length, fold};
-ghost use Rattle.hw_story.specs.Trails.{clause_of};
-ghost use Rattle.hw_story.specs.Learning.{reason_at};
+ghost use Rattle.std.specs.Prelude.{◌≡◌, ◌+◌, ◌^◌, ◌<◌, ◌≤◌, ℕ, [], ◌∷◌, ◌++◌, All, IfErr, IfOk, IfSome, OnOk, length, fold, vec_capacity};
 ghost use Rattle.hw_cert.specs.declared.log.LogStop.TheVariants.{NoMemory};
 ghost use Rattle.hw_cert.specs.Logs.{IsWhole};
 ghost use Rattle.hw_progress.specs.Searches.{SearchModel, why_at};
@@ -48,6 +46,7 @@ fn name_reason<L: Log>(
     ensures lines { (s : SearchModel) → Hands (cite (naming (search_on s flat.now trail.now written.old.items clause_lines.old) hints.old.items) place).lines (L.state log.old) (L.state log.new) result }
     ensures names { (s : SearchModel) → NamesBy (cite (naming (search_on s flat.now trail.now written.old.items clause_lines.old) hints.old.items) place) result written.old.items clause_lines.old written.new.items clause_lines.new hints.new.items }
     ensures long { length written.new.items ≡ length written.old.items }
+    ensures capacity { vec_capacity written.new ≡ vec_capacity written.old }
     ensures low { clause_lines.old ≤ clause_lines.new }
     ensures high { clause_lines.new ≤ clause_lines.old + 1 }
     ensures same_reference { L.anchor log.new ≡ L.anchor log.old }
@@ -87,6 +86,7 @@ pub fn name_reasons<L: Log>(
     ensures lines { (s : SearchModel) → Hands (fold cite (naming (search_on s flat.now trail.now written.old.items clause_lines.old) hints.old.items) places.now).lines (L.state log.old) (L.state log.new) result }
     ensures names { (s : SearchModel) → NamesBy (fold cite (naming (search_on s flat.now trail.now written.old.items clause_lines.old) hints.old.items) places.now) result written.old.items clause_lines.old written.new.items clause_lines.new hints.new.items }
     ensures long { length written.new.items ≡ length written.old.items }
+    ensures capacity { vec_capacity written.new ≡ vec_capacity written.old }
     ensures low { clause_lines.old ≤ clause_lines.new }
     ensures high { clause_lines.new ≤ clause_lines.old + length places.now }
     ensures same_reference { L.anchor log.new ≡ L.anchor log.old }
