@@ -4,6 +4,7 @@ pub mod Steps
 pub mod Lemmas
 pub mod Asked
 pub mod Rounds
+pub mod Settled
 pub mod Handed
 pub mod Named
 pub mod Adding
