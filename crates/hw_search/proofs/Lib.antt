@@ -15,3 +15,5 @@ pub mod Unkept
 pub mod Teaching
 pub mod Choosing
 pub mod Ranges
+pub mod Counting
+pub mod Solved

@@ -9,3 +9,4 @@ pub mod Naming
 pub mod Turning
 pub mod Branching
 pub mod Any
+pub mod Going

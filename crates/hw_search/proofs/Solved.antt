@@ -1,0 +1,252 @@
+-- What each answer of a solution meets.
+use Rattle.std.proofs.Common.{◌≡◌, ℕ, ◌+◌, ◌<◌, ◌≤◌, Bool, true, false, List, [], ◌∷◌, ◌++◌, Option, Some, None, IfSome, IsSomeAnd, IsSome, All, length, refl, sym, ap, ◌∙◌, subst, arith, append-nil, append_assoc}
+use Rattle.std.proofs.lemmas.List.Elements.{All-append, All-nil}
+use Rattle.hw_model.specs.Problem.{Problem}
+use Rattle.hw_model.specs.Limits.{IsFlat}
+use Rattle.hw_model.specs.Timetables.{Permits, cargo}
+use Rattle.hw_model.specs.Rooms.{room_count}
+use Rattle.hw_desk.specs.State.{Rose}
+use Rattle.hw_lines.specs.declared.line.Line.{Line}
+use Rattle.hw_lines.specs.Lines.{last_table, is_closed, ends}
+use Rattle.hw_lines.specs.Valid.{LineFits, ValidFrom, Valid}
+use Rattle.hw_lines.specs.Lemmas.{lemmas_of, IsNew, IsLean, LeanFrom}
+use Rattle.hw_lines.proofs.Closed.{closed_from}
+use Rattle.hw_cert.specs.Logs.{LogTold, LogModel, WhereTold, Grows, IsEmpty, IsWhole}
+use Rattle.hw_progress.specs.declared.outcome.Branching.TheVariants.{Greatest}
+use Rattle.hw_progress.specs.declared.outcome.Turn.{Turn}
+use Rattle.hw_progress.specs.declared.outcome.Turn.TheVariants as turns
+use Rattle.hw_progress.specs.declared.outcome.Solved.{Solved}
+use Rattle.hw_progress.specs.declared.outcome.Solved.TheVariants as answers
+use Rattle.hw_progress.specs.Living.{FewLiveFrom, FewLiveThroughout}
+use Rattle.hw_progress.specs.Searches.{SearchModel, IsSearch, LogFits, new_search}
+use Rattle.hw_progress.specs.Turns.{TurnMeets, TurnWrites, WritesWell, FitsAfter, FailsAt, is_last}
+use Rattle.hw_progress.specs.Solving.{SolveMeets, SolveWrites, SolveFails, AnswerTells, AnswerMeans, IsWorth, is_proved, may_be_spent, table_of}
+use Rattle.hw_progress.proofs.Bounds.{few_stored}
+use Rattle.hw_progress.proofs.Living.{throughout, none_live}
+use Rattle.hw_progress.proofs.Trues.{ended as ended_means}
+use Rattle.hw_progress.proofs.Turned.{starts}
+use Rattle.hw_search.specs.Going.{WellWritten, SoFar, Going, Closing, EndsSolved}
+use Rattle.hw_search.proofs.Counting.{few_lemmas}
+
+-- ---- lines behind lines
+
+valid_append : (f : Problem) (before a b : List Line) → ValidFrom f before a → ValidFrom f (before ++ a) b → ValidFrom f before (a ++ b)
+valid_append f before [] b v w = subst (λ xs. ValidFrom f xs b) (append-nil before) w
+valid_append f before (line ∷ a) b v w = (v.0, valid_append f (before ++ line ∷ []) a b v.1 (subst (λ xs. ValidFrom f xs b) (sym (append_assoc before (line ∷ []) a)) w))
+
+lean_append : (f : Problem) (before a b : List Line) → LeanFrom f before a → LeanFrom f (before ++ a) b → LeanFrom f before (a ++ b)
+lean_append f before [] b v w = subst (λ xs. LeanFrom f xs b) (append-nil before) w
+lean_append f before (line ∷ a) b v w = (v.0, lean_append f (before ++ line ∷ []) a b v.1 (subst (λ xs. LeanFrom f xs b) (sym (append_assoc before (line ∷ []) a)) w))
+
+well_more : (f : Problem) (a b : List Line) → WellWritten f a → WritesWell f a b → FewLiveFrom f a b → WellWritten f (a ++ b)
+well_more f a b w m few = record {
+  fit = All-append (LineFits f) a b w.fit m.fit;
+  valid = valid_append f [] a b w.valid m.valid;
+  lean = lean_append f [] a b w.lean m.lean;
+  new = m.new w.new;
+  few_live = throughout f a b w.few_live few;
+}
+
+no_line : (f : Problem) → WellWritten f []
+no_line f = record { fit = All-nil (LineFits f); valid = tt; lean = tt; new = λ i j d a b. absurd (omega (arith, b)); few_live = none_live f }
+
+-- ---- what is told
+
+-- from what was told at first to what is told in the end
+told_on : (old here new : LogModel) (P R Q : LogTold → LogTold → Type 0) → Grows old here P → Grows here new R → ((was mid now : LogTold) → P was mid → R mid now → Q was now) → Grows old new Q
+told_on old here new P R Q g h k = by old.told here.told new.told g h
+  where
+    by : (a b c : Option LogTold) → IfSome b (λ mid. IsSomeAnd a (λ was. P was mid)) → IfSome c (λ now. IsSomeAnd b (λ mid. R mid now)) → IfSome c (λ now. IsSomeAnd a (λ was. Q was now))
+    by a b None g h = tt
+    by a None (Some now) g h = absurd h
+    by None (Some mid) (Some now) g h = absurd g
+    by (Some was) (Some mid) (Some now) g h = k was mid now g h
+
+-- and what is told of the end
+told_and : (old new : LogModel) (P Q : LogTold → LogTold → Type 0) (F : LogTold → Type 0) → Grows old new P → WhereTold new F → ((was now : LogTold) → P was now → F now → Q was now) → Grows old new Q
+told_and old new P Q F g h k = by old.told new.told g h
+  where
+    by : (a c : Option LogTold) → IfSome c (λ now. IsSomeAnd a (λ was. P was now)) → IfSome c F → IfSome c (λ now. IsSomeAnd a (λ was. Q was now))
+    by a None g h = tt
+    by None (Some now) g h = absurd g
+    by (Some was) (Some now) g h = k was now g h
+
+told_same : (log : LogModel) (F : LogTold → Type 0) (Q : LogTold → LogTold → Type 0) → WhereTold log F → ((now : LogTold) → F now → Q now now) → Grows log log Q
+told_same log F Q h k = by log.told h
+  where
+    by : (c : Option LogTold) → IfSome c F → IfSome c (λ now. IsSomeAnd c (λ was. Q was now))
+    by None h = tt
+    by (Some now) h = k now h
+
+where_and : (log : LogModel) (F G H : LogTold → Type 0) → WhereTold log F → WhereTold log G → ((now : LogTold) → F now → G now → H now) → WhereTold log H
+where_and log F G H f g k = by log.told f g
+  where
+    by : (c : Option LogTold) → IfSome c F → IfSome c G → IfSome c H
+    by None f g = tt
+    by (Some now) f g = k now f g
+
+where_grown : (old new : LogModel) (P : LogTold → LogTold → Type 0) (F : LogTold → Type 0) → Grows old new P → ((was now : LogTold) → P was now → F now) → WhereTold new F
+where_grown old new P F g k = by old.told new.told g
+  where
+    by : (a c : Option LogTold) → IfSome c (λ now. IsSomeAnd a (λ was. P was now)) → IfSome c F
+    by a None g = tt
+    by None (Some now) g = absurd g
+    by (Some was) (Some now) g = k was now g
+
+-- ---- a solution begins, and goes on
+
+pub begins : (f : Problem) (budget : ℕ) (log : LogModel) → IsFlat f → IsEmpty log → Going f budget (new_search f Greatest) log log
+begins f budget log flat empty = record {
+  same_problem = refl;
+  going = refl;
+  within = omega arith;
+  later = omega arith;
+  told = told_same log (λ told. (told.lines ≡ []) × (told.behind ≡ [])) (λ was now. SoFar f (new_search f Greatest) now) empty (λ now e. record {
+    fits = (starts f Greatest now flat e.0 e.1).1;
+    well = subst (WellWritten f) (sym e.0) (no_line f);
+    lemmas = ap (λ xs. length (lemmas_of xs)) e.0;
+  });
+}
+
+pub to_fit : (f : Problem) (budget : ℕ) (s : SearchModel) (old now : LogModel) → Going f budget s old now → WhereTold now (λ told. LogFits told s)
+to_fit f budget s old now g = where_grown old now (λ was here. SoFar f s here) (λ told. LogFits told s) g.told (λ was now h. h.fits)
+
+written_more : (f : Problem) (s : SearchModel) (turn : Turn) (here now : LogTold) → s.problem ≡ f → SoFar f s here → TurnWrites s.problem turn here now → WellWritten f now.lines
+written_more f s turn here now same h w =
+    let v : TurnWrites f turn here now = subst (λ (p : Problem). TurnWrites p turn here now) same w in
+    subst (WellWritten f) (sym v.lines) (well_more f here.lines v.more h.well v.well v.few_live)
+
+pub goes_on : (f : Problem) (budget : ℕ) (s u : SearchModel) (turn : Turn) (old here now : LogModel) → Going f budget s old here → s.lemmas < budget → is_last turn ≡ false → TurnMeets s here turn u now → Going f budget u old now
+goes_on f budget s u turn old here now g lt last t = record {
+  same_problem = t.same_problem ∙ g.same_problem;
+  going = t.over ∙ last;
+  within = omega (arith, few_lemmas turn s u here now t.does, lt);
+  later = omega (arith, g.later, t.later);
+  told = told_and old now (λ was told. WellWritten f told.lines) (λ was told. SoFar f u told) (λ told. LogFits told u × (length (lemmas_of told.lines) ≡ u.lemmas))
+      (told_on old here now (λ was mid. SoFar f s mid) (TurnWrites s.problem turn) (λ was told. WellWritten f told.lines) g.told t.writes (λ was mid told h w. written_more f s turn mid told g.same_problem h w))
+      (where_and now (λ told. LogFits told u) (λ told. length (lemmas_of told.lines) ≡ u.lemmas) (λ told. LogFits told u × (length (lemmas_of told.lines) ≡ u.lemmas)) (fits_by turn last t.fits) t.lemmas (λ told a b. (a, b)))
+      (λ was told w h. record { fits = h.0; well = w; lemmas = h.1 });
+}
+  where
+    fits_by : (turn : Turn) → is_last turn ≡ false → FitsAfter turn u now → WhereTold now (λ told. LogFits told u)
+    fits_by turns.Decided e h = h
+    fits_by turns.Better e h = h
+    fits_by turns.Lemma e h = h
+    fits_by turns.Ended e h = absurd cc
+    fits_by turns.NoMemory e h = absurd cc
+    fits_by turns.LogFailed e h = absurd cc
+
+-- ---- the last turn
+
+closes : (f : Problem) (budget : ℕ) (s u : SearchModel) (turn : Turn) (old here now : LogModel) → Going f budget s old here → TurnMeets s here turn u now → Grows old now (λ was told. Closing f u told)
+closes f budget s u turn old here now g t =
+    told_and old now (λ was told. WellWritten f told.lines) (λ was told. Closing f u told) (λ told. (last_table told.lines ≡ u.best) × (length (lemmas_of told.lines) ≡ u.lemmas))
+    (told_on old here now (λ was mid. SoFar f s mid) (TurnWrites s.problem turn) (λ was told. WellWritten f told.lines) g.told t.writes (λ was mid told h w. written_more f s turn mid told g.same_problem h w))
+    (where_and now (λ told. last_table told.lines ≡ u.best) (λ told. length (lemmas_of told.lines) ≡ u.lemmas) (λ told. (last_table told.lines ≡ u.best) × (length (lemmas_of told.lines) ≡ u.lemmas)) t.best t.lemmas (λ told a b. (a, b)))
+    (λ was told w h. record { well = w; best = h.0; lemmas = h.1 })
+
+-- the last line has no literals exactly where some line has none
+closed_ends : (f : Problem) (all : List Line) → WellWritten f all → ends all ≡ is_closed all
+closed_ends f all w = closed_from f all [] w.valid refl
+
+solve_writes : (f : Problem) (budget : ℕ) (answer : Solved) (before now : ℕ) (all : List Line) → WellWritten f all → is_closed all ≡ is_proved answer → AnswerTells f budget answer all → length (lemmas_of all) ≤ budget → ((Rose before now → ⊥) → length (lemmas_of all) ≡ budget → is_closed all ≡ false → may_be_spent answer ≡ true) → SolveWrites f budget answer before now all
+solve_writes f budget answer before now all w closed tells few spent = record {
+  fit = w.fit;
+  valid = w.valid;
+  lean = w.lean;
+  new = w.new;
+  few_live = w.few_live;
+  proved_just = sym (closed_ends f all w ∙ closed);
+  tells = tells;
+  lemmas = few;
+  spent = spent;
+}
+
+-- want of memory before the first turn
+pub no_search : (f : Problem) (budget : ℕ) (log : LogModel) → IsEmpty log → SolveMeets f budget log (answers.NoMemory None) log
+no_search f budget log empty = record {
+  later = omega arith;
+  writes = told_same log (λ told. (told.lines ≡ []) × (told.behind ≡ [])) (λ was now. SolveWrites f budget (answers.NoMemory None) log.faults log.faults now.lines) empty (λ now e.
+      subst (λ xs. SolveWrites f budget (answers.NoMemory None) log.faults log.faults xs) (sym e.0) (solve_writes f budget (answers.NoMemory None) log.faults log.faults [] (no_line f) refl refl (omega arith) (λ a b c. refl)));
+  permitted = tt;
+  worth = tt;
+  means = tt;
+  ends = where_and log (λ told. (told.lines ≡ []) × (told.behind ≡ [])) (λ told. (told.lines ≡ []) × (told.behind ≡ [])) (λ told. told.behind ≡ []) empty empty (λ told a b. a.1);
+}
+
+-- want of memory in a turn
+pub stopped : (f : Problem) (budget : ℕ) (s u : SearchModel) (old here now : LogModel) → IsSearch s → Going f budget s old here → s.lemmas < budget → TurnMeets s here turns.NoMemory u now → SolveMeets f budget old (answers.NoMemory u.best) now
+stopped f budget s u old here now is g lt t =
+    let few = few_lemmas turns.NoMemory s u here now t.does in
+    record {
+      later = omega (arith, g.later, t.later);
+      writes = told_and old now (λ was told. Closing f u told) (λ was told. SolveWrites f budget (answers.NoMemory u.best) old.faults now.faults told.lines) (λ told. (told.behind ≡ []) × (is_closed told.lines ≡ false)) (closes f budget s u turns.NoMemory old here now g t) t.fits (λ was told c h.
+          solve_writes f budget (answers.NoMemory u.best) old.faults now.faults told.lines c.well h.1 c.best (omega (arith, c.lemmas, few, lt)) (λ a b d. refl));
+      permitted = subst (λ o. IfSome o (Permits f)) (sym (t.best_stays refl)) (subst (λ (p : Problem). IfSome s.best (Permits p)) g.same_problem is.permitted);
+      worth = tt;
+      means = tt;
+      ends = where_and now (λ told. (told.behind ≡ []) × (is_closed told.lines ≡ false)) (λ told. (told.behind ≡ []) × (is_closed told.lines ≡ false)) (λ told. told.behind ≡ []) t.fits t.fits (λ told a b. a.0);
+    }
+
+rose_on : (a b c : ℕ) → a ≤ b → Rose b c → Rose a c
+rose_on a b c le h = omega (arith, le, h)
+
+-- a failed log
+pub failed : (f : Problem) (budget : ℕ) (s u : SearchModel) (old here now : LogModel) → Going f budget s old here → s.lemmas < budget → TurnMeets s here turns.LogFailed u now → SolveMeets f budget old answers.LogFailed now
+failed f budget s u old here now g lt t =
+    let few = few_lemmas turns.LogFailed s u here now t.does in
+    let rose : Rose old.faults now.faults = rose_on old.faults here.faults now.faults g.later t.does.cause in
+    record {
+      later = omega (arith, g.later, t.later);
+      writes = told_and old now (λ was told. Closing f u told) (λ was told. SolveWrites f budget answers.LogFailed old.faults now.faults told.lines) (λ told. is_closed told.lines ≡ false) (closes f budget s u turns.LogFailed old here now g t) t.fits (λ was told c h.
+          solve_writes f budget answers.LogFailed old.faults now.faults told.lines c.well h tt (omega (arith, c.lemmas, few, lt)) (λ a b d. absurd (a rose)));
+      permitted = tt;
+      worth = tt;
+      means = tt;
+      ends = (rose, subst (λ (p : Problem). WhereTold now (FailsAt p)) g.same_problem t.does.failed);
+    }
+
+-- the budget is spent
+pub spent : (f : Problem) (budget : ℕ) (s : SearchModel) (old now : LogModel) → IsSearch s → Going f budget s old now → budget ≤ s.lemmas → SolveMeets f budget old (answers.Unfinished s.best) now
+spent f budget s old now is g le = record {
+  later = g.later;
+  writes = told_and old now (λ was told. SoFar f s told) (λ was told. SolveWrites f budget (answers.Unfinished s.best) old.faults now.faults told.lines) (λ told. LogFits told s) g.told (to_fit f budget s old now g) (λ was told h fit.
+      solve_writes f budget (answers.Unfinished s.best) old.faults now.faults told.lines h.well fit.fits.none_empty (fit.fits.best, omega (arith, h.lemmas, g.within, le), fit.fits.none_empty) (omega (arith, h.lemmas, g.within)) (λ a b d. refl));
+  permitted = subst (λ (p : Problem). IfSome s.best (Permits p)) g.same_problem is.permitted;
+  worth = tt;
+  means = subst (λ (p : Problem). budget ≤ room_count p) g.same_problem (omega (arith, few_stored s is, is.counted g.going, le));
+  ends = where_and now (λ told. LogFits told s) (λ told. LogFits told s) (λ told. told.behind ≡ []) (to_fit f budget s old now g) (to_fit f budget s old now g) (λ told a b. a.nothing_behind);
+}
+
+-- ---- the search ended
+
+pub ends_at : (f : Problem) (budget : ℕ) (s u : SearchModel) (answer : Solved) (old here now : LogModel) → IsSearch s → Going f budget s old here → s.lemmas < budget → TurnMeets s here turns.Ended u now → EndsSolved f u.best answer → SolveMeets f budget old answer now
+ends_at f budget s u answer old here now is g lt t e = by u.best refl answer e
+  where
+    few : u.lemmas ≤ s.lemmas + 1
+    few = few_lemmas turns.Ended s u here now t.does
+
+    writes : (answer : Solved) → is_proved answer ≡ true → ((all : List Line) → last_table all ≡ u.best → AnswerTells f budget answer all) → Grows old now (λ was told. SolveWrites f budget answer old.faults now.faults told.lines)
+    writes answer proved tells = told_and old now (λ was told. Closing f u told) (λ was told. SolveWrites f budget answer old.faults now.faults told.lines) (λ told. (told.behind ≡ []) × (is_closed told.lines ≡ true)) (closes f budget s u turns.Ended old here now g t) t.fits (λ was told c h.
+        solve_writes f budget answer old.faults now.faults told.lines c.well (h.1 ∙ sym proved) (tells told.lines c.best) (omega (arith, c.lemmas, few_lemmas turns.Ended s u here now t.does, lt)) (λ a b d. absurd (let z : true ≡ false = sym h.1 ∙ d in cc)))
+
+    whole : IsWhole now
+    whole = where_and now (λ told. (told.behind ≡ []) × (is_closed told.lines ≡ true)) (λ told. (told.behind ≡ []) × (is_closed told.lines ≡ true)) (λ told. told.behind ≡ []) t.fits t.fits (λ told a b. a.0)
+
+    by : (best : Option (List ℕ)) → u.best ≡ best → (answer : Solved) → EndsSolved f best answer → SolveMeets f budget old answer now
+    by None none answer e = subst (λ (a : Solved). SolveMeets f budget old a now) (sym e) (record {
+      later = omega (arith, g.later, t.later);
+      writes = writes answers.Infeasible refl (λ all h. h ∙ none);
+      permitted = tt;
+      worth = tt;
+      means = subst (λ (p : Problem). AnswerMeans p budget answers.Infeasible) g.same_problem ((ended_means s u here now is t.does).infeasible (sym (t.best_stays refl) ∙ none));
+      ends = whole;
+    })
+    by (Some table) some answer e = subst (λ (a : Solved). SolveMeets f budget old a now) (sym e.1) (record {
+      later = omega (arith, g.later, t.later);
+      writes = writes (answers.Optimal table e.0) refl (λ all h. (h ∙ some, e.2));
+      permitted = subst (λ (o : Option (List ℕ)). IfSome o (Permits f)) (sym (t.best_stays refl) ∙ some) (subst (λ (p : Problem). IfSome s.best (Permits p)) g.same_problem is.permitted);
+      worth = e.2;
+      means = subst (λ (p : Problem). AnswerMeans p budget (answers.Optimal table e.0)) g.same_problem ((ended_means s u here now is t.does).optimal table e.0 (sym (t.best_stays refl) ∙ some) (subst (λ (p : Problem). cargo p table ≡ Some e.0) (sym g.same_problem) e.2));
+      ends = whole;
+    })

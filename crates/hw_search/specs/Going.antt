@@ -1,0 +1,62 @@
+-- What holds of a solution that goes on, and what is left of it.
+use Rattle.std.specs.Prelude.{◌≡◌, ℕ, ◌+◌, ◌-◌, ◌*◌, ◌≤◌, false, List, Option, Some, None, All, length}
+use Rattle.hw_model.specs.Problem.{Problem, shape_of}
+use Rattle.hw_model.specs.Timetables.{cargo}
+use Rattle.hw_model.specs.Rooms.{whole_room}
+use Rattle.hw_model.specs.Refuting.{greatest_sum}
+use Rattle.hw_lines.specs.declared.line.Line.{Line}
+use Rattle.hw_lines.specs.Lines.{last_table}
+use Rattle.hw_lines.specs.Valid.{LineFits, Valid}
+use Rattle.hw_lines.specs.Lemmas.{lemmas_of, IsNew, IsLean}
+use Rattle.hw_story.specs.Trails.{most_events}
+use Rattle.hw_cert.specs.Logs.{LogTold, LogModel, Grows}
+use Rattle.hw_progress.specs.declared.outcome.Solved.{Solved}
+use Rattle.hw_progress.specs.declared.outcome.Solved.TheVariants.{Optimal, Infeasible}
+use Rattle.hw_progress.specs.Living.{FewLiveThroughout}
+use Rattle.hw_progress.specs.Searches.{SearchModel, LogFits, best_cargo}
+
+-- the lines are of the problem's shape, valid, lean and new, and few are live after each
+pub record WellWritten (f : Problem) (all : List Line) : Type 0 where
+  pub fit : All (LineFits f) all
+  pub valid : Valid f all
+  pub lean : IsLean f all
+  pub new : IsNew f all
+  pub few_live : FewLiveThroughout f all
+
+-- the lines so far, and the search that they fit
+pub record SoFar (f : Problem) (s : SearchModel) (now : LogTold) : Type 0 where
+  pub fits : LogFits now s
+  pub well : WellWritten f now.lines
+  pub lemmas : length (lemmas_of now.lines) ≡ s.lemmas
+
+-- a solution that goes on: the log was `old` as it began
+pub record Going (f : Problem) (budget : ℕ) (s : SearchModel) (old now : LogModel) : Type 0 where
+  pub same_problem : s.problem ≡ f
+  pub going : s.over ≡ false
+  pub within : s.lemmas ≤ budget
+  pub later : old.faults ≤ now.faults
+  pub told : Grows old now (λ was here. SoFar f s here)
+
+-- what a turn that was the last one leaves
+pub record Closing (f : Problem) (u : SearchModel) (now : LogTold) : Type 0 where
+  pub well : WellWritten f now.lines
+  pub best : last_table now.lines ≡ u.best
+  pub lemmas : length (lemmas_of now.lines) ≡ u.lemmas
+
+-- a cargo, counted from 1, and 0 for none
+abbrev pub rank : Option ℕ → ℕ
+rank None = 0
+rank (Some c) = c + 1
+
+-- no timetable has more cargo than this
+abbrev pub most_cargo : Problem → ℕ
+most_cargo f = greatest_sum f (whole_room (shape_of f))
+
+-- at most so many turns are to come: each finds a better timetable, a lemma, or an event
+abbrev pub turns_left : ℕ → SearchModel → ℕ
+turns_left budget s = (most_cargo s.problem + 1 - rank (best_cargo s)) + ((budget - s.lemmas) * (most_events s.problem.ships s.problem.slots + 1) + (most_events s.problem.ships s.problem.slots - length s.trail.events))
+
+-- the answer of a search that ended with this best timetable or none
+abbrev pub EndsSolved : Problem → Option (List ℕ) → Solved → Type 0
+EndsSolved f None answer = answer ≡ Infeasible
+EndsSolved f (Some table) answer = (c : ℕ) × (answer ≡ Optimal table c) × (cargo f table ≡ Some c)
