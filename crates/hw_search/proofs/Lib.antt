@@ -17,3 +17,4 @@ pub mod Choosing
 pub mod Ranges
 pub mod Counting
 pub mod Solved
+pub mod Tidying

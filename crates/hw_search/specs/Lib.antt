@@ -10,3 +10,4 @@ pub mod Turning
 pub mod Branching
 pub mod Any
 pub mod Going
+pub mod GoingBack

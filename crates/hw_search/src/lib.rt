@@ -8,6 +8,7 @@ mod asking;
 mod branching;
 mod dropped;
 mod engine;
+mod going_back;
 mod handing;
 mod marking;
 mod naming;

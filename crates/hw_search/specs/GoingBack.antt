@@ -1,0 +1,43 @@
+-- What a turn does behind its lemma.
+use Rattle.std.specs.Prelude.{◌≡◌, ◌⊎◌, ℕ, ◌+◌, ◌*◌, ◌≤◌, Bool, ◌==◌, if◌then◌else◌, List, [], ◌∷◌, ◌++◌, Option, Result, Ok, Err, Contains, length, take}
+use Rattle.std.specs.List.Sorted.{IsStrictlyIncreasing}
+use Rattle.hw_lines.specs.declared.line.Line.{Line}
+use Rattle.hw_cert.specs.declared.log.LogStop.{LogStop}
+use Rattle.hw_cert.specs.declared.log.LogStop.TheVariants.{Failed, NoMemory}
+use Rattle.hw_cert.specs.Logs.{LogModel}
+use Rattle.hw_store.specs.declared.store.Stored.{Stored}
+use Rattle.hw_progress.specs.Luby.{luby}
+use Rattle.hw_progress.specs.Turns.{deletion}
+use Rattle.hw_search.specs.Dropped.{dropped, kept}
+use Rattle.hw_search.specs.Handing.{TakesAll, StopsWithin}
+
+-- one more lemma is the one behind which a restart comes
+abbrev pub due : ℕ → ℕ → Bool
+due restarts since = since + 1 == 32 * luby (restarts + 1)
+
+-- the level to go back to, and the counts behind it
+pub record NextLevel (restarts since back : ℕ) (restarts' since' level : ℕ) : Type 0 where
+  pub to : level ≡ (if due restarts since then 0 else back)
+  pub restarted : restarts' ≡ (if due restarts since then restarts + 1 else restarts)
+  pub counted : since' ≡ (if due restarts since then 0 else since + 1)
+
+-- the numbers of dropped events and of the conflict, ascending, but for those that are kept
+pub record IsLeftOver (stored : List Stored) (written : List (Option ℕ)) (keep : ℕ) (conflict : Option ℕ) (ids : List ℕ) : Type 0 where
+  pub ascends : IsStrictlyIncreasing ids
+  pub holds : (n : ℕ) → Contains ids n → Contains (dropped written keep conflict) n
+  pub apart : (n : ℕ) → Contains ids n → Contains (kept stored (take keep written)) n → ⊥
+  pub all : (n : ℕ) → Contains (dropped written keep conflict) n → (Contains (kept stored (take keep written)) n → ⊥) → Contains ids n
+
+-- the lemma was added; for want of memory it may be missing
+abbrev pub Adds : LogStop → List Stored → Stored → List Stored → Type 0
+Adds Failed old one new = new ≡ old ++ one ∷ []
+Adds NoMemory old one new = (new ≡ old ++ one ∷ []) ⊎ (new ≡ old)
+
+-- what is about to be deleted, if that is known yet
+abbrev pub Deleting : List Stored → List (Option ℕ) → ℕ → Option ℕ → List Line → Type 0
+Deleting stored written keep conflict more = (more ≡ []) ⊎ ((ids : List ℕ) × IsLeftOver stored written keep conflict ids × (more ≡ deletion ids))
+
+-- a lemma is added and what is left over is deleted
+abbrev pub Tidies : {A : Type 0} → List Stored → Stored → List (Option ℕ) → ℕ → Option ℕ → Result A LogStop → List Stored → LogModel → LogModel → Type 0
+Tidies stored one written keep conflict (Ok done) stored' old new = (stored' ≡ stored ++ one ∷ []) × ((ids : List ℕ) × IsLeftOver stored' written keep conflict ids × TakesAll (deletion ids) old new)
+Tidies stored one written keep conflict (Err stop) stored' old new = Adds stop stored one stored' × ((more : List Line) × Deleting stored' written keep conflict more × StopsWithin stop more 0 old new)
