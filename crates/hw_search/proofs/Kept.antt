@@ -1,9 +1,16 @@
 -- What an engine keeps, through an implied literal.
-use Rattle.std.proofs.Common.{◌≡◌, ℕ, ◌<◌, ◌+◌, ◌≤◌, Bool, true, List, [], ◌∷◌, ◌++◌, Option, Some, None, length, refl, sym, ap, ◌∙◌, subst, arith, length-append}
+use Rattle.std.proofs.Common.{◌≡◌, ℕ, zero, suc, get_or, slice_get, replicate, ◌<◌, ◌+◌, ◌≤◌, Bool, true, List, [], ◌∷◌, ◌++◌, Option, Some, None, length, refl, sym, ap, ◌∙◌, subst, arith, length-append}
+use Rattle.std.specs.Prelude.{All}
+use Rattle.std.proofs.lemmas.List.{length-replicate}
 use Rattle.hw_model.specs.declared.lit.Lit.{Lit}
 use Rattle.hw_model.specs.declared.lit.LitTruth.TheVariants.{Free}
 use Rattle.hw_model.specs.declared.narrowing.Narrowed.TheVariants.{Cut}
+use Rattle.hw_model.specs.declared.source.Source.{Source}
+use Rattle.hw_model.specs.declared.source.Source.TheVariants.{Goal}
+use Rattle.hw_model.specs.Limits.{IsFlat}
 use Rattle.hw_model.specs.Lits.{lit_fits, IsClause, IsLitOf}
+use Rattle.hw_model.specs.Problem.{Problem, shape_of}
+use Rattle.hw_model.specs.Refuting.{IsSourceOf}
 use Rattle.hw_model.specs.Narrowing.{truth, cut}
 use Rattle.hw_model.specs.Replay.{narrowing}
 use Rattle.hw_model.specs.Rooms.{RoomModel, RoomFits}
@@ -11,17 +18,19 @@ use Rattle.hw_laws.proofs.Denials.{lit_of}
 use Rattle.hw_store.specs.declared.store.Stored.{Stored}
 use Rattle.hw_story.specs.declared.event.Event.{Event}
 use Rattle.hw_story.specs.declared.event.Why.{Why}
-use Rattle.hw_story.specs.Trails.{TrailModel, trail_shape, clause_of, room_of, implied, most_events}
+use Rattle.hw_story.specs.Trails.{TrailModel, trail_shape, clause_of, room_of, no_events, implied, most_events}
 use Rattle.hw_story.proofs.Kept.{more_room}
 use Rattle.hw_story.proofs.Many.{few_events}
-use Rattle.hw_progress.specs.Searches.{SearchModel, IsSearch, IsReason, room_in, best_cargo}
+use Rattle.hw_progress.specs.Searches.{SearchModel, new_search, IsSearch, IsReason, room_in, best_cargo}
+use Rattle.hw_progress.specs.declared.outcome.Branching.{Branching}
+use Rattle.hw_progress.specs.Starting.{EachSourceOnce}
 use Rattle.hw_progress.specs.Settling.{with_events}
 use Rattle.hw_progress.proofs.Holds.{room_fits}
-use Rattle.hw_progress.proofs.Keeps.{implied_search}
+use Rattle.hw_progress.proofs.Keeps.{new_kept, implied_search}
 use Rattle.hw_search.specs.Engines.{EngineModel, KeepsEngine, QuietUnmarked}
-use Rattle.hw_search.specs.Marks.{MarksPlaces}
-use Rattle.hw_search.specs.Speaking.{SpeakersModel, speakers_of}
-use Rattle.hw_search.proofs.Markings.{quiet_cut}
+use Rattle.hw_search.specs.Marks.{is_marked, MarksPlaces}
+use Rattle.hw_search.specs.Speaking.{SpeakersModel, speakers_of, TellsSpeakers}
+use Rattle.hw_search.proofs.Markings.{quiet_cut, quiet_all}
 
 -- in the words of a call: what is asked of the view is so of the parts
 pub of_view : {A : Type 0} (e u : A) (P : A → Type 0) → e ≡ u → P u → P e
@@ -70,3 +79,33 @@ kept_implied e table goal best worth capacity capacity' lit why trail stored wri
     subst (λ x. KeepsEngine (record { search = record s { trail = x; stored = stored; written = written }; sources = e.sources; marks = marks }) table goal best worth capacity') (sym t)
     (subst (λ x. KeepsEngine (record { search = record s { trail = implied s.trail lit why; stored = x; written = written }; sources = e.sources; marks = marks }) table goal best worth capacity') (sym st)
     (subst (λ x. KeepsEngine (record { search = record s { trail = implied s.trail lit why; stored = s.stored; written = x }; sources = e.sources; marks = marks }) table goal best worth capacity') (sym w) kept))
+
+-- ---- a new search
+
+pub all_marked : (marks : List Bool) (n : ℕ) → marks ≡ replicate n true → (place : ℕ) → is_marked marks place ≡ true
+all_marked marks n e place = subst (λ xs. is_marked xs place ≡ true) (sym e) (each n place)
+  where
+    each : (n place : ℕ) → get_or (replicate n true) place true ≡ true
+    each zero place = refl
+    each (suc n) zero = refl
+    each (suc n) (suc place) = each n place
+
+pub kept_new : (f : Problem) (branching : Branching) (sources : List Source) (table : SpeakersModel) (goal : ℕ) (best : List ℕ) (capacity : ℕ) (trail : TrailModel) (stored : List Stored) (written : List (Option ℕ)) (marks : List Bool) → IsFlat f → EachSourceOnce f sources → All (IsSourceOf f) sources → TellsSpeakers f sources table → slice_get sources goal ≡ Some Goal → length best ≡ f.ships → most_events f.ships f.slots ≤ capacity → trail ≡ no_events (shape_of f) → stored ≡ [] → written ≡ [] → marks ≡ replicate (length sources) true
+    → KeepsEngine (record { search = record (new_search f branching) { trail = trail; stored = stored; written = written }; sources = sources; marks = marks }) table goal best None capacity
+kept_new f branching sources table goal best capacity trail stored written marks flat once of tells at long room t st w m =
+    let s = new_search f branching in
+    let kept : KeepsEngine (record { search = s; sources = sources; marks = marks }) table goal best None capacity = record {
+      search = new_kept f branching flat;
+      once = once;
+      of_problem = of;
+      each_mark = ap length m ∙ length-replicate (length sources) true;
+      quiet = quiet_all f None (room_in s) sources marks (all_marked marks (length sources) m);
+      speakers = tells;
+      goal_at = at;
+      best_ready = long;
+      worth_is = refl;
+      reserved = room;
+    } in
+    subst (λ x. KeepsEngine (record { search = record s { trail = x; stored = stored; written = written }; sources = sources; marks = marks }) table goal best None capacity) (sym t)
+    (subst (λ x. KeepsEngine (record { search = record s { stored = x; written = written }; sources = sources; marks = marks }) table goal best None capacity) (sym st)
+    (subst (λ x. KeepsEngine (record { search = record s { written = x }; sources = sources; marks = marks }) table goal best None capacity) (sym w) kept))

@@ -185,16 +185,7 @@ pub fn write_lemma<L: Log>(
     ensures low { clause_lines.old ≤ clause_lines.new }
     ensures same_reference { L.anchor log.new ≡ L.anchor log.old }
 {
-    let named = name_all(
-        alloc,
-        flat,
-        trail,
-        why,
-        places,
-        written,
-        clause_lines,
-        log,
-    )?;
+    let named = name_all(alloc, flat, trail, why, places, written, clause_lines, log)?;
     let Named { hints, conflict } = named;
     let line = Line::Lemma {
         clause: lemma,

@@ -29,7 +29,7 @@ loop-place-preserved g c =
       names = λ s. step_numbers s c.args.flat.now c.args.trail.now c.args.written.now.items c.loop-place.written.items c.name_reason.new.written.items c.args.clause_lines.now c.loop-place.clause_lines c.name_reason.new.clause_lines c.args.hints.now.items c.loop-place.hints.items c.name_reason.new.hints.items c.args.places.now c.loop-place.place-index 0 lt (c.loop-place.invariant.names s) (c.in_ok-name_reason.ensures.names s);
       long = c.in_ok-name_reason.ensures.long ∙ c.loop-place.invariant.long;
       capacity = c.in_ok-name_reason.ensures.capacity ∙ c.loop-place.invariant.capacity;
-  low = omega (arith, c.in_ok-name_reason.ensures.low, c.loop-place.invariant.low);
+      low = omega (arith, c.in_ok-name_reason.ensures.low, c.loop-place.invariant.low);
       high = omega (arith, c.in_ok-name_reason.ensures.high, c.loop-place.invariant.high);
       same_reference = c.in_ok-name_reason.ensures.same_reference ∙ c.loop-place.invariant.same_reference;
     }
