@@ -137,6 +137,14 @@ impl<'f, S: Store + Drop, P: Propagator + Drop> Engine<'f, S, P> {
         if self.found { Some(&self.best) } else { None }
     }
 
+    /// The best timetable so far, out of the search.
+    pub fn into_best(self) -> Option<Timetable>
+        ensures value { result ≡ self.entry.search.best }
+        ensures search { IsSearch self.entry.search }
+    {
+        if self.found { Some(self.best) } else { None }
+    }
+
     /// The number of lemmas.
     pub fn lemmas(&self) -> u32
         ensures value { result ≡ self.now.search.lemmas }

@@ -69,6 +69,14 @@ impl<'f, S: Store + Drop, P: Propagator + Drop> Search<'f, S, P> {
         self.engine.best()
     }
 
+    /// The best timetable so far, out of the search.
+    pub fn into_best(self) -> Option<Timetable>
+        ensures value { result ≡ self.entry.best }
+        ensures search { IsSearch self.entry }
+    {
+        self.engine.into_best()
+    }
+
     /// The number of lemmas.
     pub fn lemmas(&self) -> u32
         ensures value { result ≡ self.now.lemmas }
