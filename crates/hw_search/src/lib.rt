@@ -15,8 +15,11 @@ mod naming;
 mod restarts;
 mod search;
 mod settling;
+mod solving;
 mod speakers;
 mod writing;
 
+pub use any::{AnyPropagator, for_source};
 pub use restarts::luby;
 pub use search::Search;
+pub use solving::solve;

@@ -1,0 +1,8 @@
+use Rattle.hw_search.specs.Going.{Going, turns_left}
+use Rattle.hw_search.proofs.solving.run.Given as goal
+
+abbrev pub invariant-turns : goal.invariant-turns
+invariant-turns g l = Going l.flat l.budget l.search (g.L.Log.state l.fn.log) (g.L.Log.state l.log)
+
+abbrev pub decreases-turns : goal.decreases-turns
+decreases-turns g l = turns_left l.budget l.search

@@ -1,0 +1,110 @@
+//! A whole solution: turn after turn of a search, until it ended or the budget is spent.
+ghost use Rattle.std.specs.Prelude.{◌≡◌, ◌≤◌, ◌<◌, [], true, false, All, IfOk, IfSome, map};
+ghost use Rattle.hw_cert.specs.Logs.{IsEmpty};
+ghost use Rattle.hw_model.specs.Problem.{shape_of};
+ghost use Rattle.hw_model.specs.Rooms.{whole_room};
+ghost use Rattle.hw_model.specs.Timetables.{Permits};
+ghost use Rattle.hw_progress.specs.Searches.{new_search};
+ghost use Rattle.hw_progress.specs.Solving.{SolveMeets};
+ghost use Rattle.hw_progress.specs.Starting.{EachSourceOnce};
+ghost use Rattle.hw_search.specs.Going.{Going, EndsSolved};
+
+use crate::any::{AnyPropagator, for_source};
+use crate::search::Search;
+use hw_cert::Log;
+use hw_flat::{Flat, Timetable};
+use hw_model::NoMemory;
+use hw_progress::{Branching, Solved, Turn};
+use hw_prop::Propagator;
+use hw_rules::{cargo, sources};
+use hw_store::WatchStore;
+use std::alloc::Global;
+
+// A propagator for each source, in the order of the sources.
+fn propagators(alloc: Global, flat: &Flat) -> Result<Vec<AnyPropagator>, NoMemory>
+    ensures sources { IfOk result (λ props. EachSourceOnce flat.now (map ⟦<AnyPropagator as Propagator>⟧.source props.items)) }
+    ensures ready { IfOk result (λ props. All (λ one. ⟦<AnyPropagator as Propagator>⟧.ready one flat.now (whole_room (shape_of flat.now))) props.items) }
+{
+    let list = sources(alloc, flat)?;
+    let mut props = Vec::with_capacity(alloc, list.len())?;
+    for source in &list {
+        let one = for_source(alloc, flat, *source)?;
+        props.push(one)?;
+    }
+    Ok(props)
+}
+
+// A search that has done nothing.
+fn start<'f>(
+    alloc: Global,
+    flat: &'f Flat,
+) -> Result<Search<'f, WatchStore, AnyPropagator>, NoMemory>
+    ensures value { IfOk result (λ search. search ≡ new_search flat.now Branching.Greatest) }
+{
+    let store = WatchStore::new(alloc, flat)?;
+    let props = propagators(alloc, flat)?;
+    Search::new(alloc, flat, store, props, Branching::Greatest)
+}
+
+// What a search that ended proved: its best timetable is a best one, or none is permitted.
+fn proved(flat: &Flat, best: Option<Timetable>) -> Solved
+    requires permitted { IfSome best (Permits flat.now) }
+    ensures value { EndsSolved flat.now best result }
+{
+    match best {
+        None => Solved::Infeasible,
+        Some(table) => {
+            let cargo = cargo(flat, &table).unwrap();
+            Solved::Optimal { table, cargo }
+        }
+    }
+}
+
+fn run<'f, L: Log>(
+    alloc: Global,
+    flat: &'f Flat,
+    budget: u32,
+    mut search: Search<'f, WatchStore, AnyPropagator>,
+    log: &mut L,
+) -> Solved
+    requires new { search ≡ new_search flat.now Branching.Greatest }
+    requires most { budget ≤ 100_000 }
+    requires empty { IsEmpty (L.state log.old) }
+    ensures solves { SolveMeets flat.now budget (L.state log.old) result (L.state log.new) }
+    ensures same_reference { L.anchor log.new ≡ L.anchor log.old }
+{
+    let _shape = flat.shape();
+    'turns: while search.lemmas() < budget {
+        match search.turn(alloc, log) {
+            Turn::Decided | Turn::Better | Turn::Lemma => {}
+            Turn::Ended => return proved(flat, search.into_best()),
+            Turn::NoMemory => {
+                return Solved::NoMemory {
+                    table: search.into_best(),
+                };
+            }
+            Turn::LogFailed => return Solved::LogFailed,
+        }
+    }
+    Solved::Unfinished {
+        table: search.into_best(),
+    }
+}
+
+/// Finds a best timetable, or shows that none is permitted, or finds as many lemmas as the budget
+/// says. All lines go to the log, whose lines alone prove the answer.
+///
+/// For want of memory, also before the first turn, it answers `NoMemory` with the best timetable
+/// so far; then the lines that were written stay.
+pub fn solve<L: Log>(alloc: Global, flat: &Flat, budget: u32, log: &mut L) -> Solved
+    requires least { 1 ≤ budget }
+    requires most { budget ≤ 100_000 }
+    requires empty { IsEmpty (L.state log.old) }
+    ensures solves { SolveMeets flat.now budget (L.state log.old) result (L.state log.new) }
+    ensures same_reference { L.anchor log.new ≡ L.anchor log.old }
+{
+    match start(alloc, flat) {
+        Ok(search) => run(alloc, flat, budget, search, log),
+        Err(_stop) => Solved::NoMemory { table: None },
+    }
+}
