@@ -18,3 +18,5 @@ pub mod Ranges
 pub mod Counting
 pub mod Solved
 pub mod Tidying
+pub mod Turns
+pub mod Ending

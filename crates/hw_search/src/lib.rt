@@ -17,6 +17,7 @@ mod search;
 mod settling;
 mod solving;
 mod speakers;
+mod turning;
 mod writing;
 
 pub use any::{AnyPropagator, for_source};

@@ -1,0 +1,153 @@
+-- What an engine keeps through the parts of a turn.
+use Rattle.std.proofs.Common.{◌≡◌, ◌⊎◌, ℕ, zero, suc, ◌+◌, ◌<◌, ◌≤◌, ◌&&◌, nat_lt, nat_le, Bool, true, false, List, [], ◌∷◌, ◌++◌, Option, Some, None, IsSomeAnd, IsTrue, length, get_or, map, slice_get, refl, sym, ap, ◌∙◌, subst, arith, inl, inr, length-append, length-set}
+use Rattle.std.specs.Prelude.{All, AllPairs, slice_set}
+use Rattle.std.proofs.lemmas.Bool.{cases_lt}
+use Rattle.std.proofs.lemmas.List.{length-map}
+use Rattle.hw_model.specs.declared.lit.Lit.{Lit}
+use Rattle.hw_model.specs.declared.lit.Lit.TheVariants as lits
+use Rattle.hw_model.specs.declared.lit.LitTruth.TheVariants.{Free}
+use Rattle.hw_model.specs.declared.shape.Shape.{Shape}
+use Rattle.hw_model.specs.declared.source.Source.{Source}
+use Rattle.hw_model.specs.declared.source.Source.TheVariants as sources
+use Rattle.hw_model.specs.Lits.{lit_fits, IsLitOf}
+use Rattle.hw_model.specs.Narrowing.{truth, cut}
+use Rattle.hw_model.specs.Problem.{Problem, shape_of}
+use Rattle.hw_model.specs.Quiet.{QuietSource}
+use Rattle.hw_model.specs.Rooms.{RoomModel, RoomFits, IsPoint, point_of}
+use Rattle.hw_model.specs.Timetables.{Permits, cargo, beats}
+use Rattle.hw_store.specs.declared.store.Stored.{Stored}
+use Rattle.hw_story.specs.declared.event.Event.{Event}
+use Rattle.hw_story.specs.Trails.{TrailModel, trail_shape, room_of, decided, most_events}
+use Rattle.hw_story.proofs.Kept.{more_room}
+use Rattle.hw_progress.specs.Branches.{branch_literal}
+use Rattle.hw_progress.specs.Searches.{SearchModel, IsSearch, room_in, best_cargo}
+use Rattle.hw_progress.specs.Settling.{AllQuiet}
+use Rattle.hw_progress.specs.Starting.{EachSourceOnce}
+use Rattle.hw_progress.proofs.Choices.{branch_open}
+use Rattle.hw_progress.proofs.Keeps.{decided_search, better_search, stopped_search}
+use Rattle.hw_search.specs.Engines.{EngineModel, KeepsEngine, QuietUnmarked}
+use Rattle.hw_search.specs.Marks.{is_marked, MarksPlaces}
+use Rattle.hw_search.specs.Speaking.{SpeakersModel, speakers_of}
+use Rattle.hw_search.proofs.Kept.{lit_here, room_here, few_in}
+use Rattle.hw_search.proofs.Markings.{quiet_cut, quiet_all}
+
+-- ---- a decision
+
+-- an open literal of the trail's shape
+pub record IsOpenIn (s : SearchModel) (lit : Lit) : Type 0 where
+  pub fits : lit_fits (trail_shape s.trail) lit ≡ true
+  pub free : truth (room_in s) lit ≡ Free
+  pub here : IsLitOf s.problem.ships lit
+
+same_fits : (a b : Shape) (lit : Lit) → a.ships ≡ b.ships → a.slots ≡ b.slots → lit_fits a lit ≡ lit_fits b lit
+same_fits a b (lits.AtOrAfter ship slot) e f = ap (λ n. nat_lt ship n && (nat_le 1 slot && nat_lt slot a.slots)) e ∙ ap (λ n. nat_lt ship b.ships && (nat_le 1 slot && nat_lt slot n)) f
+same_fits a b (lits.Before ship slot) e f = ap (λ n. nat_lt ship n && (nat_le 1 slot && nat_lt slot a.slots)) e ∙ ap (λ n. nat_lt ship b.ships && (nat_le 1 slot && nat_lt slot n)) f
+same_fits a b (lits.First v w) e f = ap (λ n. nat_lt v w && nat_lt w n) e
+same_fits a b (lits.NotFirst v w) e f = ap (λ n. nat_lt v w && nat_lt w n) e
+
+of_some_and : {A : Type 0} (o : Option A) (P : A → Type 0) (x : A) → o ≡ Some x → IsSomeAnd o P → P x
+of_some_and None P x e h = absurd h
+of_some_and (Some y) P x e h = subst P (let same : y ≡ x = cc in same) h
+
+pub open_in : (s : SearchModel) (room : RoomModel) (lit : Lit) → IsSearch s → (IsPoint (room_in s) → ⊥) → room ≡ room_in s → branch_literal s.branching s.problem room ≡ Some lit → IsOpenIn s lit
+open_in s room lit is wide e b =
+    let h = of_some_and (branch_literal s.branching s.problem (room_in s)) (λ lit. (lit_fits (shape_of s.problem) lit ≡ true) × (truth (room_in s) lit ≡ Free)) lit (ap (branch_literal s.branching s.problem) (sym e) ∙ b) (branch_open s.branching s.problem (room_in s) (room_here s is) wide) in
+    let fits : lit_fits (trail_shape s.trail) lit ≡ true = same_fits (trail_shape s.trail) (shape_of s.problem) lit is.same_ships is.same_slots ∙ h.0 in
+    record { fits = fits; free = h.1; here = lit_here s lit is fits }
+
+abbrev decides : SearchModel → Lit → SearchModel
+decides s lit = record s { trail = decided s.trail lit; written = s.written ++ None ∷ [] }
+
+-- there is room for the number of a decision
+pub room_to_decide : (e : EngineModel) (table : SpeakersModel) (goal : ℕ) (best : List ℕ) (worth : Option ℕ) (capacity : ℕ) (lit : Lit) → KeepsEngine e table goal best worth capacity → AllQuiet e.search → IsOpenIn e.search lit → length e.search.written < capacity
+room_to_decide e table goal best worth capacity lit k quiet o =
+    let event : Event = record { lit = lit; level = e.search.trail.level + 1; why = None } in
+    let more = few_in (decides e.search lit) (decided_search e.search lit k.search quiet o.fits o.free) in
+    omega (arith, more, length-append e.search.trail.events (event ∷ []), k.search.each_event, k.reserved)
+
+pub kept_decided : (e : EngineModel) (table : SpeakersModel) (goal : ℕ) (best : List ℕ) (worth : Option ℕ) (capacity capacity' : ℕ) (lit : Lit) (trail : TrailModel) (stored : List Stored) (written : List (Option ℕ)) (marks : List Bool) → KeepsEngine e table goal best worth capacity → AllQuiet e.search → IsOpenIn e.search lit
+    → trail ≡ decided e.search.trail lit → stored ≡ e.search.stored → written ≡ e.search.written ++ None ∷ [] → MarksPlaces (speakers_of table lit) e.marks marks → capacity' ≡ capacity → KeepsEngine (record { search = record e.search { trail = trail; stored = stored; written = written }; sources = e.sources; marks = marks }) table goal best worth capacity'
+kept_decided e table goal best worth capacity capacity' lit trail stored written marks k quiet o t st w m c =
+    let s = e.search in
+    let event : Event = record { lit = lit; level = s.trail.level + 1; why = None } in
+    let after : SearchModel = decides s lit in
+    let room : RoomModel = room_in s in
+    let kept : KeepsEngine (record { search = after; sources = e.sources; marks = marks }) table goal best worth capacity' = record {
+      search = decided_search s lit k.search quiet o.fits o.free;
+      once = k.once;
+      of_problem = k.of_problem;
+      each_mark = m.same_length ∙ k.each_mark;
+      quiet = subst (λ r. QuietUnmarked s.problem (best_cargo s) r e.sources marks) (sym (more_room s.trail event)) (quiet_cut s.problem (best_cargo s) room e.sources table e.marks marks lit k.search.flat k.of_problem (room_here s k.search) o.here o.free k.speakers m k.quiet);
+      speakers = k.speakers;
+      goal_at = k.goal_at;
+      best_ready = k.best_ready;
+      worth_is = k.worth_is;
+      reserved = omega (arith, k.reserved, c);
+    } in
+    subst (λ x. KeepsEngine (record { search = record s { trail = x; stored = stored; written = written }; sources = e.sources; marks = marks }) table goal best worth capacity') (sym t)
+    (subst (λ x. KeepsEngine (record { search = record s { trail = decided s.trail lit; stored = x; written = written }; sources = e.sources; marks = marks }) table goal best worth capacity') (sym st)
+    (subst (λ x. KeepsEngine (record { search = record s { trail = decided s.trail lit; stored = s.stored; written = x }; sources = e.sources; marks = marks }) table goal best worth capacity') (sym w) kept))
+
+-- ---- a better timetable
+
+-- only the goal asks for the best
+quiet_still : (f : Problem) (source : Source) (best best' : Option ℕ) (room : RoomModel) → (source ≡ sources.Goal → ⊥) → QuietSource f source best room → QuietSource f source best' room
+quiet_still f (sources.Window ship) best best' room ne q = record { here = q.here; at_low = q.at_low; at_high = q.at_high; set_first = q.set_first; set_not_first = q.set_not_first }
+quiet_still f (sources.Rule place) best best' room ne q = record { here = q.here; at_low = q.at_low; at_high = q.at_high; set_first = q.set_first; set_not_first = q.set_not_first }
+quiet_still f (sources.Order v w x) best best' room ne q = record { here = q.here; at_low = q.at_low; at_high = q.at_high; set_first = q.set_first; set_not_first = q.set_not_first }
+quiet_still f sources.Goal best best' room ne q = absurd (ne refl)
+
+at_get : {A : Type 0} (xs : List A) (k : ℕ) (x : A) → slice_get xs k ≡ Some x → (k < length xs) × ((d : A) → get_or xs k d ≡ x)
+at_get [] k x e = absurd cc
+at_get (y ∷ xs) zero x e = (omega arith, λ d. let same : y ≡ x = cc in same)
+at_get (y ∷ xs) (suc k) x e = let r = at_get xs k x e in (omega (arith, r.0), r.1)
+
+-- a source stands at one place
+one_place : (xs : List Source) (j k : ℕ) (x : Source) → AllPairs (λ earlier later. earlier ≡ later → ⊥) xs → slice_get xs j ≡ Some x → slice_get xs k ≡ Some x → j ≡ k
+one_place xs j k x once e f =
+    let a = at_get xs j x e in
+    let b = at_get xs k x f in
+    elim (cases_lt j k) [
+      | inl lt ↦ absurd (once j k x lt b.0 (a.1 x ∙ sym (b.1 x)))
+      | inr ge ↦ elim (cases_lt k j) [
+        | inl lt ↦ absurd (once k j x lt a.0 (b.1 x ∙ sym (a.1 x)))
+        | inr le ↦ omega (arith, ge, le)
+      ]
+    ]
+
+-- one more mark
+marked_here : (marks : List Bool) (k : ℕ) → k < length marks → is_marked (slice_set marks k true) k ≡ true
+marked_here [] k lt = absurd (omega (arith, lt))
+marked_here (m ∷ marks) zero lt = refl
+marked_here (m ∷ marks) (suc k) lt = marked_here marks k (omega (arith, lt))
+
+marked_else : (marks : List Bool) (k j : ℕ) → (j ≡ k → ⊥) → is_marked (slice_set marks k true) j ≡ is_marked marks j
+marked_else [] k j ne = refl
+marked_else (m ∷ marks) zero zero ne = absurd (ne refl)
+marked_else (m ∷ marks) zero (suc j) ne = refl
+marked_else (m ∷ marks) (suc k) zero ne = refl
+marked_else (m ∷ marks) (suc k) (suc j) ne = marked_else marks k j (λ e. ne (ap suc e))
+
+not_marked : (marks : List Bool) (k j : ℕ) → k < length marks → is_marked (slice_set marks k true) j ≡ false → j ≡ k → ⊥
+not_marked marks k j lt clear e = let two : true ≡ false = sym (marked_here marks k lt) ∙ ap (is_marked (slice_set marks k true)) (sym e) ∙ clear in cc
+
+pub kept_better : (e : EngineModel) (table : SpeakersModel) (goal : ℕ) (best : List ℕ) (worth : Option ℕ) (capacity : ℕ) (row : List ℕ) (worth' : Option ℕ) (marks : List Bool) → KeepsEngine e table goal best worth capacity → Permits e.search.problem row → (c : ℕ) → cargo e.search.problem row ≡ Some c → IsTrue (beats c (best_cargo e.search)) → length row ≡ e.search.problem.ships → worth' ≡ cargo e.search.problem row → marks ≡ slice_set e.marks goal true
+    → KeepsEngine (record { search = record e.search { best = Some row }; sources = e.sources; marks = marks }) table goal row worth' capacity
+kept_better e table goal best worth capacity row worth' marks k permits c value above ships w m =
+    let s = e.search in
+    let inside : goal < length e.marks = omega (arith, (at_get e.sources goal sources.Goal k.goal_at).0, k.each_mark) in
+    let kept : KeepsEngine (record { search = record s { best = Some row }; sources = e.sources; marks = slice_set e.marks goal true }) table goal row worth' capacity = record {
+      search = better_search s row c k.search permits value above;
+      once = k.once;
+      of_problem = k.of_problem;
+      each_mark = length-set e.marks goal true ∙ k.each_mark;
+      quiet = λ place source at clear.
+          let ne = not_marked e.marks goal place inside clear in
+          quiet_still s.problem source (best_cargo s) (cargo s.problem row) (room_in s) (λ g. ne (one_place e.sources place goal sources.Goal k.once.once (subst (λ x. slice_get e.sources place ≡ Some x) g at) k.goal_at)) (k.quiet place source at (sym (marked_else e.marks goal place ne) ∙ clear));
+      speakers = k.speakers;
+      goal_at = k.goal_at;
+      best_ready = ships;
+      worth_is = w;
+      reserved = k.reserved;
+    } in
+    subst (λ x. KeepsEngine (record { search = record s { best = Some row }; sources = e.sources; marks = x }) table goal row worth' capacity) (sym m) kept
