@@ -20,3 +20,4 @@ pub mod Solved
 pub mod Tidying
 pub mod Turns
 pub mod Ending
+pub mod Props

@@ -1,8 +1,12 @@
+use Rattle.std.proofs.Common.{◌≡◌}
 use Rattle.hw_search.specs.Going.{Going, turns_left}
 use Rattle.hw_search.proofs.solving.run.Given as goal
 
 abbrev pub invariant-turns : goal.invariant-turns
-invariant-turns g l = Going l.flat l.budget l.search (g.L.Log.state l.fn.log) (g.L.Log.state l.log)
+invariant-turns g l = record {
+  going : Going l.flat l.budget l.search (g.L.Log.state l.fn.log) (g.L.Log.state l.log);
+  same : g.L.Log.anchor l.log ≡ g.L.Log.anchor l.fn.log;
+}
 
 abbrev pub decreases-turns : goal.decreases-turns
 decreases-turns g l = turns_left l.budget l.search
