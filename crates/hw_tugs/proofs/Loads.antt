@@ -1,5 +1,5 @@
 -- What jobs hold for sure, by ranges that were seen and by a room.
-use Rattle.std.proofs.Common.{◌≡◌, ◌≢◌, ℕ, zero, suc, ◌+◌, ◌-◌, ◌*◌, ◌<◌, ◌≤◌, max, Bool, true, false, cond, List, [], ◌∷◌, length, get_or, set, sum_by, refl, sym, ap, subst, ◌∙◌, arith, inl, inr}
+use Rattle.std.proofs.Common.{◌≡◌, ◌≢◌, ℕ, zero, suc, ◌+◌, ◌*◌, ◌<◌, ◌≤◌, Bool, true, false, cond, List, [], ◌∷◌, length, get_or, set, sum_by, refl, sym, ap, ◌∙◌, arith, inl, inr}
 use Rattle.std.specs.Prelude.{All, AllPairs}
 use Rattle.std.proofs.lemmas.Bool.{cases_eq, cases_order}
 use Rattle.std.proofs.lemmas.List.{get_or_default, get_or-set_same, get_or-set_other, set-get_or}
@@ -12,7 +12,7 @@ use Rattle.hw_model.specs.Narrowing.{with_range}
 use Rattle.hw_model.specs.Refuting.{forced_by}
 use Rattle.hw_prop.specs.Plain.{range_of}
 use Rattle.hw_prop.proofs.Reading.{range_put, range_put_other}
-use Rattle.hw_tugs.specs.Held.{part, held_for, held_for_sure, IsLoad, Sees, SeesFirst, IsForced, NoneOf, HasShip}
+use Rattle.hw_tugs.specs.Held.{held_for, held_for_sure, IsLoad, Sees, SeesFirst, IsForced, NoneOf, HasShip}
 
 -- ---- how much is held
 cond_most : (b : Bool) (n : ℕ) → cond b n 0 ≤ n
@@ -128,3 +128,6 @@ pub set_again : (seen : List (ℕ × ℕ)) (place : ℕ) (old range : ℕ × ℕ
 set_again seen place old range lt is low high =
     let same : range ≡ old = ap (λ a. pair a range.1) (sym low) ∙ ap (λ b. pair old.0 b) (sym high) in
     sym (ap (λ r. set seen place r) (same ∙ is ∙ get_or_default seen place old (0, 0) lt) ∙ set-get_or seen place (0, 0))
+
+pub load_few : (jobs : List Job) (seen : List (ℕ × ℕ)) (load : List ℕ) → IsLoad jobs seen load → length jobs ≤ 40 → All (λ job. job.tugs ≤ 64) jobs → (slot : ℕ) → slot < length load → get_or load slot 0 ≤ 10_000
+load_few jobs seen load is few tugs slot lt = omega (arith, is.told slot lt, few, held_few jobs seen slot tugs)

@@ -1,11 +1,10 @@
 -- What a room's reductions do to the tugs held for sure, and where a rule on tugs is quiet.
-use Rattle.std.proofs.Common.{◌≡◌, ◌≢◌, ℕ, zero, suc, ◌+◌, ◌-◌, ◌<◌, ◌≤◌, min, max, Bool, true, false, cond, List, [], ◌∷◌, Option, Some, None, slice_get, length, get_or, sum_by, refl, sym, ap, subst, ◌∙◌, arith, inl, inr}
-use Rattle.std.specs.Prelude.{◌⊎◌, All, AllPairs, IfSome}
+use Rattle.std.proofs.Common.{◌≡◌, ◌≢◌, ℕ, zero, suc, ◌+◌, ◌<◌, ◌≤◌, List, [], ◌∷◌, Some, slice_get, length, get_or, sum_by, refl, sym, ap, subst, ◌∙◌, arith, inl, inr}
+use Rattle.std.specs.Prelude.{◌⊎◌, All, AllPairs}
 use Rattle.std.proofs.lemmas.Bool.{cases_eq, cases_lt}
 use Rattle.std.proofs.lemmas.Bool.Decides.{nat_tests}
-use Rattle.std.proofs.lemmas.List.Elements.{All-head, All-tail, All-get_or}
+use Rattle.std.proofs.lemmas.List.Elements.{All-head, All-tail}
 use Rattle.std.proofs.lemmas.List.Sums.{sum_by-cons}
-use Rattle.std.proofs.lemmas.Option.{slice_get-get_or}
 use Rattle.hw_model.specs.declared.rule.Job.{Job}
 use Rattle.hw_model.specs.Limits.{JobFits}
 use Rattle.hw_model.specs.Rooms.{RoomModel, IsRoom, low_of, high_of}
@@ -17,9 +16,8 @@ use Rattle.hw_prop.specs.Reductions.{reduced, IsQuiet, IsCut}
 use Rattle.hw_prop.specs.declared.reduction.Reduction.{Reduction}
 use Rattle.hw_prop.specs.declared.reduction.Reduction.TheVariants.{Here, Lowest, Highest, First, NotFirst}
 use Rattle.hw_prop.proofs.Reading.{range_put, range_put_other}
-use Rattle.hw_tugs.specs.declared.cutting.Cut.{Cut}
 use Rattle.hw_tugs.specs.Held.{part, held_for, IsForced}
-use Rattle.hw_tugs.specs.Over.{IsOver, OverAt, Exceeding, IsCalm, Overfills, CutsAt}
+use Rattle.hw_tugs.specs.Over.{OverAt, Exceeding, IsCalm, Overfills}
 
 -- ---- one job's part where its range is reduced to an end
 lowest_more : (low high hold tugs s : ℕ) → low ≤ s → s < high → s < low + hold → part low (low + hold) tugs s ≡ part high (low + hold) tugs s + tugs
@@ -49,6 +47,7 @@ none_held from to tugs s none = elim (cases_lt s from) [
   where
     none_before : (from to tugs s : ℕ) → s < from → part from to tugs s ≡ 0
     none_before from to tugs s a = grind (arith, nat_tests)
+
     none_behind : (from to tugs s : ℕ) → to ≤ s → part from to tugs s ≡ 0
     none_behind from to tugs s a = grind (arith, nat_tests)
 

@@ -61,13 +61,7 @@ fn place_of(jobs: &[Job], ship: ShipId) -> Option<usize>
 
 /// The load where the job at a place has another range than the one that was seen: a step for each
 /// slot that the job holds for sure in the two.
-fn mend(
-    load: &mut [u64],
-    jobs: &[Job],
-    seen: &[(Slot, Slot)],
-    place: usize,
-    range: (Slot, Slot),
-)
+fn mend(load: &mut [u64], jobs: &[Job], seen: &[(Slot, Slot)], place: usize, range: (Slot, Slot))
     requires few { length jobs.now ≤ 40 }
     requires few_tugs { All (λ job. job.tugs ≤ 64) jobs.now }
     requires inside { place < length jobs.now }

@@ -1,7 +1,12 @@
-//! The propagator of a rule on tugs, with the tugs held for sure in each slot kept as figures that
-//! follow a room.
+//! The propagator of a rule on tugs: it keeps the tugs that are held for sure in each slot, and they
+//! follow the room.
 #![tactic(auto)]
 
 mod cutting;
+mod explaining;
 mod figures;
 mod mending;
+mod profile;
+mod rule;
+
+pub use profile::TugProfile;

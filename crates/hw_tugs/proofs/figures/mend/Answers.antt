@@ -1,7 +1,6 @@
-use Rattle.std.proofs.Common.{◌≡◌, ◌+◌, ◌*◌, ◌≤◌, ◌<◌, ℕ, length, get_or, arith, ◌∙◌}
+use Rattle.std.proofs.Common.{◌<◌, length, arith, ◌∙◌}
 use Rattle.std.proofs.lemmas.List.{length-set}
 use Rattle.hw_model.specs.declared.rule.Job.{Job}
-use Rattle.hw_tugs.specs.Held.{part, held_for_sure}
 use Rattle.hw_tugs.proofs.Loads.{held_at, held_set, held_few}
 use Rattle.hw_tugs.proofs.figures.mend.Goals as goal
 

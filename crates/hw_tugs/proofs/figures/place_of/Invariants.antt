@@ -1,4 +1,4 @@
-use Rattle.std.proofs.Common.{◌≡◌, ◌≢◌, ℕ, ◌<◌, get_or}
+use Rattle.std.proofs.Common.{◌≢◌, ℕ, ◌<◌, get_or}
 use Rattle.hw_model.specs.declared.rule.Job.{Job}
 use Rattle.hw_tugs.proofs.figures.place_of.Given as goal
 

@@ -1,4 +1,4 @@
-use Rattle.std.proofs.Common.{◌≡◌, ℕ, List, sym, subst, arith}
+use Rattle.std.proofs.Common.{ℕ, List, sym, subst, arith}
 use Rattle.hw_model.specs.Narrowing.{with_range}
 use Rattle.hw_tugs.specs.Held.{Sees}
 use Rattle.hw_tugs.proofs.Loads.{sees_set}
