@@ -8,5 +8,7 @@ mod figures;
 mod mending;
 mod profile;
 mod rule;
+#[cfg(test)]
+mod tests;
 
 pub use profile::TugProfile;
