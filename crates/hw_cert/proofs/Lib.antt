@@ -15,3 +15,4 @@ pub mod Telling
 pub mod Logging
 pub mod FormText
 pub mod ValidText
+pub mod ToldText

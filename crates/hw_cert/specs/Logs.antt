@@ -1,8 +1,11 @@
 -- What contracts see of a log, and what taking a line does.
-use Rattle.std.specs.Prelude.{◌≡◌, ℕ, ◌<◌, ◌≤◌, List, [], ◌∷◌, ◌++◌, Option, Some, Result, Ok, Err, IfSome, IsSomeAnd, length, take}
+use Rattle.std.specs.Borrow.{GName}
+use Rattle.std.specs.Prelude.{◌≡◌, ℕ, ◌<◌, ◌≤◌, Bool, List, [], ◌∷◌, ◌++◌, Option, Some, None, Result, Ok, Err, IfSome, IsSomeAnd, length, take}
 use Rattle.hw_lines.specs.declared.line.Line.{Line}
 use Rattle.hw_cert.specs.Texts.{line_text}
-use Rattle.hw_desk.specs.State.{Rose}
+use Rattle.hw_desk.specs.State.{FeedState, TrayState, DeskState, Rose}
+use Rattle.hw_desk.specs.declared.desk.Feed.{Feed}
+use Rattle.hw_desk.specs.declared.desk.Tray.TheVariants.{Report, Proof}
 use Rattle.hw_cert.specs.declared.log.LogStop.{LogStop}
 use Rattle.hw_cert.specs.declared.log.LogStop.TheVariants.{Failed, NoMemory}
 
@@ -15,6 +18,27 @@ pub record LogTold : Type 0 where
 pub record LogModel : Type 0 where
   pub told : Option LogTold
   pub faults : ℕ
+
+-- all of a desk that no line of a log changes: what is held, the feeds, Report, that Proof was made and under which name, and the count of failed begins and reads
+pub record Outside : Type 0 where
+  pub held : List ℕ → Option (List ℕ)
+  pub feeds : Feed → FeedState
+  pub report : TrayState
+  pub made : Bool
+  pub named : Option (List ℕ)
+  pub read_faults : ℕ
+
+abbrev pub outside_of : DeskState → Outside
+outside_of s = record { held = s.held; feeds = s.feeds; report = s.trays Report; made = (s.trays Proof).made; named = (s.trays Proof).name; read_faults = s.read_faults }
+
+-- what a log holds and leaves as it is: the borrow, and all that is outside it, if it is over a desk
+pub record LogAnchor : Type 0 where
+  pub borrow : GName
+  pub outside : Option Outside
+
+-- a log over no desk
+abbrev pub unanchored : LogAnchor
+unanchored = record { borrow = 0; outside = None }
 
 -- a condition on lines is met where they are untold
 abbrev pub WhereTold : LogModel → (LogTold → Type 0) → Type 0

@@ -1,12 +1,13 @@
 -- What bytes tell of a certificate with deletions, whatever the problem: its lines, and the bytes behind them.
-use Rattle.std.specs.Prelude.{ℕ, ◌==◌, List, [], ◌∷◌, ◌++◌, Bool, true, Option, Some, None, length, take, ◌<◌, option_and_then, is_some, if◌then◌else◌}
-use Rattle.hw_text.specs.Parts.{parts_of}
+use Rattle.std.specs.Prelude.{◌≡◌, ◌<◌, ℕ, ◌==◌, List, [], ◌∷◌, ◌++◌, Bool, true, Option, Some, None, length, take, option_and_then, is_some, bytes_eq, codes, if◌then◌else◌}
+use Rattle.hw_text.specs.Parts.{parts_of, lacks}
 use Rattle.hw_desk.specs.State.{DeskState, Rose}
 use Rattle.hw_desk.specs.Calls.{Sends}
 use Rattle.hw_desk.specs.declared.desk.Tray.TheVariants.{Proof}
 use Rattle.hw_lines.specs.declared.line.Line.{Line}
+use Rattle.hw_lines.specs.declared.line.Line.TheVariants.{Table, Delete}
 use Rattle.hw_cert.specs.declared.version.Version.TheVariants.{Two}
-use Rattle.hw_cert.specs.Texts.{header_text}
+use Rattle.hw_cert.specs.Texts.{header_text, cert_text}
 use Rattle.hw_cert.specs.Spelled.{spelled}
 use Rattle.hw_cert.specs.Logs.{LogTold, LogModel}
 
@@ -24,17 +25,24 @@ behind_text [] bytes = Some bytes
 behind_text (p ∷ ps) [] = None
 behind_text (p ∷ ps) (b ∷ bs) = if b == p then behind_text ps bs else None
 
+-- the line whose text a part is, whatever the problem: one that a certificate may have, or a table or a deletion without numbers
+abbrev pub line_told : List ℕ → Option Line
+line_told part =
+    if bytes_eq part (codes "t") then Some (Table [])
+    else if bytes_eq part (codes "d") then Some (Delete [])
+    else spelled Two part
+
 -- a line put before others, where all are told
 abbrev pub with_line : Option Line → Option LogTold → Option LogTold
 with_line None more = None
 with_line (Some line) None = None
 with_line (Some line) (Some told) = Some (record { lines = line ∷ told.lines; behind = told.behind })
 
--- the parts round line feeds: each spells a line, and the last one is behind them
+-- the parts round line feeds: each is the text of a line, and the last one is behind them
 abbrev pub parts_told : List (List ℕ) → Option LogTold
 parts_told [] = None
 parts_told (tail ∷ []) = Some (record { lines = []; behind = tail })
-parts_told (part ∷ next ∷ parts) = with_line (spelled Two part) (parts_told (next ∷ parts))
+parts_told (part ∷ next ∷ parts) = with_line (line_told part) (parts_told (next ∷ parts))
 
 -- what bytes behind a header tell
 abbrev pub lines_told : List ℕ → Option LogTold
@@ -44,10 +52,19 @@ lines_told bytes = parts_told (parts_of 10 bytes)
 abbrev pub bytes_told : List ℕ → Option LogTold
 bytes_told bytes = option_and_then lines_told (behind_text header_line bytes)
 
--- what was sent begins with the header, where it is told
-abbrev pub is_begun : Option (List ℕ) → Bool
-is_begun None = true
-is_begun (Some bytes) = is_some (behind_text header_line bytes)
+-- what was sent is the header, whole lines and bytes behind them, where it is told
+abbrev pub is_told : Option (List ℕ) → Bool
+is_told None = true
+is_told (Some bytes) = is_some (bytes_told bytes)
+
+-- bytes that are the text of these lines, and behind it bytes without a line feed
+pub record IsTextOf (told : LogTold) (bytes : List ℕ) : Type 0 where
+  pub text : bytes ≡ cert_text Two told.lines ++ told.behind
+  pub no_end : lacks 10 told.behind ≡ true
+
+-- bytes tell lines only where they are the text of these
+abbrev pub TextTold : Type 0
+TextTold = (bytes : List ℕ) (told : LogTold) → bytes_told bytes ≡ Some told → IsTextOf told bytes
 
 -- the log whose text a desk sent to Proof
 abbrev pub tray_log : DeskState → LogModel

@@ -1,6 +1,7 @@
 //! The laws of the text of certificates: what is written reads back, and nothing else reads so.
 
 ghost use Rattle.hw_cert.specs.Forms.{FormSpelled, ValidReads};
+ghost use Rattle.hw_cert.specs.Told.{TextTold};
 ghost use Rattle.hw_cert.specs.Laws.{LineSpelled, HeaderSpelled, CertSpelled, StreamSteps, StreamReads};
 
 /// Bytes read as a line exactly where they are the line's one text.
@@ -36,4 +37,9 @@ pub fn form_spelled()
 /// Valid lines of a problem have a text, with deletions, that reads back as them.
 pub fn valid_reads()
     ensures { ValidReads }
+{}
+
+/// Bytes that tell lines are the text of these lines, and behind it bytes without a line feed.
+pub fn text_told()
+    ensures { TextTold }
 {}

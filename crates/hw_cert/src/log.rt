@@ -1,8 +1,7 @@
 //! Where the lines of a certificate are handed, one by one.
 
 ghost use Rattle.std.specs.Prelude.{◌≡◌};
-ghost use Rattle.std.specs.Borrow.{GName};
-ghost use Rattle.hw_cert.specs.Logs.{LogModel, IsWhole, TakesLine};
+ghost use Rattle.hw_cert.specs.Logs.{LogAnchor, LogModel, IsWhole, TakesLine};
 
 use hw_lines::Line;
 
@@ -23,8 +22,8 @@ pub trait Log {
     /// The lines so far, the bytes behind them, and how often the log has failed.
     ghost state: { Self → LogModel };
 
-    /// The name of the borrow that the log holds, which no call changes.
-    ghost anchor: { Self → GName };
+    /// The borrow that the log holds and all that is outside it, which no call changes.
+    ghost anchor: { Self → LogAnchor };
 
     /// Adds a line.
     fn line(&mut self, line: &Line) -> Result<(), LogStop>

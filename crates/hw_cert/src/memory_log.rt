@@ -48,11 +48,11 @@ impl MemoryLog {
 }
 
 impl Log for MemoryLog {
-    ghost use Rattle.hw_cert.specs.Logs.{memory_log};
+    ghost use Rattle.hw_cert.specs.Logs.{memory_log, unanchored};
 
     ghost state = { memory_log };
 
-    ghost anchor = { λ _. 0 };
+    ghost anchor = { λ _. unanchored };
 
     fn line(&mut self, line: &Line) -> Result<(), LogStop> {
         let Ok(kept) = line.copy(self.alloc) else {

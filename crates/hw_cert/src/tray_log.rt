@@ -1,12 +1,12 @@
-ghost use Rattle.std.specs.Prelude.{◌≡◌, [], true, IfErr, IfOk, IfSome, OnOk};
+ghost use Rattle.std.specs.Prelude.{◌≡◌, [], true, IfErr, IfOk, IfSome, OnOk, Some};
 ghost use Rattle.std.specs.List.{list_all};
 ghost use Rattle.hw_desk.specs.State.{CanSend};
 ghost use Rattle.hw_desk.specs.Calls.{Sends};
 ghost use Rattle.hw_desk.specs.Whole.{SendsText};
 ghost use Rattle.hw_desk.specs.declared.desk.Tray.TheVariants.{Proof};
 ghost use Rattle.hw_cert.specs.Laws.{is_small, line_numbers};
-ghost use Rattle.hw_cert.specs.Logs.{IsEmpty, ended_text};
-ghost use Rattle.hw_cert.specs.Told.{FailsHeader, header_line, is_begun, tray_log};
+ghost use Rattle.hw_cert.specs.Logs.{IsEmpty, ended_text, outside_of};
+ghost use Rattle.hw_cert.specs.Told.{FailsHeader, header_line, is_told, tray_log};
 
 use crate::putting::put_line;
 use crate::{Log, LogStop};
@@ -15,12 +15,13 @@ use hw_lines::Line;
 
 /// A log whose text goes to the proof of a lent desk. It takes no memory.
 ///
-/// Each line is one write where it fits the writer's buffer, and so is the header.
+/// Each line is one write where it fits the writer's buffer, and so is the header. Where the desk tells
+/// what was sent, that is the header, the text of whole lines and bytes behind them.
 #[derive(Drop)]
 pub struct TrayLog<'d, D: Desk> {
     pub desk: &'d mut D,
     ghost made: { ((D.state desk.now).trays Proof).made ≡ true },
-    ghost begun: { is_begun ((D.state desk.now).trays Proof).sent ≡ true },
+    ghost told: { is_told ((D.state desk.now).trays Proof).sent ≡ true },
 }
 
 /// The header of a log was not sent whole. The desk that was lent comes back.
@@ -44,7 +45,7 @@ pub fn send_header<D: Desk>(desk: &mut D) -> Result<(), DeskFailed>
     requires made { ((D.state desk.old).trays Tray.Proof).made ≡ true }
     requires none { IfSome ((D.state desk.old).trays Tray.Proof).sent (λ bytes. bytes ≡ []) }
     ensures sends { SendsText Tray.Proof header_line (D.state desk.old) (D.state desk.new) result }
-    ensures begun { OnOk result (is_begun ((D.state desk.new).trays Tray.Proof).sent ≡ true) }
+    ensures told { OnOk result (is_told ((D.state desk.new).trays Tray.Proof).sent ≡ true) }
     ensures empty { OnOk result (IsEmpty (tray_log (D.state desk.new))) }
 {
     write_all(desk, Tray::Proof, b"cert 2\n")
@@ -69,10 +70,10 @@ impl<'d, D: Desk> TrayLog<'d, D> {
         }
     }
 
-    /// A log over a desk whose proof begins with the header.
+    /// A log over a desk whose proof is the header and lines.
     pub fn over(desk: &'d mut D) -> TrayLog<'d, D>
         requires made { ((D.state desk.old).trays Tray.Proof).made ≡ true }
-        requires begun { is_begun ((D.state desk.old).trays Tray.Proof).sent ≡ true }
+        requires told { is_told ((D.state desk.old).trays Tray.Proof).sent ≡ true }
         ensures same_reference { result.desk.ghost_name ≡ desk.entry.ghost_name }
         ensures same { D.state result.desk.now ≡ D.state desk.old }
     {
@@ -95,7 +96,7 @@ fn send_line<D: Desk>(desk: &mut D, line: &Line) -> Result<(), DeskFailed>
 impl<D: Desk> Log for TrayLog<'_, D> {
     ghost state = { λ log. tray_log (D.state log.desk.now) };
 
-    ghost anchor = { λ log. log.desk.ghost_name };
+    ghost anchor = { λ log. record { borrow = log.desk.ghost_name; outside = Some (outside_of (D.state log.desk.now)) } };
 
     fn line(&mut self, line: &Line) -> Result<(), LogStop> {
         match send_line(self.desk, line) {

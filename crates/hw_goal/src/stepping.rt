@@ -14,7 +14,7 @@ use crate::widening::widen;
 use hw_flat::{Flat, Room, ShipId};
 use hw_lits::{Clause, Found};
 use hw_model::NoMemory;
-use hw_prop::{Reduction, plain, reduce, side_at};
+use hw_prop::{Reduction, plain, reduce};
 use std::alloc::Global;
 
 /// The clause of a reduction of the room that leaves nothing above the best, widened. `denied` is
@@ -40,7 +40,7 @@ fn goal_clause(
     let _shape = flat.shape();
     denied.copy_from(room);
     reduce(denied, c);
-    widen(flat, figures, best, side_at(c), room, denied);
+    widen(flat, figures, best, c, room, denied);
     let _ships = denied.ships();
     plain(alloc, denied, ships, &[])
 }
@@ -48,8 +48,8 @@ fn goal_clause(
 /// Quiet exactly where the goal is quiet in the room, else a clause of it, by the room's figures.
 ///
 /// `ships` are all ships, `denied` is a room of as many, whatever it holds. A quiet answer takes
-/// no memory and costs two values and two comparisons a ship; a clause goes twice through each
-/// ship's slots at most.
+/// no memory and costs two values and two comparisons a ship; a clause goes a few times through
+/// each ship's slots at most.
 pub(crate) fn goal_step(
     alloc: Global,
     flat: &Flat,

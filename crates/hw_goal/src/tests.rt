@@ -44,7 +44,7 @@ type Row = (
     Wanted,
 );
 
-const ROWS: [Row; 9] = [
+const ROWS: [Row; 10] = [
     ("no best", GOODS, None, [(0, 0), (0, 0)], None),
     ("40 beats 39", GOODS, Some(39), [ANY, ANY], None),
     (
@@ -62,10 +62,17 @@ const ROWS: [Row; 9] = [
         Some(&[('a', 0, 2)]),
     ),
     (
-        "the other is opened whole",
+        "the cut goes first",
         GOODS,
         Some(40),
         [ANY, (0, 1)],
+        Some(&[('a', 0, 2), ('a', 1, 2)]),
+    ),
+    (
+        "the other is opened whole",
+        GOODS,
+        Some(40),
+        [(0, 0), (1, 2)],
         Some(&[('a', 0, 1)]),
     ),
     (

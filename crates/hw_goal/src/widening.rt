@@ -1,15 +1,16 @@
-//! Widens a room that holds nothing above the best as far as this stays so, ship by ship: it goes
-//! twice through each range at most, and not through all of them for each try.
+//! Widens a room that holds nothing above the best as far as this stays so, ship by ship. It goes a
+//! few times through a ship's slots at most, and not through those of all ships for each try.
 ghost use Rattle.std.specs.Prelude.{◌≡◌, ◌≤◌, ◌<◌, ◌+◌, ℕ};
 ghost use Rattle.hw_model.specs.Rooms.{low_of, high_of};
 ghost use Rattle.hw_model.specs.Refuting as refuting;
 ghost use Rattle.hw_prop.specs.Explains.{Explains};
+ghost use Rattle.hw_prop.specs.Reductions.{IsReduction, side_of};
 ghost use Rattle.hw_goal.specs.Kept as kept;
 ghost use Rattle.hw_goal.specs.Kept.{IsTop, AreKept};
 
 use crate::tops::{Figures, Top, worth};
 use hw_flat::{Flat, Room, ShipId, Slot};
-use hw_prop::Side;
+use hw_prop::Reduction;
 use hw_rules::greatest_value;
 
 /// The greatest value of a ship in its range in a room: the kept one where the ship was last seen
@@ -50,7 +51,7 @@ fn sum_in(flat: &Flat, figures: &Figures, room: &Room) -> u64
 fn open_ship(
     flat: &Flat,
     top: Top,
-    side: Side,
+    c: Reduction,
     room: &Room,
     denied: &mut Room,
     ship: ShipId,
@@ -61,12 +62,12 @@ fn open_ship(
     requires ships { denied.old.ships ≡ flat.now.ships }
     requires slots { denied.old.slots ≡ flat.now.slots }
     requires small { spare ≤ 40_000_000_000_000 }
-    requires explains { Explains side room.now denied.old }
+    requires explains { Explains (side_of c) room.now denied.old }
     ensures ships { denied.new.ships ≡ flat.now.ships }
     ensures slots { denied.new.slots ≡ flat.now.slots }
     ensures spared { result ≤ spare }
     ensures sum { refuting.greatest_sum flat.now denied.new + result ≤ refuting.greatest_sum flat.now denied.old + spare }
-    ensures explains { Explains side room.now denied.new }
+    ensures explains { Explains (side_of c) room.now denied.new }
 {
     let _ships = denied.ships();
     let last = flat.shape().slots - 1;
@@ -119,7 +120,7 @@ fn highest_within(flat: &Flat, ship: ShipId, high: Slot, most: u64) -> Slot
 fn widen_ship(
     flat: &Flat,
     top: Top,
-    side: Side,
+    c: Reduction,
     room: &Room,
     denied: &mut Room,
     ship: ShipId,
@@ -130,12 +131,12 @@ fn widen_ship(
     requires ships { denied.old.ships ≡ flat.now.ships }
     requires slots { denied.old.slots ≡ flat.now.slots }
     requires small { spare ≤ 40_000_000_000_000 }
-    requires explains { Explains side room.now denied.old }
+    requires explains { Explains (side_of c) room.now denied.old }
     ensures ships { denied.new.ships ≡ flat.now.ships }
     ensures slots { denied.new.slots ≡ flat.now.slots }
     ensures spared { result ≤ spare }
     ensures sum { refuting.greatest_sum flat.now denied.new + result ≤ refuting.greatest_sum flat.now denied.old + spare }
-    ensures explains { Explains side room.now denied.new }
+    ensures explains { Explains (side_of c) room.now denied.new }
 {
     let _ships = denied.ships();
     let low = denied.low(ship);
@@ -150,34 +151,69 @@ fn widen_ship(
     most - greatest_value(flat, ship, lowest, highest)
 }
 
-/// Widens a denied room as far as it holds nothing above the best: ships are opened whole where
-/// this is spared, then the other ranges are widened.
+/// Widens the range that is reduced, if there is one: the cut becomes as long as it may. What is
+/// spared then.
+fn widen_cut(
+    flat: &Flat,
+    figures: &Figures,
+    c: Reduction,
+    room: &Room,
+    denied: &mut Room,
+    spare: u64,
+) -> u64
+    requires kept { AreKept flat.now flat.now.ships figures.now }
+    requires may { IsReduction c room.now }
+    requires room { room.now.ships ≡ flat.now.ships }
+    requires ships { denied.old.ships ≡ flat.now.ships }
+    requires slots { denied.old.slots ≡ flat.now.slots }
+    requires small { spare ≤ 40_000_000_000_000 }
+    requires explains { Explains (side_of c) room.now denied.old }
+    ensures ships { denied.new.ships ≡ flat.now.ships }
+    ensures slots { denied.new.slots ≡ flat.now.slots }
+    ensures spared { result ≤ spare }
+    ensures sum { refuting.greatest_sum flat.now denied.new + result ≤ refuting.greatest_sum flat.now denied.old + spare }
+    ensures explains { Explains (side_of c) room.now denied.new }
+{
+    match c {
+        Reduction::Lowest { ship } | Reduction::Highest { ship } => {
+            let top = figures.tops[ship as usize];
+            widen_ship(flat, top, c, room, denied, ship, spare)
+        }
+        Reduction::Here | Reduction::First { .. } | Reduction::NotFirst { .. } => spare,
+    }
+}
+
+/// Widens a reduced room as far as it holds nothing above the best: first the range that is
+/// reduced, then ships are opened whole where this is spared, then the other ranges are widened.
 pub(crate) fn widen(
     flat: &Flat,
     figures: &Figures,
     best: u64,
-    side: Side,
+    c: Reduction,
     room: &Room,
     denied: &mut Room,
 )
     requires kept { AreKept flat.now flat.now.ships figures.now }
+    requires may { IsReduction c room.now }
+    requires room { room.now.ships ≡ flat.now.ships }
     requires ships { denied.old.ships ≡ flat.now.ships }
     requires slots { denied.old.slots ≡ flat.now.slots }
     requires sum { refuting.greatest_sum flat.now denied.old ≤ best }
-    requires explains { Explains side room.now denied.old }
+    requires explains { Explains (side_of c) room.now denied.old }
     ensures ships { denied.new.ships ≡ flat.now.ships }
     ensures slots { denied.new.slots ≡ flat.now.slots }
     ensures sum { refuting.greatest_sum flat.now denied.new ≤ best }
-    ensures explains { Explains side room.now denied.new }
+    ensures explains { Explains (side_of c) room.now denied.new }
 {
     let ships = flat.shape().ships;
-    let mut spare = (best - sum_in(flat, figures, denied)).min(40_000_000_000_000);
+    let all = (best - sum_in(flat, figures, denied)).min(40_000_000_000_000);
+    let mut spare = widen_cut(flat, figures, c, room, denied, all);
     for ship in 0..ships {
         let top = figures.tops[ship as usize];
-        spare = open_ship(flat, top, side, room, denied, ship, spare);
+        spare = open_ship(flat, top, c, room, denied, ship, spare);
     }
     for ship in 0..ships {
         let top = figures.tops[ship as usize];
-        spare = widen_ship(flat, top, side, room, denied, ship, spare);
+        spare = widen_ship(flat, top, c, room, denied, ship, spare);
     }
 }

@@ -7,11 +7,10 @@ use Rattle.hw_model.specs.Problem.{Problem, shape_of}
 use Rattle.hw_model.specs.Limits.{IsFlat}
 use Rattle.hw_model.specs.Rooms.{RoomModel}
 use Rattle.hw_model.specs.Refuting.{Refutes}
-use Rattle.hw_prop.specs.declared.reduction.Side.{Side}
 use Rattle.hw_prop.specs.Explains.{Explains}
 use Rattle.hw_prop.specs.Finds.{Explanation}
 use Rattle.hw_prop.specs.Plain.{plain, Climb}
-use Rattle.hw_prop.specs.Reductions.{reduced}
+use Rattle.hw_prop.specs.Reductions.{reduced, side_of}
 use Rattle.hw_prop.specs.Speaks.{SpokenOf, IsExplanation}
 use Rattle.hw_prop.proofs.Laws.{explanation, is_local, of_source}
 use Rattle.hw_prop.proofs.Scopes.{climb_all, spoken_of}
@@ -28,9 +27,8 @@ pub widen-requires-clause-explains : goal.widen-requires-clause-explains
 widen-requires-clause-explains c =
     let room = c.args.room.now in
     let is : c.reduce.new.room ≡ reduced c.args.c room = c.reduce.ensures.room ∙ ap (reduced c.args.c) c.copy_from.ensures.value in
-    let P : RoomModel → Type 0 = Explains c.side_at.result room in
-    let Q : Side → Type 0 = λ side. Explains side room (reduced c.args.c room) in
-    subst P (sym is) (subst Q (sym c.side_at.ensures.value) (reduced_explains c.args.c room c.requires.room.is_room c.requires.cut.may))
+    let P : RoomModel → Type 0 = Explains (side_of c.args.c) room in
+    subst P (sym is) (reduced_explains c.args.c room c.requires.room.is_room c.requires.cut.may)
 
 pub plain-requires-clause-all_ships : goal.plain-requires-clause-all_ships
 plain-requires-clause-all_ships c =
@@ -51,7 +49,7 @@ returns-clause-worth c =
     let best = Some c.args.best in
     let P : ℕ → Type 0 = λ n. Climb 0 n ships in
     let told : IsExplanation (Refutes f Goal best) (shape_of f) ships [] room (plain d ships []) =
-    explanation (Refutes f Goal best) (shape_of f) c.side_at.result room d ships 0 0 [] c.widen.ensures.ships c.widen.ensures.slots c.ships-ships.ensures.room c.widen.ensures.explains
+    explanation (Refutes f Goal best) (shape_of f) (side_of c.args.c) room d ships 0 0 [] c.widen.ensures.ships c.widen.ensures.slots c.ships-ships.ensures.room c.widen.ensures.explains
     (subst P (sym c.widen.ensures.ships) (spoken c.args.flat.now c.args.ships.now c.shape-shape.ensures.limits c.requires.ships).climb) tt (is_local f Goal best ships [] c.shape-shape.ensures.limits (spoken f ships c.shape-shape.ensures.limits c.requires.ships)) c.widen.ensures.sum (λ quiet. quiet c.args.c c.requires.cut.may c.requires.cut.refuted) in
     let all : Explanation f Goal best room (plain d ships []) = of_source f Goal best ships [] room (plain d ships []) c.shape-shape.ensures.limits tt c.requires.room (spoken f ships c.shape-shape.ensures.limits c.requires.ships) told in
     IfOk-weaker c.plain.result _ _ (λ x e. subst (Explanation f Goal best room) (sym e) all) c.plain.ensures.value

@@ -1,0 +1,71 @@
+-- Bytes that tell lines are the text of these lines.
+use Rattle.std.proofs.Common.{◌≡◌, ◌==◌, cond, ℕ, Bool, true, false, List, [], ◌∷◌, ◌++◌, map, Option, Some, None, refl, sym, ap, ◌∙◌, subst, append_assoc, inl, inr, arith}
+use Rattle.std.proofs.lemmas.Bool.{and_parts}
+use Rattle.std.proofs.lemmas.List.Splits.{join_with_byte-slice_split}
+use Rattle.std.proofs.lemmas.Slice.Eq.{bytes_eq-Decides}
+use Rattle.std.specs.Prelude.{bytes_eq, codes}
+use Rattle.std.specs.List.{list_all, join_with_byte}
+use Rattle.hw_text.specs.Parts.{parts_of, lacks, ended_lines}
+use Rattle.hw_text.proofs.Joins.{parts_lack}
+use Rattle.hw_lines.specs.declared.line.Line.{Line}
+use Rattle.hw_lines.specs.declared.line.Line.TheVariants.{Table, Delete}
+use Rattle.hw_cert.specs.declared.version.Version.TheVariants.{Two}
+use Rattle.hw_cert.specs.Texts.{line_text, header_text, cert_text}
+use Rattle.hw_cert.specs.Spelled.{spelled}
+use Rattle.hw_cert.specs.Logs.{LogTold}
+use Rattle.hw_cert.specs.Told.{header_line, behind_text, line_told, with_line, parts_told, lines_told, bytes_told, IsTextOf, TextTold}
+use Rattle.hw_cert.proofs.FormText.{form_read}
+use Rattle.hw_cert.proofs.ReadBack.{chained, chosen}
+use Rattle.hw_cert.proofs.Telling.{with_both}
+
+-- a part that tells a line is its text
+told_back : (part : List ℕ) (line : Line) → line_told part ≡ Some line → part ≡ line_text line
+told_back part line h = elim (chosen (bytes_eq part (codes "t")) (Some (Table [])) (cond (bytes_eq part (codes "d")) (Some (Delete [])) (spelled Two part)) (Some line) h) [
+  | inl a ↦ let e : Table [] ≡ line = cc in (bytes_eq-Decides part (codes "t")).0 a.0 ∙ ap line_text e
+  | inr a ↦ elim (chosen (bytes_eq part (codes "d")) (Some (Delete [])) (spelled Two part) (Some line) a.1) [
+    | inl b ↦ let e : Delete [] ≡ line = cc in (bytes_eq-Decides part (codes "d")).0 b.0 ∙ ap line_text e
+    | inr b ↦ (form_read Two part line b.1).0
+  ]
+]
+
+last_inner : {a b : LogTold} → Some a ≡ Some b → a ≡ b
+last_inner e = cc
+
+-- parts that tell lines are these lines' texts, and what is behind them
+joined_told : (parts : List (List ℕ)) (told : LogTold) → parts_told parts ≡ Some told → join_with_byte 10 parts ≡ ended_lines (map line_text told.lines) ++ told.behind
+joined_told [] told e = absurd (cc)
+joined_told (tail ∷ []) told e = ap (λ (t : LogTold). ended_lines (map line_text t.lines) ++ t.behind) (last_inner e)
+joined_told (part ∷ next ∷ parts) told e =
+    let w = with_both (line_told part) (parts_told (next ∷ parts)) told e in
+    let later = joined_told (next ∷ parts) w.1 w.3 in
+    ap (λ (p : List ℕ). p ++ 10 ∷ join_with_byte 10 (next ∷ parts)) (told_back part w.0 w.2)
+    ∙ ap (λ (rest : List ℕ). line_text w.0 ++ 10 ∷ rest) later
+    ∙ sym (append_assoc (line_text w.0) (10 ∷ ended_lines (map line_text w.1.lines)) w.1.behind)
+    ∙ ap (λ (t : LogTold). ended_lines (map line_text t.lines) ++ t.behind) w.4
+
+-- what is behind them has no line feed
+last_lacks : (parts : List (List ℕ)) (told : LogTold) → list_all (lacks 10) parts ≡ true → parts_told parts ≡ Some told → lacks 10 told.behind ≡ true
+last_lacks [] told all e = absurd (cc)
+last_lacks (tail ∷ []) told all e = subst (λ (t : LogTold). lacks 10 t.behind ≡ true) (last_inner e) (and_parts (lacks 10 tail) true all).0
+last_lacks (part ∷ next ∷ parts) told all e =
+    let w = with_both (line_told part) (parts_told (next ∷ parts)) told e in
+    subst (λ (t : LogTold). lacks 10 t.behind ≡ true) w.4 (last_lacks (next ∷ parts) w.1 (and_parts (lacks 10 part) (list_all (lacks 10) (next ∷ parts)) all).1 w.3)
+
+-- what stands behind a beginning
+behind_is : (ps bs rest : List ℕ) → behind_text ps bs ≡ Some rest → bs ≡ ps ++ rest
+behind_is [] bs rest e = let same : bs ≡ rest = cc in same
+behind_is (p ∷ ps) [] rest e = absurd (cc)
+behind_is (p ∷ ps) (b ∷ bs) rest e = by (b == p) (λ t. grind (arith, t)) (behind_is ps bs rest) e
+  where
+    by : (t : Bool) → (t ≡ true → b ≡ p) → (behind_text ps bs ≡ Some rest → bs ≡ ps ++ rest) → cond t (behind_text ps bs) None ≡ Some rest → b ∷ bs ≡ p ∷ (ps ++ rest)
+    by true f g h = ap (λ (n : ℕ). n ∷ bs) (f refl) ∙ ap (λ (t : List ℕ). p ∷ t) (g h)
+    by false f g h = absurd (cc)
+
+pub text_told : TextTold
+text_told bytes told h =
+    let p = chained lines_told (behind_text header_line bytes) told h in
+    record {
+      text = behind_is header_line bytes p.0 p.1
+          ∙ ap (λ (rest : List ℕ). header_line ++ rest) (sym (join_with_byte-slice_split 10 p.0) ∙ joined_told (parts_of 10 p.0) told p.2);
+      no_end = last_lacks (parts_of 10 p.0) told (parts_lack 10 p.0) p.2;
+    }

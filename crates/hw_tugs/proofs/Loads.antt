@@ -1,0 +1,133 @@
+-- What jobs hold for sure, by ranges that were seen and by a room.
+use Rattle.std.proofs.Common.{◌≡◌, ◌≢◌, ℕ, zero, suc, ◌+◌, ◌*◌, ◌<◌, ◌≤◌, Bool, true, false, cond, List, [], ◌∷◌, length, get_or, set, sum_by, refl, sym, ap, ◌∙◌, arith, inl, inr}
+use Rattle.std.specs.Prelude.{All, AllPairs}
+use Rattle.std.proofs.lemmas.Bool.{cases_eq, cases_order}
+use Rattle.std.proofs.lemmas.List.{get_or_default, get_or-set_same, get_or-set_other, set-get_or}
+use Rattle.std.proofs.lemmas.List.Elements.{All-head, All-tail, All-nil, All-cons}
+use Rattle.std.proofs.lemmas.List.Sums.{sum_by-cons}
+use Rattle.hw_model.specs.declared.rule.Job.{Job}
+use Rattle.hw_model.specs.Limits.{JobFits}
+use Rattle.hw_model.specs.Rooms.{RoomModel}
+use Rattle.hw_model.specs.Narrowing.{with_range}
+use Rattle.hw_model.specs.Refuting.{forced_by}
+use Rattle.hw_prop.specs.Plain.{range_of}
+use Rattle.hw_prop.proofs.Reading.{range_put, range_put_other}
+use Rattle.hw_tugs.specs.Held.{held_for, held_for_sure, IsLoad, Sees, SeesFirst, IsForced, NoneOf, HasShip}
+
+-- ---- how much is held
+cond_most : (b : Bool) (n : ℕ) → cond b n 0 ≤ n
+cond_most true n = omega arith
+cond_most false n = omega arith
+
+pub held_few : (jobs : List Job) (seen : List (ℕ × ℕ)) (slot : ℕ) → All (λ job. job.tugs ≤ 64) jobs → held_for_sure jobs seen slot ≤ 64 * length jobs
+held_few [] seen slot all = omega arith
+held_few (job ∷ jobs) [] slot all = omega arith
+held_few (job ∷ jobs) (range ∷ seen) slot all =
+    let here : held_for job range slot ≤ job.tugs = cond_most _ job.tugs in
+    let few : job.tugs ≤ 64 = All-head (λ (j : Job). j.tugs ≤ 64) job jobs all in
+    omega (arith, here, few, held_few jobs seen slot (All-tail (λ (j : Job). j.tugs ≤ 64) job jobs all))
+
+pub few_tugs : (ships : ℕ) (jobs : List Job) → All (JobFits ships) jobs → All (λ job. job.tugs ≤ 64) jobs
+few_tugs ships [] all = All-nil (λ (j : Job). j.tugs ≤ 64)
+few_tugs ships (job ∷ jobs) all = All-cons (λ (j : Job). j.tugs ≤ 64) job jobs (All-head (JobFits ships) job jobs all).few_tugs (few_tugs ships jobs (All-tail (JobFits ships) job jobs all))
+
+pub held_at : (jobs : List Job) (seen : List (ℕ × ℕ)) (place : ℕ) (job : Job) (slot : ℕ) → place < length jobs → length seen ≡ length jobs → held_for (get_or jobs place job) (get_or seen place (0, 0)) slot ≤ held_for_sure jobs seen slot
+held_at [] seen place job slot lt same = absurd (omega (arith, lt))
+held_at (j ∷ js) [] place job slot lt same = absurd (omega (arith, same))
+held_at (j ∷ js) (range ∷ seen) zero job slot lt same = omega arith
+held_at (j ∷ js) (range ∷ seen) (suc place) job slot lt same = omega (arith, held_at js seen place job slot (omega (arith, lt)) (omega (arith, same)))
+
+-- where one job's range is another, what is held changes by that job alone
+pub held_set : (jobs : List Job) (seen : List (ℕ × ℕ)) (place : ℕ) (job : Job) (range : ℕ × ℕ) (slot : ℕ) → place < length jobs → length seen ≡ length jobs
+    → held_for_sure jobs (set seen place range) slot + held_for (get_or jobs place job) (get_or seen place (0, 0)) slot ≡ held_for_sure jobs seen slot + held_for (get_or jobs place job) range slot
+held_set [] seen place job range slot lt same = absurd (omega (arith, lt))
+held_set (j ∷ js) [] place job range slot lt same = absurd (omega (arith, same))
+held_set (j ∷ js) (old ∷ seen) zero job range slot lt same = omega arith
+held_set (j ∷ js) (old ∷ seen) (suc place) job range slot lt same = omega (arith, held_set js seen place job range slot (omega (arith, lt)) (omega (arith, same)))
+
+-- the ranges of a room tell what is forced there
+pub held_forced : (room : RoomModel) (jobs : List Job) (seen : List (ℕ × ℕ)) (slot : ℕ) → length seen ≡ length jobs → Sees room jobs seen → held_for_sure jobs seen slot ≡ sum_by (forced_by room slot) jobs
+held_forced room [] seen slot same sees = refl
+held_forced room (job ∷ jobs) [] slot same sees = absurd (omega (arith, same))
+held_forced room (job ∷ jobs) (range ∷ seen) slot same sees =
+    let here : range ≡ range_of room job.ship = sees 0 job (omega arith) in
+    let now : held_for job range slot ≡ forced_by room slot job = ap (λ (r : ℕ × ℕ). held_for job r slot) here in
+    omega (
+      arith,
+      now,
+      sum_by-cons (forced_by room slot) job jobs,
+      held_forced room jobs seen slot (omega (arith, same)) (λ place other lt. sees (suc place) other (omega (arith, lt))),
+    )
+
+pub load_forced : (room : RoomModel) (jobs : List Job) (seen : List (ℕ × ℕ)) (load : List ℕ) → IsLoad jobs seen load → Sees room jobs seen → IsForced jobs room load
+load_forced room jobs seen load is sees slot lt = is.told slot lt ∙ held_forced room jobs seen slot is.each_job sees
+
+pub forced_load : (room : RoomModel) (jobs : List Job) (seen : List (ℕ × ℕ)) (load : List ℕ) → length seen ≡ length jobs → Sees room jobs seen → IsForced jobs room load → IsLoad jobs seen load
+forced_load room jobs seen load same sees forced = record {
+  each_job = same;
+  told = λ slot lt. forced slot lt ∙ sym (held_forced room jobs seen slot same sees);
+}
+
+-- ---- what was seen
+same_ship : (jobs : List Job) (place : ℕ) (d e : Job) → place < length jobs → (get_or jobs place d).ship ≡ (get_or jobs place e).ship
+same_ship jobs place d e lt = ap (λ (j : Job). j.ship) (get_or_default jobs place d e lt)
+
+upto : (k place : ℕ) → k < place + 1 → k ≢ place → k < place
+upto k place lt ne = grind arith
+
+pub sees_more : (room : RoomModel) (jobs : List Job) (seen : List (ℕ × ℕ)) (place : ℕ) (d : Job) (range : ℕ × ℕ) → place < length jobs → length seen ≡ length jobs → SeesFirst place room jobs seen → range ≡ range_of room (get_or jobs place d).ship → SeesFirst (place + 1) room jobs (set seen place range)
+sees_more room jobs seen place d range lt same first is k job below =
+    elim (cases_eq k place) [
+      | inl e ↦
+          let here : get_or (set seen place range) place (0, 0) ≡ range = get_or-set_same seen place range (0, 0) (omega (arith, lt, same)) in
+          let at : get_or (set seen place range) k (0, 0) ≡ range = ap (λ i. get_or (set seen place range) i (0, 0)) e ∙ here in
+          let ship : (get_or jobs place d).ship ≡ (get_or jobs k job).ship = same_ship jobs place d job lt ∙ ap (λ i. (get_or jobs i job).ship) (sym e) in
+          at ∙ is ∙ ap (range_of room) ship
+      | inr ne ↦ get_or-set_other seen place k range (0, 0) ne ∙ first k job (upto k place below ne)
+    ]
+
+pub sees_all : (room : RoomModel) (jobs : List Job) (seen : List (ℕ × ℕ)) (many : ℕ) → length jobs ≤ many → SeesFirst many room jobs seen → Sees room jobs seen
+sees_all room jobs seen many le first place job lt = first place job (omega (arith, le, lt))
+
+pub sees_else : (room : RoomModel) (jobs : List Job) (seen : List (ℕ × ℕ)) (ship low high : ℕ) → NoneOf ship jobs → Sees room jobs seen → Sees (with_range room ship low high) jobs seen
+sees_else room jobs seen ship low high none sees place job lt = sees place job lt ∙ sym (range_put_other room ship low high (get_or jobs place job).ship (none place job lt))
+
+-- the ships of ascending jobs differ
+apart : (jobs : List Job) (i k : ℕ) (d e : Job) → AllPairs (λ a b. a.ship < b.ship) jobs → i < length jobs → k < length jobs → k ≢ i → (get_or jobs k e).ship ≢ (get_or jobs i d).ship
+apart jobs i k d e up li lk ne same =
+    elim (cases_order k i) [
+      | inl eq ↦ ne eq
+      | inr (inl less) ↦
+          let l : (get_or jobs k e).ship < (get_or jobs i e).ship = up k i e less li in
+          omega (arith, l, same, same_ship jobs i d e li)
+      | inr (inr more) ↦
+          let l : (get_or jobs i e).ship < (get_or jobs k e).ship = up i k e more lk in
+          omega (arith, l, same, same_ship jobs i d e li)
+    ]
+
+pub sees_set : (room : RoomModel) (jobs : List Job) (seen : List (ℕ × ℕ)) (place : ℕ) (ship low high : ℕ) → AllPairs (λ a b. a.ship < b.ship) jobs → HasShip ship jobs place → length seen ≡ length jobs → ship < length room.ranges
+    → Sees room jobs seen → Sees (with_range room ship low high) jobs (set seen place (low, high))
+sees_set room jobs seen place ship low high up has same inside sees k job below =
+    let lt = has.inside in
+    elim (cases_eq k place) [
+      | inl e ↦
+          let here : get_or (set seen place (low, high)) place (0, 0) ≡ (low, high) = get_or-set_same seen place (low, high) (0, 0) (omega (arith, lt, same)) in
+          let at : get_or (set seen place (low, high)) k (0, 0) ≡ (low, high) = ap (λ i. get_or (set seen place (low, high)) i (0, 0)) e ∙ here in
+          let own : (get_or jobs k job).ship ≡ ship = ap (λ i. (get_or jobs i job).ship) e ∙ has.own job in
+          at ∙ sym (ap (range_of (with_range room ship low high)) own ∙ range_put room ship low high inside)
+      | inr ne ↦
+          let other : (get_or jobs k job).ship ≢ ship = λ e. apart jobs place k job job up lt below ne (e ∙ sym (has.own job)) in
+          get_or-set_other seen place k (low, high) (0, 0) ne ∙ sees k job below ∙ sym (range_put_other room ship low high (get_or jobs k job).ship other)
+    ]
+
+abbrev pair : ℕ → ℕ → ℕ × ℕ
+pair a b = (a, b)
+
+-- a range that is written again
+pub set_again : (seen : List (ℕ × ℕ)) (place : ℕ) (old range : ℕ × ℕ) → place < length seen → old ≡ get_or seen place old → old.0 ≡ range.0 → old.1 ≡ range.1 → seen ≡ set seen place range
+set_again seen place old range lt is low high =
+    let same : range ≡ old = ap (λ a. pair a range.1) (sym low) ∙ ap (λ b. pair old.0 b) (sym high) in
+    sym (ap (λ r. set seen place r) (same ∙ is ∙ get_or_default seen place old (0, 0) lt) ∙ set-get_or seen place (0, 0))
+
+pub load_few : (jobs : List Job) (seen : List (ℕ × ℕ)) (load : List ℕ) → IsLoad jobs seen load → length jobs ≤ 40 → All (λ job. job.tugs ≤ 64) jobs → (slot : ℕ) → slot < length load → get_or load slot 0 ≤ 10_000
+load_few jobs seen load is few tugs slot lt = omega (arith, is.told slot lt, few, held_few jobs seen slot tugs)

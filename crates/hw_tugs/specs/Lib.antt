@@ -1,0 +1,4 @@
+pub mod Kinds
+pub mod Held
+pub mod Over
+pub mod Profiles

@@ -1,0 +1,43 @@
+-- Slots in which a fleet is exceeded, and what is refuted there.
+use Rattle.std.specs.Prelude.{◌≡◌, ℕ, ◌+◌, ◌<◌, ◌≤◌, min, max, List, length, slice_index, sum_by}
+use Rattle.hw_model.specs.declared.rule.Job.{Job}
+use Rattle.hw_model.specs.Rooms.{RoomModel, low_of, high_of}
+use Rattle.hw_model.specs.Refuting.{forced_by}
+use Rattle.hw_prop.specs.Reductions.{IsCut}
+use Rattle.hw_prop.specs.declared.reduction.Reduction.{Reduction}
+use Rattle.hw_prop.specs.declared.reduction.Reduction.TheVariants.{Here, Lowest, Highest, First, NotFirst}
+use Rattle.hw_tugs.specs.declared.cutting.Cut.{Cut}
+
+-- so many tugs more exceed the fleet in a slot of a part of the horizon
+pub record IsOver (load : List ℕ) (fleet more from to slot : ℕ) : Type 0 where
+  pub from_in : from ≤ slot
+  pub to_in : slot < to
+  pub inside : slot < length load
+  pub over : fleet < slice_index load slot + more
+
+-- the jobs hold more tugs for sure in a slot than the fleet has
+abbrev pub OverAt : ℕ → List Job → ℕ → RoomModel → Type 0
+OverAt fleet jobs slot room = fleet < sum_by (forced_by room slot) jobs
+
+-- the same in some slot of the horizon
+abbrev pub Exceeding : ℕ → List Job → ℕ → RoomModel → Type 0
+Exceeding fleet jobs horizon room = (slot : ℕ) × (slot < horizon) × OverAt fleet jobs slot room
+
+-- neither as it is, nor at an end of its ship's range does a job exceed the fleet
+pub record IsCalm (load : List ℕ) (fleet : ℕ) (room : RoomModel) (job : Job) : Type 0 where
+  pub here : (slot : ℕ) → IsOver load fleet 0 (high_of room job.ship) (low_of room job.ship + job.hold) slot → ⊥
+  pub lowest : (slot : ℕ) → IsOver load fleet job.tugs (low_of room job.ship) (min (high_of room job.ship) (low_of room job.ship + job.hold)) slot → ⊥
+  pub highest : (slot : ℕ) → IsOver load fleet job.tugs (max (high_of room job.ship) (low_of room job.ship + job.hold)) (high_of room job.ship + job.hold) slot → ⊥
+
+-- where a job exceeds the fleet: as it is, or at an end of its ship's range
+abbrev pub Overfills : List ℕ → ℕ → RoomModel → Job → Reduction → ℕ → Type 0
+Overfills load fleet room job Here slot = IsOver load fleet 0 (high_of room job.ship) (low_of room job.ship + job.hold) slot
+Overfills load fleet room job (Lowest ship) slot = (ship ≡ job.ship) × IsOver load fleet job.tugs (low_of room job.ship) (min (high_of room job.ship) (low_of room job.ship + job.hold)) slot
+Overfills load fleet room job (Highest ship) slot = (ship ≡ job.ship) × IsOver load fleet job.tugs (max (high_of room job.ship) (low_of room job.ship + job.hold)) (high_of room job.ship + job.hold) slot
+Overfills load fleet room job (First v w) slot = ⊥
+Overfills load fleet room job (NotFirst v w) slot = ⊥
+
+-- a reduction of the room exceeds the fleet in a slot of the horizon
+pub record CutsAt (fleet : ℕ) (jobs : List Job) (horizon : ℕ) (room : RoomModel) (cut : Cut) : Type 0 where
+  pub inside : cut.slot < horizon
+  pub refuted : IsCut (OverAt fleet jobs cut.slot) room cut.reduction

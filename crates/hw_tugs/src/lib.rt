@@ -1,0 +1,14 @@
+//! The propagator of a rule on tugs: it keeps the tugs that are held for sure in each slot, and they
+//! follow the room.
+#![tactic(auto)]
+
+mod cutting;
+mod explaining;
+mod figures;
+mod mending;
+mod profile;
+mod rule;
+#[cfg(test)]
+mod tests;
+
+pub use profile::TugProfile;

@@ -1,0 +1,119 @@
+ghost use Rattle.std.specs.Prelude.{◌≡◌, ◌<◌, ℕ, IfOk, map};
+ghost use Rattle.hw_model.specs.Problem.{Problem, horizon, shape_of};
+ghost use Rattle.hw_model.specs.Rooms.{RoomModel, whole_room};
+ghost use Rattle.hw_tugs.specs.Kinds.{OfTugs, tugs_held};
+
+use crate::explaining::tugs_step;
+use crate::figures::Figures;
+use crate::rule::tugs_rule;
+use hw_flat::{Flat, Job, Room, ShipId, Slot, Source};
+use hw_lits::Found;
+use hw_model::{Lit, NoMemory};
+use hw_prop::{BySource, Propagator};
+use std::alloc::Global;
+
+/// The propagator of a rule on tugs. It keeps the tugs that are held for sure in each slot of the
+/// horizon: by each job in the slots from its ship's highest on, before its lowest and the hold. A
+/// ship that may still stay holds none for sure.
+///
+/// A quiet step takes no memory, and at most a step for each slot in which a job may hold its tugs.
+/// `undone` takes a comparison for each job, and where a range differs a step for each slot that
+/// its job holds for sure; `changed` looks for the one job.
+#[derive(Debug, Drop)]
+pub struct TugProfile {
+    source: Source,
+    ships: Vec<ShipId>,
+    trial: Room,
+    figures: Figures,
+}
+
+fn ships_of(alloc: Global, jobs: &[Job]) -> Result<Vec<ShipId>, NoMemory>
+    ensures value { IfOk result (λ ships. ships.items ≡ map (λ job. job.ship) jobs.now) }
+{
+    let mut ships = Vec::new(alloc);
+    for job in jobs {
+        ships.push(job.ship)?;
+    }
+    Ok(ships)
+}
+
+impl TugProfile {
+    /// The one of the source of a rule on tugs, ready for the whole room.
+    pub fn new(alloc: Global, flat: &Flat, source: Source) -> Result<TugProfile, NoMemory>
+        requires kind { OfTugs flat.now source }
+        ensures source { IfOk result (λ p. ⟦<TugProfile as Propagator>⟧.source p ≡ source) }
+        ensures ready { IfOk result (λ p. ⟦<TugProfile as Propagator>⟧.ready p flat.now (whole_room (shape_of flat.now))) }
+    {
+        let rule = tugs_rule(flat, source);
+        let trial = Room::whole(alloc, flat.shape())?;
+        let ships = ships_of(alloc, rule.jobs)?;
+        let figures = Figures::of_room(alloc, rule.jobs, &trial, flat.horizon())?;
+        Ok(TugProfile {
+            source,
+            ships,
+            trial,
+            figures,
+        })
+    }
+
+    /// The tugs that the rule's jobs hold for sure in a slot of the horizon, in the room for which
+    /// the profile is ready.
+    pub fn load(&self, slot: Slot) -> u64
+        requires ready { (f : Problem) × (room : RoomModel) × ⟦<TugProfile as Propagator>⟧.ready self.now f room × (slot < horizon f) }
+        ensures value { (f : Problem) (room : RoomModel) → ⟦<TugProfile as Propagator>⟧.ready self.now f room → result ≡ tugs_held f (⟦<TugProfile as Propagator>⟧.source self.now) room slot }
+    {
+        self.figures.load[slot as usize]
+    }
+}
+
+impl Propagator for TugProfile {
+    ghost use Rattle.hw_tugs.specs.Profiles.{Keeps, IsReady};
+
+    ghost source = { λ p. p.source };
+
+    ghost serves = { λ p f. Keeps f p.source p.ships.items p.trial p.figures };
+
+    ghost ready = { λ p f room. IsReady f p.source p.ships.items p.trial p.figures room };
+
+    ghost ready_serves = { λ p f room h. h.keeps };
+
+    ghost serves_source = { λ p f h. h.of_tugs.0 };
+
+    fn source(&self) -> Source {
+        self.source
+    }
+
+    fn step(
+        &mut self,
+        alloc: Global,
+        flat: &Flat,
+        best: Option<u64>,
+        room: &Room,
+    ) -> Result<Found, NoMemory> {
+        let rule = tugs_rule(flat, self.source);
+        let test = BySource {
+            flat,
+            source: self.source,
+            best,
+        };
+        tugs_step(
+            alloc,
+            &test,
+            &rule,
+            room,
+            &self.figures.load,
+            &mut self.trial,
+            &self.ships,
+        )
+    }
+
+    fn changed(&mut self, flat: &Flat, before: &Room, lit: Lit) {
+        let rule = tugs_rule(flat, self.source);
+        self.figures.narrow(rule.jobs, before, lit);
+    }
+
+    fn undone(&mut self, flat: &Flat, room: &Room) {
+        let rule = tugs_rule(flat, self.source);
+        self.figures.follow(rule.jobs, room);
+    }
+}
