@@ -11,6 +11,7 @@ use hw_lits::Found;
 use hw_model::{Lit, NoMemory};
 use hw_pairs::{Berth, Channel, OrderTriple, Separation};
 use hw_prop::{Propagator, Shaver};
+use hw_tugs::TugProfile;
 use std::alloc::Global;
 
 /// A propagator of one of the kinds.
@@ -21,6 +22,7 @@ pub enum AnyPropagator {
     Separation(Separation),
     Berth(Berth),
     OrderTriple(OrderTriple),
+    TugProfile(TugProfile),
     GoalBound(GoalBound),
 }
 
@@ -32,6 +34,7 @@ macro_rules! of_each {
             AnyPropagator::Separation($one) => $call,
             AnyPropagator::Berth($one) => $call,
             AnyPropagator::OrderTriple($one) => $call,
+            AnyPropagator::TugProfile($one) => $call,
             AnyPropagator::GoalBound($one) => $call,
         }
     };
@@ -40,15 +43,15 @@ macro_rules! of_each {
 impl Propagator for AnyPropagator {
     ghost use Rattle.hw_search.specs.Any.{source_by, serves_by, ready_by, ready_serves_by, serves_source_by};
 
-    ghost source = { source_by ⟦<Shaver as Propagator>⟧.source ⟦<Channel as Propagator>⟧.source ⟦<Separation as Propagator>⟧.source ⟦<Berth as Propagator>⟧.source ⟦<OrderTriple as Propagator>⟧.source ⟦<GoalBound as Propagator>⟧.source };
+    ghost source = { source_by ⟦<Shaver as Propagator>⟧.source ⟦<Channel as Propagator>⟧.source ⟦<Separation as Propagator>⟧.source ⟦<Berth as Propagator>⟧.source ⟦<OrderTriple as Propagator>⟧.source ⟦<TugProfile as Propagator>⟧.source ⟦<GoalBound as Propagator>⟧.source };
 
-    ghost serves = { serves_by ⟦<Shaver as Propagator>⟧.serves ⟦<Channel as Propagator>⟧.serves ⟦<Separation as Propagator>⟧.serves ⟦<Berth as Propagator>⟧.serves ⟦<OrderTriple as Propagator>⟧.serves ⟦<GoalBound as Propagator>⟧.serves };
+    ghost serves = { serves_by ⟦<Shaver as Propagator>⟧.serves ⟦<Channel as Propagator>⟧.serves ⟦<Separation as Propagator>⟧.serves ⟦<Berth as Propagator>⟧.serves ⟦<OrderTriple as Propagator>⟧.serves ⟦<TugProfile as Propagator>⟧.serves ⟦<GoalBound as Propagator>⟧.serves };
 
-    ghost ready = { ready_by ⟦<Shaver as Propagator>⟧.ready ⟦<Channel as Propagator>⟧.ready ⟦<Separation as Propagator>⟧.ready ⟦<Berth as Propagator>⟧.ready ⟦<OrderTriple as Propagator>⟧.ready ⟦<GoalBound as Propagator>⟧.ready };
+    ghost ready = { ready_by ⟦<Shaver as Propagator>⟧.ready ⟦<Channel as Propagator>⟧.ready ⟦<Separation as Propagator>⟧.ready ⟦<Berth as Propagator>⟧.ready ⟦<OrderTriple as Propagator>⟧.ready ⟦<TugProfile as Propagator>⟧.ready ⟦<GoalBound as Propagator>⟧.ready };
 
-    ghost ready_serves = { ready_serves_by ⟦<Shaver as Propagator>⟧.serves ⟦<Channel as Propagator>⟧.serves ⟦<Separation as Propagator>⟧.serves ⟦<Berth as Propagator>⟧.serves ⟦<OrderTriple as Propagator>⟧.serves ⟦<GoalBound as Propagator>⟧.serves ⟦<Shaver as Propagator>⟧.ready ⟦<Channel as Propagator>⟧.ready ⟦<Separation as Propagator>⟧.ready ⟦<Berth as Propagator>⟧.ready ⟦<OrderTriple as Propagator>⟧.ready ⟦<GoalBound as Propagator>⟧.ready (λ p f room h. h.0) (λ p f room h. h.0) (λ p f room h. h.0) (λ p f room h. h.0) (λ p f room h. h.0) (λ p f room h. h.0) };
+    ghost ready_serves = { ready_serves_by ⟦<Shaver as Propagator>⟧.serves ⟦<Channel as Propagator>⟧.serves ⟦<Separation as Propagator>⟧.serves ⟦<Berth as Propagator>⟧.serves ⟦<OrderTriple as Propagator>⟧.serves ⟦<TugProfile as Propagator>⟧.serves ⟦<GoalBound as Propagator>⟧.serves ⟦<Shaver as Propagator>⟧.ready ⟦<Channel as Propagator>⟧.ready ⟦<Separation as Propagator>⟧.ready ⟦<Berth as Propagator>⟧.ready ⟦<OrderTriple as Propagator>⟧.ready ⟦<TugProfile as Propagator>⟧.ready ⟦<GoalBound as Propagator>⟧.ready (λ p f room h. h.0) (λ p f room h. h.0) (λ p f room h. h.0) (λ p f room h. h.0) (λ p f room h. h.0) (λ p f room h. h.keeps) (λ p f room h. h.0) };
 
-    ghost serves_source = { serves_source_by ⟦<Shaver as Propagator>⟧.serves ⟦<Channel as Propagator>⟧.serves ⟦<Separation as Propagator>⟧.serves ⟦<Berth as Propagator>⟧.serves ⟦<OrderTriple as Propagator>⟧.serves ⟦<GoalBound as Propagator>⟧.serves ⟦<Shaver as Propagator>⟧.source ⟦<Channel as Propagator>⟧.source ⟦<Separation as Propagator>⟧.source ⟦<Berth as Propagator>⟧.source ⟦<OrderTriple as Propagator>⟧.source ⟦<GoalBound as Propagator>⟧.source (λ p f h. h.0) (λ p f h. h.0) (λ p f h. h.0) (λ p f h. h.0) (λ p f h. h.0) (λ p f h. tt) };
+    ghost serves_source = { serves_source_by ⟦<Shaver as Propagator>⟧.serves ⟦<Channel as Propagator>⟧.serves ⟦<Separation as Propagator>⟧.serves ⟦<Berth as Propagator>⟧.serves ⟦<OrderTriple as Propagator>⟧.serves ⟦<TugProfile as Propagator>⟧.serves ⟦<GoalBound as Propagator>⟧.serves ⟦<Shaver as Propagator>⟧.source ⟦<Channel as Propagator>⟧.source ⟦<Separation as Propagator>⟧.source ⟦<Berth as Propagator>⟧.source ⟦<OrderTriple as Propagator>⟧.source ⟦<TugProfile as Propagator>⟧.source ⟦<GoalBound as Propagator>⟧.source (λ p f h. h.0) (λ p f h. h.0) (λ p f h. h.0) (λ p f h. h.0) (λ p f h. h.0) (λ p f h. h.of_tugs.0) (λ p f h. tt) };
 
     fn source(&self) -> Source {
         of_each!(self, one => one.source())
@@ -74,23 +77,31 @@ impl Propagator for AnyPropagator {
 }
 
 // The one of a rule's source.
-fn for_rule(flat: &Flat, source: Source, rule: &Rule) -> AnyPropagator
+fn for_rule(
+    alloc: Global,
+    flat: &Flat,
+    source: Source,
+    rule: &Rule,
+) -> Result<AnyPropagator, NoMemory>
     requires source_in { IsSourceOf flat.now source }
     requires rule { rule_of flat.now source ≡ Some rule.now }
-    ensures source { ⟦<AnyPropagator as Propagator>⟧.source result ≡ source }
-    ensures ready { ⟦<AnyPropagator as Propagator>⟧.ready result flat.now (whole_room (shape_of flat.now)) }
+    ensures source { IfOk result (λ one. ⟦<AnyPropagator as Propagator>⟧.source one ≡ source) }
+    ensures ready { IfOk result (λ one. ⟦<AnyPropagator as Propagator>⟧.ready one flat.now (whole_room (shape_of flat.now))) }
 {
     let _shape = flat.shape();
     match rule {
         Rule::Pair { holes, .. } => {
             if holes.items.len() == 1 {
-                AnyPropagator::Separation(Separation::new(flat, source))
+                Ok(AnyPropagator::Separation(Separation::new(flat, source)))
             } else {
-                AnyPropagator::Channel(Channel::new(flat, source))
+                Ok(AnyPropagator::Channel(Channel::new(flat, source)))
             }
         }
-        Rule::After { .. } => AnyPropagator::Berth(Berth::new(flat, source)),
-        Rule::Tugs { .. } => AnyPropagator::Shaver(Shaver::new(source)),
+        Rule::After { .. } => Ok(AnyPropagator::Berth(Berth::new(flat, source))),
+        Rule::Tugs { .. } => {
+            let profile = TugProfile::new(alloc, flat, source)?;
+            Ok(AnyPropagator::TugProfile(profile))
+        }
     }
 }
 
@@ -103,7 +114,7 @@ pub fn for_source(alloc: Global, flat: &Flat, source: Source) -> Result<AnyPropa
     let _shape = flat.shape();
     match source {
         Source::Window { .. } => Ok(AnyPropagator::Shaver(Shaver::new(source))),
-        Source::Rule { place } => Ok(for_rule(flat, source, &flat.rules()[place as usize])),
+        Source::Rule { place } => for_rule(alloc, flat, source, &flat.rules()[place as usize]),
         Source::Order { .. } => Ok(AnyPropagator::OrderTriple(OrderTriple::new(flat, source))),
         Source::Goal => {
             let goal = GoalBound::new(alloc, flat)?;
