@@ -106,7 +106,7 @@ all_on p q old mid new a b = record {
       (λ was now then h k. (k.0 ∙ ap (λ xs. xs ++ q) h.0 ∙ append_assoc was.lines p q, k.1)) a.told b.told;
 }
 
-cause_on : (stop : LogStop) (old mid new : LogModel) → mid.faults ≡ old.faults → StopCause stop mid new → StopCause stop old new
+pub cause_on : (stop : LogStop) (old mid new : LogModel) → mid.faults ≡ old.faults → StopCause stop mid new → StopCause stop old new
 cause_on stops.Failed old mid new e h = subst (λ n. Rose n new.faults) e h
 cause_on stops.NoMemory old mid new e h = h ∙ e
 

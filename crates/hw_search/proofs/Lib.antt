@@ -21,3 +21,4 @@ pub mod Tidying
 pub mod Turns
 pub mod Ending
 pub mod Props
+pub mod Taught

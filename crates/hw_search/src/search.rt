@@ -2,14 +2,17 @@ ghost use Rattle.std.specs.Prelude.{◌≡◌, ◌<◌, [], false, All, IfOk, ma
 ghost use Rattle.std.specs.Option.{option_copied};
 ghost use Rattle.hw_model.specs.Problem.{shape_of};
 ghost use Rattle.hw_model.specs.Rooms.{whole_room};
-ghost use Rattle.hw_progress.specs.Searches.{new_search, room_in, IsSearch};
+ghost use Rattle.hw_progress.specs.Searches.{LogFits, new_search, room_in, IsSearch};
+ghost use Rattle.hw_cert.specs.Logs.{WhereTold};
 ghost use Rattle.hw_progress.specs.Settling.{SettleMeets};
+ghost use Rattle.hw_progress.specs.Turns.{TurnMeets};
 ghost use Rattle.hw_progress.specs.Starting.{EachSourceOnce};
 
 use crate::engine::Engine;
+use hw_cert::Log;
 use hw_flat::{Flat, Room, Timetable};
 use hw_model::NoMemory;
-use hw_progress::{Branching, Settled};
+use hw_progress::{Branching, Settled, Turn};
 use hw_prop::Propagator;
 use hw_store::Store;
 use std::alloc::Global;
@@ -60,6 +63,19 @@ impl<'f, S: Store + Drop, P: Propagator + Drop> Search<'f, S, P> {
         ensures meets { SettleMeets self.old self.new result }
     {
         self.engine.settle(alloc)
+    }
+
+    /// Settles, and then decides, writes a better table, or learns from a conflict: the lines that
+    /// this takes are handed to the log. After `Ended`, `NoMemory` and `LogFailed` the search is
+    /// over; what was written stays, and so does the best timetable.
+    pub fn turn<L: Log>(&mut self, alloc: Global, log: &mut L) -> Turn
+        requires few { self.old.lemmas < 100000 }
+        requires going { self.old.over ≡ false }
+        requires fits { WhereTold (L.state log.old) (λ told. LogFits told self.old) }
+        ensures turns { TurnMeets self.old (L.state log.old) result self.new (L.state log.new) }
+        ensures same_reference { L.anchor log.new ≡ L.anchor log.old }
+    {
+        self.engine.turn(alloc, log)
     }
 
     /// The best timetable so far.

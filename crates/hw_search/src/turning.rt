@@ -1,6 +1,6 @@
 //! A turn: it settles, and then decides, finds a table, or learns from a conflict.
 
-ghost use Rattle.std.specs.Prelude.{◌≡◌, ◌<◌, ◌≤◌, ℕ, [], true, IsTrue, Some};
+ghost use Rattle.std.specs.Prelude.{◌≡◌, ◌<◌, ◌≤◌, ℕ, [], true, false, IsTrue, Some, length};
 ghost use Rattle.hw_model.specs.Timetables.{Permits, cargo, beats};
 ghost use Rattle.hw_model.specs.Rooms.{IsPoint, point_of};
 ghost use Rattle.hw_story.specs.Trails.{clause_of, decided};
@@ -111,6 +111,99 @@ impl<'f, S: Store + Drop, P: Propagator + Drop> Engine<'f, S, P> {
                 Turn::Ended
             }
             Err(stop) => self.halt(stop),
+        }
+    }
+
+    // Learns from a conflict that has literals, and goes back.
+    fn teach<L: Log>(&mut self, alloc: Global, why: &Why, log: &mut L) -> Turn
+        requires conflict { IsConflict self.old.search why.now }
+        requires some { 1 ≤ length (clause_of why.now) }
+        requires going { self.old.search.over ≡ false }
+        requires few { self.old.search.lemmas < 100000 }
+        requires whole { IsWhole (L.state log.old) }
+        ensures turns { (s : SearchModel) → Begins s (L.state log.old) → Settles s self.old.search (Conflict why.now) → TurnMeets s (L.state log.old) result self.new.search (L.state log.new) }
+        ensures same_reference { L.anchor log.new ≡ L.anchor log.old }
+    {
+        let Ok(learnt) = learn(alloc, &self.trail, clause_of(why)) else {
+            return self.halt(LogStop::NoMemory);
+        };
+        let Learnt {
+            lemma,
+            back,
+            places,
+        } = learnt;
+        let written = write_lemma(
+            alloc,
+            self.flat,
+            &self.trail,
+            why,
+            lemma,
+            &places,
+            &mut self.written,
+            &mut self.clause_lines,
+            log,
+        );
+        match written {
+            Ok(Written { lemma, conflict }) => {
+                self.lemmas += 1;
+                if lemma.len() == 0 {
+                    self.over = true;
+                    return Turn::Ended;
+                }
+                mark_all(&mut self.marks);
+                let level = next_level(&mut self.restarts, &mut self.since, back);
+                let gone = go_back(
+                    alloc,
+                    &mut self.trail,
+                    &mut self.written,
+                    &mut self.store,
+                    level,
+                    self.clause_lines,
+                    lemma,
+                    conflict,
+                    log,
+                );
+                match gone {
+                    Ok(()) => Turn::Lemma,
+                    Err(stop) => {
+                        self.over = true;
+                        turn_of(stop)
+                    }
+                }
+            }
+            Err(stop) => {
+                self.over = true;
+                turn_of(stop)
+            }
+        }
+    }
+
+    /// Settles, and then decides, writes a better table, or learns from a conflict. After `Ended`,
+    /// `NoMemory` and `LogFailed` the search is over; what was written stays, and so does the best.
+    pub fn turn<L: Log>(&mut self, alloc: Global, log: &mut L) -> Turn
+        requires few { self.old.search.lemmas < 100000 }
+        requires going { self.old.search.over ≡ false }
+        requires fits { WhereTold (L.state log.old) (λ told. LogFits told self.old.search) }
+        ensures turns { TurnMeets self.old.search (L.state log.old) result self.new.search (L.state log.new) }
+        ensures same_reference { L.anchor log.new ≡ L.anchor log.old }
+    {
+        match self.settle(alloc) {
+            Ok(Settled::Quiet) => {
+                if self.trail.room().is_point() {
+                    self.improve(alloc, log)
+                } else {
+                    self.decide();
+                    Turn::Decided
+                }
+            }
+            Ok(Settled::Conflict(why)) => {
+                if clause_of(&why).len() == 0 {
+                    self.end(alloc, &why, log)
+                } else {
+                    self.teach(alloc, &why, log)
+                }
+            }
+            Err(_stop) => self.halt(LogStop::NoMemory),
         }
     }
 }
