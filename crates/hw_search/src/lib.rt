@@ -24,3 +24,6 @@ pub use any::{AnyPropagator, for_source};
 pub use restarts::luby;
 pub use search::Search;
 pub use solving::solve;
+
+#[cfg(test)]
+mod tests;

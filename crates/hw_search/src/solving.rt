@@ -34,8 +34,8 @@ fn propagators(alloc: Global, flat: &Flat) -> Result<Vec<AnyPropagator>, NoMemor
     Ok(props)
 }
 
-// A search that has done nothing.
-fn start<'f>(
+/// A search that has done nothing, of which a solution is made.
+pub fn start<'f>(
     alloc: Global,
     flat: &'f Flat,
 ) -> Result<Search<'f, WatchStore, AnyPropagator>, NoMemory>
