@@ -19,16 +19,6 @@ clear_joined marks from upto a b place low lt = elim (cases_lt place from) [
   | inr more ↦ b place more lt
 ]
 
--- one more source has lost its mark
-pub clear_more : (marks new : List Bool) (place : ℕ) → place < length marks → new ≡ slice_set marks place false → ClearWithin marks 0 place → ClearWithin new 0 (place + 1)
-clear_more marks new place inside e clear other low lt = subst (λ xs. is_marked xs other ≡ false) (sym e) (elim (cases_eq other place) [
-  | inl same ↦ subst (λ n. is_marked (slice_set marks place false) n ≡ false) (sym same) (get_or-set_same marks place false true inside)
-  | inr ne ↦ get_or-set_other marks place other false true ne ∙ clear other low (less other place lt ne)
-])
-  where
-    less : (a b : ℕ) → a < b + 1 → (a ≡ b → ⊥) → a < b
-    less a b lt ne = grind arith
-
 -- where no source is marked, each is quiet
 pub sources_quiet : (e : EngineModel) (table : SpeakersModel) (goal : ℕ) (best : List ℕ) (worth : _) (capacity : ℕ) → KeepsEngine e table goal best worth capacity → ClearWithin e.marks 0 (length e.marks) → SourcesQuiet e.search
 sources_quiet e table goal best worth capacity k clear source of =

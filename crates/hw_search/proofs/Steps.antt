@@ -65,17 +65,11 @@ same_problem s after i = ap (λ (x : SearchModel). x.problem) i.only
 pub no_fewer : (s after : SearchModel) → Implies s after → length s.trail.events ≤ length after.trail.events
 no_fewer s after i = omega (arith, ap (λ (x : SearchModel). length x.trail.events) i.only, length-append s.trail.events i.more)
 
-pub goes_none : (s : SearchModel) → IsSearch s → Goes s s
-goes_none s is = record { implies = implies_none s; kept = is }
-
 pub goes_more : (s mid after : SearchModel) → Implies s mid → Goes mid after → Goes s after
 goes_more s mid after a b = record { implies = implies_more s mid after a b.implies; kept = b.kept }
 
 pub gains_more : (s mid after : SearchModel) → Implies s mid → Gains mid after → Gains s after
 gains_more s mid after a b = record { goes = goes_more s mid after a b.goes; more = omega (arith, no_fewer s mid a, b.more) }
-
-pub gains_then : (s mid after : SearchModel) → Gains s mid → Goes mid after → Gains s after
-gains_then s mid after a b = record { goes = goes_more s mid after a.goes.implies b; more = omega (arith, no_fewer mid after b.implies, a.more) }
 
 pub fails_more : (s mid after : SearchModel) (why : Why) → Implies s mid → Fails mid after why → Fails s after why
 fails_more s mid after why a b = record { goes = goes_more s mid after a b.goes; conflict = b.conflict }

@@ -15,6 +15,8 @@ mod naming;
 mod restarts;
 mod search;
 mod settling;
+#[cfg(test)]
+mod settling_tests;
 mod solving;
 mod speakers;
 mod turning;
