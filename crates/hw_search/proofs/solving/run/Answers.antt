@@ -29,13 +29,13 @@ turn-requires-clause-fits g c = to_fit c.args.flat.now c.args.budget c.turns.sea
 pub turns-smaller : goal.turns-smaller
 turns-smaller g c =
     let few : c.turns.search.lemmas < c.args.budget = omega (arith, c.turns-test.true, c.lemmas.ensures.value) in
-    nearer c.turn.result c.args.budget c.turns.search c.turn.new.self (g.L.Log.state c.turns.log) (g.L.Log.state c.turn.new._log) (goes c.turn.result c.in-Decided.is) few c.turn.ensures.turns.same_problem c.turn.ensures.turns.does
+    nearer c.turn.result c.args.budget c.turns.search c.turn.new.self (g.L.Log.state c.turns.log) (g.L.Log.state c.turn.new.log) (goes c.turn.result c.in-Decided.is) few c.turn.ensures.turns.same_problem c.turn.ensures.turns.does
 
 pub turns-preserved : goal.turns-preserved
 turns-preserved g c =
     let few : c.turns.search.lemmas < c.args.budget = omega (arith, c.turns-test.true, c.lemmas.ensures.value) in
     record {
-      going = goes_on c.args.flat.now c.args.budget c.turns.search c.turn.new.self c.turn.result (g.L.Log.state c.args.log.now) (g.L.Log.state c.turns.log) (g.L.Log.state c.turn.new._log) c.turns.invariant.going few (goes c.turn.result c.in-Decided.is) c.turn.ensures.turns;
+      going = goes_on c.args.flat.now c.args.budget c.turns.search c.turn.new.self c.turn.result (g.L.Log.state c.args.log.now) (g.L.Log.state c.turns.log) (g.L.Log.state c.turn.new.log) c.turns.invariant.going few (goes c.turn.result c.in-Decided.is) c.turn.ensures.turns;
       same = c.turn.ensures.same_reference ∙ c.turns.invariant.same;
     }
 
@@ -48,7 +48,7 @@ pub returns-in-Ended : goal.returns-in-Ended
 returns-in-Ended g c =
     let few : c.turns.search.lemmas < c.args.budget = omega (arith, c.turns-test.true, c.lemmas.ensures.value) in
     record {
-      solves = ends_at c.args.flat.now c.args.budget c.turns.search c.turn.new.self c.proved.result (g.L.Log.state c.args.log.now) (g.L.Log.state c.turns.log) (g.L.Log.state c.turn.new._log) c.lemmas.ensures.search c.turns.invariant.going few c.in-Ended.ensures.turns (subst (λ (o : Option (List ℕ)). EndsSolved c.args.flat.now o c.proved.result) c.into_best.ensures.value c.proved.ensures.value);
+      solves = ends_at c.args.flat.now c.args.budget c.turns.search c.turn.new.self c.proved.result (g.L.Log.state c.args.log.now) (g.L.Log.state c.turns.log) (g.L.Log.state c.turn.new.log) c.lemmas.ensures.search c.turns.invariant.going few c.in-Ended.ensures.turns (subst (λ (o : Option (List ℕ)). EndsSolved c.args.flat.now o c.proved.result) c.into_best.ensures.value c.proved.ensures.value);
       same_reference = c.in-Ended.ensures.same_reference ∙ c.turns.invariant.same;
     }
 
@@ -56,8 +56,8 @@ pub returns-in-NoMemory : goal.returns-in-NoMemory
 returns-in-NoMemory g c =
     let few : c.turns.search.lemmas < c.args.budget = omega (arith, c.turns-test.true, c.lemmas.ensures.value) in
     record {
-      solves = subst (λ (o : Option (List ℕ)). SolveMeets c.args.flat.now c.args.budget (g.L.Log.state c.args.log.now) (answers.NoMemory o) (g.L.Log.state c.turn.new._log)) (sym c.into_best-in-NoMemory.ensures.value)
-          (stopped c.args.flat.now c.args.budget c.turns.search c.turn.new.self (g.L.Log.state c.args.log.now) (g.L.Log.state c.turns.log) (g.L.Log.state c.turn.new._log) c.lemmas.ensures.search c.turns.invariant.going few c.in-NoMemory.ensures.turns);
+      solves = subst (λ (o : Option (List ℕ)). SolveMeets c.args.flat.now c.args.budget (g.L.Log.state c.args.log.now) (answers.NoMemory o) (g.L.Log.state c.turn.new.log)) (sym c.into_best-in-NoMemory.ensures.value)
+          (stopped c.args.flat.now c.args.budget c.turns.search c.turn.new.self (g.L.Log.state c.args.log.now) (g.L.Log.state c.turns.log) (g.L.Log.state c.turn.new.log) c.lemmas.ensures.search c.turns.invariant.going few c.in-NoMemory.ensures.turns);
       same_reference = c.in-NoMemory.ensures.same_reference ∙ c.turns.invariant.same;
     }
 
@@ -65,7 +65,7 @@ pub returns-in-LogFailed : goal.returns-in-LogFailed
 returns-in-LogFailed g c =
     let few : c.turns.search.lemmas < c.args.budget = omega (arith, c.turns-test.true, c.lemmas.ensures.value) in
     record {
-      solves = failed c.args.flat.now c.args.budget c.turns.search c.turn.new.self (g.L.Log.state c.args.log.now) (g.L.Log.state c.turns.log) (g.L.Log.state c.turn.new._log) c.turns.invariant.going few c.in-LogFailed.ensures.turns;
+      solves = failed c.args.flat.now c.args.budget c.turns.search c.turn.new.self (g.L.Log.state c.args.log.now) (g.L.Log.state c.turns.log) (g.L.Log.state c.turn.new.log) c.turns.invariant.going few c.in-LogFailed.ensures.turns;
       same_reference = c.in-LogFailed.ensures.same_reference ∙ c.turns.invariant.same;
     }
 

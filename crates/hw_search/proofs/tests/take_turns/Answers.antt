@@ -1,0 +1,23 @@
+use Rattle.std.proofs.Common.{◌≡◌, ◌⊎◌, ◌<◌, false, sym, ap, subst, inl, inr, arith}
+use Rattle.hw_progress.specs.declared.outcome.Turn.{Turn}
+use Rattle.hw_progress.specs.declared.outcome.Turn.TheVariants as turns
+use Rattle.hw_progress.specs.Turns.{is_last}
+use Rattle.hw_search.specs.Going.{Going}
+use Rattle.hw_search.proofs.Solved.{begins, goes_on, to_fit}
+use Rattle.hw_search.proofs.tests.take_turns.Goals as goal
+
+goes : (t : Turn) → (t ≡ turns.Decided) ⊎ ((t ≡ turns.Better) ⊎ (t ≡ turns.Lemma)) → is_last t ≡ false
+goes t (inl e) = ap is_last e
+goes t (inr (inl e)) = ap is_last e
+goes t (inr (inr e)) = ap is_last e
+
+pub loop-count-init : goal.loop-count-init
+loop-count-init g c = subst (λ s. Going c.args.flat.now c.args.budget s (g.L.Log.state c.args.log.now) (g.L.Log.state c.args.log.now)) (sym c.in_ok-search.ensures.value) (begins c.args.flat.now c.args.budget (g.L.Log.state c.args.log.now) c.shape-shape.ensures.limits c.requires.empty)
+
+pub loop-count-preserved : goal.loop-count-preserved
+loop-count-preserved g c =
+    let few : c.loop-count.search.lemmas < c.args.budget = omega (arith, c.if-lemmas-budget.false, c.lemmas.ensures.value) in
+    goes_on c.args.flat.now c.args.budget c.loop-count.search c.turn.new.self c.turn.result (g.L.Log.state c.args.log.now) (g.L.Log.state c.loop-count.log) (g.L.Log.state c.turn.new.log) c.loop-count.invariant few (goes c.turn.result c.in-Decided.is) c.turn.ensures.turns
+
+pub turn-requires-clause-fits : goal.turn-requires-clause-fits
+turn-requires-clause-fits g c = to_fit c.args.flat.now c.args.budget c.loop-count.search (g.L.Log.state c.args.log.now) (g.L.Log.state c.loop-count.log) c.loop-count.invariant
