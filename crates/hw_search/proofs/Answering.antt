@@ -119,7 +119,7 @@ no_more f turn told = record {
   few_live = tt;
 }
 
-abbrev decides : SearchModel → Lit → SearchModel
+abbrev pub decides : SearchModel → Lit → SearchModel
 decides mid lit = record mid { trail = decided mid.trail lit; written = mid.written ++ None ∷ [] }
 
 some_is : {A : Type 0} (o : Option A) (x : A) (P : A → Type 0) → o ≡ Some x → P x → IsSomeAnd o P

@@ -22,3 +22,4 @@ pub mod Turns
 pub mod Ending
 pub mod Props
 pub mod Taught
+pub mod Lessons

@@ -132,17 +132,16 @@ drops_left mid why lemma back places trail written ws lines restarts since level
 
 pub went_meets : (s mid : SearchModel) (why : Why) (lemma : List Lit) (back : ℕ) (places : List ℕ) (trail : TrailModel) (stored : List Stored) (written ws : List (Option ℕ)) (lines restarts since level : ℕ) (own : Option ℕ) (ids : List ℕ) (old then new : LogModel)
     → Begins s old → Settles s mid (Conflict why) → Teaches mid why lemma back places → 1 ≤ length lemma → WentBack mid why lemma back places trail written ws lines restarts since level → own ≡ own_number why ((cited mid places).search.clause_lines + 1) → stored ≡ mid.stored ++ record { number = lines; clause = lemma } ∷ []
-    → TakesAll (lemma_lines (taught mid why places) lemma) old then → IsLeftOver stored ws (length (back_to mid.trail level).events) own ids → TakesAll (deletion ids) then new
+    → TakesAll (lemma_lines (taught mid why places) lemma) old then → IsLeftOver (mid.stored ++ record { number = lines; clause = lemma } ∷ []) ws (length (back_to mid.trail level).events) own ids → TakesAll (deletion ids) then new
     → TurnMeets s old turns.Lemma (went mid trail stored written lines restarts since) new
 went_meets s mid why lemma back places trail stored written ws lines restarts since level own ids old then new b settles t literal w o e a left d =
     let g = gone_code mid why lemma back places trail written ws lines restarts since level w in
     let an = analysed s mid why lemma back places settles t in
     let k = gone_keeps mid t.kept why lemma back places t.going t.conflict t.learns literal in
-    let left' = subst (λ xs. IsLeftOver xs ws (length (back_to mid.trail level).events) own ids) e left in
     subst (λ xs. TurnMeets s old turns.Lemma (went mid trail xs written lines restarts since) new) (sym e)
     (subst (λ x. TurnMeets s old turns.Lemma x new) g
     (lemma_turned s mid why lemma back places ids old new b an t.some literal (same_taught mid why places) k.kept
-    (λ was fit. drops_left mid why lemma back places trail written ws lines restarts since level own ids s was w o (known s mid was why lemma back places b.kept b.going b.few fit an t.some) left')
+    (λ was fit. drops_left mid why lemma back places trail written ws lines restarts since level own ids s was w o (known s mid was why lemma back places b.kept b.going b.few fit an t.some) left)
     (all_on (lemma_lines (taught mid why places) lemma) (deletion ids) old then new a d)))
 
 stop_here : (stop : LogStop) (p more : List Line) (old then new : LogModel) → TakesAll p old then → StopsWithin stop more 0 then new → Grows old new (λ was now. (count : ℕ) × (count ≡ length p) × StopsAfter stop (p ++ more) count was now)

@@ -29,9 +29,9 @@ tidies_none A stored stored' one written keep conflict log added whole = (added,
 
 pub tidies_by : (stored stored' : List Stored) (one : Stored) (written : List (Option ℕ)) (keep : ℕ) (conflict : Option ℕ) (ids : List ℕ) (old new : LogModel) (result : Result Unit LogStop) → stored' ≡ stored ++ one ∷ [] → IsLeftOver stored' written keep conflict ids → OnOk result (TakesAll (deletion ids) old new) → IfErr result (λ stop. StopsWithin stop (deletion ids) 0 old new)
     → Tidies stored one written keep conflict result stored' old new
-tidies_by stored stored' one written keep conflict ids old new (Ok done) e l t s = (e, (ids, l, t))
-tidies_by stored stored' one written keep conflict ids old new (Err stops.Failed) e l t s = (e, (deletion ids, inr (ids, l, refl), s))
-tidies_by stored stored' one written keep conflict ids old new (Err stops.NoMemory) e l t s = (inl e, (deletion ids, inr (ids, l, refl), s))
+tidies_by stored stored' one written keep conflict ids old new (Ok done) e l t s = (e, (ids, subst (λ xs. IsLeftOver xs written keep conflict ids) e l, t))
+tidies_by stored stored' one written keep conflict ids old new (Err stops.Failed) e l t s = (e, (deletion ids, inr (ids, subst (λ xs. IsLeftOver xs written keep conflict ids) e l, refl), s))
+tidies_by stored stored' one written keep conflict ids old new (Err stops.NoMemory) e l t s = (inl e, (deletion ids, inr (ids, subst (λ xs. IsLeftOver xs written keep conflict ids) e l, refl), s))
 
 pub trail_ships : (t : TrailModel) → IsTrail t → (room_of t).ships ≡ t.ships
 trail_ships t is =

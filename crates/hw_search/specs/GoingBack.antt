@@ -39,5 +39,5 @@ Deleting stored written keep conflict more = (more ≡ []) ⊎ ((ids : List ℕ)
 
 -- a lemma is added and what is left over is deleted
 abbrev pub Tidies : {A : Type 0} → List Stored → Stored → List (Option ℕ) → ℕ → Option ℕ → Result A LogStop → List Stored → LogModel → LogModel → Type 0
-Tidies stored one written keep conflict (Ok done) stored' old new = (stored' ≡ stored ++ one ∷ []) × ((ids : List ℕ) × IsLeftOver stored' written keep conflict ids × TakesAll (deletion ids) old new)
-Tidies stored one written keep conflict (Err stop) stored' old new = Adds stop stored one stored' × ((more : List Line) × Deleting stored' written keep conflict more × StopsWithin stop more 0 old new)
+Tidies stored one written keep conflict (Ok done) stored' old new = (stored' ≡ stored ++ one ∷ []) × ((ids : List ℕ) × IsLeftOver (stored ++ one ∷ []) written keep conflict ids × TakesAll (deletion ids) old new)
+Tidies stored one written keep conflict (Err stop) stored' old new = Adds stop stored one stored' × ((more : List Line) × Deleting (stored ++ one ∷ []) written keep conflict more × StopsWithin stop more 0 old new)

@@ -187,6 +187,7 @@ impl<'f, S: Store + Drop, P: Propagator + Drop> Engine<'f, S, P> {
         ensures turns { TurnMeets self.old.search (L.state log.old) result self.new.search (L.state log.new) }
         ensures same_reference { L.anchor log.new ≡ L.anchor log.old }
     {
+        let _ = &self.trail;
         match self.settle(alloc) {
             Ok(Settled::Quiet) => {
                 if self.trail.room().is_point() {
@@ -203,7 +204,10 @@ impl<'f, S: Store + Drop, P: Propagator + Drop> Engine<'f, S, P> {
                     self.teach(alloc, &why, log)
                 }
             }
-            Err(_stop) => self.halt(LogStop::NoMemory),
+            Err(_stop) => {
+                let _ = &self.trail;
+                self.halt(LogStop::NoMemory)
+            }
         }
     }
 }
