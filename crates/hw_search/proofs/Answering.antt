@@ -1,5 +1,5 @@
 -- What a turn meets that wrote no lemma.
-use Rattle.std.proofs.Common.{◌≡◌, ℕ, zero, suc, ◌+◌, ◌*◌, ◌^◌, ◌<◌, ◌≤◌, Bool, true, false, List, [], ◌∷◌, ◌++◌, Option, Some, None, IsTrue, All, length, take, refl, sym, ap, ◌∙◌, subst, arith, append-nil, append_assoc}
+use Rattle.std.proofs.Common.{◌≡◌, ℕ, ◌<◌, ◌≤◌, true, false, List, [], ◌∷◌, ◌++◌, Option, Some, None, length, take, refl, sym, ap, ◌∙◌, subst, arith, append-nil}
 use Rattle.std.specs.Prelude.{AllPairs, IsSomeAnd}
 use Rattle.std.specs.List.{cons_option}
 use Rattle.std.proofs.lemmas.List.{length-map}
@@ -15,10 +15,10 @@ use Rattle.hw_lines.specs.Valid.{LineFits, denied_room}
 use Rattle.hw_lines.specs.Lemmas.{lemma_of, lemmas_of, IsNew}
 use Rattle.hw_lines.proofs.Pushed.{last_push}
 use Rattle.hw_story.specs.declared.event.Why.TheVariants as whys
-use Rattle.hw_story.specs.Trails.{most_events, decided}
+use Rattle.hw_story.specs.Trails.{decided}
 use Rattle.hw_cert.specs.declared.log.LogStop.{LogStop}
 use Rattle.hw_cert.specs.declared.log.LogStop.TheVariants as stops
-use Rattle.hw_cert.specs.Logs.{LogTold, LogModel, WhereTold, Grows}
+use Rattle.hw_cert.specs.Logs.{LogTold, LogModel, WhereTold}
 use Rattle.hw_store.specs.declared.store.Stored.{Stored}
 use Rattle.hw_progress.specs.declared.outcome.Settled.TheVariants.{Quiet, Conflict}
 use Rattle.hw_progress.specs.declared.outcome.Turn.{Turn}
@@ -38,7 +38,7 @@ use Rattle.hw_progress.proofs.Living.{conflict_only, turn_lives}
 use Rattle.hw_search.specs.Handing.{TakesAll, StopsAfter, StopsWithin}
 use Rattle.hw_search.specs.Turning.{Begins, turn_of, halted}
 use Rattle.hw_search.proofs.Handed.{grows_by, grows_none, grown_with, told_by}
-use Rattle.hw_search.proofs.Stopping.{Left, Planned, Stopped, left_fit, left_none, stop_meets}
+use Rattle.hw_search.proofs.Stopping.{Left, Planned, Stopped, left_none, stop_meets}
 
 -- ---- what settling left
 

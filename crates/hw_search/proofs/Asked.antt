@@ -1,12 +1,11 @@
 -- A source that was asked.
-use Rattle.std.proofs.Common.{◌≡◌, ℕ, ◌<◌, ◌+◌, Bool, true, false, List, ◌++◌, Option, Some, length, get_or, take, drop, map, option_map, slice_get, refl, sym, ap, ◌∙◌, subst, inl, inr, arith}
+use Rattle.std.proofs.Common.{◌≡◌, ℕ, ◌<◌, Bool, true, false, List, ◌++◌, Option, Some, length, get_or, take, drop, map, option_map, slice_get, sym, ap, ◌∙◌, subst, inl, inr, arith}
 use Rattle.std.specs.Prelude.{All, slice_set}
 use Rattle.std.proofs.lemmas.Bool.{cases_eq}
 use Rattle.std.proofs.lemmas.List.{length-map, length-set, get_or-set_other}
 use Rattle.std.proofs.lemmas.Option.{slice_get-get_or, slice_get-map}
 use Rattle.hw_model.specs.declared.lit.Lit.{Lit}
 use Rattle.hw_model.specs.declared.source.Source.{Source}
-use Rattle.hw_model.specs.declared.source.Source.TheVariants as sources
 use Rattle.hw_model.specs.Problem.{Problem}
 use Rattle.hw_model.specs.Quiet.{QuietSource}
 use Rattle.hw_model.specs.Refuting.{IsSourceOf}
@@ -17,7 +16,6 @@ use Rattle.hw_prop.specs.Finds.{Finds, Explanation}
 use Rattle.hw_story.specs.declared.event.Why.TheVariants as whys
 use Rattle.hw_progress.specs.Searches.{SearchModel, IsSearch, IsReason, best_cargo, room_in}
 use Rattle.hw_search.specs.Engines.{EngineModel, KeepsEngine, QuietUnmarked}
-use Rattle.hw_search.specs.Marks.{is_marked}
 use Rattle.hw_search.specs.Speaking.{SpeakersModel}
 use Rattle.hw_search.proofs.Markings.{written_whole, of_all}
 

@@ -3,25 +3,21 @@ use Rattle.std.proofs.Common.{option_and_then, ◌≡◌, ℕ, ◌+◌, ◌-◌,
 use Rattle.std.proofs.lemmas.Bool.{ltb-true}
 use Rattle.hw_model.specs.declared.lit.Lit.{Lit}
 use Rattle.hw_model.specs.declared.lit.Lit.TheVariants.{AtOrAfter, Before, First, NotFirst}
-use Rattle.hw_model.specs.declared.lit.LitTruth.TheVariants.{Free}
 use Rattle.hw_model.specs.Problem.{Problem, shape_of}
-use Rattle.hw_model.specs.Timetables.{Permits, cargo, beats}
+use Rattle.hw_model.specs.Timetables.{cargo, beats}
 use Rattle.hw_model.specs.Lits.{lit_fits}
-use Rattle.hw_model.specs.Rooms.{whole_room, point_of, IsPoint}
-use Rattle.hw_model.specs.Narrowing.{truth}
+use Rattle.hw_model.specs.Rooms.{whole_room, point_of}
 use Rattle.hw_laws.proofs.Denials.{inside_whole}
 use Rattle.hw_laws.proofs.Sound.{cargo_le}
-use Rattle.hw_story.specs.declared.event.Event.{Event}
 use Rattle.hw_story.specs.declared.event.Why.{Why}
-use Rattle.hw_story.specs.Trails.{TrailModel, trail_shape, decided, most_events}
+use Rattle.hw_story.specs.Trails.{trail_shape, decided, most_events}
 use Rattle.hw_cert.specs.Logs.{LogModel}
 use Rattle.hw_progress.specs.declared.outcome.Turn.{Turn}
 use Rattle.hw_progress.specs.declared.outcome.Turn.TheVariants as turns
-use Rattle.hw_progress.specs.declared.outcome.Settled.{Settled}
 use Rattle.hw_progress.specs.Branches.{branch_literal}
 use Rattle.hw_progress.specs.Searches.{SearchModel, IsSearch, best_cargo, room_in}
-use Rattle.hw_progress.specs.Settling.{Settles, Implies, with_events, AllQuiet}
-use Rattle.hw_progress.specs.Turns.{Cited, cited, cite_conflict, with_lemma, to_level, is_due, gone_back, is_last, Stops, StopsBefore, StopsPast, EndsAtConflict, EndsAtLemma, DoesDecide, DoesBetter, DoesLemma, DoesEnd, TurnDoes}
+use Rattle.hw_progress.specs.Settling.{Implies}
+use Rattle.hw_progress.specs.Turns.{cited, cite_conflict, with_lemma, to_level, is_due, gone_back, is_last, Stops, DoesDecide, DoesBetter, DoesLemma, TurnDoes}
 use Rattle.hw_progress.specs.Turns.Stops.{before_lemma, past_lemma}
 use Rattle.hw_progress.specs.Turns.DoesEnd.{at_conflict, at_lemma}
 use Rattle.hw_progress.proofs.Bounds.{few_reasons}

@@ -1,5 +1,5 @@
 -- What an engine keeps, through an implied literal.
-use Rattle.std.proofs.Common.{◌≡◌, ℕ, zero, suc, get_or, slice_get, replicate, ◌<◌, ◌+◌, ◌≤◌, Bool, true, List, [], ◌∷◌, ◌++◌, Option, Some, None, length, refl, sym, ap, ◌∙◌, subst, arith, length-append}
+use Rattle.std.proofs.Common.{◌≡◌, ℕ, zero, suc, get_or, slice_get, replicate, ◌<◌, ◌≤◌, Bool, true, List, [], ◌∷◌, ◌++◌, Option, Some, None, length, refl, sym, ap, ◌∙◌, subst, arith, length-append}
 use Rattle.std.specs.Prelude.{All}
 use Rattle.std.proofs.lemmas.List.{length-replicate}
 use Rattle.hw_model.specs.declared.lit.Lit.{Lit}
@@ -11,14 +11,14 @@ use Rattle.hw_model.specs.Limits.{IsFlat}
 use Rattle.hw_model.specs.Lits.{lit_fits, IsClause, IsLitOf}
 use Rattle.hw_model.specs.Problem.{Problem, shape_of}
 use Rattle.hw_model.specs.Refuting.{IsSourceOf}
-use Rattle.hw_model.specs.Narrowing.{truth, cut}
+use Rattle.hw_model.specs.Narrowing.{truth}
 use Rattle.hw_model.specs.Replay.{narrowing}
 use Rattle.hw_model.specs.Rooms.{RoomModel, RoomFits}
 use Rattle.hw_laws.proofs.Denials.{lit_of}
 use Rattle.hw_store.specs.declared.store.Stored.{Stored}
 use Rattle.hw_story.specs.declared.event.Event.{Event}
 use Rattle.hw_story.specs.declared.event.Why.{Why}
-use Rattle.hw_story.specs.Trails.{TrailModel, trail_shape, clause_of, room_of, no_events, implied, most_events}
+use Rattle.hw_story.specs.Trails.{TrailModel, trail_shape, clause_of, no_events, implied, most_events}
 use Rattle.hw_story.proofs.Kept.{more_room}
 use Rattle.hw_story.proofs.Many.{few_events}
 use Rattle.hw_progress.specs.Searches.{SearchModel, new_search, IsSearch, IsReason, room_in, best_cargo}

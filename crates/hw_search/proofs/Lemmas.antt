@@ -7,7 +7,6 @@ use Rattle.hw_model.specs.Lits.{IsClause}
 use Rattle.hw_model.specs.Problem.{shape_of}
 use Rattle.hw_model.specs.Replay.{QuietClause}
 use Rattle.hw_model.specs.Rooms.{RoomModel}
-use Rattle.hw_store.specs.declared.store.Held.{Held}
 use Rattle.hw_store.specs.declared.store.Held.TheVariants as helds
 use Rattle.hw_store.specs.declared.store.Stored.{Stored}
 use Rattle.hw_store.specs.Stores.{Finds, IsNotHeld, IsActive}

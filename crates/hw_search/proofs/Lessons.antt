@@ -1,5 +1,5 @@
 -- What a turn that learns needs and keeps, in the words of a call.
-use Rattle.std.proofs.Common.{◌≡◌, ◌⊎◌, ℕ, ◌+◌, ◌^◌, ◌<◌, ◌≤◌, Bool, true, false, cond, List, [], ◌∷◌, ◌++◌, Option, option_and_then, length, take, drop, refl, sym, ap, ◌∙◌, subst, arith, inl, inr}
+use Rattle.std.proofs.Common.{◌≡◌, ℕ, ◌+◌, ◌^◌, ◌<◌, ◌≤◌, Bool, true, false, cond, List, [], ◌∷◌, ◌++◌, Option, option_and_then, length, take, drop, refl, sym, ap, ◌∙◌, subst, arith, inl, inr}
 use Rattle.std.specs.Prelude.{All, IsSome}
 use Rattle.std.proofs.lemmas.Bool.{cases_lt}
 use Rattle.std.proofs.lemmas.List.Elements.{All-weaker}
@@ -10,11 +10,10 @@ use Rattle.hw_model.specs.Refuting.{IsSourceOf}
 use Rattle.hw_model.specs.Timetables.{cargo}
 use Rattle.hw_lits.proofs.Forms.{clause_lits}
 use Rattle.hw_story.specs.declared.event.Why.{Why}
-use Rattle.hw_story.specs.Trails.{TrailModel, IsTrail, trail_shape, clause_of, most_events}
+use Rattle.hw_story.specs.Trails.{trail_shape, clause_of, most_events}
 use Rattle.hw_story.specs.Learning.{reason_at, top_level, Learns}
 use Rattle.hw_story.proofs.Quiets.{back_below}
 use Rattle.hw_store.specs.declared.store.Stored.{Stored}
-use Rattle.hw_cert.specs.Logs.{LogModel, IsWhole}
 use Rattle.hw_progress.specs.Searches.{SearchModel, IsSearch, room_in, best_cargo}
 use Rattle.hw_progress.specs.Settling.{IsConflict}
 use Rattle.hw_progress.specs.Starting.{EachSourceOnce}
@@ -22,7 +21,7 @@ use Rattle.hw_progress.proofs.Bounds.{few_numbers}
 use Rattle.hw_progress.proofs.Citing.{reason_why, why_inside}
 use Rattle.hw_progress.proofs.Stops.{numbers_kept}
 use Rattle.hw_progress.proofs.Turned.{few_for}
-use Rattle.hw_search.specs.Engines.{EngineModel, KeepsEngine, QuietUnmarked}
+use Rattle.hw_search.specs.Engines.{EngineModel, KeepsEngine}
 use Rattle.hw_search.specs.Marks.{is_marked}
 use Rattle.hw_search.specs.Speaking.{SpeakersModel, TellsSpeakers}
 use Rattle.hw_search.specs.Naming.{taught, Taught}

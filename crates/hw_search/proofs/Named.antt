@@ -1,5 +1,5 @@
 -- The steps of naming.
-use Rattle.std.proofs.Common.{◌≡◌, ℕ, zero, suc, ◌+◌, ◌<◌, ◌≤◌, List, [], ◌∷◌, ◌++◌, Option, Some, None, length, take, drop, fold, get_or, slice_get, option_and_then, IfSome, refl, sym, ap, ◌∙◌, subst, arith, append-nil, append_assoc, length-append, length-set}
+use Rattle.std.proofs.Common.{◌≡◌, ℕ, zero, suc, ◌+◌, ◌<◌, ◌≤◌, List, [], ◌∷◌, ◌++◌, Option, Some, None, length, take, drop, fold, get_or, slice_get, option_and_then, refl, sym, ap, ◌∙◌, subst, arith, append-nil, append_assoc, length-append, length-set}
 use Rattle.std.specs.Prelude.{Result, Ok, Err, IfErr, OnOk, slice_set}
 use Rattle.std.specs.Option.{option_flatten}
 use Rattle.std.proofs.lemmas.List.{take-append-drop}
@@ -19,7 +19,7 @@ use Rattle.hw_progress.specs.Searches.{SearchModel, why_at, written_at}
 use Rattle.hw_progress.specs.Turns.{source_line, with_written, Cited, cite_by, cite, cited, cite_conflict}
 use Rattle.hw_progress.specs.Laws.{lemma_lines}
 use Rattle.hw_search.specs.Handing.{TakesAll, StopsWithin, Hands}
-use Rattle.hw_search.specs.Naming.{known_number, lines_of, IsOfProblem, search_on, naming, taught, Numbers, FewerNumbers, NamesBy}
+use Rattle.hw_search.specs.Naming.{known_number, lines_of, search_on, naming, taught, Numbers, NamesBy}
 use Rattle.hw_search.proofs.Handed.{all_none, all_whole, memory_after, all_on, stop_on, stop_in, stop_more, one_taken, one_stopped}
 
 pub why_of_event : (t : TrailModel) (q : ℕ) (event : Event) (why : Why) → slice_get t.events q ≡ Some event → event.why ≡ Some why → why_at t q ≡ Some why

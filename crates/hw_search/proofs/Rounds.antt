@@ -1,15 +1,14 @@
 -- A round over the marked sources.
-use Rattle.std.proofs.Common.{◌≡◌, ℕ, ◌<◌, ◌+◌, ◌-◌, ◌≤◌, Bool, true, false, List, Some, length, get_or, slice_get, refl, sym, ap, ◌∙◌, subst, inl, inr, arith}
-use Rattle.std.specs.Prelude.{Contains, slice_set}
-use Rattle.std.proofs.lemmas.Bool.{cases_lt, cases_eq}
-use Rattle.std.proofs.lemmas.List.{get_or-set_other, get_or-set_same}
+use Rattle.std.proofs.Common.{◌≡◌, ℕ, ◌<◌, ◌+◌, ◌-◌, ◌≤◌, Bool, List, Some, length, slice_get, ap, ◌∙◌, inl, inr, arith}
+use Rattle.std.specs.Prelude.{Contains}
+use Rattle.std.proofs.lemmas.Bool.{cases_lt}
 use Rattle.std.proofs.lemmas.Option.{slice_get-get_or}
 use Rattle.hw_model.specs.declared.source.Source.{Source}
 use Rattle.hw_story.specs.Trails.{most_events}
 use Rattle.hw_progress.specs.Searches.{SearchModel}
 use Rattle.hw_search.specs.Askings.{SourcesQuiet, Gains}
 use Rattle.hw_search.specs.Engines.{EngineModel, KeepsEngine}
-use Rattle.hw_search.specs.Marks.{is_marked, ClearWithin}
+use Rattle.hw_search.specs.Marks.{ClearWithin}
 use Rattle.hw_search.specs.Speaking.{SpeakersModel}
 use Rattle.hw_search.proofs.Steps.{left_less}
 

@@ -1,5 +1,5 @@
 -- What each answer of a solution meets.
-use Rattle.std.proofs.Common.{◌≡◌, ℕ, ◌+◌, ◌<◌, ◌≤◌, Bool, true, false, List, [], ◌∷◌, ◌++◌, Option, Some, None, IfSome, IsSomeAnd, IsSome, All, length, refl, sym, ap, ◌∙◌, subst, arith, append-nil, append_assoc}
+use Rattle.std.proofs.Common.{◌≡◌, ℕ, ◌+◌, ◌<◌, ◌≤◌, true, false, List, [], ◌∷◌, ◌++◌, Option, Some, None, IfSome, IsSomeAnd, length, refl, sym, ap, ◌∙◌, subst, arith, append-nil, append_assoc}
 use Rattle.std.proofs.lemmas.List.Elements.{All-append, All-nil}
 use Rattle.hw_model.specs.Problem.{Problem}
 use Rattle.hw_model.specs.Limits.{IsFlat}
@@ -8,8 +8,8 @@ use Rattle.hw_model.specs.Rooms.{room_count}
 use Rattle.hw_desk.specs.State.{Rose}
 use Rattle.hw_lines.specs.declared.line.Line.{Line}
 use Rattle.hw_lines.specs.Lines.{last_table, is_closed, ends}
-use Rattle.hw_lines.specs.Valid.{LineFits, ValidFrom, Valid}
-use Rattle.hw_lines.specs.Lemmas.{lemmas_of, IsNew, IsLean, LeanFrom}
+use Rattle.hw_lines.specs.Valid.{LineFits, ValidFrom}
+use Rattle.hw_lines.specs.Lemmas.{lemmas_of, LeanFrom}
 use Rattle.hw_lines.proofs.Closed.{closed_from}
 use Rattle.hw_cert.specs.Logs.{LogTold, LogModel, WhereTold, Grows, IsEmpty, IsWhole}
 use Rattle.hw_progress.specs.declared.outcome.Branching.TheVariants.{Greatest}
@@ -17,10 +17,10 @@ use Rattle.hw_progress.specs.declared.outcome.Turn.{Turn}
 use Rattle.hw_progress.specs.declared.outcome.Turn.TheVariants as turns
 use Rattle.hw_progress.specs.declared.outcome.Solved.{Solved}
 use Rattle.hw_progress.specs.declared.outcome.Solved.TheVariants as answers
-use Rattle.hw_progress.specs.Living.{FewLiveFrom, FewLiveThroughout}
+use Rattle.hw_progress.specs.Living.{FewLiveFrom}
 use Rattle.hw_progress.specs.Searches.{SearchModel, IsSearch, LogFits, new_search}
 use Rattle.hw_progress.specs.Turns.{TurnMeets, TurnWrites, WritesWell, FitsAfter, FailsAt, is_last}
-use Rattle.hw_progress.specs.Solving.{SolveMeets, SolveWrites, SolveFails, AnswerTells, AnswerMeans, IsWorth, is_proved, may_be_spent, table_of}
+use Rattle.hw_progress.specs.Solving.{SolveMeets, SolveWrites, AnswerTells, AnswerMeans, is_proved, may_be_spent}
 use Rattle.hw_progress.proofs.Bounds.{few_stored}
 use Rattle.hw_progress.proofs.Living.{throughout, none_live}
 use Rattle.hw_progress.proofs.Trues.{ended as ended_means}

@@ -1,10 +1,10 @@
 -- How the steps of settling follow one another.
-use Rattle.std.proofs.Common.{◌≡◌, ℕ, zero, suc, ◌<◌, ◌+◌, ◌-◌, ◌≤◌, true, false, List, [], ◌∷◌, ◌++◌, Option, Some, None, Ok, length, slice_get, replicate, refl, sym, ap, ◌∙◌, subst, inl, inr, arith, append_assoc, length-append}
-use Rattle.std.specs.Prelude.{All, Contains, IsSome}
+use Rattle.std.proofs.Common.{◌≡◌, ℕ, zero, suc, ◌<◌, ◌-◌, ◌≤◌, true, List, [], ◌∷◌, ◌++◌, Option, Some, None, Ok, length, slice_get, replicate, refl, sym, ap, ◌∙◌, subst, inl, inr, arith, append_assoc, length-append}
+use Rattle.std.specs.Prelude.{IsSome}
 use Rattle.std.proofs.lemmas.List.{append-nil, replicate-append-replicate}
 use Rattle.std.proofs.lemmas.List.Elements.{All-nil, All-cons, All-append}
 use Rattle.hw_model.specs.declared.lit.Lit.{Lit}
-use Rattle.hw_model.specs.declared.lit.LitTruth.TheVariants.{False, Free}
+use Rattle.hw_model.specs.declared.lit.LitTruth.TheVariants.{Free}
 use Rattle.hw_model.specs.declared.narrowing.Narrowed.TheVariants.{Cut as CutBy}
 use Rattle.hw_search.specs.declared.settling.Asked.{Asked}
 use Rattle.hw_search.specs.declared.settling.Asked.TheVariants.{Quiet, Cut, Conflict}
@@ -18,7 +18,7 @@ use Rattle.hw_story.specs.Trails.{trail_shape, clause_of, most_events}
 use Rattle.hw_story.specs.Walks.{In}
 use Rattle.hw_story.proofs.Denials.{in_fits}
 use Rattle.hw_progress.specs.Searches.{SearchModel, IsSearch, IsReason, room_in}
-use Rattle.hw_progress.specs.Settling.{Implies, with_events, IsConflict}
+use Rattle.hw_progress.specs.Settling.{Implies, with_events}
 use Rattle.hw_progress.proofs.Holds.{problem_clause}
 use Rattle.hw_progress.proofs.Keeps.{implied_search}
 use Rattle.hw_search.proofs.Kept.{few_in}

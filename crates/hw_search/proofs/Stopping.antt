@@ -1,36 +1,34 @@
 -- A turn that stopped: for want of memory, or since the log failed.
-use Rattle.std.proofs.Common.{◌≡◌, ℕ, zero, suc, ◌+◌, ◌*◌, ◌<◌, ◌≤◌, ◌||◌, Bool, true, false, List, [], ◌∷◌, ◌++◌, Option, Some, None, IfSome, IsSomeAnd, All, length, take, drop, fold, slice_get, refl, sym, ap, ◌∙◌, subst, arith, append-nil, append_assoc, length-append}
+use Rattle.std.proofs.Common.{◌≡◌, ℕ, zero, suc, ◌+◌, ◌≤◌, ◌||◌, Bool, true, false, List, [], ◌∷◌, ◌++◌, Option, Some, None, IsSomeAnd, All, length, take, drop, fold, slice_get, refl, sym, ap, ◌∙◌, subst, arith, append-nil, append_assoc}
 use Rattle.std.specs.List.{list_any}
 use Rattle.std.proofs.lemmas.List.{length-map, take-append-drop}
 use Rattle.std.proofs.lemmas.List.Elements.{All-head, All-tail, All-nil, All-push, All-take}
 use Rattle.hw_model.specs.declared.lit.Lit.{Lit}
 use Rattle.hw_model.specs.declared.source.Source.{Source}
 use Rattle.hw_model.specs.Problem.{Problem}
-use Rattle.hw_desk.specs.State.{Rose}
 use Rattle.hw_lines.specs.declared.line.Line.{Line}
 use Rattle.hw_lines.specs.Lines.{clause_count, clause_of as clause_in, table_after, last_table, is_closed, is_end}
 use Rattle.hw_lines.specs.Valid.{LineFits, ValidAfter, ValidFrom}
-use Rattle.hw_lines.specs.Lemmas.{lemma_of, lemmas_of, IsNew, LeanAfter, LeanFrom}
+use Rattle.hw_lines.specs.Lemmas.{lemma_of, lemmas_of, LeanAfter, LeanFrom}
 use Rattle.hw_lines.proofs.Pushed.{last_push}
 use Rattle.hw_story.specs.declared.event.Why.{Why}
 use Rattle.hw_story.specs.declared.event.Why.TheVariants as whys
 use Rattle.hw_story.specs.Trails.{most_events}
 use Rattle.hw_cert.specs.declared.log.LogStop.{LogStop}
 use Rattle.hw_cert.specs.declared.log.LogStop.TheVariants as stops
-use Rattle.hw_cert.specs.Logs.{LogTold, LogModel, WhereTold, Grows, IsBegunLine}
+use Rattle.hw_cert.specs.Logs.{LogTold, LogModel, Grows, IsBegunLine}
 use Rattle.hw_store.specs.declared.store.Stored.{Stored}
 use Rattle.hw_progress.specs.declared.outcome.Turn.{Turn}
 use Rattle.hw_progress.specs.declared.outcome.Turn.TheVariants as turns
-use Rattle.hw_progress.specs.Searches.{SearchModel, IsSearch, FitsOpen, LogFits, why_at, written_at}
+use Rattle.hw_progress.specs.Searches.{SearchModel, IsSearch, LogFits, why_at, written_at}
 use Rattle.hw_progress.specs.Living.{FewLiveFrom}
-use Rattle.hw_progress.specs.Settling.{Implies, with_events}
-use Rattle.hw_progress.specs.Turns.{source_line, Cited, cite_by, cite, cited, cite_conflict, lines_of_turn, Plans, WritesPart, FailsPart, FailsAt, DoesFail, WantsMemory, Stops, StopsBefore, WritesWell, TurnWrites, TurnMeets}
+use Rattle.hw_progress.specs.Turns.{source_line, Cited, cite_by, cite, cited, cite_conflict, lines_of_turn, Plans, WritesPart, FailsPart, FailsAt, Stops, WritesWell, TurnWrites, TurnMeets}
 use Rattle.hw_progress.proofs.Lines.{source_is, source_no_lemma, same_lemmas}
 use Rattle.hw_progress.proofs.Parts.{part_well}
 use Rattle.hw_progress.proofs.Told.{grown}
-use Rattle.hw_search.specs.Handing.{StopCause, StopBehind, StopsAfter, StopsWithin}
+use Rattle.hw_search.specs.Handing.{StopCause, StopsAfter}
 use Rattle.hw_search.specs.Turning.{Begins, turn_of}
-use Rattle.hw_search.proofs.Handed.{grows_none, grown_with, told_by, take_front, get_front}
+use Rattle.hw_search.proofs.Handed.{grown_with, take_front, get_front}
 
 -- ---- lines that sources gave
 

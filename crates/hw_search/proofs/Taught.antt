@@ -1,12 +1,9 @@
 -- A turn that learnt from a conflict, in the words of a call.
-use Rattle.std.proofs.Common.{◌≡◌, ◌⊎◌, ℕ, ◌+◌, ◌*◌, ◌<◌, ◌≤◌, Bool, true, false, cond, List, [], ◌∷◌, ◌++◌, Option, Some, None, length, take, map, refl, sym, ap, ◌∙◌, subst, arith, inl, inr, append-nil, append_assoc, length-append}
-use Rattle.std.specs.Prelude.{All, Contains}
-use Rattle.std.proofs.lemmas.List.{take_all}
+use Rattle.std.proofs.Common.{◌≡◌, ◌⊎◌, ℕ, ◌+◌, ◌≤◌, Bool, true, false, cond, List, [], ◌∷◌, ◌++◌, Option, length, take, sym, ap, ◌∙◌, subst, arith, inl, inr, append-nil, append_assoc}
+use Rattle.std.specs.Prelude.{Contains}
 use Rattle.hw_model.specs.declared.lit.Lit.{Lit}
 use Rattle.hw_lines.specs.declared.line.Line.{Line}
-use Rattle.hw_lines.specs.declared.line.Line.TheVariants as lines
 use Rattle.hw_story.specs.declared.event.Why.{Why}
-use Rattle.hw_story.specs.declared.event.Why.TheVariants as whys
 use Rattle.hw_story.specs.Trails.{TrailModel, clause_of, back_to}
 use Rattle.hw_story.specs.Learning.{Learns}
 use Rattle.hw_cert.specs.declared.log.LogStop.{LogStop}
@@ -15,18 +12,18 @@ use Rattle.hw_cert.specs.Logs.{LogTold, LogModel, Grows}
 use Rattle.hw_store.specs.declared.store.Stored.{Stored}
 use Rattle.hw_progress.specs.declared.outcome.Settled.TheVariants.{Conflict}
 use Rattle.hw_progress.specs.declared.outcome.Turn.TheVariants as turns
-use Rattle.hw_progress.specs.Searches.{SearchModel, IsSearch, LogFits, kept_numbers}
+use Rattle.hw_progress.specs.Searches.{SearchModel, IsSearch, LogFits}
 use Rattle.hw_progress.specs.Settling.{IsConflict, Settles}
 use Rattle.hw_progress.specs.Laws.{lemma_lines}
 use Rattle.hw_progress.specs.Turns.{cited, with_lemma, to_level, gone_back, unkept, deletion, Analysed, IsAdded, TurnMeets}
 use Rattle.hw_progress.proofs.Stops.{numbers_kept, past as gone_keeps}
 use Rattle.hw_search.specs.Handing.{TakesAll, StopBehind, StopsAfter, StopsWithin}
 use Rattle.hw_search.specs.Naming.{own_number, taught, Taught}
-use Rattle.hw_search.specs.Dropped.{dropped, kept}
-use Rattle.hw_search.specs.GoingBack.{due, NextLevel, IsLeftOver, Adds, Deleting}
-use Rattle.hw_search.specs.Turning.{Begins, turn_of, halted}
-use Rattle.hw_search.proofs.Handed.{grows_by, grows_on, all_on, take_past, get_past, cause_on}
-use Rattle.hw_search.proofs.Teaching.{gone, past, Known, known, same_gone, lemma_turned, past_meets}
+use Rattle.hw_search.specs.Dropped.{kept}
+use Rattle.hw_search.specs.GoingBack.{due, NextLevel, IsLeftOver, Adds}
+use Rattle.hw_search.specs.Turning.{Begins, turn_of}
+use Rattle.hw_search.proofs.Handed.{grows_on, all_on, take_past, get_past, cause_on}
+use Rattle.hw_search.proofs.Teaching.{gone, past, Known, known, lemma_turned, past_meets}
 use Rattle.hw_search.proofs.Unkept.{DropsRest, drops_unkept}
 
 -- ---- what was analysed
@@ -146,14 +143,18 @@ went_meets s mid why lemma back places trail stored written ws lines restarts si
 
 stop_here : (stop : LogStop) (p more : List Line) (old then new : LogModel) → TakesAll p old then → StopsWithin stop more 0 then new → Grows old new (λ was now. (count : ℕ) × (count ≡ length p) × StopsAfter stop (p ++ more) count was now)
 stop_here stop p more old then new a b = grows_on old then new (λ was now. (now.lines ≡ was.lines ++ p) × (now.behind ≡ [])) (λ was now. (count : ℕ) × (count ≤ 0) × StopsAfter stop more count was now) (λ was now. (count : ℕ) × (count ≡ length p) × StopsAfter stop (p ++ more) count was now)
-    (λ was mid now h k. (length p + k.0, omega (arith, k.1), record {
-      lines = k.2.lines ∙ ap (λ xs. xs ++ take k.0 more) h.0 ∙ append_assoc was.lines p (take k.0 more) ∙ ap (λ xs. was.lines ++ xs) (sym (take_past p more k.0));
-      behind = subst (λ o. StopBehind stop o now.behind) (sym (get_past p more k.0)) k.2.behind;
-    })) a.told b.told
+    (λ was mid now h k. (
+      length p + k.0,
+      omega (arith, k.1),
+      record {
+        lines = k.2.lines ∙ ap (λ xs. xs ++ take k.0 more) h.0 ∙ append_assoc was.lines p (take k.0 more) ∙ ap (λ xs. was.lines ++ xs) (sym (take_past p more k.0));
+        behind = subst (λ o. StopBehind stop o now.behind) (sym (get_past p more k.0)) k.2.behind;
+      },
+    )) a.told b.told
 
 is_added : (stop : LogStop) (s mid : SearchModel) (why : Why) (lemma : List Lit) (back : ℕ) (places : List ℕ) (lines : ℕ) (stored : List Stored) → mid.stored ≡ s.stored → (gone mid why lemma back places).stored ≡ mid.stored ++ record { number = lines; clause = lemma } ∷ [] → Adds stop mid.stored (record { number = lines; clause = lemma }) stored → IsAdded (turn_of stop) s (gone mid why lemma back places) (past (gone mid why lemma back places) stored)
 is_added stops.Failed s mid why lemma back places lines stored e g h = h ∙ sym g
-is_added stops.NoMemory s mid why lemma back places lines stored e g h = elim h [ | inl a ↦ inl (a ∙ sym g) | inr b ↦ inr (b ∙ e) ]
+is_added stops.NoMemory s mid why lemma back places lines stored e g h = elim h [ inl a ↦ inl (a ∙ sym g) | inr b ↦ inr (b ∙ e) ]
 
 pub stop_meets_past : (s mid : SearchModel) (why : Why) (lemma : List Lit) (back : ℕ) (places : List ℕ) (trail : TrailModel) (stored : List Stored) (written ws : List (Option ℕ)) (lines restarts since level : ℕ) (own : Option ℕ) (stop : LogStop) (more : List Line) (old then new : LogModel)
     → Begins s old → Settles s mid (Conflict why) → mid.stored ≡ s.stored → Teaches mid why lemma back places → 1 ≤ length lemma → WentBack mid why lemma back places trail written ws lines restarts since level → own ≡ own_number why ((cited mid places).search.clause_lines + 1)

@@ -1,5 +1,5 @@
 -- What a turn meets that analysed a conflict.
-use Rattle.std.proofs.Common.{◌≡◌, ◌⊎◌, ℕ, zero, suc, ◌+◌, ◌*◌, ◌^◌, ◌<◌, ◌≤◌, Bool, true, false, cond, List, [], ◌∷◌, ◌++◌, Option, Some, None, All, IsSome, length, map, take, refl, sym, ap, ◌∙◌, subst, arith, inl, inr, append-nil, append_assoc, length-append}
+use Rattle.std.proofs.Common.{◌≡◌, ℕ, ◌+◌, ◌<◌, ◌≤◌, Bool, true, false, cond, List, [], ◌∷◌, ◌++◌, Option, length, take, refl, sym, ap, ◌∙◌, subst, arith, append-nil, append_assoc, length-append}
 use Rattle.std.proofs.lemmas.List.{length-map, take_all}
 use Rattle.hw_model.specs.declared.lit.Lit.{Lit}
 use Rattle.hw_model.specs.Problem.{Problem}
@@ -10,19 +10,15 @@ use Rattle.hw_lines.specs.Lemmas.{lemmas_of}
 use Rattle.hw_lines.proofs.Pushed.{last_push}
 use Rattle.hw_story.specs.declared.event.Why.{Why}
 use Rattle.hw_story.specs.Trails.{clause_of, most_events}
-use Rattle.hw_story.specs.Learning.{Learns}
 use Rattle.hw_cert.specs.declared.log.LogStop.{LogStop}
-use Rattle.hw_cert.specs.declared.log.LogStop.TheVariants as stops
 use Rattle.hw_cert.specs.Logs.{LogTold, LogModel, WhereTold, Grows}
 use Rattle.hw_store.specs.declared.store.Stored.{Stored}
-use Rattle.hw_progress.specs.declared.outcome.Turn.{Turn}
 use Rattle.hw_progress.specs.declared.outcome.Turn.TheVariants as turns
 use Rattle.hw_progress.specs.Searches.{SearchModel, IsSearch, FitsOpen, LiveKept, LogFits, lemmas_in}
-use Rattle.hw_progress.specs.Settling.{IsConflict, Settles}
-use Rattle.hw_progress.specs.Laws.{lemma_lines, LemmaMeets, EndMeets}
+use Rattle.hw_progress.specs.Laws.{lemma_lines}
 use Rattle.hw_progress.specs.Living.{FewLiveFrom}
-use Rattle.hw_progress.specs.Turns.{Cited, cited, cite_conflict, with_lemma, to_level, is_due, gone_back, unkept, deletion, Analysed, IsAdded, Plans, Stops, StopsPast, DoesEnd, WritesWell, TurnWrites, TurnMeets, is_last, lines_of_turn}
-use Rattle.hw_progress.proofs.Lines.{lemma_open, same_lemmas, lemmas_push}
+use Rattle.hw_progress.specs.Turns.{Cited, cited, with_lemma, to_level, is_due, gone_back, unkept, deletion, Analysed, IsAdded, Plans, Stops, DoesEnd, WritesWell, TurnWrites, TurnMeets}
+use Rattle.hw_progress.proofs.Lines.{lemma_open, lemmas_push}
 use Rattle.hw_progress.proofs.Bounds.{few_numbers}
 use Rattle.hw_progress.proofs.Citing.{Citing, Prepared, cites, prepared}
 use Rattle.hw_progress.proofs.LemmaTurn.{count_append}
@@ -32,9 +28,9 @@ use Rattle.hw_progress.proofs.Living.{turn_lives}
 use Rattle.hw_search.specs.Handing.{TakesAll, StopCause, StopsAfter, StopsWithin}
 use Rattle.hw_search.specs.Naming.{taught}
 use Rattle.hw_search.specs.Turning.{Begins, turn_of, halted}
-use Rattle.hw_search.proofs.Handed.{grows_by, grows_none, grown_with, told_by, take_front, take_past, stop_on}
-use Rattle.hw_search.proofs.Stopping.{Left, Planned, Stopped, left_fit, left_sourced, cited_sourced, stop_meets}
-use Rattle.hw_search.proofs.Answering.{Same, same_mid, mid_fits, before_stops, halts, Tells, tells}
+use Rattle.hw_search.proofs.Handed.{grows_by, grown_with, told_by, take_front}
+use Rattle.hw_search.proofs.Stopping.{Left, Planned, Stopped, left_sourced, cited_sourced, stop_meets}
+use Rattle.hw_search.proofs.Answering.{Same, same_mid, mid_fits, before_stops, halts, tells}
 
 -- the search that has gone back
 abbrev pub gone : SearchModel → Why → List Lit → ℕ → List ℕ → SearchModel

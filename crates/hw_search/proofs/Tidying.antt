@@ -1,8 +1,8 @@
 -- What is left behind a lemma.
-use Rattle.std.proofs.Common.{◌≡◌, ◌⊎◌, ℕ, suc, ◌+◌, ◌≤◌, Bool, true, false, cond, List, [], ◌∷◌, ◌++◌, Option, length, filter, refl, sym, ap, ◌∙◌, subst, arith, inl, inr}
+use Rattle.std.proofs.Common.{◌≡◌, ◌⊎◌, ℕ, suc, ◌≤◌, Bool, true, false, cond, List, [], ◌∷◌, ◌++◌, Option, length, filter, refl, subst, arith, inl, inr}
 use Rattle.std.specs.Prelude.{Result, Ok, Err, OnOk, OnErr, IfErr, nat_le}
 use Rattle.std.specs.Result.{is_err}
-use Rattle.hw_model.specs.Rooms.{RoomModel, IsRoomOf}
+use Rattle.hw_model.specs.Rooms.{IsRoomOf}
 use Rattle.hw_story.specs.declared.event.Event.{Event}
 use Rattle.hw_story.specs.Trails.{TrailModel, IsTrail, trail_shape, room_of, back_to}
 use Rattle.hw_story.proofs.Trails.{room_known, room_end}
@@ -12,7 +12,7 @@ use Rattle.hw_cert.specs.Logs.{LogModel, IsWhole}
 use Rattle.hw_store.specs.declared.store.Stored.{Stored}
 use Rattle.hw_progress.specs.Turns.{deletion}
 use Rattle.hw_search.specs.Handing.{TakesAll, StopsWithin}
-use Rattle.hw_search.specs.GoingBack.{IsLeftOver, Adds, Deleting, Tidies}
+use Rattle.hw_search.specs.GoingBack.{IsLeftOver, Tidies}
 use Rattle.hw_search.proofs.Handed.{no_memory}
 
 pub at_err : {A E : Type 0} (r : Result A E) (P : Type 0) → is_err r ≡ true → OnErr r P → P

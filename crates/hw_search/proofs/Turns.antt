@@ -1,8 +1,7 @@
 -- What an engine keeps through the parts of a turn.
-use Rattle.std.proofs.Common.{◌≡◌, ◌⊎◌, ℕ, zero, suc, ◌+◌, ◌<◌, ◌≤◌, ◌&&◌, nat_lt, nat_le, Bool, true, false, List, [], ◌∷◌, ◌++◌, Option, Some, None, IsSomeAnd, IsTrue, length, get_or, map, slice_get, refl, sym, ap, ◌∙◌, subst, arith, inl, inr, length-append, length-set}
-use Rattle.std.specs.Prelude.{All, AllPairs, slice_set}
+use Rattle.std.proofs.Common.{◌≡◌, ℕ, zero, suc, ◌+◌, ◌<◌, ◌&&◌, nat_lt, nat_le, Bool, true, false, List, [], ◌∷◌, ◌++◌, Option, Some, None, IsSomeAnd, IsTrue, length, get_or, slice_get, refl, sym, ap, ◌∙◌, subst, arith, inl, inr, length-append, length-set}
+use Rattle.std.specs.Prelude.{AllPairs, slice_set}
 use Rattle.std.proofs.lemmas.Bool.{cases_lt}
-use Rattle.std.proofs.lemmas.List.{length-map}
 use Rattle.hw_model.specs.declared.lit.Lit.{Lit}
 use Rattle.hw_model.specs.declared.lit.Lit.TheVariants as lits
 use Rattle.hw_model.specs.declared.lit.LitTruth.TheVariants.{Free}
@@ -10,26 +9,25 @@ use Rattle.hw_model.specs.declared.shape.Shape.{Shape}
 use Rattle.hw_model.specs.declared.source.Source.{Source}
 use Rattle.hw_model.specs.declared.source.Source.TheVariants as sources
 use Rattle.hw_model.specs.Lits.{lit_fits, IsLitOf}
-use Rattle.hw_model.specs.Narrowing.{truth, cut}
+use Rattle.hw_model.specs.Narrowing.{truth}
 use Rattle.hw_model.specs.Problem.{Problem, shape_of}
 use Rattle.hw_model.specs.Quiet.{QuietSource}
-use Rattle.hw_model.specs.Rooms.{RoomModel, RoomFits, IsPoint, point_of}
+use Rattle.hw_model.specs.Rooms.{RoomModel, IsPoint}
 use Rattle.hw_model.specs.Timetables.{Permits, cargo, beats}
 use Rattle.hw_store.specs.declared.store.Stored.{Stored}
 use Rattle.hw_story.specs.declared.event.Event.{Event}
-use Rattle.hw_story.specs.Trails.{TrailModel, trail_shape, room_of, decided, most_events}
+use Rattle.hw_story.specs.Trails.{TrailModel, trail_shape, decided}
 use Rattle.hw_story.proofs.Kept.{more_room}
 use Rattle.hw_progress.specs.Branches.{branch_literal}
 use Rattle.hw_progress.specs.Searches.{SearchModel, IsSearch, room_in, best_cargo}
 use Rattle.hw_progress.specs.Settling.{AllQuiet}
-use Rattle.hw_progress.specs.Starting.{EachSourceOnce}
 use Rattle.hw_progress.proofs.Choices.{branch_open}
-use Rattle.hw_progress.proofs.Keeps.{decided_search, better_search, stopped_search}
+use Rattle.hw_progress.proofs.Keeps.{decided_search, better_search}
 use Rattle.hw_search.specs.Engines.{EngineModel, KeepsEngine, QuietUnmarked}
 use Rattle.hw_search.specs.Marks.{is_marked, MarksPlaces}
 use Rattle.hw_search.specs.Speaking.{SpeakersModel, speakers_of}
 use Rattle.hw_search.proofs.Kept.{lit_here, room_here, few_in}
-use Rattle.hw_search.proofs.Markings.{quiet_cut, quiet_all}
+use Rattle.hw_search.proofs.Markings.{quiet_cut}
 
 -- ---- a decision
 

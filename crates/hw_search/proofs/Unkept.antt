@@ -1,5 +1,5 @@
 -- The numbers that a turn drops are those that its log's lines and the search after it leave over.
-use Rattle.std.proofs.Common.{◌≡◌, ◌⊎◌, ◌&&◌, not, cond, is_some, filter, ℕ, zero, suc, ◌+◌, ◌^◌, ◌<◌, ◌≤◌, Bool, true, false, List, [], ◌∷◌, ◌++◌, Option, Some, None, IsSome, length, get_or, map, take, drop, filter_map, refl, sym, ap, ◌∙◌, subst, arith, inl, inr, append_assoc}
+use Rattle.std.proofs.Common.{◌≡◌, ◌⊎◌, ◌&&◌, not, cond, is_some, filter, ℕ, zero, suc, ◌+◌, ◌<◌, ◌≤◌, Bool, true, false, List, [], ◌∷◌, ◌++◌, Option, IsSome, length, get_or, map, take, drop, filter_map, refl, sym, ap, ◌∙◌, subst, arith, inl, inr, append_assoc}
 use Rattle.std.specs.Prelude.{◌==◌, Contains, AllPairs}
 use Rattle.std.specs.List.{list_any, range_with_len}
 use Rattle.std.specs.List.Sorted.{IsStrictlyIncreasing}
@@ -13,9 +13,8 @@ use Rattle.hw_lines.specs.declared.line.Line.TheVariants as lines
 use Rattle.hw_lines.specs.Lines.{clause_count, live}
 use Rattle.hw_story.specs.declared.event.Why.{Why}
 use Rattle.hw_story.specs.declared.event.Why.TheVariants as whys
-use Rattle.hw_story.specs.Trails.{clause_of}
 use Rattle.hw_store.specs.declared.store.Stored.{Stored}
-use Rattle.hw_progress.specs.Searches.{SearchModel, FitsOpen, kept_numbers}
+use Rattle.hw_progress.specs.Searches.{SearchModel, kept_numbers}
 use Rattle.hw_progress.specs.Turns.{source_line, Cited, cite_conflict, unkept}
 use Rattle.hw_progress.specs.Laws.{lemma_lines}
 use Rattle.hw_progress.proofs.Numbers.{contains_here, contains_there, contains_cases, contains_none}

@@ -2,7 +2,6 @@
 use Rattle.std.specs.Prelude.{◌≡◌, ◌<◌, ℕ, List, Option, Some, None, Result, Ok, Err, All, length}
 use Rattle.hw_model.specs.declared.memory.NoMemory.{NoMemory}
 use Rattle.hw_model.specs.declared.source.Source.{Source}
-use Rattle.hw_model.specs.Problem.{Problem}
 use Rattle.hw_model.specs.Refuting.{IsSourceOf}
 use Rattle.hw_model.specs.Quiet.{QuietSource}
 use Rattle.hw_model.specs.Replay.{QuietClause}

@@ -1,5 +1,5 @@
 -- What the calls inside the crate see of a search, and what its type keeps.
-use Rattle.std.specs.Prelude.{◌≡◌, ℕ, ◌≤◌, Bool, true, false, List, Option, Some, All, length, slice_get}
+use Rattle.std.specs.Prelude.{◌≡◌, ℕ, ◌≤◌, Bool, false, List, Option, Some, All, length, slice_get}
 use Rattle.hw_model.specs.declared.source.Source.{Source}
 use Rattle.hw_model.specs.declared.source.Source.TheVariants.{Goal}
 use Rattle.hw_model.specs.Problem.{Problem}

@@ -1,5 +1,5 @@
 -- Reasons and conflicts that are named by the numbers of their lines, and written where they have none.
-use Rattle.std.specs.Prelude.{◌≡◌, ℕ, ◌+◌, ◌≤◌, List, [], ◌∷◌, ◌++◌, Option, Some, None, Result, Ok, Err, length, fold}
+use Rattle.std.specs.Prelude.{◌≡◌, ℕ, ◌+◌, ◌≤◌, List, [], ◌∷◌, Option, Some, None, Result, Ok, Err, length}
 use Rattle.hw_model.specs.Problem.{Problem}
 use Rattle.hw_model.specs.Refuting.{IsSourceOf}
 use Rattle.hw_lines.specs.declared.line.Line.{Line}
@@ -7,10 +7,8 @@ use Rattle.hw_story.specs.declared.event.Why.{Why}
 use Rattle.hw_story.specs.declared.event.Why.TheVariants as whys
 use Rattle.hw_story.specs.Trails.{TrailModel}
 use Rattle.hw_cert.specs.declared.log.LogStop.{LogStop}
-use Rattle.hw_cert.specs.Logs.{LogModel}
 use Rattle.hw_progress.specs.Searches.{SearchModel}
-use Rattle.hw_progress.specs.Turns.{source_line, Cited, cite, cited, cite_conflict}
-use Rattle.hw_search.specs.Handing.{Hands}
+use Rattle.hw_progress.specs.Turns.{source_line, Cited, cited, cite_conflict}
 
 -- the number by which a clause is named already: that of a stored lemma, or that of the line that was written for it
 abbrev pub known_number : Why → Option ℕ → Option ℕ

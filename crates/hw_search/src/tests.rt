@@ -26,7 +26,8 @@ const PRECEDENCE: &[u8] = b"flat 1\nsize 2 3\nv 1 2 3\nv 3 2 1\ns 0 1 2\nend\n";
 const PASSING: &[u8] = b"flat 1\nsize 2 3\nv - - 7\nv - - 0\np 0 1 -5:-3 3:5\nend\n";
 
 // Three of six ships have two slots, and no two of them may share one.
-const CROWDED: &[u8] = b"flat 1\nsize 6 4\nv 90 91 92 93\nv 90 91 92 93\nv 90 91 92 93\nv 1 1 - -\nv 1 1 - -\nv 1 1 - -\np 3 4 0:0\np 3 5 0:0\np 4 5 0:0\nend\n";
+const CROWDED: &[u8] =
+    b"flat 1\nsize 6 4\nv 90 91 92 93\nv 90 91 92 93\nv 90 91 92 93\nv 1 1 - -\nv 1 1 - -\nv 1 1 - -\np 3 4 0:0\np 3 5 0:0\np 4 5 0:0\nend\n";
 
 const LUBY: [u64; 15] = [1, 1, 2, 1, 1, 2, 4, 1, 1, 2, 1, 1, 2, 4, 8];
 
@@ -125,12 +126,36 @@ fn decides(rt: HostRuntime) -> Result<(), Fail> {
     const NONE_AND_ZERO: &[u8] = b"flat 1\nsize 1 2\nv - 0\nend\n";
     const ZERO_AND_ONE: &[u8] = b"flat 1\nsize 2 2\nv - 0\nv - 1\nend\n";
     let rows = [
-        (TWO_SHIPS, Branching::Greatest, Lit::AtOrAfter { ship: 0, slot: 1 }),
-        (TWO_SLOTS, Branching::Greatest, Lit::Before { ship: 0, slot: 1 }),
-        (NONE_AND_ZERO, Branching::Greatest, Lit::Before { ship: 0, slot: 1 }),
-        (ZERO_AND_ONE, Branching::Greatest, Lit::AtOrAfter { ship: 1, slot: 1 }),
-        (TWO_SHIPS, Branching::Earliest, Lit::Before { ship: 0, slot: 1 }),
-        (TWO_SLOTS, Branching::Latest, Lit::AtOrAfter { ship: 0, slot: 2 }),
+        (
+            TWO_SHIPS,
+            Branching::Greatest,
+            Lit::AtOrAfter { ship: 0, slot: 1 },
+        ),
+        (
+            TWO_SLOTS,
+            Branching::Greatest,
+            Lit::Before { ship: 0, slot: 1 },
+        ),
+        (
+            NONE_AND_ZERO,
+            Branching::Greatest,
+            Lit::Before { ship: 0, slot: 1 },
+        ),
+        (
+            ZERO_AND_ONE,
+            Branching::Greatest,
+            Lit::AtOrAfter { ship: 1, slot: 1 },
+        ),
+        (
+            TWO_SHIPS,
+            Branching::Earliest,
+            Lit::Before { ship: 0, slot: 1 },
+        ),
+        (
+            TWO_SLOTS,
+            Branching::Latest,
+            Lit::AtOrAfter { ship: 0, slot: 2 },
+        ),
     ];
     for (text, branching, wanted) in rows {
         assert_eq!(rt; first_literal(rt.alloc(), text, branching)?, Some(wanted));
@@ -139,12 +164,7 @@ fn decides(rt: HostRuntime) -> Result<(), Fail> {
 }
 
 /// A search as a solution begins it, turn after turn until it ended or has as many lemmas.
-fn take_turns<L: Log>(
-    alloc: Global,
-    flat: &Flat,
-    budget: u32,
-    log: &mut L,
-) -> Result<(), NoMemory>
+fn take_turns<L: Log>(alloc: Global, flat: &Flat, budget: u32, log: &mut L) -> Result<(), NoMemory>
     requires most { budget ≤ 100_000 }
     requires empty { IsEmpty (L.state log.old) }
 {

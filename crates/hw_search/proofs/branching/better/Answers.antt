@@ -1,4 +1,4 @@
-use Rattle.std.proofs.Common.{◌≡◌, ◌<◌, ◌++◌, ◌∷◌, [], ℕ, Option, Some, List, cond, nat_lt, subst, sym, ap, ◌∙◌, arith}
+use Rattle.std.proofs.Common.{◌≡◌, ◌<◌, ◌++◌, ◌∷◌, [], cond, nat_lt, subst, sym, ap, ◌∙◌, arith}
 use Rattle.hw_model.specs.Refuting.{greatest_value}
 use Rattle.hw_model.specs.Rooms.{low_of, high_of}
 use Rattle.hw_progress.specs.Branches.{greatest_in}

@@ -1,4 +1,4 @@
-use Rattle.std.proofs.Common.{◌≡◌, ℕ, ◌<◌, false, nat_lt, sym, arith}
+use Rattle.std.proofs.Common.{◌<◌, nat_lt, sym, arith}
 use Rattle.std.proofs.lemmas.Bool.{lt-ltb}
 use Rattle.hw_model.specs.Rooms.{low_of, high_of}
 use Rattle.hw_search.proofs.Choosing.{find_none, find_at}

@@ -1,4 +1,4 @@
-use Rattle.std.proofs.Common.{ℕ, nat_lt, filter}
+use Rattle.std.proofs.Common.{nat_lt, filter}
 use Rattle.std.specs.List.{range_with_len}
 use Rattle.hw_model.specs.Rooms.{low_of, high_of}
 use Rattle.hw_search.specs.Branching.{BestAmong}

@@ -1,6 +1,5 @@
 use Rattle.std.proofs.Common.{◌≡◌, ℕ, subst, eqb, ◌∙◌, sym, ap, ◌++◌, filter_map, Option}
-use Rattle.std.specs.Prelude.{Contains, drop}
-use Rattle.std.specs.List.{dedup}
+use Rattle.std.specs.Prelude.{Contains}
 use Rattle.std.specs.List.Sorted.{IsStrictlyIncreasing}
 use Rattle.std.proofs.lemmas.List.{take_rest}
 use Rattle.std.proofs.lemmas.List.Filters.{dedup_is}

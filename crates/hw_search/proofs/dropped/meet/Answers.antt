@@ -1,4 +1,4 @@
-use Rattle.std.proofs.Common.{◌≡◌, ℕ, length, get_or, take, subst, sym, ◌∙◌, arith, false}
+use Rattle.std.proofs.Common.{◌≡◌, ℕ, length, get_or, take, subst, sym, arith}
 use Rattle.std.specs.Prelude.{Contains}
 use Rattle.std.proofs.Math.Seq.{take-length}
 use Rattle.hw_search.proofs.Dropping.{apart_more, not_found}

@@ -1,4 +1,4 @@
-use Rattle.std.proofs.Common.{◌≡◌, ℕ, ◌<◌, ◌≤◌, ◌-◌, length, get_or}
+use Rattle.std.proofs.Common.{◌≡◌, ℕ, ◌<◌, ◌-◌, length, get_or}
 use Rattle.hw_model.specs.declared.source.Source.TheVariants.{Goal}
 use Rattle.hw_search.proofs.engine.goal_of.Given as goal
 

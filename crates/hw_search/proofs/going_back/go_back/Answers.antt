@@ -1,4 +1,4 @@
-use Rattle.std.proofs.Common.{◌≡◌, length, sym, ◌∙◌, ap, arith}
+use Rattle.std.proofs.Common.{length, sym, ◌∙◌, ap, arith}
 use Rattle.hw_model.specs.Rooms.{RoomModel}
 use Rattle.hw_story.specs.Trails.{TrailModel}
 use Rattle.hw_search.proofs.Tidying.{trail_ships, fewer_back}

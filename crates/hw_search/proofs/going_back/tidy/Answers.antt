@@ -1,4 +1,4 @@
-use Rattle.std.proofs.Common.{◌≡◌, ◌++◌, ◌∷◌, [], length, take, sym, ◌∙◌, ap, subst, inl, inr}
+use Rattle.std.proofs.Common.{◌≡◌, ◌++◌, ◌∷◌, [], length, sym, ◌∙◌, subst, inl, inr}
 use Rattle.hw_search.specs.GoingBack.{IsLeftOver}
 use Rattle.hw_search.proofs.Tidying.{at_err, at_ok, tidies_none, tidies_by}
 use Rattle.hw_search.proofs.going_back.tidy.Goals as goal

@@ -1,4 +1,4 @@
-use Rattle.std.proofs.Common.{◌≡◌, ℕ, ◌<◌, true, length, get_or}
+use Rattle.std.proofs.Common.{◌≡◌, ℕ, ◌<◌, true, get_or}
 use Rattle.hw_search.specs.Marks.{is_marked}
 use Rattle.hw_search.proofs.marking.mark.Given as goal
 

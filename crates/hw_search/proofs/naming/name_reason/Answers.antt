@@ -1,7 +1,4 @@
-use Rattle.std.proofs.Common.{◌≡◌, ◌+◌, [], ◌∷◌, Option, Some, slice_get, sym, ap, ◌∙◌, subst, arith}
-use Rattle.std.specs.Option.{option_flatten}
-use Rattle.hw_lines.specs.declared.line.Line.{Line}
-use Rattle.hw_progress.specs.Searches.{SearchModel, why_at}
+use Rattle.std.proofs.Common.{sym, ◌∙◌, subst, arith}
 use Rattle.hw_search.specs.Handing.{TakesAll}
 use Rattle.hw_search.proofs.Named.{why_of_event, written_is, known_hands, known_names, new_lines, new_names, hands_then}
 use Rattle.hw_search.proofs.naming.name_reason.Goals as goal

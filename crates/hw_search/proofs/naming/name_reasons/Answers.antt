@@ -1,10 +1,10 @@
-use Rattle.std.proofs.Common.{◌≡◌, ℕ, ◌+◌, ◌<◌, length, take, fold, get_or, sym, ap, ◌∙◌, subst, arith}
+use Rattle.std.proofs.Common.{◌<◌, length, take, fold, ◌∙◌, subst, arith}
 use Rattle.std.proofs.lemmas.List.{take_all}
 use Rattle.std.proofs.lemmas.Result.{err_from_is_err_and}
 use Rattle.hw_progress.specs.declared.outcome.Branching.TheVariants.{Earliest}
-use Rattle.hw_progress.specs.Searches.{SearchModel, new_search}
-use Rattle.hw_progress.specs.Turns.{Cited, cite}
-use Rattle.hw_search.specs.Handing.{TakesAll, Hands}
+use Rattle.hw_progress.specs.Searches.{new_search}
+use Rattle.hw_progress.specs.Turns.{cite}
+use Rattle.hw_search.specs.Handing.{TakesAll}
 use Rattle.hw_search.specs.Naming.{search_on, naming, Numbers}
 use Rattle.hw_search.proofs.Handed.{all_whole}
 use Rattle.hw_search.proofs.Named.{step_lines, step_numbers, step_stops}

@@ -1,4 +1,4 @@
-use Rattle.std.proofs.Common.{◌≡◌, ℕ, ◌+◌, ◌≤◌, length, take, fold, vec_capacity}
+use Rattle.std.proofs.Common.{◌≡◌, ◌+◌, ◌≤◌, length, take, fold, vec_capacity}
 use Rattle.hw_progress.specs.Searches.{SearchModel}
 use Rattle.hw_progress.specs.Turns.{cite}
 use Rattle.hw_search.specs.Handing.{TakesAll}

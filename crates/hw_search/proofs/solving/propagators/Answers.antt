@@ -1,10 +1,8 @@
-use Rattle.std.proofs.Common.{◌≡◌, ℕ, List, length, take, sym, subst, ap, ◌∙◌, arith}
+use Rattle.std.proofs.Common.{◌≡◌, ℕ, length, take, sym, subst, ap, ◌∙◌, arith}
 use Rattle.std.proofs.Math.Seq.{take-length}
 use Rattle.std.proofs.lemmas.List.Elements.{All-push, All-same}
-use Rattle.hw_model.specs.declared.source.Source.{Source}
 use Rattle.hw_model.specs.Problem.{shape_of}
 use Rattle.hw_model.specs.Rooms.{whole_room}
-use Rattle.hw_rules.specs.Sources.{AreSourcesOf}
 use Rattle.hw_progress.specs.Starting.{EachSourceOnce}
 use Rattle.hw_search.specs.contracts.any.AnyPropagatorPropagator.TheImpl.{source-value, ready-value}
 use Rattle.hw_search.proofs.Props.{push_source, each_once}

@@ -1,13 +1,12 @@
-use Rattle.std.proofs.Common.{◌≡◌, ℕ, List, [], length, fold, refl, sym, ap, ◌∙◌, subst, arith}
+use Rattle.std.proofs.Common.{ℕ, List, length, fold, refl, subst}
 use Rattle.std.proofs.lemmas.Result.{err_from_is_err_and}
 use Rattle.hw_progress.specs.declared.outcome.Branching.TheVariants.{Earliest}
-use Rattle.hw_progress.specs.Searches.{SearchModel, new_search}
+use Rattle.hw_progress.specs.Searches.{new_search}
 use Rattle.hw_progress.specs.Turns.{cite, cited}
-use Rattle.hw_search.specs.Handing.{TakesAll, StopsWithin}
-use Rattle.hw_search.specs.Naming.{search_on, naming, Numbers}
+use Rattle.hw_search.specs.Handing.{StopsWithin}
+use Rattle.hw_search.specs.Naming.{search_on, naming}
 use Rattle.hw_search.proofs.Handed.{all_whole}
 use Rattle.hw_search.proofs.Named.{numbers_from, taken_from, taught_hands, reasons_stop, conflict_stops, taught_numbers}
-use Rattle.hw_search.proofs.writing.name_all.Given as given
 use Rattle.hw_search.proofs.writing.name_all.Goals as goal
 
 pub returns-in_err-name_reasons-clause-lines : goal.returns-in_err-name_reasons-clause-lines

@@ -1,7 +1,6 @@
-use Rattle.std.proofs.Common.{◌≡◌, refl, sym, ap, ◌∙◌, subst, arith}
 use Rattle.std.proofs.lemmas.Result.{err_from_is_err_and}
 use Rattle.hw_progress.specs.declared.outcome.Branching.TheVariants.{Earliest}
-use Rattle.hw_progress.specs.Searches.{SearchModel, new_search}
+use Rattle.hw_progress.specs.Searches.{new_search}
 use Rattle.hw_search.specs.Naming.{search_on, taught}
 use Rattle.hw_search.proofs.Handed.{all_whole}
 use Rattle.hw_search.proofs.Named.{lemma_taken, lemma_stopped, lemma_early}

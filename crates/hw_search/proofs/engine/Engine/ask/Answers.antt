@@ -1,10 +1,8 @@
-use Rattle.std.proofs.Common.{◌≡◌, ℕ, List, map, length, ap, ◌∙◌, sym, subst, arith}
+use Rattle.std.proofs.Common.{◌≡◌, map, length, ap, ◌∙◌, sym, subst, arith}
 use Rattle.hw_model.specs.Problem.{Problem, shape_of}
-use Rattle.hw_model.specs.Rooms.{RoomModel, RoomFits, IsRoomOf}
-use Rattle.hw_model.specs.declared.source.Source.{Source}
+use Rattle.hw_model.specs.Rooms.{RoomModel, IsRoomOf}
 use Rattle.hw_lits.specs.declared.found.Found.TheVariants as founds
-use Rattle.std.specs.Prelude.{Some, slice_get, All}
-use Rattle.hw_prop.specs.Finds.{Finds}
+use Rattle.std.specs.Prelude.{slice_get}
 use Rattle.hw_search.specs.Engines.{EngineModel}
 use Rattle.hw_search.proofs.Asked.{asked_sources, asked_serve, source_there, place_in, found_here, kept_asked, kept_cleared, clause_here, source_reason}
 use Rattle.hw_search.proofs.Kept.{room_here}

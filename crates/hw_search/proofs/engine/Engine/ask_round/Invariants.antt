@@ -1,6 +1,6 @@
-use Rattle.std.proofs.Common.{◌≡◌, ◌-◌, ◌+◌, ◌<◌, ◌≤◌, true, false, length}
+use Rattle.std.proofs.Common.{◌≡◌, ◌-◌, ◌+◌, ◌≤◌, true, false, length}
 use Rattle.hw_story.specs.Trails.{most_events}
-use Rattle.hw_search.specs.Askings.{Goes, Gains}
+use Rattle.hw_search.specs.Askings.{Gains}
 use Rattle.hw_progress.specs.Settling.{Implies}
 use Rattle.hw_search.specs.Marks.{ClearWithin}
 use Rattle.hw_search.proofs.engine.Engine.ask_round.Given as goal

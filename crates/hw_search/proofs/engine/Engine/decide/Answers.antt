@@ -1,10 +1,10 @@
-use Rattle.std.proofs.Common.{◌≡◌, ◌+◌, ◌<◌, true, length, ℕ, List, Bool, None, subst, sym, ◌∙◌, ap, arith}
+use Rattle.std.proofs.Common.{◌≡◌, ◌+◌, length, None, subst, sym, ◌∙◌, ap, arith}
 use Rattle.hw_model.specs.declared.lit.LitTruth.TheVariants.{Free}
-use Rattle.hw_model.specs.Lits.{lit_fits, IsLitOf}
+use Rattle.hw_model.specs.Lits.{IsLitOf}
 use Rattle.hw_model.specs.Narrowing.{truth, cut}
-use Rattle.hw_model.specs.Rooms.{RoomModel, RoomFits, IsPoint}
+use Rattle.hw_model.specs.Rooms.{RoomFits, IsPoint}
 use Rattle.hw_story.specs.declared.event.Event.{Event}
-use Rattle.hw_story.specs.Trails.{trail_shape, room_of}
+use Rattle.hw_story.specs.Trails.{room_of}
 use Rattle.hw_story.proofs.Kept.{more_room}
 use Rattle.hw_progress.specs.Searches.{room_in}
 use Rattle.hw_progress.specs.Settling.{AllQuiet}

@@ -1,6 +1,6 @@
-use Rattle.std.proofs.Common.{◌≡◌, refl, subst, sym, ◌∙◌, ap}
+use Rattle.std.proofs.Common.{refl, subst, ap}
 use Rattle.hw_progress.specs.declared.outcome.Turn.TheVariants as turns
-use Rattle.hw_progress.specs.Searches.{SearchModel, IsSearch}
+use Rattle.hw_progress.specs.Searches.{IsSearch}
 use Rattle.hw_search.specs.Engines.{EngineModel}
 use Rattle.hw_search.specs.Turning.{turn_of, halted}
 use Rattle.hw_search.proofs.Ending.{turned, ends, ends_stopped}

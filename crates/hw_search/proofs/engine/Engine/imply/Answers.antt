@@ -1,16 +1,14 @@
-use Rattle.std.proofs.Common.{◌≡◌, ◌<◌, true, length, ℕ, List, Bool, Some, subst, sym, ◌∙◌, ap, arith}
+use Rattle.std.proofs.Common.{◌≡◌, true, length, Some, subst, sym, ◌∙◌, ap, arith}
 use Rattle.hw_model.specs.declared.lit.LitTruth.TheVariants.{Free}
 use Rattle.hw_model.specs.declared.narrowing.Narrowed.TheVariants.{Cut}
-use Rattle.hw_model.specs.Lits.{lit_fits, IsClause, IsLitOf}
+use Rattle.hw_model.specs.Lits.{lit_fits, IsClause}
 use Rattle.hw_model.specs.Narrowing.{truth, cut}
 use Rattle.hw_model.specs.Replay.{narrowing}
-use Rattle.hw_model.specs.Rooms.{RoomModel}
 use Rattle.hw_story.specs.declared.event.Event.{Event}
-use Rattle.hw_story.specs.Trails.{trail_shape, clause_of, room_of, implied}
+use Rattle.hw_story.specs.Trails.{trail_shape, clause_of, room_of}
 use Rattle.hw_story.proofs.Kept.{more_room}
 use Rattle.hw_progress.specs.Searches.{room_in, IsReason}
 use Rattle.hw_search.specs.Engines.{EngineModel}
-use Rattle.hw_search.specs.Marks.{MarksPlaces}
 use Rattle.hw_search.proofs.Markings.{marks_through}
 use Rattle.hw_search.proofs.Kept.{of_view, one_more, kept_implied}
 use Rattle.hw_search.proofs.engine.Engine.imply.Goals as goal

@@ -1,6 +1,5 @@
 use Rattle.std.proofs.Common.{sym, subst}
 use Rattle.hw_model.specs.Rooms.{RoomModel}
-use Rattle.hw_store.specs.declared.store.Held.{Held}
 use Rattle.hw_store.specs.declared.store.Stored.{Stored}
 use Rattle.hw_store.specs.Stores.{Finds, IsNotHeld, IsActive}
 use Rattle.hw_story.specs.Trails.{clause_of}

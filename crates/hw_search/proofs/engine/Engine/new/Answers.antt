@@ -1,4 +1,4 @@
-use Rattle.std.proofs.Common.{◌≡◌, ℕ, ◌≤◌, Bool, true, List, [], map, length, replicate, ap, ◌∙◌, sym, subst, refl, arith}
+use Rattle.std.proofs.Common.{◌≡◌, true, List, map, length, replicate, ap, ◌∙◌, sym, subst, arith}
 use Rattle.std.specs.Prelude.{All, Contains, slice_get, Some}
 use Rattle.std.proofs.lemmas.List.{length-map, length-replicate}
 use Rattle.std.proofs.lemmas.List.Elements.{All-map, All-weaker}
@@ -7,12 +7,11 @@ use Rattle.hw_model.specs.declared.source.Source.{Source}
 use Rattle.hw_model.specs.declared.source.Source.TheVariants.{Goal}
 use Rattle.hw_model.specs.Problem.{shape_of}
 use Rattle.hw_model.specs.Refuting.{IsSourceOf}
-use Rattle.hw_model.specs.Rooms.{RoomModel, whole_room}
+use Rattle.hw_model.specs.Rooms.{whole_room}
 use Rattle.hw_story.specs.Trails.{TrailModel, room_of, most_events}
 use Rattle.hw_search.specs.Speaking.{TellsSpeakers}
 use Rattle.hw_search.proofs.Kept.{kept_new}
 use Rattle.hw_search.proofs.engine.Engine.new.Goals as goal
-use Rattle.hw_search.proofs.engine.Engine.new.Given as given
 
 pub goal_of-goal-requires : goal.goal_of-goal-requires
 goal_of-goal-requires g c =

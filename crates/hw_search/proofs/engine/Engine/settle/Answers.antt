@@ -1,4 +1,3 @@
-use Rattle.std.proofs.Common.{sym}
 use Rattle.std.proofs.lemmas.Result.{err_from_is_err_and}
 use Rattle.hw_search.specs.Askings.{SourcesQuiet}
 use Rattle.hw_search.proofs.Steps.{implies_more, left_less, as_cut, as_conflict, as_quiet, gains_more}

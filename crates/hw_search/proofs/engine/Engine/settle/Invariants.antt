@@ -1,4 +1,4 @@
-use Rattle.std.proofs.Common.{◌≡◌, ◌-◌, length}
+use Rattle.std.proofs.Common.{◌-◌, length}
 use Rattle.hw_story.specs.Trails.{most_events}
 use Rattle.hw_progress.specs.Settling.{Implies}
 use Rattle.hw_search.proofs.engine.Engine.settle.Given as goal

@@ -1,15 +1,15 @@
-use Rattle.std.proofs.Common.{◌≡◌, sym, subst, ◌∙◌, ap, true}
-use Rattle.std.specs.Prelude.{All, List, Some, slice_get}
+use Rattle.std.proofs.Common.{◌≡◌, sym, subst, ◌∙◌, ap}
+use Rattle.std.specs.Prelude.{All, List}
 use Rattle.hw_model.specs.declared.lit.Lit.{Lit}
 use Rattle.hw_model.specs.declared.lit.LitTruth.TheVariants.{Free}
 use Rattle.hw_model.specs.declared.narrowing.Narrowed.TheVariants.{Cut}
-use Rattle.hw_model.specs.Lits.{IsClause, IsLitOf, lit_fits}
+use Rattle.hw_model.specs.Lits.{IsClause, IsLitOf}
 use Rattle.hw_model.specs.Narrowing.{truth}
 use Rattle.hw_model.specs.Problem.{shape_of}
 use Rattle.hw_model.specs.Replay.{narrowing}
 use Rattle.hw_model.specs.Rooms.{RoomModel}
 use Rattle.hw_lits.proofs.Forms.{clause_lits}
-use Rattle.hw_story.specs.Trails.{clause_of, trail_shape}
+use Rattle.hw_story.specs.Trails.{clause_of}
 use Rattle.hw_progress.specs.Searches.{IsSearch, room_in}
 use Rattle.hw_progress.proofs.Holds.{problem_clause}
 use Rattle.hw_search.specs.Engines.{EngineModel}

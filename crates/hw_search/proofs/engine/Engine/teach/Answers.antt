@@ -1,8 +1,7 @@
-use Rattle.std.proofs.Common.{◌≡◌, ℕ, ◌+◌, ◌<◌, ◌≤◌, if◌then◌else◌, true, List, [], ◌∷◌, ◌++◌, Some, None, length, map, refl, subst, sym, ◌∙◌, ap, arith}
+use Rattle.std.proofs.Common.{◌≡◌, ◌≤◌, if◌then◌else◌, true, List, [], Some, None, length, map, refl, subst, sym, ◌∙◌, ap, arith}
 use Rattle.std.specs.Prelude.{Ok, Err}
 use Rattle.hw_model.specs.declared.lit.Lit.{Lit}
-use Rattle.hw_story.specs.Trails.{clause_of, back_to}
-use Rattle.hw_cert.specs.declared.log.LogStop.{LogStop}
+use Rattle.hw_story.specs.Trails.{back_to}
 use Rattle.hw_progress.specs.declared.outcome.Settled.TheVariants.{Conflict}
 use Rattle.hw_progress.specs.declared.outcome.Turn.TheVariants as turns
 use Rattle.hw_progress.specs.Laws.{lemma_lines}
@@ -19,7 +18,7 @@ use Rattle.hw_search.proofs.Handed.{all_whole}
 use Rattle.hw_search.proofs.Lessons.{teaches, places_inside, numbers_left, level_below, lits_here, numbers_below, all_marked, kept_back, no_lits}
 use Rattle.hw_search.proofs.Markings.{written_whole}
 use Rattle.hw_search.proofs.Taught.{Teaches, WentBack, analysed, went, went_search, stopped_past, went_meets, stop_meets_past}
-use Rattle.hw_search.proofs.Teaching.{lemma_stops, last_meets, ended}
+use Rattle.hw_search.proofs.Teaching.{lemma_stops, last_meets}
 use Rattle.hw_search.proofs.engine.Engine.teach.Goals as goal
 
 pub returns-in_default-clause-turns : goal.returns-in_default-clause-turns
@@ -180,8 +179,7 @@ invariant_of-self-in-Ok-gone g c =
     let whole = written_whole c.self.inside.marks.len c.mark_all.new.marks c.self.inside.marks.items n in
     let many = ap length whole ∙ c.mark_all.ensures.same_length ∙ ap length c.deref_mut.ensures.value in
     let all = all_marked c.self.inside.marks.len c.mark_all.new.marks c.self.inside.marks.items c.self.inside.marks.items n c.mark_all.ensures.marked in
-    let cap = c.go_back-gone.ensures.capacity ∙ c.write_lemma-written.ensures.capacity in
-    (
+    let cap = c.go_back-gone.ensures.capacity ∙ c.write_lemma-written.ensures.capacity in (
       kept_back e _ _ _ _ _ _ (went mid trail stored left lines restarts since) _ c.self.invariant.0 (went_search mid why lemma back places trail stored left ws lines restarts since level t literal w tidies.0) refl refl many all cap,
       c.in-Ok-gone.ensures.ships ∙ c.self.invariant.1,
       c.in-Ok-gone.ensures.ready,
@@ -249,8 +247,7 @@ invariant_of-self-in-Err-gone g c =
     let whole = written_whole c.self.inside.marks.len c.mark_all.new.marks c.self.inside.marks.items n in
     let many = ap length whole ∙ c.mark_all.ensures.same_length ∙ ap length c.deref_mut.ensures.value in
     let all = all_marked c.self.inside.marks.len c.mark_all.new.marks c.self.inside.marks.items c.self.inside.marks.items n c.mark_all.ensures.marked in
-    let cap = c.go_back-gone.ensures.capacity ∙ c.write_lemma-written.ensures.capacity in
-    (
+    let cap = c.go_back-gone.ensures.capacity ∙ c.write_lemma-written.ensures.capacity in (
       kept_back e _ _ _ _ _ _ (record (went mid trail stored left lines restarts since) { over = true }) _ c.self.invariant.0 (stopped_past mid why lemma back places trail stored left ws lines restarts since level c.in-Err-gone.stop t literal w tidies.0) refl refl many all cap,
       c.in-Err-gone.ensures.ships ∙ c.self.invariant.1,
       c.in-Err-gone.ensures.ready,

@@ -1,11 +1,11 @@
-use Rattle.std.proofs.Common.{◌≡◌, true, false, refl, subst, sym, ◌∙◌, ap, arith}
+use Rattle.std.proofs.Common.{◌≡◌, true, false, refl, subst, sym, ◌∙◌, ap}
 use Rattle.hw_model.specs.Rooms.{IsPoint}
-use Rattle.hw_progress.specs.declared.outcome.Settled.TheVariants.{Quiet, Conflict}
+use Rattle.hw_progress.specs.declared.outcome.Settled.TheVariants.{Quiet}
 use Rattle.hw_progress.specs.declared.outcome.Turn.TheVariants as turns
-use Rattle.hw_progress.specs.Searches.{SearchModel, IsSearch, room_in}
+use Rattle.hw_progress.specs.Searches.{IsSearch, room_in}
 use Rattle.hw_progress.specs.Settling.{Settles}
 use Rattle.hw_search.specs.Engines.{EngineModel}
-use Rattle.hw_search.specs.Turning.{Begins, turn_of, halted}
+use Rattle.hw_search.specs.Turning.{Begins, halted}
 use Rattle.hw_search.proofs.Answering.{decides, decided_meets, stopped_early}
 use Rattle.hw_search.proofs.Ending.{turned}
 use Rattle.hw_search.proofs.engine.Engine.turn.Goals as goal

@@ -1,4 +1,4 @@
-use Rattle.std.proofs.Common.{◌≡◌, ℕ, false}
+use Rattle.std.proofs.Common.{false}
 use Rattle.std.specs.Prelude.{nat_lt}
 use Rattle.hw_search.specs.Speaking.{Adds}
 use Rattle.hw_search.proofs.speakers.Speakers.add_all.Given as goal

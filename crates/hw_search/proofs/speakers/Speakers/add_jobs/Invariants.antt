@@ -1,4 +1,4 @@
-use Rattle.std.proofs.Common.{ℕ, false, take}
+use Rattle.std.proofs.Common.{false, take}
 use Rattle.std.specs.List.{list_any}
 use Rattle.hw_search.specs.Speaking.{Adds}
 use Rattle.hw_search.proofs.Adding.{of_job}
