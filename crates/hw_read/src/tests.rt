@@ -179,20 +179,33 @@ fn parts_of_day(rt: HostRuntime) -> Result<(), Fail> {
     Ok(())
 }
 
+/// A number below 100.
+fn put_number(text: &mut String, number: usize) -> Result<(), AllocError> {
+    if 10 <= number {
+        text.push(char::from(b'0' + (number / 10 % 10) as u8))?;
+    }
+    text.push(char::from(b'0' + (number % 10) as u8))
+}
+
 /// Items of a list, with commas between them: two texts with the item's number between, or the
 /// first of them alone.
-fn items(alloc: Global, many: usize, head: &str, tail: Option<&str>) -> Result<String, AllocError> {
-    let mut text = String::new(alloc);
+fn put_items(
+    text: &mut String,
+    many: usize,
+    head: &str,
+    tail: Option<&str>,
+) -> Result<(), AllocError> {
     for i in 0..many {
         if 0 < i {
             text.push(',')?;
         }
         text.push_str(head)?;
         if let Some(tail) = tail {
-            text.push_str(format!(in alloc; "{i}{tail}")?.as_str())?;
+            put_number(text, i)?;
+            text.push_str(tail)?;
         }
     }
-    Ok(text)
+    Ok(())
 }
 
 /// The most waypoints, sections, classes, ships, passes, stretches and berth pairs, with the place
@@ -207,53 +220,74 @@ const MOST: [(usize, &[u32]); 7] = [
     (200, &[39]),
 ];
 
-/// The ships of an instance, every second one coming in, with their numbers at the limits.
-fn ships(
-    alloc: Global,
-    many: usize,
-    passes: usize,
-    stretches: usize,
-) -> Result<String, AllocError> {
-    let pass = Some(r#","offset":1023,"clearance":1000}"#);
-    let route = items(alloc, passes, r#"{"waypoint":"#, pass)?;
-    let stretch = Some(r#","enter":511,"leave":512}"#);
-    let channel = items(alloc, stretches, r#"{"section":"#, stretch)?;
+/// What stands between the lists of an instance, whose numbers are at their limits.
+const HEAD: &str =
+    r#"{"version":2,"slots":512,"slot_minutes":1440,"fleet":1000,"turnaround":{"outgoing":512,"incoming":512},"waypoints":["#;
+
+const PAIR_OF_SHIPS: &str = r#"{"outgoing":0,"incoming":1,"clear":512}"#;
+
+/// What stands behind a ship's number and its side.
+const FIGURES: &str =
+    r#"","class":7,"earliest":511,"latest":511,"tpc":3000,"light":10000,"deep":10000,"tugs":64,"job":512,"may_stay":true,"route":["#;
+
+/// The passes and stretches of a ship, and its end.
+fn course(alloc: Global, passes: usize, stretches: usize) -> Result<String, AllocError> {
     let mut text = String::new(alloc);
-    for i in 0..many {
-        let side = if i % 2 == 0 { "outgoing" } else { "incoming" };
-        let comma = if i == 0 { "" } else { "," };
-        let head = format!(in alloc;
-            r#"{comma}{{"name":"Ship {i}","direction":"{side}","class":7,"earliest":511,"latest":511,"tpc":3000,"light":10000,"deep":10000,"tugs":64,"job":512,"may_stay":true,"route":["#
-        )?;
-        text.push_str(head.as_str())?;
-        text.push_str(route.as_str())?;
-        text.push_str(r#"],"channel":["#)?;
-        text.push_str(channel.as_str())?;
-        text.push_str("]}")?;
-    }
+    let pass = Some(r#","offset":1023,"clearance":1000}"#);
+    put_items(&mut text, passes, r#"{"waypoint":"#, pass)?;
+    text.push_str(r#"],"channel":["#)?;
+    let stretch = Some(r#","enter":511,"leave":512}"#);
+    put_items(&mut text, stretches, r#"{"section":"#, stretch)?;
+    text.push_str("]}")?;
     Ok(text)
+}
+
+/// Ships, every second one coming in.
+fn put_ships(text: &mut String, many: usize, course: &str) -> Result<(), AllocError> {
+    for i in 0..many {
+        if 0 < i {
+            text.push(',')?;
+        }
+        text.push_str(r#"{"name":"Ship "#)?;
+        put_number(text, i)?;
+        text.push_str(r#"","direction":""#)?;
+        text.push_str(if i % 2 == 0 { "outgoing" } else { "incoming" })?;
+        text.push_str(FIGURES)?;
+        text.push_str(course)?;
+    }
+    Ok(())
+}
+
+/// The rows of the separations.
+fn put_rows(alloc: Global, text: &mut String, classes: usize) -> Result<(), AllocError> {
+    let mut row = String::new(alloc);
+    row.push('[')?;
+    put_items(&mut row, classes, "512", None)?;
+    row.push(']')?;
+    put_items(text, classes, row.as_str(), None)
 }
 
 /// An instance with so many items in its lists, in the order of `MOST`.
 fn largest(alloc: Global, many: [usize; 7]) -> Result<String, AllocError> {
-    let waypoints = items(
-        alloc,
+    let mut text = String::new(alloc);
+    text.push_str(HEAD)?;
+    put_items(
+        &mut text,
         many[0],
         r#"{"name":"Point "#,
         Some(r#"","depth":10000}"#),
     )?;
-    let sections = items(alloc, many[1], r#""Section "#, Some(r#"""#))?;
-    let row = items(alloc, many[2], "512", None)?;
-    let row = format!(in alloc; "[{row}]")?;
-    let rows = items(alloc, many[2], row.as_str(), None)?;
-    let pair = r#"{"outgoing":0,"incoming":1,"clear":512}"#;
-    let berths = items(alloc, many[6], pair, None)?;
-    let ships = ships(alloc, many[3], many[4], many[5])?;
-    let head =
-        r#"{"version":2,"slots":512,"slot_minutes":1440,"fleet":1000,"turnaround":{"outgoing":512,"incoming":512},"#;
-    format!(in alloc;
-        r#"{head}"waypoints":[{waypoints}],"sections":[{sections}],"separation":[{rows}],"ships":[{ships}],"berths":[{berths}]}}"#
-    )
+    text.push_str(r#"],"sections":["#)?;
+    put_items(&mut text, many[1], r#""Section "#, Some(r#"""#))?;
+    text.push_str(r#"],"separation":["#)?;
+    put_rows(alloc, &mut text, many[2])?;
+    text.push_str(r#"],"ships":["#)?;
+    let course = course(alloc, many[4], many[5])?;
+    put_ships(&mut text, many[3], course.as_str())?;
+    text.push_str(r#"],"berths":["#)?;
+    put_items(&mut text, many[6], PAIR_OF_SHIPS, None)?;
+    text.push_str("]}")?;
+    Ok(text)
 }
 
 #[test]
