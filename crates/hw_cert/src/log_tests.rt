@@ -6,13 +6,16 @@ ghost use Rattle.hw_desk.specs.Memory.{memory_state};
 ghost use Rattle.hw_cert.specs.Logs.{IsWhole};
 
 use super::*;
-use hw_desk::{Desk, DeskCall, FailAt, MemoryDesk, Tray};
+use hw_desk::{Desk, DeskCall, DeskFailed, FailAt, MemoryDesk, Tray};
 use hw_flat::Timetable;
 use std::test::Fail;
 
+/// A header and two lines.
+const TEXT: &[u8] = b"cert 2\nt 1 2\nd 3 14\n";
+
 /// The most bytes that a write moves, and how many were sent when the first, second .. write failed,
-/// and at last when none did: of `cert 2`, `t 1 2` and `d 3 14`, each with its end.
-const SHORT: [(u32, &[usize]); 3] = [
+/// and at last when none did.
+const SENT: [(u32, &[usize]); 3] = [
     (
         1,
         &[
@@ -23,19 +26,13 @@ const SHORT: [(u32, &[usize]); 3] = [
     (4096, &[0, 7, 13, 20]),
 ];
 
-/// The same where 5000 numbers of one digit are deleted, which are 10,002 bytes with the end.
-const LONG: [(u32, &[usize]); 2] = [
-    (4096, &[0, 7, 13, 4109, 8205, 10015]),
-    (65_536, &[0, 7, 13, 8205, 10015]),
-];
-
-/// A desk with room for 16384 bytes, whose write of the proof at this place fails.
+/// A desk with room for 32 bytes, whose write of the proof at this place fails.
 fn memory(rt: &HostRuntime, most: u32, place: u32) -> Result<MemoryDesk, Fail>
     ensures { IfOk result (λ desk. IsNew (memory_state desk)) }
 {
     let call = DeskCall::WriteProof;
     let fails = Vec::from_slice(rt.alloc(), &[FailAt { call, place }])?;
-    Ok(MemoryDesk::new(rt.alloc(), Vec::new(rt.alloc()), most.max(1), 16_384, fails)?)
+    Ok(MemoryDesk::new(rt.alloc(), Vec::new(rt.alloc()), most.max(1), 32, fails)?)
 }
 
 /// How many of two lines a log took.
@@ -56,29 +53,34 @@ fn send_two<D: Desk>(desk: &mut D, first: &Line, second: &Line) -> Option<usize>
     requires { IsNew (D.state desk.old) }
 {
     desk.make(Tray::Proof, "proof").ok()?;
-    let mut log = TrayLog::new(desk).ok()?;
-    Some(log_two(&mut log, first, second))
+    match TrayLog::new(desk) {
+        Ok(mut log) => Some(log_two(&mut log, first, second)),
+        Err(failed) => {
+            let _: DeskFailed = failed.into();
+            None
+        }
+    }
 }
 
 /// How many lines were taken when so many bytes of the three were sent.
-fn taken(sent: usize, all: usize) -> Option<usize> {
+fn taken(sent: usize) -> Option<usize> {
     if sent < 7 {
         None
     } else if sent < 13 {
         Some(0)
-    } else if sent < all {
+    } else if sent < TEXT.len() {
         Some(1)
     } else {
         Some(2)
     }
 }
 
-/// The two lines, and the same again from a log in memory.
-fn lines(rt: &HostRuntime, ids: &[u32]) -> Result<Vec<Line>, Fail> {
+/// The two lines, as a log in memory keeps them.
+fn lines(rt: &HostRuntime) -> Result<Vec<Line>, Fail> {
     let first = Line::Table(Timetable::from_slots(rt.alloc(), &[1, 2])?);
     let second = Line::Delete {
         ids: Hints {
-            items: Vec::from_slice(rt.alloc(), ids)?,
+            items: Vec::from_slice(rt.alloc(), &[3, 14])?,
         },
     };
     let mut log = MemoryLog::new(rt.alloc());
@@ -87,14 +89,8 @@ fn lines(rt: &HostRuntime, ids: &[u32]) -> Result<Vec<Line>, Fail> {
 }
 
 /// The first place at which a failing write leaves anything but that many first bytes of the text.
-fn first_wrong(
-    rt: &HostRuntime,
-    ids: &[u32],
-    text: &[u8],
-    most: u32,
-    lengths: &[usize],
-) -> Result<Option<u32>, Fail> {
-    let lines = lines(rt, ids)?;
+fn first_wrong(rt: &HostRuntime, most: u32, lengths: &[usize]) -> Result<Option<u32>, Fail> {
+    let lines = lines(rt)?;
     let [first, second] = lines.as_slice() else {
         return Ok(Some(0));
     };
@@ -103,7 +99,7 @@ fn first_wrong(
         place = place.saturating_add(1);
         let mut desk = memory(rt, most, place)?;
         let many = send_two(&mut desk, first, second);
-        if many != taken(*sent, text.len()) || Some(desk.sent(Tray::Proof)) != text.get(..*sent) {
+        if many != taken(*sent) || Some(desk.sent(Tray::Proof)) != TEXT.get(..*sent) {
             return Ok(Some(place));
         }
     }
@@ -112,20 +108,9 @@ fn first_wrong(
 
 #[test]
 fn log_sends_whole_lines(rt: HostRuntime) -> Result<(), Fail> {
-    let short = b"cert 2\nt 1 2\nd 3 14\n";
-    for (most, lengths) in SHORT {
-        let wrong = first_wrong(&rt, &[3, 14], short, most, lengths)?;
-        assert_eq!(rt; wrong, None, "short lines, {most} bytes a write");
-    }
-    let mut long = Vec::from_slice(rt.alloc(), b"cert 2\nt 1 2\nd")?;
-    for _ in 0..5000 {
-        long.extend_from_slice(b" 7")?;
-    }
-    long.push(b'\n')?;
-    let ids = vec![in rt.alloc(); 7u32; 5000]?;
-    for (most, lengths) in LONG {
-        let wrong = first_wrong(&rt, &ids, &long, most, lengths)?;
-        assert_eq!(rt; wrong, None, "a long line, {most} bytes a write");
+    for (most, lengths) in SENT {
+        let wrong = first_wrong(&rt, most, lengths)?;
+        assert_eq!(rt; wrong, None, "{most} bytes a write");
     }
     Ok(())
 }

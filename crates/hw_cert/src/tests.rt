@@ -1,11 +1,12 @@
-//! Certificates read from a desk in memory, whole and in pieces.
+//! Certificates read from a desk in memory, whole and in pieces. Reads that fail are among the whole
+//! runs of `tidewise_rows`.
 
 ghost use Rattle.std.specs.Prelude.{◌≡◌, ◌≤◌, true, IfOk};
 ghost use Rattle.hw_desk.specs.Memory.{memory_state};
 
 use super::*;
-use hw_desk::{Desk, DeskCall, FailAt, Feed, MemoryDesk, NamedBytes};
-use hw_model::{Lit, Shape};
+use hw_desk::{Desk, Feed, MemoryDesk, NamedBytes};
+use hw_model::Shape;
 use std::alloc::Global;
 use std::test::Fail;
 
@@ -82,8 +83,8 @@ fn read_all<D: Desk>(alloc: Global, desk: &mut D, first: LineReader) -> Result<V
     }
 }
 
-/// A desk on which the certificate was begun, whose calls fail where the list says.
-fn desk_with(alloc: Global, bytes: &[u8], most: u32, fails: Vec<FailAt>) -> Result<MemoryDesk, Fail>
+/// A desk on which the certificate was begun.
+fn desk_with(alloc: Global, bytes: &[u8], most: u32) -> Result<MemoryDesk, Fail>
     requires { 1 ≤ most }
     ensures { IfOk result (λ desk. ((memory_state desk).feeds Feed.Certificate).begun ≡ true) }
 {
@@ -92,7 +93,7 @@ fn desk_with(alloc: Global, bytes: &[u8], most: u32, fails: Vec<FailAt>) -> Resu
         name: String::from_str(alloc, "cert")?,
         bytes: Vec::from_slice(alloc, bytes)?,
     })?;
-    let mut desk = MemoryDesk::new(alloc, files, most, 1, fails)
+    let mut desk = MemoryDesk::new(alloc, files, most, 1, Vec::new(alloc))
         .ok()
         .ok_or("a desk")?;
     match desk.begin(Feed::Certificate, "cert") {
@@ -101,20 +102,14 @@ fn desk_with(alloc: Global, bytes: &[u8], most: u32, fails: Vec<FailAt>) -> Resu
     }
 }
 
-fn told_by(alloc: Global, bytes: &[u8], most: u32, fails: Vec<FailAt>) -> Result<Vec<u8>, Fail>
+fn told(alloc: Global, bytes: &[u8], most: u32) -> Result<Vec<u8>, Fail>
     requires { 1 ≤ most }
 {
-    let mut desk = desk_with(alloc, bytes, most, fails)?;
+    let mut desk = desk_with(alloc, bytes, most)?;
     let reader = LineReader::new(alloc, SHAPE, Feed::Certificate)
         .ok()
         .ok_or("a reader")?;
     read_all(alloc, &mut desk, reader)
-}
-
-fn told(alloc: Global, bytes: &[u8], most: u32) -> Result<Vec<u8>, Fail>
-    requires { 1 ≤ most }
-{
-    told_by(alloc, bytes, most, Vec::new(alloc))
 }
 
 /// Whether the certificate reads so however its reads are cut.
@@ -218,93 +213,5 @@ fn lines_at_the_limit(rt: HostRuntime) -> Result<(), Fail> {
             "{letters} {wanted:?}"
         );
     }
-    Ok(())
-}
-
-fn is_table(line: &Line, slots: &[u32]) -> bool {
-    match line {
-        Line::Table(table) => table.as_slice() == slots,
-        _ => false,
-    }
-}
-
-fn is_explanation(line: &Line, number: u32, lits: &[Lit]) -> bool {
-    match line {
-        Line::Explain {
-            restriction,
-            clause,
-        } => *restriction == number && clause.as_slice() == lits,
-        _ => false,
-    }
-}
-
-fn is_lemma(line: &Line, lits: &[Lit], numbers: &[u32]) -> bool {
-    match line {
-        Line::Lemma { clause, hints } => {
-            clause.as_slice() == lits && hints.items.as_slice() == numbers
-        }
-        _ => false,
-    }
-}
-
-#[test]
-fn values_of_lines(rt: HostRuntime) -> Result<(), Fail> {
-    let table = first_line(rt.alloc(), b"cert 1\nt 2 0 1\n")?;
-    assert!(rt; is_table(&table, &[2, 0, 1]));
-    let explanation = first_line(rt.alloc(), b"cert 1\ne 3 a0.2 n1.2\n")?;
-    let lits = [
-        Lit::AtOrAfter { ship: 0, slot: 2 },
-        Lit::NotFirst { v: 1, w: 2 },
-    ];
-    assert!(rt; is_explanation(&explanation, 3, &lits));
-    let lemma = first_line(rt.alloc(), b"cert 2\nl b2.1 f0.1 ; 7 3\n")?;
-    let lits = [Lit::Before { ship: 2, slot: 1 }, Lit::First { v: 0, w: 1 }];
-    assert!(rt; is_lemma(&lemma, &lits, &[7, 3]));
-    Ok(())
-}
-
-fn first_line(alloc: Global, bytes: &[u8]) -> Result<Line, Fail> {
-    let mut desk = desk_with(alloc, bytes, 5, Vec::new(alloc))?;
-    let reader = LineReader::new(alloc, SHAPE, Feed::Certificate)
-        .ok()
-        .ok_or("a reader")?;
-    match reader.next(&mut desk) {
-        Ok(Next::Line { line, .. }) => Ok(line),
-        _ => Err(Fail::from("a line")),
-    }
-}
-
-fn second_read_fails(alloc: Global) -> Result<Vec<FailAt>, Fail> {
-    let mut fails = Vec::new(alloc);
-    fails.push(FailAt {
-        call: DeskCall::Read,
-        place: 2,
-    })?;
-    Ok(fails)
-}
-
-#[test]
-fn failing_read_behind_lines(rt: HostRuntime) -> Result<(), Fail> {
-    let short = told_by(
-        rt.alloc(),
-        b"cert 1\ng\n",
-        7,
-        second_read_fails(rt.alloc())?,
-    )?;
-    assert!(rt; short.as_slice() == b"F".as_slice(), "before the line");
-    let wrong = told_by(
-        rt.alloc(),
-        b"cert 1\nx\ng\n",
-        9,
-        second_read_fails(rt.alloc())?,
-    )?;
-    assert!(rt; wrong.as_slice() == b"2f".as_slice(), "behind a wrong line");
-    let one = told_by(
-        rt.alloc(),
-        b"cert 1\ng\ng\n",
-        9,
-        second_read_fails(rt.alloc())?,
-    )?;
-    assert!(rt; one.as_slice() == b"gF".as_slice(), "behind a line");
     Ok(())
 }
