@@ -129,9 +129,10 @@ impl Case {
     pub fn take(&mut self, alloc: Global, line: &str, out: &mut Vec<u8>) -> Result<bool, NoMemory> {
         match line.as_bytes() {
             [] | [b'#', ..] => Ok(true),
-            [b'|', text @ ..] => Ok(self.put_line(text, 1)?),
-            [b'+', text @ ..] => Ok(self.put_text(text)?),
-            [b'*', ..] => Ok(self.put_repeated(line)?),
+            [b'|', text @ ..] => Ok(self.put_many(text, b"\n", 1)?),
+            [b'+', text @ ..] => Ok(self.put_many(text, b"", 1)?),
+            [b'*', ..] => Ok(self.put_repeated(line, '*', b"\n")?),
+            [b'-', ..] => Ok(self.put_repeated(line, '-', b"")?),
             _ => self.take_keyword(alloc, line, out),
         }
     }
@@ -177,16 +178,8 @@ impl Case {
         Ok(true)
     }
 
-    /// Adds bytes to the last file.
-    fn put_text(&mut self, text: &[u8]) -> Result<bool, AllocError> {
-        match self.files.last_mut() {
-            Some(file) => put_bytes(&mut file.bytes, text),
-            None => Ok(false),
-        }
-    }
-
-    /// Adds a line to the last file, so many times.
-    fn put_line(&mut self, text: &[u8], count: u32) -> Result<bool, AllocError> {
+    /// Adds bytes with an end to the last file, so many times.
+    fn put_many(&mut self, text: &[u8], end: &[u8], count: u32) -> Result<bool, AllocError> {
         let Some(file) = self.files.last_mut() else {
             return Ok(false);
         };
@@ -194,21 +187,21 @@ impl Case {
             if !put_bytes(&mut file.bytes, text)? {
                 return Ok(false);
             }
-            file.bytes.push(b'\n')?;
+            file.bytes.extend_from_slice(end)?;
         }
         Ok(true)
     }
 
-    /// `*COUNT TEXT`
-    fn put_repeated(&mut self, line: &str) -> Result<bool, AllocError> {
+    /// A mark, `COUNT TEXT`
+    fn put_repeated(&mut self, line: &str, mark: char, end: &[u8]) -> Result<bool, AllocError> {
         let Some((count, text)) = line.split_once(' ') else {
             return Ok(false);
         };
-        let Some(count) = count.strip_prefix('*') else {
+        let Some(count) = count.strip_prefix(mark) else {
             return Ok(false);
         };
         match read_small(count.as_bytes(), 1, 100_000) {
-            Some(count) => self.put_line(text.as_bytes(), count),
+            Some(count) => self.put_many(text.as_bytes(), end, count),
             None => Ok(false),
         }
     }

@@ -7,6 +7,7 @@
 //!     |TEXT             a line of it
 //!     +TEXT             bytes of it without a line end
 //!     *COUNT TEXT       a line of it, so many times
+//!     -COUNT TEXT       bytes of it without a line end, so many times
 //!     most N ..         how many bytes a call moves at most (4096); one run for each number
 //!     room N            how many bytes a tray takes (65536)
 //!     fail CALL PLACE   a call that fails, by its kind and its place among those, from 1
