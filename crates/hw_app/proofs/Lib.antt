@@ -4,3 +4,6 @@ mod Checked
 mod Chained
 mod Solved
 mod Shown
+mod PortForms
+mod FlattenWorks
+mod PortShown

@@ -14,9 +14,9 @@ use Rattle.hw_lines.specs.declared.line.Line.{Line}
 use Rattle.hw_lines.specs.Lines.{last_table}
 use Rattle.hw_lines.specs.Valid.{LineFits, Valid, verdict}
 use Rattle.hw_verdict.proofs.Proved.{optimal, infeasible}
-use Rattle.hw_report.specs.Reports.{Report, bad_flat, too_long}
-use Rattle.hw_app.specs.Certificates.{cert_outcome}
-use Rattle.hw_app.specs.CheckFlat.{report_of, report_of_check, read_report, texts_report, Means, ChecksText, Checks}
+use Rattle.hw_report.specs.Reports.{Report, by_number, bad_flat, too_long}
+use Rattle.hw_app.specs.Certificates.{cert_outcome, report_of, report_of_check}
+use Rattle.hw_app.specs.CheckFlat.{read_report, texts_report, Means, ChecksText, Checks}
 use Rattle.hw_app.specs.Checking.{Finds, ChecksCert}
 use Rattle.hw_app.specs.Ends.{Ends}
 use Rattle.hw_app.specs.Forms.{word_at}
@@ -44,8 +44,8 @@ within : (text bytes : List ℕ) → length text ≤ most_bytes → texts_report
 within text bytes h = ap (λ b. cond b (too_long Flat) (read_report (flat_text text) bytes)) (le-ltb _ _ h)
 
 -- the report of the bytes, where the text is one of the problem
-decided_by : (text bytes : Option (List ℕ)) (f : Problem) (o : CertOutcome) → IfSome text (IsTextOf f) → IfSome bytes (λ bs. o ≡ cert_outcome f bs) → IfSome text (λ t. IfSome bytes (λ b. report_of o ≡ texts_report t b))
-decided_by text bytes f o h k = told_map text (λ t is_text. told_map bytes (λ b e. ap report_of e ∙ sym (within t b is_text.0 ∙ ap (λ p. read_report p b) is_text.1)) k) h
+decided_by : (text bytes : Option (List ℕ)) (f : Problem) (o : CertOutcome) → IfSome text (IsTextOf f) → IfSome bytes (λ bs. o ≡ cert_outcome f bs) → IfSome text (λ t. IfSome bytes (λ b. report_of by_number o ≡ texts_report t b))
+decided_by text bytes f o h k = told_map text (λ t is_text. told_map bytes (λ b e. ap (report_of by_number) e ∙ sym (within t b is_text.0 ∙ ap (λ p. read_report p b) is_text.1)) k) h
 
 -- the same where the text has a bad line
 bad_by : (text bytes : Option (List ℕ)) (number : ℕ) (word : FlatWord) → IfSome text (IsBadAt number word) → IfSome text (λ t. IfSome bytes (λ b. bad_flat number word ≡ texts_report t b))
@@ -63,7 +63,7 @@ text_checked {f = f} (Shows v) flat reads h = record { problem = f; limits = fla
 text_checked {f = f} (Wrong number word hint) flat reads h = record { problem = f; limits = flat; reads = reads; outcome = h.comes; shown = tt }
 text_checked {f = f} TooLong flat reads h = record { problem = f; limits = flat; reads = reads; outcome = h.comes; shown = tt }
 
-checks : {f : Problem} {text bytes : Option (List ℕ)} (o : CertOutcome) → IsFlat f → IfSome text (IsTextOf f) → Finds f bytes (cert_outcome f) o → Checks text bytes (report_of o)
+checks : {f : Problem} {text bytes : Option (List ℕ)} (o : CertOutcome) → IsFlat f → IfSome text (IsTextOf f) → Finds f bytes (cert_outcome f) o → Checks text bytes (report_of by_number o)
 checks {f = f} {text = text} {bytes = bytes} (Shows v) flat reads h = let t = text_checked (Shows v) flat reads h in record { texts = (refl, t); decided = decided_by text bytes f (Shows v) reads h.comes.1 }
 checks {f = f} {text = text} {bytes = bytes} (Wrong number word hint) flat reads h = record { texts = text_checked (Wrong number word hint) flat reads h; decided = decided_by text bytes f (Wrong number word hint) reads h.comes }
 checks {f = f} {text = text} {bytes = bytes} TooLong flat reads h = record { texts = text_checked TooLong flat reads h; decided = decided_by text bytes f TooLong reads h.comes }
@@ -81,23 +81,23 @@ check_stops {x = x} {y = y} words stop h ends = record {
 both_entered : {name cert : List ℕ} {x y z : DeskState} {f : Problem} {result : Result CertOutcome CertStop} → ReadsFlat name x y (Ok f) → ChecksCert f cert y z result → Entered (named Flat name ∷ named Certificate cert ∷ []) x z
 both_entered {name = name} h k = entered_on (named Flat name ∷ []) (flat_entered h) k.enters refl
 
-check_works : {name cert : List ℕ} {x y z : DeskState} {f : Problem} (result : Result CertOutcome CertStop) → ReadsFlat name x y (Ok f) → ChecksCert f cert y z result → Works (named Flat name ∷ named Certificate cert ∷ []) None x z (report_of_check result)
+check_works : {name cert : List ℕ} {x y z : DeskState} {f : Problem} (result : Result CertOutcome CertStop) → ReadsFlat name x y (Ok f) → ChecksCert f cert y z result → Works (named Flat name ∷ named Certificate cert ∷ []) None x z (report_of_check by_number result)
 check_works (Ok (Shows v)) h k = answers None _ refl (both_entered h k) (k.finds.0 ∙ h.answer.2) tt
 check_works {name = name} {cert = cert} (Ok (Wrong number word hint)) h k = refuses None (named Flat name ∷ []) (named Certificate cert) [] _ refl refl (both_entered h k) (k.finds.0 ∙ h.answer.2) tt
 check_works {name = name} {cert = cert} (Ok TooLong) h k = refuses None (named Flat name ∷ []) (named Certificate cert) [] _ refl refl (both_entered h k) (k.finds.0 ∙ h.answer.2) tt
 check_works {name = name} {cert = cert} (Err Fault) h k = refuses None (named Flat name ∷ []) (named Certificate cert) [] _ refl refl (both_entered h k) (rose_on h.answer.2 k.finds) tt
 check_works {name = name} {cert = cert} (Err NoMemory) h k = wants_memory None (named Flat name ∷ named Certificate cert ∷ []) [] refl (both_entered h k) (k.finds ∙ h.answer.2)
 
-check_says : {name cert : List ℕ} {x y z : DeskState} {f : Problem} (result : Result CertOutcome CertStop) → ReadsFlat name x y (Ok f) → ChecksCert f cert y z result → is_common (report_of_check result) ≡ false → Checks (x.held name) (x.held cert) (report_of_check result)
+check_says : {name cert : List ℕ} {x y z : DeskState} {f : Problem} (result : Result CertOutcome CertStop) → ReadsFlat name x y (Ok f) → ChecksCert f cert y z result → is_common (report_of_check by_number result) ≡ false → Checks (x.held name) (x.held cert) (report_of_check by_number result)
 check_says {cert = cert} {x = x} {y = y} {f = f} (Ok o) h k e = checks o h.answer.0 h.answer.1 (subst (λ (told : Option (List ℕ)). Finds f told (cert_outcome f) o) (ap (λ held. held cert) h.enters.only.held) k.finds.1)
 check_says (Err Fault) h k e = absurd (cc)
 check_says (Err NoMemory) h k e = absurd (cc)
 
 -- the certificate is checked
-pub check_meets : {x y z end : DeskState} {s : Status} {f : Problem} (words : List (List ℕ)) (result : Result CertOutcome CertStop) → ReadsFlat (word_at words 2) x y (Ok f) → ChecksCert f (word_at words 3) y z result → Ends (report_of_check result) z end s → FormMeets CheckFlat words x end s
+pub check_meets : {x y z end : DeskState} {s : Status} {f : Problem} (words : List (List ℕ)) (result : Result CertOutcome CertStop) → ReadsFlat (word_at words 2) x y (Ok f) → ChecksCert f (word_at words 3) y z result → Ends (report_of_check by_number result) z end s → FormMeets CheckFlat words x end s
 check_meets {z = z} words result h k ends = record {
   mid = z;
-  report = Some (report_of_check result);
+  report = Some (report_of_check by_number result);
   works = check_works result h k;
   says = check_says result h k;
   ends = ends;

@@ -10,31 +10,17 @@ use Rattle.hw_lines.specs.declared.check.Verdict.{Verdict}
 use Rattle.hw_lines.specs.declared.check.Verdict.TheVariants as verdicts
 use Rattle.hw_lines.specs.declared.line.Line.{Line}
 use Rattle.hw_lines.specs.Valid.{verdict, LineFits, Valid}
-use Rattle.hw_report.specs.Reports.{Report, by_number, checked, refused, bad_flat, read_fault, too_long, no_memory}
-use Rattle.hw_app.specs.Certificates.{cert_outcome}
+use Rattle.hw_report.specs.Reports.{Report, by_number, checked, refused, bad_flat, too_long}
+use Rattle.hw_app.specs.Certificates.{cert_outcome, report_of}
 use Rattle.hw_app.specs.Inputs.{IsTextOf, IsBadAt}
 use Rattle.hw_app.specs.Works.{most_bytes}
 use Rattle.hw_app.specs.declared.outcome.CertOutcome.{CertOutcome}
 use Rattle.hw_app.specs.declared.outcome.CertOutcome.TheVariants.{Shows, Wrong, TooLong}
-use Rattle.hw_app.specs.declared.outcome.CertStop.{CertStop}
-use Rattle.hw_app.specs.declared.outcome.CertStop.TheVariants as stops
-
--- the report of an outcome
-abbrev pub report_of : CertOutcome → Report
-report_of (Shows v) = checked v by_number
-report_of (Wrong number word hint) = refused number word hint
-report_of TooLong = too_long Certificate
-
--- the report of what a check of a certificate gives
-abbrev pub report_of_check : Result CertOutcome CertStop → Report
-report_of_check (Ok outcome) = report_of outcome
-report_of_check (Err stops.Fault) = read_fault Certificate
-report_of_check (Err stops.NoMemory) = no_memory
 
 -- a certificate of what a text reads as
 abbrev pub read_report : Result Problem Fault → List ℕ → Report
 read_report (Err bad) bytes = bad_flat bad.number bad.word
-read_report (Ok f) bytes = report_of (cert_outcome f bytes)
+read_report (Ok f) bytes = report_of by_number (cert_outcome f bytes)
 
 -- a flat text and a certificate, each by its bytes
 abbrev pub texts_report : List ℕ → List ℕ → Report

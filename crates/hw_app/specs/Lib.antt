@@ -8,4 +8,7 @@ pub mod Certificates
 pub mod Checking
 pub mod SolveFlat
 pub mod CheckFlat
+pub mod PortInputs
+pub mod CheckPort
+pub mod Flattening
 pub mod Run

@@ -5,6 +5,9 @@ ghost use Rattle.hw_cert.specs.Nexts.{rest_of};
 ghost use Rattle.hw_lines.specs.declared.line.Line.{Line as CertLine};
 ghost use Rattle.hw_check.specs.Follows.{Follows};
 ghost use Rattle.hw_desk.specs.Calls.{Moves};
+ghost use Rattle.hw_report.specs.Printing.{CanPrint};
+ghost use Rattle.hw_report.specs.Seen.{names_seen, report_seen};
+ghost use Rattle.hw_app.specs.Certificates.{report_of_check};
 ghost use Rattle.hw_app.specs.Checking.{ChecksCert, FindsOrStops, GoesFurther, IsReady, Steps, rest_outcome, of_line_stop, of_check_stop};
 
 use crate::outcome::{CertOutcome, CertStop};
@@ -12,7 +15,7 @@ use hw_cert::{LineReader, LineStop, Next};
 use hw_check::{CheckStop, Checker};
 use hw_desk::{Desk, Feed};
 use hw_flat::Flat;
-use hw_report::RefusedWord;
+use hw_report::{Names, RefusedWord, Report};
 use std::alloc::Global;
 
 /// Where a check stands behind one line more.
@@ -121,5 +124,23 @@ fn no_line(stop: LineStop) -> Result<CertOutcome, CertStop>
         LineStop::Fault => Err(CertStop::Fault),
         LineStop::TooLong => Ok(CertOutcome::TooLong),
         LineStop::NoMemory => Err(CertStop::NoMemory),
+    }
+}
+
+/// The report of what a check of a certificate gives, in these names.
+pub fn check_report(checked: Result<CertOutcome, CertStop>, names: Names) -> Report
+    ensures value { report_seen result ≡ report_of_check (names_seen names.entry) checked }
+    ensures printed { CanPrint (report_seen result) }
+{
+    match checked {
+        Ok(CertOutcome::Shows(verdict)) => Report::Checked { verdict, names },
+        Ok(CertOutcome::Wrong { number, word, hint }) => Report::Refused { number, word, hint },
+        Ok(CertOutcome::TooLong) => Report::TooLong {
+            feed: Feed::Certificate,
+        },
+        Err(CertStop::Fault) => Report::ReadFault {
+            feed: Feed::Certificate,
+        },
+        Err(CertStop::NoMemory) => Report::Memory,
     }
 }

@@ -1,22 +1,18 @@
 //! `check flat NAME CERT`: a certificate of a flat text.
 
-ghost use Rattle.std.specs.Prelude.{◌≡◌, IsTrue, map, string_bytes};
+ghost use Rattle.std.specs.Prelude.{IsTrue, map, string_bytes};
 ghost use Rattle.hw_desk.specs.State.{IsNew};
-ghost use Rattle.hw_report.specs.Printing.{CanPrint};
-ghost use Rattle.hw_report.specs.Seen.{report_seen};
-ghost use Rattle.hw_app.specs.CheckFlat.{report_of_check};
 ghost use Rattle.hw_app.specs.Forms.{fits, words_of as wanted_of};
 ghost use Rattle.hw_app.specs.Run.{FormMeets};
 
-use crate::cert::check_cert;
+use crate::cert::{check_cert, check_report};
 use crate::form::Form;
 use crate::input::{no_flat, read_flat, stopped};
-use crate::outcome::{CertOutcome, CertStop};
 use crate::running::finish;
 use crate::status::Status;
 use crate::words::name_at;
-use hw_desk::{Desk, Feed};
-use hw_report::{Names, Report};
+use hw_desk::Desk;
+use hw_report::Names;
 use std::alloc::Global;
 
 /// Reads the flat text, checks the certificate of it, and reports.
@@ -30,26 +26,5 @@ pub fn check_flat<D: Desk>(alloc: Global, desk: &mut D, words: &[String]) -> Sta
         Err(stop) => return finish(desk, &no_flat(stop)),
     };
     let checked = check_cert(alloc, desk, &flat, name_at(words, 3));
-    finish(desk, &check_report(checked))
-}
-
-/// The report of what a check of a certificate gives.
-fn check_report(checked: Result<CertOutcome, CertStop>) -> Report<'static>
-    ensures value { report_seen result ≡ report_of_check checked }
-    ensures printed { CanPrint (report_seen result) }
-{
-    match checked {
-        Ok(CertOutcome::Shows(verdict)) => Report::Checked {
-            verdict,
-            names: Names::Flat,
-        },
-        Ok(CertOutcome::Wrong { number, word, hint }) => Report::Refused { number, word, hint },
-        Ok(CertOutcome::TooLong) => Report::TooLong {
-            feed: Feed::Certificate,
-        },
-        Err(CertStop::Fault) => Report::ReadFault {
-            feed: Feed::Certificate,
-        },
-        Err(CertStop::NoMemory) => Report::Memory,
-    }
+    finish(desk, &check_report(checked, Names::Flat))
 }

@@ -12,6 +12,10 @@ pub enum Form {
     SolveFlat,
     /// `check flat NAME CERT` checks a certificate of a flat text.
     CheckFlat,
+    /// `check port INSTANCE TIDES CERT` checks a certificate of a port.
+    CheckPort,
+    /// `flatten INSTANCE TIDES` writes the flat text of a port.
+    Flatten,
 }
 
 /// A word that stands for itself.
@@ -20,6 +24,8 @@ pub enum Keyword {
     Solve,
     Check,
     Flat,
+    Port,
+    Flatten,
 }
 
 /// What a word of a form has to be.
@@ -35,7 +41,12 @@ pub enum Wanted {
 }
 
 /// The forms that there are.
-pub const FORMS: [Form; 2] = [Form::SolveFlat, Form::CheckFlat];
+pub const FORMS: [Form; 4] = [
+    Form::SolveFlat,
+    Form::CheckFlat,
+    Form::CheckPort,
+    Form::Flatten,
+];
 
 /// The greatest budget, in timetables that are looked at.
 pub const MOST_BUDGET: u32 = 100_000;
@@ -60,6 +71,18 @@ pub fn words_of(form: Form) -> &'static [Wanted]
             Wanted::Input(Feed::Flat),
             Wanted::Input(Feed::Certificate),
         ],
+        Form::CheckPort => &[
+            Wanted::Keyword(Keyword::Check),
+            Wanted::Keyword(Keyword::Port),
+            Wanted::Input(Feed::Instance),
+            Wanted::Input(Feed::Tides),
+            Wanted::Input(Feed::Certificate),
+        ],
+        Form::Flatten => &[
+            Wanted::Keyword(Keyword::Flatten),
+            Wanted::Input(Feed::Instance),
+            Wanted::Input(Feed::Tides),
+        ],
     }
 }
 
@@ -71,5 +94,7 @@ pub fn keyword_text(keyword: Keyword) -> &'static str
         Keyword::Solve => "solve",
         Keyword::Check => "check",
         Keyword::Flat => "flat",
+        Keyword::Port => "port",
+        Keyword::Flatten => "flatten",
     }
 }

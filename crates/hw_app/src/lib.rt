@@ -6,9 +6,12 @@
 
 mod cert;
 mod check_flat;
+mod check_port;
+mod flatten;
 mod form;
 mod input;
 mod outcome;
+mod port_input;
 mod running;
 mod solve_flat;
 mod status;

@@ -6,6 +6,8 @@ ghost use Rattle.hw_app.specs.Ends.{Ends};
 ghost use Rattle.hw_app.specs.Run.{RunMeets};
 
 use crate::check_flat::check_flat;
+use crate::check_port::check_port;
+use crate::flatten::flatten_port;
 use crate::form::Form;
 use crate::solve_flat::solve_flat;
 use crate::status::{Status, status_of};
@@ -25,6 +27,8 @@ pub fn run<D: Desk>(alloc: Global, words: &[String], desk: &mut D) -> Status
         Err(place) => finish(desk, &Report::Words { place }),
         Ok(Form::SolveFlat) => solve_flat(alloc, desk, words),
         Ok(Form::CheckFlat) => check_flat(alloc, desk, words),
+        Ok(Form::CheckPort) => check_port(alloc, desk, words),
+        Ok(Form::Flatten) => flatten_port(alloc, desk, words),
     }
 }
 

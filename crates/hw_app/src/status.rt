@@ -93,7 +93,9 @@ pub fn status_of(report: &Report) -> Status
         Report::TooLong { .. } => Status::TooLong,
         Report::Memory => Status::NoMemory,
         Report::Clashed { .. } | Report::ClashHolds => Status::Infeasible,
-        Report::Met { .. } | Report::After { .. } | Report::AuditEnd => Status::Optimal,
+        Report::Met { .. } | Report::After { .. } | Report::AuditEnd | Report::FlatText { .. } => {
+            Status::Optimal
+        }
         Report::Step { .. } => Status::Unfinished,
     }
 }

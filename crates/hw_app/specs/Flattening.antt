@@ -1,0 +1,33 @@
+-- `flatten INSTANCE TIDES`: the flat text of a port.
+use Rattle.std.specs.Prelude.{◌≡◌, ℕ, List, Option, Some, None, Ok}
+use Rattle.hw_desk.specs.State.{DeskState}
+use Rattle.hw_flat.specs.Text.{flat_text}
+use Rattle.hw_flat.specs.TextWritten.{problem_text}
+use Rattle.hw_port.specs.Whole.{Parts}
+use Rattle.hw_tide.specs.Levels.{TideParts}
+use Rattle.hw_port_rules.specs.Alike.{IsSameProblem}
+use Rattle.hw_port_rules.specs.Flattened.{flattened}
+use Rattle.hw_report.specs.Reports.{Report, flattened_text}
+use Rattle.hw_app.specs.PortInputs.{IsPortOf, NoPort}
+
+-- the one text of the port's flat problem: it reads back as that problem, which says of each list of slots what the port says
+pub record IsFlatTextOf (p : Parts) (h : TideParts) (text : List ℕ) : Type 0 where
+  pub written : text ≡ problem_text (flattened p h)
+  pub back : flat_text text ≡ Ok (flattened p h)
+  pub same : IsSameProblem p h (flattened p h)
+
+-- a port with its tide, that of the instance and of the table where they are told, and its flat text
+pub record Flattens (instance table : Option (List ℕ)) (text : List ℕ) : Type 0 where
+  pub port : Parts
+  pub tide : TideParts
+  pub reads : IsPortOf instance table port tide
+  pub flat : IsFlatTextOf port tide text
+
+-- what a report says of the instance and of the table, each where it is told
+abbrev pub FlattensTexts : Option (List ℕ) → Option (List ℕ) → Option Report → Type 0
+FlattensTexts instance table None = ⊥
+FlattensTexts instance table (Some (flattened_text text)) = Flattens instance table text
+FlattensTexts instance table (Some r) = NoPort instance table r
+
+abbrev pub FlattenSays : List ℕ → List ℕ → DeskState → Option Report → Type 0
+FlattenSays instance table old r = FlattensTexts (old.held instance) (old.held table) r

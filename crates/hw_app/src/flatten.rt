@@ -1,0 +1,65 @@
+//! `flatten INSTANCE TIDES`: the flat text of a port.
+
+ghost use Rattle.std.specs.Prelude.{◌≡◌, IfOk, IsTrue, length, map, string_bytes};
+ghost use Rattle.hw_desk.specs.State.{IsNew};
+ghost use Rattle.hw_report.specs.Printing.{CanPrint};
+ghost use Rattle.hw_report.specs.Reports.{flattened_text};
+ghost use Rattle.hw_report.specs.Seen.{report_seen};
+ghost use Rattle.hw_app.specs.Flattening.{IsFlatTextOf};
+ghost use Rattle.hw_app.specs.Forms.{fits, words_of as wanted_of};
+ghost use Rattle.hw_app.specs.Run.{FormMeets};
+
+use crate::form::Form;
+use crate::port_input::{no_port, no_tide, read_instance, read_table};
+use crate::running::finish;
+use crate::status::Status;
+use crate::words::name_at;
+use hw_desk::Desk;
+use hw_draft::flatten;
+use hw_model::NoMemory;
+use hw_port::Port;
+use hw_report::Report;
+use hw_tide::Tide;
+use std::alloc::Global;
+
+/// Reads the instance and then its tide table, and sends the flat text of the port. The whole text
+/// stands in memory before the first byte is sent: up to some 400,000 bytes.
+pub fn flatten_port<D: Desk>(alloc: Global, desk: &mut D, words: &[String]) -> Status
+    requires form { IsTrue (fits (wanted_of Form.Flatten) (map string_bytes words.now)) }
+    requires fresh { IsNew (D.state desk.old) }
+    ensures { FormMeets Form.Flatten (map string_bytes words.now) (D.state desk.old) (D.state desk.new) result }
+{
+    let port = match read_instance(alloc, desk, name_at(words, 1)) {
+        Ok(port) => port,
+        Err(stop) => return finish(desk, &no_port(stop)),
+    };
+    let tide = match read_table(alloc, desk, &port, name_at(words, 2)) {
+        Ok(tide) => tide,
+        Err(stop) => return finish(desk, &no_tide(stop)),
+    };
+    match flat_text(alloc, &port, &tide) {
+        Ok(text) => finish(desk, &flat_report(&text)),
+        Err(_) => finish(desk, &Report::Memory),
+    }
+}
+
+/// The flat text of a port with its tide.
+fn flat_text(alloc: Global, port: &Port, tide: &Tide) -> Result<Vec<u8>, NoMemory>
+    requires columns { tide.now.columns ≡ length port.now.waypoints }
+    ensures { IfOk result (λ text. IsFlatTextOf port.now tide.now text.items) }
+{
+    let flat = flatten(alloc, port, tide)?;
+    // The call tells that the problem is within the limits.
+    let _shape = flat.shape();
+    let mut text = Vec::new(alloc);
+    flat.write(&mut text)?;
+    Ok(text)
+}
+
+/// The report that is a flat text.
+fn flat_report(text: &[u8]) -> Report
+    ensures value { report_seen result ≡ flattened_text text.now }
+    ensures printed { CanPrint (report_seen result) }
+{
+    Report::FlatText { text }
+}
