@@ -15,7 +15,7 @@ use Rattle.hw_port_rules.specs.Flattened.{flattened}
 use Rattle.hw_port_verdict.proofs.Sound.{sound_port_verdict_law}
 use Rattle.hw_report.specs.Reports.{by_name, no_memory}
 use Rattle.hw_app.specs.Certificates.{cert_outcome, report_of, report_of_check}
-use Rattle.hw_app.specs.CheckPort.{MeansOfPort, ShownOfPort, ChecksPort, ChecksPortTexts}
+use Rattle.hw_app.specs.CheckPort.{MeansOfPort, ChecksPort, ChecksPortTexts}
 use Rattle.hw_app.specs.Checking.{Finds, ChecksCert}
 use Rattle.hw_app.specs.Ends.{Ends}
 use Rattle.hw_app.specs.Forms.{word_at}

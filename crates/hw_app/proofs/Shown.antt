@@ -1,10 +1,10 @@
 -- What a certificate of a flat text comes to.
-use Rattle.std.proofs.Common.{◌≡◌, ◌≤◌, ◌++◌, ◌∙◌, ℕ, cond, List, [], ◌∷◌, length, Option, Some, None, Result, Ok, Err, All, false, refl, sym, ap, subst}
+use Rattle.std.proofs.Common.{◌≡◌, ◌≤◌, ◌∙◌, ℕ, cond, List, [], ◌∷◌, length, Option, Some, None, Result, Ok, Err, All, false, refl, sym, ap, subst}
 use Rattle.std.specs.Prelude.{IfSome}
 use Rattle.std.proofs.lemmas.Bool.{le-ltb}
 use Rattle.hw_model.specs.Limits.{IsFlat}
 use Rattle.hw_model.specs.Problem.{Problem}
-use Rattle.hw_desk.specs.State.{DeskState, Rose}
+use Rattle.hw_desk.specs.State.{DeskState}
 use Rattle.hw_desk.specs.declared.desk.Feed.TheVariants.{Flat, Certificate}
 use Rattle.hw_flat.specs.Text.{flat_text}
 use Rattle.hw_flat.specs.declared.fault.FlatWord.{FlatWord}
@@ -14,7 +14,7 @@ use Rattle.hw_lines.specs.declared.line.Line.{Line}
 use Rattle.hw_lines.specs.Lines.{last_table}
 use Rattle.hw_lines.specs.Valid.{LineFits, Valid, verdict}
 use Rattle.hw_verdict.proofs.Proved.{optimal, infeasible}
-use Rattle.hw_report.specs.Reports.{Report, by_number, bad_flat, too_long}
+use Rattle.hw_report.specs.Reports.{by_number, bad_flat, too_long}
 use Rattle.hw_app.specs.Certificates.{cert_outcome, report_of, report_of_check}
 use Rattle.hw_app.specs.CheckFlat.{read_report, texts_report, Means, ChecksText, Checks}
 use Rattle.hw_app.specs.Checking.{Finds, ChecksCert}

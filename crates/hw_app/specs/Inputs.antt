@@ -1,5 +1,5 @@
 -- Reading an input.
-use Rattle.std.specs.Prelude.{◌≡◌, ◌≤◌, ◌<◌, ℕ, List, true, Option, Result, Ok, Err, IfSome, IfOk, IsErrOf, ⊤, length, Vec}
+use Rattle.std.specs.Prelude.{◌≡◌, ◌≤◌, ◌<◌, ℕ, List, true, Option, Result, Ok, Err, IfSome, length, Vec}
 use Rattle.std.specs.declared.alloc.Global.{Global}
 use Rattle.hw_model.specs.Limits.{IsFlat}
 use Rattle.hw_model.specs.Problem.{Problem}

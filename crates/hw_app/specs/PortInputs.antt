@@ -3,7 +3,6 @@ use Rattle.std.specs.Prelude.{◌≡◌, ◌≢◌, ◌≤◌, ℕ, List, Option
 use Rattle.hw_desk.specs.State.{DeskState}
 use Rattle.hw_desk.specs.declared.desk.Feed.TheVariants.{Instance, Tides}
 use Rattle.hw_desk.specs.declared.whole.ReadStop.TheVariants as stops
-use Rattle.hw_port.specs.declared.fault.PortFault.{PortFault}
 use Rattle.hw_port.specs.Kept.{PortKept}
 use Rattle.hw_port.specs.Whole.{Parts}
 use Rattle.hw_read.specs.Instance.{Reads as ReadsPort}
