@@ -1,10 +1,11 @@
 -- Inputs that were begun, one after another, and the work that ends at one of them.
 use Rattle.std.proofs.Common.{◌≡◌, ◌≤◌, ◌<◌, ◌==◌, ◌||◌, ◌++◌, ◌∙◌, ℕ, Bool, true, false, cond, List, [], ◌∷◌, Option, Some, None, length, append-nil, inl, refl, sym, ap, subst, arith}
 use Rattle.std.specs.Prelude.{IfSome, IsSomeAnd}
-use Rattle.hw_desk.specs.Calls.{OnlyFeed}
+use Rattle.hw_desk.specs.Calls.{OnlyFeed, OnlyTray}
 use Rattle.hw_desk.specs.State.{DeskState, FeedState, put_feed, place_of, same_feed, Rose}
 use Rattle.hw_desk.specs.declared.desk.Feed.{Feed}
 use Rattle.hw_desk.specs.declared.desk.Feed.TheVariants.{Flat, Instance, Tides, Certificate, Plan, Events}
+use Rattle.hw_desk.specs.declared.desk.Tray.{Tray}
 use Rattle.hw_desk.specs.declared.whole.ReadStop.{ReadStop}
 use Rattle.hw_desk.specs.declared.whole.ReadStop.TheVariants as stops
 use Rattle.hw_report.specs.Reports.{Report, read_fault, too_long, no_memory}
@@ -74,6 +75,24 @@ entered_on {feed = feed} {name = name} {x = x} {y = y} {z = z} done h k e = reco
   };
   trays = k.only.trays ∙ h.trays;
   write_faults = k.only.write_faults ∙ h.write_faults;
+}
+
+-- what was begun stays so while no feed is touched
+still_begun : (y z : DeskState) (done : List Named) → z.feeds ≡ y.feeds → AllBegun y done → AllBegun z done
+still_begun y z [] e b = tt
+still_begun y z (input ∷ more) e b = (
+  record {
+    begun = ap (λ feeds. (feeds input.feed).begun) e ∙ b.0.begun;
+    named = subst (λ (s : FeedState). IfSome s.name (λ n. n ≡ input.name)) (sym (ap (λ feeds. feeds input.feed) e)) b.0.named;
+  },
+  still_begun y z more e b.1,
+)
+
+pub begun_past : {t : Tray} {inputs : List Named} {x y z : DeskState} → OnlyTray t y z → BeginsAll inputs x y → BeginsAll inputs x z
+begun_past {inputs = inputs} {y = y} {z = z} h b = record {
+  held = h.held ∙ b.held;
+  begun = still_begun y z inputs h.feeds b.begun;
+  others = λ f out. ap (λ feeds. feeds f) h.feeds ∙ b.others f out;
 }
 
 pub last_is : (done : List Named) (last : Named) → last_of (done ++ last ∷ []) ≡ Some last

@@ -2,6 +2,7 @@ mod Begun
 mod FlatForms
 mod Checked
 mod Chained
+mod Searched
 mod Solved
 mod Shown
 mod PortForms

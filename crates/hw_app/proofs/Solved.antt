@@ -1,28 +1,30 @@
--- What a walk says of a flat text.
-use Rattle.std.proofs.Common.{◌≡◌, ◌≤◌, ◌∙◌, ℕ, List, [], ◌∷◌, Option, Some, None, Ok, Err, refl, ap, sym, subst}
-use Rattle.std.specs.Prelude.{IfSome, unwrap_or}
-use Rattle.hw_desk.specs.State.{DeskState}
-use Rattle.hw_desk.specs.declared.desk.Feed.TheVariants.{Flat}
+-- What a certified search says of a flat text.
+use Rattle.std.proofs.Common.{◌≡◌, ◌∙◌, ℕ, List, [], ◌∷◌, Option, Some, None, Ok, Err, inr, refl, ap, sym, subst, arith}
+use Rattle.std.specs.Prelude.{unwrap_or}
 use Rattle.hw_model.specs.Limits.{IsFlat}
 use Rattle.hw_model.specs.Problem.{Problem}
-use Rattle.hw_model.specs.Timetables.{NonePermitted}
-use Rattle.hw_model.specs.Walk.{table_count}
-use Rattle.hw_rules.specs.Outcomes.{WalkedTo, FoundIsBest, IsNoneLeft}
-use Rattle.hw_rules.specs.declared.outcome.Walked.{Walked}
-use Rattle.hw_rules.specs.declared.outcome.Walked.TheVariants.{Best, NoneLeft, Spent}
-use Rattle.hw_report.specs.Reports.{no_memory}
+use Rattle.hw_desk.specs.State.{DeskState, put_tray, Rose}
+use Rattle.hw_desk.specs.declared.desk.Feed.TheVariants.{Flat}
+use Rattle.hw_desk.specs.declared.desk.Tray.TheVariants.{Proof}
+use Rattle.hw_progress.specs.declared.outcome.Solved.{Solved}
+use Rattle.hw_progress.specs.declared.outcome.Solved.TheVariants.{Optimal, Infeasible, Unfinished, NoMemory, LogFailed}
+use Rattle.hw_report.specs.Reports.{Report, by_number, solved}
+use Rattle.hw_report.specs.declared.report.Head.{Head}
+use Rattle.hw_report.specs.declared.report.Head.TheVariants as heads
 use Rattle.hw_text.specs.Numbers.{number_from_to}
-use Rattle.hw_app.specs.Ends.{Ends}
+use Rattle.hw_app.specs.Certified.{Finds, IsCutShort}
+use Rattle.hw_app.specs.Ends.{Ends, EndsWith}
 use Rattle.hw_app.specs.Forms.{word_at, number_in}
-use Rattle.hw_app.specs.Inputs.{IsTextOf, ReadsFlat, report_of_flat}
-use Rattle.hw_app.specs.Run.{FormMeets}
-use Rattle.hw_app.specs.Scope.{named}
-use Rattle.hw_app.specs.SolveFlat.{SolvesText, report_of_walk}
-use Rattle.hw_app.specs.Works.{Works}
+use Rattle.hw_app.specs.Inputs.{ReadsFlat, report_of_flat}
+use Rattle.hw_app.specs.Run.{FormMeets, SaysOwn}
+use Rattle.hw_app.specs.Scope.{named, MakesProof}
+use Rattle.hw_app.specs.Searching.{SearchLeaves, LeavesFound, SearchesTo, report_of_search}
+use Rattle.hw_app.specs.SolveFlat.{SolvesText}
+use Rattle.hw_app.specs.Works.{Works, WorksTo}
 use Rattle.hw_app.specs.declared.form.Form.TheVariants.{SolveFlat}
 use Rattle.hw_app.specs.declared.input.FlatStop.{FlatStop}
 use Rattle.hw_app.specs.declared.status.Status.{Status}
-use Rattle.hw_app.proofs.Begun.{answers, wants_memory}
+use Rattle.hw_app.proofs.Begun.{Entered, begun_past}
 use Rattle.hw_app.proofs.FlatForms.{flat_entered, no_flat_works, no_flat_says}
 
 -- the flat text gives no problem
@@ -30,37 +32,64 @@ pub solve_stops : {x y z : DeskState} {s : Status} (words : List (List ℕ)) (st
 solve_stops {x = x} {y = y} words stop h ends = record {
   mid = y;
   report = Some (report_of_flat stop);
-  works = no_flat_works None [] stop h;
-  says = no_flat_says (λ r. SolvesText (x.held (word_at words 2)) (number_in 1 100_000 (word_at words 3)) (Some r)) stop h (λ number word bad. bad);
+  works = no_flat_works (Some (word_at words 4)) [] stop h;
+  says = no_flat_says (λ r. SolvesText (x.held (word_at words 2)) (number_in 1 100_000 (word_at words 3)) (word_at words 4) x y (Some r)) stop h (λ number word bad. bad);
   ends = ends;
 }
 
--- memory was wanting in the walk
-pub solve_wants : {x y z : DeskState} {s : Status} {f : Problem} (words : List (List ℕ)) → ReadsFlat (word_at words 2) x y (Ok f) → Ends no_memory y z s → FormMeets SolveFlat words x z s
-solve_wants {x = x} {y = y} words h ends = record {
-  mid = y;
-  report = Some no_memory;
-  works = wants_memory None (named Flat (word_at words 2) ∷ []) [] refl (flat_entered h) h.answer.2;
-  says = λ e. absurd (cc);
+-- Proof was made behind a text that was read
+makes_past : {f : Problem} {name proof : List ℕ} {budget : ℕ} {x y z : DeskState} {answer : Solved} → ReadsFlat name x y (Ok f) → SearchesTo f budget proof y z answer → MakesProof proof x z
+makes_past {z = z} h k = record {
+  trays = k.only.trays ∙ ap (λ trays. put_tray trays Proof (z.trays Proof)) h.enters.only.trays;
+  made = k.made;
+  named = k.named;
+}
+
+-- the work of a search that found something
+found_works : {f : Problem} {name proof : List ℕ} {budget : ℕ} {x y z : DeskState} {answer : Solved} (head : Head) (table : Option (List ℕ)) → ReadsFlat name x y (Ok f) → SearchesTo f budget proof y z answer → z.write_faults ≡ y.write_faults → Works (named Flat name ∷ []) (Some proof) x z (solved head f by_number table)
+found_works {name = name} head table h k kept = record {
+  done = named Flat name ∷ [];
+  rest = [];
+  parts = refl;
+  begins = begun_past k.only (flat_entered h).begins;
+  upto = refl;
+  trays = inr (makes_past h k);
+  read_cause = k.only.read_faults ∙ h.answer.2;
+  long_cause = tt;
+  write_faults = kept ∙ h.enters.only.write_faults;
+}
+
+budget_is : (word : List ℕ) {budget : ℕ} → number_from_to 1 100_000 word ≡ Some budget → number_in 1 100_000 word ≡ budget
+budget_is word e = ap (λ (o : Option ℕ). unwrap_or o 0) e
+
+-- what was found, and what of it is said
+found : {f : Problem} {budget : ℕ} {x y z end : DeskState} {answer : Solved} {s : Status} (words : List (List ℕ)) (head : Head) (table : Option (List ℕ)) → number_in 1 100_000 (word_at words 3) ≡ budget → ReadsFlat (word_at words 2) x y (Ok f) → SearchesTo f budget (word_at words 4) y z answer → LeavesFound f budget head table y z → Ends (solved head f by_number table) z end s → FormMeets SolveFlat words x end s
+found {f = f} {x = x} {z = z} words head table e h k left ends = record {
+  mid = z;
+  report = Some (solved head f by_number table);
+  works = found_works head table h k left.write_faults;
+  says = λ own. record { limits = h.answer.0; reads = h.answer.1; by_numbers = refl; made = makes_past h k; finds = subst (λ (n : ℕ). Finds f n head table z) (sym e) left.finds };
   ends = ends;
 }
 
-walk_works : {name : List ℕ} {x y : DeskState} {f : Problem} (budget : ℕ) (w : Walked) → ReadsFlat name x y (Ok f) → Works (named Flat name ∷ []) None x y (report_of_walk budget f w)
-walk_works budget (Best table c) h = answers None _ refl (flat_entered h) h.answer.2 tt
-walk_works budget NoneLeft h = answers None _ refl (flat_entered h) h.answer.2 tt
-walk_works budget (Spent table) h = answers None _ refl (flat_entered h) h.answer.2 tt
-
-walk_says : {f : Problem} (told : Option (List ℕ)) (budget : ℕ) (w : Walked) → IsFlat f → IfSome told (IsTextOf f) → WalkedTo f budget w → FoundIsBest f w → (IsNoneLeft w → (table_count f ≤ budget) × NonePermitted f) → SolvesText told budget (Some (report_of_walk budget f w))
-walk_says told budget (Best table c) limits reads walked best none = record { limits = limits; reads = reads; names = refl; walks = (walked.0, (walked.1, best)) }
-walk_says told budget NoneLeft limits reads walked best none = record { limits = limits; reads = reads; names = refl; walks = (walked.0, (none tt).1, refl) }
-walk_says told budget (Spent table) limits reads walked best none = record { limits = limits; reads = reads; names = refl; walks = (walked.0, refl, walked.1) }
-
--- the walk has an answer
-pub solves : {x y z : DeskState} {s : Status} {f : Problem} (words : List (List ℕ)) (budget : ℕ) (w : Walked) → number_from_to 1 100_000 (word_at words 3) ≡ Some budget → ReadsFlat (word_at words 2) x y (Ok f) → WalkedTo f budget w → FoundIsBest f w → (IsNoneLeft w → (table_count f ≤ budget) × NonePermitted f) → Ends (report_of_walk budget f w) y z s → FormMeets SolveFlat words x z s
-solves {x = x} {y = y} {f = f} words budget w e h walked best none ends = record {
-  mid = y;
-  report = Some (report_of_walk budget f w);
-  works = walk_works budget w h;
-  says = λ own. subst (λ (n : ℕ). SolvesText (x.held (word_at words 2)) n (Some (report_of_walk budget f w))) (sym (ap (λ (o : Option ℕ). unwrap_or o 0) e)) (walk_says (x.held (word_at words 2)) budget w h.answer.0 h.answer.1 walked best none);
+-- the search has an answer
+pub solves : {f : Problem} {budget : ℕ} {x y z end : DeskState} {s : Status} (words : List (List ℕ)) (answer : Solved) → number_from_to 1 100_000 (word_at words 3) ≡ Some budget → ReadsFlat (word_at words 2) x y (Ok f) → SearchesTo f budget (word_at words 4) y z answer → EndsWith (report_of_search budget f by_number answer) z end s → FormMeets SolveFlat words x end s
+solves words (Optimal table c) e h k ends = found words (heads.Optimal c) (Some table) (budget_is (word_at words 3) e) h k k.leaves ends
+solves words Infeasible e h k ends = found words heads.Infeasible None (budget_is (word_at words 3) e) h k k.leaves ends
+solves {budget = budget} words (Unfinished table) e h k ends = found words (heads.Unfinished budget) table (budget_is (word_at words 3) e) h k k.leaves ends
+solves words (NoMemory table) e h k ends = found words heads.Memory table (budget_is (word_at words 3) e) h k k.leaves ends
+solves {f = f} {x = x} {y = y} {z = z} words LogFailed e h k ends = record {
+  mid = z;
+  report = None;
+  works = record {
+    begins = begun_past k.only (flat_entered h).begins;
+    makes = makes_past h k;
+    read_faults = k.only.read_faults ∙ h.answer.2;
+    write_cause = rose h.enters.only.write_faults k.leaves.0;
+  };
+  says = record { problem = f; limits = h.answer.0; reads = h.answer.1; cut = subst (λ (n : ℕ). IsCutShort f n z) (sym (budget_is (word_at words 3) e)) k.leaves.1 };
   ends = ends;
 }
+  where
+    rose : y.write_faults ≡ x.write_faults → Rose y.write_faults z.write_faults → Rose x.write_faults z.write_faults
+    rose same r = omega arith

@@ -23,7 +23,7 @@ forms = SolveFlat ∷ CheckFlat ∷ CheckPort ∷ Flatten ∷ []
 
 -- what the words of a form have to be
 abbrev pub words_of : Form → List Wanted
-words_of SolveFlat = Keyword key.Solve ∷ Keyword key.Flat ∷ Input feed.Flat ∷ Number 1 100_000 ∷ []
+words_of SolveFlat = Keyword key.Solve ∷ Keyword key.Flat ∷ Input feed.Flat ∷ Number 1 100_000 ∷ Proof ∷ []
 words_of CheckFlat = Keyword key.Check ∷ Keyword key.Flat ∷ Input feed.Flat ∷ Input feed.Certificate ∷ []
 words_of CheckPort = Keyword key.Check ∷ Keyword key.Port ∷ Input feed.Instance ∷ Input feed.Tides ∷ Input feed.Certificate ∷ []
 words_of Flatten = Keyword key.Flatten ∷ Input feed.Instance ∷ Input feed.Tides ∷ []

@@ -6,6 +6,8 @@ pub mod Ends
 pub mod Inputs
 pub mod Certificates
 pub mod Checking
+pub mod Certified
+pub mod Searching
 pub mod SolveFlat
 pub mod CheckFlat
 pub mod PortInputs

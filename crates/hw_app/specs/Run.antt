@@ -16,7 +16,7 @@ use Rattle.hw_app.specs.declared.status.Status.{Status}
 
 -- what a form's answer says, of the words, of the desk before and after the work, and of the report; none is a write fault on Proof
 abbrev pub says_of : Form → List (List ℕ) → DeskState → DeskState → Option Report → Type 0
-says_of SolveFlat words old new r = SolveFlatSays (word_at words 2) (number_in 1 100_000 (word_at words 3)) old r
+says_of SolveFlat words old new r = SolveFlatSays (word_at words 2) (number_in 1 100_000 (word_at words 3)) (word_at words 4) old new r
 says_of CheckFlat words old new r = CheckFlatSays (word_at words 2) (word_at words 3) old r
 says_of CheckPort words old new r = CheckPortSays (word_at words 2) (word_at words 3) (word_at words 4) old r
 says_of Flatten words old new r = FlattenSays (word_at words 1) (word_at words 2) old r

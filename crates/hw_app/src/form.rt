@@ -8,7 +8,7 @@ use hw_desk::Feed;
 /// A form of a command.
 #[derive(Clone, Copy, Debug, PartialEq, Eq)]
 pub enum Form {
-    /// `solve flat NAME BUDGET` goes through the timetables of a flat text, at most BUDGET of them.
+    /// `solve flat NAME BUDGET PROOF` searches for a best timetable of a flat text, up to BUDGET lemmas.
     SolveFlat,
     /// `check flat NAME CERT` checks a certificate of a flat text.
     CheckFlat,
@@ -48,7 +48,7 @@ pub const FORMS: [Form; 4] = [
     Form::Flatten,
 ];
 
-/// The greatest budget, in timetables that are looked at.
+/// The greatest budget, in lemmas.
 pub const MOST_BUDGET: u32 = 100_000;
 
 /// What the words of a form have to be.
@@ -64,6 +64,7 @@ pub fn words_of(form: Form) -> &'static [Wanted]
                 least: 1,
                 most: MOST_BUDGET,
             },
+            Wanted::Proof,
         ],
         Form::CheckFlat => &[
             Wanted::Keyword(Keyword::Check),

@@ -13,6 +13,7 @@ mod input;
 mod outcome;
 mod port_input;
 mod running;
+mod searching;
 mod solve_flat;
 mod status;
 #[cfg(test)]
