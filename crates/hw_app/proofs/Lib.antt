@@ -8,3 +8,5 @@ mod Shown
 mod PortForms
 mod FlattenWorks
 mod PortShown
+mod Faults
+mod Owned

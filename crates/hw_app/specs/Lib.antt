@@ -14,3 +14,4 @@ pub mod PortInputs
 pub mod CheckPort
 pub mod Flattening
 pub mod Run
+pub mod Laws

@@ -7,21 +7,15 @@ use Rattle.hw_desk.specs.declared.desk.Tray.TheVariants as tray
 use Rattle.hw_progress.specs.declared.outcome.Solved.{Solved}
 use Rattle.hw_progress.specs.declared.outcome.Solved.TheVariants.{Optimal, Infeasible, Unfinished, NoMemory, LogFailed}
 use Rattle.hw_report.specs.Reports.{Report, Naming, solved}
-use Rattle.hw_report.specs.declared.report.Head.{Head}
 use Rattle.hw_report.specs.declared.report.Head.TheVariants as heads
 use Rattle.hw_app.specs.Certified.{Finds, IsCutShort}
 
--- what was found, and no make and no write failed
-pub record LeavesFound (f : Problem) (budget : ℕ) (head : Head) (table : Option (List ℕ)) (old new : DeskState) : Type 0 where
-  pub write_faults : new.write_faults ≡ old.write_faults
-  pub finds : Finds f budget head table new
-
 -- what an answer leaves: what was found, or a make or a write that failed
 abbrev pub SearchLeaves : Problem → ℕ → DeskState → DeskState → Solved → Type 0
-SearchLeaves f budget old new (Optimal table c) = LeavesFound f budget (heads.Optimal c) (Some table) old new
-SearchLeaves f budget old new Infeasible = LeavesFound f budget heads.Infeasible None old new
-SearchLeaves f budget old new (Unfinished table) = LeavesFound f budget (heads.Unfinished budget) table old new
-SearchLeaves f budget old new (NoMemory table) = LeavesFound f budget heads.Memory table old new
+SearchLeaves f budget old new (Optimal table c) = Finds f budget (heads.Optimal c) (Some table) new
+SearchLeaves f budget old new Infeasible = Finds f budget heads.Infeasible None new
+SearchLeaves f budget old new (Unfinished table) = Finds f budget (heads.Unfinished budget) table new
+SearchLeaves f budget old new (NoMemory table) = Finds f budget heads.Memory table new
 SearchLeaves f budget old new LogFailed = Rose old.write_faults new.write_faults × IsCutShort f budget new
 
 -- Proof was made under its name, and a search wrote to it

@@ -4,12 +4,14 @@
 //! has a file of definitions for what its answer says, and a file of code.
 #![tactic(auto)]
 
+mod calm;
 mod cert;
 mod check_flat;
 mod check_port;
 mod flatten;
 mod form;
 mod input;
+mod laws;
 mod outcome;
 mod port_input;
 mod running;
@@ -20,5 +22,7 @@ mod status;
 mod tests;
 mod words;
 
+pub use calm::run_calm;
+pub use laws::{fault_causes, own_certificate};
 pub use running::run;
 pub use status::Status;

@@ -46,7 +46,6 @@ fn search_on<D: Desk>(alloc: Global, desk: &mut D, flat: &Flat, budget: u32) -> 
     requires told { is_told ((D.state desk.old).trays Tray.Proof).sent ≡ true }
     requires empty { IsEmpty (tray_log (D.state desk.old)) }
     ensures solves { SolveMeets flat.now budget (tray_log (D.state desk.old)) result (tray_log (D.state desk.new)) }
-    ensures kept { (result ≡ Solved.LogFailed → ⊥) → (D.state desk.new).write_faults ≡ (D.state desk.old).write_faults }
     ensures told { is_told ((D.state desk.new).trays Tray.Proof).sent ≡ true }
     ensures outside { outside_of (D.state desk.new) ≡ outside_of (D.state desk.old) }
 {

@@ -1,0 +1,5 @@
+use Rattle.hw_app.proofs.Faults.{fault_causes}
+use Rattle.hw_app.proofs.laws.fault_causes.Goals as goal
+
+pub returns : goal.returns
+returns c = fault_causes

@@ -1,0 +1,28 @@
+-- The laws of a run.
+use Rattle.std.specs.Prelude.{◌≡◌, ◌⊎◌, ℕ, List, All}
+use Rattle.hw_model.specs.Limits.{IsFlat}
+use Rattle.hw_model.specs.Problem.{Problem, shape_of}
+use Rattle.hw_desk.specs.State.{DeskState, Rose}
+use Rattle.hw_lines.specs.declared.line.Line.{Line}
+use Rattle.hw_lines.specs.Valid.{LineFits, Valid, verdict}
+use Rattle.hw_cert.specs.declared.version.Version.TheVariants.{Two}
+use Rattle.hw_cert.specs.Stream.{overlong, cert_stream}
+use Rattle.hw_cert.specs.Texts.{cert_text}
+use Rattle.hw_app.specs.Certificates.{cert_outcome}
+use Rattle.hw_app.specs.Run.{RunMeets}
+use Rattle.hw_app.specs.declared.outcome.CertOutcome.TheVariants.{Shows}
+use Rattle.hw_app.specs.declared.status.Status.{Status}
+use Rattle.hw_app.specs.declared.status.Status.TheVariants.{ReadFault, WriteFault}
+
+-- a fault comes only where the count of its kind rose
+pub record FaultsCaused (old new : DeskState) (s : Status) : Type 0 where
+  pub read : s ≡ ReadFault → Rose old.read_faults new.read_faults
+  pub write : s ≡ WriteFault → Rose old.write_faults new.write_faults
+
+-- whatever the words
+abbrev pub FaultCauses : Type 0
+FaultCauses = (words : List (List ℕ)) (old new : DeskState) (s : Status) → RunMeets words old new s → FaultsCaused old new s
+
+-- the text of valid lines, as a search writes it, is a certificate that shows the lines' verdict, unless it passes a limit
+abbrev pub OwnCertificate : Type 0
+OwnCertificate = (f : Problem) (all : List Line) → IsFlat f → All (LineFits f) all → Valid f all → ((cert_stream (shape_of f) (cert_text Two all)).stop ≡ overlong) ⊎ (cert_outcome f (cert_text Two all) ≡ Shows (verdict f all))

@@ -1,0 +1,13 @@
+//! The laws of a run: functions without a body whose clause is the statement.
+
+ghost use Rattle.hw_app.specs.Laws.{FaultCauses, OwnCertificate};
+
+/// A fault comes only where the count of its kind rose.
+pub fn fault_causes()
+    ensures { FaultCauses }
+{}
+
+/// A certificate that a search wrote shows what the search found.
+pub fn own_certificate()
+    ensures { OwnCertificate }
+{}
