@@ -94,6 +94,7 @@ ended_with inputs proof x y z s None w e = record {
   where
     two_faults : ReadFault ≡ WriteFault → ⊥
     two_faults e = cc
+
     same : z ≡ y → z.write_faults ≡ y.write_faults
     same e = cc
 
@@ -103,6 +104,7 @@ by_command (Err place) words old new s (inl whole) = record { read = λ e. other
   where
     other : ReadFault ≡ status_of (bad_words place) → Rose old.read_faults new.read_faults
     other e = absurd (cc)
+
     others : WriteFault ≡ status_of (bad_words place) → Rose old.write_faults new.write_faults
     others e = absurd (cc)
 by_command (Err place) words old new s (inr short) = record { read = λ e. other (sym e ∙ short.status); write = λ e. short.cause }

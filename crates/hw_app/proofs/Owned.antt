@@ -27,9 +27,12 @@ valid_shows f (line ∷ more) before number fit valid =
     ∙ valid_shows f more (before ++ line ∷ []) (number + 1) (All-tail (LineFits f) line more fit) valid.1
     ∙ ap (λ (all : List Line). Shows (verdict f all)) (append_assoc before (line ∷ []) more)
 
+one_cert : {a b : Cert} {read : Result Cert BadLine} → read ≡ Ok a → read ≡ Ok b → a ≡ b
+one_cert e h = cc
+
 by_end : (f : Problem) (all lines : List Line) (stop : CertEnd) (read : Result Cert BadLine) → All (LineFits f) all → Valid f all → read ≡ Ok (record { version = Two; lines = all }) → Agrees stop lines read → (stop ≡ overlong) ⊎ (lines_outcome f [] 2 lines stop ≡ Shows (verdict f all))
 by_end f all lines complete read fit valid e a =
-    let same : all ≡ lines = cc (a.1) in
+    let same : all ≡ lines = ap (λ (c : Cert). c.lines) (one_cert e a.1) in
     inr (subst (λ (xs : List Line). lines_outcome f [] 2 xs complete ≡ Shows (verdict f all)) same (valid_shows f all [] 2 fit valid))
 by_end f all lines (broken number word) read fit valid e a = absurd (cc)
 by_end f all lines overlong read fit valid e a = inl refl

@@ -29,7 +29,7 @@ fn solved<D: Desk>(alloc: Global, desk: &mut D) -> Result<Status, Fail>
     requires { IsNew (D.state desk.old) }
 {
     let mut words = Vec::new(alloc);
-    for word in ["solve", "flat", "one", "7"] {
+    for word in ["solve", "flat", "one", "7", "p"] {
         words.push(String::from_str(alloc, word)?)?;
     }
     Ok(run(alloc, &words, desk))
