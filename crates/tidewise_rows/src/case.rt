@@ -2,12 +2,13 @@
 
 ghost use Rattle.std.specs.Prelude.{◌≡◌, ◌∷◌, [], codes, IfOk};
 ghost use Rattle.hw_desk.specs.State.{IsNew};
+ghost use Rattle.hw_desk.specs.Calm.{calm_state};
 ghost use Rattle.hw_desk.specs.Memory.{memory_state};
 
 use crate::outcome::Outcome;
 use crate::runs::Runs;
 use crate::shown::put_bytes;
-use hw_app::run;
+use hw_app::{run, run_calm};
 use hw_desk::{CalmDesk, Desk, DeskCall, FailAt, MemoryDesk, NamedBytes, NoMemory};
 use hw_lexicon::{Lexicon, each_word};
 use hw_text::read_small;
@@ -25,12 +26,15 @@ pub struct Case {
     fails: Vec<FailAt>,
     each: Option<DeskCall>,
     calm: bool,
+    brief: bool,
+    /// What the last run sent to Proof, under its last word.
+    proof: Option<NamedBytes>,
 }
 
 fn keywords() -> Lexicon<'static>
-    ensures { result ≡ codes "case" ∷ codes "file" ∷ codes "most" ∷ codes "room" ∷ codes "fail" ∷ codes "each" ∷ codes "calm" ∷ codes "run" ∷ [] }
+    ensures { result ≡ codes "case" ∷ codes "file" ∷ codes "most" ∷ codes "room" ∷ codes "fail" ∷ codes "each" ∷ codes "calm" ∷ codes "brief" ∷ codes "run" ∷ codes "then" ∷ [] }
 {
-    Lexicon::new(b"case file most room fail each calm run")
+    Lexicon::new(b"case file most room fail each calm brief run then")
 }
 
 fn calls() -> Lexicon<'static>
@@ -111,6 +115,13 @@ fn code_of_run<D: Desk>(alloc: Global, words: &[String], desk: &mut D) -> u8
     run(alloc, words, desk).code()
 }
 
+/// The same over the desk whose calls never fail.
+fn code_of_calm(alloc: Global, words: &[String], desk: &mut CalmDesk) -> u8
+    requires { IsNew (calm_state desk.old) }
+{
+    run_calm(alloc, words, desk).code()
+}
+
 impl Case {
     /// A case whose desk holds nothing.
     pub fn new(alloc: Global) -> Case {
@@ -121,6 +132,8 @@ impl Case {
             fails: Vec::new(alloc),
             each: None,
             calm: false,
+            brief: false,
+            proof: None,
         }
     }
 
@@ -155,7 +168,9 @@ impl Case {
             4 => Ok(self.add_fail(text)?),
             5 => Ok(self.set_each(text)),
             6 => Ok(self.set_calm(text)),
-            7 => self.run_all(alloc, text, out),
+            7 => Ok(self.set_brief(text)),
+            8 => self.run_all(alloc, text, out),
+            9 => self.run_then(alloc, text, out),
             else Ok(false)
         )
     }
@@ -250,15 +265,34 @@ impl Case {
         self.calm
     }
 
+    fn set_brief(&mut self, text: Option<&str>) -> bool {
+        self.brief = text.is_none();
+        self.brief
+    }
+
+    /// Runs the words over a desk that also holds what the last run sent to Proof.
+    fn run_then(
+        &mut self,
+        alloc: Global,
+        text: Option<&str>,
+        out: &mut Vec<u8>,
+    ) -> Result<bool, NoMemory> {
+        match self.proof.take() {
+            Some(proof) => self.files.push(proof)?,
+            None => return Ok(false),
+        }
+        self.run_all(alloc, text, out)
+    }
+
     /// Runs the words for each number of bytes at once.
     fn run_all(
-        &self,
+        &mut self,
         alloc: Global,
         text: Option<&str>,
         out: &mut Vec<u8>,
     ) -> Result<bool, NoMemory> {
         let words = words_in(alloc, text)?;
-        let mut runs = Runs::new(self.each.is_some() || self.most.len() > 1);
+        let mut runs = Runs::new(self.each.is_some() || self.most.len() > 1, self.brief);
         if self.most.is_empty() {
             self.run_most(alloc, &words, 4096, &mut runs, out)?;
         }
@@ -266,6 +300,7 @@ impl Case {
             self.run_most(alloc, &words, *most, &mut runs, out)?;
         }
         runs.put(out)?;
+        self.proof = runs.into_proof(alloc, words.last().map(|word| word.as_str()))?;
         Ok(true)
     }
 
@@ -285,7 +320,7 @@ impl Case {
         };
         for place in 1..=MOST_PLACES {
             let outcome = self.ran(alloc, words, most, Some(FailAt { call, place }))?;
-            let last = outcome.is_same(&whole);
+            let last = outcome.is_same(&whole, self.brief);
             runs.add(outcome, out)?;
             if last {
                 return Ok(());
@@ -312,7 +347,7 @@ impl Case {
     fn over_calm(&self, alloc: Global, words: &[String]) -> Result<Outcome, NoMemory> {
         let files = copied(alloc, &self.files)?;
         let mut desk = CalmDesk::new(alloc, files)?;
-        let code = code_of_run(alloc, words, &mut desk);
+        let code = code_of_calm(alloc, words, &mut desk);
         Ok(Outcome::of_calm(alloc, code, &desk)?)
     }
 

@@ -13,7 +13,10 @@
 //!     fail CALL PLACE   a call that fails, by its kind and its place among those, from 1
 //!     each CALL         a run for each place, up to the run in which no call of the kind fails
 //!     calm              the desk whose calls never fail
+//!     brief             of a run the report and the status alone are printed
 //!     run WORD ..       runs the words, one space between two; `run` alone runs none
+//!     then WORD ..      the same over a desk that also holds what the last run sent to Proof, under
+//!                       that run's last word
 //!
 //! A CALL is `begin`, `read`, `make`, `report` (a write to it) or `proof` (a write to it). In a TEXT
 //! `\` and two hexadecimal digits are a byte. An empty line says nothing, nor does one that begins

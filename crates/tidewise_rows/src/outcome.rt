@@ -32,16 +32,25 @@ impl Outcome {
         })
     }
 
-    /// Whether two runs came to the same.
-    pub fn is_same(&self, other: &Outcome) -> bool {
-        self.code == other.code && self.report == other.report && self.proof == other.proof
+    /// Whether two runs came to the same, Proof aside where that is wanted.
+    pub fn is_same(&self, other: &Outcome, brief: bool) -> bool {
+        let same = self.code == other.code && self.report == other.report;
+        same && (brief || self.proof == other.proof)
     }
 
-    /// Appends the lines that are printed for the run.
-    pub fn put(&self, out: &mut Vec<u8>) -> Result<(), AllocError> {
+    /// What was sent to Proof, and the run is gone.
+    pub fn into_proof(self) -> Vec<u8> {
+        self.proof
+    }
+
+    /// Appends the lines that are printed for the run, those of Proof aside where that is wanted.
+    pub fn put(&self, brief: bool, out: &mut Vec<u8>) -> Result<(), AllocError> {
         put_lines(out, &self.report)?;
         out.extend_from_slice(b"status ")?;
         put_number(out, u64::from(self.code))?;
+        if brief {
+            return out.push(b'\n').map_err(AllocError::from);
+        }
         out.extend_from_slice(b" proof ")?;
         put_number(out, self.proof.len() as u64)?;
         out.push(b'\n')?;

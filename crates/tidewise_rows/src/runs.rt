@@ -1,23 +1,27 @@
 //! The runs of one line `run`.
 
 use crate::outcome::Outcome;
+use hw_desk::NamedBytes;
 use hw_text::put_number;
-use std::alloc::AllocError;
+use std::alloc::{AllocError, Global};
 
 /// Runs, numbered from 1, of which those next to each other that come to the same are printed once.
 #[derive(Drop)]
 pub struct Runs {
     several: bool,
+    brief: bool,
     count: u64,
     first: u64,
     last: Option<Outcome>,
 }
 
 impl Runs {
-    /// No runs yet. Their numbers are printed where there may be several.
-    pub fn new(several: bool) -> Runs {
+    /// No runs yet. Their numbers are printed where there may be several; what they sent to Proof is not
+    /// where that is brief.
+    pub fn new(several: bool, brief: bool) -> Runs {
         Runs {
             several,
+            brief,
             count: 0,
             first: 1,
             last: None,
@@ -27,7 +31,7 @@ impl Runs {
     /// Adds a run, and appends the ones before it where they came to something else.
     pub fn add(&mut self, outcome: Outcome, out: &mut Vec<u8>) -> Result<(), AllocError> {
         let same = match &self.last {
-            Some(last) => last.is_same(&outcome),
+            Some(last) => last.is_same(&outcome, self.brief),
             None => true,
         };
         if !same {
@@ -37,6 +41,21 @@ impl Runs {
         self.count = self.count.saturating_add(1);
         self.last = Some(outcome);
         Ok(())
+    }
+
+    /// What the last run sent to Proof, under a name if there is one.
+    pub fn into_proof(
+        self,
+        alloc: Global,
+        name: Option<&str>,
+    ) -> Result<Option<NamedBytes>, AllocError> {
+        match (self.last, name) {
+            (Some(last), Some(name)) => Ok(Some(NamedBytes {
+                name: String::from_str(alloc, name)?,
+                bytes: last.into_proof(),
+            })),
+            _ => Ok(None),
+        }
     }
 
     /// Appends what the last runs came to.
@@ -49,7 +68,7 @@ impl Runs {
             out.push(b'\n')?;
         }
         match &self.last {
-            Some(last) => last.put(out),
+            Some(last) => last.put(self.brief, out),
             None => Ok(()),
         }
     }
