@@ -38,9 +38,9 @@ fn ended(rt: &HostRuntime, line: &str) -> Result<Status, Fail> {
 }
 
 const RUNS: [(&str, Status); 14] = [
-    ("tidewise solve flat host-two 9", Status::Optimal),
-    ("tidewise solve flat host-two 8", Status::Unfinished),
-    ("tidewise solve flat host-none 9", Status::Infeasible),
+    ("tidewise solve flat host-two 109 host-proof", Status::Optimal),
+    ("tidewise solve flat host-two 1 host-proof", Status::Unfinished),
+    ("tidewise solve flat host-none 109 host-proof", Status::Infeasible),
     ("tidewise check flat host-two host-long", Status::Optimal),
     ("tidewise check flat host-none host-long", Status::Refused),
     ("tidewise check flat host-long host-two", Status::BadInput),
@@ -50,11 +50,11 @@ const RUNS: [(&str, Status); 14] = [
         "tidewise check flat host-two host-missing",
         Status::ReadFault,
     ),
-    ("tidewise solve flat . 9", Status::ReadFault),
-    ("tidewise solve flat host-missing 9", Status::ReadFault),
+    ("tidewise solve flat . 9 host-proof", Status::ReadFault),
+    ("tidewise solve flat host-missing 9 host-proof", Status::ReadFault),
     ("tidewise", Status::Words),
     ("tidewise solve flat host-two", Status::Words),
-    ("tidewise solve flat host-two 9 more", Status::Words),
+    ("tidewise solve flat host-two 9", Status::Words),
 ];
 
 #[test]
