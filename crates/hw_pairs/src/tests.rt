@@ -10,6 +10,7 @@ use hw_flat::{Flat, Order, Room, Rule, ShipId, Slot, Source};
 use hw_lits::{Found, cut, truth};
 use hw_model::{Lit, LitTruth, NoMemory};
 use hw_prop::{Propagator, Shaver};
+use hw_rules::refuted;
 use std::alloc::Global;
 use std::process::Abort;
 use std::test::Fail;
@@ -165,30 +166,12 @@ type Sweep = (&'static str, &'static [u8], Kind, Source, u32);
 const SWEEPS: [Sweep; 9] = [
     ("holes", SAILING, Kind::ByHoles, HOLES, 108),
     ("a hole", SAILING, Kind::ByHole, HOLE, 108),
-    (
-        "the greater later",
-        SAILING,
-        Kind::ByGap,
-        GREATER_LATER,
-        108,
-    ),
-    ("the lesser later", SAILING, Kind::ByGap, LESSER_LATER, 108),
+    ("greater later", SAILING, Kind::ByGap, GREATER_LATER, 108),
+    ("lesser later", SAILING, Kind::ByGap, LESSER_LATER, 108),
     ("holes, staying", STAYING, Kind::ByHoles, HOLES, 108),
     ("a hole, staying", STAYING, Kind::ByHole, HOLE, 108),
-    (
-        "the greater later, staying",
-        STAYING,
-        Kind::ByGap,
-        GREATER_LATER,
-        108,
-    ),
-    (
-        "the lesser later, staying",
-        STAYING,
-        Kind::ByGap,
-        LESSER_LATER,
-        108,
-    ),
+    ("greater, stay", STAYING, Kind::ByGap, GREATER_LATER, 108),
+    ("lesser, stay", STAYING, Kind::ByGap, LESSER_LATER, 108),
     ("orders", THREE_SHIPS, Kind::ByOrders, ORDERS, 972),
 ];
 
@@ -384,12 +367,42 @@ fn is_active(lits: &[Lit], room: &Room) -> bool {
     open < 2
 }
 
-/// Whether both are quiet, or both have a clause and the first one's is active in the room.
-fn agree(one: &Option<Found>, other: &Option<Found>, room: &Room) -> bool {
-    match (one, other) {
-        (Some(Found::Quiet), Some(Found::Quiet)) => true,
-        (Some(Found::Clause(clause)), Some(Found::Clause(_))) => is_active(clause.as_slice(), room),
-        _ => false,
+/// Cuts the room by a literal, where it is Free.
+fn follow(room: &mut Room, lit: Lit) {
+    if is_lit_of(room.ships(), lit) {
+        if let LitTruth::Free = truth(lit, room) {
+            cut(lit, room);
+        }
+    }
+}
+
+/// Whether the source refutes the room of all in which none of the literals is true.
+fn explains(alloc: Global, flat: &Flat, source: Source, lits: &[Lit]) -> Result<bool, NoMemory> {
+    let mut denied = Room::whole(alloc, flat.shape())?;
+    for lit in lits {
+        follow(&mut denied, lit.not());
+    }
+    Ok(is_source(flat, source) && fits(flat, &denied) && refuted(flat, source, None, &denied))
+}
+
+/// Whether the propagator and the plain one are quiet in the room, or both have a clause and the
+/// first one's is active there and explained by the source.
+fn agree(
+    alloc: Global,
+    flat: &Flat,
+    kind: Kind,
+    source: Source,
+    room: &Room,
+) -> Result<bool, NoMemory> {
+    let exact = found(alloc, flat, kind, source, room)?;
+    let plain = found(alloc, flat, Kind::Plain, source, room)?;
+    match (&exact, &plain) {
+        (Some(Found::Quiet), Some(Found::Quiet)) => Ok(true),
+        (Some(Found::Clause(clause)), Some(Found::Clause(_))) => {
+            let lits = clause.as_slice();
+            Ok(is_active(lits, room) && explains(alloc, flat, source, lits)?)
+        }
+        _ => Ok(false),
     }
 }
 
@@ -413,9 +426,7 @@ fn first_apart(
             EACH_ORDER[(number / 324 % 3) as usize],
         ];
         set(&mut room, &ranges, &orders);
-        let exact = found(alloc, flat, kind, source, &room)?;
-        let plain = found(alloc, flat, Kind::Plain, source, &room)?;
-        if !agree(&exact, &plain, &room) {
+        if !agree(alloc, flat, kind, source, &room)? {
             return Ok(Some(number));
         }
     }
@@ -449,22 +460,15 @@ fn every_room_as_by_trying(rt: HostRuntime) -> Result<(), Fail> {
     Ok(())
 }
 
-/// Cuts the room by each literal that is Free.
-fn follow(room: &mut Room, lits: &[Lit]) {
-    for lit in lits {
-        if is_lit_of(room.ships(), *lit) {
-            if let LitTruth::Free = truth(*lit, room) {
-                cut(*lit, room);
-            }
-        }
-    }
-}
-
 /// How many clauses of the first rule's propagator were followed until it was quiet, of nine.
 fn steps_until_quiet(alloc: Global, flat: &Flat, room: &mut Room) -> Result<Option<u32>, NoMemory> {
     for number in 0..9 {
         match found(alloc, flat, Kind::ByHoles, HOLES, room)? {
-            Some(Found::Clause(clause)) => follow(room, clause.as_slice()),
+            Some(Found::Clause(clause)) => {
+                for lit in clause.as_slice() {
+                    follow(room, *lit);
+                }
+            }
             Some(Found::Quiet) => return Ok(Some(number)),
             None => return Ok(None),
         }
