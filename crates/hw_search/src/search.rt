@@ -1,17 +1,17 @@
 ghost use Rattle.std.specs.Prelude.{◌≡◌, ◌<◌, [], false, All, IfOk, map};
 ghost use Rattle.std.specs.Option.{option_copied};
 ghost use Rattle.hw_model.specs.Problem.{shape_of};
-ghost use Rattle.hw_model.specs.Rooms.{whole_room};
+ghost use Rattle.hw_model.specs.Rooms.{IsPoint, whole_room};
 ghost use Rattle.hw_progress.specs.Searches.{LogFits, new_search, room_in, IsSearch};
 ghost use Rattle.hw_cert.specs.Logs.{WhereTold};
 ghost use Rattle.hw_progress.specs.Settling.{SettleMeets};
 ghost use Rattle.hw_progress.specs.Turns.{TurnMeets};
-ghost use Rattle.hw_progress.specs.Starting.{EachSourceOnce};
+ghost use Rattle.hw_progress.specs.Starting.{Branches, EachSourceOnce};
 
 use crate::engine::Engine;
 use hw_cert::Log;
 use hw_flat::{Flat, Room, Timetable};
-use hw_model::NoMemory;
+use hw_model::{Lit, NoMemory};
 use hw_progress::{Branching, Settled, Turn};
 use hw_prop::Propagator;
 use hw_store::Store;
@@ -63,6 +63,15 @@ impl<'f, S: Store + Drop, P: Propagator + Drop> Search<'f, S, P> {
         ensures meets { SettleMeets self.old self.new result }
     {
         self.engine.settle(alloc)
+    }
+
+    /// The literal by which the search decides in its room: that of its branching rule. It looks at
+    /// each slot of each range at most twice, and takes no memory.
+    pub fn branch(&self) -> Lit
+        requires wide { IsPoint (room_in self.now) → ⊥ }
+        ensures value { Branches self.now result }
+    {
+        self.engine.branch()
     }
 
     /// Settles, and then decides, writes a better table, or learns from a conflict: the lines that

@@ -8,6 +8,7 @@ ghost use Rattle.hw_cert.specs.Logs.{WhereTold, IsWhole};
 ghost use Rattle.hw_progress.specs.declared.outcome.Settled.TheVariants.{Quiet, Conflict};
 ghost use Rattle.hw_progress.specs.Searches.{SearchModel, LogFits, room_in, best_cargo};
 ghost use Rattle.hw_progress.specs.Settling.{AllQuiet, IsConflict, Settles};
+ghost use Rattle.hw_progress.specs.Starting.{Branches};
 ghost use Rattle.hw_progress.specs.Turns.{TurnMeets};
 ghost use Rattle.hw_search.specs.Turning.{Begins, Decides, turn_of};
 
@@ -21,6 +22,7 @@ use crate::writing::{Written, hand_table, write_lemma};
 use hw_cert::{Log, LogStop};
 use hw_flat::Timetable;
 use hw_learn::{Learnt, learn};
+use hw_model::Lit;
 use hw_progress::{Settled, Turn};
 use hw_prop::Propagator;
 use hw_rules::cargo;
@@ -55,13 +57,21 @@ impl<'f, S: Store + Drop, P: Propagator + Drop> Engine<'f, S, P> {
         turn_of(stop)
     }
 
+    /// The literal by which the search decides in its room. It takes no memory.
+    pub fn branch(&self) -> Lit
+        requires wide { IsPoint (room_in self.now.search) → ⊥ }
+        ensures value { Branches self.now.search result }
+    {
+        branch(self.branching, self.flat, self.trail.room())
+    }
+
     // Decides by the branching rule.
     fn decide(&mut self)
         requires quiet { AllQuiet self.old.search }
         requires wide { IsPoint (room_in self.old.search) → ⊥ }
         ensures decides { Decides self.old.search self.new.search }
     {
-        let lit = branch(self.branching, self.flat, self.trail.room());
+        let lit = self.branch();
         self.store.changed(self.trail.room(), lit);
         self.trail.decide(lit);
         self.written.push_reserved(None);

@@ -1,55 +1,53 @@
-use Rattle.std.proofs.Common.{◌≡◌, ◌+◌, length, None, subst, sym, ◌∙◌, ap, arith}
+use Rattle.std.proofs.Common.{◌≡◌, ◌+◌, length, None, subst, sym, ◌∙◌, ap, arith, refl}
 use Rattle.hw_model.specs.declared.lit.LitTruth.TheVariants.{Free}
 use Rattle.hw_model.specs.Lits.{IsLitOf}
 use Rattle.hw_model.specs.Narrowing.{truth, cut}
-use Rattle.hw_model.specs.Rooms.{RoomFits, IsPoint}
+use Rattle.hw_model.specs.Rooms.{IsPoint}
 use Rattle.hw_story.specs.declared.event.Event.{Event}
 use Rattle.hw_story.specs.Trails.{room_of}
 use Rattle.hw_story.proofs.Kept.{more_room}
 use Rattle.hw_progress.specs.Searches.{room_in}
 use Rattle.hw_progress.specs.Settling.{AllQuiet}
+use Rattle.hw_progress.specs.Starting.{Branches}
 use Rattle.hw_search.specs.Engines.{EngineModel}
 use Rattle.hw_search.proofs.Markings.{marks_through}
-use Rattle.hw_search.proofs.Kept.{of_view, room_here}
+use Rattle.hw_search.proofs.Kept.{of_view}
 use Rattle.hw_search.proofs.Turns.{open_in, room_to_decide, kept_decided}
 use Rattle.hw_search.proofs.engine.Engine.decide.Goals as goal
 
-pub branch-lit-requires-clause-room : goal.branch-lit-requires-clause-room
-branch-lit-requires-clause-room g c = subst (RoomFits c.self.inside.flat.now) (sym c.room.ensures.value) (room_here _ c.self.invariant.0.search)
-
 pub changed-requires-clause-fits : goal.changed-requires-clause-fits
 changed-requires-clause-fits g c =
-    let o = open_in _ c.room.result.now c.branch-lit.result c.self.invariant.0.search (of_view _ _ (λ (e : EngineModel). IsPoint (room_in e.search) → ⊥) c.self.view_is c.requires.wide) c.room.ensures.value c.branch-lit.ensures.value in
+    let o = open_in _ _ c.branch-lit.result c.self.invariant.0.search (of_view _ _ (λ (e : EngineModel). IsPoint (room_in e.search) → ⊥) c.self.view_is c.requires.wide) refl (of_view _ _ (λ (e : EngineModel). Branches e.search c.branch-lit.result) c.self.view_is c.branch-lit.ensures.value) in
     subst (λ n. IsLitOf n c.branch-lit.result) (sym c.self.invariant.1) o.here
 
 pub changed-requires-clause-free : goal.changed-requires-clause-free
 changed-requires-clause-free g c =
-    let o = open_in _ c.room.result.now c.branch-lit.result c.self.invariant.0.search (of_view _ _ (λ (e : EngineModel). IsPoint (room_in e.search) → ⊥) c.self.view_is c.requires.wide) c.room.ensures.value c.branch-lit.ensures.value in
-    subst (λ r. truth r c.branch-lit.result ≡ Free) (sym c.room-2.ensures.value) o.free
+    let o = open_in _ _ c.branch-lit.result c.self.invariant.0.search (of_view _ _ (λ (e : EngineModel). IsPoint (room_in e.search) → ⊥) c.self.view_is c.requires.wide) refl (of_view _ _ (λ (e : EngineModel). Branches e.search c.branch-lit.result) c.self.view_is c.branch-lit.ensures.value) in
+    subst (λ r. truth r c.branch-lit.result ≡ Free) (sym c.room.ensures.value) o.free
 
 pub decide-requires-clause-fits : goal.decide-requires-clause-fits
 decide-requires-clause-fits g c =
-    (open_in _ c.room.result.now c.branch-lit.result c.self.invariant.0.search (of_view _ _ (λ (e : EngineModel). IsPoint (room_in e.search) → ⊥) c.self.view_is c.requires.wide) c.room.ensures.value c.branch-lit.ensures.value).fits
+    (open_in _ _ c.branch-lit.result c.self.invariant.0.search (of_view _ _ (λ (e : EngineModel). IsPoint (room_in e.search) → ⊥) c.self.view_is c.requires.wide) refl (of_view _ _ (λ (e : EngineModel). Branches e.search c.branch-lit.result) c.self.view_is c.branch-lit.ensures.value)).fits
 
 pub decide-requires-clause-free : goal.decide-requires-clause-free
 decide-requires-clause-free g c =
-    (open_in _ c.room.result.now c.branch-lit.result c.self.invariant.0.search (of_view _ _ (λ (e : EngineModel). IsPoint (room_in e.search) → ⊥) c.self.view_is c.requires.wide) c.room.ensures.value c.branch-lit.ensures.value).free
+    (open_in _ _ c.branch-lit.result c.self.invariant.0.search (of_view _ _ (λ (e : EngineModel). IsPoint (room_in e.search) → ⊥) c.self.view_is c.requires.wide) refl (of_view _ _ (λ (e : EngineModel). Branches e.search c.branch-lit.result) c.self.view_is c.branch-lit.ensures.value)).free
 
 pub push_reserved-requires : goal.push_reserved-requires
 push_reserved-requires g c =
-    let o = open_in _ c.room.result.now c.branch-lit.result c.self.invariant.0.search (of_view _ _ (λ (e : EngineModel). IsPoint (room_in e.search) → ⊥) c.self.view_is c.requires.wide) c.room.ensures.value c.branch-lit.ensures.value in
+    let o = open_in _ _ c.branch-lit.result c.self.invariant.0.search (of_view _ _ (λ (e : EngineModel). IsPoint (room_in e.search) → ⊥) c.self.view_is c.requires.wide) refl (of_view _ _ (λ (e : EngineModel). Branches e.search c.branch-lit.result) c.self.view_is c.branch-lit.ensures.value) in
     let h = room_to_decide _ _ _ _ _ _ c.branch-lit.result c.self.invariant.0 (of_view _ _ (λ (e : EngineModel). AllQuiet e.search) c.self.view_is c.requires.quiet) o in
     omega (arith, h, c.self.inside.written.ok.0)
 
 pub of-requires : goal.of-requires
 of-requires g c =
-    let o = open_in _ c.room.result.now c.branch-lit.result c.self.invariant.0.search (of_view _ _ (λ (e : EngineModel). IsPoint (room_in e.search) → ⊥) c.self.view_is c.requires.wide) c.room.ensures.value c.branch-lit.ensures.value in
+    let o = open_in _ _ c.branch-lit.result c.self.invariant.0.search (of_view _ _ (λ (e : EngineModel). IsPoint (room_in e.search) → ⊥) c.self.view_is c.requires.wide) refl (of_view _ _ (λ (e : EngineModel). Branches e.search c.branch-lit.result) c.self.view_is c.branch-lit.ensures.value) in
     record { fits = subst (λ n. IsLitOf n c.branch-lit.result) (sym c.self.invariant.0.speakers.same_ships) o.here }
 
 pub invariant_of-self : goal.invariant_of-self
 invariant_of-self g c =
     let lit = c.branch-lit.result in
-    let o = open_in _ c.room.result.now c.branch-lit.result c.self.invariant.0.search (of_view _ _ (λ (e : EngineModel). IsPoint (room_in e.search) → ⊥) c.self.view_is c.requires.wide) c.room.ensures.value c.branch-lit.ensures.value in
+    let o = open_in _ _ c.branch-lit.result c.self.invariant.0.search (of_view _ _ (λ (e : EngineModel). IsPoint (room_in e.search) → ⊥) c.self.view_is c.requires.wide) refl (of_view _ _ (λ (e : EngineModel). Branches e.search c.branch-lit.result) c.self.view_is c.branch-lit.ensures.value) in
     let whole : c.deref_mut.result.now ≡ c.self.inside.marks.items = c.deref_mut.ensures.value in
     let n : c.self.inside.marks.len ≡ length c.mark.new.marks = omega (arith, c.self.inside.marks.ok.0, ap length whole, c.mark.ensures.marks.same_length) in
     let event : Event = record { lit = lit; level = c.self.inside.trail.level + 1; why = None } in (
@@ -58,6 +56,6 @@ invariant_of-self g c =
           (marks_through _ _ _ _ _ _ c.of.ensures.value whole n c.mark.ensures.marks)
           c.push_reserved.ensures.capacity,
       c.changed.ensures.ships ∙ c.self.invariant.1,
-      subst (g.S.Store.ready c.changed.new.self) (ap (cut lit) c.room-2.ensures.value ∙ sym (more_room c.self.inside.trail event) ∙ ap room_of (sym c.decide.ensures.value)) c.changed.ensures.ready,
+      subst (g.S.Store.ready c.changed.new.self) (ap (cut lit) c.room.ensures.value ∙ sym (more_room c.self.inside.trail event) ∙ ap room_of (sym c.decide.ensures.value)) c.changed.ensures.ready,
       c.self.invariant.3,
     )
