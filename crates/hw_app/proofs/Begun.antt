@@ -1,8 +1,8 @@
 -- Inputs that were begun, one after another, and the work that ends at one of them.
-use Rattle.std.proofs.Common.{◌≡◌, ◌≤◌, ◌<◌, ◌==◌, ◌||◌, ◌++◌, ◌∙◌, ℕ, Bool, true, false, cond, List, [], ◌∷◌, Option, Some, None, length, append-nil, inl, refl, sym, ap, subst, arith}
+use Rattle.std.proofs.Common.{◌≡◌, ◌<◌, ◌==◌, ◌||◌, ◌++◌, ◌∙◌, ℕ, Bool, true, false, cond, List, [], ◌∷◌, Option, Some, None, length, append-nil, inl, refl, sym, ap, subst, arith}
 use Rattle.std.specs.Prelude.{IfSome, IsSomeAnd}
 use Rattle.hw_desk.specs.Calls.{OnlyFeed, OnlyTray}
-use Rattle.hw_desk.specs.State.{DeskState, FeedState, put_feed, place_of, same_feed, Rose}
+use Rattle.hw_desk.specs.State.{DeskState, FeedState, place_of, same_feed, Rose}
 use Rattle.hw_desk.specs.declared.desk.Feed.{Feed}
 use Rattle.hw_desk.specs.declared.desk.Feed.TheVariants.{Flat, Instance, Tides, Certificate, Plan, Events}
 use Rattle.hw_desk.specs.declared.desk.Tray.{Tray}

@@ -1,5 +1,5 @@
 -- One line more of a certificate.
-use Rattle.std.proofs.Common.{◌≡◌, ◌+◌, ℕ, List, [], ◌∷◌, ◌++◌, Option, Some, None, Result, Ok, Err, refl, sym, ap, ◌∙◌, subst, arith}
+use Rattle.std.proofs.Common.{◌≡◌, ◌+◌, ℕ, List, [], ◌∷◌, ◌++◌, Option, Some, None, Ok, Err, refl, sym, ap, ◌∙◌, subst, arith}
 use Rattle.std.specs.Prelude.{IfSome, IsSome, IsSomeAnd, is_none, if◌then◌else◌}
 use Rattle.hw_model.specs.declared.shape.Shape.{Shape}
 use Rattle.hw_model.specs.Problem.{Problem, shape_of}
@@ -26,7 +26,6 @@ use Rattle.hw_lines.specs.Valid.{verdict}
 use Rattle.hw_report.specs.declared.report.RefusedWord.TheVariants.{Form, Check}
 use Rattle.hw_app.specs.Certificates.{line_outcome}
 use Rattle.hw_app.specs.Checking.{line_number, left_outcome, rest_outcome, ComesOrStops, of_check_stop, of_line_stop}
-use Rattle.hw_app.specs.declared.outcome.CertOutcome.{CertOutcome}
 use Rattle.hw_app.specs.declared.outcome.CertOutcome.TheVariants.{Shows, Wrong, TooLong}
 
 pub told_map : {P Q : List ℕ → Type 0} (o : Option (List ℕ)) → ((x : List ℕ) → P x → Q x) → IfSome o P → IfSome o Q

@@ -1,5 +1,5 @@
 -- Faults have their causes.
-use Rattle.std.proofs.Common.{◌≡◌, ◌≤◌, ◌∙◌, ℕ, List, Option, Some, None, Result, Ok, Err, inl, inr, refl, sym, arith}
+use Rattle.std.proofs.Common.{◌≡◌, ◌≤◌, ◌∙◌, ℕ, List, Option, Some, None, Result, Ok, Err, inl, inr, sym, arith}
 use Rattle.hw_desk.specs.State.{DeskState, Rose}
 use Rattle.hw_lines.specs.declared.check.Verdict.{Verdict}
 use Rattle.hw_lines.specs.declared.check.Verdict.TheVariants as verdicts
@@ -9,7 +9,7 @@ use Rattle.hw_report.specs.declared.report.Head.TheVariants as heads
 use Rattle.hw_app.specs.Ends.{Ends, EndsWith}
 use Rattle.hw_app.specs.Forms.{words_of, form_of}
 use Rattle.hw_app.specs.Laws.{FaultsCaused, FaultCauses}
-use Rattle.hw_app.specs.Run.{FormMeets, CommandMeets, RunMeets}
+use Rattle.hw_app.specs.Run.{CommandMeets}
 use Rattle.hw_app.specs.Scope.{Named, inputs_of, proof_of}
 use Rattle.hw_app.specs.Statuses.{status_of, status_of_head, status_of_verdict}
 use Rattle.hw_app.specs.Works.{Speaks, of_answer, of_input, of_memory, speaks, WritesKeptOf, ReadCauseOf, Works, WorksTo}

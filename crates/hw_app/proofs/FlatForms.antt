@@ -1,5 +1,5 @@
 -- The forms that begin with a flat text.
-use Rattle.std.proofs.Common.{◌≡◌, ◌≤◌, ◌++◌, ◌∙◌, ℕ, cond, true, false, List, [], ◌∷◌, Option, Some, None, Result, Ok, Err, refl, ap, sym}
+use Rattle.std.proofs.Common.{◌≡◌, ℕ, false, List, [], ◌∷◌, Option, Result, Err, refl}
 use Rattle.std.specs.Prelude.{IfSome}
 use Rattle.hw_desk.specs.State.{DeskState}
 use Rattle.hw_desk.specs.declared.desk.Feed.TheVariants.{Flat}
@@ -7,7 +7,7 @@ use Rattle.hw_desk.specs.declared.whole.ReadStop.TheVariants as stops
 use Rattle.hw_model.specs.Problem.{Problem}
 use Rattle.hw_flat.specs.declared.fault.FlatWord.{FlatWord}
 use Rattle.hw_report.specs.Reports.{Report, bad_flat}
-use Rattle.hw_app.specs.Inputs.{ReadsFlat, IsBadAt, report_of_flat, report_of_stop}
+use Rattle.hw_app.specs.Inputs.{ReadsFlat, IsBadAt, report_of_flat}
 use Rattle.hw_app.specs.Scope.{Named, named}
 use Rattle.hw_app.specs.Works.{is_common, Works}
 use Rattle.hw_app.specs.declared.input.FlatStop.{FlatStop}

@@ -1,11 +1,9 @@
 -- A certificate that a search wrote, checked.
-use Rattle.std.proofs.Common.{◌≡◌, ◌⊎◌, ◌+◌, ◌++◌, ◌∙◌, ℕ, List, [], ◌∷◌, Option, Result, Ok, Err, All, inl, inr, refl, sym, ap, subst, append-nil, append_assoc, arith}
+use Rattle.std.proofs.Common.{◌≡◌, ◌⊎◌, ◌+◌, ◌++◌, ◌∙◌, ℕ, List, [], ◌∷◌, Option, Result, Ok, All, inl, inr, refl, sym, ap, subst, append-nil, append_assoc, arith}
 use Rattle.std.proofs.lemmas.List.Elements.{All-head, All-tail}
-use Rattle.hw_model.specs.Limits.{IsFlat}
 use Rattle.hw_model.specs.Problem.{Problem, shape_of}
 use Rattle.hw_lines.specs.declared.check.Refusal.{Refusal}
 use Rattle.hw_lines.specs.declared.line.Line.{Line}
-use Rattle.hw_lines.specs.Refusals.{refusal}
 use Rattle.hw_lines.specs.Valid.{LineFits, ValidFrom, Valid, verdict}
 use Rattle.hw_verdict.proofs.Refused.{from_valid}
 use Rattle.hw_cert.specs.declared.version.Version.TheVariants.{Two}

@@ -1,22 +1,19 @@
 -- A search whose lines go to Proof.
-use Rattle.std.proofs.Common.{◌≡◌, ◌≤◌, ◌<◌, ◌++◌, ◌∙◌, ℕ, List, [], ◌∷◌, Bool, true, false, take, length, Option, Some, None, Result, Ok, Err, inl, inr, refl, sym, ap, subst, arith, append-nil}
+use Rattle.std.proofs.Common.{◌≡◌, ◌≤◌, ◌++◌, ◌∙◌, ℕ, List, [], Bool, true, false, Option, Some, None, Result, Ok, Err, inr, refl, sym, ap, subst, arith, append-nil}
 use Rattle.std.specs.Prelude.{IfSome, IsSomeAnd, is_some, is_err, option_and_then}
-use Rattle.std.specs.Io.KnownBytes.{append_known}
 use Rattle.hw_model.specs.Problem.{Problem}
 use Rattle.hw_model.specs.Timetables.{cargo}
-use Rattle.hw_desk.specs.State.{DeskState, TrayState, IsFresh, put_tray, Rose}
-use Rattle.hw_desk.specs.Calls.{OnlyTray, Sends, Tells, Makes}
+use Rattle.hw_desk.specs.State.{DeskState, TrayState, put_tray, Rose}
+use Rattle.hw_desk.specs.Calls.{OnlyTray, Makes}
 use Rattle.hw_desk.specs.Whole.{SendsText}
 use Rattle.hw_desk.specs.declared.desk.Tray.{Tray}
 use Rattle.hw_desk.specs.declared.desk.Tray.TheVariants.{Report, Proof}
 use Rattle.hw_desk.proofs.Chain.{only_tray_on}
-use Rattle.hw_lines.specs.declared.check.Verdict.TheVariants as verdicts
 use Rattle.hw_lines.specs.declared.line.Line.{Line}
-use Rattle.hw_lines.specs.Lemmas.{lemmas_of}
-use Rattle.hw_lines.specs.Lines.{best_of, last_table, is_closed, ends}
+use Rattle.hw_lines.specs.Lines.{best_of, last_table, ends}
 use Rattle.hw_lines.specs.Valid.{verdict, verdict_by}
 use Rattle.hw_cert.specs.declared.version.Version.TheVariants.{Two}
-use Rattle.hw_cert.specs.Logs.{LogTold, LogModel, outside_of, Outside}
+use Rattle.hw_cert.specs.Logs.{LogTold, outside_of, Outside}
 use Rattle.hw_cert.specs.Texts.{cert_text}
 use Rattle.hw_cert.specs.Told.{header_line, bytes_told, is_told, tray_log, IsTextOf}
 use Rattle.hw_cert.proofs.ToldText.{text_told}
@@ -26,7 +23,7 @@ use Rattle.hw_progress.specs.Solving.{SolveWrites, SolveMeets}
 use Rattle.hw_progress.specs.Turns.{FailsAt}
 use Rattle.hw_report.specs.declared.report.Head.{Head}
 use Rattle.hw_report.specs.declared.report.Head.TheVariants as heads
-use Rattle.hw_app.specs.Certified.{IsWritten, IsSpent, IsCertificate, head_verdict, Finds, IsInHeader, IsInLine, IsCutShort}
+use Rattle.hw_app.specs.Certified.{IsWritten, IsSpent, IsCertificate, head_verdict}
 use Rattle.hw_app.specs.Searching.{SearchLeaves, SearchesTo}
 
 -- ---- what was told of the log

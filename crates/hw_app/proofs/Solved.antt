@@ -7,7 +7,7 @@ use Rattle.hw_desk.specs.declared.desk.Feed.TheVariants.{Flat}
 use Rattle.hw_desk.specs.declared.desk.Tray.TheVariants.{Proof}
 use Rattle.hw_progress.specs.declared.outcome.Solved.{Solved}
 use Rattle.hw_progress.specs.declared.outcome.Solved.TheVariants.{Optimal, Infeasible, Unfinished, NoMemory, LogFailed}
-use Rattle.hw_report.specs.Reports.{Report, by_number, solved}
+use Rattle.hw_report.specs.Reports.{by_number, solved}
 use Rattle.hw_report.specs.declared.report.Head.{Head}
 use Rattle.hw_report.specs.declared.report.Head.TheVariants as heads
 use Rattle.hw_text.specs.Numbers.{number_from_to}

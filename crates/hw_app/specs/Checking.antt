@@ -1,7 +1,6 @@
 -- The lines of a certificate that were taken so far.
 use Rattle.std.specs.Prelude.{◌≡◌, ◌≤◌, ◌<◌, ◌+◌, ◌^◌, ℕ, List, [], true, ◌∷◌, ◌++◌, Option, None, Result, Ok, Err, IfSome, IsSomeAnd, All, ⊤, is_none, if◌then◌else◌}
 use Rattle.hw_model.specs.Problem.{Problem, shape_of}
-use Rattle.hw_model.specs.Limits.{IsFlat}
 use Rattle.hw_text.specs.Parts.{parts_of}
 use Rattle.hw_desk.specs.State.{DeskState, Rose}
 use Rattle.hw_desk.specs.declared.desk.Feed.TheVariants as feeds

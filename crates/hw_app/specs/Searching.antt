@@ -1,5 +1,5 @@
 -- A search whose lines go to Proof.
-use Rattle.std.specs.Prelude.{◌≡◌, ◌≤◌, ℕ, List, Option, Some, None, IfSome, true}
+use Rattle.std.specs.Prelude.{◌≡◌, ℕ, List, Option, Some, None, IfSome, true}
 use Rattle.hw_model.specs.Problem.{Problem}
 use Rattle.hw_desk.specs.Calls.{OnlyTray}
 use Rattle.hw_desk.specs.State.{DeskState, Rose}

@@ -1,7 +1,6 @@
 use Rattle.std.proofs.Common.{◌≡◌, [], ℕ, List, Option, rules, sym, ◌∙◌, subst}
 use Rattle.std.specs.Prelude.{IfSome}
 use Rattle.hw_desk.proofs.Chain.{only_feed_on}
-use Rattle.hw_desk.specs.State.{DeskState}
 use Rattle.hw_desk.specs.declared.desk.Feed.TheVariants.{Certificate}
 use Rattle.hw_cert.specs.Nexts.{rest_of}
 use Rattle.hw_cert.specs.Reader.{ReaderModel}

@@ -1,6 +1,5 @@
 use Rattle.std.proofs.Common.{◌≡◌, ◌-◌, ◌^◌, ℕ, List, []}
 use Rattle.hw_desk.specs.Calls.{Moves}
-use Rattle.hw_desk.specs.State.{DeskState}
 use Rattle.hw_desk.specs.declared.desk.Feed.TheVariants.{Certificate}
 use Rattle.hw_cert.specs.Nexts.{rest_of}
 use Rattle.hw_lines.specs.declared.line.Line.{Line}
