@@ -23,3 +23,4 @@ pub mod Ending
 pub mod Props
 pub mod Taught
 pub mod Lessons
+pub mod Faults

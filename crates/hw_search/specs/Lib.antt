@@ -11,3 +11,4 @@ pub mod Branching
 pub mod Any
 pub mod Going
 pub mod GoingBack
+pub mod Faults

@@ -7,6 +7,7 @@ ghost use Rattle.hw_cert.specs.Logs.{WhereTold};
 ghost use Rattle.hw_progress.specs.Settling.{SettleMeets};
 ghost use Rattle.hw_progress.specs.Turns.{TurnMeets};
 ghost use Rattle.hw_progress.specs.Starting.{Branches, EachSourceOnce};
+ghost use Rattle.hw_search.specs.Faults.{TurnKeepsFaults};
 
 use crate::engine::Engine;
 use hw_cert::Log;
@@ -82,6 +83,7 @@ impl<'f, S: Store + Drop, P: Propagator + Drop> Search<'f, S, P> {
         requires going { self.old.over ≡ false }
         requires fits { WhereTold (L.state log.old) (λ told. LogFits told self.old) }
         ensures turns { TurnMeets self.old (L.state log.old) result self.new (L.state log.new) }
+        ensures kept { TurnKeepsFaults result (L.state log.old) (L.state log.new) }
         ensures same_reference { L.anchor log.new ≡ L.anchor log.old }
     {
         self.engine.turn(alloc, log)

@@ -7,6 +7,7 @@ ghost use Rattle.hw_model.specs.Timetables.{Permits};
 ghost use Rattle.hw_progress.specs.Searches.{new_search};
 ghost use Rattle.hw_progress.specs.Solving.{SolveMeets};
 ghost use Rattle.hw_progress.specs.Starting.{EachSourceOnce};
+ghost use Rattle.hw_search.specs.Faults.{SolvedKeepsFaults};
 ghost use Rattle.hw_search.specs.Going.{Going, EndsSolved};
 
 use crate::any::{AnyPropagator, for_source};
@@ -71,6 +72,7 @@ fn run<'f, L: Log>(
     requires most { budget ≤ 100_000 }
     requires empty { IsEmpty (L.state log.old) }
     ensures solves { SolveMeets flat.now budget (L.state log.old) result (L.state log.new) }
+    ensures kept { SolvedKeepsFaults result (L.state log.old) (L.state log.new) }
     ensures same_reference { L.anchor log.new ≡ L.anchor log.old }
 {
     let _shape = flat.shape();
@@ -101,6 +103,7 @@ pub fn solve<L: Log>(alloc: Global, flat: &Flat, budget: u32, log: &mut L) -> So
     requires most { budget ≤ 100_000 }
     requires empty { IsEmpty (L.state log.old) }
     ensures solves { SolveMeets flat.now budget (L.state log.old) result (L.state log.new) }
+    ensures kept { SolvedKeepsFaults result (L.state log.old) (L.state log.new) }
     ensures same_reference { L.anchor log.new ≡ L.anchor log.old }
 {
     match start(alloc, flat) {

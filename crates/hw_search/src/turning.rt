@@ -10,6 +10,7 @@ ghost use Rattle.hw_progress.specs.Searches.{SearchModel, LogFits, room_in, best
 ghost use Rattle.hw_progress.specs.Settling.{AllQuiet, IsConflict, Settles};
 ghost use Rattle.hw_progress.specs.Starting.{Branches};
 ghost use Rattle.hw_progress.specs.Turns.{TurnMeets};
+ghost use Rattle.hw_search.specs.Faults.{TurnKeepsFaults};
 ghost use Rattle.hw_search.specs.Turning.{Begins, Decides, turn_of};
 
 use crate::asking::clause_of;
@@ -96,6 +97,7 @@ impl<'f, S: Store + Drop, P: Propagator + Drop> Engine<'f, S, P> {
         requires point { IsPoint (room_in self.old.search) }
         requires whole { IsWhole (L.state log.old) }
         ensures turns { (s : SearchModel) → Begins s (L.state log.old) → Settles s self.old.search Quiet → TurnMeets s (L.state log.old) result self.new.search (L.state log.new) }
+        ensures kept { TurnKeepsFaults result (L.state log.old) (L.state log.new) }
         ensures same_reference { L.anchor log.new ≡ L.anchor log.old }
     {
         match hand_table(alloc, self.flat, self.trail.room(), log) {
@@ -113,6 +115,7 @@ impl<'f, S: Store + Drop, P: Propagator + Drop> Engine<'f, S, P> {
         requires none { clause_of why.now ≡ [] }
         requires whole { IsWhole (L.state log.old) }
         ensures turns { (s : SearchModel) → Begins s (L.state log.old) → Settles s self.old.search (Conflict why.now) → TurnMeets s (L.state log.old) result self.new.search (L.state log.new) }
+        ensures kept { TurnKeepsFaults result (L.state log.old) (L.state log.new) }
         ensures same_reference { L.anchor log.new ≡ L.anchor log.old }
     {
         match hand_why(alloc, self.flat, why, log) {
@@ -132,6 +135,7 @@ impl<'f, S: Store + Drop, P: Propagator + Drop> Engine<'f, S, P> {
         requires few { self.old.search.lemmas < 100000 }
         requires whole { IsWhole (L.state log.old) }
         ensures turns { (s : SearchModel) → Begins s (L.state log.old) → Settles s self.old.search (Conflict why.now) → TurnMeets s (L.state log.old) result self.new.search (L.state log.new) }
+        ensures kept { TurnKeepsFaults result (L.state log.old) (L.state log.new) }
         ensures same_reference { L.anchor log.new ≡ L.anchor log.old }
     {
         let Ok(learnt) = learn(alloc, &self.trail, clause_of(why)) else {
@@ -195,6 +199,7 @@ impl<'f, S: Store + Drop, P: Propagator + Drop> Engine<'f, S, P> {
         requires going { self.old.search.over ≡ false }
         requires fits { WhereTold (L.state log.old) (λ told. LogFits told self.old.search) }
         ensures turns { TurnMeets self.old.search (L.state log.old) result self.new.search (L.state log.new) }
+        ensures kept { TurnKeepsFaults result (L.state log.old) (L.state log.new) }
         ensures same_reference { L.anchor log.new ≡ L.anchor log.old }
     {
         let _ = &self.trail;

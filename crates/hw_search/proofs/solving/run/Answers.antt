@@ -9,6 +9,7 @@ use Rattle.hw_progress.specs.Turns.{is_last}
 use Rattle.hw_search.specs.Going.{Going, EndsSolved}
 use Rattle.hw_search.proofs.Counting.{nearer}
 use Rattle.hw_search.proofs.Solved.{begins, goes_on, ends_at, stopped, failed, spent, to_fit}
+use Rattle.hw_search.proofs.Faults.{going_keeps, ended_keeps}
 use Rattle.hw_search.proofs.solving.run.Goals as goal
 
 goes : (t : Turn) → (t ≡ turns.Decided) ⊎ ((t ≡ turns.Better) ⊎ (t ≡ turns.Lemma)) → is_last t ≡ false
@@ -19,6 +20,7 @@ goes t (inr (inr e)) = ap is_last e
 pub turns-init : goal.turns-init
 turns-init g c = record {
   going = subst (λ s. Going c.args.flat.now c.args.budget s (g.L.Log.state c.args.log.now) (g.L.Log.state c.args.log.now)) (sym c.requires.new) (begins c.args.flat.now c.args.budget (g.L.Log.state c.args.log.now) c.shape-shape.ensures.limits c.requires.empty);
+  faults = refl;
   same = refl;
 }
 
@@ -35,6 +37,7 @@ turns-preserved g c =
     let few : c.turns.search.lemmas < c.args.budget = omega (arith, c.turns-test.true, c.lemmas.ensures.value) in
     record {
       going = goes_on c.args.flat.now c.args.budget c.turns.search c.turn.new.self c.turn.result (g.L.Log.state c.args.log.now) (g.L.Log.state c.turns.log) (g.L.Log.state c.turn.new.log) c.turns.invariant.going few (goes c.turn.result c.in-Decided.is) c.turn.ensures.turns;
+      faults = going_keeps c.turn.result (g.L.Log.state c.turns.log) (g.L.Log.state c.turn.new.log) (goes c.turn.result c.in-Decided.is) c.turn.ensures.kept ∙ c.turns.invariant.faults;
       same = c.turn.ensures.same_reference ∙ c.turns.invariant.same;
     }
 
@@ -48,6 +51,7 @@ returns-in-Ended g c =
     let few : c.turns.search.lemmas < c.args.budget = omega (arith, c.turns-test.true, c.lemmas.ensures.value) in
     record {
       solves = ends_at c.args.flat.now c.args.budget c.turns.search c.turn.new.self c.proved.result (g.L.Log.state c.args.log.now) (g.L.Log.state c.turns.log) (g.L.Log.state c.turn.new.log) c.lemmas.ensures.search c.turns.invariant.going few c.in-Ended.ensures.turns (subst (λ (o : Option (List ℕ)). EndsSolved c.args.flat.now o c.proved.result) c.into_best.ensures.value c.proved.ensures.value);
+      kept = ended_keeps c.args.flat.now c.into_best.result c.proved.result (g.L.Log.state c.args.log.now) (g.L.Log.state c.turn.new.log) c.proved.ensures.value (c.in-Ended.ensures.kept ∙ c.turns.invariant.faults);
       same_reference = c.in-Ended.ensures.same_reference ∙ c.turns.invariant.same;
     }
 
@@ -57,6 +61,7 @@ returns-in-NoMemory g c =
     record {
       solves = subst (λ (o : Option (List ℕ)). SolveMeets c.args.flat.now c.args.budget (g.L.Log.state c.args.log.now) (answers.NoMemory o) (g.L.Log.state c.turn.new.log)) (sym c.into_best-in-NoMemory.ensures.value)
           (stopped c.args.flat.now c.args.budget c.turns.search c.turn.new.self (g.L.Log.state c.args.log.now) (g.L.Log.state c.turns.log) (g.L.Log.state c.turn.new.log) c.lemmas.ensures.search c.turns.invariant.going few c.in-NoMemory.ensures.turns);
+      kept = c.in-NoMemory.ensures.kept ∙ c.turns.invariant.faults;
       same_reference = c.in-NoMemory.ensures.same_reference ∙ c.turns.invariant.same;
     }
 
@@ -65,6 +70,7 @@ returns-in-LogFailed g c =
     let few : c.turns.search.lemmas < c.args.budget = omega (arith, c.turns-test.true, c.lemmas.ensures.value) in
     record {
       solves = failed c.args.flat.now c.args.budget c.turns.search c.turn.new.self (g.L.Log.state c.args.log.now) (g.L.Log.state c.turns.log) (g.L.Log.state c.turn.new.log) c.turns.invariant.going few c.in-LogFailed.ensures.turns;
+      kept = tt;
       same_reference = c.in-LogFailed.ensures.same_reference ∙ c.turns.invariant.same;
     }
 
@@ -72,5 +78,6 @@ pub returns : goal.returns
 returns g c = record {
   solves = subst (λ (o : Option (List ℕ)). SolveMeets c.args.flat.now c.args.budget (g.L.Log.state c.args.log.now) (answers.Unfinished o) (g.L.Log.state c.turns.log)) (sym c.into_best-2.ensures.value)
       (spent c.args.flat.now c.args.budget c.turns.search (g.L.Log.state c.args.log.now) (g.L.Log.state c.turns.log) c.lemmas.ensures.search c.turns.invariant.going (omega (arith, c.turns-test.false, c.lemmas.ensures.value)));
+  kept = c.turns.invariant.faults;
   same_reference = c.turns.invariant.same;
 }

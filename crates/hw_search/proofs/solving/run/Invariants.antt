@@ -5,6 +5,7 @@ use Rattle.hw_search.proofs.solving.run.Given as goal
 abbrev pub invariant-turns : goal.invariant-turns
 invariant-turns g l = record {
   going : Going l.flat l.budget l.search (g.L.Log.state l.fn.log) (g.L.Log.state l.log);
+  faults : (g.L.Log.state l.log).faults ≡ (g.L.Log.state l.fn.log).faults;
   same : g.L.Log.anchor l.log ≡ g.L.Log.anchor l.fn.log;
 }
 

@@ -4,6 +4,7 @@ use Rattle.hw_progress.specs.Searches.{IsSearch}
 use Rattle.hw_search.specs.Engines.{EngineModel}
 use Rattle.hw_search.specs.Turning.{turn_of, halted}
 use Rattle.hw_search.proofs.Ending.{turned, ends, ends_stopped}
+use Rattle.hw_search.proofs.Faults.{stop_keeps}
 use Rattle.hw_search.proofs.engine.Engine.end.Goals as goal
 
 pub returns-in-Ok-clause-turns : goal.returns-in-Ok-clause-turns
@@ -19,3 +20,9 @@ returns-in-Err-clause-turns g c = λ s b settles.
     let is : IsSearch s0 = subst (λ (e : EngineModel). IsSearch e.search) c.self.view_is c.self.invariant.0.search in
     turned s (g.L.Log.state c.args.log.now) (g.L.Log.state c.hand_why.new.log) (turn_of c.in-Err.stop) c.halt.result (halted s0 s0.written s0.clause_lines) c.halt.new.self.search c.halt.ensures.value c.halt.ensures.search
     (ends_stopped s s0 c.args.why.now c.self.inside.flat.now s0.written s0.clause_lines c.in-Err.stop (g.L.Log.state c.args.log.now) (g.L.Log.state c.hand_why.new.log) b is c.requires.conflict c.requires.none settles (ap (λ (e : EngineModel). e.search.problem) c.self.view_is) c.in-Err.ensures.stops)
+
+pub returns-in-Ok-clause-kept : goal.returns-in-Ok-clause-kept
+returns-in-Ok-clause-kept g c = c.in-Ok.ensures.hands.faults
+
+pub returns-in-Err-clause-kept : goal.returns-in-Err-clause-kept
+returns-in-Err-clause-kept g c = stop_keeps c.in-Err.stop c.halt.result (g.L.Log.state c.args.log.now) (g.L.Log.state c.args.log.now) (g.L.Log.state c.hand_why.new.log) c.halt.ensures.value refl c.in-Err.ensures.stops.cause

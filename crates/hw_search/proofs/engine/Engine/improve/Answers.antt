@@ -11,6 +11,7 @@ use Rattle.hw_search.specs.Turning.{turn_of, halted}
 use Rattle.hw_search.proofs.Kept.{room_here}
 use Rattle.hw_search.proofs.Answering.{better_meets, table_stops}
 use Rattle.hw_search.proofs.Ending.{turned}
+use Rattle.hw_search.proofs.Faults.{stop_keeps}
 use Rattle.hw_search.proofs.engine.Engine.improve.Goals as goal
 
 pub hand_table-requires-clause-room : goal.hand_table-requires-clause-room
@@ -49,3 +50,9 @@ returns-in-Err-clause-turns g c = λ s b settles.
     let P : RoomModel → Type 0 = λ r. StopsWithin stop (lines.Table (point_of r) ∷ []) 0 (g.L.Log.state c.args.log.now) (g.L.Log.state c.hand_table.new.log) in
     turned s (g.L.Log.state c.args.log.now) (g.L.Log.state c.hand_table.new.log) (turn_of stop) c.halt.result (halted s0 s0.written s0.clause_lines) c.halt.new.self.search c.halt.ensures.value c.halt.ensures.search
     (table_stops s s0 s0.written s0.clause_lines stop (g.L.Log.state c.args.log.now) (g.L.Log.state c.hand_table.new.log) b settles c.requires.point (subst P room c.in-Err.ensures.stops))
+
+pub returns-in-Ok-clause-kept : goal.returns-in-Ok-clause-kept
+returns-in-Ok-clause-kept g c = c.in-Ok.ensures.takes.faults
+
+pub returns-in-Err-clause-kept : goal.returns-in-Err-clause-kept
+returns-in-Err-clause-kept g c = stop_keeps c.in-Err.stop c.halt.result (g.L.Log.state c.args.log.now) (g.L.Log.state c.args.log.now) (g.L.Log.state c.hand_table.new.log) c.halt.ensures.value refl c.in-Err.ensures.stops.cause

@@ -19,6 +19,8 @@ use Rattle.hw_search.proofs.Lessons.{teaches, places_inside, numbers_left, level
 use Rattle.hw_search.proofs.Markings.{written_whole}
 use Rattle.hw_search.proofs.Taught.{Teaches, WentBack, analysed, went, went_search, stopped_past, went_meets, stop_meets_past}
 use Rattle.hw_search.proofs.Teaching.{lemma_stops, last_meets}
+use Rattle.hw_cert.specs.declared.log.LogStop.TheVariants as stops
+use Rattle.hw_search.proofs.Faults.{stop_keeps}
 use Rattle.hw_search.proofs.engine.Engine.teach.Goals as goal
 
 pub returns-in_default-clause-turns : goal.returns-in_default-clause-turns
@@ -302,3 +304,26 @@ returns-clause-turns g c = λ s b settles.
     let lines = c.write_lemma-written.new.clause_lines in
     turned s old wrote (turn_of stop) c.turn_of-in-Err.result (halted mid ws lines) (halted mid ws lines) c.turn_of-in-Err.ensures.value refl
     (lemma_stops s mid why lemma back places ws lines stop old wrote b (analysed s mid why lemma back places settles' t) c.requires.some (c.in-Err.ensures.lines mid))
+
+pub returns-in_default-clause-kept : goal.returns-in_default-clause-kept
+returns-in_default-clause-kept g c = stop_keeps stops.NoMemory c.halt.result (g.L.Log.state c.args.log.now) (g.L.Log.state c.args.log.now) (g.L.Log.state c.args.log.now) c.halt.ensures.value refl refl
+
+pub returns-then-len-eq0-clause-kept : goal.returns-then-len-eq0-clause-kept
+returns-then-len-eq0-clause-kept g c =
+    let wrote = c.in-Ok-written.ensures.lines c.args.self.now.search in
+    wrote.faults
+
+pub returns-in-Ok-gone-clause-kept : goal.returns-in-Ok-gone-clause-kept
+returns-in-Ok-gone-clause-kept g c =
+    let wrote = c.in-Ok-written.ensures.lines c.args.self.now.search in
+    c.in-Ok-gone.ensures.tidies.1.2.faults ∙ wrote.faults
+
+pub returns-in-Ok-written-clause-kept : goal.returns-in-Ok-written-clause-kept
+returns-in-Ok-written-clause-kept g c =
+    let wrote = c.in-Ok-written.ensures.lines c.args.self.now.search in
+    stop_keeps c.in-Err-gone.stop c.turn_of.result (g.L.Log.state c.args.log.now) (g.L.Log.state c.write_lemma-written.new.log) (g.L.Log.state c.go_back-gone.new.log) c.turn_of.ensures.value wrote.faults c.in-Err-gone.ensures.tidies.1.2.cause
+
+pub returns-clause-kept : goal.returns-clause-kept
+returns-clause-kept g c =
+    let stopped = c.in-Err.ensures.lines c.args.self.now.search in
+    stop_keeps c.in-Err.stop c.turn_of-in-Err.result (g.L.Log.state c.args.log.now) (g.L.Log.state c.args.log.now) (g.L.Log.state c.write_lemma-written.new.log) c.turn_of-in-Err.ensures.value refl stopped.cause

@@ -8,6 +8,8 @@ use Rattle.hw_search.specs.Engines.{EngineModel}
 use Rattle.hw_search.specs.Turning.{Begins, halted}
 use Rattle.hw_search.proofs.Answering.{decides, decided_meets, stopped_early}
 use Rattle.hw_search.proofs.Ending.{turned}
+use Rattle.hw_cert.specs.declared.log.LogStop.TheVariants as stops
+use Rattle.hw_search.proofs.Faults.{stop_keeps}
 use Rattle.hw_search.proofs.engine.Engine.turn.Goals as goal
 
 pub returns-then-is_point-clause-turns : goal.returns-then-is_point-clause-turns
@@ -51,3 +53,18 @@ returns-clause-turns g c =
     let log = g.L.Log.state c.args.log.now in
     let is : IsSearch mid = subst (λ (e : EngineModel). IsSearch e.search) c.self-in-Err.view_is c.self-in-Err.invariant.0.search in
     turned s log log turns.NoMemory c.halt.result (halted mid mid.written mid.clause_lines) c.halt.new.self.search c.halt.ensures.value c.halt.ensures.search (stopped_early s mid mid.written mid.clause_lines log b c.in-Err.ensures.meets is)
+
+pub returns-then-is_point-clause-kept : goal.returns-then-is_point-clause-kept
+returns-then-is_point-clause-kept g c = c.improve.ensures.kept
+
+pub returns-in-Ok-Quiet-clause-kept : goal.returns-in-Ok-Quiet-clause-kept
+returns-in-Ok-Quiet-clause-kept g c = refl
+
+pub returns-then-len-eq0-clause-kept : goal.returns-then-len-eq0-clause-kept
+returns-then-len-eq0-clause-kept g c = c.end.ensures.kept
+
+pub returns-in-Ok-Conflict-clause-kept : goal.returns-in-Ok-Conflict-clause-kept
+returns-in-Ok-Conflict-clause-kept g c = c.teach.ensures.kept
+
+pub returns-clause-kept : goal.returns-clause-kept
+returns-clause-kept g c = stop_keeps stops.NoMemory c.halt.result (g.L.Log.state c.args.log.now) (g.L.Log.state c.args.log.now) (g.L.Log.state c.args.log.now) c.halt.ensures.value refl refl
