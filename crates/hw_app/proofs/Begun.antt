@@ -11,7 +11,7 @@ use Rattle.hw_desk.specs.declared.whole.ReadStop.TheVariants as stops
 use Rattle.hw_report.specs.Reports.{Report, read_fault, too_long, no_memory}
 use Rattle.hw_app.specs.Inputs.{Enters, StopsFor, report_of_stop}
 use Rattle.hw_app.specs.Scope.{Named, named, is_among, last_of, IsBegun, AllBegun, BeginsAll}
-use Rattle.hw_app.specs.Works.{Speaks, of_answer, of_input, of_memory, speaks, UpTo, TraysOf, WritesKeptOf, ReadCauseOf, PassesLimit, LongCauseOf, Works, most_bytes}
+use Rattle.hw_app.specs.Works.{Speaks, of_answer, of_input, of_memory, speaks, UpTo, TraysOf, ReadCauseOf, PassesLimit, LongCauseOf, Works, most_bytes}
 
 -- these inputs were begun, and neither a tray nor a write was touched
 pub record Entered (done : List Named) (x y : DeskState) : Type 0 where
@@ -109,14 +109,6 @@ no_tray x y (Some name) of_answer e = inl e
 no_tray x y proof (of_input feed) e = e
 no_tray x y proof of_memory e = e
 
-no_write : (x y : DeskState) (proof : Option (List ℕ)) (s : Speaks) → y.write_faults ≡ x.write_faults → WritesKeptOf proof x y s
-no_write x y None of_answer e = e
-no_write x y (Some name) of_answer e = omega arith
-no_write x y None (of_input feed) e = e
-no_write x y (Some name) (of_input feed) e = e
-no_write x y None of_memory e = e
-no_write x y (Some name) of_memory e = e
-
 -- the work that ends before an answer
 pub answers : {inputs : List Named} {x y : DeskState} (proof : Option (List ℕ)) (r : Report) → speaks r ≡ of_answer → Entered inputs x y → ReadCauseOf x y r → LongCauseOf inputs x r → Works inputs proof x y r
 answers {inputs = inputs} {x = x} {y = y} proof r e h read long = record {
@@ -128,7 +120,7 @@ answers {inputs = inputs} {x = x} {y = y} proof r e h read long = record {
   trays = no_tray x y proof (speaks r) h.trays;
   read_cause = read;
   long_cause = long;
-  writes_kept = no_write x y proof (speaks r) h.write_faults;
+  write_faults = h.write_faults;
 }
 
 -- the work that ends at the input that was begun last
@@ -142,7 +134,7 @@ refuses {x = x} {y = y} proof done last rest r parts e h read long = record {
   trays = no_tray x y proof (speaks r) h.trays;
   read_cause = read;
   long_cause = long;
-  writes_kept = no_write x y proof (speaks r) h.write_faults;
+  write_faults = h.write_faults;
 }
 
 -- the work that ends for want of memory
@@ -156,7 +148,7 @@ wants_memory {x = x} {y = y} proof done rest parts h read = record {
   trays = h.trays;
   read_cause = read;
   long_cause = tt;
-  writes_kept = no_write x y proof of_memory h.write_faults;
+  write_faults = h.write_faults;
 }
 
 passes : (feed : Feed) (told : Option (List ℕ)) → IfSome told (λ bytes. most_bytes < length bytes) → PassesLimit feed told

@@ -1,5 +1,5 @@
 -- Faults have their causes.
-use Rattle.std.proofs.Common.{◌≡◌, ◌≤◌, ◌∙◌, ℕ, List, Option, Some, None, Result, Ok, Err, inl, inr, sym, arith}
+use Rattle.std.proofs.Common.{◌≡◌, ◌∙◌, ℕ, List, Option, Some, None, Result, Ok, Err, inl, inr, sym, arith}
 use Rattle.hw_desk.specs.State.{DeskState, Rose}
 use Rattle.hw_lines.specs.declared.check.Verdict.{Verdict}
 use Rattle.hw_lines.specs.declared.check.Verdict.TheVariants as verdicts
@@ -12,7 +12,7 @@ use Rattle.hw_app.specs.Laws.{FaultsCaused, FaultCauses}
 use Rattle.hw_app.specs.Run.{CommandMeets}
 use Rattle.hw_app.specs.Scope.{Named, inputs_of, proof_of}
 use Rattle.hw_app.specs.Statuses.{status_of, status_of_head, status_of_verdict}
-use Rattle.hw_app.specs.Works.{Speaks, of_answer, of_input, of_memory, speaks, WritesKeptOf, ReadCauseOf, Works, WorksTo}
+use Rattle.hw_app.specs.Works.{ReadCauseOf, Works, WorksTo}
 use Rattle.hw_app.specs.declared.form.Form.{Form}
 use Rattle.hw_app.specs.declared.status.Status.{Status}
 use Rattle.hw_app.specs.declared.status.Status.TheVariants.{ReadFault, WriteFault}
@@ -58,15 +58,8 @@ no_write (checked v names) e = no_write_verdict v e
 no_write (rechecked v ships) e = no_write_verdict v e
 no_write _ e = cc
 
-rose_past : (a b c : ℕ) → a ≤ b → Rose b c → Rose a c
+rose_past : (a b c : ℕ) → b ≡ a → Rose b c → Rose a c
 rose_past a b c e h = omega arith
-
--- the count of failed makes and writes isn't lower behind the work
-not_lower : (x y : DeskState) (proof : Option (List ℕ)) (s : Speaks) → WritesKeptOf proof x y s → x.write_faults ≤ y.write_faults
-not_lower x y None of_answer e = omega arith
-not_lower x y (Some name) of_answer e = e
-not_lower x y proof (of_input feed) e = omega arith
-not_lower x y proof of_memory e = omega arith
 
 rose_before : (a b c : ℕ) → c ≡ b → Rose a b → Rose a c
 rose_before a b c e h = omega arith
@@ -77,9 +70,9 @@ ended x y z s r w (inl whole) = record {
   read = λ e. rose_before x.read_faults y.read_faults z.read_faults whole.sent.only.read_faults (read_cause x y r (sym e ∙ whole.status) w.read_cause);
   write = λ e. absurd (no_write r (sym e ∙ whole.status));
 }
-ended {proof = proof} x y z s r w (inr short) = record {
+ended x y z s r w (inr short) = record {
   read = λ e. absurd (two_faults (sym e ∙ short.status));
-  write = λ e. rose_past x.write_faults y.write_faults z.write_faults (not_lower x y proof (speaks r) w.writes_kept) short.cause;
+  write = λ e. rose_past x.write_faults y.write_faults z.write_faults w.write_faults short.cause;
 }
   where
     two_faults : ReadFault ≡ WriteFault → ⊥

@@ -21,6 +21,7 @@ use Rattle.hw_progress.specs.declared.outcome.Solved.{Solved}
 use Rattle.hw_progress.specs.declared.outcome.Solved.TheVariants.{Optimal, Infeasible, Unfinished, NoMemory, LogFailed}
 use Rattle.hw_progress.specs.Solving.{SolveWrites, SolveMeets}
 use Rattle.hw_progress.specs.Turns.{FailsAt}
+use Rattle.hw_search.specs.Faults.{SolvedKeepsFaults}
 use Rattle.hw_report.specs.declared.report.Head.{Head}
 use Rattle.hw_report.specs.declared.report.Head.TheVariants as heads
 use Rattle.hw_app.specs.Certified.{IsWritten, IsSpent, IsCertificate, head_verdict}
@@ -92,12 +93,12 @@ Ended f budget answer y z = IfSome (tray_log z).told (Wrote f budget answer y.wr
 ended : {f : Problem} {budget : ℕ} (answer : Solved) (y z : DeskState) → SolveMeets f budget (tray_log y) answer (tray_log z) → IfSome (tray_log z).told (λ told. told.behind ≡ []) → Ended f budget answer y z
 ended {f = f} {budget = budget} answer y z m whole = both_told (Writes f budget answer y z) (λ told. told.behind ≡ []) (tray_log z).told (now_told (Writes f budget answer y z) (tray_log y).told (tray_log z).told m.writes) whole
 
-leaves : {f : Problem} {budget : ℕ} (answer : Solved) (x y z : DeskState) → y.write_faults ≡ x.write_faults → is_told (z.trays Proof).sent ≡ true → SolveMeets f budget (tray_log y) answer (tray_log z) → SearchLeaves f budget x z answer
-leaves (Optimal table c) x y z before told m = record { permitted = m.permitted; means = m.means; certificate = by_lines (z.trays Proof).sent told (ended (Optimal table c) y z m m.ends) (λ t bytes. certificate (Optimal table c) (heads.Optimal c) (Some table) t bytes (optimal_says table c)) }
-leaves Infeasible x y z before told m = record { permitted = m.permitted; means = (m.means, refl); certificate = by_lines (z.trays Proof).sent told (ended Infeasible y z m m.ends) (λ t bytes. certificate Infeasible heads.Infeasible None t bytes infeasible_says) }
-leaves {f = f} {budget = budget} (Unfinished table) x y z before told m = record { permitted = m.permitted; means = (refl, m.means); certificate = by_lines (z.trays Proof).sent told (ended (Unfinished table) y z m m.ends) (λ t bytes. certificate (Unfinished table) (heads.Unfinished budget) table t bytes (λ w. (w.tells.0, verdict_of f t.lines false w.proved_just, (w.tells.1, w.tells.2)))) }
-leaves {f = f} (NoMemory table) x y z before told m = record { permitted = m.permitted; means = tt; certificate = by_lines (z.trays Proof).sent told (ended (NoMemory table) y z m m.ends) (λ t bytes. certificate (NoMemory table) heads.Memory table t bytes (λ w. (w.tells, verdict_of f t.lines false w.proved_just, tt))) }
-leaves {f = f} {budget = budget} LogFailed x y z before told m = (
+leaves : {f : Problem} {budget : ℕ} (answer : Solved) (x y z : DeskState) → y.write_faults ≡ x.write_faults → is_told (z.trays Proof).sent ≡ true → SolveMeets f budget (tray_log y) answer (tray_log z) → SolvedKeepsFaults answer (tray_log y) (tray_log z) → SearchLeaves f budget x z answer
+leaves (Optimal table c) x y z before told m kept = (kept ∙ before, record { permitted = m.permitted; means = m.means; certificate = by_lines (z.trays Proof).sent told (ended (Optimal table c) y z m m.ends) (λ t bytes. certificate (Optimal table c) (heads.Optimal c) (Some table) t bytes (optimal_says table c)) })
+leaves Infeasible x y z before told m kept = (kept ∙ before, record { permitted = m.permitted; means = (m.means, refl); certificate = by_lines (z.trays Proof).sent told (ended Infeasible y z m m.ends) (λ t bytes. certificate Infeasible heads.Infeasible None t bytes infeasible_says) })
+leaves {f = f} {budget = budget} (Unfinished table) x y z before told m kept = (kept ∙ before, record { permitted = m.permitted; means = (refl, m.means); certificate = by_lines (z.trays Proof).sent told (ended (Unfinished table) y z m m.ends) (λ t bytes. certificate (Unfinished table) (heads.Unfinished budget) table t bytes (λ w. (w.tells.0, verdict_of f t.lines false w.proved_just, (w.tells.1, w.tells.2)))) })
+leaves {f = f} (NoMemory table) x y z before told m kept = (kept ∙ before, record { permitted = m.permitted; means = tt; certificate = by_lines (z.trays Proof).sent told (ended (NoMemory table) y z m m.ends) (λ t bytes. certificate (NoMemory table) heads.Memory table t bytes (λ w. (w.tells, verdict_of f t.lines false w.proved_just, tt))) })
+leaves {f = f} {budget = budget} LogFailed x y z before told m kept = (
   rose m.ends.0,
   by_lines (z.trays Proof).sent told (both_told (Writes f budget LogFailed y z) (FailsAt f) (tray_log z).told (now_told (Writes f budget LogFailed y z) (tray_log y).told (tray_log z).told m.writes) m.ends.1) (λ t bytes text w. inr (record { told = t; text = text; written = well LogFailed w.0; next = w.1 })),
 )
@@ -126,15 +127,15 @@ outside_only {y = y} {z = z} e later = record {
 
 -- ---- the search was had
 
-ends_well : {x y z w : DeskState} {name : List ℕ} {f : Problem} {budget : ℕ} {E F : Type 0} {u v : Unit {0}} (answer : Solved) → Makes {E = E} Proof name x y (Ok u) → SendsText {E = F} Proof header_line y z (Ok v) → outside_of w ≡ outside_of z → is_told (w.trays Proof).sent ≡ true → SolveMeets f budget (tray_log z) answer (tray_log w) → SearchesTo f budget name x w answer
-ends_well {x = x} {z = z} {w = w} {name = name} answer h k same told m = record {
+ends_well : {x y z w : DeskState} {name : List ℕ} {f : Problem} {budget : ℕ} {E F : Type 0} {u v : Unit {0}} (answer : Solved) → Makes {E = E} Proof name x y (Ok u) → SendsText {E = F} Proof header_line y z (Ok v) → outside_of w ≡ outside_of z → is_told (w.trays Proof).sent ≡ true → SolveMeets f budget (tray_log z) answer (tray_log w) → SolvedKeepsFaults answer (tray_log z) (tray_log w) → SearchesTo f budget name x w answer
+ends_well {x = x} {z = z} {w = w} {name = name} answer h k same told m kept = record {
   only = only_tray_on (only_tray_on h.only k.only) (outside_only same m.later);
   made = ap (λ (o : Outside). o.made) same ∙ k.ok.made ∙ h.made;
   named = subst (λ (n : Option (List ℕ)). IfSome n (λ t. t ≡ name)) (sym (ap (λ (o : Outside). o.named) same ∙ k.ok.named)) h.named;
-  leaves = leaves answer x z w (k.kept ∙ h.kept) told m;
+  leaves = leaves answer x z w (k.kept ∙ h.kept) told m kept;
 }
 
-pub search_ends : {x y z w : DeskState} {name : List ℕ} {f : Problem} {budget : ℕ} {E F : Type 0} (made : Result Unit E) (sent : Result Unit F) (answer : Solved) → is_err made ≡ false → is_err sent ≡ false → Makes Proof name x y made → SendsText Proof header_line y z sent → outside_of w ≡ outside_of z → is_told (w.trays Proof).sent ≡ true → SolveMeets f budget (tray_log z) answer (tray_log w) → SearchesTo f budget name x w answer
-search_ends (Err e) sent answer a b h k same told m = absurd (cc)
-search_ends (Ok u) (Err e) answer a b h k same told m = absurd (cc)
-search_ends (Ok u) (Ok v) answer a b h k same told m = ends_well answer h k same told m
+pub search_ends : {x y z w : DeskState} {name : List ℕ} {f : Problem} {budget : ℕ} {E F : Type 0} (made : Result Unit E) (sent : Result Unit F) (answer : Solved) → is_err made ≡ false → is_err sent ≡ false → Makes Proof name x y made → SendsText Proof header_line y z sent → outside_of w ≡ outside_of z → is_told (w.trays Proof).sent ≡ true → SolveMeets f budget (tray_log z) answer (tray_log w) → SolvedKeepsFaults answer (tray_log z) (tray_log w) → SearchesTo f budget name x w answer
+search_ends (Err e) sent answer a b h k same told m kept = absurd (cc)
+search_ends (Ok u) (Err e) answer a b h k same told m kept = absurd (cc)
+search_ends (Ok u) (Ok v) answer a b h k same told m kept = ends_well answer h k same told m kept

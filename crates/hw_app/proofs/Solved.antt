@@ -1,5 +1,5 @@
 -- What a certified search says of a flat text.
-use Rattle.std.proofs.Common.{◌≡◌, ◌≤◌, ◌∙◌, ℕ, List, [], ◌∷◌, Option, Some, None, Ok, Err, inr, refl, ap, sym, subst, arith}
+use Rattle.std.proofs.Common.{◌≡◌, ◌∙◌, ℕ, List, [], ◌∷◌, Option, Some, None, Ok, Err, inr, refl, ap, sym, subst, arith}
 use Rattle.std.specs.Prelude.{unwrap_or}
 use Rattle.hw_model.specs.Problem.{Problem}
 use Rattle.hw_desk.specs.State.{DeskState, put_tray, Rose}
@@ -45,8 +45,8 @@ makes_past {z = z} h k = record {
 }
 
 -- the work of a search that found something
-found_works : {f : Problem} {name proof : List ℕ} {budget : ℕ} {x y z : DeskState} {answer : Solved} (head : Head) (table : Option (List ℕ)) → ReadsFlat name x y (Ok f) → SearchesTo f budget proof y z answer → Works (named Flat name ∷ []) (Some proof) x z (solved head f by_number table)
-found_works {name = name} {x = x} {y = y} {z = z} head table h k = record {
+found_works : {f : Problem} {name proof : List ℕ} {budget : ℕ} {x y z : DeskState} {answer : Solved} (head : Head) (table : Option (List ℕ)) → ReadsFlat name x y (Ok f) → z.write_faults ≡ y.write_faults → SearchesTo f budget proof y z answer → Works (named Flat name ∷ []) (Some proof) x z (solved head f by_number table)
+found_works {name = name} {x = x} {y = y} {z = z} head table h kept k = record {
   done = named Flat name ∷ [];
   rest = [];
   parts = refl;
@@ -55,22 +55,19 @@ found_works {name = name} {x = x} {y = y} {z = z} head table h k = record {
   trays = inr (makes_past h k);
   read_cause = k.only.read_faults ∙ h.answer.2;
   long_cause = tt;
-  writes_kept = later h.enters.only.write_faults k.only.later;
+  write_faults = kept ∙ h.enters.only.write_faults;
 }
-  where
-    later : y.write_faults ≡ x.write_faults → y.write_faults ≤ z.write_faults → x.write_faults ≤ z.write_faults
-    later e l = omega arith
 
 budget_is : (word : List ℕ) {budget : ℕ} → number_from_to 1 100_000 word ≡ Some budget → number_in 1 100_000 word ≡ budget
 budget_is word e = ap (λ (o : Option ℕ). unwrap_or o 0) e
 
 -- what was found, and what of it is said
-found : {f : Problem} {budget : ℕ} {x y z end : DeskState} {answer : Solved} {s : Status} (words : List (List ℕ)) (head : Head) (table : Option (List ℕ)) → number_in 1 100_000 (word_at words 3) ≡ budget → ReadsFlat (word_at words 2) x y (Ok f) → SearchesTo f budget (word_at words 4) y z answer → Finds f budget head table z → Ends (solved head f by_number table) z end s → FormMeets SolveFlat words x end s
+found : {f : Problem} {budget : ℕ} {x y z end : DeskState} {answer : Solved} {s : Status} (words : List (List ℕ)) (head : Head) (table : Option (List ℕ)) → number_in 1 100_000 (word_at words 3) ≡ budget → ReadsFlat (word_at words 2) x y (Ok f) → SearchesTo f budget (word_at words 4) y z answer → (z.write_faults ≡ y.write_faults) × Finds f budget head table z → Ends (solved head f by_number table) z end s → FormMeets SolveFlat words x end s
 found {f = f} {x = x} {z = z} words head table e h k left ends = record {
   mid = z;
   report = Some (solved head f by_number table);
-  works = found_works head table h k;
-  says = λ own. record { limits = h.answer.0; reads = h.answer.1; by_numbers = refl; made = makes_past h k; finds = subst (λ (n : ℕ). Finds f n head table z) (sym e) left };
+  works = found_works head table h left.0 k;
+  says = λ own. record { limits = h.answer.0; reads = h.answer.1; by_numbers = refl; made = makes_past h k; finds = subst (λ (n : ℕ). Finds f n head table z) (sym e) left.1 };
   ends = ends;
 }
 

@@ -10,12 +10,12 @@ use Rattle.hw_report.specs.Reports.{Report, Naming, solved}
 use Rattle.hw_report.specs.declared.report.Head.TheVariants as heads
 use Rattle.hw_app.specs.Certified.{Finds, IsCutShort}
 
--- what an answer leaves: what was found, or a make or a write that failed
+-- what an answer leaves: what was found, no make and no write having failed; or a make or a write that failed
 abbrev pub SearchLeaves : Problem → ℕ → DeskState → DeskState → Solved → Type 0
-SearchLeaves f budget old new (Optimal table c) = Finds f budget (heads.Optimal c) (Some table) new
-SearchLeaves f budget old new Infeasible = Finds f budget heads.Infeasible None new
-SearchLeaves f budget old new (Unfinished table) = Finds f budget (heads.Unfinished budget) table new
-SearchLeaves f budget old new (NoMemory table) = Finds f budget heads.Memory table new
+SearchLeaves f budget old new (Optimal table c) = (new.write_faults ≡ old.write_faults) × Finds f budget (heads.Optimal c) (Some table) new
+SearchLeaves f budget old new Infeasible = (new.write_faults ≡ old.write_faults) × Finds f budget heads.Infeasible None new
+SearchLeaves f budget old new (Unfinished table) = (new.write_faults ≡ old.write_faults) × Finds f budget (heads.Unfinished budget) table new
+SearchLeaves f budget old new (NoMemory table) = (new.write_faults ≡ old.write_faults) × Finds f budget heads.Memory table new
 SearchLeaves f budget old new LogFailed = Rose old.write_faults new.write_faults × IsCutShort f budget new
 
 -- Proof was made under its name, and a search wrote to it

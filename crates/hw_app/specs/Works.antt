@@ -1,6 +1,6 @@
 -- What the work of every command keeps before its report: its scope, the cause of each fault and of
 -- each limit, and which inputs were begun. What its answer says stands in a file of the form's own.
-use Rattle.std.specs.Prelude.{◌≡◌, ◌≤◌, ◌<◌, ℕ, List, [], ◌++◌, Bool, true, false, Option, Some, None, IfSome, IsSomeAnd, ⊤, length}
+use Rattle.std.specs.Prelude.{◌≡◌, ◌<◌, ℕ, List, [], ◌++◌, Bool, true, false, Option, Some, None, IfSome, IsSomeAnd, ⊤, length}
 use Rattle.hw_desk.specs.State.{DeskState, Rose}
 use Rattle.hw_desk.specs.declared.desk.Feed.{Feed}
 use Rattle.hw_desk.specs.declared.desk.Feed.TheVariants.{Flat, Instance, Tides, Certificate}
@@ -41,13 +41,6 @@ TraysOf proof old new of_answer = MakesAtMost proof old new
 TraysOf proof old new (of_input feed) = new.trays ≡ old.trays
 TraysOf proof old new of_memory = new.trays ≡ old.trays
 
--- before a report no make and no write failed; behind a search that goes on with its answer the count of them isn't lower
-abbrev pub WritesKeptOf : Option (List ℕ) → DeskState → DeskState → Speaks → Type 0
-WritesKeptOf None old new of_answer = new.write_faults ≡ old.write_faults
-WritesKeptOf (Some name) old new of_answer = old.write_faults ≤ new.write_faults
-WritesKeptOf proof old new (of_input feed) = new.write_faults ≡ old.write_faults
-WritesKeptOf proof old new of_memory = new.write_faults ≡ old.write_faults
-
 -- a read fault has its cause, and before every other report no begin and no read failed
 abbrev pub ReadCauseOf : DeskState → DeskState → Report → Type 0
 ReadCauseOf old new (read_fault feed) = Rose old.read_faults new.read_faults
@@ -73,7 +66,8 @@ pub record Works (inputs : List Named) (proof : Option (List ℕ)) (old new : De
   pub trays : TraysOf proof old new (speaks r)
   pub read_cause : ReadCauseOf old new r
   pub long_cause : LongCauseOf done old r
-  pub writes_kept : WritesKeptOf proof old new (speaks r)
+  -- before a report no make and no write failed
+  pub write_faults : new.write_faults ≡ old.write_faults
 
 -- the work that ends at a failed make or write of Proof
 pub record Breaks (inputs : List Named) (proof : Option (List ℕ)) (old new : DeskState) : Type 0 where

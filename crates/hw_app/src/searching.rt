@@ -6,6 +6,7 @@ ghost use Rattle.hw_cert.specs.Logs.{IsEmpty, outside_of};
 ghost use Rattle.hw_cert.specs.Told.{is_told, tray_log};
 ghost use Rattle.hw_progress.specs.Solving.{SolveMeets};
 ghost use Rattle.hw_report.specs.Seen.{names_seen, report_seen};
+ghost use Rattle.hw_search.specs.Faults.{SolvedKeepsFaults};
 ghost use Rattle.hw_app.specs.Searching.{SearchesTo, report_of_search};
 
 use hw_cert::{TrayLog, send_header};
@@ -47,6 +48,7 @@ fn search_on<D: Desk>(alloc: Global, desk: &mut D, flat: &Flat, budget: u32) -> 
     requires told { is_told ((D.state desk.old).trays Tray.Proof).sent ≡ true }
     requires empty { IsEmpty (tray_log (D.state desk.old)) }
     ensures solves { SolveMeets flat.now budget (tray_log (D.state desk.old)) result (tray_log (D.state desk.new)) }
+    ensures kept { SolvedKeepsFaults result (tray_log (D.state desk.old)) (tray_log (D.state desk.new)) }
     ensures told { is_told ((D.state desk.new).trays Tray.Proof).sent ≡ true }
     ensures outside { outside_of (D.state desk.new) ≡ outside_of (D.state desk.old) }
 {

@@ -7,4 +7,4 @@ pub returns : goal.returns
 returns g c =
     let made : is_err c.make.result ≡ false = search rules in
     let sent : is_err c.send_header.result ≡ false = search rules in
-    search_ends c.make.result c.send_header.result c.search_on.result made sent c.make.ensures.makes c.send_header.ensures.sends c.search_on.ensures.outside c.search_on.ensures.told c.search_on.ensures.solves
+    search_ends c.make.result c.send_header.result c.search_on.result made sent c.make.ensures.makes c.send_header.ensures.sends c.search_on.ensures.outside c.search_on.ensures.told c.search_on.ensures.solves c.search_on.ensures.kept
