@@ -1,13 +1,15 @@
-ghost use Rattle.std.specs.Prelude.{◌≤◌};
+ghost use Rattle.std.specs.Prelude.{◌≡◌, ◌≤◌};
 ghost use Rattle.hw_cert.specs.Logs.{IsEmpty};
+ghost use Rattle.hw_progress.specs.Searches.{new_search};
 
 use crate::branching::branch;
-use crate::solving::start;
-use crate::{luby, solve};
+use crate::solving::{propagators, start};
+use crate::{AnyPropagator, Search, luby, solve};
 use hw_cert::{Log, MemoryLog};
 use hw_flat::{Flat, Room, Slot};
-use hw_model::{Lit, NoMemory};
+use hw_model::Lit;
 use hw_progress::{Branching, Solved, Turn};
+use hw_store::{ScanStore, Store};
 use std::alloc::{AllocError, Global};
 use std::test::Fail;
 
@@ -163,23 +165,31 @@ fn decides(rt: HostRuntime) -> Result<(), Fail> {
     Ok(())
 }
 
-/// A search as a solution begins it, turn after turn until it ended or has as many lemmas.
-fn take_turns<L: Log>(alloc: Global, flat: &Flat, budget: u32, log: &mut L) -> Result<(), NoMemory>
+/// Turn after turn of a search that has done nothing, until it ended or has as many lemmas as the
+/// budget says. Gives whether it ended.
+fn take_turns<S: Store + Drop, L: Log>(
+    alloc: Global,
+    flat: &Flat,
+    budget: u32,
+    search: &mut Search<'_, S, AnyPropagator>,
+    log: &mut L,
+) -> bool
+    requires new { search.old ≡ new_search flat.now Branching.Greatest }
     requires most { budget ≤ 100_000 }
     requires empty { IsEmpty (L.state log.old) }
 {
     let _shape = flat.shape();
-    let mut search = start(alloc, flat)?;
     for _count in 0..1_000_000 {
         if search.lemmas() >= budget {
-            return Ok(());
+            return false;
         }
         match search.turn(alloc, log) {
             Turn::Decided | Turn::Better | Turn::Lemma => {}
-            Turn::Ended | Turn::NoMemory | Turn::LogFailed => return Ok(()),
+            Turn::Ended => return true,
+            Turn::NoMemory | Turn::LogFailed => return false,
         }
     }
-    Ok(())
+    false
 }
 
 #[test]
@@ -192,11 +202,42 @@ fn solve_is_turns(rt: HostRuntime) -> Result<(), Fail> {
         let mut solved = MemoryLog::new(alloc);
         solve(alloc, &flat, budget, &mut solved);
         let mut turned = MemoryLog::new(alloc);
-        take_turns(alloc, &flat, budget, &mut turned)?;
+        let mut search = start(alloc, &flat)?;
+        take_turns(alloc, &flat, budget, &mut search, &mut turned);
         let one = format!(in alloc; "{:?}", solved.lines())?;
         let other = format!(in alloc; "{:?}", turned.lines())?;
         assert!(rt; !turned.lines().is_empty());
         assert_eq!(rt; one.as_str(), other.as_str());
+    }
+    Ok(())
+}
+
+#[test]
+fn a_plain_store_serves(rt: HostRuntime) -> Result<(), Fail> {
+    let alloc = rt.alloc();
+    let none: &[[Slot; 2]] = &[];
+    let rows = [
+        (APART, [[0, 2], [2, 0]].as_slice()),
+        (NONE_FITS, none),
+        (TUGS, [[0, 3], [3, 0]].as_slice()),
+        (PRECEDENCE, [[0, 2]].as_slice()),
+        (PASSING, [[2, 2]].as_slice()),
+        (CROWDED, none),
+    ];
+    for (text, wanted) in rows {
+        let flat = Flat::read(alloc, text)?;
+        let store = ScanStore::new(alloc, &flat)?;
+        let props = propagators(alloc, &flat)?;
+        let mut search = Search::new(alloc, &flat, store, props, Branching::Greatest)?;
+        let mut log = MemoryLog::new(alloc);
+        assert!(rt; take_turns(alloc, &flat, 2000, &mut search, &mut log));
+        let found = match search.best() {
+            Some(table) => wanted
+                .iter()
+                .any(|slots| slots.as_slice() == table.as_slice()),
+            None => wanted.is_empty(),
+        };
+        assert!(rt; found);
     }
     Ok(())
 }

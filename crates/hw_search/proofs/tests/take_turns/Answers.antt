@@ -12,7 +12,7 @@ goes t (inr (inl e)) = ap is_last e
 goes t (inr (inr e)) = ap is_last e
 
 pub loop-count-init : goal.loop-count-init
-loop-count-init g c = subst (λ s. Going c.args.flat.now c.args.budget s (g.L.Log.state c.args.log.now) (g.L.Log.state c.args.log.now)) (sym c.in_ok-search.ensures.value) (begins c.args.flat.now c.args.budget (g.L.Log.state c.args.log.now) c.shape-shape.ensures.limits c.requires.empty)
+loop-count-init g c = subst (λ s. Going c.args.flat.now c.args.budget s (g.L.Log.state c.args.log.now) (g.L.Log.state c.args.log.now)) (sym c.requires.new) (begins c.args.flat.now c.args.budget (g.L.Log.state c.args.log.now) c.shape-shape.ensures.limits c.requires.empty)
 
 pub loop-count-preserved : goal.loop-count-preserved
 loop-count-preserved g c =
