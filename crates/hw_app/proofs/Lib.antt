@@ -3,10 +3,12 @@ mod FlatForms
 mod Checked
 mod Chained
 mod Searched
+mod SearchWorks
 mod Solved
 mod Shown
 mod PortForms
 mod FlattenWorks
+mod PortSolved
 mod PortShown
 mod Faults
 mod Owned

@@ -1,10 +1,7 @@
 -- What a certified search says of a flat text.
-use Rattle.std.proofs.Common.{◌≡◌, ◌∙◌, ℕ, List, [], ◌∷◌, Option, Some, None, Ok, Err, inr, refl, ap, sym, subst, arith}
-use Rattle.std.specs.Prelude.{unwrap_or}
+use Rattle.std.proofs.Common.{◌≡◌, ℕ, List, [], Option, Some, None, Ok, Err, refl, sym, subst}
 use Rattle.hw_model.specs.Problem.{Problem}
-use Rattle.hw_desk.specs.State.{DeskState, put_tray, Rose}
-use Rattle.hw_desk.specs.declared.desk.Feed.TheVariants.{Flat}
-use Rattle.hw_desk.specs.declared.desk.Tray.TheVariants.{Proof}
+use Rattle.hw_desk.specs.State.{DeskState}
 use Rattle.hw_progress.specs.declared.outcome.Solved.{Solved}
 use Rattle.hw_progress.specs.declared.outcome.Solved.TheVariants.{Optimal, Infeasible, Unfinished, NoMemory, LogFailed}
 use Rattle.hw_report.specs.Reports.{by_number, solved}
@@ -16,15 +13,13 @@ use Rattle.hw_app.specs.Ends.{Ends, EndsWith}
 use Rattle.hw_app.specs.Forms.{word_at, number_in}
 use Rattle.hw_app.specs.Inputs.{ReadsFlat, report_of_flat}
 use Rattle.hw_app.specs.Run.{FormMeets}
-use Rattle.hw_app.specs.Scope.{named, MakesProof}
 use Rattle.hw_app.specs.Searching.{SearchesTo, report_of_search}
 use Rattle.hw_app.specs.SolveFlat.{SolvesText}
-use Rattle.hw_app.specs.Works.{Works}
 use Rattle.hw_app.specs.declared.form.Form.TheVariants.{SolveFlat}
 use Rattle.hw_app.specs.declared.input.FlatStop.{FlatStop}
 use Rattle.hw_app.specs.declared.status.Status.{Status}
-use Rattle.hw_app.proofs.Begun.{begun_past}
 use Rattle.hw_app.proofs.FlatForms.{flat_entered, no_flat_works, no_flat_says}
+use Rattle.hw_app.proofs.SearchWorks.{makes_past, found_works, broken_works, budget_is}
 
 -- the flat text gives no problem
 pub solve_stops : {x y z : DeskState} {s : Status} (words : List (List ℕ)) (stop : FlatStop) → ReadsFlat (word_at words 2) x y (Err stop) → Ends (report_of_flat stop) y z s → FormMeets SolveFlat words x z s
@@ -36,38 +31,13 @@ solve_stops {x = x} {y = y} words stop h ends = record {
   ends = ends;
 }
 
--- Proof was made behind a text that was read
-makes_past : {f : Problem} {name proof : List ℕ} {budget : ℕ} {x y z : DeskState} {answer : Solved} → ReadsFlat name x y (Ok f) → SearchesTo f budget proof y z answer → MakesProof proof x z
-makes_past {z = z} h k = record {
-  trays = k.only.trays ∙ ap (λ trays. put_tray trays Proof (z.trays Proof)) h.enters.only.trays;
-  made = k.made;
-  named = k.named;
-}
-
--- the work of a search that found something
-found_works : {f : Problem} {name proof : List ℕ} {budget : ℕ} {x y z : DeskState} {answer : Solved} (head : Head) (table : Option (List ℕ)) → ReadsFlat name x y (Ok f) → z.write_faults ≡ y.write_faults → SearchesTo f budget proof y z answer → Works (named Flat name ∷ []) (Some proof) x z (solved head f by_number table)
-found_works {name = name} {x = x} {y = y} {z = z} head table h kept k = record {
-  done = named Flat name ∷ [];
-  rest = [];
-  parts = refl;
-  begins = begun_past k.only (flat_entered h).begins;
-  upto = refl;
-  trays = inr (makes_past h k);
-  read_cause = k.only.read_faults ∙ h.answer.2;
-  long_cause = tt;
-  write_faults = kept ∙ h.enters.only.write_faults;
-}
-
-budget_is : (word : List ℕ) {budget : ℕ} → number_from_to 1 100_000 word ≡ Some budget → number_in 1 100_000 word ≡ budget
-budget_is word e = ap (λ (o : Option ℕ). unwrap_or o 0) e
-
 -- what was found, and what of it is said
 found : {f : Problem} {budget : ℕ} {x y z end : DeskState} {answer : Solved} {s : Status} (words : List (List ℕ)) (head : Head) (table : Option (List ℕ)) → number_in 1 100_000 (word_at words 3) ≡ budget → ReadsFlat (word_at words 2) x y (Ok f) → SearchesTo f budget (word_at words 4) y z answer → (z.write_faults ≡ y.write_faults) × Finds f budget head table z → Ends (solved head f by_number table) z end s → FormMeets SolveFlat words x end s
 found {f = f} {x = x} {z = z} words head table e h k left ends = record {
   mid = z;
   report = Some (solved head f by_number table);
-  works = found_works head table h left.0 k;
-  says = λ own. record { limits = h.answer.0; reads = h.answer.1; by_numbers = refl; made = makes_past h k; finds = subst (λ (n : ℕ). Finds f n head table z) (sym e) left.1 };
+  works = found_works head by_number table (flat_entered h) h.answer.2 left.0 k;
+  says = λ own. record { limits = h.answer.0; reads = h.answer.1; by_numbers = refl; made = makes_past (flat_entered h) k; finds = subst (λ (n : ℕ). Finds f n head table z) (sym e) left.1 };
   ends = ends;
 }
 
@@ -77,18 +47,10 @@ solves words (Optimal table c) e h k ends = found words (heads.Optimal c) (Some 
 solves words Infeasible e h k ends = found words heads.Infeasible None (budget_is (word_at words 3) e) h k k.leaves ends
 solves {budget = budget} words (Unfinished table) e h k ends = found words (heads.Unfinished budget) table (budget_is (word_at words 3) e) h k k.leaves ends
 solves words (NoMemory table) e h k ends = found words heads.Memory table (budget_is (word_at words 3) e) h k k.leaves ends
-solves {f = f} {x = x} {y = y} {z = z} words LogFailed e h k ends = record {
+solves {f = f} {z = z} words LogFailed e h k ends = record {
   mid = z;
   report = None;
-  works = record {
-    begins = begun_past k.only (flat_entered h).begins;
-    makes = makes_past h k;
-    read_faults = k.only.read_faults ∙ h.answer.2;
-    write_cause = rose h.enters.only.write_faults k.leaves.0;
-  };
+  works = broken_works (flat_entered h) h.answer.2 k;
   says = record { problem = f; limits = h.answer.0; reads = h.answer.1; cut = subst (λ (n : ℕ). IsCutShort f n z) (sym (budget_is (word_at words 3) e)) k.leaves.1 };
   ends = ends;
 }
-  where
-    rose : y.write_faults ≡ x.write_faults → Rose y.write_faults z.write_faults → Rose x.write_faults z.write_faults
-    rose same r = omega arith

@@ -4,7 +4,7 @@ use Rattle.std.specs.List.{slice_index_or}
 use Rattle.hw_desk.specs.declared.desk.Feed.TheVariants as feed
 use Rattle.hw_text.specs.Numbers.{number_from_to}
 use Rattle.hw_app.specs.declared.form.Form.{Form}
-use Rattle.hw_app.specs.declared.form.Form.TheVariants.{SolveFlat, CheckFlat, CheckPort, Flatten}
+use Rattle.hw_app.specs.declared.form.Form.TheVariants.{SolveFlat, SolvePort, CheckFlat, CheckPort, Flatten}
 use Rattle.hw_app.specs.declared.form.Keyword.{Keyword as KeywordOf}
 use Rattle.hw_app.specs.declared.form.Keyword.TheVariants as key
 use Rattle.hw_app.specs.declared.form.Wanted.{Wanted}
@@ -19,11 +19,12 @@ keyword_text key.Flatten = codes "flatten"
 
 -- the forms that there are
 abbrev pub forms : List Form
-forms = SolveFlat ∷ CheckFlat ∷ CheckPort ∷ Flatten ∷ []
+forms = SolveFlat ∷ SolvePort ∷ CheckFlat ∷ CheckPort ∷ Flatten ∷ []
 
 -- what the words of a form have to be
 abbrev pub words_of : Form → List Wanted
 words_of SolveFlat = Keyword key.Solve ∷ Keyword key.Flat ∷ Input feed.Flat ∷ Number 1 100_000 ∷ Proof ∷ []
+words_of SolvePort = Keyword key.Solve ∷ Keyword key.Port ∷ Input feed.Instance ∷ Input feed.Tides ∷ Number 1 100_000 ∷ Proof ∷ []
 words_of CheckFlat = Keyword key.Check ∷ Keyword key.Flat ∷ Input feed.Flat ∷ Input feed.Certificate ∷ []
 words_of CheckPort = Keyword key.Check ∷ Keyword key.Port ∷ Input feed.Instance ∷ Input feed.Tides ∷ Input feed.Certificate ∷ []
 words_of Flatten = Keyword key.Flatten ∷ Input feed.Instance ∷ Input feed.Tides ∷ []

@@ -11,6 +11,7 @@ pub mod Searching
 pub mod SolveFlat
 pub mod CheckFlat
 pub mod PortInputs
+pub mod SolvePort
 pub mod CheckPort
 pub mod Flattening
 pub mod Run

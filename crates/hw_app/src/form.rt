@@ -10,6 +10,8 @@ use hw_desk::Feed;
 pub enum Form {
     /// `solve flat NAME BUDGET PROOF` searches for a best timetable of a flat text, up to BUDGET lemmas.
     SolveFlat,
+    /// `solve port INSTANCE TIDES BUDGET PROOF` searches for a best timetable of a port, up to BUDGET lemmas.
+    SolvePort,
     /// `check flat NAME CERT` checks a certificate of a flat text.
     CheckFlat,
     /// `check port INSTANCE TIDES CERT` checks a certificate of a port.
@@ -41,8 +43,9 @@ pub enum Wanted {
 }
 
 /// The forms that there are.
-pub const FORMS: [Form; 4] = [
+pub const FORMS: [Form; 5] = [
     Form::SolveFlat,
+    Form::SolvePort,
     Form::CheckFlat,
     Form::CheckPort,
     Form::Flatten,
@@ -60,6 +63,17 @@ pub fn words_of(form: Form) -> &'static [Wanted]
             Wanted::Keyword(Keyword::Solve),
             Wanted::Keyword(Keyword::Flat),
             Wanted::Input(Feed::Flat),
+            Wanted::Number {
+                least: 1,
+                most: MOST_BUDGET,
+            },
+            Wanted::Proof,
+        ],
+        Form::SolvePort => &[
+            Wanted::Keyword(Keyword::Solve),
+            Wanted::Keyword(Keyword::Port),
+            Wanted::Input(Feed::Instance),
+            Wanted::Input(Feed::Tides),
             Wanted::Number {
                 least: 1,
                 most: MOST_BUDGET,

@@ -17,6 +17,7 @@ mod port_input;
 mod running;
 mod searching;
 mod solve_flat;
+mod solve_port;
 mod status;
 #[cfg(test)]
 mod tests;

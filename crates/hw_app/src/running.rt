@@ -10,6 +10,7 @@ use crate::check_port::check_port;
 use crate::flatten::flatten_port;
 use crate::form::Form;
 use crate::solve_flat::solve_flat;
+use crate::solve_port::solve_port;
 use crate::status::{Status, status_of};
 use crate::words::read_form;
 use hw_desk::Desk;
@@ -26,6 +27,7 @@ pub fn run<D: Desk>(alloc: Global, words: &[String], desk: &mut D) -> Status
     match read_form(words) {
         Err(place) => finish(desk, &Report::Words { place }),
         Ok(Form::SolveFlat) => solve_flat(alloc, desk, words),
+        Ok(Form::SolvePort) => solve_port(alloc, desk, words),
         Ok(Form::CheckFlat) => check_flat(alloc, desk, words),
         Ok(Form::CheckPort) => check_port(alloc, desk, words),
         Ok(Form::Flatten) => flatten_port(alloc, desk, words),
