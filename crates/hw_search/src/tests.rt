@@ -3,6 +3,7 @@ ghost use Rattle.hw_cert.specs.Logs.{IsEmpty};
 ghost use Rattle.hw_progress.specs.Searches.{new_search};
 
 use crate::branching::branch;
+use crate::going_back::next_level;
 use crate::solving::{propagators, start};
 use crate::{AnyPropagator, Search, luby, solve};
 use hw_cert::{Log, MemoryLog};
@@ -37,6 +38,33 @@ const LUBY: [u64; 15] = [1, 1, 2, 1, 1, 2, 4, 1, 1, 2, 1, 1, 2, 4, 8];
 fn restarts_come(rt: HostRuntime) {
     for (place, number) in LUBY.iter().enumerate() {
         assert_eq!(rt; luby(place as u64 + 1), *number);
+    }
+}
+
+// Restarts so far and lemmas since the last one; then the level behind one more lemma that was
+// learnt for level 3, and both counts.
+const LEVELS: [(u32, u32, u32, u32, u32); 12] = [
+    (0, 0, 3, 0, 1),
+    (0, 30, 3, 0, 31),
+    (0, 31, 0, 1, 0),
+    (1, 31, 0, 2, 0),
+    (2, 31, 3, 2, 32),
+    (2, 62, 3, 2, 63),
+    (2, 63, 0, 3, 0),
+    (3, 31, 0, 4, 0),
+    (5, 63, 0, 6, 0),
+    (6, 63, 3, 6, 64),
+    (6, 127, 0, 7, 0),
+    (7, 31, 0, 8, 0),
+];
+
+#[test]
+fn restarts_go_to_level_0(rt: HostRuntime) {
+    for (before, lemmas, level, restarted, left) in LEVELS {
+        let mut restarts = before.min(100);
+        let mut since = lemmas.min(1000);
+        assert_eq!(rt; next_level(&mut restarts, &mut since, 3), level);
+        assert_eq!(rt; (restarts, since), (restarted, left));
     }
 }
 
