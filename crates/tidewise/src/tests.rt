@@ -38,9 +38,18 @@ fn ended(rt: &HostRuntime, line: &str) -> Result<Status, Fail> {
 }
 
 const RUNS: [(&str, Status); 14] = [
-    ("tidewise solve flat host-two 109 host-proof", Status::Optimal),
-    ("tidewise solve flat host-two 1 host-proof", Status::Unfinished),
-    ("tidewise solve flat host-none 109 host-proof", Status::Infeasible),
+    (
+        "tidewise solve flat host-two 109 host-proof",
+        Status::Optimal,
+    ),
+    (
+        "tidewise solve flat host-two 1 host-proof",
+        Status::Unfinished,
+    ),
+    (
+        "tidewise solve flat host-none 109 host-proof",
+        Status::Infeasible,
+    ),
     ("tidewise check flat host-two host-long", Status::Optimal),
     ("tidewise check flat host-none host-long", Status::Refused),
     ("tidewise check flat host-long host-two", Status::BadInput),
@@ -51,7 +60,10 @@ const RUNS: [(&str, Status); 14] = [
         Status::ReadFault,
     ),
     ("tidewise solve flat . 9 host-proof", Status::ReadFault),
-    ("tidewise solve flat host-missing 9 host-proof", Status::ReadFault),
+    (
+        "tidewise solve flat host-missing 9 host-proof",
+        Status::ReadFault,
+    ),
     ("tidewise", Status::Words),
     ("tidewise solve flat host-two", Status::Words),
     ("tidewise solve flat host-two 9", Status::Words),
