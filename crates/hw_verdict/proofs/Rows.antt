@@ -17,7 +17,7 @@ use Rattle.hw_lines.specs.declared.line.Line.TheVariants as lines
 use Rattle.hw_lines.specs.Lemmas.{IsHinted, LeanAfter}
 use Rattle.hw_lines.specs.Lines.{clause_at}
 use Rattle.hw_lines.specs.Valid.{denied_room}
-use Rattle.hw_verdict.specs.Rows.{LeanRows, NewRows, second_slot, third_slot}
+use Rattle.hw_verdict.specs.Rows.{LeanRows, NewRows, RenewedRows, second_slot, third_slot}
 
 speaks : (f : Problem) (source : Source) (clause : List Lit) → list_all (names_lit f source) clause ≡ true → SpeaksOnlyOf f source clause
 speaks f source [] e = All-nil (λ lit. names_lit f source lit ≡ true)
@@ -111,4 +111,14 @@ new_rows = record {
   narrower_later = λ new. new 0 1 [] (omega arith) (omega arith) narrower;
   the_same_twice = λ new. new 0 1 [] (omega arith) (omega arith) itself;
   reasons_are_no_lemmas = λ i j d lt many. absurd (omega (arith, lt, many));
+}
+
+pub renewed_rows : RenewedRows
+renewed_rows = record {
+  one_never_named = refl;
+  all_named_at_the_end = refl;
+  other_deletions_go = refl;
+  deleted_behind_the_last_hint = refl;
+  both_deletions = refl;
+  no_lines = refl;
 }

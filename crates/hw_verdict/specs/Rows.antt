@@ -1,10 +1,13 @@
--- Small certificates with what was worked out for them by hand: which lines are lean, and which lemmas are new.
-use Rattle.std.specs.Prelude.{[], ◌∷◌, List}
+-- Small certificates with what was worked out for them by hand: which lines are lean, which lemmas are new, and what deletions a certificate gets.
+use Rattle.std.specs.Prelude.{◌≡◌, [], ◌∷◌, List}
 use Rattle.hw_model.specs.declared.lit.Lit.{Lit}
 use Rattle.hw_model.specs.declared.lit.Lit.TheVariants.{AtOrAfter, Before, First, NotFirst}
 use Rattle.hw_laws.specs.Rows.{two_apart, three_ships}
+use Rattle.hw_lines.specs.declared.line.Line.{Line}
 use Rattle.hw_lines.specs.declared.line.Line.TheVariants as lines
 use Rattle.hw_lines.specs.Lemmas.{LeanAfter, IsNew}
+use Rattle.hw_lines.specs.Rows.{best_table, second_late, first_late, apart, whole_lines}
+use Rattle.hw_verdict.specs.Renewing.{renewed}
 
 -- the first ship sails in the first slot, which lies within the room that leaves its first two slots
 abbrev pub second_slot : List Lit
@@ -30,3 +33,16 @@ pub record NewRows : Type 0 where
   pub narrower_later : IsNew two_apart (lines.Lemma third_slot [] ∷ lines.Lemma second_slot [] ∷ []) → ⊥
   pub the_same_twice : IsNew two_apart (lines.Lemma second_slot [] ∷ lines.Lemma second_slot [] ∷ []) → ⊥
   pub reasons_are_no_lemmas : IsNew two_apart (lines.Goal second_slot ∷ lines.Lemma second_slot [] ∷ [])
+
+-- a lemma of the first three clauses that names some of them twice and out of order
+abbrev pub second_lemma : Line
+second_lemma = lines.Lemma third_slot (3 ∷ 1 ∷ 3 ∷ [])
+
+-- what deletions certificates get
+pub record RenewedRows : Type 0 where
+  pub one_never_named : renewed (best_table ∷ second_late ∷ second_late ∷ first_late ∷ apart ∷ lines.Lemma [] (1 ∷ 3 ∷ 4 ∷ []) ∷ []) ≡ best_table ∷ second_late ∷ second_late ∷ lines.Delete (2 ∷ []) ∷ first_late ∷ apart ∷ lines.Lemma [] (1 ∷ 3 ∷ 4 ∷ []) ∷ []
+  pub all_named_at_the_end : renewed whole_lines ≡ whole_lines
+  pub other_deletions_go : renewed (second_late ∷ first_late ∷ apart ∷ lines.Delete (2 ∷ []) ∷ lines.Lemma [] (1 ∷ 3 ∷ []) ∷ []) ≡ second_late ∷ first_late ∷ lines.Delete (2 ∷ []) ∷ apart ∷ lines.Lemma [] (1 ∷ 3 ∷ []) ∷ []
+  pub deleted_behind_the_last_hint : renewed (second_late ∷ first_late ∷ apart ∷ second_lemma ∷ lines.Delete (1 ∷ []) ∷ lines.Lemma [] (2 ∷ 4 ∷ []) ∷ []) ≡ second_late ∷ first_late ∷ apart ∷ second_lemma ∷ lines.Delete (1 ∷ 3 ∷ []) ∷ lines.Lemma [] (2 ∷ 4 ∷ []) ∷ []
+  pub both_deletions : renewed (second_late ∷ second_late ∷ second_late ∷ second_lemma ∷ best_table ∷ []) ≡ second_late ∷ second_late ∷ lines.Delete (2 ∷ []) ∷ second_late ∷ second_lemma ∷ lines.Delete (1 ∷ 3 ∷ []) ∷ lines.Delete (4 ∷ []) ∷ best_table ∷ []
+  pub no_lines : renewed [] ≡ []
