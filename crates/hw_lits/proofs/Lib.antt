@@ -4,3 +4,4 @@ pub mod Ascending
 pub mod Denials
 pub mod Steps
 pub mod Told
+pub mod SaidRooms

@@ -2,3 +2,4 @@ pub mod Normal
 pub mod Faults
 pub mod Cuts
 pub mod Steps
+pub mod Said

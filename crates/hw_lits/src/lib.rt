@@ -9,6 +9,7 @@ mod fault;
 mod form;
 mod found;
 mod laws;
+mod spelling;
 mod stepping;
 #[cfg(test)]
 mod tests;
@@ -23,4 +24,5 @@ pub use hw_laws::{
 };
 pub use hw_model::{Lit, LitTruth, Narrowed};
 pub use laws::{clause_ascends, clause_is_normal, one_of_a_side, step_tells};
+pub use spelling::clause_of_room;
 pub use stepping::{narrow, narrow_lits, narrowing, narrowing_lits};

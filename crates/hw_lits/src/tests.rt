@@ -5,6 +5,7 @@ use crate::clause::Clause;
 use crate::cutting::{cut, truth};
 use crate::denying::deny;
 use crate::fault::ClauseFault;
+use crate::spelling::clause_of_room;
 use crate::stepping::{narrow, narrowing};
 use hw_flat::{Order, Room, Shape};
 use hw_model::{Lit, LitTruth, Narrowed};
@@ -166,6 +167,22 @@ fn denied_rooms(rt: HostRuntime) -> Result<(), Fail> {
     assert_eq!(rt; (room.low(1), room.high(1)), (0, 3), "ship 1 is open again");
     assert_eq!(rt; room.order(0, 1), Order::Unset, "the order is open again");
     assert_eq!(rt; room.order(1, 2), Order::NotFirst);
+    Ok(())
+}
+
+#[test]
+fn clauses_of_rooms(rt: HostRuntime) -> Result<(), Fail> {
+    let mut room = Room::whole(rt.alloc(), SHAPE)?;
+    let none = clause_of_room(rt.alloc(), &room)?;
+    assert_eq!(rt; none.len(), 0, "the whole room");
+    room.put(0, 1, 2);
+    room.put(1, 0, 0);
+    room.put(2, 3, 3);
+    room.put_order(0, 1, Order::First);
+    room.put_order(1, 2, Order::NotFirst);
+    let clause = clause_of_room(rt.alloc(), &room)?;
+    let want = [a(0, 3), b(0, 1), a(1, 1), b(2, 3), n(0, 1), f(1, 2)];
+    assert_eq!(rt; clause.as_slice(), want.as_slice());
     Ok(())
 }
 

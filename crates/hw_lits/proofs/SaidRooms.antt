@@ -1,0 +1,434 @@
+-- The literals that a room says, side by side, deny just the room.
+use Rattle.std.proofs.Common.{◌≡◌, ◌⊎◌, ℕ, ◌+◌, ◌-◌, ◌*◌, ◌<◌, ◌≤◌, min, max, Bool, true, false, not, cond, ◌==◌, ◌&&◌, nat_lt, nat_le, List, [], ◌∷◌, ◌++◌, Option, Some, None, All, length, get_or, replicate, refl, sym, ap, ◌∙◌, subst, arith, inl, inr}
+use Rattle.std.proofs.lemmas.Bool.{and_from, or_left, or_right, ltb-true, ltb-false, lt-ltb, le-leb, eqb-true, cases_Bool, cases_eq, cases_lt}
+use Rattle.std.proofs.lemmas.List.{get_or-replicate, get_or_past, length-replicate}
+use Rattle.std.proofs.lemmas.List.Elements.{All-nil, All-push, All-weaker, All-head, All-tail, All-get_or, All-from_get_or}
+use Rattle.hw_model.specs.declared.lit.Lit.{Lit}
+use Rattle.hw_model.specs.declared.lit.Lit.TheVariants as lits
+use Rattle.hw_model.specs.declared.order.Order.{Order}
+use Rattle.hw_model.specs.declared.order.Order.TheVariants.{Unset, First, NotFirst}
+use Rattle.hw_model.specs.declared.shape.Shape.{Shape}
+use Rattle.hw_model.specs.Lits.{negation, lit_fits, place_of, is_earlier, leaves_some, may_follow, keeps_form, BadLit, first_bad_from, IsClause}
+use Rattle.hw_model.specs.Rooms.{RoomModel, IsRoom, low_of, high_of, order_of, whole_room}
+use Rattle.hw_model.specs.Narrowing.{cut, with_order, denied_from, denied}
+use Rattle.hw_model.proofs.Kept.{whole_no_pair, with_order_no_pair}
+use Rattle.hw_flat.specs.Opened.{shape_in}
+use Rattle.hw_laws.proofs.Bounds.{low_new, high_new, low_other, high_other}
+use Rattle.hw_laws.proofs.Cuts.{full_cut}
+use Rattle.hw_laws.proofs.Denials.{no_bad, whole_full}
+use Rattle.hw_laws.proofs.Places.{from_earlier, earlier_trans}
+use Rattle.hw_laws.proofs.Ranges.{IsFull, new_order, other_order, cases_pair}
+use Rattle.hw_laws.proofs.Same.{same_room}
+use Rattle.hw_lits.specs.Said.{above_said, below_said, turned, turned_said, one_or_none}
+
+-- ---- lists with one more literal
+
+append_none : (xs : List Lit) → xs ++ [] ≡ xs
+append_none [] = refl
+append_none (x ∷ xs) = ap (λ ys. x ∷ ys) (append_none xs)
+
+denied_more : (room : RoomModel) (clause : List Lit) (lit : Lit) → denied_from room (clause ++ lit ∷ []) ≡ cut (negation lit) (denied_from room clause)
+denied_more room [] lit = refl
+denied_more room (l ∷ clause) lit = denied_more (cut (negation l) room) clause lit
+
+good_from : (a b : Bool) (x y : BadLit) (z : Option BadLit) → a ≡ true → b ≡ true → z ≡ None → cond (not a) (Some x) (cond (not b) (Some y) z) ≡ None
+good_from true true x y z e f h = h
+good_from true false x y z e f h = absurd cc
+good_from false b x y z e f h = absurd cc
+
+normal_more : (shape : Shape) (clause : List Lit) (place : ℕ) (before : Option Lit) (lit : Lit) → first_bad_from shape place before clause ≡ None → lit_fits shape lit ≡ true → keeps_form before lit ≡ true
+    → All (λ l. may_follow l lit ≡ true) clause → first_bad_from shape place before (clause ++ lit ∷ []) ≡ None
+normal_more shape [] place before lit e fits keeps all = good_from (lit_fits shape lit) (keeps_form before lit) _ _ _ fits keeps refl
+normal_more shape (l ∷ clause) place before lit e fits keeps all =
+    let good = no_bad (lit_fits shape l) (keeps_form before l) _ _ _ e in
+    good_from (lit_fits shape l) (keeps_form before l) _ _ _ good.0 good.1
+    (normal_more shape clause (place + 1) (Some l) lit good.2 fits (All-head (λ m. may_follow m lit ≡ true) l clause all) (All-tail (λ m. may_follow m lit ≡ true) l clause all))
+
+-- ---- which literal may follow
+
+follows : (p q : Lit) → is_earlier (place_of p) (place_of q) ≡ true → leaves_some p q ≡ true → may_follow p q ≡ true
+follows p q e l = and_from (is_earlier (place_of p) (place_of q)) _ e l
+
+by_lower : (l : Lit) (v k : ℕ) → leaves_some l (lits.AtOrAfter v k) ≡ true
+by_lower (lits.AtOrAfter w j) v k = refl
+by_lower (lits.Before w j) v k = refl
+by_lower (lits.First w j) v k = refl
+by_lower (lits.NotFirst w j) v k = refl
+
+by_first : (l : Lit) (v w : ℕ) → leaves_some l (lits.First v w) ≡ true
+by_first (lits.AtOrAfter a b) v w = refl
+by_first (lits.Before a b) v w = refl
+by_first (lits.First a b) v w = refl
+by_first (lits.NotFirst a b) v w = refl
+
+by_not_first : (l : Lit) (v w : ℕ) → leaves_some l (lits.NotFirst v w) ≡ true
+by_not_first (lits.AtOrAfter a b) v w = refl
+by_not_first (lits.Before a b) v w = refl
+by_not_first (lits.First a b) v w = refl
+by_not_first (lits.NotFirst a b) v w = refl
+
+-- the room leaves the ship of a lower bound no slot from that bound on
+abbrev AboveRoom : RoomModel → Lit → Type 0
+AboveRoom room (lits.AtOrAfter v k) = k ≡ high_of room v + 1
+AboveRoom room (lits.Before v k) = Unit {0}
+AboveRoom room (lits.First v w) = Unit {0}
+AboveRoom room (lits.NotFirst v w) = Unit {0}
+
+by_upper : (room : RoomModel) (l : Lit) (v : ℕ) → low_of room v ≤ high_of room v → AboveRoom room l → leaves_some l (lits.Before v (low_of room v)) ≡ true
+by_upper room (lits.AtOrAfter w k) v le above = elim (cases_Bool (w == v)) [
+  | inl same ↦
+      let e : high_of room w ≡ high_of room v = ap (high_of room) (eqb-true w v same) in
+      or_right (not (w == v)) _ (lt-ltb _ _ (omega (arith, above, e, le)))
+  | inr other ↦ or_left _ _ (ap not other)
+]
+by_upper room (lits.Before w k) v le above = refl
+by_upper room (lits.First w k) v le above = refl
+by_upper room (lits.NotFirst w k) v le above = refl
+
+-- ---- what was said so far
+
+-- the pair comes before another one, or from it on
+abbrev Passed : ℕ → ℕ → ℕ → ℕ → Type 0
+Passed a b v w = (a < v) ⊎ ((a ≡ v) × (b < w))
+
+abbrev Open : ℕ → ℕ → ℕ → ℕ → Type 0
+Open a b v w = (v < a) ⊎ ((a ≡ v) × (w ≤ b))
+
+-- of the ships before `highs` the highest slots were said, of those before `lows` the lowest, and the orders of the pairs before (v, w);
+-- what was said stands before a place of the normal form
+pub record Said (room : RoomModel) (highs lows v w : ℕ) (place : ℕ × ℕ × ℕ) (out : List Lit) : Type 0 where
+  pub normal : IsClause (shape_in room) out
+  pub before : All (λ l. is_earlier (place_of l) place ≡ true) out
+  pub above : All (AboveRoom room) out
+  pub left : RoomModel
+  pub denies : denied (shape_in room) out ≡ left
+  pub full : IsFull left
+  pub ships : left.ships ≡ room.ships
+  pub slots : left.slots ≡ room.slots
+  pub high : (s : ℕ) → s < room.ships → s < highs → high_of left s ≡ high_of room s
+  pub high_open : (s : ℕ) → s < room.ships → highs ≤ s → high_of left s ≡ room.slots - 1
+  pub low : (s : ℕ) → s < room.ships → s < lows → low_of left s ≡ low_of room s
+  pub low_open : (s : ℕ) → s < room.ships → lows ≤ s → low_of left s ≡ 0
+  pub order : (a b : ℕ) → a < b → b < room.ships → Passed a b v w → order_of left a b ≡ order_of room a b
+  pub order_open : (a b : ℕ) → a < b → b < room.ships → Open a b v w → order_of left a b ≡ Unset
+  pub no_pair : (a b : ℕ) → b ≤ a → a < room.ships → order_of left a b ≡ Unset
+
+whole_bound : (shape : Shape) (ship : ℕ) → ship < shape.ships → (low_of (whole_room shape) ship ≡ 0) × (high_of (whole_room shape) ship ≡ shape.slots - 1)
+whole_bound shape ship lt =
+    let range : ℕ × ℕ = (0, shape.slots - 1) in
+    let e : get_or (replicate shape.ships range) ship (0, 0) ≡ range = get_or-replicate shape.ships ship range (0, 0) lt in
+    (ap (λ (p : ℕ × ℕ). p.0) e, ap (λ (p : ℕ × ℕ). p.1) e)
+
+whole_unset : (shape : Shape) (v w : ℕ) → order_of (whole_room shape) v w ≡ Unset
+whole_unset shape v w = elim (cases_lt (v * shape.ships + w) (shape.ships * shape.ships)) [
+  | inl lt ↦ get_or-replicate (shape.ships * shape.ships) (v * shape.ships + w) Unset Unset lt
+  | inr past ↦ get_or_past (replicate (shape.ships * shape.ships) Unset) (v * shape.ships + w) Unset (omega (arith, past, length-replicate (shape.ships * shape.ships) Unset))
+]
+
+pub said_nothing : (room : RoomModel) → Said room 0 0 0 0 (0, 0, 0) []
+said_nothing room = record {
+  normal = refl;
+  before = All-nil (λ l. is_earlier (place_of l) (0, 0, 0) ≡ true);
+  above = All-nil (AboveRoom room);
+  left = whole_room (shape_in room);
+  denies = refl;
+  full = whole_full (shape_in room);
+  ships = refl;
+  slots = refl;
+  high = λ s lt less. absurd (omega (arith, less));
+  high_open = λ s lt le. (whole_bound (shape_in room) s lt).1;
+  low = λ s lt less. absurd (omega (arith, less));
+  low_open = λ s lt le. (whole_bound (shape_in room) s lt).0;
+  order = λ a b ab lt passed. elim passed [ inl less ↦ absurd (omega (arith, less)) | inr p ↦ absurd (omega (arith, p.1)) ];
+  order_open = λ a b ab lt p. whole_unset (shape_in room) a b;
+  no_pair = λ a b le lt. whole_no_pair (shape_in room) a b le lt;
+}
+
+-- what stands before a place stands before a later one
+later : (p q : ℕ × ℕ × ℕ) (out : List Lit) → is_earlier p q ≡ true → All (λ l. is_earlier (place_of l) p ≡ true) out → All (λ l. is_earlier (place_of l) q ≡ true) out
+later p q out lt all = All-weaker (λ l. is_earlier (place_of l) p ≡ true) (λ l. is_earlier (place_of l) q ≡ true) (λ l e. earlier_trans (place_of l) p q e lt) out all
+
+-- ---- bounds
+
+in_ranges : (room left : RoomModel) (v : ℕ) → IsFull left → left.ships ≡ room.ships → v < room.ships → v < length left.ranges
+in_ranges room left v full ships lt = omega (arith, full.each_ship, ships, lt)
+
+-- the highest slot is the last one, and nothing is said
+above_skip : (room : RoomModel) (v : ℕ) (out : List Lit) → IsRoom room → v < room.ships → high_of room v < room.slots → nat_lt (high_of room v + 1) room.slots ≡ false → Said room v v 0 0 (0, v, 0) out → Said room (v + 1) v 0 0 (0, v, 1) out
+above_skip room v out is lt inside none s =
+    let last : room.slots ≤ high_of room v + 1 = ltb-false _ _ none in
+    record {
+      normal = s.normal;
+      before = later (0, v, 0) (0, v, 1) out (from_earlier (0, v, 0) (0, v, 1) (inr (refl, inr (refl, omega arith)))) s.before;
+      above = s.above;
+      left = s.left;
+      denies = s.denies;
+      full = s.full;
+      ships = s.ships;
+      slots = s.slots;
+      high = λ q in' less. elim (cases_eq q v) [
+        | inl e ↦ subst (λ k. high_of s.left k ≡ high_of room k) (sym e) (s.high_open v lt (omega arith) ∙ omega (arith, last, inside))
+        | inr ne ↦ s.high q in' (omega (arith, less, ne))
+      ];
+      high_open = λ q in' le. s.high_open q in' (omega (arith, le));
+      low = s.low;
+      low_open = s.low_open;
+      order = s.order;
+      order_open = s.order_open;
+      no_pair = s.no_pair;
+    }
+
+above_add : (room : RoomModel) (v : ℕ) (out : List Lit) → v < room.ships → nat_lt (high_of room v + 1) room.slots ≡ true → Said room v v 0 0 (0, v, 0) out → Said room (v + 1) v 0 0 (0, v, 1) (out ++ lits.AtOrAfter v (high_of room v + 1) ∷ [])
+above_add room v out lt some s =
+    let more : high_of room v + 1 < room.slots = ltb-true _ _ some in
+    let lit = lits.AtOrAfter v (high_of room v + 1) in
+    let in' : v < length s.left.ranges = in_ranges room s.left v s.full s.ships lt in
+    let up : is_earlier (0, v, 0) (0, v, 1) ≡ true = from_earlier (0, v, 0) (0, v, 1) (inr (refl, inr (refl, omega arith))) in
+    let at : min (high_of s.left v) (high_of room v + 1 - 1) ≡ high_of room v = omega (arith, s.high_open v lt (omega arith), more) in
+    record {
+      normal = normal_more (shape_in room) out 0 None lit s.normal (and_from (nat_lt v room.ships) _ (lt-ltb _ _ lt) (and_from (nat_le 1 (high_of room v + 1)) _ (le-leb _ _ (omega arith)) (lt-ltb _ _ more))) refl
+          (All-weaker (λ l. is_earlier (place_of l) (0, v, 0) ≡ true) (λ l. may_follow l lit ≡ true) (λ l e. follows l lit e (by_lower l v _)) out s.before);
+      before = All-push (λ l. is_earlier (place_of l) (0, v, 1) ≡ true) out lit (later (0, v, 0) (0, v, 1) out up s.before) up;
+      above = All-push (AboveRoom room) out lit s.above refl;
+      left = cut (negation lit) s.left;
+      denies = denied_more (whole_room (shape_in room)) out lit ∙ ap (cut (negation lit)) s.denies;
+      full = full_cut s.left (negation lit) s.full;
+      ships = s.ships;
+      slots = s.slots;
+      high = λ q inq less. elim (cases_eq q v) [
+        | inl e ↦ subst (λ k. high_of (cut (negation lit) s.left) k ≡ high_of room k) (sym e) (high_new s.left v _ _ in' ∙ at)
+        | inr ne ↦ high_other s.left v _ _ q ne ∙ s.high q inq (omega (arith, less, ne))
+      ];
+      high_open = λ q inq le. high_other s.left v _ _ q (omega (arith, le)) ∙ s.high_open q inq (omega (arith, le));
+      low = λ q inq less. low_other s.left v _ _ q (omega (arith, less)) ∙ s.low q inq less;
+      low_open = λ q inq le. elim (cases_eq q v) [
+        | inl e ↦ subst (λ k. low_of (cut (negation lit) s.left) k ≡ 0) (sym e) (low_new s.left v _ _ in' ∙ s.low_open v lt (omega arith))
+        | inr ne ↦ low_other s.left v _ _ q ne ∙ s.low_open q inq le
+      ];
+      order = s.order;
+      order_open = s.order_open;
+      no_pair = s.no_pair;
+    }
+
+below_skip : (room : RoomModel) (v : ℕ) (out : List Lit) → v < room.ships → nat_lt 0 (low_of room v) ≡ false → Said room (v + 1) v 0 0 (0, v, 1) out → Said room (v + 1) (v + 1) 0 0 (0, v + 1, 0) out
+below_skip room v out lt none s =
+    let first : low_of room v ≤ 0 = ltb-false _ _ none in
+    record {
+      normal = s.normal;
+      before = later (0, v, 1) (0, v + 1, 0) out (from_earlier (0, v, 1) (0, v + 1, 0) (inr (refl, inl (omega arith)))) s.before;
+      above = s.above;
+      left = s.left;
+      denies = s.denies;
+      full = s.full;
+      ships = s.ships;
+      slots = s.slots;
+      high = s.high;
+      high_open = s.high_open;
+      low = λ q in' less. elim (cases_eq q v) [
+        | inl e ↦ subst (λ k. low_of s.left k ≡ low_of room k) (sym e) (s.low_open v lt (omega arith) ∙ omega (arith, first))
+        | inr ne ↦ s.low q in' (omega (arith, less, ne))
+      ];
+      low_open = λ q in' le. s.low_open q in' (omega (arith, le));
+      order = s.order;
+      order_open = s.order_open;
+      no_pair = s.no_pair;
+    }
+
+below_add : (room : RoomModel) (v : ℕ) (out : List Lit) → v < room.ships → low_of room v ≤ high_of room v → high_of room v < room.slots → nat_lt 0 (low_of room v) ≡ true → Said room (v + 1) v 0 0 (0, v, 1) out → Said room (v + 1) (v + 1) 0 0 (0, v + 1, 0) (out ++ lits.Before v (low_of room v) ∷ [])
+below_add room v out lt le inside some s =
+    let more : 0 < low_of room v = ltb-true _ _ some in
+    let lit = lits.Before v (low_of room v) in
+    let in' : v < length s.left.ranges = in_ranges room s.left v s.full s.ships lt in
+    let up : is_earlier (0, v, 1) (0, v + 1, 0) ≡ true = from_earlier (0, v, 1) (0, v + 1, 0) (inr (refl, inl (omega arith))) in
+    let at : max (low_of s.left v) (low_of room v) ≡ low_of room v = omega (arith, s.low_open v lt (omega arith)) in
+    record {
+      normal = normal_more (shape_in room) out 0 None lit s.normal (and_from (nat_lt v room.ships) _ (lt-ltb _ _ lt) (and_from (nat_le 1 (low_of room v)) _ (le-leb _ _ (omega arith)) (lt-ltb _ _ (omega arith)))) refl
+          (both_of out s.before s.above);
+      before = All-push (λ l. is_earlier (place_of l) (0, v + 1, 0) ≡ true) out lit (later (0, v, 1) (0, v + 1, 0) out up s.before) up;
+      above = All-push (AboveRoom room) out lit s.above tt;
+      left = cut (negation lit) s.left;
+      denies = denied_more (whole_room (shape_in room)) out lit ∙ ap (cut (negation lit)) s.denies;
+      full = full_cut s.left (negation lit) s.full;
+      ships = s.ships;
+      slots = s.slots;
+      high = λ q inq less. elim (cases_eq q v) [
+        | inl e ↦ subst (λ k. high_of (cut (negation lit) s.left) k ≡ high_of room k) (sym e) (high_new s.left v _ _ in' ∙ s.high v lt (omega arith))
+        | inr ne ↦ high_other s.left v _ _ q ne ∙ s.high q inq less
+      ];
+      high_open = λ q inq ge. high_other s.left v _ _ q (omega (arith, ge)) ∙ s.high_open q inq ge;
+      low = λ q inq less. elim (cases_eq q v) [
+        | inl e ↦ subst (λ k. low_of (cut (negation lit) s.left) k ≡ low_of room k) (sym e) (low_new s.left v _ _ in' ∙ at)
+        | inr ne ↦ low_other s.left v _ _ q ne ∙ s.low q inq (omega (arith, less, ne))
+      ];
+      low_open = λ q inq ge. low_other s.left v _ _ q (omega (arith, ge)) ∙ s.low_open q inq (omega (arith, ge));
+      order = s.order;
+      order_open = s.order_open;
+      no_pair = s.no_pair;
+    }
+  where
+    both_of : (xs : List Lit) → All (λ l. is_earlier (place_of l) (0, v, 1) ≡ true) xs → All (AboveRoom room) xs → All (λ l. may_follow l (lits.Before v (low_of room v)) ≡ true) xs
+    both_of xs before above = λ i d at. follows (get_or xs i d) (lits.Before v (low_of room v)) (before i d at) (by_upper room (get_or xs i d) v le (above i d at))
+
+-- what a test decides, of both answers
+said_if : (b : Bool) (lit : Lit) (out : List Lit) (P : List Lit → Type 0) → (b ≡ true → P (out ++ lit ∷ [])) → (b ≡ false → P out) → P (out ++ one_or_none (cond b (Some lit) None))
+said_if true lit out P some none = some refl
+said_if false lit out P some none = subst P (sym (append_none out)) (none refl)
+
+pub said_ship : (room : RoomModel) (v : ℕ) (out : List Lit) → IsRoom room → v < room.ships → Said room v v 0 0 (0, v, 0) out
+    → Said room (v + 1) (v + 1) 0 0 (0, v + 1, 0) ((out ++ one_or_none (above_said room v)) ++ one_or_none (below_said room v))
+said_ship room v out is lt s =
+    let le : low_of room v ≤ high_of room v = All-get_or (λ range. range.0 ≤ range.1) room.ranges v (0, 0) (omega (arith, is.each_ship, lt)) is.ordered in
+    let inside : high_of room v < room.slots = All-get_or (λ range. range.1 < room.slots) room.ranges v (0, 0) (omega (arith, is.each_ship, lt)) is.in_slots in
+    let half : Said room (v + 1) v 0 0 (0, v, 1) (out ++ one_or_none (above_said room v)) =
+    said_if (nat_lt (high_of room v + 1) room.slots) _ out (Said room (v + 1) v 0 0 (0, v, 1)) (λ t. above_add room v out lt t s) (λ t. above_skip room v out is lt inside t s) in
+    said_if (nat_lt 0 (low_of room v)) _ _ (Said room (v + 1) (v + 1) 0 0 (0, v + 1, 0)) (λ t. below_add room v _ lt le inside t half) (λ t. below_skip room v _ lt t half)
+
+-- ---- orders
+
+pub said_ships : (room : RoomModel) (v : ℕ) (out : List Lit) → v ≡ room.ships → Said room v v 0 0 (0, v, 0) out → Said room room.ships room.ships 0 0 (1, 0, 0) out
+said_ships room v out e s = subst (λ k. Said room k k 0 0 (1, 0, 0) out) e (record {
+  normal = s.normal;
+  before = later (0, v, 0) (1, 0, 0) out (from_earlier (0, v, 0) (1, 0, 0) (inl (omega arith))) s.before;
+  above = s.above;
+  left = s.left;
+  denies = s.denies;
+  full = s.full;
+  ships = s.ships;
+  slots = s.slots;
+  high = s.high;
+  high_open = s.high_open;
+  low = s.low;
+  low_open = s.low_open;
+  order = s.order;
+  order_open = s.order_open;
+  no_pair = s.no_pair;
+})
+
+-- another pair up to which the same orders were said
+moved : (room : RoomModel) (k v w x y : ℕ) (out : List Lit) → is_earlier (1, v, w) (1, x, y) ≡ true → ((a b : ℕ) → a < b → b < room.ships → Passed a b x y → Passed a b v w) → ((a b : ℕ) → a < b → b < room.ships → Open a b x y → Open a b v w)
+    → Said room k k v w (1, v, w) out → Said room k k x y (1, x, y) out
+moved room k v w x y out up passed rest s = record {
+  normal = s.normal;
+  before = later (1, v, w) (1, x, y) out up s.before;
+  above = s.above;
+  left = s.left;
+  denies = s.denies;
+  full = s.full;
+  ships = s.ships;
+  slots = s.slots;
+  high = s.high;
+  high_open = s.high_open;
+  low = s.low;
+  low_open = s.low_open;
+  order = λ a b ab lt p. s.order a b ab lt (passed a b ab lt p);
+  order_open = λ a b ab lt p. s.order_open a b ab lt (rest a b ab lt p);
+  no_pair = s.no_pair;
+}
+
+pub said_row : (room : RoomModel) (k v : ℕ) (out : List Lit) → Said room k k v 0 (1, v, 0) out → Said room k k v (v + 1) (1, v, v + 1) out
+said_row room k v out s =
+    moved room k v 0 v (v + 1) out (from_earlier (1, v, 0) (1, v, v + 1) (inr (refl, inr (refl, omega arith)))) (λ a b ab lt p. grind arith) (λ a b ab lt p. grind arith) s
+
+pub said_rows : (room : RoomModel) (k v w : ℕ) (out : List Lit) → room.ships ≤ w → Said room k k v w (1, v, w) out → Said room k k (v + 1) 0 (1, v + 1, 0) out
+said_rows room k v w out le s =
+    moved room k v w (v + 1) 0 out (from_earlier (1, v, w) (1, v + 1, 0) (inr (refl, inl (omega arith)))) (λ a b ab lt p. grind arith) (λ a b ab lt p. grind arith) s
+
+still : (a b v w : ℕ) → ((a ≡ v) × (b ≡ w) → ⊥) → Passed a b v (w + 1) → Passed a b v w
+still a b v w other p = elim p [
+  | inl less ↦ inl less
+  | inr q ↦ elim (cases_lt b w) [ inl less ↦ inr (q.0, less) | inr ge ↦ absurd (other (q.0, omega (arith, ge, q.1))) ]
+]
+
+fewer : (a b v w : ℕ) → Open a b v (w + 1) → Open a b v w
+fewer a b v w p = elim p [ inl less ↦ inl less | inr q ↦ inr (q.0, omega (arith, q.1)) ]
+
+-- the order of a pair that is none yet
+order_skip : (room : RoomModel) (k v w : ℕ) (out : List Lit) → v < w → w < room.ships → order_of room v w ≡ Unset → Said room k k v w (1, v, w) out → Said room k k v (w + 1) (1, v, w + 1) out
+order_skip room k v w out vw lt e s = record {
+  normal = s.normal;
+  before = later (1, v, w) (1, v, w + 1) out (from_earlier (1, v, w) (1, v, w + 1) (inr (refl, inr (refl, omega arith)))) s.before;
+  above = s.above;
+  left = s.left;
+  denies = s.denies;
+  full = s.full;
+  ships = s.ships;
+  slots = s.slots;
+  high = s.high;
+  high_open = s.high_open;
+  low = s.low;
+  low_open = s.low_open;
+  order = λ a b ab inb p. elim (cases_pair a b v w) [
+    | inl same ↦ s.order_open a b ab inb (inr (same.0, omega (arith, same.1))) ∙ sym (rw (same.0, same.1) e)
+    | inr other ↦ s.order a b ab inb (still a b v w other p)
+  ];
+  order_open = λ a b ab inb p. s.order_open a b ab inb (fewer a b v w p);
+  no_pair = s.no_pair;
+}
+
+-- a literal that turns the order of a pair round
+order_add : (room : RoomModel) (k v w : ℕ) (out : List Lit) (lit : Lit) (order : Order) → v < w → w < room.ships → order_of room v w ≡ order → place_of lit ≡ (1, v, w) → lit_fits (shape_in room) lit ≡ true → ((l : Lit) → leaves_some l lit ≡ true) → AboveRoom room lit
+    → ((r : RoomModel) → cut (negation lit) r ≡ with_order r v w order) → Said room k k v w (1, v, w) out → Said room k k v (w + 1) (1, v, w + 1) (out ++ lit ∷ [])
+order_add room k v w out lit order vw lt e place fits leaves above cuts s =
+    let up : is_earlier (1, v, w) (1, v, w + 1) ≡ true = from_earlier (1, v, w) (1, v, w + 1) (inr (refl, inr (refl, omega arith))) in
+    let wl : w < s.left.ships = omega (arith, s.ships, lt) in
+    record {
+      normal = normal_more (shape_in room) out 0 None lit s.normal fits refl
+          (All-weaker (λ l. is_earlier (place_of l) (1, v, w) ≡ true) (λ l. may_follow l lit ≡ true) (λ l d. follows l lit (subst (λ p. is_earlier (place_of l) p ≡ true) (sym place) d) (leaves l)) out s.before);
+      before = All-push (λ l. is_earlier (place_of l) (1, v, w + 1) ≡ true) out lit (later (1, v, w) (1, v, w + 1) out up s.before) (subst (λ p. is_earlier p (1, v, w + 1) ≡ true) (sym place) up);
+      above = All-push (AboveRoom room) out lit s.above above;
+      left = with_order s.left v w order;
+      denies = denied_more (whole_room (shape_in room)) out lit ∙ ap (cut (negation lit)) s.denies ∙ cuts s.left;
+      full = subst IsFull (cuts s.left) (full_cut s.left (negation lit) s.full);
+      ships = s.ships;
+      slots = s.slots;
+      high = s.high;
+      high_open = s.high_open;
+      low = s.low;
+      low_open = s.low_open;
+      order = λ a b ab inb p. elim (cases_pair a b v w) [
+        | inl same ↦ rw (same.0, same.1) (new_order s.left v w order s.full (omega (arith, vw, wl)) wl ∙ sym e)
+        | inr other ↦ other_order s.left v w a b order wl (omega (arith, s.ships, inb)) other ∙ s.order a b ab inb (still a b v w other p)
+      ];
+      order_open = λ a b ab inb p. other_order s.left v w a b order wl (omega (arith, s.ships, inb)) (past a b v w p) ∙ s.order_open a b ab inb (fewer a b v w p);
+      no_pair = λ a b ba ina. with_order_no_pair s.left v w order a b vw wl ba (omega (arith, s.ships, ina)) (s.no_pair a b ba ina);
+    }
+  where
+    past : (a b v w : ℕ) → Open a b v (w + 1) → (a ≡ v) × (b ≡ w) → ⊥
+    past a b v w p same = elim p [ inl less ↦ omega (arith, less, same.0) | inr q ↦ omega (arith, q.1, same.1) ]
+
+pub said_pair : (room : RoomModel) (k v w : ℕ) (out : List Lit) → v < w → w < room.ships → Said room k k v w (1, v, w) out → Said room k k v (w + 1) (1, v, w + 1) (out ++ one_or_none (turned_said room v w))
+said_pair room k v w out vw lt s = by (order_of room v w) refl
+  where
+    fits : (nat_lt v w && nat_lt w room.ships) ≡ true
+    fits = and_from (nat_lt v w) _ (lt-ltb _ _ vw) (lt-ltb _ _ lt)
+
+    by : (o : Order) → order_of room v w ≡ o → Said room k k v (w + 1) (1, v, w + 1) (out ++ one_or_none (turned o v w))
+    by Unset e = subst (Said room k k v (w + 1) (1, v, w + 1)) (sym (append_none out)) (order_skip room k v w out vw lt e s)
+    by First e = order_add room k v w out (lits.NotFirst v w) First vw lt e refl fits (λ l. by_not_first l v w) tt (λ r. refl) s
+    by NotFirst e = order_add room k v w out (lits.First v w) NotFirst vw lt e refl fits (λ l. by_first l v w) tt (λ r. refl) s
+
+-- ---- all was said
+
+pub said_all : (room : RoomModel) (v : ℕ) (out : List Lit) → IsRoom room → v ≡ room.ships → Said room room.ships room.ships v 0 (1, v, 0) out → denied (shape_in room) out ≡ room
+said_all room v out is e s =
+    let ranges : (ship : ℕ) → ship < s.left.ships → (low_of s.left ship ≡ low_of room ship) × (high_of s.left ship ≡ high_of room ship) = λ ship lt.
+    let in' : ship < room.ships = omega (arith, s.ships, lt) in
+    (s.low ship in' in', s.high ship in' in') in
+    s.denies ∙ same_room s.left room (left_is ranges) is s.ships s.slots ranges (λ a b ab lt. s.order a b ab (omega (arith, s.ships, lt)) (inl (omega (arith, e, s.ships, ab, lt))))
+  where
+    left_is : ((ship : ℕ) → ship < s.left.ships → (low_of s.left ship ≡ low_of room ship) × (high_of s.left ship ≡ high_of room ship)) → IsRoom s.left
+    left_is ranges = record {
+      few = omega (arith, is.few, s.ships);
+      few_slots = omega (arith, is.few_slots, s.slots);
+      each_ship = s.full.each_ship;
+      each_pair = s.full.each_pair;
+      ordered = All-from_get_or (λ range. range.0 ≤ range.1) s.left.ranges (0, 0) (λ i lt.
+          let r = ranges i (omega (arith, s.full.each_ship, lt)) in
+          let le : low_of room i ≤ high_of room i = All-get_or (λ range. range.0 ≤ range.1) room.ranges i (0, 0) (omega (arith, is.each_ship, s.full.each_ship, s.ships, lt)) is.ordered in
+          omega (arith, r.0, r.1, le));
+      in_slots = All-from_get_or (λ range. range.1 < s.left.slots) s.left.ranges (0, 0) (λ i lt.
+          let r = ranges i (omega (arith, s.full.each_ship, lt)) in
+          let le : high_of room i < room.slots = All-get_or (λ range. range.1 < room.slots) room.ranges i (0, 0) (omega (arith, is.each_ship, s.full.each_ship, s.ships, lt)) is.in_slots in
+          omega (arith, r.1, le, s.slots));
+      no_pair = λ a b le lt. s.no_pair a b le (omega (arith, s.ships, lt));
+    }
