@@ -5,3 +5,5 @@ pub mod TextRows
 pub mod WrittenWords
 pub mod TextLacks
 pub mod TextBack
+mod Drawing
+mod DrawnFits

@@ -3,3 +3,4 @@ pub mod TextForms
 pub mod Text
 pub mod TextWritten
 pub mod TextLaws
+pub mod Demonstration

@@ -3,6 +3,7 @@
 //! A value of `Flat` keeps the limits of a flat problem, and a `Room` never has an empty range.
 #![tactic(auto)]
 
+mod demo;
 mod fault;
 mod flat;
 mod forms;
@@ -15,6 +16,7 @@ mod rules;
 mod timetable;
 mod writing;
 
+pub use demo::make_demo;
 pub use fault::{FlatFault, FlatWord};
 pub use flat::Flat;
 pub use hw_model::{Hole, Holes, Job, Jobs, NoMemory, Order, Rule, Shape, ShipId, Slot, Source};

@@ -12,6 +12,10 @@ const PRECEDENCE_AND_TUGS: &[u8] =
 const SHIPS_THAT_MAY_STAY: &[u8] =
     b"flat 2\nsize 2 3\nv 10 20 30 n\nv 10 20 30 y\np 0 1 -1023:-2 0:0 2:1023\nend\n";
 
+/// The demonstration 1 with 3 ships and 5 slots, computed from the generator's definition.
+const DEMONSTRATION: &[u8] =
+    b"flat 1\nsize 3 5\nv 990 1089 1188 1287 1386\nv 560 616 672 728 784\nv 990 1089 - 1287 1386\np 0 1 -1:2\np 0 2 -1:3\np 1 2 -3:3\nu 4 0:2:4 1:2:3 2:2:4\nend\n";
+
 fn refusal(alloc: Global, bytes: &[u8]) -> Option<(u64, FlatWord)> {
     match Flat::read(alloc, bytes) {
         Err(FlatFault::Line { number, word }) => Some((number, word)),
@@ -294,5 +298,15 @@ fn takes_4000_rules_and_no_more(rt: HostRuntime) -> Result<(), Fail> {
     let mut cut_off = text;
     cut_off.extend_from_slice(b"p 0 1 0:0")?;
     assert_eq!(rt; refusal(rt.alloc(), &cut_off), Some((4005, FlatWord::Rule)));
+    Ok(())
+}
+
+#[test]
+fn draws_a_demonstration(rt: HostRuntime) -> Result<(), Fail> {
+    let flat = make_demo(rt.alloc(), 1, 3, 5)?;
+    assert_eq!(rt; (flat.values.len(), flat.rules.len()), (15, 4));
+    let mut text = Vec::new(rt.alloc());
+    flat.write(&mut text)?;
+    assert_eq!(rt; text.as_slice(), DEMONSTRATION);
     Ok(())
 }

@@ -1,0 +1,6 @@
+use Rattle.std.proofs.Common.{◌≡◌, []}
+use Rattle.hw_flat.specs.Demonstration.{and_then, in_turn, from_to, job_drawn}
+use Rattle.hw_flat.proofs.demo.draw_jobs.Given as goal
+
+abbrev pub invariant-loop-ship : goal.invariant-loop-ship
+invariant-loop-ship l = and_then (l.jobs.items, l.words) (in_turn (job_drawn) (from_to l.ship l.ships)) ≡ and_then ([], l.fn.words) (in_turn (job_drawn) (from_to (0) l.ships))
