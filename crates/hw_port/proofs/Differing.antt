@@ -6,7 +6,7 @@ use Rattle.std.proofs.lemmas.Slice.Eq.{bytes_eq-Decides}
 use Rattle.hw_port.specs.declared.fault.Path.{Path}
 use Rattle.hw_port.specs.declared.fault.PortFault.{PortFault}
 use Rattle.hw_port.specs.declared.fault.PortWord.TheVariants.{Name, Repeat}
-use Rattle.hw_port.specs.Faults.{◌or_else◌, unless, each}
+use Rattle.hw_port.specs.Faults.{unless, each}
 use Rattle.hw_port.specs.Rules.{is_name, among, new_name}
 use Rattle.hw_port.specs.Kept.{Differ}
 use Rattle.hw_port.proofs.Keeping.{neither, unless_none}

@@ -1,5 +1,5 @@
 -- A port that keeps the meaning rules has no fault.
-use Rattle.std.proofs.Common.{◌≡◌, ℕ, zero, suc, ◌+◌, ◌≤◌, ◌≤ℤ◌, ◌<ℤ◌, ℤ, pos, negsuc, Bool, true, false, not, ◌&&◌, List, [], ◌∷◌, length, take, slice_get, Option, Some, None, refl, sym, ap, ◌∙◌, subst, arith, All, IsTrue, nat_le, int_le, int_lt}
+use Rattle.std.proofs.Common.{◌≡◌, ℕ, zero, suc, ◌+◌, ◌≤◌, ◌≤ℤ◌, ◌<ℤ◌, ℤ, pos, negsuc, Bool, true, false, not, ◌&&◌, List, [], ◌∷◌, length, take, slice_get, Option, Some, None, refl, sym, ap, subst, arith, All, nat_le, int_le, int_lt}
 use Rattle.std.proofs.lemmas.Bool.{and_from}
 use Rattle.std.proofs.lemmas.Bool.Decides.{nat_tests}
 use Rattle.std.proofs.lemmas.Int.{ints}
@@ -16,10 +16,11 @@ use Rattle.hw_port.specs.declared.parts.BerthPair.{BerthPair}
 use Rattle.hw_port.specs.Parts.{ShipParts}
 use Rattle.hw_port.specs.Whole.{Parts}
 use Rattle.hw_port.specs.Faults.{◌or_else◌, unless, each, at_item}
-use Rattle.hw_port.specs.Rules.{in_range, is_place, is_name, is_direction, range, place, count, at_least, above, new_name, among, outgoing, incoming}
+use Rattle.hw_port.specs.Rules.{in_range, is_place, is_name, is_direction, range, place, count, at_least, above, new_name, among}
 use Rattle.hw_port.specs.Ships.{sort_fault, window_fault, load_fault, pass_fault, route_fault, stretch_fault, stretches_fault, channel_fault, tugs_fault, ship_fault}
 use Rattle.hw_port.specs.Meaning.{calendar_fault, waypoint_fault, waypoints_fault, section_fault, sections_fault, gap_fault, row_fault, separation_fault, tug_fault, ships_fault, has_direction, ship_at, side_fault, berth_fault, berths_fault, port_fault}
-use Rattle.hw_port.specs.Kept.{Within, IsPlace, Counts, Differ, WaypointKept, SectionKept, RowKept, PassKept, StretchKept, Ascends, ShipKept, BerthKept, PortKept, FaultlessIsKept}
+use Rattle.hw_port.specs.Kept.{Within, IsPlace, Counts, WaypointKept, SectionKept, RowKept, PassKept, StretchKept, Ascends, ShipKept, BerthKept, PortKept, FaultlessIsKept, IsName, Sails}
+use Rattle.hw_port.proofs.Wording.{from_name, from_direction, from_sails}
 use Rattle.hw_port.proofs.Differing.{fresh_by}
 use Rattle.hw_port.proofs.KeptPorts.{port_kept}
 
@@ -60,9 +61,9 @@ is_above : (path : Path) (low value : ℤ) → low <ℤ value → above path low
 unfolding above
 is_above path low value h = holds path Order (int_lt low value) (lt_test low value h)
 
-named : (path : Path) (used : Bool) (text : List ℕ) → IsTrue (is_name text) → used ≡ false → new_name path used text ≡ None
+named : (path : Path) (used : Bool) (text : List ℕ) → IsName text → used ≡ false → new_name path used text ≡ None
 unfolding new_name
-named path used text good fresh = both (unless path Name (is_name text)) (unless path Repeat (not used)) (holds path Name (is_name text) good) (holds path Repeat (not used) (ap not fresh))
+named path used text good fresh = both (unless path Name (is_name text)) (unless path Repeat (not used)) (holds path Name (is_name text) (from_name text good)) (holds path Repeat (not used) (ap not fresh))
 
 no_fault : {A : Type 0} (rule : ℕ → A → Option PortFault) (from : ℕ) (xs : List A) → ((k place : ℕ) (x : A) → place ≡ from + k → slice_get xs k ≡ Some x → rule place x ≡ None) → each rule from xs ≡ None
 no_fault rule from [] h = refl
@@ -112,16 +113,16 @@ good_stretches i sections j before (s ∷ ss) all up = both (stretch_fault i sec
 good_ship : (p : Parts) (i : ℕ) (s : ShipParts) → ShipKept p s → among (λ v. v.name) s.name (take i p.ships) ≡ false → ship_fault p i s ≡ None
 unfolding ship_fault sort_fault window_fault load_fault route_fault channel_fault tugs_fault
 good_ship p i s kept fresh =
-    both (sort_fault p.ships (pos (length p.separation)) i s) _ (both _ _ (named _ _ _ kept.name fresh) (both _ _ (holds (at_item places.ShipDirection i) Name (is_direction s.direction) kept.direction) (in_its_place _ _ _ kept.class)))
+    both (sort_fault p.ships (pos (length p.separation)) i s) _ (both _ _ (named _ _ _ kept.name fresh) (both _ _ (holds (at_item places.ShipDirection i) Name (is_direction s.direction) (from_direction s.direction kept.direction)) (in_its_place _ _ _ kept.class)))
     (both (window_fault i p.slots s.earliest s.latest) _ (both _ _ (in_its_place _ _ _ kept.earliest) (both _ _ (in_its_place _ _ _ kept.latest) (is_at_least _ _ _ kept.window)))
     (both (load_fault i s.tpc s.light s.deep) _ (both _ _ (in_its_range _ _ _ _ kept.tpc) (both _ _ (in_its_range _ _ _ _ kept.light) (both _ _ (in_its_range _ _ _ _ kept.deep) (is_at_least _ _ _ kept.load))))
     (both (route_fault i (pos (length p.waypoints)) s.route) _ (both _ _ (so_many _ _ _ _ kept.passes) (each_good (pass_fault i (pos (length p.waypoints))) (PassKept (pos (length p.waypoints))) (good_pass i (pos (length p.waypoints))) 0 s.route kept.route))
     (both (channel_fault i (pos (length p.sections)) s.channel) _ (both _ _ (so_many _ _ _ _ kept.stretches) (good_stretches i (pos (length p.sections)) 0 (negsuc 0) s.channel kept.channel kept.ascends))
     (both _ _ (in_its_range _ _ _ _ kept.tugs) (in_its_range _ _ _ _ kept.job))))))
 
-good_side : (path : Path) (direction : List ℕ) (ships : List ShipParts) (ship : ℤ) → IsPlace (pos (length ships)) ship → IsTrue (has_direction direction (ship_at ships ship)) → side_fault path direction ships ship ≡ None
+good_side : (path : Path) (direction : List ℕ) (ships : List ShipParts) (ship : ℤ) → IsPlace (pos (length ships)) ship → Sails direction ships ship → side_fault path direction ships ship ≡ None
 unfolding side_fault
-good_side path direction ships ship at side = both _ _ (in_its_place _ _ _ at) (holds path Side (has_direction direction (ship_at ships ship)) side)
+good_side path direction ships ship at side = both _ _ (in_its_place _ _ _ at) (holds path Side (has_direction direction (ship_at ships ship)) (from_sails direction ships ship side))
 
 good_berth : (ships : List ShipParts) (i : ℕ) (b : BerthPair) → BerthKept ships b → berth_fault ships i b ≡ None
 unfolding berth_fault

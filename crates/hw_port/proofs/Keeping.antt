@@ -1,5 +1,5 @@
 -- What a rule that finds no fault says.
-use Rattle.std.proofs.Common.{◌≡◌, ℕ, ◌+◌, ◌≤◌, ◌≤ℤ◌, ◌<ℤ◌, ℤ, pos, Bool, true, false, not, ◌&&◌, List, [], ◌∷◌, Option, Some, None, refl, arith, All, IsTrue, nat_le, int_le, int_lt}
+use Rattle.std.proofs.Common.{◌≡◌, ℕ, ◌+◌, ◌≤◌, ◌≤ℤ◌, ◌<ℤ◌, ℤ, pos, Bool, true, false, not, ◌&&◌, List, [], ◌∷◌, Option, Some, None, refl, arith, All, nat_le, int_le, int_lt}
 use Rattle.std.proofs.lemmas.Bool.{and_parts}
 use Rattle.std.proofs.lemmas.Bool.Decides.{nat_tests}
 use Rattle.std.proofs.lemmas.Float.{T_from_true}
@@ -11,7 +11,8 @@ use Rattle.hw_port.specs.declared.fault.PortWord.{PortWord}
 use Rattle.hw_port.specs.declared.fault.PortWord.TheVariants.{Range, Count, Name, Repeat, Order}
 use Rattle.hw_port.specs.Faults.{◌or_else◌, unless, each}
 use Rattle.hw_port.specs.Rules.{in_range, is_place, is_name, range, place, count, at_least, above, new_name}
-use Rattle.hw_port.specs.Kept.{Within, IsPlace, Counts}
+use Rattle.hw_port.specs.Kept.{Within, IsPlace, Counts, IsName}
+use Rattle.hw_port.proofs.Wording.{name_from}
 
 -- where neither of two has a fault
 pub neither : (a b : Option PortFault) → a or_else b ≡ None → (a ≡ None) × (b ≡ None)
@@ -57,9 +58,9 @@ pub above_kept : (path : Path) (low value : ℤ) → above path low value ≡ No
 unfolding above
 above_kept path low value e = lt_from_test low value (unless_none path Order (int_lt low value) e)
 
-pub name_kept : (path : Path) (used : Bool) (text : List ℕ) → new_name path used text ≡ None → IsTrue (is_name text)
+pub name_kept : (path : Path) (used : Bool) (text : List ℕ) → new_name path used text ≡ None → IsName text
 unfolding new_name
-name_kept path used text e = unless_none path Name (is_name text) (neither (unless path Name (is_name text)) (unless path Repeat (not used)) e).0
+name_kept path used text e = name_from text (unless_none path Name (is_name text) (neither (unless path Name (is_name text)) (unless path Repeat (not used)) e).0)
 
 pub each_kept : {A : Type 0} (rule : ℕ → A → Option PortFault) (P : A → Type 0) → ((i : ℕ) (x : A) → rule i x ≡ None → P x) → (i : ℕ) (xs : List A) → each rule i xs ≡ None → All P xs
 each_kept rule P keeps i [] e = λ k d h. absurd (omega (arith, h))

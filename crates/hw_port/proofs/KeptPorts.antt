@@ -1,5 +1,5 @@
 -- A port without a fault keeps the meaning rules.
-use Rattle.std.proofs.Common.{◌≡◌, ◌<ℤ◌, ℕ, ◌+◌, ℤ, pos, negsuc, List, [], ◌∷◌, length, None, refl, arith, All, IsTrue}
+use Rattle.std.proofs.Common.{◌≡◌, ◌<ℤ◌, ℕ, ◌+◌, ℤ, pos, negsuc, List, [], ◌∷◌, length, None, arith, All}
 use Rattle.std.proofs.lemmas.List.Elements.{All-cons}
 use Rattle.hw_port.specs.declared.fault.Path.{Path}
 use Rattle.hw_port.specs.declared.parts.Waypoint.{Waypoint}
@@ -10,9 +10,10 @@ use Rattle.hw_port.specs.declared.parts.BerthPair.{BerthPair}
 use Rattle.hw_port.specs.Parts.{ShipParts}
 use Rattle.hw_port.specs.Whole.{Parts}
 use Rattle.hw_port.specs.Ships.{sort_fault, window_fault, load_fault, pass_fault, route_fault, stretch_fault, stretches_fault, channel_fault, tugs_fault, ship_fault}
-use Rattle.hw_port.specs.Meaning.{calendar_fault, waypoint_fault, waypoints_fault, section_fault, sections_fault, gap_fault, row_fault, separation_fault, tug_fault, ships_fault, has_direction, ship_at, side_fault, berth_fault, berths_fault, port_fault}
-use Rattle.hw_port.specs.Kept.{Within, IsPlace, Counts, WaypointKept, SectionKept, RowKept, PassKept, StretchKept, Ascends, ShipKept, BerthKept, PortKept}
+use Rattle.hw_port.specs.Meaning.{calendar_fault, waypoint_fault, waypoints_fault, section_fault, sections_fault, gap_fault, row_fault, separation_fault, tug_fault, ships_fault, side_fault, berth_fault, berths_fault, port_fault}
+use Rattle.hw_port.specs.Kept.{Within, IsPlace, Counts, WaypointKept, SectionKept, RowKept, PassKept, StretchKept, Ascends, ShipKept, BerthKept, PortKept, Sails}
 use Rattle.hw_port.proofs.Keeping.{neither, unless_none, range_kept, place_kept, count_kept, at_least_kept, above_kept, name_kept, each_kept}
+use Rattle.hw_port.proofs.Wording.{direction_from, sails_from}
 use Rattle.hw_port.proofs.Differing.{used_not, at_place, differ_by}
 
 waypoint_kept : (all : List Waypoint) (i : ℕ) (w : Waypoint) → waypoint_fault all i w ≡ None → WaypointKept w
@@ -94,7 +95,7 @@ ship_kept p i s e =
     let tugs = neither _ _ f.1 in
     record {
       name = name_kept _ _ _ sort.0;
-      direction = unless_none _ _ _ class.0;
+      direction = direction_from s.direction (unless_none _ _ _ class.0);
       class = place_kept _ _ _ class.1;
       earliest = place_kept _ _ _ window.0;
       latest = place_kept _ _ _ last.0;
@@ -112,11 +113,11 @@ ship_kept p i s e =
       job = range_kept _ _ _ _ tugs.1;
     }
 
-side_kept : (path : Path) (direction : List ℕ) (ships : List ShipParts) (ship : ℤ) → side_fault path direction ships ship ≡ None → IsPlace (pos (length ships)) ship × IsTrue (has_direction direction (ship_at ships ship))
+side_kept : (path : Path) (direction : List ℕ) (ships : List ShipParts) (ship : ℤ) → side_fault path direction ships ship ≡ None → IsPlace (pos (length ships)) ship × Sails direction ships ship
 unfolding side_fault
 side_kept path direction ships ship e =
     let a = neither _ _ e in
-    (place_kept _ _ _ a.0, unless_none _ _ _ a.1)
+    (place_kept _ _ _ a.0, sails_from direction ships ship (unless_none _ _ _ a.1))
 
 berth_kept : (ships : List ShipParts) (i : ℕ) (b : BerthPair) → berth_fault ships i b ≡ None → BerthKept ships b
 unfolding berth_fault

@@ -1,3 +1,4 @@
+pub mod Wording
 pub mod Keeping
 pub mod KeptPorts
 pub mod MeaningWords

@@ -1,5 +1,5 @@
 -- What the parts of a port that keeps the meaning rules are like, as callers use it.
-use Rattle.std.specs.Prelude.{◌≡◌, ◌≢◌, ◌↔◌, ◌<◌, ◌≤◌, ◌≤ℤ◌, ◌<ℤ◌, ℕ, ℤ, pos, negsuc, List, [], ◌∷◌, length, IsTrue, All, Some, None, slice_get}
+use Rattle.std.specs.Prelude.{◌≡◌, ◌≢◌, ◌↔◌, ◌⊎◌, ◌-◌, ◌<◌, ◌≤◌, ◌≤ℤ◌, ◌<ℤ◌, ℕ, ℤ, pos, negsuc, List, [], ◌∷◌, length, All, IsSomeAnd, Some, None, slice_get, slice_index}
 use Rattle.hw_port.specs.declared.parts.Waypoint.{Waypoint}
 use Rattle.hw_port.specs.declared.parts.Section.{Section}
 use Rattle.hw_port.specs.declared.parts.Pass.{Pass}
@@ -7,8 +7,8 @@ use Rattle.hw_port.specs.declared.parts.Stretch.{Stretch}
 use Rattle.hw_port.specs.declared.parts.BerthPair.{BerthPair}
 use Rattle.hw_port.specs.Parts.{ShipParts}
 use Rattle.hw_port.specs.Whole.{Parts}
-use Rattle.hw_port.specs.Rules.{is_name, is_direction, outgoing, incoming}
-use Rattle.hw_port.specs.Meaning.{has_direction, ship_at, port_fault}
+use Rattle.hw_port.specs.Rules.{outgoing, incoming}
+use Rattle.hw_port.specs.Meaning.{ship_at, port_fault}
 
 -- a number from low to high
 pub record Within (lowest highest value : ℤ) : Type 0 where
@@ -25,16 +25,35 @@ pub record Counts (fewest most many : ℕ) : Type 0 where
   pub low : fewest ≤ many
   pub high : many ≤ most
 
+-- a byte from the space to the tilde
+abbrev pub IsPrintable : ℕ → Type 0
+IsPrintable b = (32 ≤ b) × (b ≤ 126)
+
+-- 1 to 40 printable bytes, of which neither the first nor the last is a space
+pub record IsName (text : List ℕ) : Type 0 where
+  pub size : Counts 1 40 (length text)
+  pub printable : All IsPrintable text
+  pub begins : slice_index text 0 ≢ 32
+  pub ends : slice_index text (length text - 1) ≢ 32
+
+-- one of the two directions
+abbrev pub IsDirection : List ℕ → Type 0
+IsDirection text = (text ≡ outgoing) ⊎ (text ≡ incoming)
+
+-- the ship of this place sails in this direction
+abbrev pub Sails : List ℕ → List ShipParts → ℤ → Type 0
+Sails direction ships place = IsSomeAnd (ship_at ships place) (λ s. s.direction ≡ direction)
+
 -- no two of these have the same name
 abbrev pub Differ : {A : Type 0} → (A → List ℕ) → List A → Type 0
 Differ {A} named xs = (i j : ℕ) (x y : A) → i < j → slice_get xs i ≡ Some x → slice_get xs j ≡ Some y → named x ≢ named y
 
 pub record WaypointKept (w : Waypoint) : Type 0 where
-  pub name : IsTrue (is_name w.name)
+  pub name : IsName w.name
   pub depth : Within (pos 0) (pos 10000) w.depth
 
 abbrev pub SectionKept : Section → Type 0
-SectionKept s = IsTrue (is_name s.name)
+SectionKept s = IsName s.name
 
 -- the gaps behind a ship of one of so many classes
 pub record RowKept (classes : ℕ) (row : List ℤ) : Type 0 where
@@ -58,8 +77,8 @@ Ascends before [] = Unit {0}
 Ascends before (s ∷ ss) = (before <ℤ s.section) × Ascends s.section ss
 
 pub record ShipKept (p : Parts) (s : ShipParts) : Type 0 where
-  pub name : IsTrue (is_name s.name)
-  pub direction : IsTrue (is_direction s.direction)
+  pub name : IsName s.name
+  pub direction : IsDirection s.direction
   pub class : IsPlace (pos (length p.separation)) s.class
   pub earliest : IsPlace p.slots s.earliest
   pub latest : IsPlace p.slots s.latest
@@ -78,9 +97,9 @@ pub record ShipKept (p : Parts) (s : ShipParts) : Type 0 where
 
 pub record BerthKept (ships : List ShipParts) (b : BerthPair) : Type 0 where
   pub outgoing_place : IsPlace (pos (length ships)) b.outgoing
-  pub outgoing_side : IsTrue (has_direction outgoing (ship_at ships b.outgoing))
+  pub outgoing_side : Sails outgoing ships b.outgoing
   pub incoming_place : IsPlace (pos (length ships)) b.incoming
-  pub incoming_side : IsTrue (has_direction incoming (ship_at ships b.incoming))
+  pub incoming_side : Sails incoming ships b.incoming
   pub clear : Within (pos 1) (pos 512) b.clear
 
 pub record PortKept (p : Parts) : Type 0 where
