@@ -6,7 +6,8 @@ use Rattle.hw_desk.specs.Feeds.{FeedModel, told_feed}
 use Rattle.hw_desk.specs.Memory.{fresh_feed}
 use Rattle.hw_desk.specs.CalmBytes.{CalmSent}
 use Rattle.hw_desk.specs.declared.desk.Feed.{Feed}
-use Rattle.hw_desk.specs.declared.desk.Feed.TheVariants.{Flat, Instance, Tides, Certificate, Plan, Events}
+use Rattle.hw_desk.specs.Places.{place, everywhere}
+use Rattle.hw_desk.specs.declared.feeds.Feeds.{Feeds}
 use Rattle.hw_desk.specs.declared.desk.Tray.{Tray}
 use Rattle.hw_desk.specs.declared.desk.Tray.TheVariants.{Report, Proof}
 use Rattle.hw_desk.specs.declared.slots.NamedBytes.{NamedBytes}
@@ -15,22 +16,12 @@ use Rattle.hw_desk.specs.declared.calm.CalmTray.{CalmTray}
 -- the files, the feeds and the trays
 pub record CalmModel : Type 0 where
   pub files : List NamedBytes
-  pub flat : FeedModel
-  pub instance : FeedModel
-  pub tides : FeedModel
-  pub certificate : FeedModel
-  pub plan : FeedModel
-  pub events : FeedModel
+  pub feeds : Feeds FeedModel
   pub report : CalmTray
   pub proof : CalmTray
 
 abbrev pub calm_feeds : CalmModel → Feed → FeedState
-calm_feeds d Flat = told_feed d.flat
-calm_feeds d Instance = told_feed d.instance
-calm_feeds d Tides = told_feed d.tides
-calm_feeds d Certificate = told_feed d.certificate
-calm_feeds d Plan = told_feed d.plan
-calm_feeds d Events = told_feed d.events
+calm_feeds d feed = told_feed (place d.feeds feed)
 
 -- nothing was sent to a proof that wasn't made
 abbrev pub calm_trays : CalmModel → Tray → TrayState
@@ -54,12 +45,7 @@ fresh_calm = record { made = false; name = None; sent = record { told = Some [];
 abbrev pub new_calm : List NamedBytes → CalmModel
 new_calm files = record {
   files = files;
-  flat = fresh_feed;
-  instance = fresh_feed;
-  tides = fresh_feed;
-  certificate = fresh_feed;
-  plan = fresh_feed;
-  events = fresh_feed;
+  feeds = everywhere fresh_feed;
   report = fresh_calm;
   proof = fresh_calm;
 }
@@ -70,12 +56,7 @@ calm_sent d Report = d.report.sent
 calm_sent d Proof = d.proof.sent
 
 unbegun : (d : CalmModel) (f : Feed) → (calm_feeds d f).begun ≡ false → IfSome (calm_feeds d f).left (λ bytes. bytes ≡ [])
-unbegun d Flat h = rw h refl
-unbegun d Instance h = rw h refl
-unbegun d Tides h = rw h refl
-unbegun d Certificate h = rw h refl
-unbegun d Plan h = rw h refl
-unbegun d Events h = rw h refl
+unbegun d f h = rw h refl
 
 pub calm_fresh : (d : CalmModel) → IsFresh (calm_state d)
 calm_fresh d = record { left = unbegun d; sent = λ h. rw h refl }

@@ -1,5 +1,5 @@
 -- Files in memory, and what is left of them.
-use Rattle.std.specs.Prelude.{ℕ, List, [], Option, Some, None, drop, string_bytes, option_map, position, slice_get}
+use Rattle.std.specs.Prelude.{false, ℕ, List, [], Option, Some, None, drop, string_bytes, option_map, position, slice_get}
 use Rattle.std.specs.Option.{option_map_or}
 use Rattle.std.specs.Str.{bytes_eq}
 use Rattle.hw_desk.specs.declared.slots.NamedBytes.{NamedBytes}
@@ -9,6 +9,10 @@ use Rattle.hw_desk.specs.declared.slots.FeedSlot.{FeedSlot}
 abbrev pub left_at : List NamedBytes → Option ℕ → ℕ → List ℕ
 left_at files None at = []
 left_at files (Some i) at = option_map_or (λ f. drop at f.bytes.items) (slice_get files i) []
+
+-- a feed that wasn't begun
+abbrev pub fresh_slot : FeedSlot
+fresh_slot = record { begun = false; name = None; file = None; at = 0 }
 
 -- the place of the first file of a name
 abbrev pub file_named : List NamedBytes → List ℕ → Option ℕ

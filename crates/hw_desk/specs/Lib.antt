@@ -3,6 +3,8 @@ pub mod Calls
 pub mod Names
 pub mod Sent
 pub mod Files
+pub mod Places
+pub mod Lending
 pub mod Feeds
 pub mod Memory
 pub mod CalmBytes

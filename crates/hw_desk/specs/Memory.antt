@@ -6,7 +6,8 @@ use Rattle.hw_desk.specs.Files.{held_in}
 use Rattle.hw_desk.specs.Feeds.{FeedModel, told_feed}
 use Rattle.hw_desk.specs.Sent.{SentModel}
 use Rattle.hw_desk.specs.declared.desk.Feed.{Feed}
-use Rattle.hw_desk.specs.declared.desk.Feed.TheVariants.{Flat, Instance, Tides, Certificate, Plan, Events}
+use Rattle.hw_desk.specs.Places.{place, everywhere}
+use Rattle.hw_desk.specs.declared.feeds.Feeds.{Feeds}
 use Rattle.hw_desk.specs.declared.desk.Tray.{Tray}
 use Rattle.hw_desk.specs.declared.desk.Tray.TheVariants.{Report, Proof}
 use Rattle.hw_desk.specs.declared.slots.NamedBytes.{NamedBytes}
@@ -22,24 +23,14 @@ pub record MemoryModel : Type 0 where
   pub most : ℕ
   pub fails : List FailAt
   pub calls : Calls
-  pub flat : FeedModel
-  pub instance : FeedModel
-  pub tides : FeedModel
-  pub certificate : FeedModel
-  pub plan : FeedModel
-  pub events : FeedModel
+  pub feeds : Feeds FeedModel
   pub report : TraySlot
   pub proof : TraySlot
   pub read_faults : ℕ
   pub write_faults : ℕ
 
 abbrev pub feeds_of : MemoryModel → Feed → FeedState
-feeds_of d Flat = told_feed d.flat
-feeds_of d Instance = told_feed d.instance
-feeds_of d Tides = told_feed d.tides
-feeds_of d Certificate = told_feed d.certificate
-feeds_of d Plan = told_feed d.plan
-feeds_of d Events = told_feed d.events
+feeds_of d feed = told_feed (place d.feeds feed)
 
 -- nothing was sent to a proof that wasn't made
 abbrev pub trays_of : MemoryModel → Tray → TrayState
@@ -72,12 +63,7 @@ new_memory files most room fails = record {
   most = most;
   fails = fails;
   calls = no_calls;
-  flat = fresh_feed;
-  instance = fresh_feed;
-  tides = fresh_feed;
-  certificate = fresh_feed;
-  plan = fresh_feed;
-  events = fresh_feed;
+  feeds = everywhere fresh_feed;
   report = fresh_tray room;
   proof = fresh_tray room;
   read_faults = 0;
@@ -153,12 +139,7 @@ pub record WriteFaults {T E : Type 0} (old new : MemoryModel) (result : Result T
   pub writes : new.write_faults ≡ after_answer result old.write_faults
 
 unbegun : (d : MemoryModel) (f : Feed) → (feeds_of d f).begun ≡ false → IfSome (feeds_of d f).left (λ bytes. bytes ≡ [])
-unbegun d Flat h = rw h refl
-unbegun d Instance h = rw h refl
-unbegun d Tides h = rw h refl
-unbegun d Certificate h = rw h refl
-unbegun d Plan h = rw h refl
-unbegun d Events h = rw h refl
+unbegun d f h = rw h refl
 
 pub memory_fresh : (d : MemoryModel) → IsFresh (memory_state d)
 memory_fresh d = record {

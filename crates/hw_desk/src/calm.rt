@@ -3,8 +3,8 @@ ghost use Rattle.hw_desk.specs.Names.{kept_name};
 ghost use Rattle.hw_desk.specs.CalmBytes.{sent_more};
 
 use crate::name::KeptName;
-use crate::slots::{FeedSlot, NamedBytes, find, take_some};
-use crate::{Desk, DeskFailed, Feed, Tray};
+use crate::slots::{FeedSlot, NamedBytes, find, fresh_slots, take_some};
+use crate::{Desk, DeskFailed, Feed, Feeds, Tray};
 use hw_model::NoMemory;
 use std::alloc::Global;
 use std::marker::Model;
@@ -119,12 +119,7 @@ impl CalmTray {
 #[derive(Drop)]
 pub struct CalmDesk {
     files: Vec<NamedBytes>,
-    flat: FeedSlot,
-    instance: FeedSlot,
-    tides: FeedSlot,
-    certificate: FeedSlot,
-    plan: FeedSlot,
-    events: FeedSlot,
+    feeds: Feeds<FeedSlot>,
     report: CalmTray,
     proof: CalmTray,
 }
@@ -132,10 +127,11 @@ pub struct CalmDesk {
 impl Model for CalmDesk {
     ghost use Rattle.hw_desk.specs.Calm.{CalmModel};
     ghost use Rattle.hw_desk.specs.Feeds.{feed_of};
+    ghost use Rattle.hw_desk.specs.Places.{map_feeds};
 
     ghost Value = { CalmModel };
 
-    ghost view = { λ d. record { files = d.files.items; flat = feed_of d.files.items d.flat; instance = feed_of d.files.items d.instance; tides = feed_of d.files.items d.tides; certificate = feed_of d.files.items d.certificate; plan = feed_of d.files.items d.plan; events = feed_of d.files.items d.events; report = d.report; proof = d.proof } };
+    ghost view = { λ d. record { files = d.files.items; feeds = map_feeds (feed_of d.files.items) d.feeds; report = d.report; proof = d.proof } };
 }
 
 impl CalmDesk {
@@ -150,12 +146,7 @@ impl CalmDesk {
     {
         Ok(CalmDesk {
             files,
-            flat: FeedSlot::new(alloc)?,
-            instance: FeedSlot::new(alloc)?,
-            tides: FeedSlot::new(alloc)?,
-            certificate: FeedSlot::new(alloc)?,
-            plan: FeedSlot::new(alloc)?,
-            events: FeedSlot::new(alloc)?,
+            feeds: fresh_slots(alloc)?,
             report: CalmTray::new(alloc)?,
             proof: CalmTray::new(alloc)?,
         })
@@ -199,14 +190,7 @@ impl Desk for CalmDesk {
         ensures ok { IsOk result }
     {
         let file = find(&self.files, name);
-        match feed {
-            Feed::Flat => self.flat.open(name, file),
-            Feed::Instance => self.instance.open(name, file),
-            Feed::Tides => self.tides.open(name, file),
-            Feed::Certificate => self.certificate.open(name, file),
-            Feed::Plan => self.plan.open(name, file),
-            Feed::Events => self.events.open(name, file),
-        }
+        self.feeds.get_mut(feed).open(name, file);
         Ok(())
     }
 
@@ -216,14 +200,7 @@ impl Desk for CalmDesk {
         ensures reads { Reads feed into.new (calm_state self.old) (calm_state self.new) result }
         ensures ok { IsOk result }
     {
-        Ok(match feed {
-            Feed::Flat => take_some(&self.files, &mut self.flat, usize::MAX, into),
-            Feed::Instance => take_some(&self.files, &mut self.instance, usize::MAX, into),
-            Feed::Tides => take_some(&self.files, &mut self.tides, usize::MAX, into),
-            Feed::Certificate => take_some(&self.files, &mut self.certificate, usize::MAX, into),
-            Feed::Plan => take_some(&self.files, &mut self.plan, usize::MAX, into),
-            Feed::Events => take_some(&self.files, &mut self.events, usize::MAX, into),
-        })
+        Ok(take_some(&self.files, self.feeds.get_mut(feed), usize::MAX, into))
     }
 
     fn make(&mut self, tray: Tray, name: &str) -> Result<(), DeskFailed>

@@ -7,6 +7,7 @@
 mod buffer;
 mod calm;
 mod desk;
+mod feeds;
 mod memory;
 mod name;
 mod sent;
@@ -18,6 +19,7 @@ mod writer;
 
 pub use calm::CalmDesk;
 pub use desk::{Desk, DeskFailed, Feed, Tray};
+pub use feeds::Feeds;
 pub use hw_model::NoMemory;
 pub use memory::{DeskCall, FailAt, MemoryDesk};
 pub use slots::NamedBytes;

@@ -5,8 +5,8 @@ ghost use Rattle.hw_desk.specs.Memory.{fails_at, next_count, fresh_tray};
 
 use crate::name::KeptName;
 use crate::sent::SentBytes;
-use crate::slots::{FeedSlot, NamedBytes, find, take_some};
-use crate::{Desk, DeskFailed, Feed, Tray};
+use crate::slots::{FeedSlot, NamedBytes, find, fresh_slots, take_some};
+use crate::{Desk, DeskFailed, Feed, Feeds, Tray};
 use hw_model::NoMemory;
 use std::alloc::Global;
 use std::marker::Model;
@@ -56,12 +56,7 @@ pub struct MemoryDesk {
     most: usize,
     fails: Vec<FailAt>,
     calls: Calls,
-    flat: FeedSlot,
-    instance: FeedSlot,
-    tides: FeedSlot,
-    certificate: FeedSlot,
-    plan: FeedSlot,
-    events: FeedSlot,
+    feeds: Feeds<FeedSlot>,
     report: TraySlot,
     proof: TraySlot,
     read_faults: u64,
@@ -71,11 +66,12 @@ pub struct MemoryDesk {
 impl Model for MemoryDesk {
     ghost use Rattle.hw_desk.specs.Memory.{MemoryModel};
     ghost use Rattle.hw_desk.specs.Feeds.{feed_of};
+    ghost use Rattle.hw_desk.specs.Places.{map_feeds};
     ghost use Rattle.std.specs.Prelude.{◌≤◌};
 
     ghost Value = { MemoryModel };
 
-    ghost view = { λ d. record { files = d.files.items; most = d.most; fails = d.fails.items; calls = d.calls; flat = feed_of d.files.items d.flat; instance = feed_of d.files.items d.instance; tides = feed_of d.files.items d.tides; certificate = feed_of d.files.items d.certificate; plan = feed_of d.files.items d.plan; events = feed_of d.files.items d.events; report = d.report; proof = d.proof; read_faults = d.read_faults; write_faults = d.write_faults } };
+    ghost view = { λ d. record { files = d.files.items; most = d.most; fails = d.fails.items; calls = d.calls; feeds = map_feeds (feed_of d.files.items) d.feeds; report = d.report; proof = d.proof; read_faults = d.read_faults; write_faults = d.write_faults } };
 
     ghost invariant = { λ d. 1 ≤ d.most };
 }
@@ -230,12 +226,7 @@ impl MemoryDesk {
                 report_writes: 0,
                 proof_writes: 0,
             },
-            flat: FeedSlot::new(alloc)?,
-            instance: FeedSlot::new(alloc)?,
-            tides: FeedSlot::new(alloc)?,
-            certificate: FeedSlot::new(alloc)?,
-            plan: FeedSlot::new(alloc)?,
-            events: FeedSlot::new(alloc)?,
+            feeds: fresh_slots(alloc)?,
             report: empty_tray(alloc, room as usize)?,
             proof: empty_tray(alloc, room as usize)?,
             read_faults: 0,
@@ -279,19 +270,7 @@ impl Desk for MemoryDesk {
         } else {
             find(&self.files, name)
         };
-        match feed {
-            Feed::Flat => open_or_fail(&mut self.flat, name, file, &mut self.read_faults),
-            Feed::Instance => open_or_fail(&mut self.instance, name, file, &mut self.read_faults),
-            Feed::Tides => open_or_fail(&mut self.tides, name, file, &mut self.read_faults),
-            Feed::Certificate => open_or_fail(
-                &mut self.certificate,
-                name,
-                file,
-                &mut self.read_faults,
-            ),
-            Feed::Plan => open_or_fail(&mut self.plan, name, file, &mut self.read_faults),
-            Feed::Events => open_or_fail(&mut self.events, name, file, &mut self.read_faults),
-        }
+        open_or_fail(self.feeds.get_mut(feed), name, file, &mut self.read_faults)
     }
 
     fn read(&mut self, feed: Feed, into: &mut [u8]) -> Result<usize, DeskFailed>
@@ -307,14 +286,7 @@ impl Desk for MemoryDesk {
             return Err(failed(&mut self.read_faults));
         }
         let most = self.most;
-        match feed {
-            Feed::Flat => Ok(take_some(&self.files, &mut self.flat, most, into)),
-            Feed::Instance => Ok(take_some(&self.files, &mut self.instance, most, into)),
-            Feed::Tides => Ok(take_some(&self.files, &mut self.tides, most, into)),
-            Feed::Certificate => Ok(take_some(&self.files, &mut self.certificate, most, into)),
-            Feed::Plan => Ok(take_some(&self.files, &mut self.plan, most, into)),
-            Feed::Events => Ok(take_some(&self.files, &mut self.events, most, into)),
-        }
+        Ok(take_some(&self.files, self.feeds.get_mut(feed), most, into))
     }
 
     fn make(&mut self, tray: Tray, name: &str) -> Result<(), DeskFailed>

@@ -1,7 +1,9 @@
 ghost use Rattle.std.specs.Prelude.{◌≡◌, ◌<◌, ◌≤◌, ◌+◌, ◌^◌, ◌++◌, [], IfOk, false, length, min, drop, take, true, None};
-ghost use Rattle.hw_desk.specs.Files.{file_named, left_of};
+ghost use Rattle.hw_desk.specs.Files.{file_named, fresh_slot, left_of};
+ghost use Rattle.hw_desk.specs.Places.{everywhere};
 ghost use Rattle.hw_desk.specs.Names.{kept_name};
 
+use crate::Feeds;
 use crate::name::KeptName;
 use hw_model::NoMemory;
 use std::alloc::Global;
@@ -25,9 +27,7 @@ pub struct FeedSlot {
 impl FeedSlot {
     /// A feed that wasn't begun.
     pub fn new(alloc: Global) -> Result<FeedSlot, NoMemory>
-        ensures begun { IfOk result (λ slot. slot.begun ≡ false) }
-        ensures name { IfOk result (λ slot. slot.name ≡ None) }
-        ensures file { IfOk result (λ slot. slot.file ≡ None) }
+        ensures { IfOk result (λ slot. slot ≡ fresh_slot) }
     {
         Ok(FeedSlot {
             begun: false,
@@ -46,6 +46,20 @@ impl FeedSlot {
         self.file = file;
         self.at = 0;
     }
+}
+
+/// Feeds that weren't begun.
+pub fn fresh_slots(alloc: Global) -> Result<Feeds<FeedSlot>, NoMemory>
+    ensures { IfOk result (λ feeds. feeds ≡ everywhere fresh_slot) }
+{
+    Ok(Feeds {
+        flat: FeedSlot::new(alloc)?,
+        instance: FeedSlot::new(alloc)?,
+        tides: FeedSlot::new(alloc)?,
+        certificate: FeedSlot::new(alloc)?,
+        plan: FeedSlot::new(alloc)?,
+        events: FeedSlot::new(alloc)?,
+    })
 }
 
 /// The place of the first file of that name.
