@@ -6,6 +6,7 @@ pub mod Answered
 pub mod Shapes
 pub mod Streams
 pub mod WordBytes
+mod LinesSent
 pub mod Written
 pub mod ReadBack
 pub mod FormBack

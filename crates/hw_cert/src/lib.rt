@@ -10,6 +10,7 @@ mod memory_log;
 mod pending;
 mod putting;
 mod reader;
+mod sending;
 mod spelling;
 mod stop;
 mod taking;
@@ -27,6 +28,7 @@ pub use laws::{
 pub use log::{Log, LogStop};
 pub use memory_log::MemoryLog;
 pub use reader::{LineReader, Next};
+pub use sending::send_cert;
 pub use stop::{FormWord, LineStop};
 pub use tray_log::{HeaderFailed, TrayLog, send_header};
 pub use version::Version;
