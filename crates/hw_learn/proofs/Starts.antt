@@ -5,20 +5,17 @@ use Rattle.std.proofs.lemmas.Bool.{cases_lt}
 use Rattle.std.proofs.lemmas.Option.{same_Some}
 use Rattle.hw_model.specs.declared.lit.Lit.{Lit}
 use Rattle.hw_model.specs.declared.lit.LitTruth.TheVariants.{False}
-use Rattle.hw_model.specs.declared.shape.Shape.{Shape}
 use Rattle.hw_model.specs.Lits.{negation, lit_fits}
-use Rattle.hw_model.specs.Rooms.{RoomModel, whole_room}
 use Rattle.hw_model.specs.Narrowing.{truth}
-use Rattle.hw_flat.specs.Opened.{shape_in, opened}
 use Rattle.hw_story.specs.declared.event.Event.{Event}
 use Rattle.hw_story.specs.Stories.{Story, room_at, IsStory}
 use Rattle.hw_story.specs.Walks.{In, Bounds, IsTop, level_of as story_level}
-use Rattle.hw_story.specs.Trails.{TrailModel, trail_shape, room_before, room_of, IsTrail}
+use Rattle.hw_story.specs.Trails.{TrailModel, trail_shape, room_of, IsTrail}
 use Rattle.hw_story.specs.Learning.{event_of, level_by, level_made, level_of}
 use Rattle.hw_story.specs.Bridge.{event_at, story_of, GoesBack}
 use Rattle.hw_story.proofs.Stories.{room_grows, levels_rise}
 use Rattle.hw_story.proofs.Ends.{became}
-use Rattle.hw_story.proofs.Trails.{trail_story, room_known, room_end}
+use Rattle.hw_story.proofs.Trails.{trail_story}
 use Rattle.hw_story.proofs.Levels.{made_false, false_end, fits_fresh, level_is, level_stays}
 use Rattle.hw_story.proofs.Decisions.{event_is}
 use Rattle.hw_story.proofs.Passes.{in_append, in_front, in_last}

@@ -1,4 +1,4 @@
-use Rattle.std.proofs.Common.{◌≡◌, ◌≤◌, ◌-◌, ◌+◌, ℕ, arith, sym, subst}
+use Rattle.std.proofs.Common.{◌≡◌, ◌-◌, ◌+◌, ℕ, arith, sym, subst}
 use Rattle.std.proofs.lemmas.Bool.{MatchBool-at_false}
 use Rattle.hw_story.specs.Knowing.{knows}
 use Rattle.hw_story.specs.Bridge.{story_of}
