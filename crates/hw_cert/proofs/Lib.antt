@@ -17,3 +17,4 @@ pub mod Logging
 pub mod FormText
 pub mod ValidText
 pub mod ToldText
+pub mod Chosen

@@ -1,5 +1,5 @@
 -- What a loop has read, joined to what is left to read.
-use Rattle.std.proofs.Common.{◌≡◌, ℕ, ◌+◌, List, [], ◌∷◌, ◌++◌, length, Option, Some, None, Bor, refl, ap, append_assoc}
+use Rattle.std.proofs.Common.{◌≡◌, List, [], ◌∷◌, ◌++◌, Option, Some, None, refl, ap, append_assoc}
 use Rattle.hw_model.specs.declared.lit.Lit.{Lit}
 use Rattle.hw_cert.specs.Spelled.{Lits, put_lit}
 
@@ -10,11 +10,6 @@ with_front front (Some xs) = Some (front ++ xs)
 abbrev pub with_lits : List Lit → Option Lits → Option Lits
 with_lits front None = None
 with_lits front (Some found) = Some (record { lits = front ++ found.lits; behind = found.behind })
-
--- how much is left to read
-abbrev pub left_len : Option (Bor (List ℕ)) → ℕ
-left_len None = 0
-left_len (Some x) = length x.now + 1
 
 -- a literal more
 pub lit_more : (front : List Lit) (lit : Lit) (o : Option Lits) → with_lits (front ++ lit ∷ []) o ≡ with_lits front (put_lit (Some lit) o)

@@ -1,5 +1,5 @@
 -- Bytes that tell lines are the text of these lines.
-use Rattle.std.proofs.Common.{◌≡◌, ◌==◌, cond, ℕ, Bool, true, false, List, [], ◌∷◌, ◌++◌, map, Option, Some, None, refl, sym, ap, ◌∙◌, subst, append_assoc, inl, inr, arith}
+use Rattle.std.proofs.Common.{◌≡◌, ◌==◌, cond, ℕ, Bool, true, false, List, [], ◌∷◌, ◌++◌, map, Some, None, refl, sym, ap, ◌∙◌, subst, append_assoc, inl, inr, arith}
 use Rattle.std.proofs.lemmas.Bool.{and_parts}
 use Rattle.std.proofs.lemmas.List.Splits.{join_with_byte-slice_split}
 use Rattle.std.proofs.lemmas.Slice.Eq.{bytes_eq-Decides}
@@ -10,10 +10,10 @@ use Rattle.hw_text.proofs.Joins.{parts_lack}
 use Rattle.hw_lines.specs.declared.line.Line.{Line}
 use Rattle.hw_lines.specs.declared.line.Line.TheVariants.{Table, Delete}
 use Rattle.hw_cert.specs.declared.version.Version.TheVariants.{Two}
-use Rattle.hw_cert.specs.Texts.{line_text, header_text, cert_text}
+use Rattle.hw_cert.specs.Texts.{line_text}
 use Rattle.hw_cert.specs.Spelled.{spelled}
 use Rattle.hw_cert.specs.Logs.{LogTold}
-use Rattle.hw_cert.specs.Told.{header_line, behind_text, line_told, with_line, parts_told, lines_told, bytes_told, IsTextOf, TextTold}
+use Rattle.hw_cert.specs.Told.{header_line, behind_text, line_told, parts_told, lines_told, TextTold}
 use Rattle.hw_cert.proofs.FormText.{form_read}
 use Rattle.hw_cert.proofs.ReadBack.{chained, chosen}
 use Rattle.hw_cert.proofs.Telling.{with_both}

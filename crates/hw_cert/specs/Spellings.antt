@@ -1,8 +1,7 @@
 -- What the code's spelling of a line is seen as.
-use Rattle.std.specs.Prelude.{ℕ, List, Option, Some, None, option_map, Vec, if◌then◌else◌}
+use Rattle.std.specs.Prelude.{ℕ, List, Option, option_map, Vec}
 use Rattle.std.specs.declared.alloc.Global.{Global}
 use Rattle.hw_model.specs.declared.lit.Lit.{Lit}
-use Rattle.hw_text.specs.Parts.{left_words}
 use Rattle.hw_lines.specs.declared.line.Line.{Line}
 use Rattle.hw_lines.specs.declared.line.Line.TheVariants as lines
 use Rattle.hw_cert.specs.declared.spelling.Spelling.{Spelling}
@@ -18,7 +17,7 @@ lits_view o = option_map (λ v. v.items) o
 
 -- literals, and the words behind the `;`, if there is one
 abbrev pub lits_found : FoundLits → Lits
-lits_found found = record { lits = found.lits.items; behind = if found.parted then Some (left_words found.behind) else None }
+lits_found found = record { lits = found.lits.items; behind = found.behind }
 
 abbrev pub found_view : Option FoundLits → Option Lits
 found_view o = option_map lits_found o

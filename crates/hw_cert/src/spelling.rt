@@ -1,7 +1,6 @@
 //! What the words of a line spell, whatever the problem.
 
-ghost use Rattle.std.specs.Prelude.{◌≡◌, ◌∷◌, [], IfOk, IfSome, MatchOption, option_map};
-ghost use Rattle.hw_text.specs.Parts.{left_words};
+ghost use Rattle.std.specs.Prelude.{◌≡◌, IfOk, IfSome, MatchOption, option_map};
 ghost use Rattle.hw_cert.specs.Spelled.{number_word, all_numbers, some_numbers, lit_word, lettered, lits_of, only_lits, table_form, explain_form, order_form, goal_form, lemma_form, delete_form, form_of, spelled, version_word, version_of};
 ghost use Rattle.hw_cert.specs.Spellings.{numbers_view, lits_view, found_view, spelling_view};
 
@@ -9,7 +8,7 @@ use crate::version::Version;
 use crate::words::{is_header_word, keywords};
 use hw_lexicon::each_word;
 use hw_model::Lit;
-use hw_text::{first_word, is_text, read_number, two_parts};
+use hw_text::{Words, is_text, read_number};
 use std::alloc::{AllocError, Global};
 
 /// The numbers and literals of a line that has its form. They may not fit the problem.
@@ -40,12 +39,11 @@ pub enum Spelling {
     },
 }
 
-/// Literals, whether a `;` ends them, and the words behind it.
+/// Literals, and the words behind the `;` that ends them, if one does.
 #[derive(Drop)]
 struct FoundLits<'l> {
     lits: Vec<Lit>,
-    parted: bool,
-    behind: Option<&'l [u8]>,
+    behind: Option<Words<'l>>,
 }
 
 fn number_of(word: &[u8]) -> Option<u32>
@@ -57,39 +55,23 @@ fn number_of(word: &[u8]) -> Option<u32>
     }
 }
 
-/// The next word, and those behind it.
-fn next_word(words: Option<&[u8]>) -> Option<(&[u8], Option<&[u8]>)>
-    ensures { MatchOption result (left_words words.entry ≡ []) (λ x. left_words words.entry ≡ x.0.now ∷ left_words x.1) }
-{
-    match words {
-        Some(bytes) => {
-            let (word, rest) = first_word(bytes);
-            Some((word, rest))
-        }
-        None => None,
-    }
-}
-
 /// The numbers that the words spell, where each spells one.
-fn numbers_of(alloc: Global, words: Option<&[u8]>) -> Result<Option<Vec<u32>>, AllocError>
-    ensures { IfOk result (λ o. numbers_view o ≡ all_numbers (left_words words.entry)) }
+fn numbers_of(alloc: Global, mut words: Words<'_>) -> Result<Option<Vec<u32>>, AllocError>
+    ensures { IfOk result (λ o. numbers_view o ≡ all_numbers words.entry) }
 {
     let mut numbers = Vec::new(alloc);
-    let mut left = words;
-    while let Some(bytes) = left {
-        let (word, rest) = first_word(bytes);
+    while let Some(word) = words.word() {
         let Some(number) = number_of(word) else {
             return Ok(None);
         };
         numbers.push(number)?;
-        left = rest;
     }
     Ok(Some(numbers))
 }
 
 /// The same of one word or more.
-fn some_numbers_of(alloc: Global, words: Option<&[u8]>) -> Result<Option<Vec<u32>>, AllocError>
-    ensures { IfOk result (λ o. numbers_view o ≡ some_numbers (left_words words.entry)) }
+fn some_numbers_of(alloc: Global, words: Words<'_>) -> Result<Option<Vec<u32>>, AllocError>
+    ensures { IfOk result (λ o. numbers_view o ≡ some_numbers words.entry) }
 {
     match numbers_of(alloc, words)? {
         Some(numbers) if !numbers.is_empty() => Ok(Some(numbers)),
@@ -125,63 +107,48 @@ fn lettered_lit(letter: u8, first: u32, second: u32) -> Option<Lit>
 fn lit_of(word: &[u8]) -> Option<Lit>
     ensures { result ≡ lit_word word.now }
 {
-    let [letter, rest @ ..] = word else {
-        return None;
-    };
-    let Some((first, second)) = two_parts(rest, b'.') else {
-        return None;
-    };
-    let Some(first) = number_of(first) else {
-        return None;
-    };
-    let Some(second) = number_of(second) else {
-        return None;
-    };
+    let (letter, rest) = word.split_first()?;
+    let mut parts = Words::parted_by(b'.', rest);
+    let first = parts.word()?;
+    let second = parts.word()?;
+    parts.end()?;
+    let first = number_of(first)?;
+    let second = number_of(second)?;
     lettered_lit(*letter, first, second)
 }
 
 #[tactic(auto, using(crate::proofs::Loops::lit_more))]
 /// The literals up to the first `;` or the end.
-fn lits_from(alloc: Global, words: Option<&[u8]>) -> Result<Option<FoundLits<'_>>, AllocError>
-    ensures { IfOk result (λ o. found_view o ≡ lits_of (left_words words.entry)) }
+fn lits_from(alloc: Global, mut words: Words<'_>) -> Result<Option<FoundLits<'_>>, AllocError>
+    ensures { IfOk result (λ o. found_view o ≡ lits_of words.entry) }
 {
     let mut lits = Vec::new(alloc);
-    let mut left = words;
-    while let Some(bytes) = left {
-        let (word, rest) = first_word(bytes);
+    while let Some(word) = words.word() {
         if is_text(word, b";") {
-            return Ok(Some(FoundLits {
-                lits,
-                parted: true,
-                behind: rest,
-            }));
+            let behind = Some(words);
+            return Ok(Some(FoundLits { lits, behind }));
         }
         let Some(lit) = lit_of(word) else {
             return Ok(None);
         };
         lits.push(lit)?;
-        left = rest;
     }
-    Ok(Some(FoundLits {
-        lits,
-        parted: false,
-        behind: None,
-    }))
+    Ok(Some(FoundLits { lits, behind: None }))
 }
 
 /// Words that are literals alone.
-fn only_lits_of(alloc: Global, words: Option<&[u8]>) -> Result<Option<Vec<Lit>>, AllocError>
-    ensures { IfOk result (λ o. lits_view o ≡ only_lits (left_words words.entry)) }
+fn only_lits_of(alloc: Global, words: Words<'_>) -> Result<Option<Vec<Lit>>, AllocError>
+    ensures { IfOk result (λ o. lits_view o ≡ only_lits words.entry) }
 {
     match lits_from(alloc, words)? {
-        Some(found) if !found.parted => Ok(Some(found.lits)),
+        Some(FoundLits { lits, behind: None }) => Ok(Some(lits)),
         _ => Ok(None),
     }
 }
 
 /// `SLOT ..`
-fn table_of(alloc: Global, words: Option<&[u8]>) -> Result<Option<Spelling>, AllocError>
-    ensures { IfOk result (λ o. option_map spelling_view o ≡ table_form (left_words words.entry)) }
+fn table_of(alloc: Global, words: Words<'_>) -> Result<Option<Spelling>, AllocError>
+    ensures { IfOk result (λ o. option_map spelling_view o ≡ table_form words.entry) }
 {
     match some_numbers_of(alloc, words)? {
         Some(slots) => Ok(Some(Spelling::Table { slots })),
@@ -190,52 +157,40 @@ fn table_of(alloc: Global, words: Option<&[u8]>) -> Result<Option<Spelling>, All
 }
 
 /// `RESTRICTION LITS`
-fn explain_of(alloc: Global, words: Option<&[u8]>) -> Result<Option<Spelling>, AllocError>
-    ensures { IfOk result (λ o. option_map spelling_view o ≡ explain_form (left_words words.entry)) }
+fn explain_of(alloc: Global, mut words: Words<'_>) -> Result<Option<Spelling>, AllocError>
+    ensures { IfOk result (λ o. option_map spelling_view o ≡ explain_form words.entry) }
 {
-    let Some((word, rest)) = next_word(words) else {
+    let Some(word) = words.word() else {
         return Ok(None);
     };
     let Some(restriction) = number_of(word) else {
         return Ok(None);
     };
-    match only_lits_of(alloc, rest)? {
+    match only_lits_of(alloc, words)? {
         Some(lits) => Ok(Some(Spelling::Explain { restriction, lits })),
         None => Ok(None),
     }
 }
 
 /// `V W X LITS`
-fn order_of(alloc: Global, words: Option<&[u8]>) -> Result<Option<Spelling>, AllocError>
-    ensures { IfOk result (λ o. option_map spelling_view o ≡ order_form (left_words words.entry)) }
+fn order_of(alloc: Global, mut words: Words<'_>) -> Result<Option<Spelling>, AllocError>
+    ensures { IfOk result (λ o. option_map spelling_view o ≡ order_form words.entry) }
 {
-    let Some((first, rest)) = next_word(words) else {
+    let (Some(v), Some(w), Some(x)) = (words.word(), words.word(), words.word()) else {
         return Ok(None);
     };
-    let Some((second, rest)) = next_word(rest) else {
+    let (Some(v), Some(w), Some(x)) = (number_of(v), number_of(w), number_of(x)) else {
         return Ok(None);
     };
-    let Some((third, rest)) = next_word(rest) else {
-        return Ok(None);
-    };
-    let Some(v) = number_of(first) else {
-        return Ok(None);
-    };
-    let Some(w) = number_of(second) else {
-        return Ok(None);
-    };
-    let Some(x) = number_of(third) else {
-        return Ok(None);
-    };
-    match only_lits_of(alloc, rest)? {
+    match only_lits_of(alloc, words)? {
         Some(lits) => Ok(Some(Spelling::Order { v, w, x, lits })),
         None => Ok(None),
     }
 }
 
 /// `LITS`
-fn goal_of(alloc: Global, words: Option<&[u8]>) -> Result<Option<Spelling>, AllocError>
-    ensures { IfOk result (λ o. option_map spelling_view o ≡ goal_form (left_words words.entry)) }
+fn goal_of(alloc: Global, words: Words<'_>) -> Result<Option<Spelling>, AllocError>
+    ensures { IfOk result (λ o. option_map spelling_view o ≡ goal_form words.entry) }
 {
     match only_lits_of(alloc, words)? {
         Some(lits) => Ok(Some(Spelling::Goal { lits })),
@@ -244,20 +199,17 @@ fn goal_of(alloc: Global, words: Option<&[u8]>) -> Result<Option<Spelling>, Allo
 }
 
 /// `LITS ; ID ..`
-fn lemma_of(alloc: Global, words: Option<&[u8]>) -> Result<Option<Spelling>, AllocError>
-    ensures { IfOk result (λ o. option_map spelling_view o ≡ lemma_form (left_words words.entry)) }
+fn lemma_of(alloc: Global, words: Words<'_>) -> Result<Option<Spelling>, AllocError>
+    ensures { IfOk result (λ o. option_map spelling_view o ≡ lemma_form words.entry) }
 {
-    let Some(found) = lits_from(alloc, words)? else {
+    let Some(FoundLits { lits, behind }) = lits_from(alloc, words)? else {
         return Ok(None);
     };
-    if !found.parted {
+    let Some(words) = behind else {
         return Ok(None);
-    }
-    match numbers_of(alloc, found.behind)? {
-        Some(hints) => Ok(Some(Spelling::Lemma {
-            lits: found.lits,
-            hints,
-        })),
+    };
+    match numbers_of(alloc, words)? {
+        Some(hints) => Ok(Some(Spelling::Lemma { lits, hints })),
         None => Ok(None),
     }
 }
@@ -266,9 +218,9 @@ fn lemma_of(alloc: Global, words: Option<&[u8]>) -> Result<Option<Spelling>, All
 fn delete_of(
     alloc: Global,
     version: Version,
-    words: Option<&[u8]>,
+    words: Words<'_>,
 ) -> Result<Option<Spelling>, AllocError>
-    ensures { IfOk result (λ o. option_map spelling_view o ≡ delete_form version (left_words words.entry)) }
+    ensures { IfOk result (λ o. option_map spelling_view o ≡ delete_form version words.entry) }
 {
     match version {
         Version::One => Ok(None),
@@ -279,14 +231,15 @@ fn delete_of(
     }
 }
 
+#[tactic(auto, using(crate::proofs::Chosen::form_chosen))]
 /// The line of this form, with the words behind the first.
 fn form_of(
     alloc: Global,
     version: Version,
     kind: &[u8],
-    words: Option<&[u8]>,
+    words: Words<'_>,
 ) -> Result<Option<Spelling>, AllocError>
-    ensures { IfOk result (λ o. option_map spelling_view o ≡ form_of version kind.now (left_words words.entry)) }
+    ensures { IfOk result (λ o. option_map spelling_view o ≡ form_of version kind.now words.entry) }
 {
     each_word!(keywords().find(kind);
         0 => table_of(alloc, words),
@@ -308,8 +261,11 @@ pub fn spelling_of(
 ) -> Result<Option<Spelling>, AllocError>
     ensures { IfOk result (λ o. option_map spelling_view o ≡ spelled version line.now) }
 {
-    let (kind, words) = first_word(line);
-    form_of(alloc, version, kind, words)
+    let mut words = Words::of(line);
+    match words.word() {
+        Some(kind) => form_of(alloc, version, kind, words),
+        None => Ok(None),
+    }
 }
 
 fn numbered_version(word: &[u8]) -> Option<Version>
@@ -328,9 +284,10 @@ fn numbered_version(word: &[u8]) -> Option<Version>
 pub fn header_version(line: &[u8]) -> Option<Version>
     ensures { result ≡ version_of line.now }
 {
-    let Some((kind, word)) = two_parts(line, b' ') else {
-        return None;
-    };
+    let mut words = Words::of(line);
+    let kind = words.word()?;
+    let word = words.word()?;
+    words.end()?;
     if !is_header_word(kind) {
         return None;
     }
