@@ -18,7 +18,7 @@ use Rattle.hw_verdict.proofs.Renewed.{all_renewed, best_same, last_parts, never_
 
 -- ---- numbers that ascend
 
-range_ascends : (a n : ℕ) → IsStrictlyIncreasing (range_with_len a n)
+pub range_ascends : (a n : ℕ) → IsStrictlyIncreasing (range_with_len a n)
 range_ascends a n = λ k lt.
     let within : k + 1 < n = omega (arith, lt, length-range_with_len a n) in
     let here : get_or (range_with_len a n) k 0 ≡ a + k = get_or-range_with_len a n k 0 (omega (arith, within)) in

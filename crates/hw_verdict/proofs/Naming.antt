@@ -13,7 +13,7 @@ use Rattle.hw_lines.specs.Valid.{ValidAfter}
 use Rattle.hw_verdict.specs.Renewing.{has_hint}
 
 -- what holds of each number holds of one that is among them
-from_among : (P : ℕ → Type 0) (ids : List ℕ) (id : ℕ) → list_any (λ hint. hint == id) ids ≡ true → All P ids → P id
+pub from_among : (P : ℕ → Type 0) (ids : List ℕ) (id : ℕ) → list_any (λ hint. hint == id) ids ≡ true → All P ids → P id
 from_among P [] id e all = absurd cc
 from_among P (k ∷ ids) id e all = elim (or_cases _ _ e) [
   | inl here ↦ subst P (eqb-true k id here) (All-head P k ids all)
