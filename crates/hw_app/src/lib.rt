@@ -19,8 +19,6 @@ mod searching;
 mod solve_flat;
 mod solve_port;
 mod status;
-#[cfg(test)]
-mod tests;
 mod words;
 
 pub use calm::run_calm;

@@ -1,8 +1,9 @@
 ghost use Rattle.std.specs.Prelude.{◌≡◌, ◌≤◌, ◌<◌, length, true, IfOk, IsOk, IsErr, OnErr, OnOk, MatchResult};
+ghost use Rattle.hw_desk.specs.Places.{everywhere};
 ghost use Rattle.hw_desk.specs.State.{Rose};
 ghost use Rattle.tidewise.specs.Opened.{was_opened};
 
-use hw_desk::{Desk, DeskFailed, Feed, Tray};
+use hw_desk::{Desk, DeskFailed, Feed, Feeds, Tray};
 use std::fs::File;
 use std::io::{Read, Write};
 use std::{fs, io};
@@ -19,16 +20,25 @@ pub enum HostFile {
 #[derive(Drop)]
 pub struct HostDesk<'r> {
     pub rt: &'r HostRuntime,
-    pub flat: HostFile,
-    pub instance: HostFile,
-    pub tides: HostFile,
-    pub certificate: HostFile,
-    pub plan: HostFile,
-    pub events: HostFile,
+    pub feeds: Feeds<HostFile>,
     pub report_made: bool,
     pub proof: HostFile,
     pub read_faults: u64,
     pub write_faults: u64,
+}
+
+/// Feeds that weren't begun.
+fn fresh_files() -> Feeds<HostFile>
+    ensures { result ≡ everywhere HostFile.Fresh }
+{
+    Feeds {
+        flat: HostFile::Fresh,
+        instance: HostFile::Fresh,
+        tides: HostFile::Fresh,
+        certificate: HostFile::Fresh,
+        plan: HostFile::Fresh,
+        events: HostFile::Fresh,
+    }
 }
 
 impl<'r> HostDesk<'r> {
@@ -41,12 +51,7 @@ impl<'r> HostDesk<'r> {
     {
         HostDesk {
             rt,
-            flat: HostFile::Fresh,
-            instance: HostFile::Fresh,
-            tides: HostFile::Fresh,
-            certificate: HostFile::Fresh,
-            plan: HostFile::Fresh,
-            events: HostFile::Fresh,
+            feeds: fresh_files(),
             report_made: false,
             proof: HostFile::Fresh,
             read_faults: 0,
@@ -192,25 +197,11 @@ impl Desk for HostDesk<'_> {
 
     fn begin(&mut self, feed: Feed, name: &str) -> Result<(), DeskFailed> {
         let rt = self.rt;
-        match feed {
-            Feed::Flat => open_feed(rt, &mut self.flat, name, &mut self.read_faults),
-            Feed::Instance => open_feed(rt, &mut self.instance, name, &mut self.read_faults),
-            Feed::Tides => open_feed(rt, &mut self.tides, name, &mut self.read_faults),
-            Feed::Certificate => open_feed(rt, &mut self.certificate, name, &mut self.read_faults),
-            Feed::Plan => open_feed(rt, &mut self.plan, name, &mut self.read_faults),
-            Feed::Events => open_feed(rt, &mut self.events, name, &mut self.read_faults),
-        }
+        open_feed(rt, self.feeds.get_mut(feed), name, &mut self.read_faults)
     }
 
     fn read(&mut self, feed: Feed, into: &mut [u8]) -> Result<usize, DeskFailed> {
-        match feed {
-            Feed::Flat => read_feed(&mut self.flat, into, &mut self.read_faults),
-            Feed::Instance => read_feed(&mut self.instance, into, &mut self.read_faults),
-            Feed::Tides => read_feed(&mut self.tides, into, &mut self.read_faults),
-            Feed::Certificate => read_feed(&mut self.certificate, into, &mut self.read_faults),
-            Feed::Plan => read_feed(&mut self.plan, into, &mut self.read_faults),
-            Feed::Events => read_feed(&mut self.events, into, &mut self.read_faults),
-        }
+        read_feed(self.feeds.get_mut(feed), into, &mut self.read_faults)
     }
 
     fn make(&mut self, tray: Tray, name: &str) -> Result<(), DeskFailed> {
