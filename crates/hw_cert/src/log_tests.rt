@@ -8,31 +8,28 @@ ghost use Rattle.hw_cert.specs.Logs.{IsWhole};
 use super::*;
 use hw_desk::{Desk, DeskCall, DeskFailed, FailAt, MemoryDesk, Tray};
 use hw_flat::Timetable;
+use std::alloc::Global;
 use std::test::Fail;
 
-/// A header and two lines.
-const TEXT: &[u8] = b"cert 2\nt 1 2\nd 3 14\n";
-
-/// The most bytes that a write moves, and how many were sent when the first, second .. write failed,
-/// and at last when none did.
-const SENT: [(u32, &[usize]); 3] = [
-    (
-        1,
-        &[
-            0, 1, 2, 3, 4, 5, 6, 7, 8, 9, 10, 11, 12, 13, 14, 15, 16, 17, 18, 19, 20,
-        ],
-    ),
-    (3, &[0, 3, 6, 7, 10, 13, 16, 19, 20]),
-    (4096, &[0, 7, 13, 20]),
+/// The most bytes that a write moves, how many numbers the second line deletes, the place of the first
+/// write that is to fail, and how many writes send the header and two lines. A line of 4100 numbers is
+/// longer than a writer's buffer: 8192 bytes of it are sent first, and then 10.
+const WRITES: [(u32, usize, u32, u32); 6] = [
+    (1, 2, 1, 19),
+    (3, 2, 1, 7),
+    (4096, 2, 1, 3),
+    (1, 4100, 8200, 8215),
+    (3, 4100, 2730, 2740),
+    (4096, 4100, 1, 5),
 ];
 
-/// A desk with room for 32 bytes, whose write of the proof at this place fails.
-fn memory(rt: &HostRuntime, most: u32, place: u32) -> Result<MemoryDesk, Fail>
+/// A desk with room for 16,384 bytes, whose write of the proof at this place fails.
+fn memory(alloc: Global, most: u32, place: u32) -> Result<MemoryDesk, Fail>
     ensures { IfOk result (λ desk. IsNew (memory_state desk)) }
 {
     let call = DeskCall::WriteProof;
-    let fails = Vec::from_slice(rt.alloc(), &[FailAt { call, place }])?;
-    Ok(MemoryDesk::new(rt.alloc(), Vec::new(rt.alloc()), most.max(1), 32, fails)?)
+    let fails = Vec::from_slice(alloc, &[FailAt { call, place }])?;
+    Ok(MemoryDesk::new(alloc, Vec::new(alloc), most.max(1), 16_384, fails)?)
 }
 
 /// How many of two lines a log took.
@@ -48,69 +45,75 @@ fn log_two<L: Log>(log: &mut L, first: &Line, second: &Line) -> usize
     2
 }
 
-/// The same of a log over a desk, or none where its header failed.
-fn send_two<D: Desk>(desk: &mut D, first: &Line, second: &Line) -> Option<usize>
+/// How many of the header and two lines were sent.
+fn send_two<D: Desk>(desk: &mut D, first: &Line, second: &Line) -> usize
     requires { IsNew (D.state desk.old) }
 {
-    desk.make(Tray::Proof, "proof").ok()?;
+    let _made = desk.make(Tray::Proof, "proof");
     match TrayLog::new(desk) {
-        Ok(mut log) => Some(log_two(&mut log, first, second)),
+        Ok(mut log) => log_two(&mut log, first, second).saturating_add(1),
         Err(failed) => {
             let _: DeskFailed = failed.into();
-            None
+            0
         }
     }
 }
 
-/// How many lines were taken when so many bytes of the three were sent.
-fn taken(sent: usize) -> Option<usize> {
-    if sent < 7 {
-        None
-    } else if sent < 13 {
-        Some(0)
-    } else if sent < TEXT.len() {
-        Some(1)
-    } else {
-        Some(2)
-    }
-}
-
-/// The two lines, as a log in memory keeps them.
-fn lines(rt: &HostRuntime) -> Result<Vec<Line>, Fail> {
-    let first = Line::Table(Timetable::from_slots(rt.alloc(), &[1, 2])?);
-    let second = Line::Delete {
-        ids: Hints {
-            items: Vec::from_slice(rt.alloc(), &[3, 14])?,
-        },
-    };
-    let mut log = MemoryLog::new(rt.alloc());
-    let _many = log_two(&mut log, &first, &second);
+/// A table, and the deletion of a number so many times, as a log in memory keeps them.
+fn lines(alloc: Global, count: usize) -> Result<Vec<Line>, Fail> {
+    let first = Line::Table(Timetable::from_slots(alloc, &[1, 2])?);
+    let items = vec![in alloc; 7u32; count]?;
+    let ids = Hints { items };
+    let mut log = MemoryLog::new(alloc);
+    let _many = log_two(&mut log, &first, &Line::Delete { ids });
     Ok(log.into_lines())
 }
 
-/// The first place at which a failing write leaves anything but that many first bytes of the text.
-fn first_wrong(rt: &HostRuntime, most: u32, lengths: &[usize]) -> Result<Option<u32>, Fail> {
-    let lines = lines(rt)?;
+/// The header and the text of these lines.
+fn text_of(alloc: Global, count: usize) -> Result<Vec<u8>, Fail> {
+    let mut text = Vec::from_slice(alloc, b"cert 2\nt 1 2\nd")?;
+    for _ in 0..count {
+        text.extend_from_slice(b" 7")?;
+    }
+    text.push(b'\n')?;
+    Ok(text)
+}
+
+/// Whether these bytes are so many lines of the text, and of one more at most a part.
+fn begins(text: &[u8], sent: &[u8], many: usize) -> bool {
+    text.starts_with(sent) && sent.iter().filter(|b| **b == b'\n').count() == many
+}
+
+/// How many writes send the lines, of which those from a place on fail in turn; none where such a
+/// failure leaves anything but whole lines, of
+/// the next one at most a part, and more than the failure of the write before it.
+fn writes(alloc: Global, most: u32, count: usize, first_place: u32) -> Result<Option<u32>, Fail> {
+    let lines = lines(alloc, count)?;
+    let text = text_of(alloc, count)?;
     let [first, second] = lines.as_slice() else {
-        return Ok(Some(0));
+        return Ok(None);
     };
-    let mut place = 0u32;
-    for sent in lengths {
-        place = place.saturating_add(1);
-        let mut desk = memory(rt, most, place)?;
+    let mut least = 0;
+    for place in first_place..10_000 {
+        let mut desk = memory(alloc, most, place)?;
         let many = send_two(&mut desk, first, second);
-        if many != taken(*sent) || Some(desk.sent(Tray::Proof)) != TEXT.get(..*sent) {
-            return Ok(Some(place));
+        let sent = desk.sent(Tray::Proof);
+        if sent.len() < least || !begins(&text, sent, many) {
+            return Ok(None);
         }
+        if many == 3 {
+            return Ok(Some(place.saturating_sub(1)));
+        }
+        least = sent.len() + 1;
     }
     Ok(None)
 }
 
 #[test]
 fn log_sends_whole_lines(rt: HostRuntime) -> Result<(), Fail> {
-    for (most, lengths) in SENT {
-        let wrong = first_wrong(&rt, most, lengths)?;
-        assert_eq!(rt; wrong, None, "{most} bytes a write");
+    for (most, count, first_place, wanted) in WRITES {
+        let many = writes(rt.alloc(), most, count, first_place)?;
+        assert_eq!(rt; many, Some(wanted), "{most} bytes a write, {count} numbers");
     }
     Ok(())
 }
