@@ -49,7 +49,11 @@ const ROWS: [(DeskCall, u32, u32, u64, Option<usize>, usize); 14] = [
 fn calls_fail_where_listed(rt: HostRuntime) -> Result<(), Fail> {
     for (call, place, room, limit, read, sent) in ROWS {
         let mut desk = memory(rt.alloc(), room, FailAt { call, place })?;
-        assert_eq!(rt; read_and_send(rt.alloc(), &mut desk, limit), read, "{call:?} {place}");
+        assert_eq!(rt;
+            read_and_send(rt.alloc(), &mut desk, limit),
+            read,
+            "{call:?} {place}"
+        );
         assert_eq!(rt; desk.sent(Tray::Report).len(), sent, "{call:?} {place}");
     }
     Ok(())
