@@ -1,7 +1,7 @@
 -- How certificates are renewed from the last line back.
-use Rattle.std.proofs.Common.{◌≡◌, ℕ, zero, suc, ◌+◌, ◌<◌, ◌≤◌, Bool, true, false, ◌||◌, ◌&&◌, not, List, [], ◌∷◌, ◌++◌, reverse, Option, Some, None, is_some, length, get_or, take, drop, replicate, filter, max, fold, All, refl, sym, ap, ◌∙◌, subst, arith, append-nil, append_assoc, length-append}
+use Rattle.std.proofs.Common.{◌≡◌, ℕ, ◌+◌, ◌<◌, ◌≤◌, Bool, true, false, ◌||◌, ◌&&◌, not, List, [], ◌∷◌, ◌++◌, reverse, Option, Some, None, is_some, length, get_or, take, drop, filter, max, fold, All, refl, sym, ap, ◌∙◌, subst, arith, append_assoc, length-append}
 use Rattle.std.proofs.lemmas.Bool.{and_parts}
-use Rattle.std.proofs.lemmas.List.{take_more, take_all, take-append-drop, take-append-le, reverse-append, length-replicate}
+use Rattle.std.proofs.lemmas.List.{take_more, take_all, take-append-drop, take-append-le, reverse-append}
 use Rattle.std.proofs.lemmas.List.Elements.{All-head, All-tail, All-weaker, filter_map-append}
 use Rattle.std.proofs.lemmas.List.Kept.{IsStrictlyIncreasing-filter}
 use Rattle.std.specs.List.{cons_option, range_with_len}
@@ -9,7 +9,7 @@ use Rattle.std.specs.List.Sorted.{IsStrictlyIncreasing}
 use Rattle.hw_model.specs.declared.lit.Lit.{Lit}
 use Rattle.hw_lines.specs.declared.line.Line.{Line}
 use Rattle.hw_lines.specs.Lines.{clause_of, clauses_of, clause_count}
-use Rattle.hw_verdict.specs.Renewing.{hints_of, has_hint, is_hint_of, last_named, deletions, undeleting, next_number, renewed_from, renewed, IsNumbered}
+use Rattle.hw_verdict.specs.Renewing.{hints_of, has_hint, is_hint_of, last_named, deletions, undeleting, next_number, renewed_from, IsNumbered}
 use Rattle.hw_verdict.proofs.Fitting.{range_ascends}
 use Rattle.hw_verdict.proofs.Naming.{from_among}
 use Rattle.hw_check.specs.Marks.{Marks}

@@ -1,7 +1,8 @@
 //! The checker of certificates: it takes a problem's lines one by one, exactly those that are valid.
 //!
 //! It keeps the clauses that may still be named, the best cargo, and whether a clause line had no
-//! literals. Validity and verdict need nothing else of the lines before.
+//! literals. Validity and verdict need nothing else of the lines before. Lines that were kept beside
+//! it can be renewed, so that each clause is deleted as soon as it is due.
 #![tactic(auto)]
 
 mod checker;
@@ -17,7 +18,7 @@ mod tests;
 
 pub use checker::Checker;
 pub use hw_lines::{CheckWord, Refusal, Verdict, kept_pushed, kept_verdict};
-pub use hw_verdict::{refusal_computed, sound_lines, sound_verdict};
+pub use hw_verdict::{refusal_computed, renewed_valid, sound_lines, sound_verdict, valid_numbered};
 pub use renewing::renewed;
 pub use space::Space;
 pub use stop::CheckStop;

@@ -19,8 +19,8 @@ use std::alloc::Global;
 /// later line has, and one of its own number where no later line has it. Nothing follows a clause
 /// line without literals.
 ///
-/// The lines are moved. It costs one pass over them and over their hints, the sort of each line's
-/// hints that it is the last to have, and a mark for each number.
+/// The lines are moved, and gone where memory is short. It costs one pass over them and over their
+/// hints, the sort of each line's hints that it is the last to have, and a mark for each number.
 pub fn renewed(alloc: Global, lines: Vec<Line>) -> Result<Vec<Line>, NoMemory>
     requires numbered { renewal.IsNumbered lines.items }
     ensures value { IfOk result (λ made. made.items ≡ renewal.renewed lines.items) }

@@ -2,8 +2,10 @@ ghost use Rattle.std.specs.Prelude.{IfOk, IfSome};
 ghost use Rattle.hw_model.specs.Problem.{shape_of};
 ghost use Rattle.hw_model.specs.Lits.{IsClause};
 ghost use Rattle.hw_lines.specs.Valid.{LineFits};
+ghost use Rattle.hw_verdict.specs.Renewing.{IsNumbered};
 
 use crate::checker::Checker;
+use crate::renewing::renewed;
 use crate::stop::CheckStop;
 use hw_flat::{Flat, Timetable};
 use hw_lines::{CheckWord, Hints, Line, Refusal, Verdict};
@@ -261,5 +263,68 @@ fn dead_clauses_are_given_back(rt: HostRuntime) -> Result<(), Fail> {
         (said, most),
         "two clauses are live all the while"
     );
+    Ok(())
+}
+
+/// The lines of these steps, where they are valid.
+fn valid_lines(alloc: Global, flat: &Flat, steps: &[Step]) -> Result<Vec<Line>, Fail>
+    ensures numbered { IfOk result (λ lines. IsNumbered lines.items) }
+{
+    let mut checker = Checker::new(alloc, flat)?;
+    let mut lines = Vec::new(alloc);
+    for step in steps {
+        let Some(line) = line_of(alloc, flat, *step)? else {
+            return Err(Fail::new("a line that doesn't fit"));
+        };
+        match checker.borrowed_line(&line) {
+            Ok(next) => checker = next,
+            Err(_) => return Err(Fail::new("a line that isn't valid")),
+        }
+        lines.push(line)?;
+    }
+    Ok(lines)
+}
+
+/// A line's letter, with its slots, hints or ids.
+fn told(line: &Line) -> (char, &[u32]) {
+    match line {
+        Line::Table(table) => ('t', table.as_slice()),
+        Line::Explain { .. } => ('e', &[]),
+        Line::Order { .. } => ('o', &[]),
+        Line::Goal { .. } => ('g', &[]),
+        Line::Lemma { hints, .. } => ('l', &hints.items),
+        Line::Delete { ids } => ('d', &ids.items),
+    }
+}
+
+#[test]
+fn deleted_where_due(rt: HostRuntime) -> Result<(), Fail> {
+    let flat = Flat::read(rt.alloc(), TWO_SHIPS)?;
+    let steps = [
+        BEST,
+        SECOND_LATE,
+        SECOND_LATE,
+        FIRST_LATE,
+        APART,
+        Step::Lemma(&[], &[1, 3, 4]),
+    ];
+    let made = renewed(rt.alloc(), valid_lines(rt.alloc(), &flat, &steps)?)?;
+    let want: [(char, &[u32]); 7] = [
+        ('t', &[2, 0]),
+        ('g', &[]),
+        ('g', &[]),
+        ('d', &[2]),
+        ('g', &[]),
+        ('e', &[]),
+        ('l', &[1, 3, 4]),
+    ];
+    assert_eq!(rt; made.len(), want.len(), "one deletion");
+    for (line, row) in made.iter().zip(want.iter()) {
+        assert_eq!(rt;
+            told(line),
+            *row,
+            "the second clause is named by no later line"
+        );
+    }
     Ok(())
 }
