@@ -59,6 +59,7 @@ kept_cleared e table goal best worth capacity place asked k at calm = record {
   of_problem = k.of_problem;
   each_mark = length-set e.marks place false ∙ k.each_mark;
   quiet = quiet_cleared e.search.problem (best_cargo e.search) (room_in e.search) e.sources e.marks place asked at calm k.quiet;
+  quiet_below = k.quiet_below;
   speakers = k.speakers;
   goal_at = k.goal_at;
   best_ready = k.best_ready;

@@ -30,6 +30,7 @@ use Rattle.hw_progress.proofs.Keeps.{new_kept, implied_search}
 use Rattle.hw_search.specs.Engines.{EngineModel, KeepsEngine, QuietUnmarked}
 use Rattle.hw_search.specs.Marks.{is_marked, MarksPlaces}
 use Rattle.hw_search.specs.Speaking.{SpeakersModel, speakers_of, TellsSpeakers}
+use Rattle.hw_search.proofs.Levels.{levels_implied}
 use Rattle.hw_search.proofs.Markings.{quiet_cut, quiet_all}
 
 -- in the words of a call: what is asked of the view is so of the parts
@@ -70,6 +71,7 @@ kept_implied e table goal best worth capacity capacity' lit why trail stored wri
       of_problem = k.of_problem;
       each_mark = m.same_length ∙ k.each_mark;
       quiet = subst (λ r. QuietUnmarked s.problem (best_cargo s) r e.sources marks) (sym (more_room s.trail event)) (quiet_cut s.problem (best_cargo s) room e.sources table e.marks marks lit k.search.flat k.of_problem (room_here s k.search) (lit_here s lit k.search fits) free k.speakers m k.quiet);
+      quiet_below = levels_implied s.problem (best_cargo s) s.trail lit why k.quiet_below;
       speakers = k.speakers;
       goal_at = k.goal_at;
       best_ready = k.best_ready;
@@ -100,6 +102,7 @@ kept_new f branching sources table goal best capacity trail stored written marks
       of_problem = of;
       each_mark = ap length m ∙ length-replicate (length sources) true;
       quiet = quiet_all f None (room_in s) sources marks (all_marked marks (length sources) m);
+      quiet_below = λ level lt. absurd (omega (arith, lt));
       speakers = tells;
       goal_at = at;
       best_ready = long;

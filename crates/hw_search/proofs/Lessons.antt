@@ -1,16 +1,18 @@
 -- What a turn that learns needs and keeps, in the words of a call.
-use Rattle.std.proofs.Common.{◌≡◌, ℕ, ◌+◌, ◌^◌, ◌<◌, ◌≤◌, Bool, true, false, cond, List, [], ◌∷◌, ◌++◌, Option, option_and_then, length, take, drop, refl, sym, ap, ◌∙◌, subst, arith, inl, inr}
-use Rattle.std.specs.Prelude.{All, IsSome}
-use Rattle.std.proofs.lemmas.Bool.{cases_lt}
+use Rattle.std.proofs.Common.{◌≡◌, ℕ, ◌+◌, ◌^◌, ◌<◌, ◌≤◌, Bool, true, false, cond, List, [], ◌∷◌, ◌++◌, Option, Some, option_and_then, length, slice_get, take, drop, refl, sym, ap, ◌∙◌, subst, arith, inl, inr}
+use Rattle.std.specs.Prelude.{All, IsSome, ◌==◌}
+use Rattle.std.proofs.lemmas.Bool.{cases_lt, eq-eqb}
 use Rattle.std.proofs.lemmas.List.Elements.{All-weaker}
 use Rattle.hw_model.specs.declared.lit.Lit.{Lit}
 use Rattle.hw_model.specs.Lits.{IsLitOf}
+use Rattle.hw_model.specs.declared.source.Source.{Source}
+use Rattle.hw_model.specs.declared.source.Source.TheVariants.{Goal}
 use Rattle.hw_model.specs.Problem.{Problem}
 use Rattle.hw_model.specs.Refuting.{IsSourceOf}
 use Rattle.hw_model.specs.Timetables.{cargo}
 use Rattle.hw_lits.proofs.Forms.{clause_lits}
 use Rattle.hw_story.specs.declared.event.Why.{Why}
-use Rattle.hw_story.specs.Trails.{trail_shape, clause_of, most_events}
+use Rattle.hw_story.specs.Trails.{trail_shape, clause_of, most_events, back_to, room_of}
 use Rattle.hw_story.specs.Learning.{reason_at, top_level, Learns}
 use Rattle.hw_story.proofs.Quiets.{back_below}
 use Rattle.hw_store.specs.declared.store.Stored.{Stored}
@@ -21,12 +23,13 @@ use Rattle.hw_progress.proofs.Bounds.{few_numbers}
 use Rattle.hw_progress.proofs.Citing.{reason_why, why_inside}
 use Rattle.hw_progress.proofs.Stops.{numbers_kept}
 use Rattle.hw_progress.proofs.Turned.{few_for}
-use Rattle.hw_search.specs.Engines.{EngineModel, KeepsEngine}
+use Rattle.hw_search.specs.Engines.{EngineModel, KeepsEngine, QuietLevels, QuietUnmarked}
 use Rattle.hw_search.specs.Marks.{is_marked}
 use Rattle.hw_search.specs.Speaking.{SpeakersModel, TellsSpeakers}
 use Rattle.hw_search.specs.Naming.{taught, Taught}
 use Rattle.hw_search.specs.GoingBack.{due, NextLevel}
-use Rattle.hw_search.proofs.Markings.{written_whole, quiet_all}
+use Rattle.hw_search.proofs.Levels.{levels_back, quiet_gone, at_get}
+use Rattle.hw_search.proofs.Markings.{written_whole}
 use Rattle.hw_search.proofs.Taught.{Teaches}
 
 -- ---- what was learnt
@@ -51,14 +54,14 @@ numbers_left e u why lemma back places same few t =
 
 -- ---- going back
 
-level_by : (b : Bool) (level back most : ℕ) → level ≡ cond b 0 back → back ≤ most → level ≤ most
-level_by true level back most e le = omega (arith, e)
-level_by false level back most e le = omega (arith, e, le)
+level_by : (b : Bool) (level back most : ℕ) → level ≡ cond b 0 back → back < most → level < most
+level_by true level back most e lt = omega (arith, e, lt)
+level_by false level back most e lt = omega (arith, e, lt)
 
-pub level_below : (mid : SearchModel) (why : Why) (lemma : List Lit) (back : ℕ) (places : List ℕ) (restarts since level : ℕ) → Teaches mid why lemma back places → 1 ≤ length lemma → NextLevel mid.restarts mid.since back restarts since level → level ≤ mid.trail.level
+pub level_below : (mid : SearchModel) (why : Why) (lemma : List Lit) (back : ℕ) (places : List ℕ) (restarts since level : ℕ) → Teaches mid why lemma back places → 1 ≤ length lemma → NextLevel mid.restarts mid.since back restarts since level → level < mid.trail.level
 level_below mid why lemma back places restarts since level t literal n =
-    let below : back ≤ mid.trail.level = elim (cases_lt 0 (top_level mid.trail (clause_of why))) [
-      | inl some ↦ omega (arith, back_below mid.trail t.kept.trail (clause_of why) lemma back places t.learns (omega (arith, some)))
+    let below : back < mid.trail.level = elim (cases_lt 0 (top_level mid.trail (clause_of why))) [
+      | inl some ↦ back_below mid.trail t.kept.trail (clause_of why) lemma back places t.learns (omega (arith, some))
       | inr none ↦ absurd (let z : top_level mid.trail (clause_of why) ≡ 0 = omega (arith, none) in omega (arith, literal, ap length (t.learns.ground z).0))
     ] in
     level_by (due mid.restarts mid.since) level back mid.trail.level n.to below
@@ -73,23 +76,30 @@ numbers_below mid why lemma back places ws lines t n =
 
 -- ---- what is kept
 
-pub all_marked : (n : ℕ) (new old lent : List Bool) → n ≡ length new → ((place : ℕ) → is_marked new place ≡ true) → (place : ℕ) → is_marked (take n (new ++ drop (length new) old)) place ≡ true
-all_marked n new old lent e h place = ap (λ xs. is_marked xs place) (written_whole n new old e) ∙ h place
+-- the goal is marked, through the marks' vector
+pub goal_marked : (goal n : ℕ) (sources : List Source) (new old lent : List Bool) → n ≡ length new → lent ≡ old → length new ≡ length lent → length old ≡ length sources → slice_get sources goal ≡ Some Goal → ((other : ℕ) → other < length lent → is_marked new other ≡ (other == goal)) → is_marked (take n (new ++ drop (length new) old)) goal ≡ true
+goal_marked goal n sources new old lent e l same long at h = ap (λ xs. is_marked xs goal) (written_whole n new old e) ∙ h goal (omega (arith, (at_get sources goal Goal at).0, long, ap length l)) ∙ eq-eqb goal goal refl
 
-pub kept_back : (e : EngineModel) (table : SpeakersModel) (goal : ℕ) (best : List ℕ) (worth : Option ℕ) (capacity capacity' : ℕ) (u : SearchModel) (marks : List Bool) → KeepsEngine e table goal best worth capacity → IsSearch u → u.problem ≡ e.search.problem → u.best ≡ e.search.best → length marks ≡ length e.marks → ((place : ℕ) → is_marked marks place ≡ true) → capacity' ≡ capacity
+pub kept_back : (e : EngineModel) (table : SpeakersModel) (goal : ℕ) (best : List ℕ) (worth : Option ℕ) (capacity capacity' level : ℕ) (u : SearchModel) (marks : List Bool) → KeepsEngine e table goal best worth capacity → IsSearch u → u.problem ≡ e.search.problem → u.best ≡ e.search.best → u.trail ≡ back_to e.search.trail level → level < e.search.trail.level → length marks ≡ length e.marks → is_marked marks goal ≡ true → capacity' ≡ capacity
     → KeepsEngine (record { search = u; sources = e.sources; marks = marks }) table goal best worth capacity'
-kept_back e table goal best worth capacity capacity' u marks k is p b m all c = record {
-  search = is;
-  once = subst (λ f. EachSourceOnce f e.sources) (sym p) k.once;
-  of_problem = subst (λ f. All (IsSourceOf f) e.sources) (sym p) k.of_problem;
-  each_mark = m ∙ k.each_mark;
-  quiet = quiet_all u.problem (best_cargo u) (room_in u) e.sources marks all;
-  speakers = subst (λ f. TellsSpeakers f e.sources table) (sym p) k.speakers;
-  goal_at = k.goal_at;
-  best_ready = k.best_ready ∙ ap (λ (f : Problem). f.ships) (sym p);
-  worth_is = k.worth_is ∙ sym (ap (λ f. option_and_then (cargo f) u.best) p ∙ ap (λ o. option_and_then (cargo e.search.problem) o) b);
-  reserved = omega (arith, subst (λ (f : Problem). most_events f.ships f.slots ≤ capacity) (sym p) k.reserved, c);
-}
+kept_back e table goal best worth capacity capacity' level u marks k is p b t lt m marked c =
+    let s = e.search in
+    let worth_same : best_cargo s ≡ best_cargo u = sym (ap (λ f. option_and_then (cargo f) u.best) p ∙ ap (λ o. option_and_then (cargo s.problem) o) b) in
+    let quiet : QuietUnmarked s.problem (best_cargo s) (room_of (back_to s.trail level)) e.sources marks = quiet_gone s.problem (best_cargo s) s.trail level e.sources marks goal k.once.once k.of_problem k.goal_at marked lt k.quiet_below in
+    let below : QuietLevels s.problem (best_cargo s) (back_to s.trail level) = levels_back s.problem (best_cargo s) s.trail level (omega (arith, lt)) k.quiet_below in
+    record {
+      search = is;
+      once = subst (λ f. EachSourceOnce f e.sources) (sym p) k.once;
+      of_problem = subst (λ f. All (IsSourceOf f) e.sources) (sym p) k.of_problem;
+      each_mark = m ∙ k.each_mark;
+      quiet = subst (λ f. QuietUnmarked f (best_cargo u) (room_in u) e.sources marks) (sym p) (subst (λ w. QuietUnmarked s.problem w (room_in u) e.sources marks) worth_same (subst (λ x. QuietUnmarked s.problem (best_cargo s) (room_of x) e.sources marks) (sym t) quiet));
+      quiet_below = subst (λ f. QuietLevels f (best_cargo u) u.trail) (sym p) (subst (λ w. QuietLevels s.problem w u.trail) worth_same (subst (QuietLevels s.problem (best_cargo s)) (sym t) below));
+      speakers = subst (λ f. TellsSpeakers f e.sources table) (sym p) k.speakers;
+      goal_at = k.goal_at;
+      best_ready = k.best_ready ∙ ap (λ (f : Problem). f.ships) (sym p);
+      worth_is = k.worth_is ∙ worth_same;
+      reserved = omega (arith, subst (λ (f : Problem). most_events f.ships f.slots ≤ capacity) (sym p) k.reserved, c);
+    }
 
 pub no_lits : (xs : List Lit) → length xs ≡ 0 → xs ≡ []
 no_lits [] e = refl

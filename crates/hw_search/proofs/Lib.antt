@@ -1,4 +1,5 @@
 pub mod Markings
+pub mod Levels
 pub mod Kept
 pub mod Steps
 pub mod Lemmas

@@ -1,17 +1,14 @@
 -- What an engine keeps through the parts of a turn.
-use Rattle.std.proofs.Common.{◌≡◌, ℕ, zero, suc, ◌+◌, ◌<◌, ◌&&◌, nat_lt, nat_le, Bool, true, false, List, [], ◌∷◌, ◌++◌, Option, Some, None, IsSomeAnd, IsTrue, length, get_or, slice_get, refl, sym, ap, ◌∙◌, subst, arith, inl, inr, length-append, length-set}
-use Rattle.std.specs.Prelude.{AllPairs, slice_set}
-use Rattle.std.proofs.lemmas.Bool.{cases_lt}
+use Rattle.std.proofs.Common.{◌≡◌, ℕ, zero, suc, ◌+◌, ◌<◌, ◌&&◌, nat_lt, nat_le, Bool, true, false, List, [], ◌∷◌, ◌++◌, Option, Some, None, IsSomeAnd, IsTrue, length, slice_get, refl, sym, ap, ◌∙◌, subst, arith, length-append, length-set}
+use Rattle.std.specs.Prelude.{slice_set}
 use Rattle.hw_model.specs.declared.lit.Lit.{Lit}
 use Rattle.hw_model.specs.declared.lit.Lit.TheVariants as lits
 use Rattle.hw_model.specs.declared.lit.LitTruth.TheVariants.{Free}
 use Rattle.hw_model.specs.declared.shape.Shape.{Shape}
-use Rattle.hw_model.specs.declared.source.Source.{Source}
 use Rattle.hw_model.specs.declared.source.Source.TheVariants as sources
 use Rattle.hw_model.specs.Lits.{lit_fits, IsLitOf}
 use Rattle.hw_model.specs.Narrowing.{truth}
-use Rattle.hw_model.specs.Problem.{Problem, shape_of}
-use Rattle.hw_model.specs.Quiet.{QuietSource}
+use Rattle.hw_model.specs.Problem.{shape_of}
 use Rattle.hw_model.specs.Rooms.{RoomModel, IsPoint}
 use Rattle.hw_model.specs.Timetables.{Permits, cargo, beats}
 use Rattle.hw_store.specs.declared.store.Stored.{Stored}
@@ -23,6 +20,8 @@ use Rattle.hw_progress.specs.Searches.{SearchModel, IsSearch, room_in, best_carg
 use Rattle.hw_progress.specs.Settling.{AllQuiet}
 use Rattle.hw_progress.proofs.Choices.{branch_open}
 use Rattle.hw_progress.proofs.Keeps.{decided_search, better_search}
+use Rattle.hw_laws.proofs.Quiets.{best_quiet}
+use Rattle.hw_search.proofs.Levels.{levels_decided, levels_best, at_get, one_place}
 use Rattle.hw_search.specs.Engines.{EngineModel, KeepsEngine, QuietUnmarked}
 use Rattle.hw_search.specs.Marks.{is_marked, MarksPlaces}
 use Rattle.hw_search.specs.Speaking.{SpeakersModel, speakers_of}
@@ -76,6 +75,7 @@ kept_decided e table goal best worth capacity capacity' lit trail stored written
       of_problem = k.of_problem;
       each_mark = m.same_length ∙ k.each_mark;
       quiet = subst (λ r. QuietUnmarked s.problem (best_cargo s) r e.sources marks) (sym (more_room s.trail event)) (quiet_cut s.problem (best_cargo s) room e.sources table e.marks marks lit k.search.flat k.of_problem (room_here s k.search) o.here o.free k.speakers m k.quiet);
+      quiet_below = levels_decided s.problem (best_cargo s) s.trail lit k.search.trail quiet.sources k.quiet_below;
       speakers = k.speakers;
       goal_at = k.goal_at;
       best_ready = k.best_ready;
@@ -87,31 +87,6 @@ kept_decided e table goal best worth capacity capacity' lit trail stored written
     (subst (λ x. KeepsEngine (record { search = record s { trail = decided s.trail lit; stored = s.stored; written = x }; sources = e.sources; marks = marks }) table goal best worth capacity') (sym w) kept))
 
 -- ---- a better timetable
-
--- only the goal asks for the best
-quiet_still : (f : Problem) (source : Source) (best best' : Option ℕ) (room : RoomModel) → (source ≡ sources.Goal → ⊥) → QuietSource f source best room → QuietSource f source best' room
-quiet_still f (sources.Window ship) best best' room ne q = record { here = q.here; at_low = q.at_low; at_high = q.at_high; set_first = q.set_first; set_not_first = q.set_not_first }
-quiet_still f (sources.Rule place) best best' room ne q = record { here = q.here; at_low = q.at_low; at_high = q.at_high; set_first = q.set_first; set_not_first = q.set_not_first }
-quiet_still f (sources.Order v w x) best best' room ne q = record { here = q.here; at_low = q.at_low; at_high = q.at_high; set_first = q.set_first; set_not_first = q.set_not_first }
-quiet_still f sources.Goal best best' room ne q = absurd (ne refl)
-
-at_get : {A : Type 0} (xs : List A) (k : ℕ) (x : A) → slice_get xs k ≡ Some x → (k < length xs) × ((d : A) → get_or xs k d ≡ x)
-at_get [] k x e = absurd cc
-at_get (y ∷ xs) zero x e = (omega arith, λ d. let same : y ≡ x = cc in same)
-at_get (y ∷ xs) (suc k) x e = let r = at_get xs k x e in (omega (arith, r.0), r.1)
-
--- a source stands at one place
-one_place : (xs : List Source) (j k : ℕ) (x : Source) → AllPairs (λ earlier later. earlier ≡ later → ⊥) xs → slice_get xs j ≡ Some x → slice_get xs k ≡ Some x → j ≡ k
-one_place xs j k x once e f =
-    let a = at_get xs j x e in
-    let b = at_get xs k x f in
-    elim (cases_lt j k) [
-      | inl lt ↦ absurd (once j k x lt b.0 (a.1 x ∙ sym (b.1 x)))
-      | inr ge ↦ elim (cases_lt k j) [
-        | inl lt ↦ absurd (once k j x lt a.0 (b.1 x ∙ sym (a.1 x)))
-        | inr le ↦ omega (arith, ge, le)
-      ]
-    ]
 
 -- one more mark
 marked_here : (marks : List Bool) (k : ℕ) → k < length marks → is_marked (slice_set marks k true) k ≡ true
@@ -141,7 +116,8 @@ kept_better e table goal best worth capacity row worth' marks k permits c value 
       each_mark = length-set e.marks goal true ∙ k.each_mark;
       quiet = λ place source at clear.
           let ne = not_marked e.marks goal place inside clear in
-          quiet_still s.problem source (best_cargo s) (cargo s.problem row) (room_in s) (λ g. ne (one_place e.sources place goal sources.Goal k.once.once (subst (λ x. slice_get e.sources place ≡ Some x) g at) k.goal_at)) (k.quiet place source at (sym (marked_else e.marks goal place ne) ∙ clear));
+          best_quiet s.problem source (best_cargo s) (cargo s.problem row) (room_in s) (λ g. ne (one_place e.sources place goal sources.Goal k.once.once (subst (λ x. slice_get e.sources place ≡ Some x) g at) k.goal_at)) (k.quiet place source at (sym (marked_else e.marks goal place ne) ∙ clear));
+      quiet_below = levels_best s.problem (best_cargo s) (cargo s.problem row) s.trail k.quiet_below;
       speakers = k.speakers;
       goal_at = k.goal_at;
       best_ready = ships;

@@ -15,8 +15,6 @@ mod naming;
 mod restarts;
 mod search;
 mod settling;
-#[cfg(test)]
-mod settling_tests;
 mod solving;
 mod speakers;
 mod turning;
@@ -25,7 +23,4 @@ mod writing;
 pub use any::{AnyPropagator, for_source};
 pub use restarts::luby;
 pub use search::Search;
-pub use solving::solve;
-
-#[cfg(test)]
-mod tests;
+pub use solving::{propagators, solve};

@@ -1,4 +1,4 @@
-ghost use Rattle.std.specs.Prelude.{◌≡◌, ◌≤◌, ℕ, length, true};
+ghost use Rattle.std.specs.Prelude.{◌≡◌, ◌<◌, ◌≤◌, ◌==◌, ℕ, length};
 ghost use Rattle.hw_search.specs.Marks.{is_marked, MarksPlaces, NextMarked};
 
 /// Marks the sources at these places.
@@ -13,14 +13,16 @@ pub fn mark(marks: &mut [bool], places: &[u32])
     }
 }
 
-/// Marks all sources.
-pub fn mark_all(marks: &mut [bool])
+/// Marks the source at a place, and no other.
+pub fn mark_only(marks: &mut [bool], place: usize)
+    requires inside { place < length marks.old }
     ensures same_length { length marks.new ≡ length marks.old }
-    ensures marked { (place : ℕ) → is_marked marks.new place ≡ true }
+    ensures marked { (other : ℕ) → other < length marks.old → is_marked marks.new other ≡ (other == place) }
 {
     for mark in marks.iter_mut() {
-        *mark = true;
+        *mark = false;
     }
+    marks[place] = true;
 }
 
 /// The first marked place from a place on.

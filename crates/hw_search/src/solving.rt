@@ -21,7 +21,7 @@ use hw_rules::{cargo, sources};
 use hw_store::WatchStore;
 use std::alloc::Global;
 
-// A propagator for each source, in the order of the sources.
+/// A propagator for each source, in the order of the sources, ready for the whole room.
 pub fn propagators(alloc: Global, flat: &Flat) -> Result<Vec<AnyPropagator>, NoMemory>
     ensures sources { IfOk result (λ props. EachSourceOnce flat.now (map ⟦<AnyPropagator as Propagator>⟧.source props.items)) }
     ensures ready { IfOk result (λ props. All (λ one. ⟦<AnyPropagator as Propagator>⟧.ready one flat.now (whole_room (shape_of flat.now))) props.items) }
@@ -35,8 +35,8 @@ pub fn propagators(alloc: Global, flat: &Flat) -> Result<Vec<AnyPropagator>, NoM
     Ok(props)
 }
 
-/// A search that has done nothing, of which a solution is made.
-pub fn start<'f>(
+// A search that has done nothing, of which a solution is made.
+fn start<'f>(
     alloc: Global,
     flat: &'f Flat,
 ) -> Result<Search<'f, WatchStore, AnyPropagator>, NoMemory>

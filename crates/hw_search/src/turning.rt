@@ -18,7 +18,7 @@ use crate::branching::branch;
 use crate::engine::Engine;
 use crate::going_back::{go_back, next_level};
 use crate::handing::hand_why;
-use crate::marking::{mark, mark_all};
+use crate::marking::{mark, mark_only};
 use crate::writing::{Written, hand_table, write_lemma};
 use hw_cert::{Log, LogStop};
 use hw_flat::Timetable;
@@ -164,7 +164,7 @@ impl<'f, S: Store + Drop, P: Propagator + Drop> Engine<'f, S, P> {
                     self.over = true;
                     return Turn::Ended;
                 }
-                mark_all(&mut self.marks);
+                mark_only(&mut self.marks, self.goal);
                 let level = next_level(&mut self.restarts, &mut self.since, back);
                 let gone = go_back(
                     alloc,

@@ -15,7 +15,7 @@ use Rattle.hw_search.specs.Turning.{turn_of, halted}
 use Rattle.hw_search.proofs.Answering.{same_mid, stopped_early}
 use Rattle.hw_search.proofs.Ending.{turned}
 use Rattle.hw_search.proofs.Handed.{all_whole}
-use Rattle.hw_search.proofs.Lessons.{teaches, places_inside, numbers_left, level_below, lits_here, numbers_below, all_marked, kept_back, no_lits}
+use Rattle.hw_search.proofs.Lessons.{teaches, places_inside, numbers_left, level_below, lits_here, numbers_below, goal_marked, kept_back, no_lits}
 use Rattle.hw_search.proofs.Markings.{written_whole}
 use Rattle.hw_search.proofs.Taught.{Teaches, WentBack, analysed, went, went_search, stopped_past, went_meets, stop_meets_past}
 use Rattle.hw_search.proofs.Teaching.{lemma_stops, last_meets}
@@ -91,7 +91,7 @@ go_back-gone-requires-clause-level g c =
     let same : given ≡ lemma = c.in-Ok-written.ensures.lemma in
     let numbers = c.in-Ok-written.ensures.names mid in
     let literal : 1 ≤ length lemma = omega (arith, c.if-len-eq0.false, c.len.ensures.value, ap length same) in
-    level_below mid why lemma back places c.next_level-level.new.restarts c.next_level-level.new.since c.next_level-level.result t literal c.next_level-level.ensures.next
+    omega (arith, level_below mid why lemma back places c.next_level-level.new.restarts c.next_level-level.new.since c.next_level-level.result t literal c.next_level-level.ensures.next)
 
 pub go_back-gone-requires-clause-lits : goal.go_back-gone-requires-clause-lits
 go_back-gone-requires-clause-lits g c =
@@ -177,12 +177,13 @@ invariant_of-self-in-Ok-gone g c =
     let level = c.next_level-level.result in
     let w : WentBack mid why lemma back places trail left ws lines restarts since level = record { numbers = numbers; next = c.next_level-level.ensures.next; at = c.in-Ok-gone.ensures.trail; taken = c.in-Ok-gone.ensures.written } in
     let tidies = subst (λ (xs : List Lit). Tidies {A = Unit {0}} mid.stored (record { number = lines; clause = xs }) ws (length (back_to mid.trail level).events) own (Ok tt) stored wrote new) same c.in-Ok-gone.ensures.tidies in
-    let n : c.self.inside.marks.len ≡ length c.mark_all.new.marks = omega (arith, c.self.inside.marks.ok.0, ap length c.deref_mut.ensures.value, c.mark_all.ensures.same_length) in
-    let whole = written_whole c.self.inside.marks.len c.mark_all.new.marks c.self.inside.marks.items n in
-    let many = ap length whole ∙ c.mark_all.ensures.same_length ∙ ap length c.deref_mut.ensures.value in
-    let all = all_marked c.self.inside.marks.len c.mark_all.new.marks c.self.inside.marks.items c.self.inside.marks.items n c.mark_all.ensures.marked in
+    let n : c.self.inside.marks.len ≡ length c.mark_only.new.marks = omega (arith, c.self.inside.marks.ok.0, ap length c.deref_mut.ensures.value, c.mark_only.ensures.same_length) in
+    let whole = written_whole c.self.inside.marks.len c.mark_only.new.marks c.self.inside.marks.items n in
+    let many = ap length whole ∙ c.mark_only.ensures.same_length ∙ ap length c.deref_mut.ensures.value in
+    let marked = goal_marked c.self.inside.goal c.self.inside.marks.len e.sources c.mark_only.new.marks c.self.inside.marks.items c.deref_mut.result.now n c.deref_mut.ensures.value c.mark_only.ensures.same_length c.self.invariant.0.each_mark c.self.invariant.0.goal_at c.mark_only.ensures.marked in
+    let below = level_below mid why lemma back places restarts since level t literal c.next_level-level.ensures.next in
     let cap = c.go_back-gone.ensures.capacity ∙ c.write_lemma-written.ensures.capacity in (
-      kept_back e _ _ _ _ _ _ (went mid trail stored left lines restarts since) _ c.self.invariant.0 (went_search mid why lemma back places trail stored left ws lines restarts since level t literal w tidies.0) refl refl many all cap,
+      kept_back e _ _ _ _ _ _ level (went mid trail stored left lines restarts since) _ c.self.invariant.0 (went_search mid why lemma back places trail stored left ws lines restarts since level t literal w tidies.0) refl refl w.at below many marked cap,
       c.in-Ok-gone.ensures.ships ∙ c.self.invariant.1,
       c.in-Ok-gone.ensures.ready,
       c.self.invariant.3,
@@ -245,12 +246,13 @@ invariant_of-self-in-Err-gone g c =
     let level = c.next_level-level.result in
     let w : WentBack mid why lemma back places trail left ws lines restarts since level = record { numbers = numbers; next = c.next_level-level.ensures.next; at = c.in-Err-gone.ensures.trail; taken = c.in-Err-gone.ensures.written } in
     let tidies = subst (λ (xs : List Lit). Tidies {A = Unit {0}} mid.stored (record { number = lines; clause = xs }) ws (length (back_to mid.trail level).events) own (Err c.in-Err-gone.stop) stored wrote new) same c.in-Err-gone.ensures.tidies in
-    let n : c.self.inside.marks.len ≡ length c.mark_all.new.marks = omega (arith, c.self.inside.marks.ok.0, ap length c.deref_mut.ensures.value, c.mark_all.ensures.same_length) in
-    let whole = written_whole c.self.inside.marks.len c.mark_all.new.marks c.self.inside.marks.items n in
-    let many = ap length whole ∙ c.mark_all.ensures.same_length ∙ ap length c.deref_mut.ensures.value in
-    let all = all_marked c.self.inside.marks.len c.mark_all.new.marks c.self.inside.marks.items c.self.inside.marks.items n c.mark_all.ensures.marked in
+    let n : c.self.inside.marks.len ≡ length c.mark_only.new.marks = omega (arith, c.self.inside.marks.ok.0, ap length c.deref_mut.ensures.value, c.mark_only.ensures.same_length) in
+    let whole = written_whole c.self.inside.marks.len c.mark_only.new.marks c.self.inside.marks.items n in
+    let many = ap length whole ∙ c.mark_only.ensures.same_length ∙ ap length c.deref_mut.ensures.value in
+    let marked = goal_marked c.self.inside.goal c.self.inside.marks.len e.sources c.mark_only.new.marks c.self.inside.marks.items c.deref_mut.result.now n c.deref_mut.ensures.value c.mark_only.ensures.same_length c.self.invariant.0.each_mark c.self.invariant.0.goal_at c.mark_only.ensures.marked in
+    let below = level_below mid why lemma back places restarts since level t literal c.next_level-level.ensures.next in
     let cap = c.go_back-gone.ensures.capacity ∙ c.write_lemma-written.ensures.capacity in (
-      kept_back e _ _ _ _ _ _ (record (went mid trail stored left lines restarts since) { over = true }) _ c.self.invariant.0 (stopped_past mid why lemma back places trail stored left ws lines restarts since level c.in-Err-gone.stop t literal w tidies.0) refl refl many all cap,
+      kept_back e _ _ _ _ _ _ level (record (went mid trail stored left lines restarts since) { over = true }) _ c.self.invariant.0 (stopped_past mid why lemma back places trail stored left ws lines restarts since level c.in-Err-gone.stop t literal w tidies.0) refl refl w.at below many marked cap,
       c.in-Err-gone.ensures.ships ∙ c.self.invariant.1,
       c.in-Err-gone.ensures.ready,
       c.self.invariant.3,

@@ -1,6 +1,0 @@
-use Rattle.std.proofs.Common.{◌≡◌, ℕ, ◌<◌, true}
-use Rattle.hw_search.specs.Marks.{is_marked}
-use Rattle.hw_search.proofs.marking.mark_all.Given as goal
-
-abbrev pub invariant-loop-mark : goal.invariant-loop-mark
-invariant-loop-mark l = (k : ℕ) → k < l.mark-index → is_marked l.marks k ≡ true

@@ -1,0 +1,7 @@
+//! Tests of the certified search through its public calls: the worked rows, over both stores.
+#![tactic(auto)]
+
+#[cfg(test)]
+mod tests;
+#[cfg(test)]
+mod turns;

@@ -1,0 +1,60 @@
+//! A whole run, turn by turn.
+
+ghost use Rattle.std.specs.Prelude.{◌≡◌, ◌≤◌, [], IfOk};
+ghost use Rattle.hw_cert.specs.Logs.{IsEmpty};
+ghost use Rattle.hw_model.specs.Problem.{shape_of};
+ghost use Rattle.hw_model.specs.Rooms.{whole_room};
+ghost use Rattle.hw_progress.specs.Searches.{new_search};
+
+use hw_cert::Log;
+use hw_flat::Flat;
+use hw_model::NoMemory;
+use hw_progress::{Branching, Turn};
+use hw_search::{AnyPropagator, Search, propagators};
+use hw_store::Store;
+use std::alloc::Global;
+
+/// A search over a store, which has done nothing.
+pub fn begin<'f, S: Store + Drop>(
+    alloc: Global,
+    flat: &'f Flat,
+    store: S,
+    branching: Branching,
+) -> Result<Search<'f, S, AnyPropagator>, NoMemory>
+    requires empty { S.clauses store ≡ [] }
+    requires ships { S.ships store ≡ flat.now.ships }
+    requires right { S.ready store (whole_room (shape_of flat.now)) }
+    ensures value { IfOk result (λ search. search ≡ new_search flat.now branching) }
+{
+    let props = propagators(alloc, flat)?;
+    Search::new(alloc, flat, store, props, branching)
+}
+
+/// Turn after turn of a search that has done nothing, until it ended or has as many lemmas as the
+/// budget says. Gives whether it ended, and lists the level behind each lemma with literals.
+pub fn take_turns<S: Store + Drop, L: Log>(
+    alloc: Global,
+    flat: &Flat,
+    budget: u32,
+    search: &mut Search<'_, S, AnyPropagator>,
+    log: &mut L,
+    levels: &mut Vec<u32>,
+) -> Result<bool, NoMemory>
+    requires new { search.old ≡ new_search flat.now Branching.Greatest }
+    requires most { budget ≤ 100_000 }
+    requires empty { IsEmpty (L.state log.old) }
+{
+    let _shape = flat.shape();
+    for _count in 0..1_000_000 {
+        if search.lemmas() >= budget {
+            return Ok(false);
+        }
+        match search.turn(alloc, log) {
+            Turn::Decided | Turn::Better => {}
+            Turn::Lemma => levels.push(search.level())?,
+            Turn::Ended => return Ok(true),
+            Turn::NoMemory | Turn::LogFailed => return Ok(false),
+        }
+    }
+    Ok(false)
+}
