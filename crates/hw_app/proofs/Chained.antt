@@ -15,7 +15,13 @@ use Rattle.hw_app.specs.declared.outcome.CertOutcome.TheVariants.{Shows, Wrong, 
 use Rattle.hw_app.specs.declared.outcome.CertStop.{CertStop}
 use Rattle.hw_app.specs.declared.outcome.CertStop.TheVariants.{Fault, NoMemory}
 use Rattle.hw_app.proofs.Begun.{rose_on}
-use Rattle.hw_app.proofs.Checked.{told_map, some_map}
+
+-- what was to come of the bytes told is what is to come of those left, and so on
+pub goes_on : {A : Type 0} (a b c : List ℕ → A) (told mid now : Option (List ℕ)) → IfSome told (λ x. IsSomeAnd mid (λ y. a x ≡ b y)) → IfSome mid (λ y. IsSomeAnd now (λ z. b y ≡ c z)) → IfSome told (λ x. IsSomeAnd now (λ z. a x ≡ c z))
+goes_on a b c None mid now h k = tt
+goes_on a b c (Some x) None now h k = absurd h
+goes_on a b c (Some x) (Some y) None h k = absurd k
+goes_on a b c (Some x) (Some y) (Some z) h k = h ∙ k
 
 -- one line more
 pub reached_on : {f : Problem} {told : Option (List ℕ)} {outcome : List ℕ → CertOutcome} {before all : List Line} {r s : ReaderModel} {c d : CheckState} {x y : DeskState}
@@ -23,12 +29,8 @@ pub reached_on : {f : Problem} {told : Option (List ℕ)} {outcome : List ℕ �
 reached_on {f = f} {told = told} {outcome = outcome} {before = before} {all = all} {r = r} {s = s} {x = x} {y = y} h k = record {
   follows = k.follows;
   problem = k.problem;
-  rest = told_map told (λ bytes p. chain (outcome bytes) (rest_of r x) k.rest p) h.rest;
+  rest = goes_on outcome (rest_outcome f before r.at) (rest_outcome f all s.at) told (rest_of r x) (rest_of s y) h.rest k.rest;
 }
-  where
-    chain : (b : CertOutcome) (known : Option (List ℕ)) → IfSome known (λ rest. IsSomeAnd (rest_of s y) (λ more. rest_outcome f before r.at rest ≡ rest_outcome f all s.at more)) → IsSomeAnd known (λ rest. b ≡ rest_outcome f before r.at rest) → IsSomeAnd (rest_of s y) (λ more. b ≡ rest_outcome f all s.at more)
-    chain b None q p = absurd p
-    chain b (Some rest) q p = some_map (rest_of s y) (λ more e. p ∙ e) q
 
 -- an outcome of what is left is the outcome that was to come
 back : (told rest : Option (List ℕ)) (o : CertOutcome) (outcome : List ℕ → CertOutcome) (left : List ℕ → CertOutcome) → IfSome told (λ bytes. IsSomeAnd rest (λ bs. outcome bytes ≡ left bs)) → IfSome rest (λ bs. o ≡ left bs) → IfSome told (λ bytes. o ≡ outcome bytes)
@@ -36,7 +38,7 @@ back None rest o outcome left h k = tt
 back (Some bytes) None o outcome left h k = absurd h
 back (Some bytes) (Some bs) o outcome left h k = k ∙ sym h
 
-comes_back : (f : Problem) (all : List Line) (told rest : Option (List ℕ)) (outcome left : List ℕ → CertOutcome) (o : CertOutcome) → IfSome told (λ bytes. IsSomeAnd rest (λ bs. outcome bytes ≡ left bs)) → Comes f all rest left o → Comes f all told outcome o
+pub comes_back : (f : Problem) (all : List Line) (told rest : Option (List ℕ)) (outcome left : List ℕ → CertOutcome) (o : CertOutcome) → IfSome told (λ bytes. IsSomeAnd rest (λ bs. outcome bytes ≡ left bs)) → Comes f all rest left o → Comes f all told outcome o
 comes_back f all told rest outcome left (Shows v) h k = (k.0, back told rest (Shows v) outcome left h k.1)
 comes_back f all told rest outcome left (Wrong number word hint) h k = back told rest (Wrong number word hint) outcome left h k
 comes_back f all told rest outcome left TooLong h k = back told rest TooLong outcome left h k

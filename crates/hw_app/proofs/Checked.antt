@@ -48,11 +48,13 @@ line_number_on {r = r} {reader = reader} h = on r.at.version reader.at.version h
     on None (Some w) is_some e = omega arith
     on (Some v) (Some w) is_some e = omega arith
 
+-- the lines that are left, by what comes next
+pub streamed : (f : Problem) (r : ReaderModel) (rest : List ℕ) (next : NextLine) → r.shape ≡ shape_of f → next_line r rest ≡ next → stream_of (shape_of f) r.at (parts_of 10 rest) ≡ following (shape_of f) next
+streamed f r rest next same e = steps (shape_of f) r.at (parts_of 10 rest) ∙ ap (following (shape_of f)) (subst (λ (s : Shape). next_of s r.at (parts_of 10 rest) ≡ next) same e)
+
 -- the outcome of what is left, by what comes next
 decided : (f : Problem) (before : List Line) (r : ReaderModel) (rest : List ℕ) (next : NextLine) → r.shape ≡ shape_of f → next_line r rest ≡ next → rest_outcome f before r.at rest ≡ left_outcome f before (line_number r.at) (following (shape_of f) next)
-decided f before r rest next same e =
-    ap (left_outcome f before (line_number r.at))
-    (steps (shape_of f) r.at (parts_of 10 rest) ∙ ap (following (shape_of f)) (subst (λ (s : Shape). next_of s r.at (parts_of 10 rest) ≡ next) same e))
+decided f before r rest next same e = ap (left_outcome f before (line_number r.at)) (streamed f r rest next same e)
 
 -- a line comes next, behind which the reader stands
 abbrev pub ComesNext : ReaderModel → ReaderModel → Line → DeskState → DeskState → Type 0

@@ -2,6 +2,8 @@ mod Begun
 mod FlatForms
 mod Checked
 mod Chained
+mod Kept
+mod Renewals
 mod Searched
 mod SearchWorks
 mod Solved
@@ -10,5 +12,8 @@ mod PortForms
 mod FlattenWorks
 mod PortSolved
 mod PortShown
+mod RenewWorks
+mod FlatRenewed
+mod PortRenewed
 mod Faults
 mod Owned

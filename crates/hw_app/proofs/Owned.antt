@@ -5,6 +5,9 @@ use Rattle.hw_model.specs.Problem.{Problem, shape_of}
 use Rattle.hw_lines.specs.declared.check.Refusal.{Refusal}
 use Rattle.hw_lines.specs.declared.line.Line.{Line}
 use Rattle.hw_lines.specs.Valid.{LineFits, ValidFrom, Valid, verdict}
+use Rattle.hw_lines.specs.declared.check.Verdict.{Verdict}
+use Rattle.hw_verdict.specs.Renewing.{renewed}
+use Rattle.hw_verdict.proofs.Fitting.{renewing_keeps}
 use Rattle.hw_verdict.proofs.Refused.{from_valid}
 use Rattle.hw_cert.specs.declared.version.Version.TheVariants.{Two}
 use Rattle.hw_cert.specs.Certs.{Cert, BadLine, cert_read}
@@ -14,7 +17,8 @@ use Rattle.hw_cert.specs.Texts.{cert_text}
 use Rattle.hw_cert.proofs.ValidText.{are_lines}
 use Rattle.hw_cert.proofs.WholeCerts.{cert_again, stream_agrees}
 use Rattle.hw_app.specs.Certificates.{line_outcome, lines_outcome}
-use Rattle.hw_app.specs.Laws.{OwnCertificate}
+use Rattle.hw_app.specs.Laws.{OwnCertificate, RenewedCertificate}
+use Rattle.hw_app.specs.declared.outcome.CertOutcome.{CertOutcome}
 use Rattle.hw_app.specs.declared.outcome.CertOutcome.TheVariants.{Shows}
 
 -- valid lines to the end show their verdict
@@ -40,3 +44,12 @@ own_certificate f all flat fit valid =
     let bytes = cert_text Two all in
     let lines = cert_stream (shape_of f) bytes in
     by_end f all lines.lines lines.stop (cert_read (shape_of f) bytes) fit valid (cert_again (shape_of f) bytes Two all flat.some_ship refl (are_lines f all [] flat (omega arith) fit valid)) (stream_agrees (shape_of f) bytes)
+
+by_verdict : {A : Type 0} {o : CertOutcome} {v w : Verdict} → v ≡ w → A ⊎ (o ≡ Shows v) → A ⊎ (o ≡ Shows w)
+by_verdict e (inl a) = inl a
+by_verdict e (inr p) = inr (p ∙ ap Shows e)
+
+pub renewed_certificate : RenewedCertificate
+renewed_certificate f all flat fit valid =
+    let again = renewing_keeps f all valid in
+    by_verdict again.same_verdict (own_certificate f (renewed all) flat (again.fit fit) again.valid)

@@ -36,7 +36,7 @@ use Rattle.hw_app.proofs.Checked.{some_gives}
 use Rattle.hw_app.proofs.PortForms.{port_entered, no_port_works, no_tide_works, no_port_says, no_tide_says, is_port}
 
 -- what a verdict of valid lines says of the port
-means : (p : Parts) (t : TideParts) (all : List Line) (v : Verdict) → PortKept p → All (LineFits (flattened p t)) all → Valid (flattened p t) all → v ≡ verdict (flattened p t) all → MeansOfPort p t v
+pub means : (p : Parts) (t : TideParts) (all : List Line) (v : Verdict) → PortKept p → All (LineFits (flattened p t)) all → Valid (flattened p t) all → v ≡ verdict (flattened p t) all → MeansOfPort p t v
 means p t all (verdicts.Optimal c) kept fit valid e = some_gives (last_table all) (λ table best. (table, best)) ((sound_port_verdict_law p t all kept fit valid).0 c (sym e))
 means p t all verdicts.Infeasible kept fit valid e = (sound_port_verdict_law p t all kept fit valid).1 (sym e)
 means p t all (verdicts.Unfinished best) kept fit valid e = tt
@@ -86,14 +86,14 @@ memory_meets {z = z} words h k ends = record {
 all_entered : {name table cert : List ℕ} {x y z w : DeskState} {p : Parts} {t : TideParts} {result : Result CertOutcome CertStop} → ReadsInstance name x y (Ok p) → ReadsTide p table y z (Ok t) → ChecksCert (flattened p t) cert z w result → Entered (named Instance name ∷ named Tides table ∷ named Certificate cert ∷ []) x w
 all_entered {name = name} {table = table} h k m = entered_on (named Instance name ∷ named Tides table ∷ []) (port_entered h k) m.enters refl
 
-check_works : {name table cert : List ℕ} {x y z w : DeskState} {p : Parts} {t : TideParts} (result : Result CertOutcome CertStop) → ReadsInstance name x y (Ok p) → ReadsTide p table y z (Ok t) → ChecksCert (flattened p t) cert z w result → Works (named Instance name ∷ named Tides table ∷ named Certificate cert ∷ []) None x w (report_of_check (by_name p t) result)
-check_works (Ok (Shows v)) h k m = answers None _ refl (all_entered h k m) (m.finds.0 ∙ k.answer.2 ∙ h.answer.2) tt
-check_works {name = name} {table = table} {cert = cert} (Ok (Wrong number word hint)) h k m = refuses None (named Instance name ∷ named Tides table ∷ []) (named Certificate cert) [] _ refl refl (all_entered h k m) (m.finds.0 ∙ k.answer.2 ∙ h.answer.2) tt
-check_works {name = name} {table = table} {cert = cert} (Ok TooLong) h k m = refuses None (named Instance name ∷ named Tides table ∷ []) (named Certificate cert) [] _ refl refl (all_entered h k m) (m.finds.0 ∙ k.answer.2 ∙ h.answer.2) tt
-check_works {name = name} {table = table} {cert = cert} (Err Fault) h k m = refuses None (named Instance name ∷ named Tides table ∷ []) (named Certificate cert) [] _ refl refl (all_entered h k m) (rose_on (k.answer.2 ∙ h.answer.2) m.finds) tt
-check_works {name = name} {table = table} {cert = cert} (Err NoMemory) h k m = wants_memory None (named Instance name ∷ named Tides table ∷ named Certificate cert ∷ []) [] refl (all_entered h k m) (m.finds ∙ k.answer.2 ∙ h.answer.2)
+pub check_works : {name table cert : List ℕ} {x y z w : DeskState} {p : Parts} {t : TideParts} (proof : Option (List ℕ)) (result : Result CertOutcome CertStop) → ReadsInstance name x y (Ok p) → ReadsTide p table y z (Ok t) → ChecksCert (flattened p t) cert z w result → Works (named Instance name ∷ named Tides table ∷ named Certificate cert ∷ []) proof x w (report_of_check (by_name p t) result)
+check_works proof (Ok (Shows v)) h k m = answers proof _ refl (all_entered h k m) (m.finds.0 ∙ k.answer.2 ∙ h.answer.2) tt
+check_works {name = name} {table = table} {cert = cert} proof (Ok (Wrong number word hint)) h k m = refuses proof (named Instance name ∷ named Tides table ∷ []) (named Certificate cert) [] _ refl refl (all_entered h k m) (m.finds.0 ∙ k.answer.2 ∙ h.answer.2) tt
+check_works {name = name} {table = table} {cert = cert} proof (Ok TooLong) h k m = refuses proof (named Instance name ∷ named Tides table ∷ []) (named Certificate cert) [] _ refl refl (all_entered h k m) (m.finds.0 ∙ k.answer.2 ∙ h.answer.2) tt
+check_works {name = name} {table = table} {cert = cert} proof (Err Fault) h k m = refuses proof (named Instance name ∷ named Tides table ∷ []) (named Certificate cert) [] _ refl refl (all_entered h k m) (rose_on (k.answer.2 ∙ h.answer.2) m.finds) tt
+check_works {name = name} {table = table} {cert = cert} proof (Err NoMemory) h k m = wants_memory proof (named Instance name ∷ named Tides table ∷ named Certificate cert ∷ []) [] refl (all_entered h k m) (m.finds ∙ k.answer.2 ∙ h.answer.2)
 
-check_says : {name table cert : List ℕ} {x y z w : DeskState} {p : Parts} {t : TideParts} (result : Result CertOutcome CertStop) → ReadsInstance name x y (Ok p) → ReadsTide p table y z (Ok t) → ChecksCert (flattened p t) cert z w result → is_common (report_of_check (by_name p t) result) ≡ false → ChecksPortTexts (x.held name) (x.held table) (x.held cert) (Some (report_of_check (by_name p t) result))
+pub check_says : {name table cert : List ℕ} {x y z w : DeskState} {p : Parts} {t : TideParts} (result : Result CertOutcome CertStop) → ReadsInstance name x y (Ok p) → ReadsTide p table y z (Ok t) → ChecksCert (flattened p t) cert z w result → is_common (report_of_check (by_name p t) result) ≡ false → ChecksPortTexts (x.held name) (x.held table) (x.held cert) (Some (report_of_check (by_name p t) result))
 check_says {cert = cert} {x = x} {p = p} {t = t} (Ok o) h k m e = outcome_says o (is_port h k) (subst (λ (told : Option (List ℕ)). Finds (flattened p t) told (cert_outcome (flattened p t)) o) (ap (λ held. held cert) (k.enters.only.held ∙ h.enters.only.held)) m.finds.1)
 check_says (Err Fault) h k m e = absurd (cc)
 check_says (Err NoMemory) h k m e = absurd (cc)
@@ -105,7 +105,7 @@ check_meets {z = z} {w = w} {p = p} {t = t} words f result e h k m ends =
     record {
       mid = w;
       report = Some (report_of_check (by_name p t) result);
-      works = check_works result h k n;
+      works = check_works None result h k n;
       says = check_says result h k n;
       ends = ends;
     }

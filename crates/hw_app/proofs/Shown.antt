@@ -44,15 +44,15 @@ within : (text bytes : List ℕ) → length text ≤ most_bytes → texts_report
 within text bytes h = ap (λ b. cond b (too_long Flat) (read_report (flat_text text) bytes)) (le-ltb _ _ h)
 
 -- the report of the bytes, where the text is one of the problem
-decided_by : (text bytes : Option (List ℕ)) (f : Problem) (o : CertOutcome) → IfSome text (IsTextOf f) → IfSome bytes (λ bs. o ≡ cert_outcome f bs) → IfSome text (λ t. IfSome bytes (λ b. report_of by_number o ≡ texts_report t b))
+pub decided_by : (text bytes : Option (List ℕ)) (f : Problem) (o : CertOutcome) → IfSome text (IsTextOf f) → IfSome bytes (λ bs. o ≡ cert_outcome f bs) → IfSome text (λ t. IfSome bytes (λ b. report_of by_number o ≡ texts_report t b))
 decided_by text bytes f o h k = told_map text (λ t is_text. told_map bytes (λ b e. ap (report_of by_number) e ∙ sym (within t b is_text.0 ∙ ap (λ p. read_report p b) is_text.1)) k) h
 
 -- the same where the text has a bad line
-bad_by : (text bytes : Option (List ℕ)) (number : ℕ) (word : FlatWord) → IfSome text (IsBadAt number word) → IfSome text (λ t. IfSome bytes (λ b. bad_flat number word ≡ texts_report t b))
+pub bad_by : (text bytes : Option (List ℕ)) (number : ℕ) (word : FlatWord) → IfSome text (IsBadAt number word) → IfSome text (λ t. IfSome bytes (λ b. bad_flat number word ≡ texts_report t b))
 bad_by text bytes number word h = told_map text (λ t bad. told_all bytes (λ b. sym (within t b bad.0 ∙ ap (λ p. read_report p b) bad.1))) h
 
 -- what a verdict of valid lines says
-means : (f : Problem) (all : List Line) (v : Verdict) → IsFlat f → All (LineFits f) all → Valid f all → v ≡ verdict f all → Means f v
+pub means : (f : Problem) (all : List Line) (v : Verdict) → IsFlat f → All (LineFits f) all → Valid f all → v ≡ verdict f all → Means f v
 means f all (verdicts.Optimal c) flat fit valid e = some_gives (last_table all) (λ table best. (table, best)) (optimal f all c flat fit valid (sym e))
 means f all verdicts.Infeasible flat fit valid e = infeasible f all flat fit valid (sym e)
 means f all (verdicts.Unfinished best) flat fit valid e = tt
@@ -81,14 +81,14 @@ check_stops {x = x} {y = y} words stop h ends = record {
 both_entered : {name cert : List ℕ} {x y z : DeskState} {f : Problem} {result : Result CertOutcome CertStop} → ReadsFlat name x y (Ok f) → ChecksCert f cert y z result → Entered (named Flat name ∷ named Certificate cert ∷ []) x z
 both_entered {name = name} h k = entered_on (named Flat name ∷ []) (flat_entered h) k.enters refl
 
-check_works : {name cert : List ℕ} {x y z : DeskState} {f : Problem} (result : Result CertOutcome CertStop) → ReadsFlat name x y (Ok f) → ChecksCert f cert y z result → Works (named Flat name ∷ named Certificate cert ∷ []) None x z (report_of_check by_number result)
-check_works (Ok (Shows v)) h k = answers None _ refl (both_entered h k) (k.finds.0 ∙ h.answer.2) tt
-check_works {name = name} {cert = cert} (Ok (Wrong number word hint)) h k = refuses None (named Flat name ∷ []) (named Certificate cert) [] _ refl refl (both_entered h k) (k.finds.0 ∙ h.answer.2) tt
-check_works {name = name} {cert = cert} (Ok TooLong) h k = refuses None (named Flat name ∷ []) (named Certificate cert) [] _ refl refl (both_entered h k) (k.finds.0 ∙ h.answer.2) tt
-check_works {name = name} {cert = cert} (Err Fault) h k = refuses None (named Flat name ∷ []) (named Certificate cert) [] _ refl refl (both_entered h k) (rose_on h.answer.2 k.finds) tt
-check_works {name = name} {cert = cert} (Err NoMemory) h k = wants_memory None (named Flat name ∷ named Certificate cert ∷ []) [] refl (both_entered h k) (k.finds ∙ h.answer.2)
+pub check_works : {name cert : List ℕ} {x y z : DeskState} {f : Problem} (proof : Option (List ℕ)) (result : Result CertOutcome CertStop) → ReadsFlat name x y (Ok f) → ChecksCert f cert y z result → Works (named Flat name ∷ named Certificate cert ∷ []) proof x z (report_of_check by_number result)
+check_works proof (Ok (Shows v)) h k = answers proof _ refl (both_entered h k) (k.finds.0 ∙ h.answer.2) tt
+check_works {name = name} {cert = cert} proof (Ok (Wrong number word hint)) h k = refuses proof (named Flat name ∷ []) (named Certificate cert) [] _ refl refl (both_entered h k) (k.finds.0 ∙ h.answer.2) tt
+check_works {name = name} {cert = cert} proof (Ok TooLong) h k = refuses proof (named Flat name ∷ []) (named Certificate cert) [] _ refl refl (both_entered h k) (k.finds.0 ∙ h.answer.2) tt
+check_works {name = name} {cert = cert} proof (Err Fault) h k = refuses proof (named Flat name ∷ []) (named Certificate cert) [] _ refl refl (both_entered h k) (rose_on h.answer.2 k.finds) tt
+check_works {name = name} {cert = cert} proof (Err NoMemory) h k = wants_memory proof (named Flat name ∷ named Certificate cert ∷ []) [] refl (both_entered h k) (k.finds ∙ h.answer.2)
 
-check_says : {name cert : List ℕ} {x y z : DeskState} {f : Problem} (result : Result CertOutcome CertStop) → ReadsFlat name x y (Ok f) → ChecksCert f cert y z result → is_common (report_of_check by_number result) ≡ false → Checks (x.held name) (x.held cert) (report_of_check by_number result)
+pub check_says : {name cert : List ℕ} {x y z : DeskState} {f : Problem} (result : Result CertOutcome CertStop) → ReadsFlat name x y (Ok f) → ChecksCert f cert y z result → is_common (report_of_check by_number result) ≡ false → Checks (x.held name) (x.held cert) (report_of_check by_number result)
 check_says {cert = cert} {x = x} {y = y} {f = f} (Ok o) h k e = checks o h.answer.0 h.answer.1 (subst (λ (told : Option (List ℕ)). Finds f told (cert_outcome f) o) (ap (λ held. held cert) h.enters.only.held) k.finds.1)
 check_says (Err Fault) h k e = absurd (cc)
 check_says (Err NoMemory) h k e = absurd (cc)
@@ -98,7 +98,7 @@ pub check_meets : {x y z end : DeskState} {s : Status} {f : Problem} (words : Li
 check_meets {z = z} words result h k ends = record {
   mid = z;
   report = Some (report_of_check by_number result);
-  works = check_works result h k;
+  works = check_works None result h k;
   says = check_says result h k;
   ends = ends;
 }

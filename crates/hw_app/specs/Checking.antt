@@ -6,7 +6,7 @@ use Rattle.hw_desk.specs.State.{DeskState, Rose}
 use Rattle.hw_desk.specs.declared.desk.Feed.TheVariants as feeds
 use Rattle.hw_cert.specs.Nexts.{rest_of}
 use Rattle.hw_cert.specs.Reader.{ReaderModel}
-use Rattle.hw_cert.specs.Stream.{Position, CertLines, stream_of}
+use Rattle.hw_cert.specs.Stream.{Position, start, CertLines, stream_of}
 use Rattle.hw_cert.specs.declared.stop.LineStop.{LineStop}
 use Rattle.hw_cert.specs.declared.stop.LineStop.TheVariants as lines
 use Rattle.hw_lines.specs.declared.line.Line.{Line}
@@ -18,6 +18,7 @@ use Rattle.hw_check.specs.declared.stop.CheckStop.TheVariants as checks
 use Rattle.hw_report.specs.declared.report.RefusedWord.TheVariants.{Form, Check}
 use Rattle.hw_app.specs.Certificates.{lines_outcome, cert_outcome}
 use Rattle.hw_app.specs.Inputs.{Enters}
+use Rattle.hw_app.specs.declared.cert.OpenCert.{OpenCert}
 use Rattle.hw_app.specs.declared.cert.CertStep.{CertStep}
 use Rattle.hw_app.specs.declared.cert.CertStep.TheVariants.{Further, Ended}
 use Rattle.hw_app.specs.declared.outcome.CertOutcome.{CertOutcome}
@@ -61,6 +62,23 @@ abbrev pub NoOutcome : DeskState → DeskState → CertStop → Type 0
 NoOutcome old new Fault = Rose old.read_faults new.read_faults
 NoOutcome old new NoMemory = new.read_faults ≡ old.read_faults
 
+-- a reader before a certificate's header, whose bytes left are those told, and a checker of the problem without lines
+pub record IsOpen (f : Problem) (told : Option (List ℕ)) (reader : ReaderModel) (checker : CheckState) (now : DeskState) : Type 0 where
+  pub ready : IsReady reader checker now
+  pub follows : Follows checker []
+  pub problem : checker.problem ≡ f
+  pub first : reader.at ≡ start
+  pub left : rest_of reader now ≡ told
+
+abbrev pub OpenAnswer : Problem → Option (List ℕ) → DeskState → DeskState → Result OpenCert CertStop → Type 0
+OpenAnswer f told old new (Ok open_cert) = IsOpen f told open_cert.reader open_cert.checker new × (new.read_faults ≡ old.read_faults)
+OpenAnswer f told old new (Err stop) = NoOutcome old new stop
+
+-- the certificate is begun under its name, and none of its lines was taken
+pub record OpensCert (f : Problem) (cert : List ℕ) (old new : DeskState) (result : Result OpenCert CertStop) : Type 0 where
+  pub enters : Enters feeds.Certificate cert old new
+  pub answer : OpenAnswer f (old.held cert) old new result
+
 -- what a certificate comes to behind these lines, and no read failed; or why it isn't known
 abbrev pub ComesOrStops : Problem → List Line → Option (List ℕ) → (List ℕ → CertOutcome) → DeskState → DeskState → Result CertOutcome CertStop → Type 0
 ComesOrStops f all told outcome old new (Ok o) = (new.read_faults ≡ old.read_faults) × Comes f all told outcome o
@@ -68,12 +86,12 @@ ComesOrStops f all told outcome old new (Err stop) = NoOutcome old new stop
 
 -- one more line was taken and no read failed, or the check has ended
 abbrev pub Steps : Problem → List Line → ReaderModel → DeskState → DeskState → CertStep → Type 0
-Steps f before r old new (Further reader checker) = (new.read_faults ≡ old.read_faults) × (line : Line) × Reached f (rest_of r old) (rest_outcome f before r.at) (before ++ line ∷ []) reader checker new
+Steps f before r old new (Further reader checker line) = (new.read_faults ≡ old.read_faults) × Reached f (rest_of r old) (rest_outcome f before r.at) (before ++ line ∷ []) reader checker new
 Steps f before r old new (Ended found) = ComesOrStops f before (rest_of r old) (rest_outcome f before r.at) old new found
 
 -- behind a line more can be taken
 abbrev pub GoesFurther : ReaderModel → DeskState → CertStep → Type 0
-GoesFurther r now (Further reader checker) = IsReady reader checker now × (r.at.taken < reader.at.taken)
+GoesFurther r now (Further reader checker line) = IsReady reader checker now × (r.at.taken < reader.at.taken)
 GoesFurther r now (Ended found) = ⊤
 
 -- what a certificate comes to whose line of this number isn't taken

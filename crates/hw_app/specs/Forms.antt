@@ -4,7 +4,7 @@ use Rattle.std.specs.List.{slice_index_or}
 use Rattle.hw_desk.specs.declared.desk.Feed.TheVariants as feed
 use Rattle.hw_text.specs.Numbers.{number_from_to}
 use Rattle.hw_app.specs.declared.form.Form.{Form}
-use Rattle.hw_app.specs.declared.form.Form.TheVariants.{SolveFlat, SolvePort, CheckFlat, CheckPort, Flatten}
+use Rattle.hw_app.specs.declared.form.Form.TheVariants.{SolveFlat, SolvePort, CheckFlat, CheckPort, RenewFlat, RenewPort, Flatten}
 use Rattle.hw_app.specs.declared.form.Keyword.{Keyword as KeywordOf}
 use Rattle.hw_app.specs.declared.form.Keyword.TheVariants as key
 use Rattle.hw_app.specs.declared.form.Wanted.{Wanted}
@@ -13,13 +13,14 @@ use Rattle.hw_app.specs.declared.form.Wanted.TheVariants.{Keyword, Input, Proof,
 abbrev pub keyword_text : KeywordOf → List ℕ
 keyword_text key.Solve = codes "solve"
 keyword_text key.Check = codes "check"
+keyword_text key.Renew = codes "renew"
 keyword_text key.Flat = codes "flat"
 keyword_text key.Port = codes "port"
 keyword_text key.Flatten = codes "flatten"
 
 -- the forms that there are
 abbrev pub forms : List Form
-forms = SolveFlat ∷ SolvePort ∷ CheckFlat ∷ CheckPort ∷ Flatten ∷ []
+forms = SolveFlat ∷ SolvePort ∷ CheckFlat ∷ CheckPort ∷ RenewFlat ∷ RenewPort ∷ Flatten ∷ []
 
 -- what the words of a form have to be
 abbrev pub words_of : Form → List Wanted
@@ -27,6 +28,8 @@ words_of SolveFlat = Keyword key.Solve ∷ Keyword key.Flat ∷ Input feed.Flat 
 words_of SolvePort = Keyword key.Solve ∷ Keyword key.Port ∷ Input feed.Instance ∷ Input feed.Tides ∷ Number 1 100_000 ∷ Proof ∷ []
 words_of CheckFlat = Keyword key.Check ∷ Keyword key.Flat ∷ Input feed.Flat ∷ Input feed.Certificate ∷ []
 words_of CheckPort = Keyword key.Check ∷ Keyword key.Port ∷ Input feed.Instance ∷ Input feed.Tides ∷ Input feed.Certificate ∷ []
+words_of RenewFlat = Keyword key.Renew ∷ Keyword key.Flat ∷ Input feed.Flat ∷ Input feed.Certificate ∷ Proof ∷ []
+words_of RenewPort = Keyword key.Renew ∷ Keyword key.Port ∷ Input feed.Instance ∷ Input feed.Tides ∷ Input feed.Certificate ∷ Proof ∷ []
 words_of Flatten = Keyword key.Flatten ∷ Input feed.Instance ∷ Input feed.Tides ∷ []
 
 -- a keyword is itself, a name any word that isn't empty, and a number one in plain decimal within its limits

@@ -9,6 +9,7 @@ use Rattle.hw_cert.specs.declared.version.Version.TheVariants.{Two}
 use Rattle.hw_cert.specs.Stream.{overlong, cert_stream}
 use Rattle.hw_cert.specs.Texts.{cert_text}
 use Rattle.hw_app.specs.Certificates.{cert_outcome}
+use Rattle.hw_app.specs.Renewing.{renewed_text}
 use Rattle.hw_app.specs.Run.{RunMeets}
 use Rattle.hw_app.specs.declared.outcome.CertOutcome.TheVariants.{Shows}
 use Rattle.hw_app.specs.declared.status.Status.{Status}
@@ -26,3 +27,7 @@ FaultCauses = (words : List (List ℕ)) (old new : DeskState) (s : Status) → R
 -- the text of valid lines, as a search writes it, is a certificate that shows the lines' verdict, unless it passes a limit
 abbrev pub OwnCertificate : Type 0
 OwnCertificate = (f : Problem) (all : List Line) → IsFlat f → All (LineFits f) all → Valid f all → ((cert_stream (shape_of f) (cert_text Two all)).stop ≡ overlong) ⊎ (cert_outcome f (cert_text Two all) ≡ Shows (verdict f all))
+
+-- the text of valid lines renewed is a certificate that shows the lines' verdict, unless it passes a limit
+abbrev pub RenewedCertificate : Type 0
+RenewedCertificate = (f : Problem) (all : List Line) → IsFlat f → All (LineFits f) all → Valid f all → ((cert_stream (shape_of f) (renewed_text all)).stop ≡ overlong) ⊎ (cert_outcome f (renewed_text all) ≡ Shows (verdict f all))

@@ -13,6 +13,10 @@ pub mod CheckFlat
 pub mod PortInputs
 pub mod SolvePort
 pub mod CheckPort
+pub mod Keeping
+pub mod Renewing
+pub mod RenewFlat
+pub mod RenewPort
 pub mod Flattening
 pub mod Run
 pub mod Laws

@@ -10,9 +10,11 @@ use Rattle.hw_app.specs.SolveFlat.{SolveFlatSays}
 use Rattle.hw_app.specs.SolvePort.{SolvePortSays}
 use Rattle.hw_app.specs.CheckFlat.{CheckFlatSays}
 use Rattle.hw_app.specs.CheckPort.{CheckPortSays}
+use Rattle.hw_app.specs.RenewFlat.{RenewFlatSays}
+use Rattle.hw_app.specs.RenewPort.{RenewPortSays}
 use Rattle.hw_app.specs.Flattening.{FlattenSays}
 use Rattle.hw_app.specs.declared.form.Form.{Form}
-use Rattle.hw_app.specs.declared.form.Form.TheVariants.{SolveFlat, SolvePort, CheckFlat, CheckPort, Flatten}
+use Rattle.hw_app.specs.declared.form.Form.TheVariants.{SolveFlat, SolvePort, CheckFlat, CheckPort, RenewFlat, RenewPort, Flatten}
 use Rattle.hw_app.specs.declared.status.Status.{Status}
 
 -- what a form's answer says, of the words, of the desk before and after the work, and of the report; none is a write fault on Proof
@@ -21,6 +23,8 @@ says_of SolveFlat words old new r = SolveFlatSays (word_at words 2) (number_in 1
 says_of SolvePort words old new r = SolvePortSays (word_at words 2) (word_at words 3) (number_in 1 100_000 (word_at words 4)) (word_at words 5) old new r
 says_of CheckFlat words old new r = CheckFlatSays (word_at words 2) (word_at words 3) old r
 says_of CheckPort words old new r = CheckPortSays (word_at words 2) (word_at words 3) (word_at words 4) old r
+says_of RenewFlat words old new r = RenewFlatSays (word_at words 2) (word_at words 3) (word_at words 4) old new r
+says_of RenewPort words old new r = RenewPortSays (word_at words 2) (word_at words 3) (word_at words 4) (word_at words 5) old new r
 says_of Flatten words old new r = FlattenSays (word_at words 1) (word_at words 2) old r
 
 -- the same, but for the reports whose causes are common to all forms

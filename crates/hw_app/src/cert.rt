@@ -8,24 +8,56 @@ ghost use Rattle.hw_desk.specs.Calls.{Moves};
 ghost use Rattle.hw_report.specs.Printing.{CanPrint};
 ghost use Rattle.hw_report.specs.Seen.{names_seen, report_seen};
 ghost use Rattle.hw_app.specs.Certificates.{report_of_check};
-ghost use Rattle.hw_app.specs.Checking.{ChecksCert, FindsOrStops, GoesFurther, IsReady, Steps, rest_outcome, of_line_stop, of_check_stop};
+ghost use Rattle.hw_app.specs.Checking.{ChecksCert, FindsOrStops, GoesFurther, IsReady, OpensCert, Steps, rest_outcome, of_line_stop, of_check_stop};
+ghost use Rattle.hw_app.specs.Keeping.{StepReads};
 
 use crate::outcome::{CertOutcome, CertStop};
-use hw_cert::{LineReader, LineStop, Next};
+use hw_cert::{Line, LineReader, LineStop, Next};
 use hw_check::{CheckStop, Checker};
 use hw_desk::{Desk, Feed};
 use hw_flat::Flat;
 use hw_report::{Names, RefusedWord, Report};
 use std::alloc::Global;
 
-/// Where a check stands behind one line more.
+/// A certificate of which no line was taken yet.
+#[derive(Drop)]
+pub struct OpenCert<'f> {
+    pub reader: LineReader,
+    pub checker: Checker<'f>,
+}
+
+/// Where a check stands behind one line more, which is handed back.
 #[derive(Drop)]
 pub enum CertStep<'f> {
     Further {
         reader: LineReader,
         checker: Checker<'f>,
+        line: Line,
     },
     Ended(Result<CertOutcome, CertStop>),
+}
+
+/// Begins the certificate under its name.
+pub fn open_cert<'f, D: Desk>(
+    alloc: Global,
+    desk: &mut D,
+    flat: &'f Flat,
+    name: &str,
+) -> Result<OpenCert<'f>, CertStop>
+    requires { ((D.state desk.old).feeds Feed.Certificate).begun ≡ false }
+    ensures { OpensCert flat.now name.now (D.state desk.old) (D.state desk.new) result }
+{
+    let shape = flat.shape();
+    if desk.begin(Feed::Certificate, name).is_err() {
+        return Err(CertStop::Fault);
+    }
+    let Ok(reader) = LineReader::new(alloc, shape, Feed::Certificate) else {
+        return Err(CertStop::NoMemory);
+    };
+    let Ok(checker) = Checker::new(alloc, flat) else {
+        return Err(CertStop::NoMemory);
+    };
+    Ok(OpenCert { reader, checker })
 }
 
 /// Begins the certificate under its name, and checks its lines one by one up to its end or up to the
@@ -39,17 +71,10 @@ pub fn check_cert<D: Desk>(
     requires { ((D.state desk.old).feeds Feed.Certificate).begun ≡ false }
     ensures checks { ChecksCert flat.now name.now (D.state desk.old) (D.state desk.new) result }
 {
-    let shape = flat.shape();
-    if desk.begin(Feed::Certificate, name).is_err() {
-        return Err(CertStop::Fault);
+    match open_cert(alloc, desk, flat, name) {
+        Ok(OpenCert { reader, checker }) => check_lines(desk, reader, checker),
+        Err(stop) => Err(stop),
     }
-    let Ok(reader) = LineReader::new(alloc, shape, Feed::Certificate) else {
-        return Err(CertStop::NoMemory);
-    };
-    let Ok(checker) = Checker::new(alloc, flat) else {
-        return Err(CertStop::NoMemory);
-    };
-    check_lines(desk, reader, checker)
 }
 
 /// Takes the lines that are left, each at least one byte of at most 2^40.
@@ -68,7 +93,9 @@ fn check_lines<D: Desk>(
             CertStep::Further {
                 reader: behind,
                 checker: followed,
+                line,
             } => {
+                std::mem::drop(line);
                 reader = behind;
                 checker = followed;
             }
@@ -78,17 +105,26 @@ fn check_lines<D: Desk>(
 }
 
 /// Takes one line more.
-fn check_line<'f, D: Desk>(desk: &mut D, reader: LineReader, checker: Checker<'f>) -> CertStep<'f>
+pub fn check_line<'f, D: Desk>(
+    desk: &mut D,
+    reader: LineReader,
+    checker: Checker<'f>,
+) -> CertStep<'f>
     requires ready { IsReady reader checker (D.state desk.old) }
     ensures moved { (bytes : List ℕ) × Moves Feed.Certificate bytes (D.state desk.old) (D.state desk.new) }
     ensures further { GoesFurther reader (D.state desk.new) result }
+    ensures reads { (before : List CertLine) → StepReads checker.entry.problem before reader (D.state desk.old) (D.state desk.new) result }
     ensures steps { (before : List CertLine) → Follows checker.entry before → Steps checker.entry.problem before reader (D.state desk.old) (D.state desk.new) result }
 {
     match reader.next(desk) {
         Ok(Next::Line { reader, line }) => {
             let number = reader.number() - 1;
-            match checker.line(line) {
-                Ok(checker) => CertStep::Further { reader, checker },
+            match checker.borrowed_line(&line) {
+                Ok(checker) => CertStep::Further {
+                    reader,
+                    checker,
+                    line,
+                },
                 Err(stop) => CertStep::Ended(refused_line(number, stop)),
             }
         }

@@ -16,6 +16,10 @@ pub enum Form {
     CheckFlat,
     /// `check port INSTANCE TIDES CERT` checks a certificate of a port.
     CheckPort,
+    /// `renew flat NAME CERT PROOF` checks a certificate of a flat text and writes it anew, with deletions.
+    RenewFlat,
+    /// `renew port INSTANCE TIDES CERT PROOF` checks a certificate of a port and writes it anew, with deletions.
+    RenewPort,
     /// `flatten INSTANCE TIDES` writes the flat text of a port.
     Flatten,
 }
@@ -25,6 +29,7 @@ pub enum Form {
 pub enum Keyword {
     Solve,
     Check,
+    Renew,
     Flat,
     Port,
     Flatten,
@@ -43,11 +48,13 @@ pub enum Wanted {
 }
 
 /// The forms that there are.
-pub const FORMS: [Form; 5] = [
+pub const FORMS: [Form; 7] = [
     Form::SolveFlat,
     Form::SolvePort,
     Form::CheckFlat,
     Form::CheckPort,
+    Form::RenewFlat,
+    Form::RenewPort,
     Form::Flatten,
 ];
 
@@ -93,6 +100,21 @@ pub fn words_of(form: Form) -> &'static [Wanted]
             Wanted::Input(Feed::Tides),
             Wanted::Input(Feed::Certificate),
         ],
+        Form::RenewFlat => &[
+            Wanted::Keyword(Keyword::Renew),
+            Wanted::Keyword(Keyword::Flat),
+            Wanted::Input(Feed::Flat),
+            Wanted::Input(Feed::Certificate),
+            Wanted::Proof,
+        ],
+        Form::RenewPort => &[
+            Wanted::Keyword(Keyword::Renew),
+            Wanted::Keyword(Keyword::Port),
+            Wanted::Input(Feed::Instance),
+            Wanted::Input(Feed::Tides),
+            Wanted::Input(Feed::Certificate),
+            Wanted::Proof,
+        ],
         Form::Flatten => &[
             Wanted::Keyword(Keyword::Flatten),
             Wanted::Input(Feed::Instance),
@@ -108,6 +130,7 @@ pub fn keyword_text(keyword: Keyword) -> &'static str
     match keyword {
         Keyword::Solve => "solve",
         Keyword::Check => "check",
+        Keyword::Renew => "renew",
         Keyword::Flat => "flat",
         Keyword::Port => "port",
         Keyword::Flatten => "flatten",

@@ -1,6 +1,6 @@
 //! The laws of a run: functions without a body whose clause is the statement.
 
-ghost use Rattle.hw_app.specs.Laws.{FaultCauses, OwnCertificate};
+ghost use Rattle.hw_app.specs.Laws.{FaultCauses, OwnCertificate, RenewedCertificate};
 
 /// A fault comes only where the count of its kind rose.
 pub fn fault_causes()
@@ -10,4 +10,9 @@ pub fn fault_causes()
 /// A certificate that a search wrote shows what the search found.
 pub fn own_certificate()
     ensures { OwnCertificate }
+{}
+
+/// A certificate that was renewed shows what it showed before.
+pub fn renewed_certificate()
+    ensures { RenewedCertificate }
 {}

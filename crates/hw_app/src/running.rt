@@ -9,6 +9,8 @@ use crate::check_flat::check_flat;
 use crate::check_port::check_port;
 use crate::flatten::flatten_port;
 use crate::form::Form;
+use crate::renew_flat::renew_flat;
+use crate::renew_port::renew_port;
 use crate::solve_flat::solve_flat;
 use crate::solve_port::solve_port;
 use crate::status::{Status, status_of};
@@ -30,6 +32,8 @@ pub fn run<D: Desk>(alloc: Global, words: &[String], desk: &mut D) -> Status
         Ok(Form::SolvePort) => solve_port(alloc, desk, words),
         Ok(Form::CheckFlat) => check_flat(alloc, desk, words),
         Ok(Form::CheckPort) => check_port(alloc, desk, words),
+        Ok(Form::RenewFlat) => renew_flat(alloc, desk, words),
+        Ok(Form::RenewPort) => renew_port(alloc, desk, words),
         Ok(Form::Flatten) => flatten_port(alloc, desk, words),
     }
 }

@@ -11,12 +11,12 @@ lines-preserved g c =
     let past = c.lines.invariant in
     let all = past.reached.0 in
     let step = c.in-Further.ensures.steps all past.reached.1.follows in
-    let line = step.1 in
+    let line = c.in-Further.line in
     record {
       moved = (past.moved.0 ++ c.check_line.ensures.moved.0, moves_on past.moved.1 c.check_line.ensures.moved.1 (past.moved.0 ++ c.check_line.ensures.moved.0) refl);
       kept = step.0 ∙ past.kept;
       ready = c.in-Further.ensures.further.0;
-      reached = (all ++ line ∷ [], reached_on past.reached.1 (subst (λ (f : Problem). Reached f (rest_of c.lines.reader (g.D.Desk.state c.lines.desk)) (rest_outcome f all c.lines.reader.at) (all ++ line ∷ []) c.in-Further.behind c.in-Further.followed (g.D.Desk.state c.check_line.new.desk)) past.reached.1.problem step.2));
+      reached = (all ++ line ∷ [], reached_on past.reached.1 (subst (λ (f : Problem). Reached f (rest_of c.lines.reader (g.D.Desk.state c.lines.desk)) (rest_outcome f all c.lines.reader.at) (all ++ line ∷ []) c.in-Further.behind c.in-Further.followed (g.D.Desk.state c.check_line.new.desk)) past.reached.1.problem step.1));
     }
 
 pub returns-in-Ended-clause-moved : goal.returns-in-Ended-clause-moved
