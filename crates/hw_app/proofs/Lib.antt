@@ -17,3 +17,4 @@ mod FlatRenewed
 mod PortRenewed
 mod Faults
 mod Owned
+mod OnePort

@@ -1,5 +1,5 @@
 -- The laws of a run.
-use Rattle.std.specs.Prelude.{◌≡◌, ◌⊎◌, ℕ, List, All}
+use Rattle.std.specs.Prelude.{◌≡◌, ◌⊎◌, ℕ, List, Some, All}
 use Rattle.hw_model.specs.Limits.{IsFlat}
 use Rattle.hw_model.specs.Problem.{Problem, shape_of}
 use Rattle.hw_desk.specs.State.{DeskState, Rose}
@@ -8,7 +8,10 @@ use Rattle.hw_lines.specs.Valid.{LineFits, Valid, verdict}
 use Rattle.hw_cert.specs.declared.version.Version.TheVariants.{Two}
 use Rattle.hw_cert.specs.Stream.{overlong, cert_stream}
 use Rattle.hw_cert.specs.Texts.{cert_text}
+use Rattle.hw_report.specs.Reports.{Report}
 use Rattle.hw_app.specs.Certificates.{cert_outcome}
+use Rattle.hw_app.specs.CheckPort.{ChecksPortTexts}
+use Rattle.hw_app.specs.Flattening.{FlattensTexts}
 use Rattle.hw_app.specs.Renewing.{renewed_text}
 use Rattle.hw_app.specs.Run.{RunMeets}
 use Rattle.hw_app.specs.declared.outcome.CertOutcome.TheVariants.{Shows}
@@ -31,3 +34,12 @@ OwnCertificate = (f : Problem) (all : List Line) → IsFlat f → All (LineFits 
 -- the text of valid lines renewed is a certificate that shows the lines' verdict, unless it passes a limit
 abbrev pub RenewedCertificate : Type 0
 RenewedCertificate = (f : Problem) (all : List Line) → IsFlat f → All (LineFits f) all → Valid f all → ((cert_stream (shape_of f) (renewed_text all)).stop ≡ overlong) ⊎ (cert_outcome f (renewed_text all) ≡ Shows (verdict f all))
+
+-- no two reports are said
+abbrev pub OneReport : (Report → Type 0) → Type 0
+OneReport Says = (r s : Report) → Says r → Says s → r ≡ s
+
+-- the files' bytes decide what is reported of a port's certificate, and of a port's flat text
+pub record OnePortReport : Type 0 where
+  pub check : (instance table cert : List ℕ) → OneReport (λ r. ChecksPortTexts (Some instance) (Some table) (Some cert) (Some r))
+  pub flatten : (instance table : List ℕ) → OneReport (λ r. FlattensTexts (Some instance) (Some table) (Some r))

@@ -1,6 +1,6 @@
 //! The laws of a run: functions without a body whose clause is the statement.
 
-ghost use Rattle.hw_app.specs.Laws.{FaultCauses, OwnCertificate, RenewedCertificate};
+ghost use Rattle.hw_app.specs.Laws.{FaultCauses, OnePortReport, OwnCertificate, RenewedCertificate};
 
 /// A fault comes only where the count of its kind rose.
 pub fn fault_causes()
@@ -15,4 +15,9 @@ pub fn own_certificate()
 /// A certificate that was renewed shows what it showed before.
 pub fn renewed_certificate()
     ensures { RenewedCertificate }
+{}
+
+/// The bytes of a port's files decide the report of `check port`, and that of `flatten`.
+pub fn one_port_report()
+    ensures { OnePortReport }
 {}

@@ -1,0 +1,150 @@
+-- The report of a port's files is one function of their bytes.
+use Rattle.std.proofs.Common.{◌≡◌, ◌∙◌, ℕ, List, Option, Some, Result, Ok, Err, refl, sym, ap, subst}
+use Rattle.std.specs.Prelude.{◌≢◌}
+use Rattle.hw_desk.specs.declared.desk.Feed.TheVariants.{Certificate}
+use Rattle.hw_port.specs.declared.fault.PortFault.{PortFault}
+use Rattle.hw_port.specs.Whole.{Parts}
+use Rattle.hw_read.specs.Instance.{instance_of, Reads as ReadsPort}
+use Rattle.hw_read.specs.declared.fault.ReadFault.{ReadFault}
+use Rattle.hw_read.specs.declared.fault.ReadFault.TheVariants as read
+use Rattle.hw_tide.specs.Levels.{TideParts}
+use Rattle.hw_tide.specs.Whole.{HasRecords, Reads as ReadsHeights, tide_by_header, waypoint_names}
+use Rattle.hw_tide.specs.declared.fault.TideFault.{TideFault}
+use Rattle.hw_tide.specs.declared.fault.TideFault.TheVariants as tide
+use Rattle.hw_tide.proofs.OneList.{one_list_law}
+use Rattle.hw_flat.specs.TextWritten.{problem_text}
+use Rattle.hw_port_rules.specs.Flattened.{flattened}
+use Rattle.hw_report.specs.Reports.{Report, by_name, checked, refused, too_long, bad_json, bad_field, bad_tides, flattened_text}
+use Rattle.hw_app.specs.Certificates.{cert_outcome, report_of}
+use Rattle.hw_app.specs.CheckPort.{ChecksPortTexts}
+use Rattle.hw_app.specs.Flattening.{FlattensTexts}
+use Rattle.hw_app.specs.Laws.{OnePortReport}
+use Rattle.hw_app.specs.PortInputs.{IsPortOf, IsBadTable}
+
+-- what a value is read as
+abbrev as_read : Result Parts PortFault → Result Parts ReadFault
+as_read (Ok p) = Ok p
+as_read (Err fault) = Err (read.Field fault)
+
+-- one value gives one thing
+one_value : {A : Type 0} {given : Option A} {a b : A} {x y : Result Parts PortFault} (f : A → Result Parts PortFault) → given ≡ Some a → given ≡ Some b → f a ≡ x → f b ≡ y → as_read x ≡ as_read y
+one_value {a = a} {b = b} f is also h g =
+    let same : a ≡ b = cc in
+    ap as_read (sym h ∙ ap f same ∙ g)
+
+-- an instance's bytes are read as one thing
+one_instance : (bytes : List ℕ) (what other : Result Parts ReadFault) → what ≢ Err read.NoMemory → other ≢ Err read.NoMemory → ReadsPort bytes what → ReadsPort bytes other → what ≡ other
+one_instance bytes (Ok p) (Ok q) told too h g = one_value instance_of h.1.1 g.1.1 h.2 g.2
+one_instance bytes (Ok p) (Err (read.Field fault)) told too h g = one_value instance_of h.1.1 g.1.1 h.2 g.2
+one_instance bytes (Ok p) (Err read.NotJson) told too h g = absurd (g h.0 h.1)
+one_instance bytes (Err (read.Field fault)) (Ok p) told too h g = one_value instance_of h.1.1 g.1.1 h.2 g.2
+one_instance bytes (Err (read.Field fault)) (Err (read.Field other)) told too h g = one_value instance_of h.1.1 g.1.1 h.2 g.2
+one_instance bytes (Err (read.Field fault)) (Err read.NotJson) told too h g = absurd (g h.0 h.1)
+one_instance bytes (Err read.NotJson) (Ok p) told too h g = absurd (h g.0 g.1)
+one_instance bytes (Err read.NotJson) (Err (read.Field fault)) told too h g = absurd (h g.0 g.1)
+one_instance bytes (Err read.NotJson) (Err read.NotJson) told too h g = refl
+one_instance bytes (Err read.NoMemory) other told too h g = absurd (told refl)
+one_instance bytes what (Err read.NoMemory) told too h g = absurd (too refl)
+
+-- the records that a table is read from
+record FromRecords (bytes : List ℕ) (by : List (List (List ℕ)) → Result TideParts TideFault) (what : Result TideParts TideFault) : Type 0 where
+  records : List (List (List ℕ))
+  has : HasRecords bytes records
+  gives : by records ≡ what
+
+from_records : (bytes : List ℕ) (by : List (List (List ℕ)) → Result TideParts TideFault) (what : Result TideParts TideFault) → what ≢ Err tide.NoMemory → ReadsHeights bytes by what → FromRecords bytes by what
+from_records bytes by (Ok h) told g = record { records = g.0; has = g.1; gives = g.2 }
+from_records bytes by (Err (tide.Header column)) told g = record { records = g.0; has = g.1; gives = g.2 }
+from_records bytes by (Err (tide.Length row)) told g = record { records = g.0; has = g.1; gives = g.2 }
+from_records bytes by (Err (tide.Field row column)) told g = record { records = g.0; has = g.1; gives = g.2 }
+from_records bytes by (Err tide.Few) told g = record { records = g.0; has = g.1; gives = g.2 }
+from_records bytes by (Err tide.NoMemory) told g = absurd (told refl)
+
+-- a table's bytes are read as one thing
+one_table : (bytes : List ℕ) (by : List (List (List ℕ)) → Result TideParts TideFault) (what other : Result TideParts TideFault) → what ≢ Err tide.NoMemory → other ≢ Err tide.NoMemory → ReadsHeights bytes by what → ReadsHeights bytes by other → what ≡ other
+one_table bytes by what other told too h g =
+    let a = from_records bytes by what told h in
+    let b = from_records bytes by other too g in
+    sym a.gives ∙ ap by (one_list_law bytes a.records b.records a.has b.has) ∙ b.gives
+
+-- the report of a table, by what it is read as
+abbrev of_table : (TideParts → Report) → Result TideParts TideFault → Report
+of_table last (Ok h) = last h
+of_table last (Err fault) = bad_tides fault
+
+record OfTable (table : List ℕ) (last : TideParts → Report) (p : Parts) (r : Report) : Type 0 where
+  what : Result TideParts TideFault
+  told : what ≢ Err tide.NoMemory
+  reads : ReadsHeights table (tide_by_header (waypoint_names p)) what
+  gives : r ≡ of_table last what
+
+-- the report of an instance, by what it is read as
+abbrev Follows : List ℕ → (Parts → TideParts → Report) → Result Parts ReadFault → Report → Type 0
+Follows table last (Ok p) r = OfTable table (last p) p r
+Follows table last (Err read.NotJson) r = r ≡ bad_json
+Follows table last (Err (read.Field fault)) r = r ≡ bad_field fault
+Follows table last (Err read.NoMemory) r = ⊥
+
+-- a report is the last one of a port with its tide, or tells the first fault of their files
+record OfFiles (instance table : List ℕ) (last : Parts → TideParts → Report) (r : Report) : Type 0 where
+  what : Result Parts ReadFault
+  told : what ≢ Err read.NoMemory
+  reads : ReadsPort instance what
+  follows : Follows table last what r
+
+one_follows : (table : List ℕ) (last : Parts → TideParts → Report) (what : Result Parts ReadFault) (r s : Report) → Follows table last what r → Follows table last what s → r ≡ s
+one_follows table last (Ok p) r s h g = h.gives ∙ ap (of_table (last p)) (one_table table (tide_by_header (waypoint_names p)) h.what g.what h.told g.told h.reads g.reads) ∙ sym g.gives
+one_follows table last (Err read.NotJson) r s h g = h ∙ sym g
+one_follows table last (Err (read.Field fault)) r s h g = h ∙ sym g
+one_follows table last (Err read.NoMemory) r s h g = absurd h
+
+one_report : (instance table : List ℕ) (last : Parts → TideParts → Report) (r s : Report) → OfFiles instance table last r → OfFiles instance table last s → r ≡ s
+one_report instance table last r s h g =
+    let same = one_instance instance g.what h.what g.told h.told g.reads h.reads in
+    one_follows table last h.what r s h.follows (subst (λ (what : Result Parts ReadFault). Follows table last what s) same g.follows)
+
+of_port : {instance table : List ℕ} {p : Parts} {h : TideParts} (last : Parts → TideParts → Report) (r : Report) → IsPortOf (Some instance) (Some table) p h → r ≡ last p h → OfFiles instance table last r
+of_port {p = p} {h = h} last r port e = record {
+  what = Ok p;
+  told = λ no. absurd (cc);
+  reads = port.instance_reads.1;
+  follows = record { what = Ok h; told = λ no. absurd (cc); reads = port.table_reads.1; gives = e };
+}
+
+of_bad_table : {instance table : List ℕ} (last : Parts → TideParts → Report) (fault : TideFault) → IsBadTable (Some instance) (Some table) fault → OfFiles instance table last (bad_tides fault)
+of_bad_table last fault bad = record {
+  what = Ok bad.port;
+  told = λ no. absurd (cc);
+  reads = bad.instance_reads.1;
+  follows = record { what = Err fault; told = λ no. bad.is_fault (cc); reads = bad.table_reads.1; gives = refl };
+}
+
+-- the report of a certificate of a port with its tide
+abbrev of_cert : List ℕ → Parts → TideParts → Report
+of_cert bytes p h = report_of (by_name p h) (cert_outcome (flattened p h) bytes)
+
+check_files : (instance table bytes : List ℕ) (r : Report) → ChecksPortTexts (Some instance) (Some table) (Some bytes) (Some r) → OfFiles instance table (of_cert bytes) r
+check_files instance table bytes (checked v (by_name p h)) says = of_port (of_cert bytes) _ says.reads (ap (report_of (by_name p h)) says.outcome)
+check_files instance table bytes (refused number word hint) says = of_port (of_cert bytes) _ says.checks.reads (ap (report_of (by_name says.port says.tide)) says.checks.outcome)
+check_files instance table bytes (too_long Certificate) says = of_port (of_cert bytes) _ says.checks.reads (ap (report_of (by_name says.port says.tide)) says.checks.outcome)
+check_files instance table bytes bad_json says = record { what = Err read.NotJson; told = λ no. absurd (cc); reads = says.1; follows = refl }
+check_files instance table bytes (bad_field fault) says = record { what = Err (read.Field fault); told = λ no. absurd (cc); reads = says.1; follows = refl }
+check_files instance table bytes (bad_tides fault) says = of_bad_table (of_cert bytes) fault says
+check_files instance table bytes r says = absurd says
+
+-- the report of a port with its tide by their flat text
+abbrev of_text : Parts → TideParts → Report
+of_text p h = flattened_text (problem_text (flattened p h))
+
+flatten_files : (instance table : List ℕ) (r : Report) → FlattensTexts (Some instance) (Some table) (Some r) → OfFiles instance table of_text r
+flatten_files instance table (flattened_text text) says = of_port of_text _ says.reads (ap flattened_text says.flat.written)
+flatten_files instance table bad_json says = record { what = Err read.NotJson; told = λ no. absurd (cc); reads = says.1; follows = refl }
+flatten_files instance table (bad_field fault) says = record { what = Err (read.Field fault); told = λ no. absurd (cc); reads = says.1; follows = refl }
+flatten_files instance table (bad_tides fault) says = of_bad_table of_text fault says
+flatten_files instance table r says = absurd says
+
+pub one_port_report : OnePortReport
+one_port_report = record {
+  check = λ instance table bytes r s h g. one_report instance table (of_cert bytes) r s (check_files instance table bytes r h) (check_files instance table bytes s g);
+  flatten = λ instance table r s h g. one_report instance table of_text r s (flatten_files instance table r h) (flatten_files instance table s g);
+}
