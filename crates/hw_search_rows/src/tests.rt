@@ -1,6 +1,6 @@
 use crate::turns::{begin, take_turns};
 use hw_cert::{Line, MemoryLog};
-use hw_flat::{Flat, Order, Room, Slot};
+use hw_flat::{Flat, Order, Room, Slot, make_demo};
 use hw_model::Lit;
 use hw_progress::{Branching, Settled};
 use hw_search::{luby, solve};
@@ -168,16 +168,15 @@ fn decides(rt: HostRuntime) -> Result<(), Fail> {
 const SAME: [(&[u8], u32); 4] = [(APART, 109), (TUGS, 1324), (CROWDED, 2), (APART, 1)];
 
 // Whether a solution and the turns of a search hand the same lines, and some, to their logs.
-fn same_lines(alloc: Global, text: &[u8], budget: u32) -> Result<bool, Fail> {
+fn same_lines(alloc: Global, flat: &Flat, budget: u32) -> Result<bool, Fail> {
     let budget = budget.clamp(1, 100_000);
-    let flat = Flat::read(alloc, text)?;
     let mut solved = MemoryLog::new(alloc);
-    solve(alloc, &flat, budget, &mut solved);
-    let store = WatchStore::new(alloc, &flat)?;
-    let mut search = begin(alloc, &flat, store, Branching::Greatest)?;
+    solve(alloc, flat, budget, &mut solved);
+    let store = WatchStore::new(alloc, flat)?;
+    let mut search = begin(alloc, flat, store, Branching::Greatest)?;
     let mut turned = MemoryLog::new(alloc);
     let mut levels = Vec::new(alloc);
-    take_turns(alloc, &flat, budget, &mut search, &mut turned, &mut levels)?;
+    take_turns(alloc, flat, budget, &mut search, &mut turned, &mut levels)?;
     let one = format!(in alloc; "{:?}", solved.lines())?;
     let other = format!(in alloc; "{:?}", turned.lines())?;
     Ok(!turned.lines().is_empty() && one.as_str() == other.as_str())
@@ -186,8 +185,16 @@ fn same_lines(alloc: Global, text: &[u8], budget: u32) -> Result<bool, Fail> {
 #[test]
 fn solve_is_turns(rt: HostRuntime) -> Result<(), Fail> {
     for (text, budget) in SAME {
-        assert!(rt; same_lines(rt.alloc(), text, budget)?, "{budget}");
+        let flat = Flat::read(rt.alloc(), text)?;
+        assert!(rt; same_lines(rt.alloc(), &flat, budget)?, "{budget}");
     }
+    Ok(())
+}
+
+#[test]
+fn solve_is_turns_of_a_demonstration(rt: HostRuntime) -> Result<(), Fail> {
+    let flat = make_demo(rt.alloc(), 11, 8, 96)?;
+    assert!(rt; same_lines(rt.alloc(), &flat, 200)?);
     Ok(())
 }
 
