@@ -18,3 +18,5 @@ mod PortRenewed
 mod Faults
 mod Owned
 mod OnePort
+mod Sendings
+mod Demonstrated

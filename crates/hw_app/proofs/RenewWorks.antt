@@ -6,7 +6,8 @@ use Rattle.hw_desk.specs.declared.desk.Tray.TheVariants.{Proof}
 use Rattle.hw_lines.specs.declared.check.Verdict.{Verdict}
 use Rattle.hw_lines.specs.declared.line.Line.{Line}
 use Rattle.hw_report.specs.Reports.{Naming, checked}
-use Rattle.hw_app.specs.Renewing.{CanRenew, Renews, RenewBreaks, SendsTo, renewed_text}
+use Rattle.hw_app.specs.Renewing.{CanRenew, Renews, RenewBreaks, renewed_text}
+use Rattle.hw_app.specs.Sending.{SendsTo}
 use Rattle.hw_app.specs.Scope.{Named, MakesProof}
 use Rattle.hw_app.specs.Works.{Works, Breaks}
 use Rattle.hw_app.proofs.Begun.{Entered, begun_past}

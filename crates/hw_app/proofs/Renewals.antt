@@ -17,7 +17,8 @@ use Rattle.hw_cert.specs.Stream.{cert_stream}
 use Rattle.hw_cert.specs.Texts.{cert_text}
 use Rattle.hw_app.specs.Certificates.{cert_outcome}
 use Rattle.hw_app.specs.Keeping.{Keeps, KeepsCert}
-use Rattle.hw_app.specs.Renewing.{CanRenew, Rewrites, SendsTo, renewed_text}
+use Rattle.hw_app.specs.Renewing.{CanRenew, Rewrites, renewed_text}
+use Rattle.hw_app.specs.Sending.{SendsTo}
 use Rattle.hw_app.specs.declared.keeping.KeptCert.{KeptCert}
 use Rattle.hw_app.specs.declared.outcome.CertOutcome.{CertOutcome}
 use Rattle.hw_app.specs.declared.outcome.CertOutcome.TheVariants.{Shows}
@@ -33,50 +34,6 @@ can_renew {f = f} {all = all} k =
       shown = record { fit = k.fit; valid = k.valid; verdict = k.comes.0 };
       shown_again = record { fit = again.fit k.fit; valid = again.valid; verdict = k.comes.0 ∙ sym again.same_verdict };
     }
-
-inner : {a b : List ℕ} → Some a ≡ Some b → a ≡ b
-inner e = cc
-
--- what was sent behind nothing
-first_sent : (before now : Option (List ℕ)) (text : List ℕ) → IfSome before (λ bytes. bytes ≡ []) → Tells now (append_known before text) → IfSome now (λ bytes. bytes ≡ text)
-first_sent before None text h e = tt
-first_sent None (Some bytes) text h e = absurd (cc)
-first_sent (Some was) (Some bytes) text h e = sym (inner e) ∙ ap (λ (w : List ℕ). w ++ text) h
-
--- the make failed
-pub not_made : {E F : Type 0} {name text : List ℕ} {x y : DeskState} (made : Result Unit E) (f : F) → is_err made ≡ true → 0 < length text → IfSome (x.trays Proof).sent (λ bytes. bytes ≡ []) → Makes Proof name x y made → SendsTo name text x y (Err f)
-not_made (Ok u) f e some none h = absurd (cc)
-not_made {text = text} {x = x} {y = y} (Err w) f e some none h = record {
-  only = h.only;
-  made = h.made;
-  named = h.named;
-  answer = (h.cause, told_map (y.trays Proof).sent (λ bytes is. record { count = 0; proper = some; part = is }) (subst (λ (sent : Option (List ℕ)). IfSome sent (λ bytes. bytes ≡ [])) (sym h.failed) none));
-}
-
--- the text was sent, or a part of it
-sends_to : {E F : Type 0} {name text : List ℕ} {x y z : DeskState} (u : Unit) (r : Result Unit F) → Makes {E = E} Proof name x y (Ok u) → SendsText Proof text y z r → SendsTo name text x z r
-sends_to {name = name} {text = text} {y = y} {z = z} u (Ok v) h k = record {
-  only = only_tray_on h.only k.only;
-  made = k.ok.made ∙ h.made;
-  named = subst (λ (n : Option (List ℕ)). IfSome n (λ t. t ≡ name)) (sym k.ok.named) h.named;
-  answer = (k.kept ∙ h.kept, first_sent (y.trays Proof).sent (z.trays Proof).sent text h.opened k.ok.sent);
-}
-sends_to {name = name} {text = text} {x = x} {y = y} {z = z} u (Err e) h k = record {
-  only = only_tray_on h.only k.only;
-  made = k.err.2.made ∙ h.made;
-  named = subst (λ (n : Option (List ℕ)). IfSome n (λ t. t ≡ name)) (sym k.err.2.named) h.named;
-  answer = (
-    rose h.kept k.cause,
-    told_map (z.trays Proof).sent (λ bytes is. record { count = k.err.0; proper = k.err.1; part = is }) (first_sent (y.trays Proof).sent (z.trays Proof).sent (take k.err.0 text) h.opened k.err.2.sent),
-  );
-}
-  where
-    rose : y.write_faults ≡ x.write_faults → Rose y.write_faults z.write_faults → Rose x.write_faults z.write_faults
-    rose same r = omega arith
-
-pub sends_made : {E F : Type 0} {name text : List ℕ} {x y z : DeskState} (made : Result Unit E) (r : Result Unit F) → is_err made ≡ false → Makes Proof name x y made → SendsText Proof text y z r → SendsTo name text x z r
-sends_made (Err w) r e h k = absurd (cc)
-sends_made (Ok u) r e h k = sends_to u r h k
 
 -- the lines that were kept went to Proof, or a part of their text
 went : {E : Type 0} {f : Problem} {cert proof : List ℕ} {x y z : DeskState} {r : Result Unit E} (kept : KeptCert) (v : Verdict) (made : List Line) (sent : Result Unit Unit) → KeepsCert f cert x y (Ok kept) → kept.outcome ≡ Shows v → made ≡ renewed kept.lines.items → SendsTo proof (cert_text Two made) y z r → (SendsTo proof (renewed_text kept.lines.items) y z r → SendsTo proof (renewed_text kept.lines.items) y z sent) → Rewrites f cert proof x z v sent

@@ -51,14 +51,14 @@ now_told A (Some was) (Some now) h = h
 
 -- ---- what is on Proof
 
-well : {f : Problem} {budget b n : ℕ} {all : List Line} (answer : Solved) → SolveWrites f budget answer b n all → IsWritten f budget all
+pub well : {f : Problem} {budget b n : ℕ} {all : List Line} (answer : Solved) → SolveWrites f budget answer b n all → IsWritten f budget all
 well answer w = record { fit = w.fit; valid = w.valid; lean = w.lean; new = w.new; few = w.lemmas }
 
 -- the text of whole lines
 whole_text : {told : LogTold} {bytes : List ℕ} → IsTextOf told bytes → told.behind ≡ [] → bytes ≡ cert_text Two told.lines
 whole_text {told = told} t e = t.text ∙ ap (λ (behind : List ℕ). cert_text Two told.lines ++ behind) e ∙ append-nil (cert_text Two told.lines)
 
-verdict_of : (f : Problem) (all : List Line) (b : Bool) → b ≡ ends all → verdict f all ≡ verdict_by b (best_of f all)
+pub verdict_of : (f : Problem) (all : List Line) (b : Bool) → b ≡ ends all → verdict f all ≡ verdict_by b (best_of f all)
 verdict_of f all b e = ap (λ t. verdict_by t (best_of f all)) (sym e)
 
 abbrev Wrote : Problem → ℕ → Solved → ℕ → ℕ → LogTold → Type 0
@@ -71,12 +71,12 @@ certificate answer head table told bytes k text w =
     let says = k w.0 in
     record { lines = told.lines; text = whole_text text w.1; written = well answer w.0; last = says.0; shows = says.1; spent = says.2 }
 
-optimal_says : {f : Problem} {budget b n : ℕ} {all : List Line} (table : List ℕ) (c : ℕ) → SolveWrites f budget (Optimal table c) b n all → (last_table all ≡ Some table) × (verdict f all ≡ head_verdict (heads.Optimal c) (best_of f all)) × IsSpent budget (heads.Optimal c) all
+pub optimal_says : {f : Problem} {budget b n : ℕ} {all : List Line} (table : List ℕ) (c : ℕ) → SolveWrites f budget (Optimal table c) b n all → (last_table all ≡ Some table) × (verdict f all ≡ head_verdict (heads.Optimal c) (best_of f all)) × IsSpent budget (heads.Optimal c) all
 optimal_says {f = f} {all = all} table c w =
     let best : best_of f all ≡ Some c = ap (option_and_then (cargo f)) w.tells.0 ∙ w.tells.1 in
     (w.tells.0, verdict_of f all true w.proved_just ∙ ap (verdict_by true) best, tt)
 
-infeasible_says : {f : Problem} {budget b n : ℕ} {all : List Line} → SolveWrites f budget Infeasible b n all → (last_table all ≡ None) × (verdict f all ≡ head_verdict heads.Infeasible (best_of f all)) × IsSpent budget heads.Infeasible all
+pub infeasible_says : {f : Problem} {budget b n : ℕ} {all : List Line} → SolveWrites f budget Infeasible b n all → (last_table all ≡ None) × (verdict f all ≡ head_verdict heads.Infeasible (best_of f all)) × IsSpent budget heads.Infeasible all
 infeasible_says {f = f} {all = all} w =
     let best : best_of f all ≡ None = ap (option_and_then (cargo f)) w.tells in
     (w.tells, verdict_of f all true w.proved_just ∙ ap (verdict_by true) best, tt)

@@ -4,7 +4,7 @@ use Rattle.std.specs.List.{slice_index_or}
 use Rattle.hw_desk.specs.declared.desk.Feed.TheVariants as feed
 use Rattle.hw_text.specs.Numbers.{number_from_to}
 use Rattle.hw_app.specs.declared.form.Form.{Form}
-use Rattle.hw_app.specs.declared.form.Form.TheVariants.{SolveFlat, SolvePort, CheckFlat, CheckPort, RenewFlat, RenewPort, Flatten}
+use Rattle.hw_app.specs.declared.form.Form.TheVariants.{SolveFlat, SolvePort, CheckFlat, CheckPort, RenewFlat, RenewPort, Flatten, Demo}
 use Rattle.hw_app.specs.declared.form.Keyword.{Keyword as KeywordOf}
 use Rattle.hw_app.specs.declared.form.Keyword.TheVariants as key
 use Rattle.hw_app.specs.declared.form.Wanted.{Wanted}
@@ -17,10 +17,11 @@ keyword_text key.Renew = codes "renew"
 keyword_text key.Flat = codes "flat"
 keyword_text key.Port = codes "port"
 keyword_text key.Flatten = codes "flatten"
+keyword_text key.Demo = codes "demo"
 
 -- the forms that there are
 abbrev pub forms : List Form
-forms = SolveFlat ∷ SolvePort ∷ CheckFlat ∷ CheckPort ∷ RenewFlat ∷ RenewPort ∷ Flatten ∷ []
+forms = SolveFlat ∷ SolvePort ∷ CheckFlat ∷ CheckPort ∷ RenewFlat ∷ RenewPort ∷ Flatten ∷ Demo ∷ []
 
 -- what the words of a form have to be
 abbrev pub words_of : Form → List Wanted
@@ -31,6 +32,7 @@ words_of CheckPort = Keyword key.Check ∷ Keyword key.Port ∷ Input feed.Insta
 words_of RenewFlat = Keyword key.Renew ∷ Keyword key.Flat ∷ Input feed.Flat ∷ Input feed.Certificate ∷ Proof ∷ []
 words_of RenewPort = Keyword key.Renew ∷ Keyword key.Port ∷ Input feed.Instance ∷ Input feed.Tides ∷ Input feed.Certificate ∷ Proof ∷ []
 words_of Flatten = Keyword key.Flatten ∷ Input feed.Instance ∷ Input feed.Tides ∷ []
+words_of Demo = Keyword key.Demo ∷ Number 0 4_294_967_295 ∷ Number 1 40 ∷ Number 1 512 ∷ Number 1 100_000 ∷ Proof ∷ []
 
 -- a keyword is itself, a name any word that isn't empty, and a number one in plain decimal within its limits
 abbrev pub takes : Wanted → List ℕ → Bool

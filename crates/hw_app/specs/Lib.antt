@@ -18,5 +18,7 @@ pub mod Renewing
 pub mod RenewFlat
 pub mod RenewPort
 pub mod Flattening
+pub mod Sending
+pub mod Demo
 pub mod Run
 pub mod Laws

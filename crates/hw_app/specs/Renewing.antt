@@ -1,8 +1,7 @@
 -- A certificate that is checked with its lines kept, and sent to Proof renewed: without its deletions, and each clause deleted right behind the last line that names it.
-use Rattle.std.specs.Prelude.{◌≡◌, ◌<◌, ℕ, List, Option, Some, None, Result, Ok, Err, IfSome, All, true, length, take}
+use Rattle.std.specs.Prelude.{◌≡◌, ℕ, List, Option, Some, None, Result, Ok, Err, IfSome, All}
 use Rattle.hw_model.specs.Problem.{Problem, shape_of}
-use Rattle.hw_desk.specs.Calls.{OnlyTray}
-use Rattle.hw_desk.specs.State.{DeskState, Rose}
+use Rattle.hw_desk.specs.State.{DeskState}
 use Rattle.hw_desk.specs.declared.desk.Feed.TheVariants.{Certificate}
 use Rattle.hw_desk.specs.declared.desk.Tray.TheVariants as tray
 use Rattle.hw_lines.specs.declared.check.Verdict.{Verdict}
@@ -18,6 +17,7 @@ use Rattle.hw_app.specs.Checking.{ChecksCert}
 use Rattle.hw_app.specs.Inputs.{Enters}
 use Rattle.hw_app.specs.Keeping.{whole_lines}
 use Rattle.hw_app.specs.Scope.{MakesProof}
+use Rattle.hw_app.specs.Sending.{IsCutOf, SendsTo}
 use Rattle.hw_app.specs.declared.outcome.CertOutcome.TheVariants.{Shows}
 use Rattle.hw_app.specs.declared.renewing.Renewal.{Renewal}
 use Rattle.hw_app.specs.declared.renewing.Renewal.TheVariants.{Checked, WriteFailed}
@@ -39,12 +39,6 @@ pub record CanRenew (f : Problem) (bytes : Option (List ℕ)) (v : Verdict) (all
 abbrev pub renewed_text : List Line → List ℕ
 renewed_text all = cert_text Two (renewed all)
 
--- the bytes are a proper prefix of a text
-pub record IsCutOf (text bytes : List ℕ) : Type 0 where
-  pub count : ℕ
-  pub proper : count < length text
-  pub part : bytes ≡ take count text
-
 -- Proof was made under its name and holds the text of a certificate's lines renewed, where it is told
 pub record Renews (f : Problem) (bytes : Option (List ℕ)) (v : Verdict) (proof : List ℕ) (old new : DeskState) : Type 0 where
   pub lines : List Line
@@ -60,18 +54,6 @@ pub record RenewBreaks (f : Problem) (bytes : Option (List ℕ)) (new : DeskStat
   pub cut : IfSome (new.trays tray.Proof).sent (IsCutOf (renewed_text lines))
 
 -- ---- the calls
-
--- a text was sent whole and no make and no write failed, or one failed and a proper prefix was sent
-abbrev pub SendAnswer : {E : Type 0} → List ℕ → DeskState → DeskState → Result Unit E → Type 0
-SendAnswer text old new (Ok done) = (new.write_faults ≡ old.write_faults) × IfSome (new.trays tray.Proof).sent (λ bytes. bytes ≡ text)
-SendAnswer text old new (Err failed) = Rose old.write_faults new.write_faults × IfSome (new.trays tray.Proof).sent (IsCutOf text)
-
--- Proof is made under its name, and a text is sent there
-pub record SendsTo {E : Type 0} (name text : List ℕ) (old new : DeskState) (result : Result Unit E) : Type 0 where
-  pub only : OnlyTray tray.Proof old new
-  pub made : (new.trays tray.Proof).made ≡ true
-  pub named : IfSome (new.trays tray.Proof).name (λ n. n ≡ name)
-  pub answer : SendAnswer text old new result
 
 -- the certificate is begun and read to its end, and its lines renewed are sent to Proof
 pub record Rewrites (f : Problem) (cert proof : List ℕ) (old new : DeskState) (v : Verdict) (sent : Result Unit Unit) : Type 0 where

@@ -1,5 +1,7 @@
 -- What a run does, by its words.
 use Rattle.std.specs.Prelude.{◌≡◌, ℕ, List, false, Option, Some, None, Result, Ok, Err}
+use Rattle.hw_model.specs.Problem.{Problem}
+use Rattle.hw_flat.specs.Demonstration.{demonstration}
 use Rattle.hw_desk.specs.State.{DeskState}
 use Rattle.hw_report.specs.Reports.{Report, bad_words}
 use Rattle.hw_app.specs.Ends.{Ends, EndsWith}
@@ -13,9 +15,14 @@ use Rattle.hw_app.specs.CheckPort.{CheckPortSays}
 use Rattle.hw_app.specs.RenewFlat.{RenewFlatSays}
 use Rattle.hw_app.specs.RenewPort.{RenewPortSays}
 use Rattle.hw_app.specs.Flattening.{FlattenSays}
+use Rattle.hw_app.specs.Demo.{DemoSays}
 use Rattle.hw_app.specs.declared.form.Form.{Form}
-use Rattle.hw_app.specs.declared.form.Form.TheVariants.{SolveFlat, SolvePort, CheckFlat, CheckPort, RenewFlat, RenewPort, Flatten}
+use Rattle.hw_app.specs.declared.form.Form.TheVariants.{SolveFlat, SolvePort, CheckFlat, CheckPort, RenewFlat, RenewPort, Flatten, Demo}
 use Rattle.hw_app.specs.declared.status.Status.{Status}
+
+-- the demonstration that is named
+abbrev pub drawn_by : List (List ℕ) → Problem
+drawn_by words = demonstration (number_in 0 4_294_967_295 (word_at words 1)) (number_in 1 40 (word_at words 2)) (number_in 1 512 (word_at words 3))
 
 -- what a form's answer says, of the words, of the desk before and after the work, and of the report; none is a write fault on Proof
 abbrev pub says_of : Form → List (List ℕ) → DeskState → DeskState → Option Report → Type 0
@@ -26,6 +33,7 @@ says_of CheckPort words old new r = CheckPortSays (word_at words 2) (word_at wor
 says_of RenewFlat words old new r = RenewFlatSays (word_at words 2) (word_at words 3) (word_at words 4) old new r
 says_of RenewPort words old new r = RenewPortSays (word_at words 2) (word_at words 3) (word_at words 4) (word_at words 5) old new r
 says_of Flatten words old new r = FlattenSays (word_at words 1) (word_at words 2) old r
+says_of Demo words old new r = DemoSays (drawn_by words) (number_in 1 100_000 (word_at words 4)) (word_at words 5) old new r
 
 -- the same, but for the reports whose causes are common to all forms
 abbrev pub SaysOwn : Form → List (List ℕ) → DeskState → DeskState → Option Report → Type 0

@@ -22,6 +22,8 @@ pub enum Form {
     RenewPort,
     /// `flatten INSTANCE TIDES` writes the flat text of a port.
     Flatten,
+    /// `demo NUMBER SHIPS SLOTS BUDGET PROOF` draws a problem, solves it and checks its certificate.
+    Demo,
 }
 
 /// A word that stands for itself.
@@ -33,6 +35,7 @@ pub enum Keyword {
     Flat,
     Port,
     Flatten,
+    Demo,
 }
 
 /// What a word of a form has to be.
@@ -48,7 +51,7 @@ pub enum Wanted {
 }
 
 /// The forms that there are.
-pub const FORMS: [Form; 7] = [
+pub const FORMS: [Form; 8] = [
     Form::SolveFlat,
     Form::SolvePort,
     Form::CheckFlat,
@@ -56,10 +59,17 @@ pub const FORMS: [Form; 7] = [
     Form::RenewFlat,
     Form::RenewPort,
     Form::Flatten,
+    Form::Demo,
 ];
 
 /// The greatest budget, in lemmas.
 pub const MOST_BUDGET: u32 = 100_000;
+
+/// The most ships of a demonstration.
+pub const MOST_SHIPS: u32 = 40;
+
+/// The most slots of a demonstration.
+pub const MOST_SLOTS: u32 = 512;
 
 /// What the words of a form have to be.
 pub fn words_of(form: Form) -> &'static [Wanted]
@@ -120,6 +130,26 @@ pub fn words_of(form: Form) -> &'static [Wanted]
             Wanted::Input(Feed::Instance),
             Wanted::Input(Feed::Tides),
         ],
+        Form::Demo => &[
+            Wanted::Keyword(Keyword::Demo),
+            Wanted::Number {
+                least: 0,
+                most: u32::MAX,
+            },
+            Wanted::Number {
+                least: 1,
+                most: MOST_SHIPS,
+            },
+            Wanted::Number {
+                least: 1,
+                most: MOST_SLOTS,
+            },
+            Wanted::Number {
+                least: 1,
+                most: MOST_BUDGET,
+            },
+            Wanted::Proof,
+        ],
     }
 }
 
@@ -134,5 +164,6 @@ pub fn keyword_text(keyword: Keyword) -> &'static str
         Keyword::Flat => "flat",
         Keyword::Port => "port",
         Keyword::Flatten => "flatten",
+        Keyword::Demo => "demo",
     }
 }

@@ -3,18 +3,17 @@
 ghost use Rattle.std.specs.Prelude.{◌≡◌, IfSome, Some, false};
 ghost use Rattle.std.specs.Option.{option_map};
 ghost use Rattle.hw_desk.specs.declared.desk.Feed.TheVariants.{Certificate};
-ghost use Rattle.hw_cert.specs.declared.version.Version.TheVariants.{Two};
-ghost use Rattle.hw_cert.specs.Texts.{cert_text};
+ghost use Rattle.hw_desk.specs.declared.desk.Tray.TheVariants.{Proof};
 ghost use Rattle.hw_report.specs.Printing.{CanPrint};
 ghost use Rattle.hw_report.specs.Seen.{names_seen, report_seen};
-ghost use Rattle.hw_app.specs.Renewing.{RenewsTo, SendsTo, report_of_renewal};
+ghost use Rattle.hw_app.specs.Renewing.{RenewsTo, report_of_renewal};
 
 use crate::cert::check_report;
 use crate::keeping::{KeptCert, keep_cert};
 use crate::outcome::{CertOutcome, CertStop};
-use hw_cert::{Line, send_cert};
+use crate::sending::send_lines;
 use hw_check::renewed;
-use hw_desk::{Desk, DeskFailed, Tray};
+use hw_desk::Desk;
 use hw_flat::Flat;
 use hw_report::{Names, Report};
 use std::alloc::Global;
@@ -39,7 +38,7 @@ pub fn renew_to<D: Desk>(
     proof: &str,
 ) -> Renewal
     requires unread { ((D.state desk.old).feeds Certificate).begun ≡ false }
-    requires unmade { ((D.state desk.old).trays Tray.Proof).made ≡ false }
+    requires unmade { ((D.state desk.old).trays Proof).made ≡ false }
     ensures { RenewsTo flat.now cert.now proof.now (D.state desk.old) (D.state desk.new) result }
 {
     let KeptCert { outcome, lines } = match keep_cert(alloc, desk, flat, cert) {
@@ -52,21 +51,10 @@ pub fn renew_to<D: Desk>(
     let Ok(lines) = renewed(alloc, lines) else {
         return Renewal::Checked(Err(CertStop::NoMemory));
     };
-    match send_to(desk, &lines, proof) {
+    match send_lines(desk, &lines, proof) {
         Ok(()) => Renewal::Checked(Ok(CertOutcome::Shows(verdict))),
         Err(_) => Renewal::WriteFailed,
     }
-}
-
-/// Makes Proof under a name, and sends a certificate of these lines there.
-fn send_to<D: Desk>(desk: &mut D, lines: &[Line], name: &str) -> Result<(), DeskFailed>
-    requires { ((D.state desk.old).trays Tray.Proof).made ≡ false }
-    ensures { SendsTo name.now (cert_text Two lines.now) (D.state desk.old) (D.state desk.new) result }
-{
-    if desk.make(Tray::Proof, name).is_err() {
-        return Err(DeskFailed);
-    }
-    send_cert(desk, lines)
 }
 
 /// The report of what comes of a certificate, and none where Proof failed: nothing more is sent then.

@@ -7,6 +7,7 @@ ghost use Rattle.hw_app.specs.Run.{RunMeets};
 
 use crate::check_flat::check_flat;
 use crate::check_port::check_port;
+use crate::demo::demo;
 use crate::flatten::flatten_port;
 use crate::form::Form;
 use crate::renew_flat::renew_flat;
@@ -35,6 +36,7 @@ pub fn run<D: Desk>(alloc: Global, words: &[String], desk: &mut D) -> Status
         Ok(Form::RenewFlat) => renew_flat(alloc, desk, words),
         Ok(Form::RenewPort) => renew_port(alloc, desk, words),
         Ok(Form::Flatten) => flatten_port(alloc, desk, words),
+        Ok(Form::Demo) => demo(alloc, desk, words),
     }
 }
 

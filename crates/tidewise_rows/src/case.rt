@@ -26,7 +26,8 @@ pub struct Case {
     fails: Vec<FailAt>,
     each: Option<DeskCall>,
     calm: bool,
-    brief: bool,
+    /// How many lines of a report are printed at most, where Proof isn't.
+    brief: Option<u32>,
     /// What the last run sent to Proof, under its last word.
     proof: Option<NamedBytes>,
 }
@@ -132,7 +133,7 @@ impl Case {
             fails: Vec::new(alloc),
             each: None,
             calm: false,
-            brief: false,
+            brief: None,
             proof: None,
         }
     }
@@ -266,8 +267,11 @@ impl Case {
     }
 
     fn set_brief(&mut self, text: Option<&str>) -> bool {
-        self.brief = text.is_none();
-        self.brief
+        self.brief = match text {
+            None => Some(u32::MAX),
+            Some(text) => read_small(text.as_bytes(), 1, u32::MAX),
+        };
+        self.brief.is_some()
     }
 
     /// Runs the words over a desk that also holds what the last run sent to Proof.
@@ -320,7 +324,7 @@ impl Case {
         };
         for place in 1..=MOST_PLACES {
             let outcome = self.ran(alloc, words, most, Some(FailAt { call, place }))?;
-            let last = outcome.is_same(&whole, self.brief);
+            let last = outcome.is_same(&whole, self.brief.is_some());
             runs.add(outcome, out)?;
             if last {
                 return Ok(());

@@ -14,6 +14,7 @@
 //!     each CALL         a run for each place, up to the run in which no call of the kind fails
 //!     calm              the desk whose calls never fail
 //!     brief             of a run the report and the status alone are printed
+//!     brief N           the same, and of the report the first N lines alone
 //!     run WORD ..       runs the words, one space between two; `run` alone runs none
 //!     then WORD ..      the same over a desk that also holds what the last run sent to Proof, under
 //!                       that run's last word

@@ -43,17 +43,18 @@ impl Outcome {
         self.proof
     }
 
-    /// Appends the lines that are printed for the run, those of Proof aside where that is wanted.
-    pub fn put(&self, brief: bool, out: &mut Vec<u8>) -> Result<(), AllocError> {
-        put_lines(out, &self.report)?;
+    /// Appends the lines that are printed for the run. Where that is brief, those of Proof are left out,
+    /// and of the report so many are printed at most.
+    pub fn put(&self, brief: Option<u32>, out: &mut Vec<u8>) -> Result<(), AllocError> {
+        put_lines(out, &self.report, brief.unwrap_or(u32::MAX))?;
         out.extend_from_slice(b"status ")?;
         put_number(out, u64::from(self.code))?;
-        if brief {
+        if brief.is_some() {
             return out.push(b'\n').map_err(AllocError::from);
         }
         out.extend_from_slice(b" proof ")?;
         put_number(out, self.proof.len() as u64)?;
         out.push(b'\n')?;
-        put_lines(out, &self.proof)
+        put_lines(out, &self.proof, u32::MAX)
     }
 }

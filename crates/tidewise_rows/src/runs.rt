@@ -9,16 +9,16 @@ use std::alloc::{AllocError, Global};
 #[derive(Drop)]
 pub struct Runs {
     several: bool,
-    brief: bool,
+    brief: Option<u32>,
     count: u64,
     first: u64,
     last: Option<Outcome>,
 }
 
 impl Runs {
-    /// No runs yet. Their numbers are printed where there may be several; what they sent to Proof is not
-    /// where that is brief.
-    pub fn new(several: bool, brief: bool) -> Runs {
+    /// No runs yet. Their numbers are printed where there may be several. Where that is brief, what they
+    /// sent to Proof is not printed, and of each report so many lines at most.
+    pub fn new(several: bool, brief: Option<u32>) -> Runs {
         Runs {
             several,
             brief,
@@ -31,7 +31,7 @@ impl Runs {
     /// Adds a run, and appends the ones before it where they came to something else.
     pub fn add(&mut self, outcome: Outcome, out: &mut Vec<u8>) -> Result<(), AllocError> {
         let same = match &self.last {
-            Some(last) => last.is_same(&outcome, self.brief),
+            Some(last) => last.is_same(&outcome, self.brief.is_some()),
             None => true,
         };
         if !same {

@@ -64,10 +64,15 @@ fn put_shown(out: &mut Vec<u8>, bytes: &[u8]) -> Result<(), AllocError> {
 }
 
 /// Appends a line for each line of the bytes, behind `|`, and one for what has no line end, behind
-/// `+`.
-pub fn put_lines(out: &mut Vec<u8>, bytes: &[u8]) -> Result<(), AllocError> {
+/// `+`, up to so many lines with an end.
+pub fn put_lines(out: &mut Vec<u8>, bytes: &[u8], most: u32) -> Result<(), AllocError> {
     let mut rest = bytes;
+    let mut left = most;
     while let Some((line, after)) = cut_line(rest) {
+        if left == 0 {
+            return Ok(());
+        }
+        left -= 1;
         out.push(b'|')?;
         put_shown(out, line)?;
         out.push(b'\n')?;

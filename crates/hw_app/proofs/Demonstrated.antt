@@ -1,0 +1,236 @@
+-- A demonstration that is solved, checked and sent.
+use Rattle.std.proofs.Common.{◌≡◌, ◌<◌, ◌+◌, ◌∙◌, ◌++◌, ◌∷◌, ◌&&◌, ◌==◌, cond, ℕ, zero, suc, List, [], Bool, true, false, Option, Some, None, Ok, Err, inr, length, drop, get_or, drop-cons, add-one, refl, sym, ap, subst, append_assoc, append-nil, arith}
+use Rattle.std.specs.Prelude.{IfSome, All, unwrap_or}
+use Rattle.hw_model.specs.Problem.{Problem}
+use Rattle.hw_model.specs.Timetables.{Permits}
+use Rattle.hw_desk.specs.State.{DeskState}
+use Rattle.hw_flat.specs.Demonstration.{demonstration}
+use Rattle.hw_lines.specs.declared.check.Verdict.{Verdict}
+use Rattle.hw_lines.specs.declared.line.Line.{Line}
+use Rattle.hw_lines.specs.Kept.{Kept}
+use Rattle.hw_lines.specs.Lemmas.{lemmas_of}
+use Rattle.hw_lines.specs.Lines.{best_of, last_table}
+use Rattle.hw_lines.specs.Refusals.{kept_refusal}
+use Rattle.hw_lines.specs.Valid.{LineFits, ValidAfter, ValidFrom, verdict, verdict_by}
+use Rattle.hw_verdict.proofs.Refused.{from_valid}
+use Rattle.hw_check.specs.Follows.{Follows}
+use Rattle.hw_check.specs.States.{CheckState}
+use Rattle.hw_cert.specs.declared.version.Version.TheVariants.{Two}
+use Rattle.hw_cert.specs.Logs.{memory_log}
+use Rattle.hw_cert.specs.Texts.{cert_text}
+use Rattle.hw_progress.specs.declared.outcome.Solved.{Solved}
+use Rattle.hw_progress.specs.declared.outcome.Solved.TheVariants.{Optimal, Infeasible, Unfinished, NoMemory, LogFailed}
+use Rattle.hw_progress.specs.Solving.{SolveWrites, SolveMeets, SolveFails}
+use Rattle.hw_report.specs.Reports.{demo, no_memory}
+use Rattle.hw_report.specs.declared.report.Head.{Head}
+use Rattle.hw_report.specs.declared.report.Head.TheVariants as heads
+use Rattle.hw_text.specs.Numbers.{number_from_to}
+use Rattle.hw_app.specs.Certified.{HeadMeans, IsSpent, head_verdict}
+use Rattle.hw_app.specs.Demo.{Demonstrates, IsFound, best_in, head_of}
+use Rattle.hw_app.specs.Ends.{Ends}
+use Rattle.hw_app.specs.Forms.{agreed, fits, takes, word_at, number_in}
+use Rattle.hw_app.specs.declared.form.Wanted.{Wanted}
+use Rattle.hw_app.specs.Run.{FormMeets, drawn_by}
+use Rattle.hw_app.specs.Scope.{MakesProof}
+use Rattle.hw_app.specs.Sending.{SendsTo}
+use Rattle.hw_app.specs.declared.form.Form.TheVariants.{Demo}
+use Rattle.hw_app.specs.declared.status.Status.{Status}
+use Rattle.hw_app.specs.declared.status.Status.TheVariants.{WriteFault}
+use Rattle.hw_app.proofs.Begun.{begun_past, entered_none, wants_memory}
+use Rattle.hw_app.proofs.Searched.{well, verdict_of, optimal_says, infeasible_says}
+
+-- ---- what was solved
+
+pub solve_writes : {f : Problem} {budget : ℕ} {answer : Solved} {all : List Line} → SolveMeets f budget (memory_log []) answer (memory_log all) → SolveWrites f budget answer 0 0 all
+solve_writes h = h.writes
+
+-- a log in memory doesn't fail
+pub never_failed : {f : Problem} {budget : ℕ} {answer : Solved} {all : List Line} → SolveMeets f budget (memory_log []) answer (memory_log all) → answer ≡ LogFailed → ⊥
+never_failed {f = f} {all = all} h e =
+    let fails : SolveFails f (memory_log []) (memory_log all) LogFailed = subst (SolveFails f (memory_log []) (memory_log all)) e h.ends in
+    let rose = fails.0 in
+    absurd (omega arith)
+
+best_by : (b : Bool) (best : Option ℕ) → best_in (verdict_by b best) ≡ best
+best_by true None = refl
+best_by true (Some c) = refl
+best_by false best = refl
+
+best_shown : (f : Problem) (all : List Line) (v : Verdict) → v ≡ verdict f all → best_in v ≡ best_of f all
+best_shown f all v is = ap best_in is ∙ best_by _ (best_of f all)
+
+abbrev Says : Problem → ℕ → Head → Option (List ℕ) → List Line → Type 0
+Says f budget head table all = (last_table all ≡ table) × (verdict f all ≡ head_verdict head (best_of f all)) × IsSpent budget head all
+
+found : {f : Problem} {budget b n : ℕ} {all : List Line} (answer : Solved) (head : Head) (table : Option (List ℕ)) (v : Verdict) (count : ℕ)
+    → SolveWrites f budget answer b n all → IsFound head → Says f budget head table all → IfSome table (Permits f) → HeadMeans f budget head table → v ≡ verdict f all → count ≡ length (lemmas_of all)
+    → Demonstrates f budget head (best_in v) v count all
+found {f = f} {budget = budget} {all = all} answer head table v count w is_found says permitted means is counted =
+    let best = best_shown f all v is in
+    record {
+      written = well answer w;
+      permitted = subst (λ (t : Option (List ℕ)). IfSome t (Permits f)) (sym says.0) permitted;
+      found = is_found;
+      means = subst (HeadMeans f budget head) (sym says.0) means;
+      cargo = best;
+      checked = is;
+      tells = says.1 ∙ ap (head_verdict head) (sym best);
+      spent = says.2;
+      counted = counted;
+    }
+
+some_is : {X : Type 0} (x y : X) → Some x ≡ Some y → x ≡ y
+some_is x y e = cc
+
+-- what was found, by the head of it
+demonstrates : {f : Problem} {budget : ℕ} {all : List Line} (answer : Solved) (head : Head) (v : Verdict) (count : ℕ)
+    → SolveMeets f budget (memory_log []) answer (memory_log all) → Some head ≡ head_of budget answer → v ≡ verdict f all → count ≡ length (lemmas_of all)
+    → Demonstrates f budget head (best_in v) v count all
+demonstrates {f = f} {budget = budget} {all = all} (Optimal table c) head v count h e is counted =
+    subst (λ (hd : Head). Demonstrates f budget hd (best_in v) v count all) (sym (some_is head (heads.Optimal c) e))
+    (found (Optimal table c) (heads.Optimal c) (Some table) v count h.writes tt (optimal_says table c h.writes) h.permitted h.means is counted)
+demonstrates {f = f} {budget = budget} {all = all} Infeasible head v count h e is counted =
+    subst (λ (hd : Head). Demonstrates f budget hd (best_in v) v count all) (sym (some_is head heads.Infeasible e))
+    (found Infeasible heads.Infeasible None v count h.writes tt (infeasible_says h.writes) tt (h.means, refl) is counted)
+demonstrates {f = f} {budget = budget} {all = all} (Unfinished table) head v count h e is counted =
+    subst (λ (hd : Head). Demonstrates f budget hd (best_in v) v count all) (sym (some_is head (heads.Unfinished budget) e))
+    (found (Unfinished table) (heads.Unfinished budget) table v count h.writes tt
+    (h.writes.tells.0, verdict_of f all false h.writes.proved_just, (h.writes.tells.1, h.writes.tells.2)) h.permitted (refl, h.means) is counted)
+demonstrates (NoMemory table) head v count h e is counted = absurd (cc)
+demonstrates LogFailed head v count h e is counted = absurd (cc)
+
+-- the same of a problem with another name
+pub demonstrates_of : {f g : Problem} {budget : ℕ} {all : List Line} (answer : Solved) (head : Head) (best : Option ℕ) (v : Verdict) (count : ℕ)
+    → f ≡ g → SolveMeets f budget (memory_log []) answer (memory_log all) → Some head ≡ head_of budget answer → v ≡ verdict f all → best ≡ best_in v → count ≡ length (lemmas_of all)
+    → Demonstrates g budget head best v count all
+demonstrates_of {f = f} {g = g} {budget = budget} {all = all} answer head best v count same h e is of_verdict counted =
+    subst (λ (o : Option ℕ). Demonstrates g budget head o v count all) (sym of_verdict)
+    (subst (λ (p : Problem). Demonstrates p budget head (best_in v) v count all) same (demonstrates answer head v count h e is counted))
+
+-- ---- the check
+
+-- lines that were taken, and valid ones behind them
+pub record Checked (f : Problem) (all : List Line) (left : List Line) (c : CheckState) : Type 0 where
+  pub before : List Line
+  pub follows : Follows c before
+  pub problem : c.problem ≡ f
+  pub valid : ValidFrom f before left
+  pub whole : before ++ left ≡ all
+
+pub next_line : (all : List Line) (i : ℕ) (line : Line) → i < length all → line ≡ get_or all i line → drop i all ≡ line ∷ drop (i + 1) all
+next_line all i line lt is =
+    let cut : drop i all ≡ get_or all i line ∷ drop (i + 1) all = rw add-one (drop-cons all i line lt) in
+    cut ∙ ap (λ (l : Line). l ∷ drop (i + 1) all) (sym is)
+
+pub next_fits : (f : Problem) (all : List Line) (i : ℕ) (line : Line) → All (LineFits f) all → i < length all → line ≡ get_or all i line → LineFits f line
+next_fits f all i line fit lt is = subst (LineFits f) (sym is) (fit i line lt)
+
+-- the next line is valid, so a checker takes it
+pub can_take : {f : Problem} {all left more : List Line} {c : CheckState} {line : Line} → Checked f all left c → left ≡ line ∷ more → LineFits f line → kept_refusal c.problem c.kept line ≡ None
+can_take {f = f} {c = c} {line = line} h cut fits =
+    let valid = subst (ValidFrom f h.before) cut h.valid in
+    let fits_there = subst (λ (g : Problem). LineFits g line) (sym h.problem) fits in
+    let valid_there = subst (λ (g : Problem). ValidAfter g h.before line) (sym h.problem) valid.0 in
+    subst (λ (k : Kept). kept_refusal c.problem k line ≡ None) (sym h.follows.kept) (from_valid c.problem h.before line fits_there valid_there)
+
+pub one_taken : {f : Problem} {all left more : List Line} {c d : CheckState} {line : Line} → (h : Checked f all left c) → left ≡ line ∷ more → d.problem ≡ c.problem → Follows d (h.before ++ line ∷ []) → Checked f all more d
+one_taken {f = f} {all = all} {more = more} {line = line} h cut same follows = record {
+  before = h.before ++ line ∷ [];
+  follows = follows;
+  problem = same ∙ h.problem;
+  valid = (subst (ValidFrom f h.before) cut h.valid).1;
+  whole = append_assoc h.before (line ∷ []) more ∙ (ap (λ (ls : List Line). h.before ++ ls) (sym cut) ∙ h.whole);
+}
+
+-- all lines were taken
+pub all_taken : {f : Problem} {all left : List Line} {c : CheckState} {v : Verdict} → Checked f all left c → left ≡ [] → ((before : List Line) → Follows c before → v ≡ verdict c.problem before) → v ≡ verdict f all
+all_taken {f = f} {all = all} {c = c} h none tells =
+    let same : h.before ≡ all = sym (append-nil h.before) ∙ (ap (λ (ls : List Line). h.before ++ ls) (sym none) ∙ h.whole) in
+    tells h.before h.follows ∙ (ap (λ (g : Problem). verdict g h.before) h.problem ∙ ap (verdict f) same)
+
+-- ---- the form
+
+taken_step : (b : Bool) (n m : ℕ) → cond b (n + 1) 0 ≡ suc m → (b ≡ true) × (n ≡ m)
+taken_step true n m e = (refl, omega arith)
+taken_step false n m e = absurd (omega arith)
+
+agreed_takes : (all : List Wanted) (words : List (List ℕ)) → agreed all words ≡ length all → (k : ℕ) (w : Wanted) → k < length all → takes (get_or all k w) (word_at words k) ≡ true
+agreed_takes [] words e k w lt = absurd (omega arith)
+agreed_takes (wanted ∷ more) [] e k w lt = absurd (omega arith)
+agreed_takes (wanted ∷ more) (word ∷ words) e zero w lt = (taken_step (takes wanted word) (agreed more words) (length more) e).0
+agreed_takes (wanted ∷ more) (word ∷ words) e (suc k) w lt = agreed_takes more words (taken_step (takes wanted word) (agreed more words) (length more) e).1 k w (omega arith)
+
+second_of : (a : Bool) (m n : ℕ) → (a && (m == n)) ≡ true → m ≡ n
+second_of true m n e = grind arith
+second_of false m n e = absurd (cc)
+
+-- each word is what is wanted there
+pub word_taken : (all : List Wanted) (words : List (List ℕ)) → fits all words ≡ true → (k : ℕ) (w : Wanted) → k < length all → takes (get_or all k w) (word_at words k) ≡ true
+word_taken all words e = agreed_takes all words (second_of (length words == length all) (agreed all words) (length all) e)
+
+-- the number that a word is
+pub number_is : (least most : ℕ) (word : List ℕ) {number : ℕ} → number_from_to least most word ≡ Some number → number ≡ number_in least most word
+number_is least most word e = sym (ap (λ (o : Option ℕ). unwrap_or o 0) e)
+
+-- memory was wanting, and nothing was touched
+pub memory_meets : {x end : DeskState} {s : Status} (words : List (List ℕ)) → Ends no_memory x end s → FormMeets Demo words x end s
+memory_meets {x = x} words ends = record {
+  mid = x;
+  report = Some no_memory;
+  works = wants_memory (Some (word_at words 5)) [] [] refl (entered_none x) refl;
+  says = λ e. absurd (cc);
+  ends = ends;
+}
+
+abbrev Drawn : List (List ℕ) → Head → Option ℕ → Verdict → ℕ → List Line → Type 0
+Drawn words head best v count all = Demonstrates (drawn_by words) (number_in 1 100_000 (word_at words 4)) head best v count all
+
+-- the numbers are those of the words
+pub drawn_is : {number ships slots budget : ℕ} {head : Head} {best : Option ℕ} {v : Verdict} {count : ℕ} {all : List Line} (words : List (List ℕ))
+    → number_from_to 0 4_294_967_295 (word_at words 1) ≡ Some number → number_from_to 1 40 (word_at words 2) ≡ Some ships → number_from_to 1 512 (word_at words 3) ≡ Some slots → number_from_to 1 100_000 (word_at words 4) ≡ Some budget
+    → Demonstrates (demonstration number ships slots) budget head best v count all → Drawn words head best v count all
+drawn_is {number = number} {ships = ships} {slots = slots} {budget = budget} {head = head} {best = best} {v = v} {count = count} {all = all} words a b c d h =
+    let first = number_in 0 4_294_967_295 (word_at words 1) in
+    let second = number_in 1 40 (word_at words 2) in
+    let third = number_in 1 512 (word_at words 3) in
+    let one = subst (λ (n : ℕ). Demonstrates (demonstration n ships slots) budget head best v count all) (number_is 0 4_294_967_295 (word_at words 1) a) h in
+    let two = subst (λ (n : ℕ). Demonstrates (demonstration first n slots) budget head best v count all) (number_is 1 40 (word_at words 2) b) one in
+    let three = subst (λ (n : ℕ). Demonstrates (demonstration first second n) budget head best v count all) (number_is 1 512 (word_at words 3) c) two in
+    subst (λ (n : ℕ). Demonstrates (demonstration first second third) n head best v count all) (number_is 1 100_000 (word_at words 4) d) three
+
+-- the certificate was sent
+pub sent_meets : {E : Type 0} {x y end : DeskState} {s : Status} {u : Unit} {head : Head} {best : Option ℕ} {v : Verdict} {count : ℕ} {all : List Line} (words : List (List ℕ)) → Drawn words head best v count all → SendsTo {E = E} (word_at words 5) (cert_text Two all) x y (Ok u) → Ends (demo head best v count) y end s → FormMeets Demo words x end s
+sent_meets {x = x} {y = y} {head = head} {best = best} {v = v} {count = count} {all = all} words d k ends =
+    let made : MakesProof (word_at words 5) x y = record { trays = k.only.trays; made = k.made; named = k.named } in
+    record {
+      mid = y;
+      report = Some (demo head best v count);
+      works = record {
+        done = [];
+        rest = [];
+        parts = refl;
+        begins = begun_past k.only (entered_none x).begins;
+        upto = refl;
+        trays = inr made;
+        read_cause = k.only.read_faults;
+        long_cause = tt;
+        write_faults = k.answer.0;
+      };
+      says = λ own. record { lines = all; demonstrates = d; made = made; holds = k.answer.1 };
+      ends = ends;
+    }
+
+-- a make or a write failed
+pub broken_meets : {E : Type 0} {x y : DeskState} {e : E} {head : Head} {best : Option ℕ} {v : Verdict} {count : ℕ} {all : List Line} (words : List (List ℕ)) → Drawn words head best v count all → SendsTo (word_at words 5) (cert_text Two all) x y (Err e) → FormMeets Demo words x y WriteFault
+broken_meets {x = x} {y = y} {all = all} words d k = record {
+  mid = y;
+  report = None;
+  works = record {
+    begins = begun_past k.only (entered_none x).begins;
+    makes = record { trays = k.only.trays; made = k.made; named = k.named };
+    read_faults = k.only.read_faults;
+    write_cause = k.answer.0;
+  };
+  says = record { lines = all; written = d.written; part = k.answer.1 };
+  ends = (refl, refl);
+}
