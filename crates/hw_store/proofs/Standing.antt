@@ -79,8 +79,8 @@ gone_at stands place side lt =
 pub grown : (place : ℕ) (old new : List (List ℕ)) (stands : List Sides) → Grows place old new → KeepsSides old stands → KeepsSides new stands
 grown place old new stands g k i n e = g.kept n i (k i n e)
 
-pub both_stand : (lists : List (List ℕ)) (place a b from : ℕ) → Contains (get_or lists a []) place → Contains (get_or lists b []) place → StandsAt lists place (record { first = Some a; second = Some b; from = from })
-both_stand lists place a b from x y n e = elim (either (a == n) (b == n) e) [
+pub both_stand : (lists : List (List ℕ)) (place a b : ℕ) → Contains (get_or lists a []) place → Contains (get_or lists b []) place → StandsAt lists place (record { first = Some a; second = Some b })
+both_stand lists place a b x y n e = elim (either (a == n) (b == n) e) [
   | inl q ↦ subst (λ m. Contains (get_or lists m []) place) (eqb-true a n q) x
   | inr q ↦ subst (λ m. Contains (get_or lists m []) place) (eqb-true b n q) y
 ]

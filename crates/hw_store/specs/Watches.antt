@@ -138,10 +138,10 @@ other_side None n = None
 other_side (Some side) n = cond (side == n) None (Some side)
 
 abbrev pub without : Sides → ℕ → Sides
-without sides n = record { first = other_side sides.first n; second = other_side sides.second n; from = sides.from }
+without sides n = record { first = other_side sides.first n; second = other_side sides.second n }
 
 abbrev pub nowhere : Sides
-nowhere = record { first = None; second = None; from = 0 }
+nowhere = record { first = None; second = None }
 
 -- the place is in the lists of these sides
 abbrev pub StandsAt : List (List ℕ) → ℕ → Sides → Type 0

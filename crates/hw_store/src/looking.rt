@@ -36,34 +36,6 @@ pub fn look_at(lits: &[Lit], room: &Room) -> Look
     seen
 }
 
-/// Looks through the literals from a place on first, and through all of them where no two there
-/// aren't False. Any number will do as the place.
-pub fn look_behind(lits: &[Lit], from: u32, room: &Room) -> Look
-    requires fits { All (IsLitOf room.now.ships) lits.now }
-    ensures seen { Looks room.now lits.now result }
-{
-    let at = from as usize;
-    if 0 < at && at < lits.len() {
-        let seen = look_at(&lits[at..], room);
-        if let Look::Two { .. } = seen {
-            return seen;
-        }
-    }
-    look_at(lits, room)
-}
-
-/// The place of a literal, or the number of all where it isn't there.
-pub fn place_of(lits: &[Lit], lit: Lit) -> u32 {
-    let mut place = 0u32;
-    for one in lits {
-        if *one == lit {
-            return place;
-        }
-        place = place.saturating_add(1);
-    }
-    place
-}
-
 // What is seen with one more literal.
 fn more(seen: Look, lit: Lit, truth: LitTruth) -> Look
     ensures value { result ≡ look_more seen lit truth }

@@ -3,7 +3,7 @@ ghost use Rattle.hw_model.specs.Rooms.{RoomModel};
 ghost use Rattle.hw_model.specs.Lits.{IsLitOf};
 ghost use Rattle.hw_store.specs.Watches.{WatchModel, WatchReady, Listed, Grows, SiftsOne, KeepsDue, DropsSome, IsWatchOf, NextIs, IsNew, StandsAt, KeepsSides};
 
-use crate::looking::{Look, look_behind, place_of};
+use crate::looking::{Look, look_at};
 use crate::scan::find;
 use crate::store::{Held, Store, Stored};
 use crate::watching::{Places, Sides, Watch, is_among, resolve, review, side_of};
@@ -74,8 +74,7 @@ impl WatchStore {
         }
         let place = self.due[self.due.len() - 1];
         let one = &self.held[place as usize];
-        let from = self.stands[place as usize].from;
-        match look_behind(one.clause.as_slice(), from, room) {
+        match look_at(one.clause.as_slice(), room) {
             Look::Dead => Ok(Next::Found(Held::Clause { id: one.number })),
             Look::Unit { lit: _lit } => Ok(Next::Found(Held::Clause { id: one.number })),
             Look::Sure { lit } => {
@@ -83,13 +82,11 @@ impl WatchStore {
                 Ok(Next::Went)
             }
             Look::Two { first, second } => {
-                let from = place_of(one.clause.as_slice(), first);
                 list_both(
                     self.ships,
                     first,
                     second,
                     place,
-                    from,
                     &mut self.stands,
                     &mut self.lists,
                 )?;
@@ -125,7 +122,6 @@ impl Store for WatchStore {
         self.stands.push_reserved(Sides {
             first: None,
             second: None,
-            from: 0,
         });
         self.due.push_reserved(place as u32);
         Ok(())
@@ -188,14 +184,12 @@ fn list_at(side: usize, place: u32, sides: Sides, lists: &mut [Places]) -> Resul
     lists[side].take_in(place)
 }
 
-// Takes a clause's place into the lists of both watched literals, and notes the place of the first
-// of them in the clause.
+// Takes a clause's place into the lists of both watched literals.
 fn list_both(
     ships: u32,
     first: Lit,
     second: Lit,
     place: u32,
-    from: u32,
     stands: &mut [Sides],
     lists: &mut [Places],
 ) -> Result<(), NoMemory>
@@ -218,7 +212,6 @@ fn list_both(
     stands[place as usize] = Sides {
         first: Some(one),
         second: Some(two),
-        from,
     };
     Ok(())
 }

@@ -20,13 +20,11 @@ pub enum Watch {
     Two { first: Lit, second: Lit },
 }
 
-/// The sides in whose lists a clause's place is known to stand, and from which of its literals on
-/// the next two to watch are looked for.
+/// The sides in whose lists a clause's place is known to stand.
 #[derive(Clone, Copy, Debug, PartialEq, Eq)]
 pub struct Sides {
     pub first: Option<usize>,
     pub second: Option<usize>,
-    pub from: u32,
 }
 
 /// Places of clauses, seen as their list.
@@ -274,7 +272,6 @@ fn leave(place: u32, side: usize, stands: &mut [Sides])
     stands[place as usize] = Sides {
         first: other_side(sides.first, side),
         second: other_side(sides.second, side),
-        from: sides.from,
     };
 }
 
