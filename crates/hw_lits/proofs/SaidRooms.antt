@@ -1,5 +1,5 @@
 -- The literals that a room says, side by side, deny just the room.
-use Rattle.std.proofs.Common.{◌≡◌, ◌⊎◌, ℕ, ◌+◌, ◌-◌, ◌*◌, ◌<◌, ◌≤◌, min, max, Bool, true, false, not, cond, ◌==◌, ◌&&◌, nat_lt, nat_le, List, [], ◌∷◌, ◌++◌, Option, Some, None, All, length, get_or, replicate, refl, sym, ap, ◌∙◌, subst, arith, inl, inr}
+use Rattle.std.proofs.Common.{◌≡◌, ◌≢◌, ◌⊎◌, ℕ, ◌+◌, ◌-◌, ◌*◌, ◌<◌, ◌≤◌, min, max, Bool, true, false, not, cond, ◌==◌, ◌&&◌, nat_lt, nat_le, List, [], ◌∷◌, ◌++◌, Option, Some, None, All, length, get_or, replicate, refl, sym, ap, ◌∙◌, subst, arith, inl, inr}
 use Rattle.std.proofs.lemmas.Bool.{and_from, or_left, or_right, ltb-true, ltb-false, lt-ltb, le-leb, eqb-true, cases_Bool, cases_eq, cases_lt}
 use Rattle.std.proofs.lemmas.List.{get_or-replicate, get_or_past, length-replicate}
 use Rattle.std.proofs.lemmas.List.Elements.{All-nil, All-push, All-weaker, All-head, All-tail, All-get_or, All-from_get_or}
@@ -10,11 +10,11 @@ use Rattle.hw_model.specs.declared.order.Order.TheVariants.{Unset, First, NotFir
 use Rattle.hw_model.specs.declared.shape.Shape.{Shape}
 use Rattle.hw_model.specs.Lits.{negation, lit_fits, place_of, is_earlier, leaves_some, may_follow, keeps_form, BadLit, first_bad_from, IsClause}
 use Rattle.hw_model.specs.Rooms.{RoomModel, IsRoom, low_of, high_of, order_of, whole_room}
-use Rattle.hw_model.specs.Narrowing.{cut, with_order, denied_from, denied}
+use Rattle.hw_model.specs.Narrowing.{cut, with_range, with_order, denied_from, denied}
 use Rattle.hw_model.proofs.Kept.{whole_no_pair, with_order_no_pair}
 use Rattle.hw_flat.specs.Opened.{shape_in}
 use Rattle.hw_laws.proofs.Bounds.{low_new, high_new, low_other, high_other}
-use Rattle.hw_laws.proofs.Cuts.{full_cut}
+use Rattle.hw_laws.proofs.Cuts.{full_cut, same_ships}
 use Rattle.hw_laws.proofs.Denials.{no_bad, whole_full}
 use Rattle.hw_laws.proofs.Places.{from_earlier, earlier_trans}
 use Rattle.hw_laws.proofs.Ranges.{IsFull, new_order, other_order, cases_pair}
@@ -55,17 +55,11 @@ by_lower (lits.Before w j) v k = refl
 by_lower (lits.First w j) v k = refl
 by_lower (lits.NotFirst w j) v k = refl
 
-by_first : (l : Lit) (v w : ℕ) → leaves_some l (lits.First v w) ≡ true
-by_first (lits.AtOrAfter a b) v w = refl
-by_first (lits.Before a b) v w = refl
-by_first (lits.First a b) v w = refl
-by_first (lits.NotFirst a b) v w = refl
-
-by_not_first : (l : Lit) (v w : ℕ) → leaves_some l (lits.NotFirst v w) ≡ true
-by_not_first (lits.AtOrAfter a b) v w = refl
-by_not_first (lits.Before a b) v w = refl
-by_not_first (lits.First a b) v w = refl
-by_not_first (lits.NotFirst a b) v w = refl
+by_order : (l : Lit) (v w : ℕ) → (leaves_some l (lits.First v w) ≡ true) × (leaves_some l (lits.NotFirst v w) ≡ true)
+by_order (lits.AtOrAfter a b) v w = (refl, refl)
+by_order (lits.Before a b) v w = (refl, refl)
+by_order (lits.First a b) v w = (refl, refl)
+by_order (lits.NotFirst a b) v w = (refl, refl)
 
 -- the room leaves the ship of a lower bound no slot from that bound on
 abbrev AboveRoom : RoomModel → Lit → Type 0
@@ -94,24 +88,35 @@ Passed a b v w = (a < v) ⊎ ((a ≡ v) × (b < w))
 abbrev Open : ℕ → ℕ → ℕ → ℕ → Type 0
 Open a b v w = (v < a) ⊎ ((a ≡ v) × (w ≤ b))
 
--- of the ships before `highs` the highest slots were said, of those before `lows` the lowest, and the orders of the pairs before (v, w);
--- what was said stands before a place of the normal form
-pub record Said (room : RoomModel) (highs lows v w : ℕ) (place : ℕ × ℕ × ℕ) (out : List Lit) : Type 0 where
+-- one end of the ranges: the room's for the ships before `count`, the first one for the others
+pub record Ends (bound : RoomModel → ℕ → ℕ) (first : ℕ) (room left : RoomModel) (count : ℕ) : Type 0 where
+  pub said : (s : ℕ) → s < room.ships → s < count → bound left s ≡ bound room s
+  pub rest : (s : ℕ) → s < room.ships → count ≤ s → bound left s ≡ first
+
+-- the orders: the room's for the pairs before (v, w), none for the others
+pub record Pairs (room left : RoomModel) (v w : ℕ) : Type 0 where
+  pub said : (a b : ℕ) → a < b → b < room.ships → Passed a b v w → order_of left a b ≡ order_of room a b
+  pub rest : (a b : ℕ) → a < b → b < room.ships → Open a b v w → order_of left a b ≡ Unset
+
+-- a clause in normal form whose denied room is this one
+pub record Leaves (room left : RoomModel) (out : List Lit) : Type 0 where
   pub normal : IsClause (shape_in room) out
-  pub before : All (λ l. is_earlier (place_of l) place ≡ true) out
   pub above : All (AboveRoom room) out
-  pub left : RoomModel
   pub denies : denied (shape_in room) out ≡ left
   pub full : IsFull left
   pub ships : left.ships ≡ room.ships
   pub slots : left.slots ≡ room.slots
-  pub high : (s : ℕ) → s < room.ships → s < highs → high_of left s ≡ high_of room s
-  pub high_open : (s : ℕ) → s < room.ships → highs ≤ s → high_of left s ≡ room.slots - 1
-  pub low : (s : ℕ) → s < room.ships → s < lows → low_of left s ≡ low_of room s
-  pub low_open : (s : ℕ) → s < room.ships → lows ≤ s → low_of left s ≡ 0
-  pub order : (a b : ℕ) → a < b → b < room.ships → Passed a b v w → order_of left a b ≡ order_of room a b
-  pub order_open : (a b : ℕ) → a < b → b < room.ships → Open a b v w → order_of left a b ≡ Unset
   pub no_pair : (a b : ℕ) → b ≤ a → a < room.ships → order_of left a b ≡ Unset
+
+-- of the ships before `highs` the highest slots were said, of those before `lows` the lowest, and the orders of the pairs before (v, w);
+-- what was said stands before a place of the normal form
+pub record Said (room : RoomModel) (highs lows v w : ℕ) (place : ℕ × ℕ × ℕ) (out : List Lit) : Type 0 where
+  pub before : All (λ l. is_earlier (place_of l) place ≡ true) out
+  pub left : RoomModel
+  pub leaves : Leaves room left out
+  pub high : Ends high_of (room.slots - 1) room left highs
+  pub low : Ends low_of 0 room left lows
+  pub pairs : Pairs room left v w
 
 whole_bound : (shape : Shape) (ship : ℕ) → ship < shape.ships → (low_of (whole_room shape) ship ≡ 0) × (high_of (whole_room shape) ship ≡ shape.slots - 1)
 whole_bound shape ship lt =
@@ -127,147 +132,121 @@ whole_unset shape v w = elim (cases_lt (v * shape.ships + w) (shape.ships * shap
 
 pub said_nothing : (room : RoomModel) → Said room 0 0 0 0 (0, 0, 0) []
 said_nothing room = record {
-  normal = refl;
   before = All-nil (λ l. is_earlier (place_of l) (0, 0, 0) ≡ true);
-  above = All-nil (AboveRoom room);
   left = whole_room (shape_in room);
-  denies = refl;
-  full = whole_full (shape_in room);
-  ships = refl;
-  slots = refl;
-  high = λ s lt less. absurd (omega (arith, less));
-  high_open = λ s lt le. (whole_bound (shape_in room) s lt).1;
-  low = λ s lt less. absurd (omega (arith, less));
-  low_open = λ s lt le. (whole_bound (shape_in room) s lt).0;
-  order = λ a b ab lt passed. elim passed [ inl less ↦ absurd (omega (arith, less)) | inr p ↦ absurd (omega (arith, p.1)) ];
-  order_open = λ a b ab lt p. whole_unset (shape_in room) a b;
-  no_pair = λ a b le lt. whole_no_pair (shape_in room) a b le lt;
+  leaves = record {
+    normal = refl;
+    above = All-nil (AboveRoom room);
+    denies = refl;
+    full = whole_full (shape_in room);
+    ships = refl;
+    slots = refl;
+    no_pair = λ a b le lt. whole_no_pair (shape_in room) a b le lt;
+  };
+  high = record { said = λ s lt less. absurd (omega (arith, less)); rest = λ s lt le. (whole_bound (shape_in room) s lt).1 };
+  low = record { said = λ s lt less. absurd (omega (arith, less)); rest = λ s lt le. (whole_bound (shape_in room) s lt).0 };
+  pairs = record {
+    said = λ a b ab lt passed. elim passed [ inl less ↦ absurd (omega (arith, less)) | inr p ↦ absurd (omega (arith, p.1)) ];
+    rest = λ a b ab lt p. whole_unset (shape_in room) a b;
+  };
 }
 
 -- what stands before a place stands before a later one
 later : (p q : ℕ × ℕ × ℕ) (out : List Lit) → is_earlier p q ≡ true → All (λ l. is_earlier (place_of l) p ≡ true) out → All (λ l. is_earlier (place_of l) q ≡ true) out
 later p q out lt all = All-weaker (λ l. is_earlier (place_of l) p ≡ true) (λ l. is_earlier (place_of l) q ≡ true) (λ l e. earlier_trans (place_of l) p q e lt) out all
 
+-- a later place of one ship or of one row, and a place of the next one
+up_in : (k v w x : ℕ) → w < x → is_earlier (k, v, w) (k, v, x) ≡ true
+up_in k v w x lt = from_earlier (k, v, w) (k, v, x) (inr (refl, inr (refl, lt)))
+
+up_past : (k v w : ℕ) → is_earlier (k, v, w) (k, v + 1, 0) ≡ true
+up_past k v w = from_earlier (k, v, w) (k, v + 1, 0) (inr (refl, inl (omega arith)))
+
+-- nothing is said, and the same room is seen from a later place
+said_on : (p q : ℕ × ℕ × ℕ) {room : RoomModel} {h l v w h' l' v' w' : ℕ} {out : List Lit} → is_earlier p q ≡ true → (s : Said room h l v w p out)
+    → Ends high_of (room.slots - 1) room s.left h' → Ends low_of 0 room s.left l' → Pairs room s.left v' w' → Said room h' l' v' w' q out
+said_on p q up s high low pairs = record { before = later p q _ up s.before; left = s.left; leaves = s.leaves; high = high; low = low; pairs = pairs }
+
+-- one more literal is said, which leaves another room
+said_add : (p q : ℕ × ℕ × ℕ) (room next : RoomModel) {h l v w h' l' v' w' : ℕ} (out : List Lit) (lit : Lit) → place_of lit ≡ p → is_earlier p q ≡ true → lit_fits (shape_in room) lit ≡ true → ((m : Lit) → AboveRoom room m → leaves_some m lit ≡ true) → AboveRoom room lit
+    → (s : Said room h l v w p out) → cut (negation lit) s.left ≡ next → next.slots ≡ s.left.slots → ((a b : ℕ) → b ≤ a → a < room.ships → order_of next a b ≡ Unset)
+    → Ends high_of (room.slots - 1) room next h' → Ends low_of 0 room next l' → Pairs room next v' w' → Said room h' l' v' w' q (out ++ lit ∷ [])
+said_add p q room next out lit place up fits leaves above s cuts slots no_pair high low pairs = record {
+  before = All-push (λ m. is_earlier (place_of m) q ≡ true) out lit (later p q out up s.before) (subst (λ r. is_earlier r q ≡ true) (sym place) up);
+  left = next;
+  leaves = record {
+    normal = normal_more (shape_in room) out 0 None lit s.leaves.normal fits refl (λ i d at.
+        let m = get_or out i d in
+        follows m lit (subst (λ r. is_earlier (place_of m) r ≡ true) (sym place) (s.before i d at)) (leaves m (s.leaves.above i d at)));
+    above = All-push (AboveRoom room) out lit s.leaves.above above;
+    denies = denied_more (whole_room (shape_in room)) out lit ∙ ap (cut (negation lit)) s.leaves.denies ∙ cuts;
+    full = subst IsFull cuts (full_cut s.left (negation lit) s.leaves.full);
+    ships = sym (ap (λ (r : RoomModel). r.ships) cuts) ∙ same_ships s.left (negation lit) ∙ s.leaves.ships;
+    slots = slots ∙ s.leaves.slots;
+    no_pair = no_pair;
+  };
+  high = high;
+  low = low;
+  pairs = pairs;
+}
+
 -- ---- bounds
 
 in_ranges : (room left : RoomModel) (v : ℕ) → IsFull left → left.ships ≡ room.ships → v < room.ships → v < length left.ranges
 in_ranges room left v full ships lt = omega (arith, full.each_ship, ships, lt)
 
+-- one more ship has the end that the room has
+one_more : (bound : RoomModel → ℕ → ℕ) (first : ℕ) (room left next : RoomModel) (v : ℕ) → Ends bound first room left v → bound next v ≡ bound room v → ((q : ℕ) → q ≢ v → bound next q ≡ bound left q) → Ends bound first room next (v + 1)
+one_more bound first room left next v e here other = record {
+  said = λ q inq less. elim (cases_eq q v) [
+    | inl same ↦ subst (λ k. bound next k ≡ bound room k) (sym same) here
+    | inr ne ↦ other q ne ∙ e.said q inq (omega (arith, less, ne))
+  ];
+  rest = λ q inq le. other q (omega (arith, le)) ∙ e.rest q inq (omega (arith, le));
+}
+
+-- every ship keeps its end
+same_ends : (bound : RoomModel → ℕ → ℕ) (first : ℕ) (room left next : RoomModel) (v count : ℕ) → Ends bound first room left count → bound next v ≡ bound left v → ((q : ℕ) → q ≢ v → bound next q ≡ bound left q) → Ends bound first room next count
+same_ends bound first room left next v count e here other = record { said = λ q inq less. same q ∙ e.said q inq less; rest = λ q inq le. same q ∙ e.rest q inq le }
+  where
+    same : (q : ℕ) → bound next q ≡ bound left q
+    same q = elim (cases_eq q v) [ inl eq ↦ subst (λ k. bound next k ≡ bound left k) (sym eq) here | inr ne ↦ other q ne ]
+
 -- the highest slot is the last one, and nothing is said
-above_skip : (room : RoomModel) (v : ℕ) (out : List Lit) → IsRoom room → v < room.ships → high_of room v < room.slots → nat_lt (high_of room v + 1) room.slots ≡ false → Said room v v 0 0 (0, v, 0) out → Said room (v + 1) v 0 0 (0, v, 1) out
-above_skip room v out is lt inside none s =
+above_skip : (room : RoomModel) (v : ℕ) (out : List Lit) → v < room.ships → high_of room v < room.slots → nat_lt (high_of room v + 1) room.slots ≡ false → Said room v v 0 0 (0, v, 0) out → Said room (v + 1) v 0 0 (0, v, 1) out
+above_skip room v out lt inside none s =
     let last : room.slots ≤ high_of room v + 1 = ltb-false _ _ none in
-    record {
-      normal = s.normal;
-      before = later (0, v, 0) (0, v, 1) out (from_earlier (0, v, 0) (0, v, 1) (inr (refl, inr (refl, omega arith)))) s.before;
-      above = s.above;
-      left = s.left;
-      denies = s.denies;
-      full = s.full;
-      ships = s.ships;
-      slots = s.slots;
-      high = λ q in' less. elim (cases_eq q v) [
-        | inl e ↦ subst (λ k. high_of s.left k ≡ high_of room k) (sym e) (s.high_open v lt (omega arith) ∙ omega (arith, last, inside))
-        | inr ne ↦ s.high q in' (omega (arith, less, ne))
-      ];
-      high_open = λ q in' le. s.high_open q in' (omega (arith, le));
-      low = s.low;
-      low_open = s.low_open;
-      order = s.order;
-      order_open = s.order_open;
-      no_pair = s.no_pair;
-    }
+    said_on (0, v, 0) (0, v, 1) (up_in 0 v 0 1 (omega arith)) s (one_more high_of (room.slots - 1) room s.left s.left v s.high (s.high.rest v lt (omega arith) ∙ omega (arith, last, inside)) (λ q ne. refl)) s.low s.pairs
 
 above_add : (room : RoomModel) (v : ℕ) (out : List Lit) → v < room.ships → nat_lt (high_of room v + 1) room.slots ≡ true → Said room v v 0 0 (0, v, 0) out → Said room (v + 1) v 0 0 (0, v, 1) (out ++ lits.AtOrAfter v (high_of room v + 1) ∷ [])
 above_add room v out lt some s =
     let more : high_of room v + 1 < room.slots = ltb-true _ _ some in
-    let lit = lits.AtOrAfter v (high_of room v + 1) in
-    let in' : v < length s.left.ranges = in_ranges room s.left v s.full s.ships lt in
-    let up : is_earlier (0, v, 0) (0, v, 1) ≡ true = from_earlier (0, v, 0) (0, v, 1) (inr (refl, inr (refl, omega arith))) in
-    let at : min (high_of s.left v) (high_of room v + 1 - 1) ≡ high_of room v = omega (arith, s.high_open v lt (omega arith), more) in
-    record {
-      normal = normal_more (shape_in room) out 0 None lit s.normal (and_from (nat_lt v room.ships) _ (lt-ltb _ _ lt) (and_from (nat_le 1 (high_of room v + 1)) _ (le-leb _ _ (omega arith)) (lt-ltb _ _ more))) refl
-          (All-weaker (λ l. is_earlier (place_of l) (0, v, 0) ≡ true) (λ l. may_follow l lit ≡ true) (λ l e. follows l lit e (by_lower l v _)) out s.before);
-      before = All-push (λ l. is_earlier (place_of l) (0, v, 1) ≡ true) out lit (later (0, v, 0) (0, v, 1) out up s.before) up;
-      above = All-push (AboveRoom room) out lit s.above refl;
-      left = cut (negation lit) s.left;
-      denies = denied_more (whole_room (shape_in room)) out lit ∙ ap (cut (negation lit)) s.denies;
-      full = full_cut s.left (negation lit) s.full;
-      ships = s.ships;
-      slots = s.slots;
-      high = λ q inq less. elim (cases_eq q v) [
-        | inl e ↦ subst (λ k. high_of (cut (negation lit) s.left) k ≡ high_of room k) (sym e) (high_new s.left v _ _ in' ∙ at)
-        | inr ne ↦ high_other s.left v _ _ q ne ∙ s.high q inq (omega (arith, less, ne))
-      ];
-      high_open = λ q inq le. high_other s.left v _ _ q (omega (arith, le)) ∙ s.high_open q inq (omega (arith, le));
-      low = λ q inq less. low_other s.left v _ _ q (omega (arith, less)) ∙ s.low q inq less;
-      low_open = λ q inq le. elim (cases_eq q v) [
-        | inl e ↦ subst (λ k. low_of (cut (negation lit) s.left) k ≡ 0) (sym e) (low_new s.left v _ _ in' ∙ s.low_open v lt (omega arith))
-        | inr ne ↦ low_other s.left v _ _ q ne ∙ s.low_open q inq le
-      ];
-      order = s.order;
-      order_open = s.order_open;
-      no_pair = s.no_pair;
-    }
+    let in' : v < length s.left.ranges = in_ranges room s.left v s.leaves.full s.leaves.ships lt in
+    let next : RoomModel = with_range s.left v (low_of s.left v) (min (high_of s.left v) (high_of room v + 1 - 1)) in
+    let at : min (high_of s.left v) (high_of room v + 1 - 1) ≡ high_of room v = omega (arith, s.high.rest v lt (omega arith), more) in
+    said_add (0, v, 0) (0, v, 1) room next out (lits.AtOrAfter v (high_of room v + 1)) refl (up_in 0 v 0 1 (omega arith)) (and_from (nat_lt v room.ships) _ (lt-ltb _ _ lt) (and_from (nat_le 1 (high_of room v + 1)) _ (le-leb _ _ (omega arith)) (lt-ltb _ _ more)))
+    (λ m a. by_lower m v _) refl s refl refl s.leaves.no_pair
+    (one_more high_of (room.slots - 1) room s.left next v s.high (high_new s.left v _ _ in' ∙ at) (λ q ne. high_other s.left v _ _ q ne))
+    (same_ends low_of 0 room s.left next v v s.low (low_new s.left v _ _ in') (λ q ne. low_other s.left v _ _ q ne))
+    (record { said = s.pairs.said; rest = s.pairs.rest })
 
+-- the lowest slot is the first one, and nothing is said
 below_skip : (room : RoomModel) (v : ℕ) (out : List Lit) → v < room.ships → nat_lt 0 (low_of room v) ≡ false → Said room (v + 1) v 0 0 (0, v, 1) out → Said room (v + 1) (v + 1) 0 0 (0, v + 1, 0) out
 below_skip room v out lt none s =
     let first : low_of room v ≤ 0 = ltb-false _ _ none in
-    record {
-      normal = s.normal;
-      before = later (0, v, 1) (0, v + 1, 0) out (from_earlier (0, v, 1) (0, v + 1, 0) (inr (refl, inl (omega arith)))) s.before;
-      above = s.above;
-      left = s.left;
-      denies = s.denies;
-      full = s.full;
-      ships = s.ships;
-      slots = s.slots;
-      high = s.high;
-      high_open = s.high_open;
-      low = λ q in' less. elim (cases_eq q v) [
-        | inl e ↦ subst (λ k. low_of s.left k ≡ low_of room k) (sym e) (s.low_open v lt (omega arith) ∙ omega (arith, first))
-        | inr ne ↦ s.low q in' (omega (arith, less, ne))
-      ];
-      low_open = λ q in' le. s.low_open q in' (omega (arith, le));
-      order = s.order;
-      order_open = s.order_open;
-      no_pair = s.no_pair;
-    }
+    said_on (0, v, 1) (0, v + 1, 0) (up_past 0 v 1) s s.high (one_more low_of 0 room s.left s.left v s.low (s.low.rest v lt (omega arith) ∙ omega (arith, first)) (λ q ne. refl)) s.pairs
 
 below_add : (room : RoomModel) (v : ℕ) (out : List Lit) → v < room.ships → low_of room v ≤ high_of room v → high_of room v < room.slots → nat_lt 0 (low_of room v) ≡ true → Said room (v + 1) v 0 0 (0, v, 1) out → Said room (v + 1) (v + 1) 0 0 (0, v + 1, 0) (out ++ lits.Before v (low_of room v) ∷ [])
 below_add room v out lt le inside some s =
     let more : 0 < low_of room v = ltb-true _ _ some in
-    let lit = lits.Before v (low_of room v) in
-    let in' : v < length s.left.ranges = in_ranges room s.left v s.full s.ships lt in
-    let up : is_earlier (0, v, 1) (0, v + 1, 0) ≡ true = from_earlier (0, v, 1) (0, v + 1, 0) (inr (refl, inl (omega arith))) in
-    let at : max (low_of s.left v) (low_of room v) ≡ low_of room v = omega (arith, s.low_open v lt (omega arith)) in
-    record {
-      normal = normal_more (shape_in room) out 0 None lit s.normal (and_from (nat_lt v room.ships) _ (lt-ltb _ _ lt) (and_from (nat_le 1 (low_of room v)) _ (le-leb _ _ (omega arith)) (lt-ltb _ _ (omega arith)))) refl
-          (both_of out s.before s.above);
-      before = All-push (λ l. is_earlier (place_of l) (0, v + 1, 0) ≡ true) out lit (later (0, v, 1) (0, v + 1, 0) out up s.before) up;
-      above = All-push (AboveRoom room) out lit s.above tt;
-      left = cut (negation lit) s.left;
-      denies = denied_more (whole_room (shape_in room)) out lit ∙ ap (cut (negation lit)) s.denies;
-      full = full_cut s.left (negation lit) s.full;
-      ships = s.ships;
-      slots = s.slots;
-      high = λ q inq less. elim (cases_eq q v) [
-        | inl e ↦ subst (λ k. high_of (cut (negation lit) s.left) k ≡ high_of room k) (sym e) (high_new s.left v _ _ in' ∙ s.high v lt (omega arith))
-        | inr ne ↦ high_other s.left v _ _ q ne ∙ s.high q inq less
-      ];
-      high_open = λ q inq ge. high_other s.left v _ _ q (omega (arith, ge)) ∙ s.high_open q inq ge;
-      low = λ q inq less. elim (cases_eq q v) [
-        | inl e ↦ subst (λ k. low_of (cut (negation lit) s.left) k ≡ low_of room k) (sym e) (low_new s.left v _ _ in' ∙ at)
-        | inr ne ↦ low_other s.left v _ _ q ne ∙ s.low q inq (omega (arith, less, ne))
-      ];
-      low_open = λ q inq ge. low_other s.left v _ _ q (omega (arith, ge)) ∙ s.low_open q inq (omega (arith, ge));
-      order = s.order;
-      order_open = s.order_open;
-      no_pair = s.no_pair;
-    }
-  where
-    both_of : (xs : List Lit) → All (λ l. is_earlier (place_of l) (0, v, 1) ≡ true) xs → All (AboveRoom room) xs → All (λ l. may_follow l (lits.Before v (low_of room v)) ≡ true) xs
-    both_of xs before above = λ i d at. follows (get_or xs i d) (lits.Before v (low_of room v)) (before i d at) (by_upper room (get_or xs i d) v le (above i d at))
+    let in' : v < length s.left.ranges = in_ranges room s.left v s.leaves.full s.leaves.ships lt in
+    let next : RoomModel = with_range s.left v (max (low_of s.left v) (low_of room v)) (high_of s.left v) in
+    let at : max (low_of s.left v) (low_of room v) ≡ low_of room v = omega (arith, s.low.rest v lt (omega arith)) in
+    said_add (0, v, 1) (0, v + 1, 0) room next out (lits.Before v (low_of room v)) refl (up_past 0 v 1) (and_from (nat_lt v room.ships) _ (lt-ltb _ _ lt) (and_from (nat_le 1 (low_of room v)) _ (le-leb _ _ (omega (arith, more))) (lt-ltb _ _ (omega (arith, le, inside)))))
+    (λ m a. by_upper room m v le a) tt s refl refl s.leaves.no_pair
+    (same_ends high_of (room.slots - 1) room s.left next v (v + 1) s.high (high_new s.left v _ _ in') (λ q ne. high_other s.left v _ _ q ne))
+    (one_more low_of 0 room s.left next v s.low (low_new s.left v _ _ in' ∙ at) (λ q ne. low_other s.left v _ _ q ne))
+    (record { said = s.pairs.said; rest = s.pairs.rest })
 
 -- what a test decides, of both answers
 said_if : (b : Bool) (lit : Lit) (out : List Lit) (P : List Lit → Type 0) → (b ≡ true → P (out ++ lit ∷ [])) → (b ≡ false → P out) → P (out ++ one_or_none (cond b (Some lit) None))
@@ -280,58 +259,25 @@ said_ship room v out is lt s =
     let le : low_of room v ≤ high_of room v = All-get_or (λ range. range.0 ≤ range.1) room.ranges v (0, 0) (omega (arith, is.each_ship, lt)) is.ordered in
     let inside : high_of room v < room.slots = All-get_or (λ range. range.1 < room.slots) room.ranges v (0, 0) (omega (arith, is.each_ship, lt)) is.in_slots in
     let half : Said room (v + 1) v 0 0 (0, v, 1) (out ++ one_or_none (above_said room v)) =
-    said_if (nat_lt (high_of room v + 1) room.slots) _ out (Said room (v + 1) v 0 0 (0, v, 1)) (λ t. above_add room v out lt t s) (λ t. above_skip room v out is lt inside t s) in
+    said_if (nat_lt (high_of room v + 1) room.slots) _ out (Said room (v + 1) v 0 0 (0, v, 1)) (λ t. above_add room v out lt t s) (λ t. above_skip room v out lt inside t s) in
     said_if (nat_lt 0 (low_of room v)) _ _ (Said room (v + 1) (v + 1) 0 0 (0, v + 1, 0)) (λ t. below_add room v _ lt le inside t half) (λ t. below_skip room v _ lt t half)
 
 -- ---- orders
 
 pub said_ships : (room : RoomModel) (v : ℕ) (out : List Lit) → v ≡ room.ships → Said room v v 0 0 (0, v, 0) out → Said room room.ships room.ships 0 0 (1, 0, 0) out
-said_ships room v out e s = subst (λ k. Said room k k 0 0 (1, 0, 0) out) e (record {
-  normal = s.normal;
-  before = later (0, v, 0) (1, 0, 0) out (from_earlier (0, v, 0) (1, 0, 0) (inl (omega arith))) s.before;
-  above = s.above;
-  left = s.left;
-  denies = s.denies;
-  full = s.full;
-  ships = s.ships;
-  slots = s.slots;
-  high = s.high;
-  high_open = s.high_open;
-  low = s.low;
-  low_open = s.low_open;
-  order = s.order;
-  order_open = s.order_open;
-  no_pair = s.no_pair;
-})
+said_ships room v out e s = subst (λ k. Said room k k 0 0 (1, 0, 0) out) e (said_on (0, v, 0) (1, 0, 0) (from_earlier (0, v, 0) (1, 0, 0) (inl (omega arith))) s s.high s.low s.pairs)
 
 -- another pair up to which the same orders were said
-moved : (room : RoomModel) (k v w x y : ℕ) (out : List Lit) → is_earlier (1, v, w) (1, x, y) ≡ true → ((a b : ℕ) → a < b → b < room.ships → Passed a b x y → Passed a b v w) → ((a b : ℕ) → a < b → b < room.ships → Open a b x y → Open a b v w)
-    → Said room k k v w (1, v, w) out → Said room k k x y (1, x, y) out
-moved room k v w x y out up passed rest s = record {
-  normal = s.normal;
-  before = later (1, v, w) (1, x, y) out up s.before;
-  above = s.above;
-  left = s.left;
-  denies = s.denies;
-  full = s.full;
-  ships = s.ships;
-  slots = s.slots;
-  high = s.high;
-  high_open = s.high_open;
-  low = s.low;
-  low_open = s.low_open;
-  order = λ a b ab lt p. s.order a b ab lt (passed a b ab lt p);
-  order_open = λ a b ab lt p. s.order_open a b ab lt (rest a b ab lt p);
-  no_pair = s.no_pair;
-}
+moved : (room left : RoomModel) (v w x y : ℕ) → ((a b : ℕ) → a < b → b < room.ships → Passed a b x y → Passed a b v w) → ((a b : ℕ) → a < b → b < room.ships → Open a b x y → Open a b v w) → Pairs room left v w → Pairs room left x y
+moved room left v w x y passed rest s = record { said = λ a b ab lt p. s.said a b ab lt (passed a b ab lt p); rest = λ a b ab lt p. s.rest a b ab lt (rest a b ab lt p) }
 
 pub said_row : (room : RoomModel) (k v : ℕ) (out : List Lit) → Said room k k v 0 (1, v, 0) out → Said room k k v (v + 1) (1, v, v + 1) out
 said_row room k v out s =
-    moved room k v 0 v (v + 1) out (from_earlier (1, v, 0) (1, v, v + 1) (inr (refl, inr (refl, omega arith)))) (λ a b ab lt p. grind arith) (λ a b ab lt p. grind arith) s
+    said_on (1, v, 0) (1, v, v + 1) (up_in 1 v 0 (v + 1) (omega arith)) s s.high s.low (moved room s.left v 0 v (v + 1) (λ a b ab lt p. grind arith) (λ a b ab lt p. grind arith) s.pairs)
 
 pub said_rows : (room : RoomModel) (k v w : ℕ) (out : List Lit) → room.ships ≤ w → Said room k k v w (1, v, w) out → Said room k k (v + 1) 0 (1, v + 1, 0) out
 said_rows room k v w out le s =
-    moved room k v w (v + 1) 0 out (from_earlier (1, v, w) (1, v + 1, 0) (inr (refl, inl (omega arith)))) (λ a b ab lt p. grind arith) (λ a b ab lt p. grind arith) s
+    said_on (1, v, w) (1, v + 1, 0) (up_past 1 v w) s s.high s.low (moved room s.left v w (v + 1) 0 (λ a b ab lt p. grind arith) (λ a b ab lt p. grind arith) s.pairs)
 
 still : (a b v w : ℕ) → ((a ≡ v) × (b ≡ w) → ⊥) → Passed a b v (w + 1) → Passed a b v w
 still a b v w other p = elim p [
@@ -342,59 +288,34 @@ still a b v w other p = elim p [
 fewer : (a b v w : ℕ) → Open a b v (w + 1) → Open a b v w
 fewer a b v w p = elim p [ inl less ↦ inl less | inr q ↦ inr (q.0, omega (arith, q.1)) ]
 
+not_open : (a b v w : ℕ) → Open a b v (w + 1) → (a ≡ v) × (b ≡ w) → ⊥
+not_open a b v w p same = elim p [ inl less ↦ omega (arith, less, same.0) | inr q ↦ omega (arith, q.1, same.1) ]
+
+-- one more pair has the order that the room has
+one_more_pair : (room left next : RoomModel) (v w : ℕ) → Pairs room left v w → order_of next v w ≡ order_of room v w → ((a b : ℕ) → b < room.ships → ((a ≡ v) × (b ≡ w) → ⊥) → order_of next a b ≡ order_of left a b) → Pairs room next v (w + 1)
+one_more_pair room left next v w s here other = record {
+  said = λ a b ab inb p. elim (cases_pair a b v w) [
+    | inl same ↦ rw (same.0, same.1) here
+    | inr ne ↦ other a b inb ne ∙ s.said a b ab inb (still a b v w ne p)
+  ];
+  rest = λ a b ab inb p. other a b inb (not_open a b v w p) ∙ s.rest a b ab inb (fewer a b v w p);
+}
+
 -- the order of a pair that is none yet
 order_skip : (room : RoomModel) (k v w : ℕ) (out : List Lit) → v < w → w < room.ships → order_of room v w ≡ Unset → Said room k k v w (1, v, w) out → Said room k k v (w + 1) (1, v, w + 1) out
-order_skip room k v w out vw lt e s = record {
-  normal = s.normal;
-  before = later (1, v, w) (1, v, w + 1) out (from_earlier (1, v, w) (1, v, w + 1) (inr (refl, inr (refl, omega arith)))) s.before;
-  above = s.above;
-  left = s.left;
-  denies = s.denies;
-  full = s.full;
-  ships = s.ships;
-  slots = s.slots;
-  high = s.high;
-  high_open = s.high_open;
-  low = s.low;
-  low_open = s.low_open;
-  order = λ a b ab inb p. elim (cases_pair a b v w) [
-    | inl same ↦ s.order_open a b ab inb (inr (same.0, omega (arith, same.1))) ∙ sym (rw (same.0, same.1) e)
-    | inr other ↦ s.order a b ab inb (still a b v w other p)
-  ];
-  order_open = λ a b ab inb p. s.order_open a b ab inb (fewer a b v w p);
-  no_pair = s.no_pair;
-}
+order_skip room k v w out vw lt e s =
+    said_on (1, v, w) (1, v, w + 1) (up_in 1 v w (w + 1) (omega arith)) s s.high s.low (one_more_pair room s.left s.left v w s.pairs (s.pairs.rest v w vw lt (inr (refl, omega arith)) ∙ sym e) (λ a b inb ne. refl))
 
 -- a literal that turns the order of a pair round
 order_add : (room : RoomModel) (k v w : ℕ) (out : List Lit) (lit : Lit) (order : Order) → v < w → w < room.ships → order_of room v w ≡ order → place_of lit ≡ (1, v, w) → lit_fits (shape_in room) lit ≡ true → ((l : Lit) → leaves_some l lit ≡ true) → AboveRoom room lit
     → ((r : RoomModel) → cut (negation lit) r ≡ with_order r v w order) → Said room k k v w (1, v, w) out → Said room k k v (w + 1) (1, v, w + 1) (out ++ lit ∷ [])
 order_add room k v w out lit order vw lt e place fits leaves above cuts s =
-    let up : is_earlier (1, v, w) (1, v, w + 1) ≡ true = from_earlier (1, v, w) (1, v, w + 1) (inr (refl, inr (refl, omega arith))) in
-    let wl : w < s.left.ships = omega (arith, s.ships, lt) in
-    record {
-      normal = normal_more (shape_in room) out 0 None lit s.normal fits refl
-          (All-weaker (λ l. is_earlier (place_of l) (1, v, w) ≡ true) (λ l. may_follow l lit ≡ true) (λ l d. follows l lit (subst (λ p. is_earlier (place_of l) p ≡ true) (sym place) d) (leaves l)) out s.before);
-      before = All-push (λ l. is_earlier (place_of l) (1, v, w + 1) ≡ true) out lit (later (1, v, w) (1, v, w + 1) out up s.before) (subst (λ p. is_earlier p (1, v, w + 1) ≡ true) (sym place) up);
-      above = All-push (AboveRoom room) out lit s.above above;
-      left = with_order s.left v w order;
-      denies = denied_more (whole_room (shape_in room)) out lit ∙ ap (cut (negation lit)) s.denies ∙ cuts s.left;
-      full = subst IsFull (cuts s.left) (full_cut s.left (negation lit) s.full);
-      ships = s.ships;
-      slots = s.slots;
-      high = s.high;
-      high_open = s.high_open;
-      low = s.low;
-      low_open = s.low_open;
-      order = λ a b ab inb p. elim (cases_pair a b v w) [
-        | inl same ↦ rw (same.0, same.1) (new_order s.left v w order s.full (omega (arith, vw, wl)) wl ∙ sym e)
-        | inr other ↦ other_order s.left v w a b order wl (omega (arith, s.ships, inb)) other ∙ s.order a b ab inb (still a b v w other p)
-      ];
-      order_open = λ a b ab inb p. other_order s.left v w a b order wl (omega (arith, s.ships, inb)) (past a b v w p) ∙ s.order_open a b ab inb (fewer a b v w p);
-      no_pair = λ a b ba ina. with_order_no_pair s.left v w order a b vw wl ba (omega (arith, s.ships, ina)) (s.no_pair a b ba ina);
-    }
-  where
-    past : (a b v w : ℕ) → Open a b v (w + 1) → (a ≡ v) × (b ≡ w) → ⊥
-    past a b v w p same = elim p [ inl less ↦ omega (arith, less, same.0) | inr q ↦ omega (arith, q.1, same.1) ]
+    let wl : w < s.left.ships = omega (arith, s.leaves.ships, lt) in
+    let next : RoomModel = with_order s.left v w order in
+    said_add (1, v, w) (1, v, w + 1) room next out lit place (up_in 1 v w (w + 1) (omega arith)) fits (λ m a. leaves m) above s (cuts s.left) refl
+    (λ a b ba ina. with_order_no_pair s.left v w order a b vw wl ba (omega (arith, s.leaves.ships, ina)) (s.leaves.no_pair a b ba ina))
+    (record { said = s.high.said; rest = s.high.rest }) (record { said = s.low.said; rest = s.low.rest })
+    (one_more_pair room s.left next v w s.pairs (new_order s.left v w order s.leaves.full (omega (arith, vw, wl)) wl ∙ sym e) (λ a b inb ne. other_order s.left v w a b order wl (omega (arith, s.leaves.ships, inb)) ne))
 
 pub said_pair : (room : RoomModel) (k v w : ℕ) (out : List Lit) → v < w → w < room.ships → Said room k k v w (1, v, w) out → Said room k k v (w + 1) (1, v, w + 1) (out ++ one_or_none (turned_said room v w))
 said_pair room k v w out vw lt s = by (order_of room v w) refl
@@ -404,31 +325,31 @@ said_pair room k v w out vw lt s = by (order_of room v w) refl
 
     by : (o : Order) → order_of room v w ≡ o → Said room k k v (w + 1) (1, v, w + 1) (out ++ one_or_none (turned o v w))
     by Unset e = subst (Said room k k v (w + 1) (1, v, w + 1)) (sym (append_none out)) (order_skip room k v w out vw lt e s)
-    by First e = order_add room k v w out (lits.NotFirst v w) First vw lt e refl fits (λ l. by_not_first l v w) tt (λ r. refl) s
-    by NotFirst e = order_add room k v w out (lits.First v w) NotFirst vw lt e refl fits (λ l. by_first l v w) tt (λ r. refl) s
+    by First e = order_add room k v w out (lits.NotFirst v w) First vw lt e refl fits (λ l. (by_order l v w).1) tt (λ r. refl) s
+    by NotFirst e = order_add room k v w out (lits.First v w) NotFirst vw lt e refl fits (λ l. (by_order l v w).0) tt (λ r. refl) s
 
 -- ---- all was said
 
 pub said_all : (room : RoomModel) (v : ℕ) (out : List Lit) → IsRoom room → v ≡ room.ships → Said room room.ships room.ships v 0 (1, v, 0) out → denied (shape_in room) out ≡ room
 said_all room v out is e s =
     let ranges : (ship : ℕ) → ship < s.left.ships → (low_of s.left ship ≡ low_of room ship) × (high_of s.left ship ≡ high_of room ship) = λ ship lt.
-    let in' : ship < room.ships = omega (arith, s.ships, lt) in
-    (s.low ship in' in', s.high ship in' in') in
-    s.denies ∙ same_room s.left room (left_is ranges) is s.ships s.slots ranges (λ a b ab lt. s.order a b ab (omega (arith, s.ships, lt)) (inl (omega (arith, e, s.ships, ab, lt))))
+    let in' : ship < room.ships = omega (arith, s.leaves.ships, lt) in
+    (s.low.said ship in' in', s.high.said ship in' in') in
+    s.leaves.denies ∙ same_room s.left room (left_is ranges) is s.leaves.ships s.leaves.slots ranges (λ a b ab lt. s.pairs.said a b ab (omega (arith, s.leaves.ships, lt)) (inl (omega (arith, e, s.leaves.ships, ab, lt))))
   where
     left_is : ((ship : ℕ) → ship < s.left.ships → (low_of s.left ship ≡ low_of room ship) × (high_of s.left ship ≡ high_of room ship)) → IsRoom s.left
     left_is ranges = record {
-      few = omega (arith, is.few, s.ships);
-      few_slots = omega (arith, is.few_slots, s.slots);
-      each_ship = s.full.each_ship;
-      each_pair = s.full.each_pair;
+      few = omega (arith, is.few, s.leaves.ships);
+      few_slots = omega (arith, is.few_slots, s.leaves.slots);
+      each_ship = s.leaves.full.each_ship;
+      each_pair = s.leaves.full.each_pair;
       ordered = All-from_get_or (λ range. range.0 ≤ range.1) s.left.ranges (0, 0) (λ i lt.
-          let r = ranges i (omega (arith, s.full.each_ship, lt)) in
-          let le : low_of room i ≤ high_of room i = All-get_or (λ range. range.0 ≤ range.1) room.ranges i (0, 0) (omega (arith, is.each_ship, s.full.each_ship, s.ships, lt)) is.ordered in
+          let r = ranges i (omega (arith, s.leaves.full.each_ship, lt)) in
+          let le : low_of room i ≤ high_of room i = All-get_or (λ range. range.0 ≤ range.1) room.ranges i (0, 0) (omega (arith, is.each_ship, s.leaves.full.each_ship, s.leaves.ships, lt)) is.ordered in
           omega (arith, r.0, r.1, le));
       in_slots = All-from_get_or (λ range. range.1 < s.left.slots) s.left.ranges (0, 0) (λ i lt.
-          let r = ranges i (omega (arith, s.full.each_ship, lt)) in
-          let le : high_of room i < room.slots = All-get_or (λ range. range.1 < room.slots) room.ranges i (0, 0) (omega (arith, is.each_ship, s.full.each_ship, s.ships, lt)) is.in_slots in
-          omega (arith, r.1, le, s.slots));
-      no_pair = λ a b le lt. s.no_pair a b le (omega (arith, s.ships, lt));
+          let r = ranges i (omega (arith, s.leaves.full.each_ship, lt)) in
+          let le : high_of room i < room.slots = All-get_or (λ range. range.1 < room.slots) room.ranges i (0, 0) (omega (arith, is.each_ship, s.leaves.full.each_ship, s.leaves.ships, lt)) is.in_slots in
+          omega (arith, r.1, le, s.leaves.slots));
+      no_pair = λ a b le lt. s.leaves.no_pair a b le (omega (arith, s.leaves.ships, lt));
     }
