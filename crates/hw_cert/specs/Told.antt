@@ -1,5 +1,6 @@
 -- What bytes tell of a certificate with deletions, whatever the problem: its lines, and the bytes behind them.
 use Rattle.std.specs.Prelude.{◌≡◌, ◌<◌, ℕ, ◌==◌, List, [], ◌∷◌, ◌++◌, Bool, true, Option, Some, None, length, take, option_and_then, is_some, bytes_eq, codes, if◌then◌else◌}
+use Rattle.std.specs.Borrow.{GName}
 use Rattle.hw_text.specs.Parts.{parts_of, lacks}
 use Rattle.hw_desk.specs.State.{DeskState, Rose}
 use Rattle.hw_desk.specs.Calls.{Sends}
@@ -9,7 +10,7 @@ use Rattle.hw_lines.specs.declared.line.Line.TheVariants.{Table, Delete}
 use Rattle.hw_cert.specs.declared.version.Version.TheVariants.{Two}
 use Rattle.hw_cert.specs.Texts.{header_text, cert_text}
 use Rattle.hw_cert.specs.Spelled.{spelled}
-use Rattle.hw_cert.specs.Logs.{LogTold, LogModel}
+use Rattle.hw_cert.specs.Logs.{LogAnchor, LogTold, LogModel, outside_of}
 
 -- the header's line with its end
 abbrev pub header_line : List ℕ
@@ -69,3 +70,7 @@ TextTold = (bytes : List ℕ) (told : LogTold) → bytes_told bytes ≡ Some tol
 -- the log whose text a desk sent to Proof
 abbrev pub tray_log : DeskState → LogModel
 tray_log s = record { told = option_and_then bytes_told (s.trays Proof).sent; faults = s.write_faults }
+
+-- what that log holds and leaves as it is: the borrow of its desk, and all of the desk that no line changes
+abbrev pub tray_anchor : GName → DeskState → LogAnchor
+tray_anchor borrow s = record { borrow = borrow; outside = Some (outside_of s) }

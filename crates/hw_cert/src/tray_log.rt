@@ -1,12 +1,12 @@
-ghost use Rattle.std.specs.Prelude.{◌≡◌, [], true, IfErr, IfOk, IfSome, OnOk, Some};
+ghost use Rattle.std.specs.Prelude.{◌≡◌, [], true, Err, IfErr, IfOk, IfSome, OnOk, Some};
 ghost use Rattle.std.specs.List.{list_all};
 ghost use Rattle.hw_desk.specs.State.{CanSend};
 ghost use Rattle.hw_desk.specs.Calls.{Sends};
 ghost use Rattle.hw_desk.specs.Whole.{SendsText};
 ghost use Rattle.hw_desk.specs.declared.desk.Tray.TheVariants.{Proof};
 ghost use Rattle.hw_cert.specs.Laws.{is_small, line_numbers};
-ghost use Rattle.hw_cert.specs.Logs.{IsEmpty, ended_text, outside_of};
-ghost use Rattle.hw_cert.specs.Told.{FailsHeader, header_line, is_told, tray_log};
+ghost use Rattle.hw_cert.specs.Logs.{IsEmpty, IsWhole, TakesLine, ended_text};
+ghost use Rattle.hw_cert.specs.Told.{FailsHeader, header_line, is_told, tray_anchor, tray_log};
 
 use crate::putting::put_line;
 use crate::{Log, LogStop};
@@ -96,9 +96,15 @@ fn send_line<D: Desk>(desk: &mut D, line: &Line) -> Result<(), DeskFailed>
 impl<D: Desk> Log for TrayLog<'_, D> {
     ghost state = { λ log. tray_log (D.state log.desk.now) };
 
-    ghost anchor = { λ log. record { borrow = log.desk.ghost_name; outside = Some (outside_of (D.state log.desk.now)) } };
+    ghost anchor = { λ log. tray_anchor log.desk.ghost_name (D.state log.desk.now) };
 
-    fn line(&mut self, line: &Line) -> Result<(), LogStop> {
+    /// As the trait says; it takes no memory, and so never answers want of it.
+    fn line(&mut self, line: &Line) -> Result<(), LogStop>
+        requires whole { IsWhole (tray_log (D.state self.old.desk.now)) }
+        ensures takes { TakesLine line.now (tray_log (D.state self.old.desk.now)) (tray_log (D.state self.new.desk.now)) result }
+        ensures same_reference { tray_anchor self.new.desk.ghost_name (D.state self.new.desk.now) ≡ tray_anchor self.old.desk.ghost_name (D.state self.old.desk.now) }
+        ensures no_memory { result ≡ Err LogStop.NoMemory → ⊥ }
+    {
         match send_line(self.desk, line) {
             Ok(()) => Ok(()),
             Err(_) => Err(LogStop::Failed),

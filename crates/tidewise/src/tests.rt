@@ -37,11 +37,12 @@ fn ended(rt: &HostRuntime, line: &str) -> Result<Status, Fail> {
     Ok(run_words(rt.alloc(), words, &mut desk))
 }
 
-const RUNS: [(&str, Status); 14] = [
+const RUNS: [(&str, Status); 17] = [
     (
         "tidewise solve flat host-two 109 host-proof",
         Status::Optimal,
     ),
+    ("tidewise check flat host-two host-proof", Status::Optimal),
     (
         "tidewise solve flat host-two 1 host-proof",
         Status::Unfinished,
@@ -50,6 +51,11 @@ const RUNS: [(&str, Status); 14] = [
         "tidewise solve flat host-none 109 host-proof",
         Status::Infeasible,
     ),
+    (
+        "tidewise check flat host-none host-proof",
+        Status::Infeasible,
+    ),
+    ("tidewise solve flat host-two 9 .", Status::WriteFault),
     ("tidewise check flat host-two host-long", Status::Optimal),
     ("tidewise check flat host-none host-long", Status::Refused),
     ("tidewise check flat host-long host-two", Status::BadInput),
@@ -77,7 +83,7 @@ fn runs_over_files(rt: HostRuntime) -> Result<(), Fail> {
     for (line, wanted) in RUNS {
         assert_eq!(rt; ended(&rt, line)?, wanted, "{line}");
     }
-    for name in ["host-two", "host-none", "host-long"] {
+    for name in ["host-two", "host-none", "host-long", "host-proof"] {
         fs::remove_file(&rt, name)?;
     }
     Ok(())
