@@ -134,7 +134,7 @@ pub turn_live : (s : SearchModel) (before : List Line) (why : Why) (lemma : List
     → FewLiveFrom s.problem before (lemma_lines (cite_conflict (cited s places) why) lemma ++ deletion (unkept (before ++ lemma_lines (cite_conflict (cited s places) why) lemma) after))
 turn_live s before why lemma back places is over few fit kept k some learns literal after e p =
     let c = cite_conflict (cited s places) why in
-    let m = subst (λ (u : SearchModel). LemmaMeets s before why lemma back c u) (sym e) (lemma_meets s before why lemma back places is over few fit kept k some learns literal) in
+    let m = subst (λ (u : SearchModel). LemmaMeets s before why lemma back places c u) (sym e) (lemma_meets s before why lemma back places is over few fit kept k some learns literal) in
     let all : List Line = (before ++ lemma_lines c lemma) ++ deletion (unkept (before ++ lemma_lines c lemma) after) in
     let t : Tight after.problem all = tight after all (few_reasons after m.search).0 m.fits m.kept in
     let end : FewLive s.problem all = loose s.problem all (subst (λ (f : Problem). Tight f all) p t) in

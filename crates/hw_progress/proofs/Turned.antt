@@ -144,7 +144,7 @@ prepare s before why lemma back places is over few fit kept k some learns =
     prepared s before places (cited s places) why (cites s before places is fit kept learns.reasons (omega (arith, n, p))) k some (omega (arith, n, p))
 
 pub lemma_meets : (s : SearchModel) (before : List Line) (why : Why) (lemma : List Lit) (back : ℕ) (places : List ℕ) → IsSearch s → s.over ≡ false → s.lemmas < 100000 → FitsOpen before s → LiveKept before s → IsConflict s why → 1 ≤ length (clause_of why) → Learns s.trail (clause_of why) lemma back places → 1 ≤ length lemma
-    → LemmaMeets s before why lemma back (cite_conflict (cited s places) why) (gone_back (with_lemma (cite_conflict (cited s places) why).search lemma) back)
+    → LemmaMeets s before why lemma back places (cite_conflict (cited s places) why) (gone_back (with_lemma (cite_conflict (cited s places) why).search lemma) back)
 lemma_meets s before why lemma back places is over few fit kept k some learns literal =
     let c = cite_conflict (cited s places) why in
     let n = few_numbers s is over few in
@@ -157,6 +157,7 @@ lemma_meets s before why lemma back places is over few fit kept k some learns li
     let low : s.clause_lines ≤ c.search.clause_lines = omega (arith, p.fit.count, fit.count, count_append before c.lines) in
     let high : c.search.clause_lines ≤ s.clause_lines + most_events s.problem.ships s.problem.slots + 1 = omega (arith, p.few, m) in
     record {
+      hints = p.hints;
       well = d.well;
       fits = subst (λ xs. FitsOpen xs after) e d.fits;
       kept = subst (λ xs. LiveKept xs after) e d.kept;
@@ -165,7 +166,7 @@ lemma_meets s before why lemma back places is over few fit kept k some learns li
     }
 
 pub last : (s : SearchModel) (before : List Line) (why : Why) (back : ℕ) (places : List ℕ) → IsSearch s → s.over ≡ false → s.lemmas < 100000 → FitsOpen before s → LiveKept before s → IsConflict s why → 1 ≤ length (clause_of why) → Learns s.trail (clause_of why) [] back places
-    → EndMeets s before (cite_conflict (cited s places) why)
+    → EndMeets s before why places (cite_conflict (cited s places) why)
 last s before why back places is over few fit kept k some learns =
     let c = cite_conflict (cited s places) why in
     let n = few_numbers s is over few in
@@ -174,6 +175,7 @@ last s before why back places is over few fit kept k some learns =
     let w = lemma_written s before why [] back places c is fit p learns (omega (arith, n, m)) in
     let e : (before ++ c.lines) ++ lines.Lemma [] c.hints ∷ [] ≡ before ++ lemma_lines c [] = append_assoc before c.lines (lines.Lemma [] c.hints ∷ []) in
     record {
+      hints = p.hints;
       well = record { fit = w.shaped; valid = w.valid; lean = w.lean; new = λ old. w.new };
       closed = subst (λ xs. is_closed xs ≡ true) e ((one_more s.problem (before ++ c.lines) (lines.Lemma [] c.hints)).closed ∙ end (is_closed (before ++ c.lines)));
       few = omega (arith, w.few, m);

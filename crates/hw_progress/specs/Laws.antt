@@ -15,13 +15,13 @@ use Rattle.hw_model.specs.Replay.{narrowing}
 use Rattle.hw_lines.specs.declared.line.Line.{Line}
 use Rattle.hw_lines.specs.declared.line.Line.TheVariants as lines
 use Rattle.hw_lines.specs.Lines.{clause_count, live, is_closed}
-use Rattle.hw_lines.specs.Valid.{LineFits, ValidAfter, Valid}
+use Rattle.hw_lines.specs.Valid.{LineFits, ValidAfter, Valid, hinted}
 use Rattle.hw_lines.specs.Lemmas.{LeanAfter, lemmas_of, IsNew}
 use Rattle.hw_story.specs.declared.event.Event.{Event}
 use Rattle.hw_story.specs.declared.event.Why.{Why}
 use Rattle.hw_story.specs.declared.event.Why.TheVariants as whys
 use Rattle.hw_story.specs.Trails.{trail_shape, clause_of, decided, most_events}
-use Rattle.hw_story.specs.Learning.{Learns}
+use Rattle.hw_story.specs.Learning.{Learns, chain_of}
 use Rattle.hw_progress.specs.declared.outcome.Branching.{Branching}
 use Rattle.hw_progress.specs.Luby.{luby}
 use Rattle.hw_progress.specs.Branches.{branch_literal}
@@ -103,7 +103,9 @@ ReasonRises = (s : SearchModel) (table : List ℕ) (c : ℕ) (why : Why) → car
 abbrev pub lemma_lines : Cited → List Lit → List Line
 lemma_lines c lemma = c.lines ++ lines.Lemma lemma c.hints ∷ []
 
-pub record LemmaMeets (s : SearchModel) (before : List Line) (why : Why) (lemma : List Lit) (back : ℕ) (c : Cited) (after : SearchModel) : Type 0 where
+-- the lemma's hints name, in order, the lines of the reasons at the places and then that of the conflict
+pub record LemmaMeets (s : SearchModel) (before : List Line) (why : Why) (lemma : List Lit) (back : ℕ) (places : List ℕ) (c : Cited) (after : SearchModel) : Type 0 where
+  pub hints : hinted (before ++ c.lines) c.hints ≡ chain_of s.trail places (clause_of why)
   pub well : WritesWell s.problem before (lemma_lines c lemma ++ deletion (unkept (before ++ lemma_lines c lemma) after))
   pub fits : FitsOpen ((before ++ lemma_lines c lemma) ++ deletion (unkept (before ++ lemma_lines c lemma) after)) after
   pub kept : LiveKept ((before ++ lemma_lines c lemma) ++ deletion (unkept (before ++ lemma_lines c lemma) after)) after
@@ -112,17 +114,18 @@ pub record LemmaMeets (s : SearchModel) (before : List Line) (why : Why) (lemma 
 
 abbrev pub LemmaTurn : Type 0
 LemmaTurn = (s : SearchModel) (before : List Line) (why : Why) (lemma : List Lit) (back : ℕ) (places : List ℕ) → IsSearch s → s.over ≡ false → s.lemmas < 100000 → FitsOpen before s → LiveKept before s → IsConflict s why → 1 ≤ length (clause_of why) → Learns s.trail (clause_of why) lemma back places → 1 ≤ length lemma
-    → LemmaMeets s before why lemma back (cite_conflict (cited s places) why) (gone_back (with_lemma (cite_conflict (cited s places) why).search lemma) back)
+    → LemmaMeets s before why lemma back places (cite_conflict (cited s places) why) (gone_back (with_lemma (cite_conflict (cited s places) why).search lemma) back)
 
--- a lemma without literals ends the certificate
-pub record EndMeets (s : SearchModel) (before : List Line) (c : Cited) : Type 0 where
+-- a lemma without literals ends the certificate, and has such hints
+pub record EndMeets (s : SearchModel) (before : List Line) (why : Why) (places : List ℕ) (c : Cited) : Type 0 where
+  pub hints : hinted (before ++ c.lines) c.hints ≡ chain_of s.trail places (clause_of why)
   pub well : WritesWell s.problem before (lemma_lines c [])
   pub closed : is_closed (before ++ lemma_lines c []) ≡ true
   pub few : clause_count (lemma_lines c []) ≤ most_events s.problem.ships s.problem.slots + 2
 
 abbrev pub LastTurn : Type 0
 LastTurn = (s : SearchModel) (before : List Line) (why : Why) (back : ℕ) (places : List ℕ) → IsSearch s → s.over ≡ false → s.lemmas < 100000 → FitsOpen before s → LiveKept before s → IsConflict s why → 1 ≤ length (clause_of why) → Learns s.trail (clause_of why) [] back places
-    → EndMeets s before (cite_conflict (cited s places) why)
+    → EndMeets s before why places (cite_conflict (cited s places) why)
 
 -- ---- a turn that ended
 
