@@ -1,11 +1,14 @@
 -- The laws of a run.
-use Rattle.std.specs.Prelude.{◌≡◌, ◌⊎◌, ℕ, List, Some, All}
+use Rattle.std.specs.Prelude.{◌≡◌, ◌⊎◌, ℕ, List, Some, Ok, All}
 use Rattle.hw_model.specs.Limits.{IsFlat}
 use Rattle.hw_model.specs.Problem.{Problem, shape_of}
 use Rattle.hw_desk.specs.State.{DeskState, Rose}
 use Rattle.hw_lines.specs.declared.line.Line.{Line}
+use Rattle.hw_lines.specs.declared.check.Verdict.{Verdict}
 use Rattle.hw_lines.specs.Valid.{LineFits, Valid, verdict}
+use Rattle.hw_cert.specs.declared.version.Version.{Version}
 use Rattle.hw_cert.specs.declared.version.Version.TheVariants.{Two}
+use Rattle.hw_cert.specs.Certs.{cert_read}
 use Rattle.hw_cert.specs.Stream.{overlong, cert_stream}
 use Rattle.hw_cert.specs.Texts.{cert_text}
 use Rattle.hw_report.specs.Reports.{Report}
@@ -26,6 +29,24 @@ pub record FaultsCaused (old new : DeskState) (s : Status) : Type 0 where
 -- whatever the words
 abbrev pub FaultCauses : Type 0
 FaultCauses = (words : List (List ℕ)) (old new : DeskState) (s : Status) → RunMeets words old new s → FaultsCaused old new s
+
+-- a certificate passes no limit and reads as lines, and these are valid and prove this
+pub record IsShown (f : Problem) (bytes : List ℕ) (v : Verdict) : Type 0 where
+  pub version : Version
+  pub lines : List Line
+  pub within : (cert_stream (shape_of f) bytes).stop ≡ overlong → ⊥
+  pub read : cert_read (shape_of f) bytes ≡ Ok (record { version = version; lines = lines })
+  pub valid : Valid f lines
+  pub proves : v ≡ verdict f lines
+
+-- a check says yes exactly there
+pub record ShowsExactly (f : Problem) (bytes : List ℕ) (v : Verdict) : Type 0 where
+  pub shown : cert_outcome f bytes ≡ Shows v → IsShown f bytes v
+  pub shows : IsShown f bytes v → cert_outcome f bytes ≡ Shows v
+
+-- whatever the problem, the bytes and the verdict
+abbrev pub ShowsValid : Type 0
+ShowsValid = (f : Problem) (bytes : List ℕ) (v : Verdict) → ShowsExactly f bytes v
 
 -- the text of valid lines, as a search writes it, is a certificate that shows the lines' verdict, unless it passes a limit
 abbrev pub OwnCertificate : Type 0

@@ -1,10 +1,16 @@
 //! The laws of a run: functions without a body whose clause is the statement.
 
-ghost use Rattle.hw_app.specs.Laws.{FaultCauses, OnePortReport, OwnCertificate, RenewedCertificate};
+ghost use Rattle.hw_app.specs.Laws.{FaultCauses, OnePortReport, OwnCertificate, RenewedCertificate, ShowsValid};
 
 /// A fault comes only where the count of its kind rose.
 pub fn fault_causes()
     ensures { FaultCauses }
+{}
+
+/// A check says yes exactly where the bytes pass no limit and are the text of valid lines that prove
+/// the verdict.
+pub fn shows_valid()
+    ensures { ShowsValid }
 {}
 
 /// A certificate that a search wrote shows what the search found.

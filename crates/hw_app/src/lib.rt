@@ -28,6 +28,6 @@ mod status;
 mod words;
 
 pub use calm::run_calm;
-pub use laws::{fault_causes, one_port_report, own_certificate, renewed_certificate};
+pub use laws::{fault_causes, one_port_report, own_certificate, renewed_certificate, shows_valid};
 pub use running::run;
 pub use status::Status;
