@@ -22,11 +22,6 @@ abbrev pub left_parts : ℕ → Option (Bor (List ℕ)) → List (List ℕ)
 left_parts at None = []
 left_parts at (Some x) = parts_of at x.now
 
--- the words that are left, where there are any
-abbrev pub left_words : Option (Bor (List ℕ)) → List (List ℕ)
-left_words None = []
-left_words (Some x) = words_of x.now
-
 -- no byte stands after the last line feed
 abbrev pub at_end : List (List ℕ) → Bool
 at_end ([] ∷ []) = true

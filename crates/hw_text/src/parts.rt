@@ -1,7 +1,7 @@
 //! The parts of a text round a byte: lines round LF, words round a space.
 
-ghost use Rattle.std.specs.Prelude.{◌≡◌, ◌≢◌, ◌==◌, ◌<◌, [], ◌∷◌, length, MatchOption, IfSome, position, option_map, bytes_eq};
-ghost use Rattle.hw_text.specs.Parts.{parts_of, first_part, words_of, left_words, at_end};
+ghost use Rattle.std.specs.Prelude.{◌≡◌, ◌==◌, ◌<◌, [], ◌∷◌, length, MatchOption, IfSome, position, option_map, bytes_eq};
+ghost use Rattle.hw_text.specs.Parts.{parts_of, first_part, at_end};
 
 fn place_of(bytes: &[u8], at: u8) -> Option<usize>
     ensures { result ≡ position (λ b. b == at) bytes.now }
@@ -32,30 +32,6 @@ pub fn cut_line(bytes: &[u8]) -> Option<(&[u8], &[u8])>
     match cut(bytes, b'\n') {
         None => None,
         Some((line, rest)) => Some((line, rest)),
-    }
-}
-
-/// The first word, and the bytes of the words after it, where there are any.
-pub fn first_word(words: &[u8]) -> (&[u8], Option<&[u8]>)
-    ensures parts { words_of words.now ≡ result.0.now ∷ left_words result.1 }
-    ensures shorter { IfSome result.1 (λ x. length x.now < length words.now) }
-{
-    match cut(words, b' ') {
-        Some((word, rest)) => (word, Some(rest)),
-        None => (words, None),
-    }
-}
-
-/// The two parts of a text that has two.
-pub fn two_parts(bytes: &[u8], at: u8) -> Option<(&[u8], &[u8])>
-    ensures { MatchOption result (length (parts_of at bytes.now) ≢ 2) (λ x. parts_of at bytes.now ≡ x.0.now ∷ x.1.now ∷ []) }
-{
-    let Some((first, second)) = cut(bytes, at) else {
-        return None;
-    };
-    match cut(second, at) {
-        None => Some((first, second)),
-        Some(_) => None,
     }
 }
 
