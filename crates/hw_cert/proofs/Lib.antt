@@ -18,3 +18,4 @@ pub mod FormText
 pub mod ValidText
 pub mod ToldText
 pub mod Chosen
+mod Overlong

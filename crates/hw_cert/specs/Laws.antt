@@ -1,6 +1,7 @@
 -- The laws of the text of certificates.
-use Rattle.std.specs.Prelude.{◌≡◌, ℕ, ◌-◌, ◌^◌, ◌≤◌, Bool, true, false, nat_le, List, [], ◌∷◌, ◌++◌, Some, None, Result, Ok, Err, ⊤}
-use Rattle.std.specs.List.{list_all, flat_map, AllByRecursion}
+use Rattle.std.specs.Prelude.{◌≡◌, ◌⊎◌, ℕ, ◌+◌, ◌-◌, ◌^◌, ◌≤◌, ◌<◌, Bool, true, false, nat_le, List, [], ◌∷◌, ◌++◌, length, take, Some, None, Result, Ok, Err, ⊤}
+use Rattle.std.specs.List.{list_all, flat_map, sum_by, AllByRecursion}
+use Rattle.hw_text.specs.Parts.{parts_of}
 use Rattle.hw_model.specs.declared.lit.Lit.{Lit}
 use Rattle.hw_model.specs.declared.lit.Lit.TheVariants.{AtOrAfter, Before, First, NotFirst}
 use Rattle.hw_model.specs.declared.shape.Shape.{Shape}
@@ -94,3 +95,24 @@ Agrees overlong all read = ⊤
 -- where no limit is passed, the stream is what the bytes read as
 abbrev pub StreamReads : Type 0
 StreamReads = (shape : Shape) (bytes : List ℕ) → Agrees (cert_stream shape bytes).stop (cert_stream shape bytes).lines (cert_read shape bytes)
+
+-- the bytes of a line that has its end
+abbrev pub ended_size : List ℕ → ℕ
+ended_size line = length line + 1
+
+-- a line of so many bytes, whose end has so many, behind so many bytes: it is longer than a line may be, or ends behind
+-- the last byte that a certificate may have
+abbrev pub OverLimit : ℕ → ℕ → ℕ → Type 0
+OverLimit taken size end = (2 ^ 20 < size) ⊎ (2 ^ 40 < taken + size + end)
+
+-- one of these parts round line feeds is such a line
+pub record IsOverLimit (all : List (List ℕ)) : Type 0 where
+  pub before : List (List ℕ)
+  pub line : List ℕ
+  pub more : List (List ℕ)
+  pub parts : all ≡ before ++ line ∷ more
+  pub over : OverLimit (sum_by ended_size before) (length line) (length (take 1 more))
+
+-- the lines of a certificate end at a limit only where one of its lines passes it
+abbrev pub OverlongPasses : Type 0
+OverlongPasses = (shape : Shape) (bytes : List ℕ) → (cert_stream shape bytes).stop ≡ overlong → IsOverLimit (parts_of 10 bytes)

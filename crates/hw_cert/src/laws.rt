@@ -2,7 +2,7 @@
 
 ghost use Rattle.hw_cert.specs.Forms.{FormSpelled, ValidReads};
 ghost use Rattle.hw_cert.specs.Told.{TextTold};
-ghost use Rattle.hw_cert.specs.Laws.{LineSpelled, HeaderSpelled, CertSpelled, StreamSteps, StreamReads};
+ghost use Rattle.hw_cert.specs.Laws.{LineSpelled, HeaderSpelled, CertSpelled, StreamSteps, StreamReads, OverlongPasses};
 
 /// Bytes read as a line exactly where they are the line's one text.
 pub fn line_spelled()
@@ -27,6 +27,11 @@ pub fn stream_steps()
 /// Where no limit is passed, the stream of lines is what the bytes read as.
 pub fn stream_reads()
     ensures { StreamReads }
+{}
+
+/// A certificate ends at a limit only where one of its lines passes it.
+pub fn overlong_passes()
+    ensures { OverlongPasses }
 {}
 
 /// Bytes have a form of a version exactly where they are the text of a line of that form.

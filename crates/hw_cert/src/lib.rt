@@ -22,8 +22,8 @@ mod words;
 
 pub use hw_lines::{CheckWord, Hints, Line, Refusal, Verdict};
 pub use laws::{
-    cert_spelled, form_spelled, header_spelled, line_spelled, stream_reads, stream_steps,
-    text_told, valid_reads,
+    cert_spelled, form_spelled, header_spelled, line_spelled, overlong_passes, stream_reads,
+    stream_steps, text_told, valid_reads,
 };
 pub use log::{Log, LogStop};
 pub use memory_log::MemoryLog;
