@@ -1,8 +1,7 @@
 ghost use Rattle.std.specs.Prelude.{◌≡◌};
 
-use crate::{NoMemory, Order, Room, Shape, Timetable};
+use crate::{NoMemory, Order, Room, Shape, Slot, Timetable};
 use std::alloc::Global;
-use std::process::Abort;
 use std::test::Fail;
 
 const SHAPE: Shape = Shape {
@@ -11,71 +10,83 @@ const SHAPE: Shape = Shape {
     rules: 0,
 };
 
-fn is_inside(alloc: Global, room: &Room, slots: &[u32; 2]) -> Result<bool, NoMemory>
+/// The range of each ship, their order, and whether the room is a point.
+type Seen = ([(Slot, Slot); 2], Order, bool);
+
+fn seen(room: &Room) -> Seen
+    requires two { room.now.ships ≡ 2 }
+{
+    let first = (room.low(0), room.high(0));
+    let second = (room.low(1), room.high(1));
+    ([first, second], room.order(0, 1), room.is_point())
+}
+
+const WHOLE: Seen = ([(0, 2), (0, 2)], Order::Unset, false);
+
+/// A whole room, each ship put in turn, an order put, all left open, and all taken back from a copy.
+const STEPS: [Seen; 6] = [
+    WHOLE,
+    ([(1, 2), (2, 2)], Order::Unset, false),
+    ([(2, 2), (2, 2)], Order::Unset, true),
+    ([(2, 2), (2, 2)], Order::First, true),
+    WHOLE,
+    ([(2, 2), (2, 2)], Order::First, true),
+];
+
+/// What is seen after each of these steps.
+fn steps(alloc: Global) -> Result<[Seen; 6], NoMemory> {
+    let mut room = Room::whole(alloc, SHAPE)?;
+    let mut found = [seen(&room); 6];
+    room.put(0, 1, 2);
+    room.put(1, 2, 2);
+    found[1] = seen(&room);
+    room.put(0, 2, 2);
+    found[2] = seen(&room);
+    room.put_order(0, 1, Order::First);
+    found[3] = seen(&room);
+    let copy = room.copy(alloc)?;
+    room.reset();
+    found[4] = seen(&room);
+    room.copy_from(&copy);
+    found[5] = seen(&room);
+    Ok(found)
+}
+
+#[test]
+fn readers_and_setters(rt: HostRuntime) -> Result<(), Fail> {
+    let found = steps(rt.alloc())?;
+    assert!(rt; found == STEPS, "{found:?}");
+    Ok(())
+}
+
+/// An order, the slots of both ships, and whether they are inside a room in which ship 0 has slot 1
+/// alone and ship 1 any slot.
+const TABLES: [(Order, [Slot; 2], bool); 7] = [
+    (Order::Unset, [1, 0], true),
+    (Order::Unset, [0, 0], false),
+    (Order::Unset, [2, 0], false),
+    (Order::First, [1, 2], true),
+    (Order::First, [1, 1], false),
+    (Order::NotFirst, [1, 1], true),
+    (Order::NotFirst, [1, 2], false),
+];
+
+fn is_inside(alloc: Global, room: &Room, slots: &[Slot; 2]) -> Result<bool, NoMemory>
     requires two { room.now.ships ≡ 2 }
 {
     let table = Timetable::from_slots(alloc, slots)?;
     Ok(room.inside(&table))
 }
 
-fn assert_whole(rt: &impl Abort, room: &Room)
-    requires two { room.now.ships ≡ 2 }
-{
-    for ship in 0..2 {
-        assert_eq!(rt; room.low(ship), 0, "lowest slot of ship {ship}");
-        assert_eq!(rt; room.high(ship), 2, "highest slot of ship {ship}");
-    }
-    assert_eq!(rt; room.order(0, 1), Order::Unset);
-    assert!(rt; !room.is_point(), "a whole room of three slots");
-}
-
-#[test]
-fn readers_and_setters(rt: HostRuntime) -> Result<(), Fail> {
-    let mut room = Room::whole(rt.alloc(), SHAPE)?;
-    assert_eq!(rt; room.ships(), 2);
-    assert_eq!(rt; room.slots(), 3);
-    assert_whole(&rt, &room);
-
-    room.put(0, 1, 2);
-    room.put(1, 2, 2);
-    assert_eq!(rt; (room.low(0), room.high(0)), (1, 2));
-    assert!(rt; !room.is_point(), "ship 0 has two slots");
-    room.put(0, 2, 2);
-    assert!(rt; room.is_point(), "each ship has one slot");
-    assert_eq!(rt; room.low(1), 2);
-
-    room.put_order(0, 1, Order::First);
-    assert_eq!(rt; room.order(0, 1), Order::First);
-    let copy = room.copy(rt.alloc())?;
-    assert_eq!(rt; copy.order(0, 1), Order::First);
-    room.reset();
-    assert_whole(&rt, &room);
-    room.copy_from(&copy);
-    assert_eq!(rt; (room.low(0), room.high(0)), (2, 2), "taken from the copy");
-    assert_eq!(rt; room.order(0, 1), Order::First, "taken from the copy");
-    Ok(())
-}
-
 #[test]
 fn timetables_inside(rt: HostRuntime) -> Result<(), Fail> {
     let mut room = Room::whole(rt.alloc(), SHAPE)?;
     room.put(0, 1, 1);
-    // Ship 0 has slot 1 alone, ship 1 any slot.
-    let rows = [
-        (Order::Unset, [1, 0], true),
-        (Order::Unset, [0, 0], false),
-        (Order::Unset, [2, 0], false),
-        (Order::First, [1, 2], true),
-        (Order::First, [1, 1], false),
-        (Order::NotFirst, [1, 1], true),
-        (Order::NotFirst, [1, 2], false),
-    ];
-    for (order, slots, want) in rows {
+    for (order, slots, wanted) in TABLES {
         room.put_order(0, 1, order);
         let inside = is_inside(rt.alloc(), &room, &slots)?;
-        assert_eq!(rt;
-            inside,
-            want,
+        assert!(rt;
+            inside == wanted,
             "{slots:?} in a room with the order {order:?}"
         );
     }
