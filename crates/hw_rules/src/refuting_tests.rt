@@ -181,62 +181,79 @@ fn answer(flat: &Flat, source: Source, best: Option<u64>, room: &Room) -> Option
     }
 }
 
-fn try_rules(
-    rt: &impl Abort,
+/// The same of the room of these ranges and orders.
+fn answer_in(
     alloc: Global,
     flat: &Flat,
-    rows: &[RuleRow],
-) -> Result<(), NoMemory> {
+    source: Source,
+    best: Option<u64>,
+    ranges: &Ranges,
+    orders: &Orders,
+) -> Result<Option<bool>, NoMemory> {
+    let room = room_of(alloc, flat, ranges, orders)?;
+    Ok(answer(flat, source, best, &room))
+}
+
+fn try_rules(rt: &impl Abort, alloc: Global, text: &[u8], rows: &[RuleRow]) -> Result<(), Fail> {
+    let flat = Flat::read(alloc, text)?;
     for (name, place, first, second, order, wanted) in rows {
-        let orders = [*order, Unset, Unset];
-        let room = room_of(alloc, flat, &[*first, *second, (0, 0)], &orders)?;
         let source = Source::Rule { place: *place };
-        assert_eq!(rt; answer(flat, source, None, &room), Some(*wanted), "{name}");
+        let ranges = [*first, *second, (0, 0)];
+        let given = answer_in(alloc, &flat, source, None, &ranges, &[*order, Unset, Unset])?;
+        assert_eq!(rt; given, Some(*wanted), "{name}");
     }
     Ok(())
 }
 
 #[test]
-fn sources_refute(rt: HostRuntime) -> Result<(), Fail> {
-    let alloc = rt.alloc();
-    let flat = Flat::read(alloc, SAILING_PROBLEM)?;
+fn windows_refute(rt: HostRuntime) -> Result<(), Fail> {
+    let flat = Flat::read(rt.alloc(), SAILING_PROBLEM)?;
+    let source = Source::Window { ship: 0 };
     for (name, range, wanted) in WINDOWS {
-        let room = room_of(alloc, &flat, &[range, (0, 0), (0, 0)], &OPEN)?;
-        let source = Source::Window { ship: 0 };
-        assert_eq!(rt;
-            answer(&flat, source, Some(0), &room),
-            Some(wanted),
-            "{name}"
-        );
+        let ranges = [range, (0, 0), (0, 0)];
+        let given = answer_in(rt.alloc(), &flat, source, Some(0), &ranges, &OPEN)?;
+        assert_eq!(rt; given, Some(wanted), "{name}");
     }
+    Ok(())
+}
+
+#[test]
+fn orders_refute(rt: HostRuntime) -> Result<(), Fail> {
+    let flat = Flat::read(rt.alloc(), SAILING_PROBLEM)?;
+    let source = Source::Order { v: 0, w: 1, x: 2 };
+    let ranges = [(0, 3), (0, 3), (0, 3)];
     for (name, orders, wanted) in TRIPLES {
-        let room = room_of(alloc, &flat, &[(0, 3), (0, 3), (0, 3)], &orders)?;
-        let source = Source::Order { v: 0, w: 1, x: 2 };
-        assert_eq!(rt;
-            answer(&flat, source, Some(9), &room),
-            Some(wanted),
-            "{name}"
-        );
+        let given = answer_in(rt.alloc(), &flat, source, Some(9), &ranges, &orders)?;
+        assert_eq!(rt; given, Some(wanted), "{name}");
     }
+    Ok(())
+}
+
+#[test]
+fn goals_refute(rt: HostRuntime) -> Result<(), Fail> {
+    let flat = Flat::read(rt.alloc(), SAILING_PROBLEM)?;
     for (name, best, ranges, wanted) in GOALS {
-        let room = room_of(alloc, &flat, &ranges, &OPEN)?;
-        assert_eq!(rt;
-            answer(&flat, Source::Goal, best, &room),
-            Some(wanted),
-            "{name}"
-        );
+        let given = answer_in(rt.alloc(), &flat, Source::Goal, best, &ranges, &OPEN)?;
+        assert_eq!(rt; given, Some(wanted), "{name}");
     }
     Ok(())
 }
 
 #[test]
 fn rules_refute(rt: HostRuntime) -> Result<(), Fail> {
-    let alloc = rt.alloc();
-    let flat = Flat::read(alloc, SAILING_PROBLEM)?;
-    try_rules(&rt, alloc, &flat, &SAILING)?;
-    let flat = Flat::read(alloc, STAYING_PROBLEM)?;
-    try_rules(&rt, alloc, &flat, &STAYING)?;
+    try_rules(&rt, rt.alloc(), SAILING_PROBLEM, &SAILING)?;
+    try_rules(&rt, rt.alloc(), STAYING_PROBLEM, &STAYING)?;
     Ok(())
+}
+
+/// The source of a restriction, and the number of another source, where the problem has both.
+fn numbered(flat: &Flat, number: u32, source: Source) -> Option<(Source, Option<u32>)> {
+    let shape = flat.shape();
+    if number < shape.ships + shape.rules && is_source(flat, source) {
+        Some((source_of(flat, number), number_of(flat, source)))
+    } else {
+        None
+    }
 }
 
 #[test]
@@ -248,40 +265,57 @@ fn numbers_of_restrictions(rt: HostRuntime) -> Result<(), Fail> {
         (7, Source::Rule { place: 4 }),
     ];
     for (number, source) in rows {
-        let shape = flat.shape();
-        if number < shape.ships + shape.rules && is_source(&flat, source) {
-            assert_eq!(rt; source_of(&flat, number), source, "restriction {number}");
-            assert_eq!(rt;
-                number_of(&flat, source),
-                Some(number),
-                "restriction {number}"
-            );
-        } else {
-            assert!(rt; false, "no restriction {number}");
-        }
+        let wanted = Some((source, Some(number)));
+        assert_eq!(rt;
+            numbered(&flat, number, source),
+            wanted,
+            "restriction {number}"
+        );
     }
     assert_eq!(rt; number_of(&flat, Source::Goal), None);
+    Ok(())
+}
+
+#[test]
+fn sources_in_order(rt: HostRuntime) -> Result<(), Fail> {
+    let flat = Flat::read(rt.alloc(), SAILING_PROBLEM)?;
     let listed = sources(rt.alloc(), &flat)?;
     assert_eq!(rt; listed.as_slice(), SOURCES.as_slice());
     Ok(())
 }
 
-#[test]
-fn figures_of_rooms(rt: HostRuntime) -> Result<(), Fail> {
-    let alloc = rt.alloc();
-    let flat = Flat::read(alloc, SAILING_PROBLEM)?;
-    let room = room_of(alloc, &flat, &[(1, 1), (2, 5), (0, 4)], &OPEN)?;
-    if fits(&flat, &room) && flat.shape().ships == 3 && flat.shape().slots == 6 {
-        assert_eq!(rt; greatest_value(&flat, 1, 2, 5), 7);
-        assert_eq!(rt; greatest_sum(&flat, &room), 10, "0, 7 and 3");
+/// The greatest value of ship 1 in slots 2 to 5, and the room's greatest sum.
+fn greatest(flat: &Flat, room: &Room) -> Option<(u64, u64)> {
+    if fits(flat, room) && flat.shape().ships == 3 && flat.shape().slots == 6 {
+        Some((greatest_value(flat, 1, 2, 5), greatest_sum(flat, room)))
+    } else {
+        None
+    }
+}
+
+/// The tugs that the room forces in slot 2, by the first rule on tugs.
+fn forced(flat: &Flat, room: &Room) -> Option<u64> {
+    if fits(flat, room) {
         for rule in flat.rules() {
             if let Rule::Tugs { jobs, .. } = rule {
-                assert_eq!(rt; forced_tugs(&jobs.items, &room, 2), 1, "ship 0 alone");
+                return Some(forced_tugs(&jobs.items, room, 2));
             }
         }
-    } else {
-        assert!(rt; false, "the problem's sizes");
     }
+    None
+}
+
+#[test]
+fn figures_of_rooms(rt: HostRuntime) -> Result<(), Fail> {
+    let flat = Flat::read(rt.alloc(), SAILING_PROBLEM)?;
+    let room = room_of(rt.alloc(), &flat, &[(1, 1), (2, 5), (0, 4)], &OPEN)?;
+    assert_eq!(rt; greatest(&flat, &room), Some((7, 10)), "10 is 0, 7 and 3");
+    assert_eq!(rt; forced(&flat, &room), Some(1), "ship 0 alone");
+    Ok(())
+}
+
+#[test]
+fn greater_ship_first(rt: HostRuntime) {
     let rule = one_hole(4, 1, 3);
     assert_eq!(rt; (rule.lesser, rule.greater), (1, 4));
     assert_eq!(rt; (rule.hole.lo, rule.hole.hi), (-2, 1_023));
@@ -289,6 +323,9 @@ fn figures_of_rooms(rt: HostRuntime) -> Result<(), Fail> {
         matches!(rule.freeing, Freeing::Lesser),
         "the second ship is the lesser"
     );
+}
+
+#[test]
+fn cargo_beats(rt: HostRuntime) {
     assert!(rt; beats(8, Some(7)) && beats(0, None) && !beats(7, Some(7)));
-    Ok(())
 }
