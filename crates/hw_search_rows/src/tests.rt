@@ -1,11 +1,14 @@
-use crate::turns::{begin, take_turns};
+ghost use Rattle.std.specs.Prelude.{◌≤◌};
+
+use crate::turns::{decided, settled, whole_run};
 use hw_cert::{Line, MemoryLog};
 use hw_flat::{Flat, Order, Room, Slot, make_demo};
 use hw_model::Lit;
-use hw_progress::{Branching, Settled};
+use hw_progress::Branching;
 use hw_search::{luby, solve};
 use hw_store::{ScanStore, WatchStore};
 use std::alloc::Global;
+use std::process::Abort;
 use std::test::Fail;
 
 const APART: &[u8] = b"flat 1\nsize 2 3\nv 10 20 30\nv 10 20 30\np 0 1 -1:1\nend\n";
@@ -44,14 +47,12 @@ fn restarts_go_to_level_0(rt: HostRuntime) -> Result<(), Fail> {
     let alloc = rt.alloc();
     let flat = Flat::read(alloc, SEVEN)?;
     let store = WatchStore::new(alloc, &flat)?;
-    let mut search = begin(alloc, &flat, store, Branching::Greatest)?;
     let mut log = MemoryLog::new(alloc);
-    let mut levels = Vec::new(alloc);
-    take_turns(alloc, &flat, 390, &mut search, &mut log, &mut levels)?;
+    let run = whole_run(alloc, &flat, store, 390, &mut log)?;
     let mut lemmas = 0usize;
     for line in log.lines() {
         if let Line::Lemma { clause, .. } = line {
-            if let Some(level) = levels.get(lemmas) {
+            if let Some(level) = run.levels.get(lemmas) {
                 lemmas += 1;
                 let back = clause.len() == 1 || RESTARTS.contains(&lemmas);
                 assert_eq!(rt; *level == 0, back, "behind lemma {lemmas}");
@@ -84,10 +85,9 @@ fn settles_to(
 ) -> Result<bool, Fail> {
     let flat = Flat::read(alloc, text)?;
     let store = ScanStore::new(alloc, &flat)?;
-    let mut search = begin(alloc, &flat, store, Branching::Greatest)?;
-    match search.settle(alloc)? {
-        Settled::Quiet => Ok(quiet && is_room(search.room(), ranges, order)),
-        Settled::Conflict(_why) => Ok(!quiet),
+    match settled(alloc, &flat, store)? {
+        Some(room) => Ok(quiet && is_room(&room, ranges, order)),
+        None => Ok(!quiet),
     }
 }
 
@@ -109,11 +109,7 @@ fn settles(rt: HostRuntime) -> Result<(), Fail> {
 fn decides_by(alloc: Global, text: &[u8], branching: Branching, lit: Lit) -> Result<bool, Fail> {
     let flat = Flat::read(alloc, text)?;
     let store = ScanStore::new(alloc, &flat)?;
-    let search = begin(alloc, &flat, store, branching)?;
-    if search.room().is_point() {
-        return Ok(false);
-    }
-    Ok(search.branch() == lit)
+    Ok(decided(alloc, &flat, store, branching)? == Some(lit))
 }
 
 const TWO_SHIPS: &[u8] = b"flat 1\nsize 2 2\nv 5 9\nv 9 1\nend\n";
@@ -124,37 +120,21 @@ const NONE_AND_ZERO: &[u8] = b"flat 1\nsize 1 2\nv - 0\nend\n";
 
 const ZERO_AND_ONE: &[u8] = b"flat 1\nsize 2 2\nv - 0\nv - 1\nend\n";
 
+const AFTER: Lit = Lit::AtOrAfter { ship: 0, slot: 1 };
+
+const BEFORE: Lit = Lit::Before { ship: 0, slot: 1 };
+
+const OTHER_SHIP: Lit = Lit::AtOrAfter { ship: 1, slot: 1 };
+
+const LAST: Lit = Lit::AtOrAfter { ship: 0, slot: 2 };
+
 const DECIDED: [(&[u8], Branching, Lit); 6] = [
-    (
-        TWO_SHIPS,
-        Branching::Greatest,
-        Lit::AtOrAfter { ship: 0, slot: 1 },
-    ),
-    (
-        TWO_SLOTS,
-        Branching::Greatest,
-        Lit::Before { ship: 0, slot: 1 },
-    ),
-    (
-        NONE_AND_ZERO,
-        Branching::Greatest,
-        Lit::Before { ship: 0, slot: 1 },
-    ),
-    (
-        ZERO_AND_ONE,
-        Branching::Greatest,
-        Lit::AtOrAfter { ship: 1, slot: 1 },
-    ),
-    (
-        TWO_SHIPS,
-        Branching::Earliest,
-        Lit::Before { ship: 0, slot: 1 },
-    ),
-    (
-        TWO_SLOTS,
-        Branching::Latest,
-        Lit::AtOrAfter { ship: 0, slot: 2 },
-    ),
+    (TWO_SHIPS, Branching::Greatest, AFTER),
+    (TWO_SLOTS, Branching::Greatest, BEFORE),
+    (NONE_AND_ZERO, Branching::Greatest, BEFORE),
+    (ZERO_AND_ONE, Branching::Greatest, OTHER_SHIP),
+    (TWO_SHIPS, Branching::Earliest, BEFORE),
+    (TWO_SLOTS, Branching::Latest, LAST),
 ];
 
 #[test]
@@ -167,26 +147,40 @@ fn decides(rt: HostRuntime) -> Result<(), Fail> {
 
 const SAME: [(&[u8], u32); 4] = [(APART, 109), (TUGS, 1324), (CROWDED, 2), (APART, 1)];
 
-// Whether a solution and the turns of a search hand the same lines, and some, to their logs.
-fn same_lines(alloc: Global, flat: &Flat, budget: u32) -> Result<bool, Fail> {
-    let budget = budget.clamp(1, 100_000);
-    let mut solved = MemoryLog::new(alloc);
-    solve(alloc, flat, budget, &mut solved);
+// The lines that a solution hands to its log.
+fn solved_lines(alloc: Global, flat: &Flat, budget: u32) -> Result<String, Fail>
+    requires least { 1 ≤ budget }
+    requires most { budget ≤ 100_000 }
+{
+    let mut log = MemoryLog::new(alloc);
+    solve(alloc, flat, budget, &mut log);
+    Ok(format!(in alloc; "{:?}", log.lines())?)
+}
+
+// The lines that the turns of a search hand to their log, of which there are some.
+fn turned_lines(rt: &impl Abort, alloc: Global, flat: &Flat, budget: u32) -> Result<String, Fail>
+    requires most { budget ≤ 100_000 }
+{
     let store = WatchStore::new(alloc, flat)?;
-    let mut search = begin(alloc, flat, store, Branching::Greatest)?;
-    let mut turned = MemoryLog::new(alloc);
-    let mut levels = Vec::new(alloc);
-    take_turns(alloc, flat, budget, &mut search, &mut turned, &mut levels)?;
-    let one = format!(in alloc; "{:?}", solved.lines())?;
-    let other = format!(in alloc; "{:?}", turned.lines())?;
-    Ok(!turned.lines().is_empty() && one.as_str() == other.as_str())
+    let mut log = MemoryLog::new(alloc);
+    whole_run(alloc, flat, store, budget, &mut log)?;
+    assert!(rt; !log.lines().is_empty());
+    Ok(format!(in alloc; "{:?}", log.lines())?)
+}
+
+// Whether a solution and the turns of a search hand the same lines, and some, to their logs.
+fn same_lines(rt: &impl Abort, alloc: Global, flat: &Flat, budget: u32) -> Result<bool, Fail> {
+    let budget = budget.clamp(1, 100_000);
+    let one = solved_lines(alloc, flat, budget)?;
+    let other = turned_lines(rt, alloc, flat, budget)?;
+    Ok(one == other)
 }
 
 #[test]
 fn solve_is_turns(rt: HostRuntime) -> Result<(), Fail> {
     for (text, budget) in SAME {
         let flat = Flat::read(rt.alloc(), text)?;
-        assert!(rt; same_lines(rt.alloc(), &flat, budget)?, "{budget}");
+        assert!(rt; same_lines(&rt, rt.alloc(), &flat, budget)?, "{budget}");
     }
     Ok(())
 }
@@ -194,7 +188,7 @@ fn solve_is_turns(rt: HostRuntime) -> Result<(), Fail> {
 #[test]
 fn solve_is_turns_of_a_demonstration(rt: HostRuntime) -> Result<(), Fail> {
     let flat = make_demo(rt.alloc(), 11, 8, 96)?;
-    assert!(rt; same_lines(rt.alloc(), &flat, 200)?);
+    assert!(rt; same_lines(&rt, rt.alloc(), &flat, 200)?);
     Ok(())
 }
 
@@ -212,20 +206,17 @@ const FOUND: [(&[u8], &[[Slot; 2]]); 6] = [
 fn ends_with(alloc: Global, text: &[u8], wanted: &[[Slot; 2]]) -> Result<bool, Fail> {
     let flat = Flat::read(alloc, text)?;
     let store = ScanStore::new(alloc, &flat)?;
-    let mut search = begin(alloc, &flat, store, Branching::Greatest)?;
     let mut log = MemoryLog::new(alloc);
-    let mut levels = Vec::new(alloc);
-    if !take_turns(alloc, &flat, 2000, &mut search, &mut log, &mut levels)? {
-        return Ok(false);
-    }
-    match search.best() {
-        Some(table) => Ok(
-            wanted
-                .iter()
-                .any(|slots| slots.as_slice() == table.as_slice()),
-        ),
-        None => Ok(wanted.is_empty()),
-    }
+    let run = whole_run(alloc, &flat, store, 2000, &mut log)?;
+    let right = match &run.best {
+        Some(table) => is_among(table.as_slice(), wanted),
+        None => wanted.is_empty(),
+    };
+    Ok(run.ended && right)
+}
+
+fn is_among(slots: &[Slot], wanted: &[[Slot; 2]]) -> bool {
+    wanted.iter().any(|one| one.as_slice() == slots)
 }
 
 #[test]

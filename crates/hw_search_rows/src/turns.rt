@@ -7,15 +7,23 @@ ghost use Rattle.hw_model.specs.Rooms.{whole_room};
 ghost use Rattle.hw_progress.specs.Searches.{new_search};
 
 use hw_cert::Log;
-use hw_flat::Flat;
-use hw_model::NoMemory;
-use hw_progress::{Branching, Turn};
+use hw_flat::{Flat, Room, Timetable};
+use hw_model::{Lit, NoMemory};
+use hw_progress::{Branching, Settled, Turn};
 use hw_search::{AnyPropagator, Search, propagators};
 use hw_store::Store;
 use std::alloc::Global;
 
-/// A search over a store, which has done nothing.
-pub fn begin<'f, S: Store + Drop>(
+/// What came of a whole run: the levels are those behind each lemma with literals.
+#[derive(Drop)]
+pub struct Run {
+    pub ended: bool,
+    pub best: Option<Timetable>,
+    pub levels: Vec<u32>,
+}
+
+// A search over a store, which has done nothing.
+fn begin<'f, S: Store + Drop>(
     alloc: Global,
     flat: &'f Flat,
     store: S,
@@ -30,9 +38,9 @@ pub fn begin<'f, S: Store + Drop>(
     Search::new(alloc, flat, store, props, branching)
 }
 
-/// Turn after turn of a search that has done nothing, until it ended or has as many lemmas as the
-/// budget says. Gives whether it ended, and lists the level behind each lemma with literals.
-pub fn take_turns<S: Store + Drop, L: Log>(
+// Turn after turn of a search that has done nothing, until it ended or has as many lemmas as the
+// budget says. Gives whether it ended, and lists the level behind each lemma with literals.
+fn take_turns<S: Store + Drop, L: Log>(
     alloc: Global,
     flat: &Flat,
     budget: u32,
@@ -57,4 +65,65 @@ pub fn take_turns<S: Store + Drop, L: Log>(
         }
     }
     Ok(false)
+}
+
+/// Turn after turn of a search over a store without clauses.
+pub fn whole_run<S: Store + Drop, L: Log>(
+    alloc: Global,
+    flat: &Flat,
+    store: S,
+    budget: u32,
+    log: &mut L,
+) -> Result<Run, NoMemory>
+    requires empty { S.clauses store ≡ [] }
+    requires ships { S.ships store ≡ flat.now.ships }
+    requires right { S.ready store (whole_room (shape_of flat.now)) }
+    requires most { budget ≤ 100_000 }
+    requires none { IsEmpty (L.state log.old) }
+{
+    let mut search = begin(alloc, flat, store, Branching::Greatest)?;
+    let mut levels = Vec::new(alloc);
+    let ended = take_turns(alloc, flat, budget, &mut search, log, &mut levels)?;
+    let best = search.into_best();
+    Ok(Run {
+        ended,
+        best,
+        levels,
+    })
+}
+
+/// The room to which the whole room settles over a store without clauses, none where there is a
+/// conflict.
+pub fn settled<S: Store + Drop>(
+    alloc: Global,
+    flat: &Flat,
+    store: S,
+) -> Result<Option<Room>, NoMemory>
+    requires empty { S.clauses store ≡ [] }
+    requires ships { S.ships store ≡ flat.now.ships }
+    requires right { S.ready store (whole_room (shape_of flat.now)) }
+{
+    let mut search = begin(alloc, flat, store, Branching::Greatest)?;
+    match search.settle(alloc)? {
+        Settled::Quiet => Ok(Some(search.room().copy(alloc)?)),
+        Settled::Conflict(_why) => Ok(None),
+    }
+}
+
+/// The literal by which a rule decides in the whole room, none where that is a point.
+pub fn decided<S: Store + Drop>(
+    alloc: Global,
+    flat: &Flat,
+    store: S,
+    branching: Branching,
+) -> Result<Option<Lit>, NoMemory>
+    requires empty { S.clauses store ≡ [] }
+    requires ships { S.ships store ≡ flat.now.ships }
+    requires right { S.ready store (whole_room (shape_of flat.now)) }
+{
+    let search = begin(alloc, flat, store, branching)?;
+    if search.room().is_point() {
+        return Ok(None);
+    }
+    Ok(Some(search.branch()))
 }
