@@ -2,7 +2,7 @@
 use Rattle.std.proofs.Common.{◌≡◌, ◌<◌, ◌==◌, ◌||◌, ◌++◌, ◌∙◌, ℕ, Bool, true, false, cond, List, [], ◌∷◌, Option, Some, None, length, append-nil, inl, refl, sym, ap, subst, arith}
 use Rattle.std.specs.Prelude.{IfSome, IsSomeAnd}
 use Rattle.hw_desk.specs.Calls.{OnlyFeed, OnlyTray}
-use Rattle.hw_desk.specs.State.{DeskState, FeedState, place_of, same_feed, Rose}
+use Rattle.hw_desk.specs.State.{DeskState, FeedState, IsNew, place_of, same_feed, Rose}
 use Rattle.hw_desk.specs.declared.desk.Feed.{Feed}
 use Rattle.hw_desk.specs.declared.desk.Feed.TheVariants.{Flat, Instance, Tides, Certificate, Plan, Events}
 use Rattle.hw_desk.specs.declared.desk.Tray.{Tray}
@@ -10,14 +10,8 @@ use Rattle.hw_desk.specs.declared.whole.ReadStop.{ReadStop}
 use Rattle.hw_desk.specs.declared.whole.ReadStop.TheVariants as stops
 use Rattle.hw_report.specs.Reports.{Report, read_fault, too_long, no_memory}
 use Rattle.hw_app.specs.Inputs.{Enters, StopsFor, report_of_stop}
-use Rattle.hw_app.specs.Scope.{Named, named, is_among, last_of, IsBegun, AllBegun, BeginsAll}
-use Rattle.hw_app.specs.Works.{Speaks, of_answer, of_input, of_memory, speaks, UpTo, TraysOf, ReadCauseOf, PassesLimit, LongCauseOf, Works, most_bytes}
-
--- these inputs were begun, and neither a tray nor a write was touched
-pub record Entered (done : List Named) (x y : DeskState) : Type 0 where
-  pub begins : BeginsAll done x y
-  pub trays : y.trays ≡ x.trays
-  pub write_faults : y.write_faults ≡ x.write_faults
+use Rattle.hw_app.specs.Scope.{Named, named, is_among, last_of, IsBegun, AllBegun, BeginsAll, Entered}
+use Rattle.hw_app.specs.Works.{Speaks, of_answer, of_input, of_memory, speaks, is_common, UpTo, TraysOf, ReadCauseOf, PassesLimit, LongCauseOf, Works, Stops, most_bytes}
 
 not_first : (a b : Bool) → (a || b) ≡ false → a ≡ false
 not_first true b e = absurd (cc)
@@ -100,7 +94,7 @@ last_is [] last = refl
 last_is (input ∷ []) last = refl
 last_is (input ∷ next ∷ more) last = last_is (next ∷ more) last
 
-some_is : (P : Named → Type 0) (o : Option Named) (x : Named) → o ≡ Some x → P x → IsSomeAnd o P
+pub some_is : (P : Named → Type 0) (o : Option Named) (x : Named) → o ≡ Some x → P x → IsSomeAnd o P
 some_is P o x e p = subst (λ (v : Option Named). IsSomeAnd v P) (sym e) p
 
 no_tray : (x y : DeskState) (proof : Option (List ℕ)) (s : Speaks) → y.trays ≡ x.trays → TraysOf proof x y s
@@ -162,8 +156,27 @@ passes Events told h = h
 pub rose_on : {a b c : ℕ} → b ≡ a → Rose b c → Rose a c
 rose_on e h = omega arith
 
--- the work that ends at an input that isn't had
-pub stops_at : {inputs : List Named} {x z : DeskState} (y : DeskState) (proof : Option (List ℕ)) (done : List Named) (feed : Feed) (name : List ℕ) (rest : List Named) (stop : ReadStop) → inputs ≡ (done ++ named feed name ∷ []) ++ rest → Entered (done ++ named feed name ∷ []) x z → y.read_faults ≡ x.read_faults → StopsFor (x.held name) y z stop → Works inputs proof x z (report_of_stop feed stop)
-stops_at y proof done feed name rest stops.Fault parts h before s = refuses proof done (named feed name) rest (read_fault feed) parts refl h (rose_on before s) tt
-stops_at {x = x} y proof done feed name rest stops.TooLong parts h before s = refuses proof done (named feed name) rest (too_long feed) parts refl h (s.1 ∙ before) (some_is _ (last_of (done ++ named feed name ∷ [])) (named feed name) (last_is done (named feed name)) (passes feed (x.held name) s.0))
-stops_at y proof done feed name rest stops.NoMemory parts h before s = wants_memory proof (done ++ named feed name ∷ []) rest parts h (s ∙ before)
+-- an input that isn't had
+pub input_stops : {inputs : List Named} {Why : Report → Type 0} {x z : DeskState} (y : DeskState) (done : List Named) (feed : Feed) (name : List ℕ) (rest : List Named) (stop : ReadStop) → is_common (too_long feed) ≡ true → inputs ≡ (done ++ named feed name ∷ []) ++ rest → Entered (done ++ named feed name ∷ []) x z → y.read_faults ≡ x.read_faults → StopsFor (x.held name) y z stop → Stops inputs Why x z (report_of_stop feed stop)
+input_stops y done feed name rest stops.Fault common parts h before s = record {
+  works = refuses None done (named feed name) rest (read_fault feed) parts refl h (rose_on before s) tt;
+  early = λ e. absurd (cc);
+  why = λ own. absurd (cc);
+}
+input_stops {x = x} y done feed name rest stops.TooLong common parts h before s = record {
+  works = refuses None done (named feed name) rest (too_long feed) parts refl h (s.1 ∙ before) (some_is _ (last_of (done ++ named feed name ∷ [])) (named feed name) (last_is done (named feed name)) (passes feed (x.held name) s.0));
+  early = λ e. absurd (cc);
+  why = λ own. absurd (cc);
+}
+input_stops y done feed name rest stops.NoMemory common parts h before s = record {
+  works = wants_memory None (done ++ named feed name ∷ []) rest parts h (s ∙ before);
+  early = λ e. absurd (cc);
+  why = λ own. absurd (cc);
+}
+
+-- a feed that wasn't begun, and a tray that wasn't made, are as new
+pub still_unread : {inputs : List Named} {x y : DeskState} (feed : Feed) → IsNew x → Entered inputs x y → is_among inputs feed ≡ false → (y.feeds feed).begun ≡ false
+still_unread feed new h e = ap (λ (s : FeedState). s.begun) (h.begins.others feed e) ∙ new.feeds feed
+
+pub still_unmade : {inputs : List Named} {x y : DeskState} (tray : Tray) → IsNew x → Entered inputs x y → (y.trays tray).made ≡ false
+still_unmade tray new h = ap (λ trays. (trays tray).made) h.trays ∙ new.trays tray

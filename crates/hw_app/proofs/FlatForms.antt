@@ -1,31 +1,58 @@
 -- The forms that begin with a flat text.
-use Rattle.std.proofs.Common.{◌≡◌, ℕ, false, List, [], ◌∷◌, Option, Result, Err, refl}
-use Rattle.std.specs.Prelude.{IfSome}
+use Rattle.std.proofs.Common.{◌≡◌, ◌≤◌, ℕ, List, [], ◌∷◌, length, Option, Some, None, Result, Ok, Err, refl, sym, subst}
+use Rattle.std.specs.Prelude.{IfSome, Vec}
+use Rattle.std.specs.declared.alloc.Global.{Global}
 use Rattle.hw_desk.specs.State.{DeskState}
 use Rattle.hw_desk.specs.declared.desk.Feed.TheVariants.{Flat}
-use Rattle.hw_desk.specs.declared.whole.ReadStop.TheVariants as stops
+use Rattle.hw_desk.specs.declared.whole.ReadStop.{ReadStop}
+use Rattle.hw_model.specs.Limits.{IsFlat}
 use Rattle.hw_model.specs.Problem.{Problem}
+use Rattle.hw_flat.specs.Text.{Fails, flat_text}
+use Rattle.hw_flat.specs.declared.fault.FlatFault.{FlatFault}
+use Rattle.hw_flat.specs.declared.fault.FlatFault.TheVariants as faults
 use Rattle.hw_flat.specs.declared.fault.FlatWord.{FlatWord}
 use Rattle.hw_report.specs.Reports.{Report, bad_flat}
-use Rattle.hw_app.specs.Inputs.{ReadsFlat, IsBadAt, report_of_flat}
-use Rattle.hw_app.specs.Scope.{Named, named}
-use Rattle.hw_app.specs.Works.{is_common, Works}
-use Rattle.hw_app.specs.declared.input.FlatStop.{FlatStop}
-use Rattle.hw_app.specs.declared.input.FlatStop.TheVariants.{Input, Line}
-use Rattle.hw_app.proofs.Begun.{Entered, entered_none, entered_on, stops_at, refuses}
+use Rattle.hw_app.specs.Inputs.{ReadsInput, IsWholeOf, ReadsFlat, NoFlat, StopsAtFlat, report_of_fault, report_of_stop}
+use Rattle.hw_app.specs.Scope.{Entered, named}
+use Rattle.hw_app.specs.Works.{most_bytes}
+use Rattle.hw_app.proofs.Begun.{entered_none, entered_on, input_stops, refuses, wants_memory}
+
+-- what is so of the bytes that were read is so of those that are told
+of_whole : (P : List ℕ → Type 0) (told : Option (List ℕ)) (bytes : List ℕ) → IsWholeOf told bytes → P bytes → IfSome told (λ all. (length all ≤ most_bytes) × P all)
+of_whole P None bytes whole p = tt
+of_whole P (Some all) bytes whole p = subst (λ (xs : List ℕ). (length xs ≤ most_bytes) × P xs) (sym whole.0) (whole.1, p)
 
 -- the flat text was begun
-pub flat_entered : {name : List ℕ} {x y : DeskState} {r : Result Problem FlatStop} → ReadsFlat name x y r → Entered (named Flat name ∷ []) x y
-flat_entered {x = x} h = entered_on [] (entered_none x) h.enters refl
+entered : {name : List ℕ} {x y : DeskState} {r : Result (Vec ℕ Global) ReadStop} → ReadsInput Flat name x y r → Entered (named Flat name ∷ []) x y
+entered {x = x} h = entered_on [] (entered_none x) h.enters refl
 
--- the work of a form whose flat text gives no problem
-pub no_flat_works : {name : List ℕ} {x y : DeskState} (proof : Option (List ℕ)) (rest : List Named) (stop : FlatStop) → ReadsFlat name x y (Err stop) → Works (named Flat name ∷ rest) proof x y (report_of_flat stop)
-no_flat_works {name = name} {x = x} {y = y} proof rest (Input stop) h = stops_at x proof [] Flat name rest stop refl (flat_entered h) refl h.answer
-no_flat_works {name = name} proof rest (Line number word) h = refuses proof [] (named Flat name) rest (bad_flat number word) refl refl (flat_entered h) h.answer.1 tt
+-- the text isn't had
+pub no_text_stops : {name : List ℕ} {x y : DeskState} (stop : ReadStop) → ReadsInput Flat name x y (Err stop) → StopsAtFlat name x y (report_of_stop Flat stop)
+no_text_stops {name = name} {x = x} stop h = input_stops x [] Flat name [] stop refl refl (entered h) refl h.answer
 
--- what such a report says, where its cause isn't common to all forms: the first bad line
-pub no_flat_says : {name : List ℕ} {x y : DeskState} (P : Report → Type 0) (stop : FlatStop) → ReadsFlat name x y (Err stop) → ((number : ℕ) (word : FlatWord) → IfSome (x.held name) (IsBadAt number word) → P (bad_flat number word)) → is_common (report_of_flat stop) ≡ false → P (report_of_flat stop)
-no_flat_says P (Input stops.Fault) h says e = absurd (cc)
-no_flat_says P (Input stops.TooLong) h says e = absurd (cc)
-no_flat_says P (Input stops.NoMemory) h says e = absurd (cc)
-no_flat_says P (Line number word) h says e = says number word h.answer.0
+-- it has a bad line
+pub bad_text_stops : {name : List ℕ} {x y : DeskState} {v : Vec ℕ Global} (fault : FlatFault) → ReadsInput Flat name x y (Ok v) → Fails fault (flat_text v.items) → StopsAtFlat name x y (report_of_fault fault)
+bad_text_stops {name = name} {x = x} {v = v} (faults.Line number word) h fails = record {
+  works = refuses None [] (named Flat name) [] (bad_flat number word) refl refl (entered h) h.answer.1 tt;
+  early = λ e. absurd (cc);
+  why = λ own. of_whole (λ bytes. flat_text bytes ≡ Err (record { number = number; word = word })) (x.held name) v.items h.answer.0 fails;
+}
+bad_text_stops {name = name} faults.NoMemory h fails = record {
+  works = wants_memory None (named Flat name ∷ []) [] refl (entered h) h.answer.1;
+  early = λ e. absurd (cc);
+  why = λ own. absurd (cc);
+}
+
+-- it is that of a problem
+pub reads_flat : {name : List ℕ} {x y : DeskState} {v : Vec ℕ Global} {f : Problem} → ReadsInput Flat name x y (Ok v) → flat_text v.items ≡ Ok f → IsFlat f → ReadsFlat name x y f
+reads_flat {name = name} {x = x} {v = v} {f = f} h is_text limits = record {
+  entered = entered h;
+  read_faults = h.answer.1;
+  limits = limits;
+  reads = of_whole (λ bytes. flat_text bytes ≡ Ok f) (x.held name) v.items h.answer.0 is_text;
+}
+
+-- what a report says of a text without a problem, by the one that has a cause of its own
+pub by_line : (text : Option (List ℕ)) (P : Report → Type 0) (r : Report) → ((number : ℕ) (word : FlatWord) → NoFlat text (bad_flat number word) → P (bad_flat number word)) → NoFlat text r → P r
+by_line text P (bad_flat number word) line h = line number word h
+by_line text P r line h = absurd h

@@ -21,10 +21,11 @@ use Rattle.hw_check.specs.declared.stop.CheckStop.TheVariants as checks
 use Rattle.hw_cert.specs.declared.stop.LineStop.{LineStop}
 use Rattle.hw_cert.specs.declared.stop.LineStop.TheVariants as stops
 use Rattle.hw_app.specs.Certificates.{cert_outcome}
-use Rattle.hw_app.specs.Checking.{Reached, rest_outcome, ComesOrStops, FindsOrStops, IsOpen, line_number, of_check_stop, of_line_stop}
+use Rattle.hw_app.specs.Checking.{Reached, rest_outcome, ComesOrStops, FindsOrStops, IsOpen, OpensCert, ChecksCert, line_number, of_check_stop, of_line_stop}
 use Rattle.hw_app.specs.Inputs.{Enters}
-use Rattle.hw_app.specs.Keeping.{before_lines, whole_lines, rest_read, StepReads, Keeps, KeepsOrStops}
+use Rattle.hw_app.specs.Keeping.{before_lines, whole_lines, rest_read, StepReads, Keeps, KeepsOrStops, KeepsCert}
 use Rattle.hw_app.specs.declared.cert.CertStep.TheVariants.{Ended}
+use Rattle.hw_app.specs.declared.cert.OpenCert.{OpenCert}
 use Rattle.hw_app.specs.declared.outcome.CertOutcome.{CertOutcome}
 use Rattle.hw_app.specs.declared.outcome.CertOutcome.TheVariants.{Shows, Wrong, TooLong}
 use Rattle.hw_app.specs.declared.outcome.CertStop.{CertStop}
@@ -103,7 +104,7 @@ keeps_from f told outcome is_read x y z (Err Fault) before h = rose_on before h
 keeps_from f told outcome is_read x y z (Err NoMemory) before h = h ∙ before
 
 -- a certificate that was begun, and of which bytes were read
-pub enters_on : {cert bytes : List ℕ} {x y z : DeskState} → Enters Certificate cert x y → Moves Certificate bytes y z → Enters Certificate cert x z
+enters_on : {cert bytes : List ℕ} {x y z : DeskState} → Enters Certificate cert x y → Moves Certificate bytes y z → Enters Certificate cert x z
 enters_on {cert = cert} h m = record {
   only = only_feed_on h.only m.only;
   begun = m.begun ∙ h.begun;
@@ -123,17 +124,24 @@ open_is {f = f} {told = told} {now = now} shape r c same e h follows begun left 
     })
 
 -- what was found of a certificate that was opened
-pub found_of : {f : Problem} {told : Option (List ℕ)} {r : ReaderModel} {c : CheckState} (x y z : DeskState) (found : Result CertOutcome CertStop) → IsOpen f told r c y → y.read_faults ≡ x.read_faults → FindsOrStops c.problem (rest_of r y) (rest_outcome c.problem [] r.at) y z found → FindsOrStops f told (cert_outcome f) x z found
+found_of : {f : Problem} {told : Option (List ℕ)} {r : ReaderModel} {c : CheckState} (x y z : DeskState) (found : Result CertOutcome CertStop) → IsOpen f told r c y → y.read_faults ≡ x.read_faults → FindsOrStops c.problem (rest_of r y) (rest_outcome c.problem [] r.at) y z found → FindsOrStops f told (cert_outcome f) x z found
 found_of {f = f} {r = r} x y z found h kept k =
     let at_start = subst (λ (p : Position). FindsOrStops f (rest_of r y) (rest_outcome f [] p) y z found) h.first (subst (λ (p : Problem). FindsOrStops p (rest_of r y) (rest_outcome p [] r.at) y z found) h.problem k) in
     finds_from f (rest_of r y) _ (cert_outcome f) x y z found h.left kept at_start
 
 -- what was kept of a certificate that was opened
-pub kept_of : {f : Problem} {told : Option (List ℕ)} {r : ReaderModel} {c : CheckState} (x y z : DeskState) (kept : Result KeptCert CertStop) → IsOpen f told r c y → y.read_faults ≡ x.read_faults → KeepsOrStops c.problem (rest_of r y) (rest_outcome c.problem [] r.at) (rest_read c.problem [] r.at) y z kept → KeepsOrStops f told (cert_outcome f) (cert_stream (shape_of f)) x z kept
+kept_of : {f : Problem} {told : Option (List ℕ)} {r : ReaderModel} {c : CheckState} (x y z : DeskState) (kept : Result KeptCert CertStop) → IsOpen f told r c y → y.read_faults ≡ x.read_faults → KeepsOrStops c.problem (rest_of r y) (rest_outcome c.problem [] r.at) (rest_read c.problem [] r.at) y z kept → KeepsOrStops f told (cert_outcome f) (cert_stream (shape_of f)) x z kept
 kept_of {f = f} {told = told} {r = r} x y z kept h before k =
     let of_problem = subst (λ (p : Problem). KeepsOrStops p (rest_of r y) (rest_outcome p [] r.at) (rest_read p [] r.at) y z kept) h.problem k in
     let at_start = subst (λ (p : Position). KeepsOrStops f (rest_of r y) (rest_outcome f [] p) (rest_read f [] p) y z kept) h.first of_problem in
     keeps_from f told (cert_outcome f) (cert_stream (shape_of f)) x y z kept before (subst (λ (t : Option (List ℕ)). KeepsOrStops f t (cert_outcome f) (cert_stream (shape_of f)) y z kept) h.left at_start)
+
+-- a certificate that was opened and read on
+pub checks_of : {f : Problem} {cert bytes : List ℕ} {open_cert : OpenCert} (x y z : DeskState) (found : Result CertOutcome CertStop) → OpensCert f cert x y (Ok open_cert) → Moves Certificate bytes y z → FindsOrStops open_cert.checker.problem (rest_of open_cert.reader y) (rest_outcome open_cert.checker.problem [] open_cert.reader.at) y z found → ChecksCert f cert x z found
+checks_of x y z found h m k = record { enters = enters_on h.enters m; finds = found_of x y z found h.answer.0 h.answer.1 k }
+
+pub keeps_of : {f : Problem} {cert bytes : List ℕ} {open_cert : OpenCert} (x y z : DeskState) (kept : Result KeptCert CertStop) → OpensCert f cert x y (Ok open_cert) → Moves Certificate bytes y z → KeepsOrStops open_cert.checker.problem (rest_of open_cert.reader y) (rest_outcome open_cert.checker.problem [] open_cert.reader.at) (rest_read open_cert.checker.problem [] open_cert.reader.at) y z kept → KeepsCert f cert x z kept
+keeps_of x y z kept h m k = record { enters = enters_on h.enters m; keeps = kept_of x y z kept h.answer.0 h.answer.1 k }
 
 -- the number of the line behind which a reader stands, by that of the next one
 pub line_count : {r reader : ReaderModel} {line : Line} (number : ℕ) → Behind r reader line → number ≡ reader.at.number → (number - 1) + 1 ≡ line_number reader.at

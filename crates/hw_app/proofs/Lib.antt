@@ -1,4 +1,7 @@
 mod Begun
+mod Stopped
+mod Made
+mod CertWorks
 mod FlatForms
 mod Checked
 mod Chained

@@ -1,6 +1,7 @@
 -- The report of a port's files is one function of their bytes.
-use Rattle.std.proofs.Common.{◌≡◌, ◌∙◌, ℕ, List, Option, Some, Result, Ok, Err, refl, sym, ap, subst}
+use Rattle.std.proofs.Common.{◌≡◌, ◌⊎◌, ◌∙◌, ℕ, List, Option, Some, Result, Ok, Err, inl, inr, refl, sym, ap, subst}
 use Rattle.std.specs.Prelude.{◌≢◌}
+use Rattle.hw_desk.specs.State.{DeskState}
 use Rattle.hw_desk.specs.declared.desk.Feed.TheVariants.{Certificate}
 use Rattle.hw_port.specs.declared.fault.PortFault.{PortFault}
 use Rattle.hw_port.specs.Whole.{Parts}
@@ -16,10 +17,12 @@ use Rattle.hw_flat.specs.TextWritten.{problem_text}
 use Rattle.hw_port_rules.specs.Flattened.{flattened}
 use Rattle.hw_report.specs.Reports.{Report, by_name, checked, refused, too_long, bad_json, bad_field, bad_tides, flattened_text}
 use Rattle.hw_app.specs.Certificates.{cert_outcome, report_of}
+use Rattle.hw_app.specs.CheckFlat.{Checks, texts_report}
 use Rattle.hw_app.specs.CheckPort.{ChecksPortTexts}
 use Rattle.hw_app.specs.Flattening.{FlattensTexts}
-use Rattle.hw_app.specs.Laws.{OnePortReport}
+use Rattle.hw_app.specs.Laws.{OneCertificateReport, OnePortReport, RenewalOfFlat, RenewalOfPort}
 use Rattle.hw_app.specs.PortInputs.{IsPortOf, IsBadTable}
+use Rattle.hw_app.specs.RenewPort.{RenewsPortTexts}
 
 -- what a value is read as
 abbrev as_read : Result Parts PortFault → Result Parts ReadFault
@@ -147,4 +150,23 @@ pub one_port_report : OnePortReport
 one_port_report = record {
   check = λ instance table bytes r s h g. one_report instance table (of_cert bytes) r s (check_files instance table bytes r h) (check_files instance table bytes s g);
   flatten = λ instance table r s h g. one_report instance table of_text r s (flatten_files instance table r h) (flatten_files instance table s g);
+}
+
+-- a certificate that is checked or renewed
+renewal_files : (instance table bytes proof : List ℕ) (old new : DeskState) (r : Report) → RenewsPortTexts (Some instance) (Some table) (Some bytes) proof old new (Some r) → OfFiles instance table (of_cert bytes) r
+renewal_files instance table bytes proof old new (checked v (by_name p h)) says = of_port (of_cert bytes) _ says.reads (ap (report_of (by_name p h)) says.renews.renewable.outcome)
+renewal_files instance table bytes proof old new r says = check_files instance table bytes r says
+
+cert_files : (instance table bytes : List ℕ) (r : Report) → ChecksPortTexts (Some instance) (Some table) (Some bytes) (Some r) ⊎ RenewalOfPort instance table bytes r → OfFiles instance table (of_cert bytes) r
+cert_files instance table bytes r (inl says) = check_files instance table bytes r says
+cert_files instance table bytes r (inr h) = renewal_files instance table bytes h.proof h.old h.new r h.says
+
+by_texts : (text bytes : List ℕ) (r : Report) → Checks (Some text) (Some bytes) r ⊎ RenewalOfFlat text bytes r → r ≡ texts_report text bytes
+by_texts text bytes r (inl says) = says.decided
+by_texts text bytes r (inr h) = h.says.decided
+
+pub one_certificate_report : OneCertificateReport
+one_certificate_report = record {
+  flat = λ text bytes r s h g. by_texts text bytes r h ∙ sym (by_texts text bytes s g);
+  port = λ instance table bytes r s h g. one_report instance table (of_cert bytes) r s (cert_files instance table bytes r h) (cert_files instance table bytes s g);
 }

@@ -1,13 +1,7 @@
 -- A certificate whose lines go to Proof renewed.
-use Rattle.std.proofs.Common.{◌≡◌, true, false, ◌<◌, ◌∙◌, ℕ, List, [], ◌++◌, Option, Some, None, Result, Ok, Err, length, take, sym, ap, subst, arith}
-use Rattle.std.specs.Io.KnownBytes.{append_known}
-use Rattle.std.specs.Prelude.{IfSome, is_err}
+use Rattle.std.proofs.Common.{◌≡◌, ◌∙◌, ℕ, List, Option, Result, Ok, Err, sym, subst}
 use Rattle.hw_model.specs.Problem.{Problem, shape_of}
-use Rattle.hw_desk.specs.Calls.{Tells, Makes}
-use Rattle.hw_desk.specs.State.{DeskState, Rose}
-use Rattle.hw_desk.specs.Whole.{SendsText}
-use Rattle.hw_desk.specs.declared.desk.Tray.TheVariants.{Proof}
-use Rattle.hw_desk.proofs.Chain.{only_tray_on}
+use Rattle.hw_desk.specs.State.{DeskState}
 use Rattle.hw_lines.specs.declared.check.Verdict.{Verdict}
 use Rattle.hw_lines.specs.declared.line.Line.{Line}
 use Rattle.hw_verdict.specs.Renewing.{renewed}
@@ -22,7 +16,6 @@ use Rattle.hw_app.specs.Sending.{SendsTo}
 use Rattle.hw_app.specs.declared.keeping.KeptCert.{KeptCert}
 use Rattle.hw_app.specs.declared.outcome.CertOutcome.{CertOutcome}
 use Rattle.hw_app.specs.declared.outcome.CertOutcome.TheVariants.{Shows}
-use Rattle.hw_app.proofs.Checked.{told_map}
 
 -- lines that were kept and show something
 pub can_renew : {f : Problem} {told : Option (List ℕ)} {all : List Line} {v : Verdict} → Keeps f told (cert_outcome f) (cert_stream (shape_of f)) all (Shows v) → CanRenew f told v all

@@ -14,26 +14,27 @@ use Rattle.hw_lines.specs.declared.line.Line.{Line}
 use Rattle.hw_lines.specs.Lines.{last_table}
 use Rattle.hw_lines.specs.Valid.{LineFits, Valid, verdict}
 use Rattle.hw_verdict.proofs.Proved.{optimal, infeasible}
-use Rattle.hw_report.specs.Reports.{by_number, bad_flat, too_long}
+use Rattle.hw_report.specs.Reports.{Report, by_number, bad_flat, too_long}
 use Rattle.hw_app.specs.Certificates.{cert_outcome, report_of, report_of_check}
 use Rattle.hw_app.specs.CheckFlat.{read_report, texts_report, Means, ChecksText, Checks}
 use Rattle.hw_app.specs.Checking.{Finds, ChecksCert}
 use Rattle.hw_app.specs.Ends.{Ends}
 use Rattle.hw_app.specs.Forms.{word_at}
-use Rattle.hw_app.specs.Inputs.{ReadsFlat, IsTextOf, IsBadAt, report_of_flat}
-use Rattle.hw_app.specs.Run.{FormMeets}
-use Rattle.hw_app.specs.Scope.{named}
+use Rattle.hw_app.specs.Inputs.{Enters, ReadsFlat, IsTextOf, IsBadAt, StopsAtFlat}
+use Rattle.hw_app.specs.Run.{says_of, FormMeets}
+use Rattle.hw_app.specs.Scope.{Entered, named}
 use Rattle.hw_app.specs.Works.{Works, most_bytes, is_common}
 use Rattle.hw_app.specs.declared.form.Form.TheVariants.{CheckFlat}
-use Rattle.hw_app.specs.declared.input.FlatStop.{FlatStop}
 use Rattle.hw_app.specs.declared.outcome.CertOutcome.{CertOutcome}
 use Rattle.hw_app.specs.declared.outcome.CertOutcome.TheVariants.{Shows, Wrong, TooLong}
 use Rattle.hw_app.specs.declared.outcome.CertStop.{CertStop}
 use Rattle.hw_app.specs.declared.outcome.CertStop.TheVariants.{Fault, NoMemory}
 use Rattle.hw_app.specs.declared.status.Status.{Status}
-use Rattle.hw_app.proofs.Begun.{Entered, entered_on, answers, refuses, wants_memory, rose_on}
+use Rattle.hw_app.proofs.Begun.{entered_on}
+use Rattle.hw_app.proofs.CertWorks.{cert_works}
 use Rattle.hw_app.proofs.Checked.{told_map, some_gives}
-use Rattle.hw_app.proofs.FlatForms.{flat_entered, no_flat_works, no_flat_says}
+use Rattle.hw_app.proofs.FlatForms.{by_line}
+use Rattle.hw_app.proofs.Stopped.{stops_meets}
 
 -- what holds of all bytes holds of those that are told
 told_all : {Q : List ℕ → Type 0} (o : Option (List ℕ)) → ((x : List ℕ) → Q x) → IfSome o Q
@@ -69,32 +70,23 @@ checks {f = f} {text = text} {bytes = bytes} (Wrong number word hint) flat reads
 checks {f = f} {text = text} {bytes = bytes} TooLong flat reads h = record { texts = text_checked TooLong flat reads h; decided = decided_by text bytes f TooLong reads h.comes }
 
 -- the flat text gives no problem
-pub check_stops : {x y z : DeskState} {s : Status} (words : List (List ℕ)) (stop : FlatStop) → ReadsFlat (word_at words 2) x y (Err stop) → Ends (report_of_flat stop) y z s → FormMeets CheckFlat words x z s
-check_stops {x = x} {y = y} words stop h ends = record {
-  mid = y;
-  report = Some (report_of_flat stop);
-  works = no_flat_works None (named Certificate (word_at words 3) ∷ []) stop h;
-  says = no_flat_says (Checks (x.held (word_at words 2)) (x.held (word_at words 3))) stop h (λ number word bad. record { texts = bad; decided = bad_by (x.held (word_at words 2)) (x.held (word_at words 3)) number word bad });
-  ends = ends;
-}
+pub check_stops : {x y z : DeskState} {r : Report} {s : Status} (words : List (List ℕ)) → StopsAtFlat (word_at words 2) x y r → Ends r y z s → FormMeets CheckFlat words x z s
+check_stops {x = x} {y = y} {r = r} words h ends = stops_meets CheckFlat words (named Certificate (word_at words 3) ∷ []) h refl (by_line (x.held (word_at words 2)) (λ (r : Report). says_of CheckFlat words x y (Some r)) r (λ number word bad. record { texts = bad; decided = bad_by (x.held (word_at words 2)) (x.held (word_at words 3)) number word bad })) ends
 
-both_entered : {name cert : List ℕ} {x y z : DeskState} {f : Problem} {result : Result CertOutcome CertStop} → ReadsFlat name x y (Ok f) → ChecksCert f cert y z result → Entered (named Flat name ∷ named Certificate cert ∷ []) x z
-both_entered {name = name} h k = entered_on (named Flat name ∷ []) (flat_entered h) k.enters refl
+-- both inputs were begun
+pub both_entered : {name cert : List ℕ} {x y z : DeskState} {f : Problem} → ReadsFlat name x y f → Enters Certificate cert y z → Entered (named Flat name ∷ named Certificate cert ∷ []) x z
+both_entered {name = name} h k = entered_on (named Flat name ∷ []) h.entered k refl
 
-pub check_works : {name cert : List ℕ} {x y z : DeskState} {f : Problem} (proof : Option (List ℕ)) (result : Result CertOutcome CertStop) → ReadsFlat name x y (Ok f) → ChecksCert f cert y z result → Works (named Flat name ∷ named Certificate cert ∷ []) proof x z (report_of_check by_number result)
-check_works proof (Ok (Shows v)) h k = answers proof _ refl (both_entered h k) (k.finds.0 ∙ h.answer.2) tt
-check_works {name = name} {cert = cert} proof (Ok (Wrong number word hint)) h k = refuses proof (named Flat name ∷ []) (named Certificate cert) [] _ refl refl (both_entered h k) (k.finds.0 ∙ h.answer.2) tt
-check_works {name = name} {cert = cert} proof (Ok TooLong) h k = refuses proof (named Flat name ∷ []) (named Certificate cert) [] _ refl refl (both_entered h k) (k.finds.0 ∙ h.answer.2) tt
-check_works {name = name} {cert = cert} proof (Err Fault) h k = refuses proof (named Flat name ∷ []) (named Certificate cert) [] _ refl refl (both_entered h k) (rose_on h.answer.2 k.finds) tt
-check_works {name = name} {cert = cert} proof (Err NoMemory) h k = wants_memory proof (named Flat name ∷ named Certificate cert ∷ []) [] refl (both_entered h k) (k.finds ∙ h.answer.2)
+pub check_works : {name cert : List ℕ} {x y z : DeskState} {f : Problem} (proof : Option (List ℕ)) (result : Result CertOutcome CertStop) → ReadsFlat name x y f → ChecksCert f cert y z result → Works (named Flat name ∷ named Certificate cert ∷ []) proof x z (report_of_check by_number result)
+check_works proof result h k = cert_works by_number proof result h.entered h.read_faults refl k
 
-pub check_says : {name cert : List ℕ} {x y z : DeskState} {f : Problem} (result : Result CertOutcome CertStop) → ReadsFlat name x y (Ok f) → ChecksCert f cert y z result → is_common (report_of_check by_number result) ≡ false → Checks (x.held name) (x.held cert) (report_of_check by_number result)
-check_says {cert = cert} {x = x} {y = y} {f = f} (Ok o) h k e = checks o h.answer.0 h.answer.1 (subst (λ (told : Option (List ℕ)). Finds f told (cert_outcome f) o) (ap (λ held. held cert) h.enters.only.held) k.finds.1)
+pub check_says : {name cert : List ℕ} {x y z : DeskState} {f : Problem} (result : Result CertOutcome CertStop) → ReadsFlat name x y f → ChecksCert f cert y z result → is_common (report_of_check by_number result) ≡ false → Checks (x.held name) (x.held cert) (report_of_check by_number result)
+check_says {cert = cert} {x = x} {y = y} {f = f} (Ok o) h k e = checks o h.limits h.reads (subst (λ (told : Option (List ℕ)). Finds f told (cert_outcome f) o) (ap (λ held. held cert) h.entered.begins.held) k.finds.1)
 check_says (Err Fault) h k e = absurd (cc)
 check_says (Err NoMemory) h k e = absurd (cc)
 
 -- the certificate is checked
-pub check_meets : {x y z end : DeskState} {s : Status} {f : Problem} (words : List (List ℕ)) (result : Result CertOutcome CertStop) → ReadsFlat (word_at words 2) x y (Ok f) → ChecksCert f (word_at words 3) y z result → Ends (report_of_check by_number result) z end s → FormMeets CheckFlat words x end s
+pub check_meets : {x y z end : DeskState} {s : Status} {f : Problem} (words : List (List ℕ)) (result : Result CertOutcome CertStop) → ReadsFlat (word_at words 2) x y f → ChecksCert f (word_at words 3) y z result → Ends (report_of_check by_number result) z end s → FormMeets CheckFlat words x end s
 check_meets {z = z} words result h k ends = record {
   mid = z;
   report = Some (report_of_check by_number result);

@@ -1,5 +1,5 @@
 -- Reading an input.
-use Rattle.std.specs.Prelude.{◌≡◌, ◌≤◌, ◌<◌, ℕ, List, true, Option, Result, Ok, Err, IfSome, length, Vec}
+use Rattle.std.specs.Prelude.{◌≡◌, ◌≤◌, ◌<◌, ℕ, List, [], ◌∷◌, true, Option, Result, Ok, Err, IfSome, length, Vec}
 use Rattle.std.specs.declared.alloc.Global.{Global}
 use Rattle.hw_model.specs.Limits.{IsFlat}
 use Rattle.hw_model.specs.Problem.{Problem}
@@ -14,9 +14,8 @@ use Rattle.hw_flat.specs.declared.fault.FlatFault.{FlatFault}
 use Rattle.hw_flat.specs.declared.fault.FlatFault.TheVariants as faults
 use Rattle.hw_flat.specs.declared.fault.FlatWord.{FlatWord}
 use Rattle.hw_report.specs.Reports.{Report, bad_flat, read_fault, too_long, no_memory}
-use Rattle.hw_app.specs.Works.{most_bytes}
-use Rattle.hw_app.specs.declared.input.FlatStop.{FlatStop}
-use Rattle.hw_app.specs.declared.input.FlatStop.TheVariants.{Input, Line}
+use Rattle.hw_app.specs.Scope.{Entered, named}
+use Rattle.hw_app.specs.Works.{Stops, most_bytes}
 
 -- an input is begun under its name, and nothing else is touched
 pub record Enters (feed : Feed) (name : List ℕ) (old new : DeskState) : Type 0 where
@@ -51,21 +50,21 @@ IsTextOf f bytes = (length bytes ≤ most_bytes) × (flat_text bytes ≡ Ok f)
 abbrev pub IsBadAt : ℕ → FlatWord → List ℕ → Type 0
 IsBadAt number word bytes = (length bytes ≤ most_bytes) × (flat_text bytes ≡ Err (record { number = number; word = word }))
 
--- why a text isn't that of a problem
-abbrev pub stop_of_fault : FlatFault → FlatStop
-stop_of_fault (faults.Line number word) = Line number word
-stop_of_fault faults.NoMemory = Input stops.NoMemory
+-- the text was begun and no read failed: a problem within the limits, that of the bytes held under the name, where they are told
+pub record ReadsFlat (name : List ℕ) (old new : DeskState) (f : Problem) : Type 0 where
+  pub entered : Entered (named feeds.Flat name ∷ []) old new
+  pub read_faults : new.read_faults ≡ old.read_faults
+  pub limits : IsFlat f
+  pub reads : IfSome (old.held name) (IsTextOf f)
 
--- a problem within the limits, and that of the bytes held under the name, where they are told; or why there is none
-abbrev pub FlatAnswer : Option (List ℕ) → DeskState → DeskState → Result Problem FlatStop → Type 0
-FlatAnswer told old new (Ok f) = IsFlat f × IfSome told (IsTextOf f) × (new.read_faults ≡ old.read_faults)
-FlatAnswer told old new (Err (Line number word)) = IfSome told (IsBadAt number word) × (new.read_faults ≡ old.read_faults)
-FlatAnswer told old new (Err (Input stop)) = StopsFor told old new stop
+-- what a report says of a text that gives no problem, where it is told. No other is given
+abbrev pub NoFlat : Option (List ℕ) → Report → Type 0
+NoFlat text (bad_flat number word) = IfSome text (IsBadAt number word)
+NoFlat text _ = ⊥
 
--- the flat text is begun under its name, read to its end and parsed
-pub record ReadsFlat (name : List ℕ) (old new : DeskState) (result : Result Problem FlatStop) : Type 0 where
-  pub enters : Enters feeds.Flat name old new
-  pub answer : FlatAnswer (old.held name) old new result
+-- why there is no problem
+abbrev pub StopsAtFlat : List ℕ → DeskState → DeskState → Report → Type 0
+StopsAtFlat name old new r = Stops (named feeds.Flat name ∷ []) (NoFlat (old.held name)) old new r
 
 -- the report of an input that isn't had
 abbrev pub report_of_stop : Feed → ReadStop → Report
@@ -73,7 +72,7 @@ report_of_stop feed stops.Fault = read_fault feed
 report_of_stop feed stops.TooLong = too_long feed
 report_of_stop feed stops.NoMemory = no_memory
 
--- the report of a flat text that gives no problem
-abbrev pub report_of_flat : FlatStop → Report
-report_of_flat (Input stop) = report_of_stop feeds.Flat stop
-report_of_flat (Line number word) = bad_flat number word
+-- the report of bytes that are no problem's
+abbrev pub report_of_fault : FlatFault → Report
+report_of_fault (faults.Line number word) = bad_flat number word
+report_of_fault faults.NoMemory = no_memory

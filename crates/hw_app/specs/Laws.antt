@@ -13,8 +13,11 @@ use Rattle.hw_cert.specs.Stream.{overlong, cert_stream}
 use Rattle.hw_cert.specs.Texts.{cert_text}
 use Rattle.hw_report.specs.Reports.{Report}
 use Rattle.hw_app.specs.Certificates.{cert_outcome}
+use Rattle.hw_app.specs.CheckFlat.{Checks}
 use Rattle.hw_app.specs.CheckPort.{ChecksPortTexts}
 use Rattle.hw_app.specs.Flattening.{FlattensTexts}
+use Rattle.hw_app.specs.RenewFlat.{RenewsBy}
+use Rattle.hw_app.specs.RenewPort.{RenewsPortTexts}
 use Rattle.hw_app.specs.Renewing.{renewed_text}
 use Rattle.hw_app.specs.Run.{RunMeets}
 use Rattle.hw_app.specs.declared.outcome.CertOutcome.TheVariants.{Shows}
@@ -64,3 +67,22 @@ OneReport Says = (r s : Report) → Says r → Says s → r ≡ s
 pub record OnePortReport : Type 0 where
   pub check : (instance table cert : List ℕ) → OneReport (λ r. ChecksPortTexts (Some instance) (Some table) (Some cert) (Some r))
   pub flatten : (instance table : List ℕ) → OneReport (λ r. FlattensTexts (Some instance) (Some table) (Some r))
+
+-- a run of `renew flat` over some desk says this report of a text and a certificate of these bytes
+pub record RenewalOfFlat (text cert : List ℕ) (r : Report) : Type 0 where
+  pub proof : List ℕ
+  pub old : DeskState
+  pub new : DeskState
+  pub says : RenewsBy (Some text) (Some cert) proof old new r
+
+-- the same of `renew port`
+pub record RenewalOfPort (instance table cert : List ℕ) (r : Report) : Type 0 where
+  pub proof : List ℕ
+  pub old : DeskState
+  pub new : DeskState
+  pub says : RenewsPortTexts (Some instance) (Some table) (Some cert) proof old new (Some r)
+
+-- the files' bytes decide what is reported of a certificate, and it is the same whether the certificate is checked or renewed, under any name of Proof
+pub record OneCertificateReport : Type 0 where
+  pub flat : (text cert : List ℕ) → OneReport (λ r. Checks (Some text) (Some cert) r ⊎ RenewalOfFlat text cert r)
+  pub port : (instance table cert : List ℕ) → OneReport (λ r. ChecksPortTexts (Some instance) (Some table) (Some cert) (Some r) ⊎ RenewalOfPort instance table cert r)

@@ -1,8 +1,11 @@
 -- Reading a port: its instance, and then its tide table.
-use Rattle.std.specs.Prelude.{◌≡◌, ◌≢◌, ◌≤◌, ℕ, List, Option, Result, Ok, Err, IfSome, length}
+use Rattle.std.specs.Prelude.{◌≡◌, ◌≢◌, ◌≤◌, ℕ, List, [], ◌∷◌, Option, Result, Ok, Err, IfSome, length}
+use Rattle.hw_model.specs.Limits.{IsFlat}
+use Rattle.hw_model.specs.Problem.{Problem}
 use Rattle.hw_desk.specs.State.{DeskState}
 use Rattle.hw_desk.specs.declared.desk.Feed.TheVariants.{Instance, Tides}
 use Rattle.hw_desk.specs.declared.whole.ReadStop.TheVariants as stops
+use Rattle.hw_flat.specs.TextWritten.{IsWritable}
 use Rattle.hw_port.specs.Kept.{PortKept}
 use Rattle.hw_port.specs.Whole.{Parts}
 use Rattle.hw_read.specs.Instance.{Reads as ReadsPort}
@@ -12,9 +15,12 @@ use Rattle.hw_tide.specs.Levels.{TideParts}
 use Rattle.hw_tide.specs.Whole.{Reads as ReadsHeights, tide_by_header, waypoint_names}
 use Rattle.hw_tide.specs.declared.fault.TideFault.{TideFault}
 use Rattle.hw_tide.specs.declared.fault.TideFault.TheVariants as tide
+use Rattle.hw_port_rules.specs.Alike.{IsSameProblem}
+use Rattle.hw_port_rules.specs.Flattened.{flattened}
 use Rattle.hw_report.specs.Reports.{Report, bad_json, bad_field, bad_tides}
 use Rattle.hw_app.specs.Inputs.{Enters, StopsFor, report_of_stop}
-use Rattle.hw_app.specs.Works.{most_bytes}
+use Rattle.hw_app.specs.Scope.{Entered, named}
+use Rattle.hw_app.specs.Works.{Stops, most_bytes}
 use Rattle.hw_app.specs.declared.port_input.InstanceStop.{InstanceStop}
 use Rattle.hw_app.specs.declared.port_input.InstanceStop.TheVariants as instances
 use Rattle.hw_app.specs.declared.port_input.TideStop.{TideStop}
@@ -97,3 +103,17 @@ NoPort instance table bad_json = IfSome instance (IsInstance (Err read.NotJson))
 NoPort instance table (bad_field fault) = IfSome instance (IsInstance (Err (read.Field fault)))
 NoPort instance table (bad_tides fault) = IsBadTable instance table fault
 NoPort instance table _ = ⊥
+
+-- both inputs were begun and no read failed: a port with its tide, and its flat problem, which has a text and says what the port says
+pub record ReadsPortProblem (instance table : List ℕ) (old new : DeskState) (p : Parts) (h : TideParts) (f : Problem) : Type 0 where
+  pub entered : Entered (named Instance instance ∷ named Tides table ∷ []) old new
+  pub read_faults : new.read_faults ≡ old.read_faults
+  pub port : IsPortOf (old.held instance) (old.held table) p h
+  pub problem : f ≡ flattened p h
+  pub limits : IsFlat f
+  pub writable : IsWritable f
+  pub same : IsSameProblem p h f
+
+-- why there is no port with its tide
+abbrev pub StopsAtPort : List ℕ → List ℕ → DeskState → DeskState → Report → Type 0
+StopsAtPort instance table old new r = Stops (named Instance instance ∷ named Tides table ∷ []) (NoPort (old.held instance) (old.held table)) old new r

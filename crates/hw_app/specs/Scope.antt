@@ -63,6 +63,12 @@ pub record BeginsAll (inputs : List Named) (old new : DeskState) : Type 0 where
   pub begun : AllBegun new inputs
   pub others : (feed : Feed) → is_among inputs feed ≡ false → new.feeds feed ≡ old.feeds feed
 
+-- these inputs were begun, and neither a tray nor a write was touched
+pub record Entered (inputs : List Named) (old new : DeskState) : Type 0 where
+  pub begins : BeginsAll inputs old new
+  pub trays : new.trays ≡ old.trays
+  pub write_faults : new.write_faults ≡ old.write_faults
+
 -- Proof was made under its name, and no other tray was touched
 pub record MakesProof (name : List ℕ) (old new : DeskState) : Type 0 where
   pub trays : new.trays ≡ put_tray old.trays tray.Proof (new.trays tray.Proof)

@@ -1,6 +1,6 @@
 -- What the work of every command keeps before its report: its scope, the cause of each fault and of
 -- each limit, and which inputs were begun. What its answer says stands in a file of the form's own.
-use Rattle.std.specs.Prelude.{◌≡◌, ◌<◌, ℕ, List, [], ◌++◌, Bool, true, false, Option, Some, None, IfSome, IsSomeAnd, ⊤, length}
+use Rattle.std.specs.Prelude.{◌≡◌, ◌≢◌, ◌<◌, ℕ, List, [], ◌++◌, Bool, true, false, Option, Some, None, IfSome, IsSomeAnd, ⊤, length}
 use Rattle.hw_desk.specs.State.{DeskState, Rose}
 use Rattle.hw_desk.specs.declared.desk.Feed.{Feed}
 use Rattle.hw_desk.specs.declared.desk.Feed.TheVariants.{Flat, Instance, Tides, Certificate}
@@ -88,3 +88,9 @@ is_common no_memory = true
 is_common (too_long Certificate) = false
 is_common (too_long feed) = true
 is_common r = false
+
+-- these inputs, the first ones of a form, give nothing to go on with: the work up to a report, which is no answer, and why, where its cause isn't common to all forms
+pub record Stops (inputs : List Named) (Why : Report → Type 0) (old new : DeskState) (r : Report) : Type 0 where
+  pub works : Works inputs None old new r
+  pub early : speaks r ≢ of_answer
+  pub why : is_common r ≡ false → Why r

@@ -7,7 +7,7 @@ ghost use Rattle.hw_app.specs.Run.{FormMeets};
 
 use crate::cert::{check_cert, check_report};
 use crate::form::Form;
-use crate::input::{no_flat, read_flat, stopped};
+use crate::input::read_flat;
 use crate::running::finish;
 use crate::status::Status;
 use crate::words::name_at;
@@ -23,7 +23,7 @@ pub fn check_flat<D: Desk>(alloc: Global, desk: &mut D, words: &[String]) -> Sta
 {
     let flat = match read_flat(alloc, desk, name_at(words, 2)) {
         Ok(flat) => flat,
-        Err(stop) => return finish(desk, &no_flat(stop)),
+        Err(report) => return finish(desk, &report),
     };
     let checked = check_cert(alloc, desk, &flat, name_at(words, 3));
     finish(desk, &check_report(checked, Names::Flat))

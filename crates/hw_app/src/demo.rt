@@ -5,7 +5,7 @@ ghost use Rattle.hw_cert.specs.Logs.{memory_log};
 ghost use Rattle.hw_check.specs.Follows.{Follows};
 ghost use Rattle.hw_desk.specs.State.{IsNew};
 ghost use Rattle.hw_flat.specs.Demonstration.{demonstration};
-ghost use Rattle.hw_lines.specs.Lemmas.{lemma_of, lemmas_of};
+ghost use Rattle.hw_lines.specs.Lemmas.{lemmas_of};
 ghost use Rattle.hw_lines.specs.Refusals.{kept_refusal};
 ghost use Rattle.hw_lines.specs.Valid.{LineFits, Valid, verdict};
 ghost use Rattle.hw_lines.specs.declared.line.Line.{Line as CertLine};

@@ -1,25 +1,23 @@
 //! `flatten INSTANCE TIDES`: the flat text of a port.
 
-ghost use Rattle.std.specs.Prelude.{◌≡◌, IfOk, IsTrue, length, map, string_bytes};
+ghost use Rattle.std.specs.Prelude.{◌≡◌, IfOk, IsTrue, map, string_bytes};
 ghost use Rattle.hw_desk.specs.State.{IsNew};
+ghost use Rattle.hw_flat.specs.TextWritten.{IsWritable, problem_text};
 ghost use Rattle.hw_report.specs.Printing.{CanPrint};
 ghost use Rattle.hw_report.specs.Reports.{flattened_text};
 ghost use Rattle.hw_report.specs.Seen.{report_seen};
-ghost use Rattle.hw_app.specs.Flattening.{IsFlatTextOf};
 ghost use Rattle.hw_app.specs.Forms.{fits, words_of as wanted_of};
 ghost use Rattle.hw_app.specs.Run.{FormMeets};
 
 use crate::form::Form;
-use crate::port_input::{no_port, no_tide, read_instance, read_table};
+use crate::port_input::read_port_problem;
 use crate::running::finish;
 use crate::status::Status;
 use crate::words::name_at;
 use hw_desk::Desk;
-use hw_draft::flatten;
+use hw_flat::Flat;
 use hw_model::NoMemory;
-use hw_port::Port;
 use hw_report::Report;
-use hw_tide::Tide;
 use std::alloc::Global;
 
 /// Reads the instance and then its tide table, and sends the flat text of the port. The whole text
@@ -29,28 +27,21 @@ pub fn flatten_port<D: Desk>(alloc: Global, desk: &mut D, words: &[String]) -> S
     requires fresh { IsNew (D.state desk.old) }
     ensures { FormMeets Form.Flatten (map string_bytes words.now) (D.state desk.old) (D.state desk.new) result }
 {
-    let port = match read_instance(alloc, desk, name_at(words, 1)) {
-        Ok(port) => port,
-        Err(stop) => return finish(desk, &no_port(stop)),
+    let problem = match read_port_problem(alloc, desk, name_at(words, 1), name_at(words, 2)) {
+        Ok(problem) => problem,
+        Err(report) => return finish(desk, &report),
     };
-    let tide = match read_table(alloc, desk, &port, name_at(words, 2)) {
-        Ok(tide) => tide,
-        Err(stop) => return finish(desk, &no_tide(stop)),
-    };
-    match flat_text(alloc, &port, &tide) {
+    match flat_text(alloc, &problem.flat) {
         Ok(text) => finish(desk, &flat_report(&text)),
         Err(_) => finish(desk, &Report::Memory),
     }
 }
 
-/// The flat text of a port with its tide.
-fn flat_text(alloc: Global, port: &Port, tide: &Tide) -> Result<Vec<u8>, NoMemory>
-    requires columns { tide.now.columns ≡ length port.now.waypoints }
-    ensures { IfOk result (λ text. IsFlatTextOf port.now tide.now text.items) }
+/// The flat text of a problem.
+fn flat_text(alloc: Global, flat: &Flat) -> Result<Vec<u8>, NoMemory>
+    requires { IsWritable flat.now }
+    ensures { IfOk result (λ text. text.items ≡ problem_text flat.now) }
 {
-    let flat = flatten(alloc, port, tide)?;
-    // The call tells that the problem is within the limits.
-    let _shape = flat.shape();
     let mut text = Vec::new(alloc);
     flat.write(&mut text)?;
     Ok(text)

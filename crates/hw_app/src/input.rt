@@ -1,26 +1,17 @@
 //! Reading an input.
 
-ghost use Rattle.std.specs.Prelude.{◌≡◌, false};
-ghost use Rattle.hw_app.specs.Inputs.{ReadsFlat, ReadsInput, report_of_flat, report_of_stop, stop_of_fault};
+ghost use Rattle.std.specs.Prelude.{◌≡◌, IfErr, IfOk, false};
+ghost use Rattle.hw_app.specs.Inputs.{ReadsFlat, ReadsInput, StopsAtFlat, report_of_fault, report_of_stop};
 ghost use Rattle.hw_report.specs.Printing.{CanPrint};
 ghost use Rattle.hw_report.specs.Seen.{report_seen};
 
 use hw_desk::{Desk, Feed, ReadStop, read_whole};
-use hw_flat::{Flat, FlatFault, FlatWord};
+use hw_flat::{Flat, FlatFault};
 use hw_report::Report;
 use std::alloc::Global;
 
 /// The most bytes of a feed other than the certificate.
 const MOST_BYTES: u64 = 4_194_304;
-
-/// Why there is no problem.
-#[derive(Clone, Copy, Debug, PartialEq, Eq)]
-pub enum FlatStop {
-    /// The text isn't had.
-    Input(ReadStop),
-    /// The first line that isn't of the form demanded there.
-    Line { number: u64, word: FlatWord },
-}
 
 /// Begins an input under its name and reads it to its end.
 pub fn read_input<D: Desk>(
@@ -38,24 +29,17 @@ pub fn read_input<D: Desk>(
     read_whole(alloc, desk, feed, MOST_BYTES)
 }
 
-/// Why a text isn't that of a problem.
-fn bad_text(fault: FlatFault) -> FlatStop
-    ensures { result ≡ stop_of_fault fault }
-{
-    match fault {
-        FlatFault::Line { number, word } => FlatStop::Line { number, word },
-        FlatFault::NoMemory => FlatStop::Input(ReadStop::NoMemory),
-    }
-}
-
-/// Begins the flat text under its name, reads it to its end and parses it.
-pub fn read_flat<D: Desk>(alloc: Global, desk: &mut D, name: &str) -> Result<Flat, FlatStop>
+/// Begins the flat text under its name, reads it to its end and parses it. An error is the report of
+/// why there is no problem.
+pub fn read_flat<D: Desk>(alloc: Global, desk: &mut D, name: &str) -> Result<Flat, Report<'static>>
     requires { ((D.state desk.old).feeds Feed.Flat).begun ≡ false }
-    ensures { ReadsFlat name.now (D.state desk.old) (D.state desk.new) result }
+    ensures flat { IfOk result (λ flat. ReadsFlat name.now (D.state desk.old) (D.state desk.new) flat) }
+    ensures no_flat { IfErr result (λ report. StopsAtFlat name.now (D.state desk.old) (D.state desk.new) (report_seen report)) }
+    ensures printed { IfErr result (λ report. CanPrint (report_seen report)) }
 {
     let bytes = match read_input(alloc, desk, Feed::Flat, name) {
         Ok(bytes) => bytes,
-        Err(stop) => return Err(FlatStop::Input(stop)),
+        Err(stop) => return Err(stopped(Feed::Flat, stop)),
     };
     match Flat::read(alloc, &bytes) {
         Ok(flat) => {
@@ -79,13 +63,13 @@ pub fn stopped(feed: Feed, stop: ReadStop) -> Report<'static>
     }
 }
 
-/// The report of a flat text that gives no problem.
-pub fn no_flat(stop: FlatStop) -> Report<'static>
-    ensures value { report_seen result ≡ report_of_flat stop }
+/// The report of bytes that are no problem's.
+fn bad_text(fault: FlatFault) -> Report<'static>
+    ensures value { report_seen result ≡ report_of_fault fault }
     ensures printed { CanPrint (report_seen result) }
 {
-    match stop {
-        FlatStop::Input(stop) => stopped(Feed::Flat, stop),
-        FlatStop::Line { number, word } => Report::BadFlat { number, word },
+    match fault {
+        FlatFault::Line { number, word } => Report::BadFlat { number, word },
+        FlatFault::NoMemory => Report::Memory,
     }
 }

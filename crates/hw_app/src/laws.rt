@@ -1,6 +1,6 @@
 //! The laws of a run: functions without a body whose clause is the statement.
 
-ghost use Rattle.hw_app.specs.Laws.{FaultCauses, OnePortReport, OwnCertificate, RenewedCertificate, ShowsValid};
+ghost use Rattle.hw_app.specs.Laws.{FaultCauses, OneCertificateReport, OnePortReport, OwnCertificate, RenewedCertificate, ShowsValid};
 
 /// A fault comes only where the count of its kind rose.
 pub fn fault_causes()
@@ -26,4 +26,10 @@ pub fn renewed_certificate()
 /// The bytes of a port's files decide the report of `check port`, and that of `flatten`.
 pub fn one_port_report()
     ensures { OnePortReport }
+{}
+
+/// The bytes of a problem's files and of a certificate decide the report of `check` and of `renew`, and
+/// it is the same one.
+pub fn one_certificate_report()
+    ensures { OneCertificateReport }
 {}

@@ -28,6 +28,9 @@ mod status;
 mod words;
 
 pub use calm::run_calm;
-pub use laws::{fault_causes, one_port_report, own_certificate, renewed_certificate, shows_valid};
+pub use laws::{
+    fault_causes, one_certificate_report, one_port_report, own_certificate, renewed_certificate,
+    shows_valid,
+};
 pub use running::run;
 pub use status::Status;

@@ -1,12 +1,15 @@
-//! Reading a port's instance and its tide table.
+//! Reading a port: its instance, its tide table, and the flat problem behind them.
 
-ghost use Rattle.std.specs.Prelude.{◌≡◌, false};
-ghost use Rattle.hw_app.specs.PortInputs.{ReadsInstance, ReadsTide, report_of_instance, report_of_tide, stop_of_instance, stop_of_tide};
+ghost use Rattle.std.specs.Prelude.{◌≡◌, IfErr, IfOk, false};
+ghost use Rattle.hw_desk.specs.State.{IsNew};
+ghost use Rattle.hw_app.specs.PortInputs.{ReadsInstance, ReadsPortProblem, ReadsTide, StopsAtPort, report_of_instance, report_of_tide, stop_of_instance, stop_of_tide};
 ghost use Rattle.hw_report.specs.Printing.{CanPrint};
 ghost use Rattle.hw_report.specs.Seen.{report_seen};
 
 use crate::input::{read_input, stopped};
 use hw_desk::{Desk, Feed, ReadStop};
+use hw_draft::flatten;
+use hw_flat::Flat;
 use hw_port::{Port, PortFault};
 use hw_read::{ReadFault, read_port};
 use hw_report::Report;
@@ -33,6 +36,45 @@ pub enum TideStop {
     Table(TideFault),
 }
 
+/// A port with its tide, and its flat problem.
+#[derive(Drop)]
+pub struct PortProblem {
+    pub port: Port,
+    pub tide: Tide,
+    pub flat: Flat,
+}
+
+/// Reads the instance and then its tide table, each begun under its name, and makes the flat problem
+/// of the port. An error is the report of why there is none.
+pub fn read_port_problem<D: Desk>(
+    alloc: Global,
+    desk: &mut D,
+    instance: &str,
+    tides: &str,
+) -> Result<PortProblem, Report<'static>>
+    requires { IsNew (D.state desk.old) }
+    ensures problem { IfOk result (λ read. ReadsPortProblem instance.now tides.now (D.state desk.old) (D.state desk.new) read.port read.tide read.flat) }
+    ensures no_problem { IfErr result (λ report. StopsAtPort instance.now tides.now (D.state desk.old) (D.state desk.new) (report_seen report)) }
+    ensures printed { IfErr result (λ report. CanPrint (report_seen report)) }
+{
+    let port = match read_instance(alloc, desk, instance) {
+        Ok(port) => port,
+        Err(stop) => return Err(no_port(stop)),
+    };
+    let tide = match read_table(alloc, desk, &port, tides) {
+        Ok(tide) => tide,
+        Err(stop) => return Err(no_tide(stop)),
+    };
+    match flatten(alloc, &port, &tide) {
+        Ok(flat) => {
+            // The call tells that the problem is within the limits.
+            let _shape = flat.shape();
+            Ok(PortProblem { port, tide, flat })
+        }
+        Err(_) => Err(Report::Memory),
+    }
+}
+
 /// Why bytes are no port's.
 fn bad_instance(fault: ReadFault) -> InstanceStop
     ensures { result ≡ stop_of_instance fault }
@@ -55,7 +97,7 @@ fn bad_table(fault: TideFault) -> TideStop
 }
 
 /// Begins the instance under its name, reads it to its end, and reads the port that it is of.
-pub fn read_instance<D: Desk>(alloc: Global, desk: &mut D, name: &str) -> Result<Port, InstanceStop>
+fn read_instance<D: Desk>(alloc: Global, desk: &mut D, name: &str) -> Result<Port, InstanceStop>
     requires { ((D.state desk.old).feeds Feed.Instance).begun ≡ false }
     ensures { ReadsInstance name.now (D.state desk.old) (D.state desk.new) result }
 {
@@ -74,7 +116,7 @@ pub fn read_instance<D: Desk>(alloc: Global, desk: &mut D, name: &str) -> Result
 }
 
 /// Begins the tide table under its name, reads it to its end, and reads the port's tide from it.
-pub fn read_table<D: Desk>(
+fn read_table<D: Desk>(
     alloc: Global,
     desk: &mut D,
     port: &Port,
@@ -94,7 +136,7 @@ pub fn read_table<D: Desk>(
 }
 
 /// The report of an instance that gives no port.
-pub fn no_port(stop: InstanceStop) -> Report<'static>
+fn no_port(stop: InstanceStop) -> Report<'static>
     ensures value { report_seen result ≡ report_of_instance stop }
     ensures printed { CanPrint (report_seen result) }
 {
@@ -106,7 +148,7 @@ pub fn no_port(stop: InstanceStop) -> Report<'static>
 }
 
 /// The report of a table that gives no tide.
-pub fn no_tide(stop: TideStop) -> Report<'static>
+fn no_tide(stop: TideStop) -> Report<'static>
     ensures value { report_seen result ≡ report_of_tide stop }
     ensures printed { CanPrint (report_seen result) }
 {

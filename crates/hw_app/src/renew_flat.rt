@@ -6,9 +6,9 @@ ghost use Rattle.hw_app.specs.Forms.{fits, words_of as wanted_of};
 ghost use Rattle.hw_app.specs.Run.{FormMeets};
 
 use crate::form::Form;
-use crate::input::{no_flat, read_flat};
+use crate::input::read_flat;
 use crate::renewing::{renew_to, renewal_report};
-use crate::running::finish;
+use crate::running::{finish, finish_with};
 use crate::status::Status;
 use crate::words::name_at;
 use hw_desk::Desk;
@@ -24,11 +24,8 @@ pub fn renew_flat<D: Desk>(alloc: Global, desk: &mut D, words: &[String]) -> Sta
 {
     let flat = match read_flat(alloc, desk, name_at(words, 2)) {
         Ok(flat) => flat,
-        Err(stop) => return finish(desk, &no_flat(stop)),
+        Err(report) => return finish(desk, &report),
     };
     let renewal = renew_to(alloc, desk, &flat, name_at(words, 3), name_at(words, 4));
-    match renewal_report(renewal, Names::Flat) {
-        Some(report) => finish(desk, &report),
-        None => Status::WriteFault,
-    }
+    finish_with(desk, renewal_report(renewal, Names::Flat))
 }

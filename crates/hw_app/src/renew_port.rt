@@ -6,14 +6,13 @@ ghost use Rattle.hw_app.specs.Forms.{fits, words_of as wanted_of};
 ghost use Rattle.hw_app.specs.Run.{FormMeets};
 
 use crate::form::Form;
-use crate::port_input::{no_port, no_tide, read_instance, read_table};
+use crate::port_input::read_port_problem;
 use crate::renewing::{renew_to, renewal_report};
-use crate::running::finish;
+use crate::running::{finish, finish_with};
 use crate::status::Status;
 use crate::words::name_at;
 use hw_desk::Desk;
-use hw_draft::flatten;
-use hw_report::{Names, Report};
+use hw_report::Names;
 use std::alloc::Global;
 
 /// Reads the instance and then its tide table, checks the certificate of the port, sends its lines
@@ -23,25 +22,20 @@ pub fn renew_port<D: Desk>(alloc: Global, desk: &mut D, words: &[String]) -> Sta
     requires fresh { IsNew (D.state desk.old) }
     ensures { FormMeets Form.RenewPort (map string_bytes words.now) (D.state desk.old) (D.state desk.new) result }
 {
-    let port = match read_instance(alloc, desk, name_at(words, 2)) {
-        Ok(port) => port,
-        Err(stop) => return finish(desk, &no_port(stop)),
+    let problem = match read_port_problem(alloc, desk, name_at(words, 2), name_at(words, 3)) {
+        Ok(problem) => problem,
+        Err(report) => return finish(desk, &report),
     };
-    let tide = match read_table(alloc, desk, &port, name_at(words, 3)) {
-        Ok(tide) => tide,
-        Err(stop) => return finish(desk, &no_tide(stop)),
-    };
-    let flat = match flatten(alloc, &port, &tide) {
-        Ok(flat) => flat,
-        Err(_) => return finish(desk, &Report::Memory),
-    };
-    let renewal = renew_to(alloc, desk, &flat, name_at(words, 4), name_at(words, 5));
+    let renewal = renew_to(
+        alloc,
+        desk,
+        &problem.flat,
+        name_at(words, 4),
+        name_at(words, 5),
+    );
     let names = Names::Port {
-        port: &port,
-        tide: &tide,
+        port: &problem.port,
+        tide: &problem.tide,
     };
-    match renewal_report(renewal, names) {
-        Some(report) => finish(desk, &report),
-        None => Status::WriteFault,
-    }
+    finish_with(desk, renewal_report(renewal, names))
 }

@@ -1,8 +1,9 @@
-ghost use Rattle.std.specs.Prelude.{map, string_bytes};
+ghost use Rattle.std.specs.Option.{option_map};
+ghost use Rattle.std.specs.Prelude.{IfSome, map, string_bytes};
 ghost use Rattle.hw_desk.specs.State.{IsNew};
 ghost use Rattle.hw_report.specs.Printing.{CanPrint};
 ghost use Rattle.hw_report.specs.Seen.{report_seen};
-ghost use Rattle.hw_app.specs.Ends.{Ends};
+ghost use Rattle.hw_app.specs.Ends.{Ends, EndsWith};
 ghost use Rattle.hw_app.specs.Run.{RunMeets};
 
 use crate::check_flat::check_flat;
@@ -48,5 +49,16 @@ pub fn finish<D: Desk>(desk: &mut D, report: &Report) -> Status
     match print_report(desk, report) {
         Ok(()) => status_of(report),
         Err(_) => Status::WriteFault,
+    }
+}
+
+/// Sends the report, if there is one. Without one Proof failed, and nothing more is sent.
+pub fn finish_with<D: Desk>(desk: &mut D, report: Option<Report>) -> Status
+    requires { IfSome report (λ r. CanPrint (report_seen r)) }
+    ensures { EndsWith (option_map report_seen report.entry) (D.state desk.old) (D.state desk.new) result }
+{
+    match report {
+        Some(report) => finish(desk, &report),
+        None => Status::WriteFault,
     }
 }

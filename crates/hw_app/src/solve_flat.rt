@@ -6,8 +6,8 @@ ghost use Rattle.hw_app.specs.Forms.{fits, words_of as wanted_of};
 ghost use Rattle.hw_app.specs.Run.{FormMeets};
 
 use crate::form::{Form, MOST_BUDGET};
-use crate::input::{no_flat, read_flat};
-use crate::running::finish;
+use crate::input::read_flat;
+use crate::running::{finish, finish_with};
 use crate::searching::{search_report, search_to};
 use crate::status::Status;
 use crate::words::{name_at, number_at};
@@ -25,11 +25,8 @@ pub fn solve_flat<D: Desk>(alloc: Global, desk: &mut D, words: &[String]) -> Sta
     let budget = number_at(words, 3, 1, MOST_BUDGET);
     let flat = match read_flat(alloc, desk, name_at(words, 2)) {
         Ok(flat) => flat,
-        Err(stop) => return finish(desk, &no_flat(stop)),
+        Err(report) => return finish(desk, &report),
     };
     let solved = search_to(alloc, desk, &flat, budget, name_at(words, 4));
-    match search_report(&flat, Names::Flat, budget, &solved) {
-        Some(report) => finish(desk, &report),
-        None => Status::WriteFault,
-    }
+    finish_with(desk, search_report(&flat, Names::Flat, budget, &solved))
 }

@@ -6,14 +6,13 @@ ghost use Rattle.hw_app.specs.Forms.{fits, words_of as wanted_of};
 ghost use Rattle.hw_app.specs.Run.{FormMeets};
 
 use crate::form::{Form, MOST_BUDGET};
-use crate::port_input::{no_port, no_tide, read_instance, read_table};
-use crate::running::finish;
+use crate::port_input::read_port_problem;
+use crate::running::{finish, finish_with};
 use crate::searching::{search_report, search_to};
 use crate::status::Status;
 use crate::words::{name_at, number_at};
 use hw_desk::Desk;
-use hw_draft::flatten;
-use hw_report::{Names, Report};
+use hw_report::Names;
 use std::alloc::Global;
 
 /// Reads the instance and then its tide table, searches with its lines sent to Proof, and reports by
@@ -24,25 +23,14 @@ pub fn solve_port<D: Desk>(alloc: Global, desk: &mut D, words: &[String]) -> Sta
     ensures { FormMeets Form.SolvePort (map string_bytes words.now) (D.state desk.old) (D.state desk.new) result }
 {
     let budget = number_at(words, 4, 1, MOST_BUDGET);
-    let port = match read_instance(alloc, desk, name_at(words, 2)) {
-        Ok(port) => port,
-        Err(stop) => return finish(desk, &no_port(stop)),
+    let problem = match read_port_problem(alloc, desk, name_at(words, 2), name_at(words, 3)) {
+        Ok(problem) => problem,
+        Err(report) => return finish(desk, &report),
     };
-    let tide = match read_table(alloc, desk, &port, name_at(words, 3)) {
-        Ok(tide) => tide,
-        Err(stop) => return finish(desk, &no_tide(stop)),
-    };
-    let flat = match flatten(alloc, &port, &tide) {
-        Ok(flat) => flat,
-        Err(_) => return finish(desk, &Report::Memory),
-    };
-    let solved = search_to(alloc, desk, &flat, budget, name_at(words, 5));
+    let solved = search_to(alloc, desk, &problem.flat, budget, name_at(words, 5));
     let names = Names::Port {
-        port: &port,
-        tide: &tide,
+        port: &problem.port,
+        tide: &problem.tide,
     };
-    match search_report(&flat, names, budget, &solved) {
-        Some(report) => finish(desk, &report),
-        None => Status::WriteFault,
-    }
+    finish_with(desk, search_report(&problem.flat, names, budget, &solved))
 }

@@ -1,20 +1,19 @@
-use Rattle.std.proofs.Common.{Option, map, string_bytes, refl, subst}
-use Rattle.hw_report.specs.Reports.{Report}
+use Rattle.std.proofs.Common.{Option, map, string_bytes, subst}
+use Rattle.hw_report.specs.Reports.{Report, by_number}
+use Rattle.hw_report.specs.Seen.{report_seen}
 use Rattle.hw_app.specs.Ends.{EndsWith}
-use Rattle.hw_app.specs.declared.status.Status.TheVariants.{WriteFault}
+use Rattle.hw_app.proofs.SearchWorks.{printed}
 use Rattle.hw_app.proofs.Solved.{solve_stops, solves}
 use Rattle.hw_app.proofs.solve_flat.solve_flat.Goals as goal
 
 pub returns-in-Err : goal.returns-in-Err
-returns-in-Err g c = solve_stops (map string_bytes c.args.words.now) c.in-Err.stop (rw c.name_at.ensures at c.in-Err.ensures) (rw c.no_flat.ensures.value at c.finish.ensures)
+returns-in-Err g c = solve_stops (map string_bytes c.args.words.now) (rw c.name_at.ensures at c.in-Err.ensures.no_flat) c.finish.ensures
 
-pub returns-in-Some : goal.returns-in-Some
-returns-in-Some g c =
-    let z = g.D.Desk.state c.search_to-solved.new.desk in
-    let end = g.D.Desk.state c.finish-in-Some.new.desk in
-    solves (map string_bytes c.args.words.now) c.search_to-solved.result c.number_at-budget.ensures (rw c.name_at.ensures at c.in-Ok.ensures) (rw c.name_at-2.ensures at c.search_to-solved.ensures) (subst (λ (o : Option Report). EndsWith o z end c.finish-in-Some.result) c.in-Some.ensures c.finish-in-Some.ensures)
+pub finish_with-requires : goal.finish_with-requires
+finish_with-requires g c = printed report_seen c.search_report.result by_number c.search_to-solved.result c.search_report.ensures c.search_to-solved.ensures tt
 
 pub returns : goal.returns
 returns g c =
     let z = g.D.Desk.state c.search_to-solved.new.desk in
-    solves (map string_bytes c.args.words.now) c.search_to-solved.result c.number_at-budget.ensures (rw c.name_at.ensures at c.in-Ok.ensures) (rw c.name_at-2.ensures at c.search_to-solved.ensures) (subst (λ (o : Option Report). EndsWith o z z WriteFault) c.in-None.ensures (refl, refl))
+    let end = g.D.Desk.state c.finish_with.new.desk in
+    solves (map string_bytes c.args.words.now) c.search_to-solved.result c.number_at-budget.ensures (rw c.name_at.ensures at c.in-Ok.ensures.flat) (rw c.name_at-2.ensures at c.search_to-solved.ensures) (subst (λ (o : Option Report). EndsWith o z end c.finish_with.result) c.search_report.ensures c.finish_with.ensures)
