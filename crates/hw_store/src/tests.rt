@@ -1,18 +1,14 @@
-ghost use Rattle.std.specs.Prelude.{◌≡◌, ◌<◌, ◌+◌, ⊤, All, IfOk, OnOk, MatchBool};
+ghost use Rattle.std.specs.Prelude.{◌≡◌, ◌<◌, ◌+◌, [], All, IfOk, OnOk};
 ghost use Rattle.hw_model.specs.Lits.{IsLitOf};
 ghost use Rattle.hw_store.specs.Scans.{ScanReady};
 ghost use Rattle.hw_store.specs.Watches.{WatchReady};
 
 use crate::{Held, ScanStore, Store, WatchStore};
-use hw_flat::{Flat, Room, Shape};
-use hw_lits::{Clause, ClauseFault, cut, truth};
+use hw_flat::{Room, Shape, make_demo};
+use hw_lits::{Clause, cut, truth};
 use hw_model::{Lit, LitTruth, NoMemory};
 use std::alloc::Global;
-use std::process::Abort;
 use std::test::Fail;
-
-const FOUR_SHIPS: &[u8] =
-    b"flat 1\nsize 4 6\nv 1 2 3 4 5 6\nv 1 2 3 4 5 6\nv 1 2 3 4 5 6\nv 1 2 3 4 5 6\nend\n";
 
 const SHAPE: Shape = Shape {
     ships: 4,
@@ -55,34 +51,6 @@ fn lit_of(state: u32) -> Lit
             w: 2 + slot % 2,
         },
     }
-}
-
-fn is_of_four(lit: Lit) -> bool
-    ensures value { MatchBool result (IsLitOf 4 lit) ⊤ }
-{
-    match lit {
-        Lit::AtOrAfter { ship, slot } => ship < 4 && slot >= 1,
-        Lit::Before { ship, slot } => ship < 4 && slot >= 1,
-        Lit::First { v, w } => v < w && w < 4,
-        Lit::NotFirst { v, w } => v < w && w < 4,
-    }
-}
-
-// Whether no literal is True and at most one is Free, counted one by one.
-fn is_active(lits: &[Lit], room: &Room) -> bool
-    requires ships { room.now.ships ≡ 4 }
-{
-    let mut open: u32 = 0;
-    for lit in lits {
-        if is_of_four(*lit) {
-            open = match truth(*lit, room) {
-                LitTruth::False => open,
-                LitTruth::Free => open.saturating_add(1),
-                LitTruth::True => open.saturating_add(2),
-            };
-        }
-    }
-    open < 2
 }
 
 // Cuts the room by a literal, where it is open.
@@ -148,28 +116,8 @@ fn play(both: &mut Both, state: u32)
     }
 }
 
-// Whether a store's answer is right: it names a clause that is active, or none is.
-fn is_right<S: Store>(store: &S, found: Held, last: u32, room: &Room) -> bool
-    requires ships { room.now.ships ≡ 4 }
-{
-    if let Held::Clause { id } = found {
-        return store
-            .clause(id)
-            .is_some_and(|clause| is_active(clause.as_slice(), room));
-    }
-    for id in 1..=last {
-        if store
-            .clause(id)
-            .is_none_or(|clause| is_active(clause.as_slice(), room))
-        {
-            return false;
-        }
-    }
-    true
-}
-
-// Asks both stores, and gives how many clauses the first one named.
-fn ask(rt: &impl Abort, both: &mut Both, last: u32) -> Result<u32, NoMemory>
+// Asks both stores, and tells whether each is quiet. That they tell the truth is a clause of `step`.
+fn ask(both: &mut Both) -> Result<(bool, bool), NoMemory>
     requires ships { both.old.room.ships ≡ 4 }
     requires slots { both.old.room.slots ≡ 6 }
     requires scan { ScanReady both.old.scan both.old.room }
@@ -183,30 +131,18 @@ fn ask(rt: &impl Abort, both: &mut Both, last: u32) -> Result<u32, NoMemory>
 {
     let one = both.scan.step(&both.room)?;
     let two = both.watch.step(&both.room)?;
-    assert_eq!(rt;
-        one == Held::Quiet,
-        two == Held::Quiet,
-        "both are quiet, or neither"
-    );
-    assert!(rt;
-        is_right(&both.scan, one, last, &both.room),
-        "looking at each clause"
-    );
-    assert!(rt;
-        is_right(&both.watch, two, last, &both.room),
-        "watching two literals"
-    );
-    Ok(if one == Held::Quiet { 0 } else { 1 })
+    Ok((one == Held::Quiet, two == Held::Quiet))
 }
 
-// Forty rooms: the generator's next state, and in how many of them a clause was named.
-fn rounds(rt: &impl Abort, both: &mut Both, last: u32, start: u32) -> Result<(u32, u32), NoMemory>
+// Forty rooms: the generator's next state, in how many of them both named a clause, and in how many
+// only one did.
+fn rounds(both: &mut Both, start: u32) -> Result<(u32, u32, u32), NoMemory>
     requires small { start < 65521 }
     requires ships { both.old.room.ships ≡ 4 }
     requires slots { both.old.room.slots ≡ 6 }
     requires scan { ScanReady both.old.scan both.old.room }
     requires watch { WatchReady both.old.watch both.old.room }
-    ensures small { IfOk result (λ pair. pair.0 < 65521) }
+    ensures small { IfOk result (λ found. found.0 < 65521) }
     ensures ships { both.new.room.ships ≡ 4 }
     ensures slots { both.new.room.slots ≡ 6 }
     ensures scan { ScanReady both.new.scan both.new.room }
@@ -215,13 +151,16 @@ fn rounds(rt: &impl Abort, both: &mut Both, last: u32, start: u32) -> Result<(u3
     ensures same { both.new.watch.held ≡ both.old.watch.held }
 {
     let mut state = start;
-    let mut named = 0;
+    let mut named: u32 = 0;
+    let mut apart: u32 = 0;
     for _count in 0..40 {
         state = next(state);
         play(both, state);
-        named = ask(rt, both, last)?.saturating_add(named);
+        let (one, two) = ask(both)?;
+        named = named.saturating_add(u32::from(!one && !two));
+        apart = apart.saturating_add(u32::from(one != two));
     }
-    Ok((state, named))
+    Ok((state, named, apart))
 }
 
 // One more clause for both.
@@ -247,53 +186,74 @@ fn add_both(alloc: Global, both: &mut Both, id: u32, lits: &[Lit]) -> Result<(),
     Ok(())
 }
 
-fn a(ship: u32, slot: u32) -> Lit {
-    Lit::AtOrAfter { ship, slot }
-}
+/// A clause each.
+const ROWS: [[Lit; 3]; 7] = [
+    [
+        Lit::AtOrAfter { ship: 0, slot: 3 },
+        Lit::Before { ship: 1, slot: 2 },
+        Lit::First { v: 0, w: 2 },
+    ],
+    [
+        Lit::Before { ship: 0, slot: 2 },
+        Lit::AtOrAfter { ship: 1, slot: 4 },
+        Lit::NotFirst { v: 1, w: 3 },
+    ],
+    [
+        Lit::AtOrAfter { ship: 2, slot: 3 },
+        Lit::Before { ship: 2, slot: 2 },
+        Lit::NotFirst { v: 0, w: 3 },
+    ],
+    [
+        Lit::Before { ship: 2, slot: 4 },
+        Lit::Before { ship: 3, slot: 2 },
+        Lit::First { v: 1, w: 2 },
+    ],
+    [
+        Lit::AtOrAfter { ship: 1, slot: 2 },
+        Lit::AtOrAfter { ship: 3, slot: 3 },
+        Lit::NotFirst { v: 0, w: 2 },
+    ],
+    [
+        Lit::First { v: 0, w: 2 },
+        Lit::NotFirst { v: 0, w: 3 },
+        Lit::First { v: 1, w: 3 },
+    ],
+    [
+        Lit::AtOrAfter { ship: 0, slot: 1 },
+        Lit::Before { ship: 1, slot: 5 },
+        Lit::Before { ship: 3, slot: 1 },
+    ],
+];
 
-fn b(ship: u32, slot: u32) -> Lit {
-    Lit::Before { ship, slot }
-}
-
-fn f(v: u32, w: u32) -> Lit {
-    Lit::First { v, w }
-}
-
-fn n(v: u32, w: u32) -> Lit {
-    Lit::NotFirst { v, w }
+// Both stores, without clauses, and the whole room.
+fn both_new(alloc: Global) -> Result<Both, Fail>
+    ensures ships { IfOk result (λ both. both.room.ships ≡ 4) }
+    ensures slots { IfOk result (λ both. both.room.slots ≡ 6) }
+    ensures scan { IfOk result (λ both. ScanReady both.scan both.room) }
+    ensures watch { IfOk result (λ both. WatchReady both.watch both.room) }
+    ensures none { IfOk result (λ both. both.scan.held ≡ []) }
+    ensures nothing { IfOk result (λ both. both.watch.held ≡ []) }
+{
+    let flat = make_demo(alloc, 1, 4, 6)?;
+    Ok(Both {
+        scan: ScanStore::new(alloc, &flat)?,
+        watch: WatchStore::new(alloc, &flat)?,
+        room: Room::whole(alloc, SHAPE)?,
+    })
 }
 
 #[test]
 fn both_stores_agree(rt: HostRuntime) -> Result<(), Fail> {
-    let alloc = rt.alloc();
-    let flat = Flat::read(alloc, FOUR_SHIPS)?;
-    let shape = flat.shape();
-    assert_eq!(rt; shape.ships, 4);
-    assert_eq!(rt; shape.slots, 6);
-    let mut both = Both {
-        scan: ScanStore::new(alloc, &flat)?,
-        watch: WatchStore::new(alloc, &flat)?,
-        room: Room::whole(alloc, shape)?,
-    };
-    let rows = [
-        [a(0, 3), b(1, 2), f(0, 2)],
-        [b(0, 2), a(1, 4), n(1, 3)],
-        [a(2, 3), b(2, 2), n(0, 3)],
-        [b(2, 4), b(3, 2), f(1, 2)],
-        [a(1, 2), a(3, 3), n(0, 2)],
-        [f(0, 2), n(0, 3), f(1, 3)],
-        [a(0, 1), b(1, 5), b(3, 1)],
-    ];
+    let mut both = both_new(rt.alloc())?;
     let mut state = 7;
     let mut named: u32 = 0;
-    for (at, row) in rows.iter().enumerate() {
-        let last = at as u32 + 1;
-        add_both(alloc, &mut both, last, row)?;
-        let (next, more) = rounds(&rt, &mut both, last, state)?;
+    for (at, row) in ROWS.iter().enumerate() {
+        add_both(rt.alloc(), &mut both, at as u32 + 1, row)?;
+        let (next, more, apart) = rounds(&mut both, state)?;
+        assert!(rt; apart == 0, "both are quiet, or neither, in each room");
         state = next;
         named = named.saturating_add(more);
     }
-    assert!(rt; named > 50, "{named} of 280 rooms");
-    assert!(rt; named < 250, "{named} of 280 rooms");
+    assert!(rt; 50 < named && named < 250, "{named} of 280 rooms");
     Ok(())
 }
