@@ -1,17 +1,17 @@
 -- Inputs that were begun, one after another, and the work that ends at one of them.
-use Rattle.std.proofs.Common.{◌≡◌, ◌<◌, ◌==◌, ◌||◌, ◌++◌, ◌∙◌, ℕ, Bool, true, false, cond, List, [], ◌∷◌, Option, Some, None, length, append-nil, inl, refl, sym, ap, subst, arith}
+use Rattle.std.proofs.Common.{◌≡◌, ◌==◌, ◌||◌, ◌++◌, ◌∙◌, ℕ, Bool, true, false, cond, List, [], ◌∷◌, Option, Some, None, append-nil, inl, refl, sym, ap, subst, arith}
 use Rattle.std.specs.Prelude.{IfSome, IsSomeAnd}
 use Rattle.hw_desk.specs.Calls.{OnlyFeed, OnlyTray}
 use Rattle.hw_desk.specs.State.{DeskState, FeedState, IsNew, place_of, same_feed, Rose}
 use Rattle.hw_desk.specs.declared.desk.Feed.{Feed}
-use Rattle.hw_desk.specs.declared.desk.Feed.TheVariants.{Flat, Instance, Tides, Certificate, Plan, Events}
 use Rattle.hw_desk.specs.declared.desk.Tray.{Tray}
 use Rattle.hw_desk.specs.declared.whole.ReadStop.{ReadStop}
 use Rattle.hw_desk.specs.declared.whole.ReadStop.TheVariants as stops
 use Rattle.hw_report.specs.Reports.{Report, read_fault, too_long, no_memory}
 use Rattle.hw_app.specs.Inputs.{Enters, StopsFor, report_of_stop}
-use Rattle.hw_app.specs.Scope.{Named, named, is_among, last_of, IsBegun, AllBegun, BeginsAll, Entered}
-use Rattle.hw_app.specs.Works.{Speaks, of_answer, of_input, of_memory, speaks, is_common, UpTo, TraysOf, ReadCauseOf, PassesLimit, LongCauseOf, Works, Stops, most_bytes}
+use Rattle.hw_app.specs.Scope.{Named, named, is_among, last_of, IsBegun, AllBegun, GiveBefore, BeginsAll, Entered}
+use Rattle.hw_app.specs.Values.{IsLong}
+use Rattle.hw_app.specs.Works.{Speaks, of_answer, of_input, of_memory, speaks, UpTo, TraysOf, ReadCauseOf, Works, Stops}
 
 not_first : (a b : Bool) → (a || b) ≡ false → a ≡ false
 not_first true b e = absurd (cc)
@@ -57,14 +57,15 @@ among_last [] last f e = not_first (same_feed f last.feed) false e
 among_last (input ∷ more) last f e = among_last more last f (not_second (same_feed f input.feed) (is_among (more ++ last ∷ []) f) e)
 
 pub entered_none : (x : DeskState) → Entered [] x x
-entered_none x = record { begins = record { held = refl; begun = tt; others = λ f e. refl }; trays = refl; write_faults = refl }
+entered_none x = record { begins = record { held = refl; begun = tt; give = tt; others = λ f e. refl }; trays = refl; write_faults = refl }
 
 -- one input more
-pub entered_on : {feed : Feed} {name : List ℕ} {x y z : DeskState} (done : List Named) → Entered done x y → Enters feed name y z → is_among done feed ≡ false → Entered (done ++ named feed name ∷ []) x z
-entered_on {feed = feed} {name = name} {x = x} {y = y} {z = z} done h k e = record {
+pub entered_on : {feed : Feed} {name : List ℕ} {x y z : DeskState} (done : List Named) → Entered done x y → Enters feed name y z → is_among done feed ≡ false → GiveBefore x.held (done ++ named feed name ∷ []) → Entered (done ++ named feed name ∷ []) x z
+entered_on {feed = feed} {name = name} {x = x} {y = y} {z = z} done h k e give = record {
   begins = record {
     held = k.only.held ∙ h.begins.held;
     begun = all_more done (named feed name) (all_kept done k.only e h.begins.begun) (record { begun = k.begun; named = k.named });
+    give = give;
     others = λ f out. other_kept f k.only (among_last done (named feed name) f out) ∙ h.begins.others f (among_front done (named feed name) f out);
   };
   trays = k.only.trays ∙ h.trays;
@@ -86,6 +87,7 @@ pub begun_past : {t : Tray} {inputs : List Named} {x y z : DeskState} → OnlyTr
 begun_past {inputs = inputs} {y = y} {z = z} h b = record {
   held = h.held ∙ b.held;
   begun = still_begun y z inputs h.feeds b.begun;
+  give = b.give;
   others = λ f out. ap (λ feeds. feeds f) h.feeds ∙ b.others f out;
 }
 
@@ -104,8 +106,8 @@ no_tray x y proof (of_input feed) e = e
 no_tray x y proof of_memory e = e
 
 -- the work that ends before an answer
-pub answers : {inputs : List Named} {x y : DeskState} (proof : Option (List ℕ)) (r : Report) → speaks r ≡ of_answer → Entered inputs x y → ReadCauseOf x y r → LongCauseOf inputs x r → Works inputs proof x y r
-answers {inputs = inputs} {x = x} {y = y} proof r e h read long = record {
+pub answers : {inputs : List Named} {x y : DeskState} (proof : Option (List ℕ)) (r : Report) → speaks r ≡ of_answer → Entered inputs x y → ReadCauseOf x y r → Works inputs proof x y r
+answers {inputs = inputs} {x = x} {y = y} proof r e h read = record {
   done = inputs;
   rest = [];
   parts = sym (append-nil inputs);
@@ -113,13 +115,12 @@ answers {inputs = inputs} {x = x} {y = y} proof r e h read long = record {
   upto = subst (λ (s : Speaks). UpTo inputs [] s) (sym e) refl;
   trays = no_tray x y proof (speaks r) h.trays;
   read_cause = read;
-  long_cause = long;
   write_faults = h.write_faults;
 }
 
 -- the work that ends at the input that was begun last
-pub refuses : {inputs : List Named} {x y : DeskState} (proof : Option (List ℕ)) (done : List Named) (last : Named) (rest : List Named) (r : Report) → inputs ≡ (done ++ last ∷ []) ++ rest → speaks r ≡ of_input last.feed → Entered (done ++ last ∷ []) x y → ReadCauseOf x y r → LongCauseOf (done ++ last ∷ []) x r → Works inputs proof x y r
-refuses {x = x} {y = y} proof done last rest r parts e h read long = record {
+pub refuses : {inputs : List Named} {x y : DeskState} (proof : Option (List ℕ)) (done : List Named) (last : Named) (rest : List Named) (r : Report) → inputs ≡ (done ++ last ∷ []) ++ rest → speaks r ≡ of_input last.feed → Entered (done ++ last ∷ []) x y → ReadCauseOf x y r → Works inputs proof x y r
+refuses {x = x} {y = y} proof done last rest r parts e h read = record {
   done = done ++ last ∷ [];
   rest = rest;
   parts = parts;
@@ -127,7 +128,6 @@ refuses {x = x} {y = y} proof done last rest r parts e h read long = record {
   upto = subst (λ (s : Speaks). UpTo (done ++ last ∷ []) rest s) (sym e) (some_is _ (last_of (done ++ last ∷ [])) last (last_is done last) refl);
   trays = no_tray x y proof (speaks r) h.trays;
   read_cause = read;
-  long_cause = long;
   write_faults = h.write_faults;
 }
 
@@ -141,34 +141,25 @@ wants_memory {x = x} {y = y} proof done rest parts h read = record {
   upto = tt;
   trays = h.trays;
   read_cause = read;
-  long_cause = tt;
   write_faults = h.write_faults;
 }
-
-passes : (feed : Feed) (told : Option (List ℕ)) → IfSome told (λ bytes. most_bytes < length bytes) → PassesLimit feed told
-passes Flat told h = h
-passes Instance told h = h
-passes Tides told h = h
-passes Certificate told h = tt
-passes Plan told h = h
-passes Events told h = h
 
 pub rose_on : {a b c : ℕ} → b ≡ a → Rose b c → Rose a c
 rose_on e h = omega arith
 
 -- an input that isn't had
-pub input_stops : {inputs : List Named} {Why : Report → Type 0} {x z : DeskState} (y : DeskState) (done : List Named) (feed : Feed) (name : List ℕ) (rest : List Named) (stop : ReadStop) → is_common (too_long feed) ≡ true → inputs ≡ (done ++ named feed name ∷ []) ++ rest → Entered (done ++ named feed name ∷ []) x z → y.read_faults ≡ x.read_faults → StopsFor (x.held name) y z stop → Stops inputs Why x z (report_of_stop feed stop)
-input_stops y done feed name rest stops.Fault common parts h before s = record {
-  works = refuses None done (named feed name) rest (read_fault feed) parts refl h (rose_on before s) tt;
+pub input_stops : {inputs : List Named} {Why : Report → Type 0} {x z : DeskState} (y : DeskState) (done : List Named) (feed : Feed) (name : List ℕ) (rest : List Named) (stop : ReadStop) → (IfSome (x.held name) IsLong → Why (too_long feed)) → inputs ≡ (done ++ named feed name ∷ []) ++ rest → Entered (done ++ named feed name ∷ []) x z → y.read_faults ≡ x.read_faults → StopsFor (x.held name) y z stop → Stops inputs Why x z (report_of_stop feed stop)
+input_stops y done feed name rest stops.Fault long parts h before s = record {
+  works = refuses None done (named feed name) rest (read_fault feed) parts refl h (rose_on before s);
   early = λ e. absurd (cc);
   why = λ own. absurd (cc);
 }
-input_stops {x = x} y done feed name rest stops.TooLong common parts h before s = record {
-  works = refuses None done (named feed name) rest (too_long feed) parts refl h (s.1 ∙ before) (some_is _ (last_of (done ++ named feed name ∷ [])) (named feed name) (last_is done (named feed name)) (passes feed (x.held name) s.0));
+input_stops y done feed name rest stops.TooLong long parts h before s = record {
+  works = refuses None done (named feed name) rest (too_long feed) parts refl h (s.1 ∙ before);
   early = λ e. absurd (cc);
-  why = λ own. absurd (cc);
+  why = λ own. long s.0;
 }
-input_stops y done feed name rest stops.NoMemory common parts h before s = record {
+input_stops y done feed name rest stops.NoMemory long parts h before s = record {
   works = wants_memory None (done ++ named feed name ∷ []) rest parts h (s ∙ before);
   early = λ e. absurd (cc);
   why = λ own. absurd (cc);

@@ -6,18 +6,18 @@ use Rattle.hw_desk.specs.declared.desk.Feed.TheVariants.{Certificate}
 use Rattle.hw_report.specs.Reports.{Naming}
 use Rattle.hw_app.specs.Certificates.{report_of_check}
 use Rattle.hw_app.specs.Checking.{ChecksCert}
-use Rattle.hw_app.specs.Scope.{Named, named, is_among, last_of, Entered}
+use Rattle.hw_app.specs.Scope.{Named, named, is_among, GiveBefore, Entered}
 use Rattle.hw_app.specs.Works.{Works}
 use Rattle.hw_app.specs.declared.outcome.CertOutcome.{CertOutcome}
 use Rattle.hw_app.specs.declared.outcome.CertOutcome.TheVariants.{Shows, Wrong, TooLong}
 use Rattle.hw_app.specs.declared.outcome.CertStop.{CertStop}
 use Rattle.hw_app.specs.declared.outcome.CertStop.TheVariants.{Fault, NoMemory}
-use Rattle.hw_app.proofs.Begun.{entered_on, some_is, last_is, answers, refuses, wants_memory, rose_on}
+use Rattle.hw_app.proofs.Begun.{entered_on, answers, refuses, wants_memory, rose_on}
 
 -- the work up to the report of a check
-pub cert_works : {before : List Named} {cert : List ℕ} {x y z : DeskState} {f : Problem} (names : Naming) (proof : Option (List ℕ)) (result : Result CertOutcome CertStop) → Entered before x y → y.read_faults ≡ x.read_faults → is_among before Certificate ≡ false → ChecksCert f cert y z result → Works (before ++ named Certificate cert ∷ []) proof x z (report_of_check names result)
-cert_works {before = before} names proof (Ok (Shows v)) h read new m = answers proof _ refl (entered_on before h m.enters new) (m.finds.0 ∙ read) tt
-cert_works {before = before} {cert = cert} names proof (Ok (Wrong number word hint)) h read new m = refuses proof before (named Certificate cert) [] _ (sym (append-nil _)) refl (entered_on before h m.enters new) (m.finds.0 ∙ read) tt
-cert_works {before = before} {cert = cert} names proof (Ok TooLong) h read new m = refuses proof before (named Certificate cert) [] _ (sym (append-nil _)) refl (entered_on before h m.enters new) (m.finds.0 ∙ read) (some_is _ (last_of (before ++ named Certificate cert ∷ [])) (named Certificate cert) (last_is before (named Certificate cert)) tt)
-cert_works {before = before} {cert = cert} names proof (Err Fault) h read new m = refuses proof before (named Certificate cert) [] _ (sym (append-nil _)) refl (entered_on before h m.enters new) (rose_on read m.finds) tt
-cert_works {before = before} {cert = cert} names proof (Err NoMemory) h read new m = wants_memory proof (before ++ named Certificate cert ∷ []) [] (sym (append-nil _)) (entered_on before h m.enters new) (m.finds ∙ read)
+pub cert_works : {before : List Named} {cert : List ℕ} {x y z : DeskState} {f : Problem} (names : Naming) (proof : Option (List ℕ)) (result : Result CertOutcome CertStop) → Entered before x y → y.read_faults ≡ x.read_faults → is_among before Certificate ≡ false → GiveBefore x.held (before ++ named Certificate cert ∷ []) → ChecksCert f cert y z result → Works (before ++ named Certificate cert ∷ []) proof x z (report_of_check names result)
+cert_works {before = before} names proof (Ok (Shows v)) h read new give m = answers proof _ refl (entered_on before h m.enters new give) (m.finds.0 ∙ read)
+cert_works {before = before} {cert = cert} names proof (Ok (Wrong number word hint)) h read new give m = refuses proof before (named Certificate cert) [] _ (sym (append-nil _)) refl (entered_on before h m.enters new give) (m.finds.0 ∙ read)
+cert_works {before = before} {cert = cert} names proof (Ok TooLong) h read new give m = refuses proof before (named Certificate cert) [] _ (sym (append-nil _)) refl (entered_on before h m.enters new give) (m.finds.0 ∙ read)
+cert_works {before = before} {cert = cert} names proof (Err Fault) h read new give m = refuses proof before (named Certificate cert) [] _ (sym (append-nil _)) refl (entered_on before h m.enters new give) (rose_on read m.finds)
+cert_works {before = before} {cert = cert} names proof (Err NoMemory) h read new give m = wants_memory proof (before ++ named Certificate cert ∷ []) [] (sym (append-nil _)) (entered_on before h m.enters new give) (m.finds ∙ read)

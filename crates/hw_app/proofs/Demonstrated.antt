@@ -213,7 +213,6 @@ sent_meets {x = x} {y = y} {head = head} {best = best} {v = v} {count = count} {
         upto = refl;
         trays = inr made;
         read_cause = k.only.read_faults;
-        long_cause = tt;
         write_faults = k.answer.0;
       };
       says = λ own. record { lines = all; demonstrates = d; made = made; holds = k.answer.1 };

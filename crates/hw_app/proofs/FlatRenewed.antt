@@ -23,12 +23,12 @@ use Rattle.hw_app.specs.declared.renewing.Renewal.TheVariants.{Checked, WriteFai
 use Rattle.hw_app.specs.declared.status.Status.{Status}
 use Rattle.hw_app.proofs.FlatForms.{by_line}
 use Rattle.hw_app.proofs.RenewWorks.{renewed_works, broken_works, renews, breaks}
-use Rattle.hw_app.proofs.Shown.{bad_by, decided_by, means, both_entered, check_works, check_says}
+use Rattle.hw_app.proofs.Shown.{bad_by, long_by, decided_by, means, both_entered, check_works, check_says}
 use Rattle.hw_app.proofs.Stopped.{stops_meets}
 
 -- the flat text gives no problem
 pub renew_stops : {x y z : DeskState} {r : Report} {s : Status} (words : List (List ℕ)) → StopsAtFlat (word_at words 2) x y r → Ends r y z s → FormMeets RenewFlat words x z s
-renew_stops {x = x} {y = y} {r = r} words h ends = stops_meets RenewFlat words (named Certificate (word_at words 3) ∷ []) h refl (by_line (x.held (word_at words 2)) (λ (r : Report). says_of RenewFlat words x y (Some r)) r (λ number word bad. record { texts = bad; decided = bad_by (x.held (word_at words 2)) (x.held (word_at words 3)) number word bad })) ends
+renew_stops {x = x} {y = y} {r = r} words h ends = stops_meets RenewFlat words (named Certificate (word_at words 3) ∷ []) h refl (by_line (x.held (word_at words 2)) (λ (r : Report). says_of RenewFlat words x y (Some r)) r (λ number word bad. record { texts = bad; decided = bad_by (x.held (word_at words 2)) (x.held (word_at words 3)) number word bad }) (λ long. record { texts = long; decided = long_by (x.held (word_at words 2)) (x.held (word_at words 3)) long })) ends
 
 -- what is told of the certificate is what was told before the flat text was read
 can : {name cert : List ℕ} {f : Problem} {x y z : DeskState} {v : Verdict} {proof : List ℕ} {sent : Result Unit Unit} → ReadsFlat name x y f → (k : Rewrites f cert proof y z v sent) → CanRenew f (x.held cert) v k.lines

@@ -24,7 +24,7 @@ use Rattle.hw_app.proofs.Stopped.{stops_meets}
 
 -- there is no port
 pub no_port_meets : {x y z : DeskState} {r : Report} {s : Status} (words : List (List ℕ)) → StopsAtPort (word_at words 1) (word_at words 2) x y r → Ends r y z s → FormMeets Flatten words x z s
-no_port_meets {x = x} {y = y} {r = r} words h ends = stops_meets Flatten words [] h refl (by_fault (x.held (word_at words 1)) (x.held (word_at words 2)) (λ (r : Report). says_of Flatten words x y (Some r)) r (λ bad. bad) (λ fault bad. bad) (λ fault bad. bad)) ends
+no_port_meets {x = x} {y = y} {r = r} words h ends = stops_meets Flatten words [] h refl (by_fault (x.held (word_at words 1)) (x.held (word_at words 2)) (λ (r : Report). says_of Flatten words x y (Some r)) r (λ bad. bad) (λ fault bad. bad) (λ fault bad. bad) (λ bad. bad) (λ bad. bad)) ends
 
 -- memory was wanting for the text
 pub memory_meets : {x y z : DeskState} {s : Status} {p : Parts} {t : TideParts} {f : Problem} (words : List (List ℕ)) → ReadsPortProblem (word_at words 1) (word_at words 2) x y p t f → Ends no_memory y z s → FormMeets Flatten words x z s
@@ -49,7 +49,7 @@ pub text_meets : {x y z : DeskState} {s : Status} {p : Parts} {t : TideParts} {f
 text_meets {y = y} {p = p} {t = t} words text h written ends = record {
   mid = y;
   report = Some (flattened_text text);
-  works = answers None (flattened_text text) refl h.entered h.read_faults tt;
+  works = answers None (flattened_text text) refl h.entered h.read_faults;
   says = λ own. record { port = p; tide = t; reads = h.port; flat = text_is text h written };
   ends = ends;
 }

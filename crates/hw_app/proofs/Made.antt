@@ -6,7 +6,7 @@ use Rattle.hw_desk.specs.State.{DeskState, put_tray, Rose}
 use Rattle.hw_desk.specs.declared.desk.Tray.TheVariants.{Proof}
 use Rattle.hw_report.specs.Reports.{Report}
 use Rattle.hw_app.specs.Scope.{Named, Entered, MakesProof}
-use Rattle.hw_app.specs.Works.{Speaks, of_answer, speaks, UpTo, TraysOf, ReadCauseOf, LongCauseOf, Works, Breaks}
+use Rattle.hw_app.specs.Works.{Speaks, of_answer, speaks, UpTo, TraysOf, ReadCauseOf, Works, Breaks}
 use Rattle.hw_app.proofs.Begun.{begun_past, rose_on}
 
 -- Proof was made behind inputs that were begun
@@ -18,8 +18,8 @@ makes_past {z = z} h only made named = record {
 }
 
 -- the work before an answer
-pub made_works : {inputs : List Named} {proof : List ℕ} {x y z : DeskState} (r : Report) → speaks r ≡ of_answer → Entered inputs x y → OnlyTray Proof y z → MakesProof proof x z → z.write_faults ≡ y.write_faults → ReadCauseOf x z r → LongCauseOf inputs x r → Works inputs (Some proof) x z r
-made_works {inputs = inputs} {proof = proof} {x = x} {z = z} r e h only makes kept read long = record {
+pub made_works : {inputs : List Named} {proof : List ℕ} {x y z : DeskState} (r : Report) → speaks r ≡ of_answer → Entered inputs x y → OnlyTray Proof y z → MakesProof proof x z → z.write_faults ≡ y.write_faults → ReadCauseOf x z r → Works inputs (Some proof) x z r
+made_works {inputs = inputs} {proof = proof} {x = x} {z = z} r e h only makes kept read = record {
   done = inputs;
   rest = [];
   parts = sym (append-nil inputs);
@@ -27,7 +27,6 @@ made_works {inputs = inputs} {proof = proof} {x = x} {z = z} r e h only makes ke
   upto = subst (λ (s : Speaks). UpTo inputs [] s) (sym e) refl;
   trays = subst (λ (s : Speaks). TraysOf (Some proof) x z s) (sym e) (inr makes);
   read_cause = read;
-  long_cause = long;
   write_faults = kept ∙ h.write_faults;
 }
 

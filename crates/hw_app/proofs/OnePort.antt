@@ -1,8 +1,8 @@
 -- The report of a port's files is one function of their bytes.
-use Rattle.std.proofs.Common.{◌≡◌, ◌⊎◌, ◌∙◌, ℕ, List, Option, Some, Result, Ok, Err, inl, inr, refl, sym, ap, subst}
+use Rattle.std.proofs.Common.{◌≡◌, ◌≤◌, ◌<◌, ◌⊎◌, ◌∙◌, ℕ, List, length, Option, Some, Result, Ok, Err, inl, inr, refl, sym, ap, subst, arith}
 use Rattle.std.specs.Prelude.{◌≢◌}
 use Rattle.hw_desk.specs.State.{DeskState}
-use Rattle.hw_desk.specs.declared.desk.Feed.TheVariants.{Certificate}
+use Rattle.hw_desk.specs.declared.desk.Feed.TheVariants.{Instance, Tides, Certificate}
 use Rattle.hw_port.specs.declared.fault.PortFault.{PortFault}
 use Rattle.hw_port.specs.Whole.{Parts}
 use Rattle.hw_read.specs.Instance.{instance_of, Reads as ReadsPort}
@@ -21,8 +21,9 @@ use Rattle.hw_app.specs.CheckFlat.{Checks, texts_report}
 use Rattle.hw_app.specs.CheckPort.{ChecksPortTexts}
 use Rattle.hw_app.specs.Flattening.{FlattensTexts}
 use Rattle.hw_app.specs.Laws.{OneCertificateReport, OnePortReport, RenewalOfFlat, RenewalOfPort}
-use Rattle.hw_app.specs.PortInputs.{IsPortOf, IsBadTable}
+use Rattle.hw_app.specs.PortInputs.{NoPort, IsBadTable}
 use Rattle.hw_app.specs.RenewPort.{RenewsPortTexts}
+use Rattle.hw_app.specs.Values.{most_bytes, IsLong, IsPortOf, GivesPort}
 
 -- what a value is read as
 abbrev as_read : Result Parts PortFault → Result Parts ReadFault
@@ -70,6 +71,19 @@ one_table bytes by what other told too h g =
     let b = from_records bytes by other too g in
     sym a.gives ∙ ap by (one_list_law bytes a.records b.records a.has b.has) ∙ b.gives
 
+-- one report of bytes that pass the limit, and this of others
+abbrev Limited : List ℕ → Report → (Report → Type 0) → Report → Type 0
+Limited bytes long Within r = (IsLong bytes × (r ≡ long)) ⊎ ((length bytes ≤ most_bytes) × Within r)
+
+not_both : {m n : ℕ} → m < n → n ≤ m → ⊥
+not_both less least = omega arith
+
+one_limited : (bytes : List ℕ) (long : Report) (Within : Report → Type 0) → ((r s : Report) → Within r → Within s → r ≡ s) → (r s : Report) → Limited bytes long Within r → Limited bytes long Within s → r ≡ s
+one_limited bytes long Within one r s (inl h) (inl g) = h.1 ∙ sym g.1
+one_limited bytes long Within one r s (inl h) (inr g) = absurd (not_both h.0 g.0)
+one_limited bytes long Within one r s (inr h) (inl g) = absurd (not_both g.0 h.0)
+one_limited bytes long Within one r s (inr h) (inr g) = one r s h.1 g.1
+
 -- the report of a table, by what it is read as
 abbrev of_table : (TideParts → Report) → Result TideParts TideFault → Report
 of_table last (Ok h) = last h
@@ -83,44 +97,75 @@ record OfTable (table : List ℕ) (last : TideParts → Report) (p : Parts) (r :
 
 -- the report of an instance, by what it is read as
 abbrev Follows : List ℕ → (Parts → TideParts → Report) → Result Parts ReadFault → Report → Type 0
-Follows table last (Ok p) r = OfTable table (last p) p r
+Follows table last (Ok p) r = Limited table (too_long Tides) (OfTable table (last p) p) r
 Follows table last (Err read.NotJson) r = r ≡ bad_json
 Follows table last (Err (read.Field fault)) r = r ≡ bad_field fault
 Follows table last (Err read.NoMemory) r = ⊥
 
--- a report is the last one of a port with its tide, or tells the first fault of their files
-record OfFiles (instance table : List ℕ) (last : Parts → TideParts → Report) (r : Report) : Type 0 where
+-- a report is the last one of a port with its tide, or tells the first fault of their files, the instance keeping its limit
+record Within (instance table : List ℕ) (last : Parts → TideParts → Report) (r : Report) : Type 0 where
   what : Result Parts ReadFault
   told : what ≢ Err read.NoMemory
   reads : ReadsPort instance what
   follows : Follows table last what r
 
+-- the same of any instance
+abbrev OfFiles : List ℕ → List ℕ → (Parts → TideParts → Report) → Report → Type 0
+OfFiles instance table last r = Limited instance (too_long Instance) (Within instance table last) r
+
+one_table_report : (table : List ℕ) (last : TideParts → Report) (p : Parts) (r s : Report) → OfTable table last p r → OfTable table last p s → r ≡ s
+one_table_report table last p r s h g = h.gives ∙ ap (of_table last) (one_table table (tide_by_header (waypoint_names p)) h.what g.what h.told g.told h.reads g.reads) ∙ sym g.gives
+
 one_follows : (table : List ℕ) (last : Parts → TideParts → Report) (what : Result Parts ReadFault) (r s : Report) → Follows table last what r → Follows table last what s → r ≡ s
-one_follows table last (Ok p) r s h g = h.gives ∙ ap (of_table (last p)) (one_table table (tide_by_header (waypoint_names p)) h.what g.what h.told g.told h.reads g.reads) ∙ sym g.gives
+one_follows table last (Ok p) r s h g = one_limited table (too_long Tides) (OfTable table (last p) p) (one_table_report table (last p) p) r s h g
 one_follows table last (Err read.NotJson) r s h g = h ∙ sym g
 one_follows table last (Err (read.Field fault)) r s h g = h ∙ sym g
 one_follows table last (Err read.NoMemory) r s h g = absurd h
 
-one_report : (instance table : List ℕ) (last : Parts → TideParts → Report) (r s : Report) → OfFiles instance table last r → OfFiles instance table last s → r ≡ s
-one_report instance table last r s h g =
+one_within : (instance table : List ℕ) (last : Parts → TideParts → Report) (r s : Report) → Within instance table last r → Within instance table last s → r ≡ s
+one_within instance table last r s h g =
     let same = one_instance instance g.what h.what g.told h.told g.reads h.reads in
     one_follows table last h.what r s h.follows (subst (λ (what : Result Parts ReadFault). Follows table last what s) same g.follows)
 
+one_report : (instance table : List ℕ) (last : Parts → TideParts → Report) (r s : Report) → OfFiles instance table last r → OfFiles instance table last s → r ≡ s
+one_report instance table last r s h g = one_limited instance (too_long Instance) (Within instance table last) (one_within instance table last) r s h g
+
 of_port : {instance table : List ℕ} {p : Parts} {h : TideParts} (last : Parts → TideParts → Report) (r : Report) → IsPortOf (Some instance) (Some table) p h → r ≡ last p h → OfFiles instance table last r
-of_port {p = p} {h = h} last r port e = record {
-  what = Ok p;
-  told = λ no. absurd (cc);
-  reads = port.instance_reads.1;
-  follows = record { what = Ok h; told = λ no. absurd (cc); reads = port.table_reads.1; gives = e };
-}
+of_port {p = p} {h = h} last r port e = inr (
+  port.instance_reads.0,
+  record {
+    what = Ok p;
+    told = λ no. absurd (cc);
+    reads = port.instance_reads.1;
+    follows = inr (port.table_reads.0, record { what = Ok h; told = λ no. absurd (cc); reads = port.table_reads.1; gives = e });
+  },
+)
 
 of_bad_table : {instance table : List ℕ} (last : Parts → TideParts → Report) (fault : TideFault) → IsBadTable (Some instance) (Some table) fault → OfFiles instance table last (bad_tides fault)
-of_bad_table last fault bad = record {
-  what = Ok bad.port;
-  told = λ no. absurd (cc);
-  reads = bad.instance_reads.1;
-  follows = record { what = Err fault; told = λ no. bad.is_fault (cc); reads = bad.table_reads.1; gives = refl };
-}
+of_bad_table last fault bad = inr (
+  bad.instance_reads.0,
+  record {
+    what = Ok bad.port;
+    told = λ no. absurd (cc);
+    reads = bad.instance_reads.1;
+    follows = inr (bad.table_reads.0, record { what = Err fault; told = λ no. bad.is_fault (cc); reads = bad.table_reads.1; gives = refl });
+  },
+)
+
+of_long_table : {instance table : List ℕ} (last : Parts → TideParts → Report) → GivesPort (Some instance) → IsLong table → OfFiles instance table last (too_long Tides)
+of_long_table last gives long = inr (
+  gives.reads.0,
+  record { what = Ok gives.port; told = λ no. absurd (cc); reads = gives.reads.1; follows = inl (long, refl) },
+)
+
+-- the report of files that give no port
+no_port_files : (instance table : List ℕ) (last : Parts → TideParts → Report) (r : Report) → NoPort (Some instance) (Some table) r → OfFiles instance table last r
+no_port_files instance table last bad_json says = inr (says.0, record { what = Err read.NotJson; told = λ no. absurd (cc); reads = says.1; follows = refl })
+no_port_files instance table last (bad_field fault) says = inr (says.0, record { what = Err (read.Field fault); told = λ no. absurd (cc); reads = says.1; follows = refl })
+no_port_files instance table last (bad_tides fault) says = of_bad_table last fault says
+no_port_files instance table last (too_long Instance) says = inl (says, refl)
+no_port_files instance table last (too_long Tides) says = of_long_table last says.0 says.1
+no_port_files instance table last r says = absurd says
 
 -- the report of a certificate of a port with its tide
 abbrev of_cert : List ℕ → Parts → TideParts → Report
@@ -130,10 +175,7 @@ check_files : (instance table bytes : List ℕ) (r : Report) → ChecksPortTexts
 check_files instance table bytes (checked v (by_name p h)) says = of_port (of_cert bytes) _ says.reads (ap (report_of (by_name p h)) says.outcome)
 check_files instance table bytes (refused number word hint) says = of_port (of_cert bytes) _ says.checks.reads (ap (report_of (by_name says.port says.tide)) says.checks.outcome)
 check_files instance table bytes (too_long Certificate) says = of_port (of_cert bytes) _ says.checks.reads (ap (report_of (by_name says.port says.tide)) says.checks.outcome)
-check_files instance table bytes bad_json says = record { what = Err read.NotJson; told = λ no. absurd (cc); reads = says.1; follows = refl }
-check_files instance table bytes (bad_field fault) says = record { what = Err (read.Field fault); told = λ no. absurd (cc); reads = says.1; follows = refl }
-check_files instance table bytes (bad_tides fault) says = of_bad_table (of_cert bytes) fault says
-check_files instance table bytes r says = absurd says
+check_files instance table bytes r says = no_port_files instance table (of_cert bytes) r says
 
 -- the report of a port with its tide by their flat text
 abbrev of_text : Parts → TideParts → Report
@@ -141,10 +183,7 @@ of_text p h = flattened_text (problem_text (flattened p h))
 
 flatten_files : (instance table : List ℕ) (r : Report) → FlattensTexts (Some instance) (Some table) (Some r) → OfFiles instance table of_text r
 flatten_files instance table (flattened_text text) says = of_port of_text _ says.reads (ap flattened_text says.flat.written)
-flatten_files instance table bad_json says = record { what = Err read.NotJson; told = λ no. absurd (cc); reads = says.1; follows = refl }
-flatten_files instance table (bad_field fault) says = record { what = Err (read.Field fault); told = λ no. absurd (cc); reads = says.1; follows = refl }
-flatten_files instance table (bad_tides fault) says = of_bad_table of_text fault says
-flatten_files instance table r says = absurd says
+flatten_files instance table r says = no_port_files instance table of_text r says
 
 pub one_port_report : OnePortReport
 one_port_report = record {

@@ -31,7 +31,7 @@ use Rattle.hw_app.proofs.Stopped.{stops_meets}
 
 -- there is no port
 pub no_port_meets : {x y z : DeskState} {r : Report} {s : Status} (words : List (List ℕ)) → StopsAtPort (word_at words 2) (word_at words 3) x y r → Ends r y z s → FormMeets RenewPort words x z s
-no_port_meets {x = x} {y = y} {r = r} words h ends = stops_meets RenewPort words (named Certificate (word_at words 4) ∷ []) h refl (by_fault (x.held (word_at words 2)) (x.held (word_at words 3)) (λ (r : Report). says_of RenewPort words x y (Some r)) r (λ bad. bad) (λ fault bad. bad) (λ fault bad. bad)) ends
+no_port_meets {x = x} {y = y} {r = r} words h ends = stops_meets RenewPort words (named Certificate (word_at words 4) ∷ []) h refl (by_fault (x.held (word_at words 2)) (x.held (word_at words 3)) (λ (r : Report). says_of RenewPort words x y (Some r)) r (λ bad. bad) (λ fault bad. bad) (λ fault bad. bad) (λ bad. bad) (λ bad. bad)) ends
 
 -- what is told of the certificate is what was told before the port was read
 can : {name table cert proof : List ℕ} {x y z : DeskState} {p : Parts} {t : TideParts} {f : Problem} {v : Verdict} {sent : Result Unit Unit} → ReadsPortProblem name table x y p t f → (m : Rewrites (flattened p t) cert proof y z v sent) → CanRenew (flattened p t) (x.held cert) v m.lines

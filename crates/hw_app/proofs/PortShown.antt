@@ -20,9 +20,10 @@ use Rattle.hw_app.specs.Checking.{Finds, ChecksCert}
 use Rattle.hw_app.specs.Ends.{Ends}
 use Rattle.hw_app.specs.Forms.{word_at}
 use Rattle.hw_app.specs.Inputs.{Enters}
-use Rattle.hw_app.specs.PortInputs.{IsPortOf, ReadsPortProblem, StopsAtPort}
+use Rattle.hw_app.specs.PortInputs.{ReadsPortProblem, StopsAtPort}
 use Rattle.hw_app.specs.Run.{says_of, FormMeets}
 use Rattle.hw_app.specs.Scope.{Entered, named}
+use Rattle.hw_app.specs.Values.{IsPortOf, GivesTide}
 use Rattle.hw_app.specs.Works.{Works, is_common}
 use Rattle.hw_app.specs.declared.form.Form.TheVariants.{CheckPort}
 use Rattle.hw_app.specs.declared.outcome.CertOutcome.{CertOutcome}
@@ -56,14 +57,18 @@ outcome_says {p = p} {t = t} TooLong port h = record { port = p; tide = t; check
 
 -- there is no port
 pub no_port_meets : {x y z : DeskState} {r : Report} {s : Status} (words : List (List ℕ)) → StopsAtPort (word_at words 2) (word_at words 3) x y r → Ends r y z s → FormMeets CheckPort words x z s
-no_port_meets {x = x} {y = y} {r = r} words h ends = stops_meets CheckPort words (named Certificate (word_at words 4) ∷ []) h refl (by_fault (x.held (word_at words 2)) (x.held (word_at words 3)) (λ (r : Report). says_of CheckPort words x y (Some r)) r (λ bad. bad) (λ fault bad. bad) (λ fault bad. bad)) ends
+no_port_meets {x = x} {y = y} {r = r} words h ends = stops_meets CheckPort words (named Certificate (word_at words 4) ∷ []) h refl (by_fault (x.held (word_at words 2)) (x.held (word_at words 3)) (λ (r : Report). says_of CheckPort words x y (Some r)) r (λ bad. bad) (λ fault bad. bad) (λ fault bad. bad) (λ bad. bad) (λ bad. bad)) ends
+
+-- the instance and the table give the port with its tide
+gives_tide : {name table : List ℕ} {x y : DeskState} {p : Parts} {t : TideParts} {f : Problem} → ReadsPortProblem name table x y p t f → GivesTide (x.held name) (x.held table)
+gives_tide {p = p} {t = t} h = record { port = p; tide = t; reads = h.port }
 
 -- all inputs were begun
 pub all_entered : {name table cert : List ℕ} {x y z : DeskState} {p : Parts} {t : TideParts} {f : Problem} → ReadsPortProblem name table x y p t f → Enters Certificate cert y z → Entered (named Instance name ∷ named Tides table ∷ named Certificate cert ∷ []) x z
-all_entered {name = name} {table = table} h m = entered_on (named Instance name ∷ named Tides table ∷ []) h.entered m refl
+all_entered {name = name} {table = table} h m = entered_on (named Instance name ∷ named Tides table ∷ []) h.entered m refl (gives_tide h)
 
 pub check_works : {name table cert : List ℕ} {x y z : DeskState} {p : Parts} {t : TideParts} {f : Problem} (proof : Option (List ℕ)) (result : Result CertOutcome CertStop) → ReadsPortProblem name table x y p t f → ChecksCert (flattened p t) cert y z result → Works (named Instance name ∷ named Tides table ∷ named Certificate cert ∷ []) proof x z (report_of_check (by_name p t) result)
-check_works {p = p} {t = t} proof result h m = cert_works (by_name p t) proof result h.entered h.read_faults refl m
+check_works {p = p} {t = t} proof result h m = cert_works (by_name p t) proof result h.entered h.read_faults refl (gives_tide h) m
 
 pub check_says : {name table cert : List ℕ} {x y z : DeskState} {p : Parts} {t : TideParts} {f : Problem} (result : Result CertOutcome CertStop) → ReadsPortProblem name table x y p t f → ChecksCert (flattened p t) cert y z result → is_common (report_of_check (by_name p t) result) ≡ false → ChecksPortTexts (x.held name) (x.held table) (x.held cert) (Some (report_of_check (by_name p t) result))
 check_says {cert = cert} {x = x} {p = p} {t = t} (Ok o) h m e = outcome_says o h.port (subst (λ (told : Option (List ℕ)). Finds (flattened p t) told (cert_outcome (flattened p t)) o) (ap (λ held. held cert) h.entered.begins.held) m.finds.1)

@@ -18,11 +18,12 @@ use Rattle.hw_text.specs.Numbers.{number_from_to}
 use Rattle.hw_app.specs.Certified.{HeadMeans, Finds, IsCutShort}
 use Rattle.hw_app.specs.Ends.{Ends, EndsWith}
 use Rattle.hw_app.specs.Forms.{word_at, number_in}
-use Rattle.hw_app.specs.PortInputs.{IsPortOf, ReadsPortProblem, StopsAtPort}
+use Rattle.hw_app.specs.PortInputs.{ReadsPortProblem, StopsAtPort}
 use Rattle.hw_app.specs.Run.{says_of, FormMeets}
 use Rattle.hw_app.specs.Scope.{MakesProof}
 use Rattle.hw_app.specs.Searching.{SearchesTo, report_of_search}
 use Rattle.hw_app.specs.SolvePort.{HeadMeansOfPort, IsPortPlan, SolvesPort}
+use Rattle.hw_app.specs.Values.{IsPortOf}
 use Rattle.hw_app.specs.declared.form.Form.TheVariants.{SolvePort}
 use Rattle.hw_app.specs.declared.status.Status.{Status}
 use Rattle.hw_app.proofs.PortForms.{by_fault}
@@ -31,7 +32,7 @@ use Rattle.hw_app.proofs.Stopped.{stops_meets}
 
 -- there is no port
 pub no_port_meets : {x y z : DeskState} {r : Report} {s : Status} (words : List (List ℕ)) → StopsAtPort (word_at words 2) (word_at words 3) x y r → Ends r y z s → FormMeets SolvePort words x z s
-no_port_meets {x = x} {y = y} {r = r} words h ends = stops_meets SolvePort words [] h refl (by_fault (x.held (word_at words 2)) (x.held (word_at words 3)) (λ (r : Report). says_of SolvePort words x y (Some r)) r (λ bad. bad) (λ fault bad. bad) (λ fault bad. bad)) ends
+no_port_meets {x = x} {y = y} {r = r} words h ends = stops_meets SolvePort words [] h refl (by_fault (x.held (word_at words 2)) (x.held (word_at words 3)) (λ (r : Report). says_of SolvePort words x y (Some r)) r (λ bad. bad) (λ fault bad. bad) (λ fault bad. bad) (λ bad. bad) (λ bad. bad)) ends
 
 -- what a head says of the flat problem it says of the port
 means : (p : Parts) (t : TideParts) (budget : ℕ) (head : Head) (table : Option (List ℕ)) → PortKept p → HeadMeans (flattened p t) budget head table → HeadMeansOfPort p t budget head table

@@ -17,7 +17,7 @@ made h k = makes_past h k.only k.made k.named
 
 -- the work where the lines were sent
 pub renewed_works : {E : Type 0} {inputs : List Named} {proof text : List ℕ} {x y z : DeskState} {u : Unit {0}} (v : Verdict) (names : Naming) → Entered inputs x y → y.read_faults ≡ x.read_faults → SendsTo {E = E} proof text y z (Ok u) → Works inputs (Some proof) x z (checked v names)
-renewed_works v names h read k = made_works (checked v names) refl h k.only (made h k) k.answer.0 (k.only.read_faults ∙ read) tt
+renewed_works v names h read k = made_works (checked v names) refl h k.only (made h k) k.answer.0 (k.only.read_faults ∙ read)
 
 -- the work where a make or a write failed
 pub broken_works : {E : Type 0} {inputs : List Named} {proof text : List ℕ} {x y z : DeskState} {e : E} → Entered inputs x y → y.read_faults ≡ x.read_faults → SendsTo proof text y z (Err e) → Breaks inputs (Some proof) x z

@@ -23,7 +23,7 @@ made h k = makes_past h k.only k.made k.named
 
 -- the work of a search that found something
 pub found_works : {f : Problem} {inputs : List Named} {proof : List ℕ} {budget : ℕ} {x y z : DeskState} {answer : Solved} (head : Head) (names : Naming) (table : Option (List ℕ)) → Entered inputs x y → y.read_faults ≡ x.read_faults → z.write_faults ≡ y.write_faults → SearchesTo f budget proof y z answer → Works inputs (Some proof) x z (solved head f names table)
-found_works {f = f} head names table h read kept k = made_works (solved head f names table) refl h k.only (made h k) kept (k.only.read_faults ∙ read) tt
+found_works {f = f} head names table h read kept k = made_works (solved head f names table) refl h k.only (made h k) kept (k.only.read_faults ∙ read)
 
 -- the work of a search whose log failed
 pub broken_works : {f : Problem} {inputs : List Named} {proof : List ℕ} {budget : ℕ} {x y z : DeskState} → Entered inputs x y → y.read_faults ≡ x.read_faults → SearchesTo f budget proof y z LogFailed → Breaks inputs (Some proof) x z

@@ -1,7 +1,7 @@
 -- What a certificate of a flat text comes to.
 use Rattle.std.proofs.Common.{◌≡◌, ◌≤◌, ◌∙◌, ℕ, cond, List, [], ◌∷◌, length, Option, Some, None, Result, Ok, Err, All, false, refl, sym, ap, subst}
 use Rattle.std.specs.Prelude.{IfSome}
-use Rattle.std.proofs.lemmas.Bool.{le-ltb}
+use Rattle.std.proofs.lemmas.Bool.{le-ltb, lt-ltb}
 use Rattle.hw_model.specs.Limits.{IsFlat}
 use Rattle.hw_model.specs.Problem.{Problem}
 use Rattle.hw_desk.specs.State.{DeskState}
@@ -20,10 +20,11 @@ use Rattle.hw_app.specs.CheckFlat.{read_report, texts_report, Means, ChecksText,
 use Rattle.hw_app.specs.Checking.{Finds, ChecksCert}
 use Rattle.hw_app.specs.Ends.{Ends}
 use Rattle.hw_app.specs.Forms.{word_at}
-use Rattle.hw_app.specs.Inputs.{Enters, ReadsFlat, IsTextOf, IsBadAt, StopsAtFlat}
+use Rattle.hw_app.specs.Inputs.{Enters, ReadsFlat, IsBadAt, StopsAtFlat}
 use Rattle.hw_app.specs.Run.{says_of, FormMeets}
 use Rattle.hw_app.specs.Scope.{Entered, named}
-use Rattle.hw_app.specs.Works.{Works, most_bytes, is_common}
+use Rattle.hw_app.specs.Values.{most_bytes, IsLong, IsTextOf, GivesProblem}
+use Rattle.hw_app.specs.Works.{Works, is_common}
 use Rattle.hw_app.specs.declared.form.Form.TheVariants.{CheckFlat}
 use Rattle.hw_app.specs.declared.outcome.CertOutcome.{CertOutcome}
 use Rattle.hw_app.specs.declared.outcome.CertOutcome.TheVariants.{Shows, Wrong, TooLong}
@@ -52,6 +53,10 @@ decided_by text bytes f o h k = told_map text (λ t is_text. told_map bytes (λ 
 pub bad_by : (text bytes : Option (List ℕ)) (number : ℕ) (word : FlatWord) → IfSome text (IsBadAt number word) → IfSome text (λ t. IfSome bytes (λ b. bad_flat number word ≡ texts_report t b))
 bad_by text bytes number word h = told_map text (λ t bad. told_all bytes (λ b. sym (within t b bad.0 ∙ ap (λ p. read_report p b) bad.1))) h
 
+-- the same where the text passes its limit
+pub long_by : (text bytes : Option (List ℕ)) → IfSome text IsLong → IfSome text (λ t. IfSome bytes (λ b. too_long Flat ≡ texts_report t b))
+long_by text bytes h = told_map text (λ t long. told_all bytes (λ b. sym (ap (λ passes. cond passes (too_long Flat) (read_report (flat_text t) b)) (lt-ltb _ _ long)))) h
+
 -- what a verdict of valid lines says
 pub means : (f : Problem) (all : List Line) (v : Verdict) → IsFlat f → All (LineFits f) all → Valid f all → v ≡ verdict f all → Means f v
 means f all (verdicts.Optimal c) flat fit valid e = some_gives (last_table all) (λ table best. (table, best)) (optimal f all c flat fit valid (sym e))
@@ -71,14 +76,18 @@ checks {f = f} {text = text} {bytes = bytes} TooLong flat reads h = record { tex
 
 -- the flat text gives no problem
 pub check_stops : {x y z : DeskState} {r : Report} {s : Status} (words : List (List ℕ)) → StopsAtFlat (word_at words 2) x y r → Ends r y z s → FormMeets CheckFlat words x z s
-check_stops {x = x} {y = y} {r = r} words h ends = stops_meets CheckFlat words (named Certificate (word_at words 3) ∷ []) h refl (by_line (x.held (word_at words 2)) (λ (r : Report). says_of CheckFlat words x y (Some r)) r (λ number word bad. record { texts = bad; decided = bad_by (x.held (word_at words 2)) (x.held (word_at words 3)) number word bad })) ends
+check_stops {x = x} {y = y} {r = r} words h ends = stops_meets CheckFlat words (named Certificate (word_at words 3) ∷ []) h refl (by_line (x.held (word_at words 2)) (λ (r : Report). says_of CheckFlat words x y (Some r)) r (λ number word bad. record { texts = bad; decided = bad_by (x.held (word_at words 2)) (x.held (word_at words 3)) number word bad }) (λ long. record { texts = long; decided = long_by (x.held (word_at words 2)) (x.held (word_at words 3)) long })) ends
+
+-- the text gives the problem
+gives_problem : {name : List ℕ} {x y : DeskState} {f : Problem} → ReadsFlat name x y f → GivesProblem (x.held name)
+gives_problem {f = f} h = record { problem = f; limits = h.limits; reads = h.reads }
 
 -- both inputs were begun
 pub both_entered : {name cert : List ℕ} {x y z : DeskState} {f : Problem} → ReadsFlat name x y f → Enters Certificate cert y z → Entered (named Flat name ∷ named Certificate cert ∷ []) x z
-both_entered {name = name} h k = entered_on (named Flat name ∷ []) h.entered k refl
+both_entered {name = name} h k = entered_on (named Flat name ∷ []) h.entered k refl (gives_problem h)
 
 pub check_works : {name cert : List ℕ} {x y z : DeskState} {f : Problem} (proof : Option (List ℕ)) (result : Result CertOutcome CertStop) → ReadsFlat name x y f → ChecksCert f cert y z result → Works (named Flat name ∷ named Certificate cert ∷ []) proof x z (report_of_check by_number result)
-check_works proof result h k = cert_works by_number proof result h.entered h.read_faults refl k
+check_works proof result h k = cert_works by_number proof result h.entered h.read_faults refl (gives_problem h) k
 
 pub check_says : {name cert : List ℕ} {x y z : DeskState} {f : Problem} (result : Result CertOutcome CertStop) → ReadsFlat name x y f → ChecksCert f cert y z result → is_common (report_of_check by_number result) ≡ false → Checks (x.held name) (x.held cert) (report_of_check by_number result)
 check_says {cert = cert} {x = x} {y = y} {f = f} (Ok o) h k e = checks o h.limits h.reads (subst (λ (told : Option (List ℕ)). Finds f told (cert_outcome f) o) (ap (λ held. held cert) h.entered.begins.held) k.finds.1)

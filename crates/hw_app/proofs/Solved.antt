@@ -22,7 +22,7 @@ use Rattle.hw_app.proofs.Stopped.{stops_meets}
 
 -- the flat text gives no problem
 pub solve_stops : {x y z : DeskState} {r : Report} {s : Status} (words : List (List ℕ)) → StopsAtFlat (word_at words 2) x y r → Ends r y z s → FormMeets SolveFlat words x z s
-solve_stops {x = x} {y = y} {r = r} words h ends = stops_meets SolveFlat words [] h refl (by_line (x.held (word_at words 2)) (λ (r : Report). says_of SolveFlat words x y (Some r)) r (λ number word bad. bad)) ends
+solve_stops {x = x} {y = y} {r = r} words h ends = stops_meets SolveFlat words [] h refl (by_line (x.held (word_at words 2)) (λ (r : Report). says_of SolveFlat words x y (Some r)) r (λ number word bad. bad) (λ long. long)) ends
 
 -- what was found, and what of it is said
 found : {f : Problem} {budget : ℕ} {x y z end : DeskState} {answer : Solved} {s : Status} (words : List (List ℕ)) (head : Head) (table : Option (List ℕ)) → number_in 1 100_000 (word_at words 3) ≡ budget → ReadsFlat (word_at words 2) x y f → SearchesTo f budget (word_at words 4) y z answer → (z.write_faults ≡ y.write_faults) × Finds f budget head table z → Ends (solved head f by_number table) z end s → FormMeets SolveFlat words x end s

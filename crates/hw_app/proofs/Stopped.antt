@@ -31,7 +31,6 @@ further {x = x} {y = y} {r = r} all more proof parts early h = record {
   upto = up_to h.done h.rest more (speaks r) early h.upto;
   trays = untouched proof x y (speaks r) early h.trays;
   read_cause = h.read_cause;
-  long_cause = h.long_cause;
   write_faults = h.write_faults;
 }
 

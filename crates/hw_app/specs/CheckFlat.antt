@@ -12,8 +12,8 @@ use Rattle.hw_lines.specs.declared.line.Line.{Line}
 use Rattle.hw_lines.specs.Valid.{verdict, LineFits, Valid}
 use Rattle.hw_report.specs.Reports.{Report, by_number, checked, refused, bad_flat, too_long}
 use Rattle.hw_app.specs.Certificates.{cert_outcome, report_of}
-use Rattle.hw_app.specs.Inputs.{IsTextOf, IsBadAt}
-use Rattle.hw_app.specs.Works.{most_bytes}
+use Rattle.hw_app.specs.Inputs.{NoFlat}
+use Rattle.hw_app.specs.Values.{most_bytes, IsTextOf}
 use Rattle.hw_app.specs.declared.outcome.CertOutcome.{CertOutcome}
 use Rattle.hw_app.specs.declared.outcome.CertOutcome.TheVariants.{Shows, Wrong, TooLong}
 
@@ -58,8 +58,7 @@ abbrev pub ChecksTexts : Option (List ℕ) → Option (List ℕ) → Report → 
 ChecksTexts text bytes (checked v names) = (names ≡ by_number) × ChecksText text bytes (Shows v)
 ChecksTexts text bytes (refused number word hint) = ChecksText text bytes (Wrong number word hint)
 ChecksTexts text bytes (too_long Certificate) = ChecksText text bytes TooLong
-ChecksTexts text bytes (bad_flat number word) = IfSome text (IsBadAt number word)
-ChecksTexts text bytes _ = ⊥
+ChecksTexts text bytes r = NoFlat text r
 
 -- the same, and where both are told the report is decided by their bytes
 pub record Checks (text bytes : Option (List ℕ)) (r : Report) : Type 0 where

@@ -12,7 +12,8 @@ use Rattle.hw_port_rules.specs.Permitted.{IsPortBest, NonePortPermitted}
 use Rattle.hw_port_rules.specs.Flattened.{flattened}
 use Rattle.hw_report.specs.Reports.{Report, by_name, checked, refused, too_long}
 use Rattle.hw_app.specs.Certificates.{cert_outcome}
-use Rattle.hw_app.specs.PortInputs.{IsPortOf, NoPort}
+use Rattle.hw_app.specs.PortInputs.{NoPort}
+use Rattle.hw_app.specs.Values.{IsPortOf}
 use Rattle.hw_app.specs.declared.outcome.CertOutcome.{CertOutcome}
 use Rattle.hw_app.specs.declared.outcome.CertOutcome.TheVariants.{Shows, Wrong, TooLong}
 

@@ -8,7 +8,8 @@ use Rattle.hw_tide.specs.Levels.{TideParts}
 use Rattle.hw_port_rules.specs.Alike.{IsSameProblem}
 use Rattle.hw_port_rules.specs.Flattened.{flattened}
 use Rattle.hw_report.specs.Reports.{Report, flattened_text}
-use Rattle.hw_app.specs.PortInputs.{IsPortOf, NoPort}
+use Rattle.hw_app.specs.PortInputs.{NoPort}
+use Rattle.hw_app.specs.Values.{IsPortOf}
 
 -- the one text of the port's flat problem: it reads back as that problem, which says of each list of slots what the port says
 pub record IsFlatTextOf (p : Parts) (h : TideParts) (text : List ℕ) : Type 0 where

@@ -1,5 +1,5 @@
 -- Reading an input.
-use Rattle.std.specs.Prelude.{◌≡◌, ◌≤◌, ◌<◌, ℕ, List, [], ◌∷◌, true, Option, Result, Ok, Err, IfSome, length, Vec}
+use Rattle.std.specs.Prelude.{◌≡◌, ◌≤◌, ℕ, List, [], ◌∷◌, true, Option, Result, Ok, Err, IfSome, length, Vec}
 use Rattle.std.specs.declared.alloc.Global.{Global}
 use Rattle.hw_model.specs.Limits.{IsFlat}
 use Rattle.hw_model.specs.Problem.{Problem}
@@ -15,7 +15,8 @@ use Rattle.hw_flat.specs.declared.fault.FlatFault.TheVariants as faults
 use Rattle.hw_flat.specs.declared.fault.FlatWord.{FlatWord}
 use Rattle.hw_report.specs.Reports.{Report, bad_flat, read_fault, too_long, no_memory}
 use Rattle.hw_app.specs.Scope.{Entered, named}
-use Rattle.hw_app.specs.Works.{Stops, most_bytes}
+use Rattle.hw_app.specs.Values.{most_bytes, IsLong, IsTextOf}
+use Rattle.hw_app.specs.Works.{Stops}
 
 -- an input is begun under its name, and nothing else is touched
 pub record Enters (feed : Feed) (name : List ℕ) (old new : DeskState) : Type 0 where
@@ -26,7 +27,7 @@ pub record Enters (feed : Feed) (name : List ℕ) (old new : DeskState) : Type 0
 -- why an input isn't had: a fault has its cause, and otherwise no read failed
 abbrev pub StopsFor : Option (List ℕ) → DeskState → DeskState → ReadStop → Type 0
 StopsFor told old new stops.Fault = Rose old.read_faults new.read_faults
-StopsFor told old new stops.TooLong = IfSome told (λ bytes. most_bytes < length bytes) × (new.read_faults ≡ old.read_faults)
+StopsFor told old new stops.TooLong = IfSome told IsLong × (new.read_faults ≡ old.read_faults)
 StopsFor told old new stops.NoMemory = new.read_faults ≡ old.read_faults
 
 -- the bytes that were read are all those that are told, and keep the limit
@@ -42,10 +43,6 @@ pub record ReadsInput (feed : Feed) (name : List ℕ) (old new : DeskState) (res
   pub enters : Enters feed name old new
   pub answer : InputAnswer (old.held name) old new result
 
--- the bytes keep the limit and are the text of this problem
-abbrev pub IsTextOf : Problem → List ℕ → Type 0
-IsTextOf f bytes = (length bytes ≤ most_bytes) × (flat_text bytes ≡ Ok f)
-
 -- the bytes keep the limit, and this is their first bad line
 abbrev pub IsBadAt : ℕ → FlatWord → List ℕ → Type 0
 IsBadAt number word bytes = (length bytes ≤ most_bytes) × (flat_text bytes ≡ Err (record { number = number; word = word }))
@@ -60,6 +57,7 @@ pub record ReadsFlat (name : List ℕ) (old new : DeskState) (f : Problem) : Typ
 -- what a report says of a text that gives no problem, where it is told. No other is given
 abbrev pub NoFlat : Option (List ℕ) → Report → Type 0
 NoFlat text (bad_flat number word) = IfSome text (IsBadAt number word)
+NoFlat text (too_long feeds.Flat) = IfSome text IsLong
 NoFlat text _ = ⊥
 
 -- why there is no problem

@@ -63,7 +63,7 @@ RenewedCertificate = (f : Problem) (all : List Line) → IsFlat f → All (LineF
 abbrev pub OneReport : (Report → Type 0) → Type 0
 OneReport Says = (r s : Report) → Says r → Says s → r ≡ s
 
--- the files' bytes decide what is reported of a port's certificate, and of a port's flat text
+-- the files' bytes decide what is reported of a port's certificate, and of a port's flat text, but for a failed call and want of memory
 pub record OnePortReport : Type 0 where
   pub check : (instance table cert : List ℕ) → OneReport (λ r. ChecksPortTexts (Some instance) (Some table) (Some cert) (Some r))
   pub flatten : (instance table : List ℕ) → OneReport (λ r. FlattensTexts (Some instance) (Some table) (Some r))

@@ -1,5 +1,6 @@
 pub mod Forms
 pub mod Statuses
+pub mod Values
 pub mod Scope
 pub mod Works
 pub mod Ends

@@ -1,5 +1,5 @@
 -- Reading a port: its instance, and then its tide table.
-use Rattle.std.specs.Prelude.{◌≡◌, ◌≢◌, ◌≤◌, ℕ, List, [], ◌∷◌, Option, Result, Ok, Err, IfSome, length}
+use Rattle.std.specs.Prelude.{◌≡◌, ◌≢◌, ℕ, List, [], ◌∷◌, Option, Result, Ok, Err, IfSome, length}
 use Rattle.hw_model.specs.Limits.{IsFlat}
 use Rattle.hw_model.specs.Problem.{Problem}
 use Rattle.hw_desk.specs.State.{DeskState}
@@ -8,31 +8,22 @@ use Rattle.hw_desk.specs.declared.whole.ReadStop.TheVariants as stops
 use Rattle.hw_flat.specs.TextWritten.{IsWritable}
 use Rattle.hw_port.specs.Kept.{PortKept}
 use Rattle.hw_port.specs.Whole.{Parts}
-use Rattle.hw_read.specs.Instance.{Reads as ReadsPort}
 use Rattle.hw_read.specs.declared.fault.ReadFault.{ReadFault}
 use Rattle.hw_read.specs.declared.fault.ReadFault.TheVariants as read
-use Rattle.hw_tide.specs.Levels.{TideParts}
-use Rattle.hw_tide.specs.Whole.{Reads as ReadsHeights, tide_by_header, waypoint_names}
+use Rattle.hw_tide.specs.Levels.{IsTide, TideParts}
 use Rattle.hw_tide.specs.declared.fault.TideFault.{TideFault}
 use Rattle.hw_tide.specs.declared.fault.TideFault.TheVariants as tide
 use Rattle.hw_port_rules.specs.Alike.{IsSameProblem}
 use Rattle.hw_port_rules.specs.Flattened.{flattened}
-use Rattle.hw_report.specs.Reports.{Report, bad_json, bad_field, bad_tides}
+use Rattle.hw_report.specs.Reports.{Report, bad_json, bad_field, bad_tides, too_long}
 use Rattle.hw_app.specs.Inputs.{Enters, StopsFor, report_of_stop}
 use Rattle.hw_app.specs.Scope.{Entered, named}
-use Rattle.hw_app.specs.Works.{Stops, most_bytes}
+use Rattle.hw_app.specs.Values.{IsLong, IsInstance, IsTable, IsPortOf, GivesPort}
+use Rattle.hw_app.specs.Works.{Stops}
 use Rattle.hw_app.specs.declared.port_input.InstanceStop.{InstanceStop}
 use Rattle.hw_app.specs.declared.port_input.InstanceStop.TheVariants as instances
 use Rattle.hw_app.specs.declared.port_input.TideStop.{TideStop}
 use Rattle.hw_app.specs.declared.port_input.TideStop.TheVariants as tables
-
--- the bytes keep the limit, and as an instance they are read as this
-abbrev pub IsInstance : Result Parts ReadFault → List ℕ → Type 0
-IsInstance what bytes = (length bytes ≤ most_bytes) × ReadsPort bytes what
-
--- the bytes keep the limit, and as a tide table of the port they are read as this
-abbrev pub IsTable : Parts → Result TideParts TideFault → List ℕ → Type 0
-IsTable p what bytes = (length bytes ≤ most_bytes) × ReadsHeights bytes (tide_by_header (waypoint_names p)) what
 
 -- why bytes are no instance
 abbrev pub stop_of_instance : ReadFault → InstanceStop
@@ -60,9 +51,9 @@ pub record ReadsInstance (name : List ℕ) (old new : DeskState) (result : Resul
   pub enters : Enters Instance name old new
   pub answer : InstanceAnswer (old.held name) old new result
 
--- a tide with as many columns as the port has waypoints, and that of the bytes held under the name, where they are told; or why there is none
+-- a tide within the limits, with as many columns as the port has waypoints, and that of the bytes held under the name, where they are told; or why there is none
 abbrev pub TideAnswer : Parts → Option (List ℕ) → DeskState → DeskState → Result TideParts TideStop → Type 0
-TideAnswer p told old new (Ok h) = (h.columns ≡ length p.waypoints) × IfSome told (IsTable p (Ok h)) × (new.read_faults ≡ old.read_faults)
+TideAnswer p told old new (Ok h) = IsTide h × (h.columns ≡ length p.waypoints) × IfSome told (IsTable p (Ok h)) × (new.read_faults ≡ old.read_faults)
 TideAnswer p told old new (Err (tables.Table fault)) = (fault ≢ tide.NoMemory) × IfSome told (IsTable p (Err fault)) × (new.read_faults ≡ old.read_faults)
 TideAnswer p told old new (Err (tables.Input stop)) = StopsFor told old new stop
 
@@ -82,13 +73,6 @@ abbrev pub report_of_tide : TideStop → Report
 report_of_tide (tables.Input stop) = report_of_stop Tides stop
 report_of_tide (tables.Table fault) = bad_tides fault
 
--- a port that keeps the meaning rules, with a tide of as many columns as it has waypoints: that of the instance and of the table, each where it is told
-pub record IsPortOf (instance table : Option (List ℕ)) (p : Parts) (h : TideParts) : Type 0 where
-  pub kept : PortKept p
-  pub columns : h.columns ≡ length p.waypoints
-  pub instance_reads : IfSome instance (IsInstance (Ok p))
-  pub table_reads : IfSome table (IsTable p (Ok h))
-
 -- the instance gives a port, of which the table gives no tide but this fault, each where it is told
 pub record IsBadTable (instance table : Option (List ℕ)) (fault : TideFault) : Type 0 where
   pub port : Parts
@@ -102,6 +86,8 @@ abbrev pub NoPort : Option (List ℕ) → Option (List ℕ) → Report → Type 
 NoPort instance table bad_json = IfSome instance (IsInstance (Err read.NotJson))
 NoPort instance table (bad_field fault) = IfSome instance (IsInstance (Err (read.Field fault)))
 NoPort instance table (bad_tides fault) = IsBadTable instance table fault
+NoPort instance table (too_long Instance) = IfSome instance IsLong
+NoPort instance table (too_long Tides) = GivesPort instance × IfSome table IsLong
 NoPort instance table _ = ⊥
 
 -- both inputs were begun and no read failed: a port with its tide, and its flat problem, which has a text and says what the port says

@@ -6,8 +6,8 @@ use Rattle.hw_desk.specs.State.{DeskState}
 use Rattle.hw_lines.specs.declared.check.Verdict.{Verdict}
 use Rattle.hw_report.specs.Reports.{Report, by_number, checked}
 use Rattle.hw_app.specs.CheckFlat.{Means, ChecksTexts, texts_report}
-use Rattle.hw_app.specs.Inputs.{IsTextOf}
 use Rattle.hw_app.specs.Renewing.{Renews, RenewBreaks}
+use Rattle.hw_app.specs.Values.{IsTextOf}
 
 -- a problem, that of the text where it is told, of which the verdict says what is so. Proof was made, and holds the certificate renewed
 pub record RenewsText (text bytes : Option (List ℕ)) (proof : List ℕ) (old new : DeskState) (v : Verdict) : Type 0 where

@@ -7,8 +7,8 @@ use Rattle.hw_tide.specs.Levels.{TideParts}
 use Rattle.hw_port_rules.specs.Flattened.{flattened}
 use Rattle.hw_report.specs.Reports.{Report, by_name, checked}
 use Rattle.hw_app.specs.CheckPort.{MeansOfPort, ChecksPortTexts}
-use Rattle.hw_app.specs.PortInputs.{IsPortOf}
 use Rattle.hw_app.specs.Renewing.{Renews, RenewBreaks}
+use Rattle.hw_app.specs.Values.{IsPortOf}
 
 -- a port with its tide, that of the instance and of the table where they are told, of which the verdict says what is so. Proof was made, and holds the certificate renewed
 pub record RenewsPort (instance table bytes : Option (List ℕ)) (proof : List ℕ) (old new : DeskState) (p : Parts) (h : TideParts) (v : Verdict) : Type 0 where

@@ -4,6 +4,7 @@ use Rattle.hw_desk.specs.State.{DeskState, put_tray, same_feed}
 use Rattle.hw_desk.specs.declared.desk.Feed.{Feed}
 use Rattle.hw_desk.specs.declared.desk.Tray.TheVariants as tray
 use Rattle.hw_app.specs.Forms.{word_at}
+use Rattle.hw_app.specs.Values.{GivesFirst, GivesTide}
 use Rattle.hw_app.specs.declared.form.Wanted.{Wanted}
 use Rattle.hw_app.specs.declared.form.Wanted.TheVariants.{Keyword, Input, Proof, Number}
 
@@ -57,10 +58,18 @@ abbrev pub AllBegun : DeskState → List Named → Type 0
 AllBegun now [] = ⊤
 AllBegun now (input ∷ more) = IsBegun now input × AllBegun now more
 
--- these inputs were begun, each under its name, and no other feed was touched
+-- each of some inputs but the last gives its value, where it is told: the first one its own, and a tide table behind its instance the port's tide. No form has more than three
+abbrev pub GiveBefore : (List ℕ → Option (List ℕ)) → List Named → Type 0
+GiveBefore held [] = ⊤
+GiveBefore held (last ∷ []) = ⊤
+GiveBefore held (first ∷ last ∷ []) = GivesFirst first.feed (held first.name)
+GiveBefore held (first ∷ table ∷ last ∷ more) = GivesTide (held first.name) (held table.name)
+
+-- these inputs were begun, each under its name, and no other feed was touched. Behind an input that gives no value none is begun
 pub record BeginsAll (inputs : List Named) (old new : DeskState) : Type 0 where
   pub held : new.held ≡ old.held
   pub begun : AllBegun new inputs
+  pub give : GiveBefore old.held inputs
   pub others : (feed : Feed) → is_among inputs feed ≡ false → new.feeds feed ≡ old.feeds feed
 
 -- these inputs were begun, and neither a tray nor a write was touched

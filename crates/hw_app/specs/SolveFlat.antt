@@ -3,11 +3,12 @@ use Rattle.std.specs.Prelude.{◌≡◌, ℕ, List, Option, Some, None, IfSome}
 use Rattle.hw_model.specs.Limits.{IsFlat}
 use Rattle.hw_model.specs.Problem.{Problem}
 use Rattle.hw_desk.specs.State.{DeskState}
-use Rattle.hw_report.specs.Reports.{Report, Naming, by_number, solved, bad_flat}
+use Rattle.hw_report.specs.Reports.{Report, Naming, by_number, solved}
 use Rattle.hw_report.specs.declared.report.Head.{Head}
 use Rattle.hw_app.specs.Certified.{Finds, IsCutShort}
-use Rattle.hw_app.specs.Inputs.{IsTextOf, IsBadAt}
+use Rattle.hw_app.specs.Inputs.{NoFlat}
 use Rattle.hw_app.specs.Scope.{MakesProof}
+use Rattle.hw_app.specs.Values.{IsTextOf}
 
 -- a problem within the limits, that of the text where it is told; Proof was made, and holds what shows the head
 pub record Solves (text : Option (List ℕ)) (budget : ℕ) (proof : List ℕ) (old new : DeskState) (head : Head) (f : Problem) (names : Naming) (table : Option (List ℕ)) : Type 0 where
@@ -28,8 +29,7 @@ pub record SolveBreaks (text : Option (List ℕ)) (budget : ℕ) (new : DeskStat
 abbrev pub SolvesText : Option (List ℕ) → ℕ → List ℕ → DeskState → DeskState → Option Report → Type 0
 SolvesText text budget proof old new None = SolveBreaks text budget new
 SolvesText text budget proof old new (Some (solved head f names table)) = Solves text budget proof old new head f names table
-SolvesText text budget proof old new (Some (bad_flat number word)) = IfSome text (IsBadAt number word)
-SolvesText text budget proof old new _ = ⊥
+SolvesText text budget proof old new (Some r) = NoFlat text r
 
 abbrev pub SolveFlatSays : List ℕ → ℕ → List ℕ → DeskState → DeskState → Option Report → Type 0
 SolveFlatSays name budget proof old new r = SolvesText (old.held name) budget proof old new r

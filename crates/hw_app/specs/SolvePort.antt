@@ -13,8 +13,9 @@ use Rattle.hw_report.specs.Reports.{Report, by_name, solved}
 use Rattle.hw_report.specs.declared.report.Head.{Head}
 use Rattle.hw_report.specs.declared.report.Head.TheVariants.{Optimal, Infeasible, Unfinished, Memory}
 use Rattle.hw_app.specs.Certified.{IsCertificate, IsCutShort}
-use Rattle.hw_app.specs.PortInputs.{IsPortOf, NoPort}
+use Rattle.hw_app.specs.PortInputs.{NoPort}
 use Rattle.hw_app.specs.Scope.{MakesProof}
+use Rattle.hw_app.specs.Values.{IsPortOf}
 
 -- what a head says of the port, whether Proof is told or not: the timetable is a best one that it permits; it permits none; the whole budget was spent, which is no more than there are rooms of its ships' slots and orders. Want of memory says nothing
 abbrev pub HeadMeansOfPort : Parts → TideParts → ℕ → Head → Option (List ℕ) → Type 0

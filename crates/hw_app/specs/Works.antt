@@ -1,15 +1,11 @@
--- What the work of every command keeps before its report: its scope, the cause of each fault and of
--- each limit, and which inputs were begun. What its answer says stands in a file of the form's own.
-use Rattle.std.specs.Prelude.{◌≡◌, ◌≢◌, ◌<◌, ℕ, List, [], ◌++◌, Bool, true, false, Option, Some, None, IfSome, IsSomeAnd, ⊤, length}
+-- What the work of every command keeps before its report: its scope, the causes of faults, and which inputs were begun.
+-- What its answer says stands in a file of the form's own.
+use Rattle.std.specs.Prelude.{◌≡◌, ◌≢◌, ℕ, List, [], ◌++◌, Bool, true, false, Option, Some, None, IsSomeAnd, ⊤}
 use Rattle.hw_desk.specs.State.{DeskState, Rose}
 use Rattle.hw_desk.specs.declared.desk.Feed.{Feed}
 use Rattle.hw_desk.specs.declared.desk.Feed.TheVariants.{Flat, Instance, Tides, Certificate}
 use Rattle.hw_report.specs.Reports.{Report, bad_flat, bad_json, bad_field, bad_tides, refused, read_fault, too_long, no_memory, bad_text}
 use Rattle.hw_app.specs.Scope.{Named, BeginsAll, MakesProof, MakesAtMost, last_of}
-
--- the most bytes of a feed other than the certificate
-abbrev pub most_bytes : ℕ
-most_bytes = 4_194_304
 
 -- what a report speaks of: the answer of a command, an input that is refused or not had, or want of memory alone
 pub data Speaks : Type 0 where
@@ -46,15 +42,6 @@ abbrev pub ReadCauseOf : DeskState → DeskState → Report → Type 0
 ReadCauseOf old new (read_fault feed) = Rose old.read_faults new.read_faults
 ReadCauseOf old new r = new.read_faults ≡ old.read_faults
 
--- an input passes its limit; what a certificate's limits are, its own definitions say
-abbrev pub PassesLimit : Feed → Option (List ℕ) → Type 0
-PassesLimit Certificate told = ⊤
-PassesLimit feed told = IfSome told (λ bytes. most_bytes < length bytes)
-
-abbrev pub LongCauseOf : List Named → DeskState → Report → Type 0
-LongCauseOf done old (too_long feed) = IsSomeAnd (last_of done) (λ input. PassesLimit feed (old.held input.name))
-LongCauseOf done old r = ⊤
-
 -- the work before a report, of a form with these inputs that makes Proof under this name, if it makes it
 pub record Works (inputs : List Named) (proof : Option (List ℕ)) (old new : DeskState) (r : Report) : Type 0 where
   -- a first part of the inputs was begun, and no other feed
@@ -65,7 +52,6 @@ pub record Works (inputs : List Named) (proof : Option (List ℕ)) (old new : De
   pub upto : UpTo done rest (speaks r)
   pub trays : TraysOf proof old new (speaks r)
   pub read_cause : ReadCauseOf old new r
-  pub long_cause : LongCauseOf done old r
   -- before a report no make and no write failed
   pub write_faults : new.write_faults ≡ old.write_faults
 
@@ -81,12 +67,10 @@ abbrev pub WorksTo : List Named → Option (List ℕ) → DeskState → DeskStat
 WorksTo inputs proof old new None = Breaks inputs proof old new
 WorksTo inputs proof old new (Some r) = Works inputs proof old new r
 
--- whether a report's cause stands here alone: a read fault, want of memory, or the limit of an input other than the certificate
+-- whether a report's cause stands here alone: a failed begin or read, or want of memory
 abbrev pub is_common : Report → Bool
 is_common (read_fault feed) = true
 is_common no_memory = true
-is_common (too_long Certificate) = false
-is_common (too_long feed) = true
 is_common r = false
 
 -- these inputs, the first ones of a form, give nothing to go on with: the work up to a report, which is no answer, and why, where its cause isn't common to all forms

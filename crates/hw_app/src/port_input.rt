@@ -130,7 +130,11 @@ fn read_table<D: Desk>(
         Err(stop) => return Err(TideStop::Input(stop)),
     };
     match read_tides(alloc, &bytes, port) {
-        Ok(tide) => Ok(tide),
+        Ok(tide) => {
+            // Reading a field tells that the tide is within its limits.
+            let _rows = tide.rows;
+            Ok(tide)
+        }
         Err(fault) => Err(bad_table(fault)),
     }
 }
