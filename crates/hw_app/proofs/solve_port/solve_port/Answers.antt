@@ -14,6 +14,9 @@ returns-in-Err g c = no_port_meets (map string_bytes c.args.words.now) (rw c.nam
 pub search_to-solved-requires-clause-least : goal.search_to-solved-requires-clause-least
 search_to-solved-requires-clause-least g c = (from_to_is 1 100_000 (word_at (map string_bytes c.args.words.now) 4) c.number_at-budget.result (omega arith) c.number_at-budget.ensures).1
 
+pub search_to-solved-requires-clause-most : goal.search_to-solved-requires-clause-most
+search_to-solved-requires-clause-most g c = (from_to_is 1 100_000 (word_at (map string_bytes c.args.words.now) 4) c.number_at-budget.result (omega arith) c.number_at-budget.ensures).2
+
 pub finish_with-requires : goal.finish_with-requires
 finish_with-requires g c =
     let problem = c.in-Ok.ensures.problem in
