@@ -6,7 +6,7 @@ ghost use Rattle.hw_desk.specs.Memory.{memory_state};
 ghost use Rattle.hw_cert.specs.Logs.{IsWhole};
 
 use super::*;
-use hw_desk::{Desk, DeskCall, DeskFailed, FailAt, MemoryDesk, Tray};
+use hw_desk::{Desk, DeskCall, DeskFailed, FailAt, MemoryDesk, NoMemory, Tray};
 use hw_flat::Timetable;
 use std::alloc::Global;
 use std::test::Fail;
@@ -24,12 +24,12 @@ const WRITES: [(u32, usize, u32, u32); 6] = [
 ];
 
 /// A desk with room for 16,384 bytes, whose write of the proof at this place fails.
-fn memory(alloc: Global, most: u32, place: u32) -> Result<MemoryDesk, Fail>
+fn memory(alloc: Global, most: u32, place: u32) -> Result<MemoryDesk, NoMemory>
     ensures { IfOk result (λ desk. IsNew (memory_state desk)) }
 {
     let call = DeskCall::WriteProof;
     let fails = Vec::from_slice(alloc, &[FailAt { call, place }])?;
-    Ok(MemoryDesk::new(alloc, Vec::new(alloc), most.max(1), 16_384, fails)?)
+    MemoryDesk::new(alloc, Vec::new(alloc), most.max(1), 16_384, fails)
 }
 
 /// How many of two lines a log took.
@@ -84,36 +84,57 @@ fn begins(text: &[u8], sent: &[u8], many: usize) -> bool {
     text.starts_with(sent) && sent.iter().filter(|b| **b == b'\n').count() == many
 }
 
-/// How many writes send the lines, of which those from a place on fail in turn; none where such a
-/// failure leaves anything but whole lines, of
-/// the next one at most a part, and more than the failure of the write before it.
-fn writes(alloc: Global, most: u32, count: usize, first_place: u32) -> Result<Option<u32>, Fail> {
-    let lines = lines(alloc, count)?;
-    let text = text_of(alloc, count)?;
-    let [first, second] = lines.as_slice() else {
-        return Ok(None);
+/// How many lines, the header among them, and how many bytes were sent where the write of this place
+/// failed. None where that is anything but whole lines, and of the next one at most a part.
+fn sent_at(
+    alloc: Global,
+    lines: &[Line],
+    text: &[u8],
+    most: u32,
+    place: u32,
+) -> Option<(usize, usize)> {
+    let [first, second] = lines else {
+        return None;
     };
+    let Ok(mut desk) = memory(alloc, most, place) else {
+        return None;
+    };
+    let many = send_two(&mut desk, first, second);
+    let sent = desk.sent(Tray::Proof);
+    if begins(text, sent, many) {
+        Some((many, sent.len()))
+    } else {
+        None
+    }
+}
+
+/// How many writes send the lines, of which those from a place on fail in turn. None where such a
+/// failure does not leave more than the failure of the write before it.
+fn writes(alloc: Global, lines: &[Line], text: &[u8], most: u32, first_place: u32) -> Option<u32> {
     let mut least = 0;
     for place in first_place..10_000 {
-        let mut desk = memory(alloc, most, place)?;
-        let many = send_two(&mut desk, first, second);
-        let sent = desk.sent(Tray::Proof);
-        if sent.len() < least || !begins(&text, sent, many) {
-            return Ok(None);
+        let (many, count) = sent_at(alloc, lines, text, most, place)?;
+        if count < least {
+            return None;
         }
         if many == 3 {
-            return Ok(Some(place.saturating_sub(1)));
+            return Some(place.saturating_sub(1));
         }
-        least = sent.len() + 1;
+        least = count.saturating_add(1);
     }
-    Ok(None)
+    None
 }
 
 #[test]
 fn log_sends_whole_lines(rt: HostRuntime) -> Result<(), Fail> {
     for (most, count, first_place, wanted) in WRITES {
-        let many = writes(rt.alloc(), most, count, first_place)?;
-        assert_eq!(rt; many, Some(wanted), "{most} bytes a write, {count} numbers");
+        let lines = lines(rt.alloc(), count)?;
+        let text = text_of(rt.alloc(), count)?;
+        let many = writes(rt.alloc(), &lines, &text, most, first_place);
+        assert!(rt;
+            many == Some(wanted),
+            "{most} bytes a write, {count} numbers: {many:?}"
+        );
     }
     Ok(())
 }
