@@ -27,9 +27,8 @@ use hw_check::{CheckStop, Checker};
 use hw_desk::Desk;
 use hw_flat::{Flat, make_demo};
 use hw_model::NoMemory;
-use hw_progress::Solved;
 use hw_report::{Head, Report};
-use hw_search::solve;
+use hw_search::{Solved, solve};
 use std::alloc::Global;
 
 /// What a demonstration comes to, and its certificate.

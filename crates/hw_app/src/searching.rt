@@ -12,9 +12,8 @@ ghost use Rattle.hw_app.specs.Searching.{SearchesTo, report_of_search};
 use hw_cert::{TrayLog, send_header};
 use hw_desk::{Desk, Tray};
 use hw_flat::Flat;
-use hw_progress::Solved;
 use hw_report::{Head, Names, Report};
-use hw_search::solve;
+use hw_search::{Solved, solve};
 use std::alloc::Global;
 
 /// Makes Proof under a name and searches, each line sent there as it is found. A failed make and a

@@ -5,7 +5,7 @@ pub mod Steps
 pub mod Lemmas
 pub mod Asked
 pub mod Rounds
-pub mod Settled
+pub mod Settlings
 pub mod Handed
 pub mod Named
 pub mod Adding
@@ -17,7 +17,7 @@ pub mod Teaching
 pub mod Choosing
 pub mod Ranges
 pub mod Counting
-pub mod Solved
+pub mod Solutions
 pub mod Tidying
 pub mod Turns
 pub mod Ending

@@ -19,9 +19,11 @@ use std::marker::Model;
 /// What a search works on. Besides the search, the calls of this crate see its sources in order,
 /// and which of them are marked: one without a mark is known to be quiet in the room.
 ///
-/// The best timetable has its memory from the start; before one is found its slots mean nothing.
+/// It keeps the allocator by which it grows. The best timetable has its memory from the start;
+/// before one is found its slots mean nothing.
 #[derive(Drop)]
 pub struct Engine<'f, S: Store + Drop, P: Propagator + Drop> {
+    pub alloc: Global,
     pub flat: &'f Flat,
     pub branching: Branching,
     pub trail: Trail,
@@ -110,6 +112,7 @@ impl<'f, S: Store + Drop, P: Propagator + Drop> Engine<'f, S, P> {
         let speakers = Speakers::new(alloc, flat, &sources)?;
         let marks = vec![in alloc; true; props.len()]?;
         Ok(Engine {
+            alloc,
             flat,
             branching,
             trail,

@@ -21,6 +21,7 @@ mod turning;
 mod writing;
 
 pub use any::{AnyPropagator, for_source};
+pub use hw_progress::{Branching, Settled, Solved, Turn};
 pub use restarts::luby;
 pub use search::Search;
 pub use solving::{propagators, solve};

@@ -34,8 +34,8 @@ impl<'f, S: Store + Drop, P: Propagator + Drop> Model for Search<'f, S, P> {
 }
 
 impl<'f, S: Store + Drop, P: Propagator + Drop> Search<'f, S, P> {
-    /// A search that has done nothing. All that it will need but copies of clauses has its memory
-    /// from then on.
+    /// A search that has done nothing. It keeps the allocator by which it grows; all that it will
+    /// need but copies of clauses has its memory from then on.
     pub fn new(
         alloc: Global,
         flat: &'f Flat,
@@ -58,12 +58,12 @@ impl<'f, S: Store + Drop, P: Propagator + Drop> Search<'f, S, P> {
     ///
     /// After want of memory literals that were Free may have been implied; the lemmas, the best and
     /// the level are as before.
-    pub fn settle(&mut self, alloc: Global) -> Result<Settled, NoMemory>
+    pub fn settle(&mut self) -> Result<Settled, NoMemory>
         requires going { self.old.over ≡ false }
         requires few { self.old.lemmas < 100000 }
         ensures meets { SettleMeets self.old self.new result }
     {
-        self.engine.settle(alloc)
+        self.engine.settle()
     }
 
     /// The literal by which the search decides in its room: that of its branching rule. It looks at
@@ -78,7 +78,7 @@ impl<'f, S: Store + Drop, P: Propagator + Drop> Search<'f, S, P> {
     /// Settles, and then decides, writes a better table, or learns from a conflict: the lines that
     /// this takes are handed to the log. After `Ended`, `NoMemory` and `LogFailed` the search is
     /// over; what was written stays, and so does the best timetable.
-    pub fn turn<L: Log>(&mut self, alloc: Global, log: &mut L) -> Turn
+    pub fn turn<L: Log>(&mut self, log: &mut L) -> Turn
         requires few { self.old.lemmas < 100000 }
         requires going { self.old.over ≡ false }
         requires fits { WhereTold (L.state log.old) (λ told. LogFits told self.old) }
@@ -86,7 +86,7 @@ impl<'f, S: Store + Drop, P: Propagator + Drop> Search<'f, S, P> {
         ensures kept { TurnKeepsFaults result (L.state log.old) (L.state log.new) }
         ensures same_reference { L.anchor log.new ≡ L.anchor log.old }
     {
-        self.engine.turn(alloc, log)
+        self.engine.turn(log)
     }
 
     /// The best timetable so far.

@@ -21,7 +21,6 @@ use hw_progress::Settled;
 use hw_prop::Propagator;
 use hw_store::{Held, Store};
 use hw_story::Why;
-use std::alloc::Global;
 
 /// What asking brought: all that was asked is quiet, a literal was implied, or a clause has no
 /// literal left.
@@ -68,26 +67,26 @@ impl<'f, S: Store + Drop, P: Propagator + Drop> Engine<'f, S, P> {
     }
 
     // Asks the store once.
-    fn look(&mut self, alloc: Global) -> Result<Asked, NoMemory>
+    fn look(&mut self) -> Result<Asked, NoMemory>
         ensures meets { AskMeets (LemmasQuiet self.new.search) self.old.search self.new.search result }
         ensures sources { self.new.sources ≡ self.old.sources }
     {
         match self.store.step(self.trail.room())? {
             Held::Quiet => Ok(Asked::Quiet),
             Held::Clause { id } => {
-                let why = lemma_of(alloc, &self.store, id)?;
+                let why = lemma_of(self.alloc, &self.store, id)?;
                 Ok(self.take(why))
             }
         }
     }
 
     // Asks the store until it is quiet.
-    fn ask_store(&mut self, alloc: Global) -> Result<Option<Why>, NoMemory>
+    fn ask_store(&mut self) -> Result<Option<Why>, NoMemory>
         ensures meets { StoreMeets self.old.search self.new.search result }
         ensures sources { self.new.sources ≡ self.old.sources }
     {
         loop {
-            match self.look(alloc)? {
+            match self.look()? {
                 Asked::Quiet => return Ok(None),
                 Asked::Cut => {}
                 Asked::Conflict(why) => return Ok(Some(why)),
@@ -96,14 +95,14 @@ impl<'f, S: Store + Drop, P: Propagator + Drop> Engine<'f, S, P> {
     }
 
     // Asks the source at a place once. Where it is quiet it loses its mark.
-    fn ask(&mut self, alloc: Global, place: usize) -> Result<Asked, NoMemory>
+    fn ask(&mut self, place: usize) -> Result<Asked, NoMemory>
         requires inside { place < length self.old.sources }
         ensures meets { AskMeets (self.new.marks ≡ slice_set self.old.marks place false) self.old.search self.new.search result }
         ensures sources { self.new.sources ≡ self.old.sources }
     {
         let source = self.props[place].source();
         let found = ask_at(
-            alloc,
+            self.alloc,
             &mut self.props,
             place,
             self.flat,
@@ -121,14 +120,14 @@ impl<'f, S: Store + Drop, P: Propagator + Drop> Engine<'f, S, P> {
 
     // Asks each marked source in turn, each until it is quiet. A round that brings a cut may leave
     // marks behind. It goes over all marks once, and asks no other source.
-    fn ask_round(&mut self, alloc: Global) -> Result<Asked, NoMemory>
+    fn ask_round(&mut self) -> Result<Asked, NoMemory>
         ensures meets { AskMeets (SourcesQuiet self.new.search) self.old.search self.new.search result }
         ensures sources { self.new.sources ≡ self.old.sources }
     {
         let mut cut = false;
         let mut from = 0;
         while let Some(place) = next_marked(&self.marks, from) {
-            match self.ask(alloc, place)? {
+            match self.ask(place)? {
                 Asked::Quiet => from = place + 1,
                 Asked::Cut => {
                     cut = true;
@@ -146,14 +145,14 @@ impl<'f, S: Store + Drop, P: Propagator + Drop> Engine<'f, S, P> {
 
     /// Asks the store and the marked sources, in rounds, until all are quiet or a clause has no
     /// literal left. A round that brought a cut is followed by another one.
-    pub fn settle(&mut self, alloc: Global) -> Result<Settled, NoMemory>
+    pub fn settle(&mut self) -> Result<Settled, NoMemory>
         ensures meets { SettleMeets self.old.search self.new.search result }
     {
         loop {
-            if let Some(why) = self.ask_store(alloc)? {
+            if let Some(why) = self.ask_store()? {
                 return Ok(Settled::Conflict(why));
             }
-            match self.ask_round(alloc)? {
+            match self.ask_round()? {
                 Asked::Quiet => return Ok(Settled::Quiet),
                 Asked::Cut => {}
                 Asked::Conflict(why) => return Ok(Settled::Conflict(why)),

@@ -62,7 +62,6 @@ fn proved(flat: &Flat, best: Option<Timetable>) -> Solved
 }
 
 fn run<'f, L: Log>(
-    alloc: Global,
     flat: &'f Flat,
     budget: u32,
     mut search: Search<'f, WatchStore, AnyPropagator>,
@@ -77,7 +76,7 @@ fn run<'f, L: Log>(
 {
     let _shape = flat.shape();
     'turns: while search.lemmas() < budget {
-        match search.turn(alloc, log) {
+        match search.turn(log) {
             Turn::Decided | Turn::Better | Turn::Lemma => {}
             Turn::Ended => return proved(flat, search.into_best()),
             Turn::NoMemory => {
@@ -107,7 +106,7 @@ pub fn solve<L: Log>(alloc: Global, flat: &Flat, budget: u32, log: &mut L) -> So
     ensures same_reference { L.anchor log.new ≡ L.anchor log.old }
 {
     match start(alloc, flat) {
-        Ok(search) => run(alloc, flat, budget, search, log),
+        Ok(search) => run(flat, budget, search, log),
         Err(_stop) => Solved::NoMemory { table: None },
     }
 }

@@ -29,7 +29,6 @@ use hw_prop::Propagator;
 use hw_rules::cargo;
 use hw_store::Store;
 use hw_story::Why;
-use std::alloc::Global;
 
 /// The answer where a line wasn't taken. It takes no memory.
 fn turn_of(stop: LogStop) -> Turn
@@ -92,7 +91,7 @@ impl<'f, S: Store + Drop, P: Propagator + Drop> Engine<'f, S, P> {
     }
 
     // Writes the timetable of a quiet point room.
-    fn improve<L: Log>(&mut self, alloc: Global, log: &mut L) -> Turn
+    fn improve<L: Log>(&mut self, log: &mut L) -> Turn
         requires quiet { AllQuiet self.old.search }
         requires point { IsPoint (room_in self.old.search) }
         requires whole { IsWhole (L.state log.old) }
@@ -100,7 +99,7 @@ impl<'f, S: Store + Drop, P: Propagator + Drop> Engine<'f, S, P> {
         ensures kept { TurnKeepsFaults result (L.state log.old) (L.state log.new) }
         ensures same_reference { L.anchor log.new ≡ L.anchor log.old }
     {
-        match hand_table(alloc, self.flat, self.trail.room(), log) {
+        match hand_table(self.alloc, self.flat, self.trail.room(), log) {
             Ok(table) => {
                 self.take_best(table);
                 Turn::Better
@@ -110,7 +109,7 @@ impl<'f, S: Store + Drop, P: Propagator + Drop> Engine<'f, S, P> {
     }
 
     // Writes a conflict without literals.
-    fn end<L: Log>(&mut self, alloc: Global, why: &Why, log: &mut L) -> Turn
+    fn end<L: Log>(&mut self, why: &Why, log: &mut L) -> Turn
         requires conflict { IsConflict self.old.search why.now }
         requires none { clause_of why.now ≡ [] }
         requires whole { IsWhole (L.state log.old) }
@@ -118,7 +117,7 @@ impl<'f, S: Store + Drop, P: Propagator + Drop> Engine<'f, S, P> {
         ensures kept { TurnKeepsFaults result (L.state log.old) (L.state log.new) }
         ensures same_reference { L.anchor log.new ≡ L.anchor log.old }
     {
-        match hand_why(alloc, self.flat, why, log) {
+        match hand_why(self.alloc, self.flat, why, log) {
             Ok(()) => {
                 self.finish();
                 Turn::Ended
@@ -128,7 +127,7 @@ impl<'f, S: Store + Drop, P: Propagator + Drop> Engine<'f, S, P> {
     }
 
     // Learns from a conflict that has literals, and goes back.
-    fn teach<L: Log>(&mut self, alloc: Global, why: &Why, log: &mut L) -> Turn
+    fn teach<L: Log>(&mut self, why: &Why, log: &mut L) -> Turn
         requires conflict { IsConflict self.old.search why.now }
         requires some { 1 ≤ length (clause_of why.now) }
         requires going { self.old.search.over ≡ false }
@@ -138,7 +137,7 @@ impl<'f, S: Store + Drop, P: Propagator + Drop> Engine<'f, S, P> {
         ensures kept { TurnKeepsFaults result (L.state log.old) (L.state log.new) }
         ensures same_reference { L.anchor log.new ≡ L.anchor log.old }
     {
-        let Ok(learnt) = learn(alloc, &self.trail, clause_of(why)) else {
+        let Ok(learnt) = learn(self.alloc, &self.trail, clause_of(why)) else {
             return self.halt(LogStop::NoMemory);
         };
         let Learnt {
@@ -147,7 +146,7 @@ impl<'f, S: Store + Drop, P: Propagator + Drop> Engine<'f, S, P> {
             places,
         } = learnt;
         let written = write_lemma(
-            alloc,
+            self.alloc,
             self.flat,
             &self.trail,
             why,
@@ -167,7 +166,7 @@ impl<'f, S: Store + Drop, P: Propagator + Drop> Engine<'f, S, P> {
                 mark_only(&mut self.marks, self.goal);
                 let level = next_level(&mut self.restarts, &mut self.since, back);
                 let gone = go_back(
-                    alloc,
+                    self.alloc,
                     &mut self.trail,
                     &mut self.written,
                     &mut self.store,
@@ -194,7 +193,7 @@ impl<'f, S: Store + Drop, P: Propagator + Drop> Engine<'f, S, P> {
 
     /// Settles, and then decides, writes a better table, or learns from a conflict. After `Ended`,
     /// `NoMemory` and `LogFailed` the search is over; what was written stays, and so does the best.
-    pub fn turn<L: Log>(&mut self, alloc: Global, log: &mut L) -> Turn
+    pub fn turn<L: Log>(&mut self, log: &mut L) -> Turn
         requires few { self.old.search.lemmas < 100000 }
         requires going { self.old.search.over ≡ false }
         requires fits { WhereTold (L.state log.old) (λ told. LogFits told self.old.search) }
@@ -203,10 +202,10 @@ impl<'f, S: Store + Drop, P: Propagator + Drop> Engine<'f, S, P> {
         ensures same_reference { L.anchor log.new ≡ L.anchor log.old }
     {
         let _ = &self.trail;
-        match self.settle(alloc) {
+        match self.settle() {
             Ok(Settled::Quiet) => {
                 if self.trail.room().is_point() {
-                    self.improve(alloc, log)
+                    self.improve(log)
                 } else {
                     self.decide();
                     Turn::Decided
@@ -214,9 +213,9 @@ impl<'f, S: Store + Drop, P: Propagator + Drop> Engine<'f, S, P> {
             }
             Ok(Settled::Conflict(why)) => {
                 if clause_of(&why).len() == 0 {
-                    self.end(alloc, &why, log)
+                    self.end(&why, log)
                 } else {
-                    self.teach(alloc, &why, log)
+                    self.teach(&why, log)
                 }
             }
             Err(_stop) => {

@@ -9,8 +9,7 @@ ghost use Rattle.hw_progress.specs.Searches.{new_search};
 use hw_cert::Log;
 use hw_flat::{Flat, Room, Timetable};
 use hw_model::{Lit, NoMemory};
-use hw_progress::{Branching, Settled, Turn};
-use hw_search::{AnyPropagator, Search, propagators};
+use hw_search::{AnyPropagator, Branching, Search, Settled, Turn, propagators};
 use hw_store::Store;
 use std::alloc::Global;
 
@@ -41,7 +40,6 @@ fn begin<'f, S: Store + Drop>(
 // Turn after turn of a search that has done nothing, until it ended or has as many lemmas as the
 // budget says. Gives whether it ended, and lists the level behind each lemma with literals.
 fn take_turns<S: Store + Drop, L: Log>(
-    alloc: Global,
     flat: &Flat,
     budget: u32,
     search: &mut Search<'_, S, AnyPropagator>,
@@ -57,7 +55,7 @@ fn take_turns<S: Store + Drop, L: Log>(
         if search.lemmas() >= budget {
             return Ok(false);
         }
-        match search.turn(alloc, log) {
+        match search.turn(log) {
             Turn::Decided | Turn::Better => {}
             Turn::Lemma => levels.push(search.level())?,
             Turn::Ended => return Ok(true),
@@ -83,7 +81,7 @@ pub fn whole_run<S: Store + Drop, L: Log>(
 {
     let mut search = begin(alloc, flat, store, Branching::Greatest)?;
     let mut levels = Vec::new(alloc);
-    let ended = take_turns(alloc, flat, budget, &mut search, log, &mut levels)?;
+    let ended = take_turns(flat, budget, &mut search, log, &mut levels)?;
     let best = search.into_best();
     Ok(Run {
         ended,
@@ -104,7 +102,7 @@ pub fn settled<S: Store + Drop>(
     requires right { S.ready store (whole_room (shape_of flat.now)) }
 {
     let mut search = begin(alloc, flat, store, Branching::Greatest)?;
-    match search.settle(alloc)? {
+    match search.settle()? {
         Settled::Quiet => Ok(Some(search.room().copy(alloc)?)),
         Settled::Conflict(_why) => Ok(None),
     }

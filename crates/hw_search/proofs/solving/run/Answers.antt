@@ -8,7 +8,7 @@ use Rattle.hw_progress.specs.Solving.{SolveMeets}
 use Rattle.hw_progress.specs.Turns.{is_last}
 use Rattle.hw_search.specs.Going.{Going, EndsSolved}
 use Rattle.hw_search.proofs.Counting.{nearer}
-use Rattle.hw_search.proofs.Solved.{begins, goes_on, ends_at, stopped, failed, spent, to_fit}
+use Rattle.hw_search.proofs.Solutions.{begins, goes_on, ends_at, stopped, failed, spent, to_fit}
 use Rattle.hw_search.proofs.Faults.{going_keeps, ended_keeps}
 use Rattle.hw_search.proofs.solving.run.Goals as goal
 

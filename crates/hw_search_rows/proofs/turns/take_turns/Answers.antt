@@ -3,7 +3,7 @@ use Rattle.hw_progress.specs.declared.outcome.Turn.{Turn}
 use Rattle.hw_progress.specs.declared.outcome.Turn.TheVariants as turns
 use Rattle.hw_progress.specs.Turns.{is_last}
 use Rattle.hw_search.specs.Going.{Going}
-use Rattle.hw_search.proofs.Solved.{begins, goes_on, to_fit}
+use Rattle.hw_search.proofs.Solutions.{begins, goes_on, to_fit}
 use Rattle.hw_search_rows.proofs.turns.take_turns.Goals as goal
 use Rattle.hw_search_rows.proofs.turns.take_turns.Goals.{in-Decided, in-Lemma+in_ok-push-in-Lemma}
 

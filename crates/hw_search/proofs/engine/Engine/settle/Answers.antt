@@ -1,7 +1,7 @@
 use Rattle.std.proofs.lemmas.Result.{err_from_is_err_and}
 use Rattle.hw_search.specs.Askings.{SourcesQuiet}
 use Rattle.hw_search.proofs.Steps.{implies_more, left_less, as_cut, as_conflict, as_quiet, gains_more}
-use Rattle.hw_search.proofs.Settled.{store_fails, store_quiet, settles_conflict, settles_quiet}
+use Rattle.hw_search.proofs.Settlings.{store_fails, store_quiet, settles_conflict, settles_quiet}
 use Rattle.hw_search.proofs.engine.Engine.settle.Goals as goal
 
 pub returns-in_err-why : goal.returns-in_err-why
