@@ -1,3 +1,5 @@
+//! Searches whose turns, restarts and answers were worked out by hand.
+
 ghost use Rattle.std.specs.Prelude.{◌≤◌};
 
 use crate::turns::{decided, settled, whole_run};

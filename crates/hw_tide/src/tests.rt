@@ -1,3 +1,5 @@
+//! Tide tables, a day of waters and the longest table, with heights worked out by hand.
+
 use crate::{TideFault, read_heights, read_tides, read_waters};
 use hw_port::{Pass, Port, PortParts, Row, Ship, Text, Turnaround, Waypoint};
 use std::alloc::{AllocError, Global};
