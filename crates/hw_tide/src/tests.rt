@@ -1,4 +1,4 @@
-//! Tide tables, a day of waters and the longest table, with heights worked out by hand.
+//! Tide tables that read and that are refused, a day of waters and the longest table.
 
 use crate::{TideFault, read_heights, read_tides, read_waters};
 use hw_port::{Pass, Port, PortParts, Row, Ship, Text, Turnaround, Waypoint};
