@@ -1,4 +1,4 @@
-//! Searches whose turns, restarts and answers were worked out by hand.
+//! Restarts, settling, decisions and whole solutions, over both stores.
 
 ghost use Rattle.std.specs.Prelude.{◌≤◌};
 
