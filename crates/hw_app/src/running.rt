@@ -1,3 +1,6 @@
+//! What the words of a command say is done, and its report is sent: the call that carries the
+//! whole promise.
+
 ghost use Rattle.std.specs.Option.{option_map};
 ghost use Rattle.std.specs.Prelude.{IfSome, map, string_bytes};
 ghost use Rattle.hw_desk.specs.State.{IsNew};

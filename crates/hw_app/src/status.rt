@@ -1,3 +1,5 @@
+//! How a run ends, as a status and as the number that the process ends with.
+
 ghost use Rattle.std.specs.Prelude.{◌≡◌};
 ghost use Rattle.hw_app.specs.Statuses.{code_of, status_of, status_of_head, status_of_verdict};
 ghost use Rattle.hw_report.specs.Seen.{report_seen};

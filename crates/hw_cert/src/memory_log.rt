@@ -1,3 +1,5 @@
+//! A log whose lines stay in memory.
+
 ghost use Rattle.std.specs.Prelude.{◌≡◌, []};
 
 use crate::{Log, LogStop};

@@ -25,10 +25,15 @@ pub struct LineReader {
     alloc: Global,
     shape: Shape,
     feed: Feed,
+    // none before the header
     version: Option<Version>,
+    // of the line that comes next, the header being line 1
     number: u64,
+    // how many bytes the lines before it have with their ends
     taken: u64,
+    // bytes that were read behind these and that no line has taken yet
     pending: Pending,
+    // the bytes of the line taken last, without its end
     line: Vec<u8>,
 }
 

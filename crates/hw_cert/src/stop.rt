@@ -1,3 +1,5 @@
+//! Why a line of a certificate can't be read, and why no line was had.
+
 ghost use Rattle.std.specs.Prelude.{◌≡◌};
 ghost use Rattle.hw_cert.specs.declared.stop.LineStop.TheVariants.{NoMemory};
 

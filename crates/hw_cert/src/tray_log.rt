@@ -1,3 +1,5 @@
+//! A log whose lines go to a desk's proof as text.
+
 ghost use Rattle.std.specs.Prelude.{◌≡◌, [], true, Err, IfErr, IfOk, IfSome, OnOk, Some};
 ghost use Rattle.std.specs.List.{list_all};
 ghost use Rattle.hw_desk.specs.State.{CanSend};

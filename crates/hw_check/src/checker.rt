@@ -1,3 +1,5 @@
+//! The checker: one line after another is taken where it is valid after those before it.
+
 ghost use Rattle.std.specs.Prelude.{◌≡◌, ◌+◌, ◌*◌, ◌^◌, ◌<◌, ◌≤◌, List, [], None, length, false, IfOk, IfErr, OnOk};
 ghost use Rattle.hw_model.specs.Problem.{shape_of};
 ghost use Rattle.hw_model.specs.Lits.{IsClause};

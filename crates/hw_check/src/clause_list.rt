@@ -1,3 +1,6 @@
+//! The clauses that lines may still name, kept in one list of literals, and how the room of
+//! dead ones is given back.
+
 ghost use Rattle.std.specs.Prelude.{◌≡◌, ◌∷◌, ◌++◌, [], ◌+◌, ◌*◌, ◌^◌, ◌<◌, ◌≤◌, Some, length, nat_lt, option_copied, OnOk, OnErr};
 ghost use Rattle.hw_lines.specs.Kept.{clause_under, without};
 ghost use Rattle.hw_check.specs.States.{IsBounded, literals};

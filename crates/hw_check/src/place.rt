@@ -1,3 +1,5 @@
+//! Where a clause stands in the list of all literals.
+
 /// Where the literals of a clause stand in a list of the literals of many.
 #[derive(Clone, Copy)]
 pub(crate) struct Place {

@@ -1,3 +1,5 @@
+//! How much a checker keeps, of live clauses and of dead ones.
+
 /// How much a checker keeps.
 #[derive(Clone, Copy, Debug, PartialEq, Eq)]
 pub struct Space {

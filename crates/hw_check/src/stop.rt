@@ -1,3 +1,5 @@
+//! Why a line wasn't taken.
+
 ghost use Rattle.std.specs.Prelude.{◌≡◌};
 ghost use Rattle.hw_check.specs.declared.stop.CheckStop.TheVariants.{NoMemory};
 

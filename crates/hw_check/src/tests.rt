@@ -1,3 +1,6 @@
+//! Certificates of two ships that sail apart, with lines that are wrong, clauses that die, and
+//! deletions that are due.
+
 ghost use Rattle.std.specs.Prelude.{IfOk, IfSome};
 ghost use Rattle.hw_model.specs.Problem.{shape_of};
 ghost use Rattle.hw_model.specs.Lits.{IsClause};

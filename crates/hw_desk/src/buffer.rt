@@ -1,3 +1,5 @@
+//! The fixed buffer in which text waits before it is sent.
+
 ghost use Rattle.std.specs.Prelude.{◌≡◌, ◌≤◌, ◌+◌, ◌++◌, ◌↔◌, [], IsTrue, length};
 
 use std::marker::Model;

@@ -1,3 +1,5 @@
+//! The desk in memory whose calls never fail.
+
 ghost use Rattle.std.specs.Prelude.{◌≡◌, ◌<◌, [], IfOk, IsOk, true, false, length, Some, None, MatchOption};
 ghost use Rattle.hw_desk.specs.Names.{kept_name};
 ghost use Rattle.hw_desk.specs.CalmBytes.{sent_more};

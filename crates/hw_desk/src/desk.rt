@@ -1,3 +1,5 @@
+//! The outside world as a trait: what its calls do, and what they leave when they fail.
+
 ghost use Rattle.std.specs.Prelude.{◌≡◌, ◌<◌, length, false, true};
 ghost use Rattle.hw_desk.specs.State.{DeskState, IsFresh, CanSend};
 ghost use Rattle.hw_desk.specs.Calls.{Begins, Reads, Makes, Writes};
@@ -5,18 +7,26 @@ ghost use Rattle.hw_desk.specs.Calls.{Begins, Reads, Makes, Writes};
 /// An input of the program.
 #[derive(Clone, Copy, Debug, PartialEq, Eq)]
 pub enum Feed {
+    /// The flat text of a problem.
     Flat,
+    /// The instance of a port.
     Instance,
+    /// The tide table of a port.
     Tides,
+    /// A certificate to be checked.
     Certificate,
+    /// A plan that was made before.
     Plan,
+    /// What has happened since a plan was made.
     Events,
 }
 
 /// An output of the program.
 #[derive(Clone, Copy, Debug, PartialEq, Eq)]
 pub enum Tray {
+    /// What a run prints. It needs no make.
     Report,
+    /// The certificate that a run writes, under the name given at its make.
     Proof,
 }
 

@@ -1,3 +1,5 @@
+//! A table with one value for each feed.
+
 ghost use Rattle.std.specs.Prelude.{◌≡◌};
 ghost use Rattle.std.specs.Borrow.{sem};
 ghost use Rattle.hw_desk.specs.Places.{place};

@@ -1,3 +1,5 @@
+//! The desk in memory whose calls fail where a list says so.
+
 ghost use Rattle.std.specs.Prelude.{◌≡◌, ◌<◌, ◌≤◌, ◌↔◌, ◌+◌, ◌-◌, ◌^◌, ◌⊎◌, ◌++◌, [], min, length, take, true, false, IfOk, IfSome, IsNone, OnErr, OnOk, IsErr, IsTrue, MatchResult};
 ghost use Rattle.hw_desk.specs.State.{Rose};
 ghost use Rattle.hw_desk.specs.Names.{kept_name};

@@ -1,3 +1,5 @@
+//! The name under which a feed was begun or a tray made.
+
 ghost use Rattle.std.specs.Prelude.{◌≡◌, IfOk, None};
 ghost use Rattle.hw_desk.specs.Names.{kept_name};
 

@@ -1,3 +1,5 @@
+//! The bytes sent to a tray in memory.
+
 ghost use Rattle.std.specs.Prelude.{◌≡◌, ◌≤◌, ◌<◌, ◌-◌, ◌++◌, [], ◌↔◌, IfOk, IfSome, IsNone, MatchOption, length, min, take};
 
 use hw_model::NoMemory;

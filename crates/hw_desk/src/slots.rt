@@ -1,3 +1,5 @@
+//! Files in memory, and the feeds that are read from them.
+
 ghost use Rattle.std.specs.Prelude.{◌≡◌, ◌<◌, ◌≤◌, ◌+◌, ◌^◌, ◌++◌, [], IfOk, false, length, min, drop, take, true, None};
 ghost use Rattle.hw_desk.specs.Files.{file_named, fresh_slot, left_of};
 ghost use Rattle.hw_desk.specs.Places.{everywhere};

@@ -1,3 +1,5 @@
+//! A desk in memory each of whose calls fails where it is told to.
+
 ghost use Rattle.std.specs.Prelude.{IfOk};
 ghost use Rattle.hw_desk.specs.State.{IsNew};
 ghost use Rattle.hw_desk.specs.Memory.{memory_state};

@@ -1,3 +1,5 @@
+//! Text sent to a tray through a buffer, in as few writes as it allows.
+
 ghost use Rattle.std.specs.Prelude.{◌≡◌, ◌++◌, ◌<◌, [], length, take, decimal, is_err, true, false};
 ghost use Rattle.hw_desk.specs.State.{DeskState, CanSend, can_send};
 ghost use Rattle.hw_desk.specs.Whole.{SendsText};

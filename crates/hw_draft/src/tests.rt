@@ -1,3 +1,5 @@
+//! Drafts, values and flat texts of ports, worked out by hand: a small one and a day.
+
 ghost use Rattle.std.specs.Prelude.{◌≡◌, length};
 
 use crate::{draft, flatten, sailing, value};

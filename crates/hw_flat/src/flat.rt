@@ -1,3 +1,5 @@
+//! A flat problem with the limits that it keeps, and its readers.
+
 ghost use Rattle.std.specs.Prelude.{◌≡◌, ◌<◌, ◌≤◌, unwrap_or, length, All};
 ghost use Rattle.hw_model.specs.Problem.{Problem, shape_of, horizon, value_at};
 ghost use Rattle.hw_model.specs.Limits.{IsFlat, ShapeFits};

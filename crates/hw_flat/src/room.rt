@@ -1,3 +1,6 @@
+//! Rooms: ranges of slots and orders of ships, read, set, copied, and asked for the timetables
+//! inside.
+
 ghost use Rattle.std.specs.Prelude.{◌≡◌, ◌≤◌, ◌<◌, ℕ, length, IfOk, IsTrue, ◌↔◌, slice_index, replicate};
 ghost use Rattle.hw_model.specs.Limits.{ShapeFits};
 ghost use Rattle.hw_model.specs.Rooms.{IsRoom, IsRoomOf, IsPoint, Inside, InRange, agrees, low_of, high_of, order_of, whole_room};

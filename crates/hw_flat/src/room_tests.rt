@@ -1,3 +1,5 @@
+//! A room read and set range by range and order by order, and the timetables inside.
+
 ghost use Rattle.std.specs.Prelude.{◌≡◌};
 
 use crate::{NoMemory, Order, Room, Shape, Slot, Timetable};

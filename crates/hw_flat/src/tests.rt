@@ -1,3 +1,5 @@
+//! Flat texts that read, texts that are refused, what is written of them, and a demonstration.
+
 use super::*;
 use std::alloc::Global;
 use std::test::Fail;

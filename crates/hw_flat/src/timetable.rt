@@ -1,3 +1,5 @@
+//! A timetable: one slot for each ship.
+
 ghost use Rattle.std.specs.Prelude.{◌≡◌, ◌≤◌, ◌<◌, length, IfOk, slice_index};
 
 use hw_model::{NoMemory, ShipId, Slot};

@@ -1,3 +1,5 @@
+//! The propagator of the goal, by the greatest value of each ship's range.
+
 ghost use Rattle.std.specs.Prelude.{◌≡◌, IfOk};
 ghost use Rattle.std.specs.List.{range_with_len};
 ghost use Rattle.hw_model.specs.declared.source.Source.TheVariants.{Goal};

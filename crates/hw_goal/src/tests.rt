@@ -1,3 +1,5 @@
+//! The goal's propagator beside trying, over small rooms, and its sum as the room changes.
+
 ghost use Rattle.std.specs.Prelude.{◌≡◌, IsTrue};
 ghost use Rattle.hw_model.specs.Lits.{IsLitOf};
 ghost use Rattle.hw_model.specs.declared.lit.LitTruth.TheVariants.{Free};

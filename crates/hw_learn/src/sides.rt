@@ -1,3 +1,5 @@
+//! What a room knows of one side: one bound of a ship, or the order of a pair.
+
 ghost use Rattle.std.specs.Prelude.{◌≡◌, MatchOption, IfSome, true};
 ghost use Rattle.hw_model.specs.Rooms.{IsRoom};
 ghost use Rattle.hw_model.specs.Lits.{lit_fits};

@@ -1,3 +1,5 @@
+//! Where the walk back over a trail begins, and the level of what it ends with.
+
 ghost use Rattle.std.specs.Prelude.{◌≡◌, ◌<◌, ◌≤◌, ◌++◌, ◌∷◌, [], length, List, true, All, IfOk};
 ghost use Rattle.hw_model.specs.declared.lit.Lit.{Lit as LitOf};
 ghost use Rattle.hw_model.specs.declared.lit.LitTruth.TheVariants.{False};

@@ -1,3 +1,5 @@
+//! Conflicts on small trails, with the lemma, the level and the reasons worked out by hand.
+
 ghost use Rattle.std.specs.Prelude.{◌≡◌, ◌≤◌, All, IfOk, IsTrue};
 ghost use Rattle.hw_model.specs.declared.lit.LitTruth.TheVariants.{False};
 ghost use Rattle.hw_model.specs.Lits.{IsClause};

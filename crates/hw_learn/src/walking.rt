@@ -1,3 +1,5 @@
+//! The walk back over a trail: which events are resolved, and what the room then holds.
+
 ghost use Rattle.std.specs.Prelude.{◌≡◌, ℕ, ◌≤◌, ◌<◌, ◌++◌, ◌∷◌, [], length, All, List, MatchBool, IfOk, reverse, true, false};
 ghost use Rattle.hw_model.specs.declared.lit.Lit.{Lit as LitOf};
 ghost use Rattle.hw_model.specs.Rooms.{RoomModel, IsRoom};

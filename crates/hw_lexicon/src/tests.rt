@@ -1,3 +1,5 @@
+//! Words by place and places by word, in a small table.
+
 ghost use Rattle.std.specs.Prelude.{◌≡◌, ◌∷◌, [], codes};
 
 use crate::{Lexicon, each_word};

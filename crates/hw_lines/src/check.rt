@@ -1,3 +1,5 @@
+//! Why a line isn't valid, and what valid lines prove.
+
 /// Why a line isn't valid after those before it.
 #[derive(Clone, Copy, Debug, PartialEq, Eq)]
 pub enum CheckWord {

@@ -1,3 +1,5 @@
+//! The lines of a certificate, without their text.
+
 ghost use Rattle.std.specs.Prelude.{◌≡◌, IfOk};
 
 use hw_flat::{NoMemory, ShipId, Timetable};

@@ -1,3 +1,5 @@
+//! Clauses in normal form.
+
 ghost use Rattle.std.specs.Prelude.{◌≡◌, ◌<◌, ◌≤◌, length, Some, slice_get, IfOk, OnOk, IfErr};
 ghost use Rattle.hw_model.specs.Lits.{first_bad, IsClause};
 ghost use Rattle.hw_lits.specs.Normal.{IsNormal};

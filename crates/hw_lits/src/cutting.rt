@@ -1,3 +1,5 @@
+//! What a room says of a literal, and a room cut by one.
+
 ghost use Rattle.std.specs.Prelude.{◌≡◌};
 ghost use Rattle.hw_model.specs.Narrowing.{truth, cut, first_truth, not_first_truth, set_by};
 ghost use Rattle.hw_model.specs.Lits.{IsLitOf};

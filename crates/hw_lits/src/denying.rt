@@ -1,3 +1,5 @@
+//! The room in which a clause is denied.
+
 ghost use Rattle.std.specs.Prelude.{◌≡◌};
 ghost use Rattle.hw_model.specs.Lits.{negation, IsClause, IsLitOf};
 ghost use Rattle.hw_model.specs.Narrowing.{cut, denied};

@@ -1,3 +1,5 @@
+//! Why a list of literals is no clause.
+
 ghost use Rattle.std.specs.Prelude.{◌≡◌};
 ghost use Rattle.hw_lits.specs.declared.fault.ClauseFault.TheVariants.{NoMemory};
 

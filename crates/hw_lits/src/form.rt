@@ -1,3 +1,5 @@
+//! The test of the normal form, literal by literal.
+
 ghost use Rattle.std.specs.Prelude.{◌≡◌, ◌≤◌, length, MatchResult, None, Bool};
 ghost use Rattle.hw_model.specs.Lits.{lit_fits, place_of, is_earlier, leaves_some, may_follow, keeps_form, first_bad, IsClause};
 ghost use Rattle.hw_lits.specs.Faults.{TellsBad};

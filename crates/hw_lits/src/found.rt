@@ -1,3 +1,5 @@
+//! What a question about a room is answered by: quiet, or a clause.
+
 use crate::clause::Clause;
 
 /// What was found in a room: nothing, or a clause that is not quiet there.

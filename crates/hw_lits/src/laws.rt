@@ -1,3 +1,5 @@
+//! Laws of normal clauses and of steps, each a function without a body.
+
 ghost use Rattle.hw_lits.specs.Normal.{ClauseIsNormal, ClauseAscends, OneOfASide};
 ghost use Rattle.hw_lits.specs.Steps.{StepTells};
 

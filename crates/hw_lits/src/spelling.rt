@@ -1,3 +1,5 @@
+//! The clause that says what a room leaves open: its denial is that room.
+
 ghost use Rattle.std.specs.Prelude.{◌≡◌, ◌<◌, ◌++◌, IfOk, OnOk};
 ghost use Rattle.hw_model.specs.Lits.{IsClause};
 ghost use Rattle.hw_model.specs.Narrowing.{denied};

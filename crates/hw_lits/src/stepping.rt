@@ -1,3 +1,5 @@
+//! One step of a replay.
+
 ghost use Rattle.std.specs.Prelude.{◌≡◌, All};
 ghost use Rattle.hw_model.specs.Replay.{narrowing, room_after};
 ghost use Rattle.hw_model.specs.Lits.{IsLitOf};

@@ -1,3 +1,5 @@
+//! Literals out of range or out of order, truths, cuts, denied rooms and steps, worked out by hand.
+
 ghost use Rattle.std.specs.Prelude.{◌≡◌, All, IfOk};
 ghost use Rattle.hw_model.specs.Lits.{IsClause, IsLitOf};
 

@@ -1,3 +1,5 @@
+//! Rules on two ships and three orders beside trying, over small rooms.
+
 ghost use Rattle.std.specs.Prelude.{◌≡◌, ◌<◌, IsTrue};
 ghost use Rattle.hw_model.specs.Lits.{IsLitOf};
 ghost use Rattle.hw_model.specs.Rooms.{RoomFits};
@@ -385,8 +387,7 @@ fn explains(alloc: Global, flat: &Flat, source: Source, lits: &[Lit]) -> Result<
     Ok(is_source(flat, source) && fits(flat, &denied) && refuted(flat, source, None, &denied))
 }
 
-/// Whether the propagator and the plain one are quiet in the room, or both have a clause and the
-/// first one's is active there and explained by the source.
+/// Whether both are quiet in the room, or have clauses, the first one's active there and explained by the source.
 fn agree(
     alloc: Global,
     flat: &Flat,

@@ -1,3 +1,5 @@
+//! Parts of a port changed in one place, with the fault that comes of it.
+
 use crate::{
     BerthPair, Pass, Path, Port, PortFault, PortParts, PortWord, Row, Section, Ship, Stretch, Text,
     Turnaround, Waypoint,

@@ -1,3 +1,5 @@
+//! The laws of a port and its flat problem, each a function without a body.
+
 ghost use Rattle.hw_port_laws.specs.Laws.{CommonSlot, FlattenedFits, LeastDraft, SameBest, SameCargo, SameNone, SamePermitted, SameProblem, SameValues, StayingIsNothing, TideColumns};
 
 /// An allowed draft is the least that the passes leave, and each of them lies inside the tide.

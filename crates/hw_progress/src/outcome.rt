@@ -1,11 +1,17 @@
+//! How a search decides, and the answers of settling, of a turn and of a whole solution.
+
 use hw_flat::Timetable;
 use hw_story::Why;
 
 /// How a search decides in a quiet room.
 #[derive(Clone, Copy, Debug, PartialEq, Eq)]
 pub enum Branching {
+    /// Of the ships with several slots left the first one whose range has the greatest value: it
+    /// sails in the first slot of that value or later, or, where that is its lowest, in just that.
     Greatest,
+    /// The first ship with several slots left sails in its lowest slot.
     Earliest,
+    /// The first ship with several slots left sails in its highest slot.
     Latest,
 }
 
@@ -13,26 +19,38 @@ pub enum Branching {
 #[derive(Debug, Drop)]
 pub enum Settled {
     Quiet,
+    /// The clause has no literal left: a stored lemma, or one that its source refutes when denied.
     Conflict(Why),
 }
 
 /// What a turn did. After the last three the search is over.
 #[derive(Clone, Copy, Debug, PartialEq, Eq)]
 pub enum Turn {
+    /// All was quiet, and a literal was decided.
     Decided,
+    /// All was quiet at a point: its timetable was written, and is the best so far.
     Better,
+    /// A conflict was analysed: its lemma was written and stored, and the search went back.
     Lemma,
+    /// A line without literals was written: nothing beats the best timetable so far.
     Ended,
+    /// Memory was wanting.
     NoMemory,
+    /// The log didn't take a line.
     LogFailed,
 }
 
-/// How solving ends.
+/// How solving ends. `table` is the best timetable found, if there is one.
 #[derive(Debug, Drop)]
 pub enum Solved {
+    /// No permitted timetable carries more than `cargo`, in tenths of a tonne.
     Optimal { table: Timetable, cargo: u64 },
+    /// No timetable is permitted.
     Infeasible,
+    /// As many lemmas as the budget were written.
     Unfinished { table: Option<Timetable> },
+    /// Memory was wanting.
     NoMemory { table: Option<Timetable> },
+    /// The log didn't take a line.
     LogFailed,
 }

@@ -1,3 +1,5 @@
+//! From a refuted reduction of a room to the clause that explains it.
+
 ghost use Rattle.std.specs.Prelude.{◌≡◌, ◌≤◌, ◌<◌, All, IfOk};
 ghost use Rattle.hw_prop.specs.Reductions.{IsCut, reduced, IsQuiet};
 ghost use Rattle.hw_prop.specs.Speaks.{IsLocal, IsExplanation, FindsBy};

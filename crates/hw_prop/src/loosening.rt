@@ -1,3 +1,5 @@
+//! A denied room widened as far as it stays refuted, so that its clause says more.
+
 ghost use Rattle.std.specs.Prelude.{◌≡◌, ◌≤◌, ◌<◌, ℕ, All, IsTrue, ◌↔◌, IfOk};
 ghost use Rattle.hw_model.specs.Rooms.{RoomModel};
 ghost use Rattle.hw_model.specs.Rooms.{low_of, high_of};
@@ -148,6 +150,9 @@ fn loosen_ship<R: Refuter>(refuter: &R, side: Side, room: &Room, denied: &mut Ro
 }
 
 /// Widens the denied room as far as it stays refuted: the bounds of these ships and the orders of these pairs.
+///
+/// A bound is moved by powers of two from 256 slots down, so that a ship takes up to 18 tests of a
+/// room and a pair one. It takes no memory.
 pub fn loosen<R: Refuter>(
     refuter: &R,
     side: Side,
@@ -174,7 +179,9 @@ pub fn loosen<R: Refuter>(
     }
 }
 
-/// The clause of a refuted room that explains a cut at one side, loosened.
+/// The clause of a refuted room that explains a cut at one side, loosened: up to 18 tests of a room
+/// for each of these ships and one for each pair, and memory for the clause alone. The denied room
+/// is loosened also where that is wanting.
 pub fn explain<R: Refuter>(
     alloc: Global,
     refuter: &R,

@@ -1,3 +1,5 @@
+//! What a propagator answers, and when it is ready to be asked.
+
 use hw_flat::{Flat, Room, Source};
 use hw_lits::Found;
 use hw_model::{Lit, NoMemory};

@@ -1,3 +1,5 @@
+//! The plain propagator: it tries each reduction, of any source.
+
 ghost use Rattle.std.specs.Prelude.{◌≡◌, IfOk};
 ghost use Rattle.hw_model.specs.Problem.{Problem};
 ghost use Rattle.hw_model.specs.Rooms.{RoomModel, RoomFits};

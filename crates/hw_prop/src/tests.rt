@@ -1,3 +1,5 @@
+//! The plain propagator of each kind of source, in rooms whose clauses were worked out by hand.
+
 ghost use Rattle.std.specs.Prelude.{◌≡◌, ◌<◌, IsTrue};
 ghost use Rattle.hw_model.specs.Lits.{IsLitOf};
 ghost use Rattle.hw_model.specs.Rooms.{RoomFits};

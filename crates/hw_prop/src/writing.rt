@@ -1,3 +1,5 @@
+//! The clause that denies the ranges of some ships and the orders of some pairs.
+
 ghost use Rattle.std.specs.Prelude.{◌≡◌, ◌+◌, ◌<◌, ◌≤◌, ◌++◌, All, IfOk, OnOk, length};
 ghost use Rattle.hw_prop.specs.Plain.{range_lits, order_lits, plain, Climb, ClimbPairs};
 

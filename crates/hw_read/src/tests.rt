@@ -1,3 +1,5 @@
+//! Instances changed in one place, with the fault that comes of it, and texts that are none.
+
 use crate::cases::{
     CHANGES, COUNT, Case, FINE, KIND, MISSING, NAME, ORDER, OTHER, RANGE, REPEAT, SIDE,
 };

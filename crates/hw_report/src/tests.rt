@@ -1,3 +1,5 @@
+//! A report longer than the writer's buffer.
+
 ghost use Rattle.std.specs.Prelude.{◌≤◌};
 ghost use Rattle.hw_report.specs.Printing.{CanPrint};
 ghost use Rattle.hw_report.specs.Seen.{report_seen};

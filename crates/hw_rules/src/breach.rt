@@ -1,3 +1,5 @@
+//! The restriction that a timetable breaks.
+
 use hw_model::Slot;
 
 /// A restriction that a timetable breaks.

@@ -1,3 +1,5 @@
+//! Laws of the walk and of numbered restrictions, each a function without a body.
+
 ghost use Rattle.hw_rules.specs.Listing.{RankFollowsOrder, EachListOnce};
 ghost use Rattle.hw_rules.specs.Sources.{NoSourceTwice, RestrictionNumbers};
 

@@ -1,3 +1,5 @@
+//! The lists of slots in lexicographic order: the first one, and from each to the next.
+
 ghost use Rattle.std.specs.Prelude.{◌≡◌, ◌+◌, ◌^◌, ◌<◌, length, MatchBool, All, IfOk, replicate};
 ghost use Rattle.hw_model.specs.Walk.{rank};
 

@@ -1,3 +1,5 @@
+//! What a walk finds.
+
 use hw_flat::Timetable;
 
 /// What a walk through the lists of slots finds.

@@ -1,3 +1,5 @@
+//! Sources in rooms, numbers of restrictions and figures of rooms, with answers worked out by hand.
+
 ghost use Rattle.std.specs.Prelude.{◌≡◌, ◌<◌, IsTrue};
 ghost use Rattle.hw_model.specs.Rooms.{RoomFits};
 ghost use Rattle.hw_model.specs.Refuting.{IsSourceOf};

@@ -1,3 +1,5 @@
+//! The walk through the lists of slots, which keeps the first best one.
+
 ghost use Rattle.std.specs.Prelude.{◌≡◌, ◌↔◌, ◌≤◌, ◌<◌, ◌+◌, ℕ, IfOk, IfSome, IfNone, MatchBool, IsTrue, false, Some, None, length};
 ghost use Rattle.hw_model.specs.Problem.{IsTimetable};
 ghost use Rattle.hw_model.specs.Timetables.{Permits, NonePermitted, cargo, beats};

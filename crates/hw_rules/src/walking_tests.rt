@@ -1,3 +1,5 @@
+//! Walks over small problems, and timetables and rules tested one by one.
+
 ghost use Rattle.std.specs.Prelude.{IsTrue};
 ghost use Rattle.hw_model.specs.Problem.{IsTimetable};
 

@@ -1,3 +1,5 @@
+//! One propagator or the store asked, and what a reason's clause is.
+
 ghost use Rattle.std.specs.Prelude.{◌≡◌, ◌<◌, All, IfOk, Some, length, map, slice_get};
 ghost use Rattle.hw_model.specs.Rooms.{RoomFits};
 ghost use Rattle.hw_model.specs.declared.source.Source.{Source as SourceOf};

@@ -1,3 +1,5 @@
+//! The numbers of lines that no one keeps after a lemma, which are to be deleted.
+
 ghost use Rattle.std.specs.Prelude.{◌≡◌, ◌≤◌, ◌++◌, ◌==◌, ℕ, ⊤, Contains, IfOk, OnOk, MatchBool, filter, filter_map, length, map, not, take};
 ghost use Rattle.std.specs.List.{list_any};
 ghost use Rattle.std.specs.List.Sorted.{IsStrictlyIncreasing};

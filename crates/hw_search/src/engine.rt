@@ -1,3 +1,5 @@
+//! What a search works on: its parts, and what they keep together.
+
 ghost use Rattle.std.specs.Prelude.{◌≡◌, [], All, Contains, IfOk, Some, map, slice_get};
 ghost use Rattle.std.specs.Option.{option_copied};
 ghost use Rattle.hw_model.specs.declared.source.Source.TheVariants.{Goal};
@@ -27,19 +29,32 @@ pub struct Engine<'f, S: Store + Drop, P: Propagator + Drop> {
     pub flat: &'f Flat,
     pub branching: Branching,
     pub trail: Trail,
+    /// The stored lemmas.
     pub store: S,
+    /// A propagator for each source, in the order of the sources.
     pub props: Vec<P>,
+    /// Beside each propagator whether its source is marked.
     pub marks: Vec<bool>,
     pub speakers: Speakers,
+    /// The place of the goal among the sources.
     pub goal: usize,
+    /// Beside each event of the trail the number of the line that was written for its reason, if
+    /// one was.
     pub written: Vec<Option<u32>>,
+    /// Whether a permitted timetable was found.
     pub found: bool,
     pub best: Timetable,
+    /// The cargo of the best timetable found, in tenths of a tonne.
     pub worth: Option<u64>,
+    /// How many clause lines were written.
     pub clause_lines: u32,
+    /// How many lemmas were written.
     pub lemmas: u32,
+    /// How many restarts there were.
     pub restarts: u32,
+    /// How many lemmas were written since the last restart.
     pub since: u32,
+    /// Whether the search is over: no turn may follow.
     pub over: bool,
 }
 

@@ -1,3 +1,5 @@
+//! Marks of sources: set, cleared and found.
+
 ghost use Rattle.std.specs.Prelude.{◌≡◌, ◌<◌, ◌≤◌, ◌==◌, ℕ, length};
 ghost use Rattle.hw_search.specs.Marks.{is_marked, MarksPlaces, NextMarked};
 

@@ -1,3 +1,5 @@
+//! After how many lemmas a restart comes: Luby's numbers.
+
 ghost use Rattle.std.specs.Prelude.{◌≡◌, ◌≤◌, ◌<◌};
 ghost use Rattle.hw_progress.specs.Luby.{luby};
 ghost use Rattle.hw_search.specs.Powers.{IsPowerAbove};
@@ -14,8 +16,9 @@ fn power_above(i: u64) -> u64
     power
 }
 
-/// The number of a restart, counted from 1: after how many times 32 lemmas it comes. It goes
-/// through the powers of two up to the number, and takes no memory.
+/// The number of a restart, counted from 1: after how many times 32 lemmas it comes. It goes down
+/// through numbers that at least halve, and at each through the powers of two up to it: up to 17
+/// times 17 steps. It takes no memory.
 pub fn luby(i: u64) -> u64
     requires some { 1 ≤ i }
     requires few { i ≤ 100000 }

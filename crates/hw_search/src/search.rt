@@ -1,3 +1,5 @@
+//! The search as its callers see it.
+
 ghost use Rattle.std.specs.Prelude.{◌≡◌, ◌<◌, [], false, All, IfOk, map};
 ghost use Rattle.std.specs.Option.{option_copied};
 ghost use Rattle.hw_model.specs.Problem.{shape_of};

@@ -1,3 +1,6 @@
+//! Settling: store and sources are asked in rounds until all are quiet or a clause has no
+//! literal left.
+
 ghost use Rattle.std.specs.Prelude.{◌≡◌, ◌<◌, [], ◌∷◌, false, true, Ok, Some, length, slice_set};
 ghost use Rattle.hw_model.specs.declared.lit.LitTruth.TheVariants.{Free};
 ghost use Rattle.hw_model.specs.declared.narrowing.Narrowed.TheVariants.{Cut as CutBy};

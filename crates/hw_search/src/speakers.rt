@@ -1,3 +1,5 @@
+//! Which sources speak of a ship or of a pair, in lists that are made once.
+
 ghost use Rattle.std.specs.Prelude.{◌≡◌, ◌++◌, ◌^◌, ◌<◌, ◌==◌, ◌&&◌, ◌||◌, [], ◌∷◌, All, AllPairs, IfOk, OnOk, false, length, nat_lt, slice_get, Some};
 ghost use Rattle.std.specs.List.{list_any};
 ghost use Rattle.hw_model.specs.Lits.{IsLitOf};

@@ -1,3 +1,5 @@
+//! Restarts, settling, decisions and whole solutions, over both stores.
+
 ghost use Rattle.std.specs.Prelude.{◌≤◌};
 
 use crate::turns::{decided, settled, whole_run};

@@ -1,3 +1,5 @@
+//! What is seen of a clause in a room.
+
 ghost use Rattle.std.specs.Prelude.{◌≡◌, All};
 ghost use Rattle.hw_model.specs.Lits.{IsLitOf};
 ghost use Rattle.hw_store.specs.Looks.{Looks, look_more};

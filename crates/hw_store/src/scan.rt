@@ -1,3 +1,5 @@
+//! The plain store: each step looks at every clause.
+
 ghost use Rattle.std.specs.Prelude.{IfOk, MatchOption};
 
 use crate::looking::is_quiet;

@@ -1,3 +1,5 @@
+//! Both stores beside each other, in rooms that are drawn.
+
 ghost use Rattle.std.specs.Prelude.{◌≡◌, ◌<◌, ◌+◌, [], All, IfOk, OnOk};
 ghost use Rattle.hw_model.specs.Lits.{IsLitOf};
 ghost use Rattle.hw_store.specs.Scans.{ScanReady};

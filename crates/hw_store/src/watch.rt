@@ -1,3 +1,5 @@
+//! The store that looks only at clauses of which a watched literal became False.
+
 ghost use Rattle.std.specs.Prelude.{◌≡◌, ◌⊎◌, ◌+◌, ◌*◌, ◌<◌, ◌≤◌, [], ◌∷◌, List, ℕ, All, Contains, IfOk, OnOk, length, slice_index_or, vec_capacity};
 ghost use Rattle.hw_model.specs.Rooms.{RoomModel};
 ghost use Rattle.hw_model.specs.Lits.{IsLitOf};
@@ -18,11 +20,16 @@ use std::marker::Model;
 #[derive(Debug, Drop)]
 pub struct WatchStore {
     ships: u32,
+    // the clauses, by ascending numbers
     held: Vec<Stored>,
+    // beside each clause what is watched of it
     watches: Vec<Watch>,
+    // the places of the clauses to look at, of which the last one comes next
     due: Vec<u32>,
+    // for each side the places of the clauses that watch it, and maybe of others
     lists: Vec<Places>,
-    // beside each clause: so no list is gone through where a watch is new
+    // beside each clause the sides where its place is known to stand: so no list is gone through
+    // where a watch is new
     stands: Vec<Sides>,
 }
 
@@ -45,7 +52,8 @@ enum Next {
 }
 
 impl WatchStore {
-    /// A store without clauses, ready for every room.
+    /// A store without clauses, ready for every room. It makes an empty list for each bound of a
+    /// ship and for each two ships: 1,680 lists at 40 ships.
     pub fn new(alloc: Global, flat: &Flat) -> Result<WatchStore, NoMemory>
         ensures value { IfOk result (λ store. IsNew flat.now.ships store) }
     {
@@ -61,7 +69,8 @@ impl WatchStore {
         })
     }
 
-    // Looks at the last of the clauses to look at.
+    // Looks at the last of the clauses to look at, up to its second literal that isn't False. For
+    // want of memory the clause is still to be looked at.
     fn look_next(&mut self, room: &Room) -> Result<Next, NoMemory>
         requires ready { WatchReady self.old room.now }
         ensures same { self.new.held ≡ self.old.held }
@@ -111,6 +120,8 @@ impl Store for WatchStore {
 
     ghost ready = { WatchReady };
 
+    // The clause is to be looked at. All its memory is taken before anything is changed, also that
+    // for a place in `due`, so that `changed` and `undone` need none.
     fn add(&mut self, id: u32, clause: Clause, _room: &Room) -> Result<(), NoMemory> {
         self.held.reserve(1)?;
         self.watches.reserve(1)?;
@@ -127,6 +138,8 @@ impl Store for WatchStore {
         Ok(())
     }
 
+    // It looks once at each clause to look at, up to the first one that isn't quiet, and takes memory
+    // only where a watched side's list grows.
     fn step(&mut self, room: &Room) -> Result<Held, NoMemory> {
         loop {
             match self.look_next(room)? {
@@ -136,10 +149,13 @@ impl Store for WatchStore {
         }
     }
 
+    // By halves.
     fn clause(&self, id: u32) -> Option<&Clause> {
         find(&self.held, id)
     }
 
+    // One pass over the list of the side that the literal makes False: clauses whose watch it hits are
+    // to be looked at.
     fn changed(&mut self, before: &Room, lit: Lit) {
         let _ships = before.ships();
         let side = side_of(self.ships, lit.not());
@@ -154,6 +170,7 @@ impl Store for WatchStore {
         );
     }
 
+    // One look at what is watched of each clause.
     fn undone(&mut self, room: &Room) {
         review(room, &mut self.watches, &mut self.due);
     }

@@ -1,3 +1,5 @@
+//! The watched literals of clauses, and the lists of the sides that they watch.
+
 ghost use Rattle.std.specs.Prelude.{◌≡◌, ◌≢◌, ◌⊎◌, ◌+◌, ◌-◌, ◌*◌, ◌<◌, ◌≤◌, false, true, [], All, Contains, OnOk, length, take, slice_set, slice_index_or, vec_capacity, MatchBool};
 ghost use Rattle.hw_model.specs.Narrowing.{truth};
 ghost use Rattle.hw_model.specs.Lits.{IsLitOf};
@@ -61,7 +63,8 @@ impl Places {
         Ok(())
     }
 
-    /// Goes through the places after a cut: only those stay whose clause still watches the side.
+    /// Goes once through the places after a cut: only those stay whose clause still watches the side.
+    /// It takes no memory.
     pub fn mark(
         &mut self,
         ships: u32,
@@ -312,7 +315,7 @@ fn sift(
 }
 
 /// Puts those of the clauses among the ones to look at whose watch doesn't show that they are
-/// quiet.
+/// quiet. It looks at each watch once, and takes no memory.
 pub fn review(room: &Room, watches: &mut [Watch], due: &mut Vec<u32>)
     requires fits { All (IsWatchOf room.now.ships) watches.old }
     requires keeps { KeepsDue watches.old due.old.items (vec_capacity due.old) }

@@ -1,3 +1,5 @@
+//! Events of a trail, and why they were implied.
+
 use hw_lits::Clause;
 use hw_model::{Lit, Source};
 

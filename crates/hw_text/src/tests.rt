@@ -1,3 +1,5 @@
+//! Texts cut into lines and words, and numbers read and written.
+
 use super::*;
 use std::test::Fail;
 

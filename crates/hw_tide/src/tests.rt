@@ -1,3 +1,5 @@
+//! Tide tables that read and that are refused, a day of waters and the longest table.
+
 use crate::{TideFault, read_heights, read_tides, read_waters};
 use hw_port::{Pass, Port, PortParts, Row, Ship, Text, Turnaround, Waypoint};
 use std::alloc::{AllocError, Global};

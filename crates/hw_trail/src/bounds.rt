@@ -1,3 +1,5 @@
+//! The bound that an event moved, and what it made known.
+
 ghost use Rattle.std.specs.Prelude.{◌≡◌};
 ghost use Rattle.hw_model.specs.Lits.{IsLitOf};
 ghost use Rattle.hw_trail.specs.Bounds.{bound_of, knew, makes};

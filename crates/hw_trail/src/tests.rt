@@ -1,3 +1,5 @@
+//! A trail decided, implied and taken back, with its room and its events worked out by hand.
+
 ghost use Rattle.std.specs.Prelude.{◌≡◌, ◌≤◌, ◌<◌, IfOk, length};
 ghost use Rattle.hw_model.specs.Lits.{IsClause};
 ghost use Rattle.hw_model.specs.Narrowing.{truth};

@@ -1,3 +1,5 @@
+//! The trail: events in order, each a decision or implied, and the room that they leave.
+
 ghost use Rattle.std.specs.Prelude.{◌≡◌, ◌≤◌, ◌<◌, ◌+◌, ◌↔◌, true, Some, length, slice_get, IfOk, IsTrue};
 ghost use Rattle.hw_model.specs.declared.lit.LitTruth.TheVariants.{Free};
 ghost use Rattle.hw_model.specs.declared.narrowing.Narrowed.TheVariants.{Cut};
@@ -25,8 +27,10 @@ pub struct Trail {
     ships: u32,
     slots: u32,
     events: Vec<Event>,
+    // beside each event the bound that it moved, as it was before; 0 for an order
     bounds: Vec<u32>,
     level: u32,
+    // the whole room cut by the events
     room: Room,
 }
 
@@ -66,7 +70,7 @@ impl Trail {
         })
     }
 
-    /// Decides a literal, at a new level.
+    /// Decides a literal, at a new level. It changes one bound or one order, and takes no memory.
     pub fn decide(&mut self, lit: Lit)
         requires fits { lit_fits (trail_shape self.old) lit ≡ true }
         requires free { truth (room_of self.old) lit ≡ Free }
@@ -83,7 +87,7 @@ impl Trail {
     }
 
     /// Takes an implied literal, at the current level. Of its reason's clause it is the only
-    /// literal that isn't False.
+    /// literal that isn't False. It changes one bound or one order, and takes no memory.
     pub fn imply(&mut self, lit: Lit, why: Why)
         requires fits { lit_fits (trail_shape self.old) lit ≡ true }
         requires clause_fits { IsClause (trail_shape self.old) (clause_of why) }
@@ -100,7 +104,9 @@ impl Trail {
         });
     }
 
-    /// Drops the events above a level, which is then the current one.
+    /// Drops the events above a level, which is then the current one. It looks once at each event,
+    /// and makes the room anew: one pass over its ranges and orders, and a cut for each event that
+    /// stays. It takes no memory.
     pub fn back_to(&mut self, level: u32)
         requires below { level ≤ self.old.level }
         ensures value { self.new ≡ back_to self.old level }

@@ -1,3 +1,5 @@
+//! The propagator of a rule on tugs, by the tugs that are held for sure in each slot.
+
 ghost use Rattle.std.specs.Prelude.{◌≡◌, ◌<◌, ℕ, IfOk, map};
 ghost use Rattle.hw_model.specs.Problem.{Problem, horizon, shape_of};
 ghost use Rattle.hw_model.specs.Rooms.{RoomModel, whole_room};

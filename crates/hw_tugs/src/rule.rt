@@ -1,3 +1,5 @@
+//! The rule on tugs of a source.
+
 ghost use Rattle.std.specs.Prelude.{◌≡◌, Some};
 ghost use Rattle.hw_model.specs.Limits.{TugsFit};
 ghost use Rattle.hw_tugs.specs.Kinds.{OfTugs, rule_of};

@@ -1,3 +1,5 @@
+//! A rule on tugs beside trying, over small rooms, and its figures as the room changes.
+
 ghost use Rattle.std.specs.Prelude.{◌≡◌, IsTrue};
 ghost use Rattle.hw_model.specs.Lits.{IsLitOf};
 ghost use Rattle.hw_model.specs.Rooms.{RoomFits};

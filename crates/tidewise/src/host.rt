@@ -1,3 +1,5 @@
+//! Files and standard output as a desk.
+
 ghost use Rattle.std.specs.Prelude.{◌≡◌, ◌≤◌, ◌<◌, length, true, IfOk, IsOk, IsErr, OnErr, OnOk, MatchResult};
 ghost use Rattle.hw_desk.specs.Places.{everywhere};
 ghost use Rattle.hw_desk.specs.State.{Rose};

@@ -1,3 +1,5 @@
+//! Whole commands over files, and a command line that is no text.
+
 use crate::host::HostDesk;
 use crate::words::{run_words, words_of};
 use hw_app::Status;

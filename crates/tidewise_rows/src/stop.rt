@@ -1,3 +1,5 @@
+//! Why the cases weren't all run.
+
 use hw_desk::NoMemory;
 use std::alloc::AllocError;
 use std::io;
