@@ -4,8 +4,6 @@
 mod fitting;
 mod laws;
 mod log;
-#[cfg(test)]
-mod log_tests;
 mod memory_log;
 mod pending;
 mod putting;
@@ -14,8 +12,6 @@ mod sending;
 mod spelling;
 mod stop;
 mod taking;
-#[cfg(test)]
-mod tests;
 mod tray_log;
 mod version;
 mod words;

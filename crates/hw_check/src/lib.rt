@@ -13,8 +13,6 @@ mod renewing;
 mod space;
 mod stop;
 mod stored;
-#[cfg(test)]
-mod tests;
 
 pub use checker::Checker;
 pub use hw_lines::{CheckWord, Refusal, Verdict, kept_pushed, kept_verdict};

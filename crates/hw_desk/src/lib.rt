@@ -12,8 +12,6 @@ mod memory;
 mod name;
 mod sent;
 mod slots;
-#[cfg(test)]
-mod tests;
 mod whole;
 mod writer;
 

@@ -10,8 +10,6 @@ mod forms;
 mod laws;
 mod reading;
 mod room;
-#[cfg(test)]
-mod room_tests;
 mod rules;
 mod timetable;
 mod writing;
@@ -24,5 +22,3 @@ pub use laws::{one_text, reads_back};
 pub use room::Room;
 pub use timetable::Timetable;
 
-#[cfg(test)]
-mod tests;

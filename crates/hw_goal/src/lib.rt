@@ -5,8 +5,6 @@
 mod bound;
 mod cutting;
 mod stepping;
-#[cfg(test)]
-mod tests;
 mod tops;
 mod widening;
 

@@ -4,8 +4,6 @@
 mod each;
 mod laws;
 mod lexicon;
-#[cfg(test)]
-mod tests;
 
 pub use laws::{finds_its_word, is_word_found, misses_absent_words};
 pub use lexicon::Lexicon;

@@ -11,8 +11,6 @@ mod found;
 mod laws;
 mod spelling;
 mod stepping;
-#[cfg(test)]
-mod tests;
 
 pub use clause::Clause;
 pub use cutting::{cut, truth};

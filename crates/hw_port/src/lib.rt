@@ -9,8 +9,6 @@ mod places;
 mod port;
 mod rules;
 mod ships;
-#[cfg(test)]
-mod tests;
 
 pub use fault::{Path, PortFault, PortWord};
 pub use laws::faultless_is_kept;

@@ -3,17 +3,11 @@
 #![tactic(auto)]
 
 mod building;
-#[cfg(test)]
-mod cases;
 mod fault;
 mod members;
 mod reading;
 mod stars;
 mod table;
-#[cfg(test)]
-mod tests;
-#[cfg(test)]
-mod texts;
 mod walking;
 
 pub use fault::ReadFault;

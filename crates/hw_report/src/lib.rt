@@ -11,8 +11,6 @@ mod print;
 mod refusals;
 mod report;
 mod reporting;
-#[cfg(test)]
-mod tests;
 mod words;
 
 pub use report::{Head, Names, RefusedWord, Report};

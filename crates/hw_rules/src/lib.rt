@@ -15,14 +15,10 @@ mod outcome;
 mod pair;
 mod precedence;
 mod refuting;
-#[cfg(test)]
-mod refuting_tests;
 mod spacing;
 mod timetables;
 mod tugs;
 mod walking;
-#[cfg(test)]
-mod walking_tests;
 mod window;
 
 pub use breach::Breach;

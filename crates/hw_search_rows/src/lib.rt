@@ -2,6 +2,12 @@
 #![tactic(auto)]
 
 #[cfg(test)]
+mod learning;
+#[cfg(test)]
+mod stores;
+#[cfg(test)]
 mod tests;
+#[cfg(test)]
+mod trails;
 #[cfg(test)]
 mod turns;

@@ -17,5 +17,3 @@ pub use parts::{cut, cut_line, is_end, is_text};
 pub use words::Words;
 pub use writing::{put_number, put_signed};
 
-#[cfg(test)]
-mod tests;

@@ -19,5 +19,3 @@ pub use laws::{fault_told, one_list, table_told, tide_told};
 pub use reading::{read_heights, read_tides, read_waters};
 pub use tide::Tide;
 
-#[cfg(test)]
-mod tests;

@@ -6,8 +6,6 @@
 mod bounds;
 mod cuts;
 mod implied;
-#[cfg(test)]
-mod tests;
 mod trail;
 
 pub use hw_story::{Event, Why};

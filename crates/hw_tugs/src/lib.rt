@@ -8,7 +8,5 @@ mod figures;
 mod mending;
 mod profile;
 mod rule;
-#[cfg(test)]
-mod tests;
 
 pub use profile::TugProfile;
