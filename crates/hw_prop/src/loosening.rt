@@ -16,6 +16,10 @@ use hw_lits::Clause;
 use hw_model::NoMemory;
 use std::alloc::Global;
 
+/// The farthest that one test moves a bound, in slots: the greatest power of two up to the 512 that
+/// lie between the first of 513 slots and the last.
+const FARTHEST: u32 = 512;
+
 fn lower<R: Refuter>(
     refuter: &R,
     side: Side,
@@ -105,7 +109,7 @@ fn lower_far<R: Refuter>(refuter: &R, side: Side, room: &Room, denied: &mut Room
     ensures slots { denied.new.slots ≡ denied.old.slots }
     ensures explains { Explains side room.now denied.new }
 {
-    let mut step: u32 = 256;
+    let mut step = FARTHEST;
     while step > 0 {
         let low = denied.low(ship);
         if step <= low {
@@ -125,7 +129,7 @@ fn raise_far<R: Refuter>(refuter: &R, side: Side, room: &Room, denied: &mut Room
     ensures slots { denied.new.slots ≡ denied.old.slots }
     ensures explains { Explains side room.now denied.new }
 {
-    let mut step: u32 = 256;
+    let mut step = FARTHEST;
     while step > 0 {
         let high = denied.high(ship);
         if step < denied.slots() - high {
@@ -151,7 +155,7 @@ fn loosen_ship<R: Refuter>(refuter: &R, side: Side, room: &Room, denied: &mut Ro
 
 /// Widens the denied room as far as it stays refuted: the bounds of these ships and the orders of these pairs.
 ///
-/// A bound is moved by powers of two from 256 slots down, so that a ship takes up to 18 tests of a
+/// A bound is moved by powers of two from 512 slots down, so that a ship takes up to 20 tests of a
 /// room and a pair one. It takes no memory.
 pub fn loosen<R: Refuter>(
     refuter: &R,
@@ -179,7 +183,7 @@ pub fn loosen<R: Refuter>(
     }
 }
 
-/// The clause of a refuted room that explains a cut at one side, loosened: up to 18 tests of a room
+/// The clause of a refuted room that explains a cut at one side, loosened: up to 20 tests of a room
 /// for each of these ships and one for each pair, and memory for the clause alone. The denied room
 /// is loosened also where that is wanting.
 pub fn explain<R: Refuter>(
