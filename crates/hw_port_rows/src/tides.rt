@@ -1,89 +1,15 @@
 //! Tide tables that read and that are refused, a day of waters and the longest table.
 
-use hw_port::{Pass, Port, PortParts, Row, Ship, Text, Turnaround, Waypoint};
+use crate::texts::SMALL;
+use hw_port::Port;
+use hw_read::{ReadFault, read_port};
 use hw_tide::{TideFault, read_heights, read_tides, read_waters};
 use std::alloc::{AllocError, Global};
 use std::test::Fail;
 
-const PASS: Pass = Pass {
-    waypoint: 0,
-    offset: 0,
-    clearance: 0,
-};
-
-const TURNAROUND: Turnaround = Turnaround {
-    outgoing: 0,
-    incoming: 0,
-};
-
-fn text(alloc: Global, text: &str) -> Result<Text, TideFault> {
-    let items = Vec::from_slice(alloc, text.as_bytes())?;
-    Ok(Text { items })
-}
-
-fn ship(alloc: Global) -> Result<Ship, TideFault> {
-    let name = text(alloc, "Cape Grace")?;
-    let direction = text(alloc, "outgoing")?;
-    let route = Vec::from_slice(alloc, &[PASS])?;
-    Ok(Ship {
-        name,
-        direction,
-        class: 0,
-        earliest: 0,
-        latest: 0,
-        tpc: 0,
-        light: 0,
-        deep: 0,
-        route,
-        channel: Vec::new(alloc),
-        tugs: 0,
-        job: 1,
-        may_stay: false,
-    })
-}
-
-fn ships(alloc: Global) -> Result<Vec<Ship>, TideFault> {
-    let mut ships = Vec::new(alloc);
-    ships.push(ship(alloc)?)?;
-    Ok(ships)
-}
-
-fn waypoint(alloc: Global, name: &str) -> Result<Waypoint, TideFault> {
-    let name = text(alloc, name)?;
-    Ok(Waypoint { name, depth: 0 })
-}
-
-fn waypoints(alloc: Global) -> Result<Vec<Waypoint>, TideFault> {
-    let mut waypoints = Vec::new(alloc);
-    waypoints.push(waypoint(alloc, "Berth")?)?;
-    waypoints.push(waypoint(alloc, "Bar")?)?;
-    Ok(waypoints)
-}
-
-fn separation(alloc: Global) -> Result<Vec<Row>, TideFault> {
-    let items = Vec::from_slice(alloc, &[1])?;
-    let mut rows = Vec::new(alloc);
-    rows.push(Row { items })?;
-    Ok(rows)
-}
-
 /// A port of one ship, with a berth and a bar.
-fn port(alloc: Global) -> Result<Port, Fail> {
-    let waypoints = waypoints(alloc)?;
-    let separation = separation(alloc)?;
-    let ships = ships(alloc)?;
-    Ok(Port::check(PortParts {
-        version: 1,
-        slots: 1,
-        slot_minutes: 15,
-        waypoints,
-        sections: Vec::new(alloc),
-        separation,
-        turnaround: TURNAROUND,
-        fleet: 0,
-        ships,
-        berths: Vec::new(alloc),
-    })?)
+fn port(alloc: Global) -> Result<Port, ReadFault> {
+    read_port(alloc, SMALL.as_bytes())
 }
 
 /// Whether the table is read as these heights, in rows of two.

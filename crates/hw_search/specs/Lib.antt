@@ -12,3 +12,4 @@ pub mod Any
 pub mod Going
 pub mod GoingBack
 pub mod Faults
+pub mod MadeFor

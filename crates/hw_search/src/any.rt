@@ -4,6 +4,7 @@ ghost use Rattle.hw_model.specs.Problem.{shape_of};
 ghost use Rattle.hw_model.specs.Refuting.{IsSourceOf};
 ghost use Rattle.hw_model.specs.Rooms.{whole_room};
 ghost use Rattle.hw_pairs.specs.Kinds.{rule_of};
+ghost use Rattle.hw_search.specs.MadeFor.{IsMadeFor, IsMadeForRule};
 
 use hw_flat::{Flat, Room, Rule, Source};
 use hw_goal::GoalBound;
@@ -87,6 +88,7 @@ fn for_rule(
     requires rule { rule_of flat.now source ≡ Some rule.now }
     ensures source { IfOk result (λ one. ⟦<AnyPropagator as Propagator>⟧.source one ≡ source) }
     ensures ready { IfOk result (λ one. ⟦<AnyPropagator as Propagator>⟧.ready one flat.now (whole_room (shape_of flat.now))) }
+    ensures kind { IfOk result (IsMadeForRule (Some rule.now)) }
 {
     let _shape = flat.shape();
     match rule {
@@ -105,11 +107,12 @@ fn for_rule(
     }
 }
 
-/// The propagator of a source of the problem, ready for the whole room.
+/// The propagator of a source of the problem, of the kind that is made for it, ready for the whole room.
 pub fn for_source(alloc: Global, flat: &Flat, source: Source) -> Result<AnyPropagator, NoMemory>
     requires source_in { IsSourceOf flat.now source }
     ensures source { IfOk result (λ one. ⟦<AnyPropagator as Propagator>⟧.source one ≡ source) }
     ensures ready { IfOk result (λ one. ⟦<AnyPropagator as Propagator>⟧.ready one flat.now (whole_room (shape_of flat.now))) }
+    ensures kind { IfOk result (IsMadeFor flat.now source) }
 {
     let _shape = flat.shape();
     match source {

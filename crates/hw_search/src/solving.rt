@@ -9,6 +9,7 @@ ghost use Rattle.hw_progress.specs.Solving.{SolveMeets};
 ghost use Rattle.hw_progress.specs.Starting.{EachSourceOnce};
 ghost use Rattle.hw_search.specs.Faults.{SolvedKeepsFaults};
 ghost use Rattle.hw_search.specs.Going.{Going, EndsSolved};
+ghost use Rattle.hw_search.specs.MadeFor.{IsMadeFor};
 
 use crate::any::{AnyPropagator, for_source};
 use crate::search::Search;
@@ -21,10 +22,12 @@ use hw_rules::{cargo, sources};
 use hw_store::WatchStore;
 use std::alloc::Global;
 
-/// A propagator for each source, in the order of the sources, ready for the whole room.
+/// A propagator for each source, of the kind that is made for it, in the order of the sources, ready
+/// for the whole room.
 pub fn propagators(alloc: Global, flat: &Flat) -> Result<Vec<AnyPropagator>, NoMemory>
     ensures sources { IfOk result (λ props. EachSourceOnce flat.now (map ⟦<AnyPropagator as Propagator>⟧.source props.items)) }
     ensures ready { IfOk result (λ props. All (λ one. ⟦<AnyPropagator as Propagator>⟧.ready one flat.now (whole_room (shape_of flat.now))) props.items) }
+    ensures kinds { IfOk result (λ props. All (λ one. IsMadeFor flat.now (⟦<AnyPropagator as Propagator>⟧.source one) one) props.items) }
 {
     let list = sources(alloc, flat)?;
     let mut props = Vec::with_capacity(alloc, list.len())?;
