@@ -21,4 +21,3 @@ pub use hw_model::{Hole, Holes, Job, Jobs, NoMemory, Order, Rule, Shape, ShipId,
 pub use laws::{one_text, reads_back};
 pub use room::Room;
 pub use timetable::Timetable;
-

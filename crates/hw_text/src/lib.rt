@@ -16,4 +16,3 @@ pub use numbers::{read_number, read_signed, read_small};
 pub use parts::{cut, cut_line, is_end, is_text};
 pub use words::Words;
 pub use writing::{put_number, put_signed};
-

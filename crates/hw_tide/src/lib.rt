@@ -18,4 +18,3 @@ pub use kind::TableKind;
 pub use laws::{fault_told, one_list, table_told, tide_told};
 pub use reading::{read_heights, read_tides, read_waters};
 pub use tide::Tide;
-
