@@ -98,6 +98,18 @@ keeps_drops s cap cap' ws due k d q = record {
   due = q;
 }
 
+pub keeps_seen : (s : WatchModel) (cap : ℕ) (seen : RoomModel) → KeepsWatches s cap → KeepsWatches (record s { seen = seen }) cap
+keeps_seen s cap seen k = record {
+  clauses = k.clauses;
+  few_ships = k.few_ships;
+  each_clause = k.each_clause;
+  each_side = k.each_side;
+  among = k.among;
+  watched = k.watched;
+  listed = k.listed;
+  due = k.due;
+}
+
 -- a place stays in the list of a literal that its clause watches
 listed_on : (ships place i : ℕ) (cutting m : Lit) (ws : List Watch) (old new : List (List ℕ)) → SiftsOne ships place cutting ws old new → (side ships m ≡ place → is_on ships place (get_or ws i Due) ≡ true) → Contains (get_or old (side ships m) []) i → Contains (get_or new (side ships m) []) i
 listed_on ships place i cutting m ws old new f on h = elim (cases_eq (side ships m) place) [
@@ -279,8 +291,8 @@ none_listed lists h side p c = by (order_of_side side (length lists))
     by (inl lt) = empty (h side [] lt)
     by (inr le) = empty (past lists side le)
 
-pub keeps_new : (ships cap : ℕ) (lists : List (List ℕ)) → ships ≤ 40 → length lists ≡ 2 * ships + ships * ships → All (λ (l : List ℕ). l ≡ []) lists → KeepsWatches (record { ships = ships; held = []; watches = []; due = []; lists = lists }) cap
-keeps_new ships cap lists few n empty = record {
+pub keeps_new : (ships cap : ℕ) (lists : List (List ℕ)) (seen : RoomModel) → ships ≤ 40 → length lists ≡ 2 * ships + ships * ships → All (λ (l : List ℕ). l ≡ []) lists → KeepsWatches (record { ships = ships; held = []; watches = []; due = []; lists = lists; seen = seen }) cap
+keeps_new ships cap lists seen few n empty = record {
   clauses = keeps_none ships;
   few_ships = few;
   each_clause = refl;

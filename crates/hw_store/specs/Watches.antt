@@ -15,13 +15,14 @@ use Rattle.hw_store.specs.declared.watch.Next.{Next}
 use Rattle.hw_store.specs.declared.watch.Next.TheVariants as nexts
 use Rattle.hw_store.specs.Stores.{KeepsClauses, Finds}
 
--- `watches` and `held` go side by side; `lists` has for each side the places of the clauses that watch it, and maybe others; `due` has the places of the clauses to look at
+-- `watches` and `held` go side by side; `lists` has for each side the places of the clauses that watch it, and maybe others; `due` has the places of the clauses to look at; `seen` is the room of the last step, at first the whole room
 pub record WatchModel : Type 0 where
   pub ships : ℕ
   pub held : List Stored
   pub watches : List Watch
   pub due : List ℕ
   pub lists : List (List ℕ)
+  pub seen : RoomModel
 
 -- ---- sides
 
@@ -59,10 +60,20 @@ is_due Due = true
 is_due (One lit) = false
 is_due (Two first second) = false
 
+abbrev pub is_one : Watch → Bool
+is_one Due = false
+is_one (One lit) = true
+is_one (Two first second) = false
+
 -- how many are due
 abbrev pub count_due : List Watch → ℕ
 count_due [] = 0
 count_due (watch ∷ more) = cond (is_due watch) 1 0 + count_due more
+
+-- how many have one literal
+abbrev pub count_one : List Watch → ℕ
+count_one [] = 0
+count_one (watch ∷ more) = cond (is_one watch) 1 0 + count_one more
 
 -- the watched literals are of so many ships
 abbrev pub IsWatchOf : ℕ → Watch → Type 0
@@ -91,6 +102,16 @@ Shows room (Two first second) = (truth room first ≢ False) × (truth room seco
 abbrev pub ShowsAll : RoomModel → List Watch → Type 0
 ShowsAll room watches = All (Shows room) watches
 
+-- so of each clause with one watched literal
+abbrev pub ShowsOnes : RoomModel → List Watch → Type 0
+ShowsOnes room watches = (i : ℕ) → is_one (get_or watches i Due) ≡ true → Shows room (get_or watches i Due)
+
+-- of two watched literals none is False
+abbrev pub IsOpen : RoomModel → Watch → Type 0
+IsOpen room Due = ⊤
+IsOpen room (One lit) = ⊤
+IsOpen room (Two first second) = (truth room first ≢ False) × (truth room second ≢ False)
+
 -- ---- what is kept
 
 -- the clauses to look at are in `due`, which has room for all clauses
@@ -101,10 +122,25 @@ pub record KeepsDue (watches : List Watch) (due : List ℕ) (capacity : ℕ) : T
   pub reserved : length watches ≤ capacity
   pub small : length watches ≤ 2 ^ 32
 
+-- the clauses with one watched literal are in `ones`
+pub record KeepsOnes (watches : List Watch) (ones : List ℕ) : Type 0 where
+  pub has : (i : ℕ) → is_one (get_or watches i Due) ≡ true → Contains ones i
+  pub among : All (λ i. i < length watches) ones
+  pub few : length ones ≤ count_one watches
+
+-- in the room that was seen no literal is False that is one of two watched ones
+pub record KeepsSeen (ships : ℕ) (seen : RoomModel) (watches : List Watch) : Type 0 where
+  pub same_ships : seen.ships ≡ ships
+  pub open_all : (i : ℕ) → IsOpen seen (get_or watches i Due)
+
 -- each watch stays or becomes Due
 pub record DropsSome (old new : List Watch) : Type 0 where
   pub same_length : length new ≡ length old
   pub each : (i : ℕ) → (get_or new i Due ≡ get_or old i Due) ⊎ (get_or new i Due ≡ Due)
+
+-- one watched literal stays one
+pub record OnesStay (old new : List Watch) : Type 0 where
+  pub each : (i : ℕ) → is_one (get_or old i Due) ≡ true → is_one (get_or new i Due) ≡ true
 
 -- of the places of a side's list after a cut: no watch of theirs is hit, those that still watch the side stay, and none is new
 pub record Sifted (ships place : ℕ) (cutting : Lit) (ws : List Watch) (old new : List ℕ) : Type 0 where

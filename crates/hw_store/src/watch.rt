@@ -3,12 +3,12 @@
 ghost use Rattle.std.specs.Prelude.{◌≡◌, ◌⊎◌, ◌+◌, ◌*◌, ◌<◌, ◌≤◌, [], ◌∷◌, List, ℕ, All, Contains, IfOk, OnOk, length, slice_index_or, vec_capacity};
 ghost use Rattle.hw_model.specs.Rooms.{RoomModel};
 ghost use Rattle.hw_model.specs.Lits.{IsLitOf};
-ghost use Rattle.hw_store.specs.Watches.{WatchModel, WatchReady, Listed, Grows, SiftsOne, KeepsDue, DropsSome, IsWatchOf, NextIs, IsNew, StandsAt, KeepsSides};
+ghost use Rattle.hw_store.specs.Watches.{WatchModel, WatchReady, Listed, Grows, SiftsOne, KeepsDue, DropsSome, OnesStay, IsWatchOf, NextIs, IsNew, StandsAt, KeepsSides};
 
 use crate::looking::{Look, look_at};
 use crate::scan::find;
 use crate::store::{Held, Store, Stored};
-use crate::watching::{Places, Sides, Watch, is_among, resolve, review, side_of};
+use crate::watching::{Places, Sides, Watch, is_among, recheck, resolve, side_of};
 use hw_flat::{Flat, Room};
 use hw_lits::Clause;
 use hw_model::{Lit, NoMemory};
@@ -31,17 +31,21 @@ pub struct WatchStore {
     // beside each clause the sides where its place is known to stand: so no list is gone through
     // where a watch is new
     stands: Vec<Sides>,
+    // the places of the clauses with one watched literal
+    ones: Vec<u32>,
+    // the room of the last step: in it none of two watched literals is False
+    seen: Room,
 }
 
 impl Model for WatchStore {
-    ghost use Rattle.std.specs.Prelude.{◌≡◌, length, vec_capacity};
-    ghost use Rattle.hw_store.specs.Watches.{WatchModel, KeepsWatches, KeepsSides};
+    ghost use Rattle.std.specs.Prelude.{◌≡◌, ◌≤◌, length, vec_capacity};
+    ghost use Rattle.hw_store.specs.Watches.{WatchModel, KeepsWatches, KeepsSides, KeepsOnes, KeepsSeen};
 
     ghost Value = { WatchModel };
 
-    ghost view = { λ s. record { ships = s.ships; held = s.held.items; watches = s.watches.items; due = s.due.items; lists = s.lists.items } };
+    ghost view = { λ s. record { ships = s.ships; held = s.held.items; watches = s.watches.items; due = s.due.items; lists = s.lists.items; seen = s.seen } };
 
-    ghost invariant = { λ s. KeepsWatches (record { ships = s.ships; held = s.held.items; watches = s.watches.items; due = s.due.items; lists = s.lists.items }) (vec_capacity s.due) × (length s.stands.items ≡ length s.watches.items) × KeepsSides s.lists.items s.stands.items };
+    ghost invariant = { λ s. KeepsWatches (record { ships = s.ships; held = s.held.items; watches = s.watches.items; due = s.due.items; lists = s.lists.items; seen = s.seen }) (vec_capacity s.due) × (length s.stands.items ≡ length s.watches.items) × KeepsSides s.lists.items s.stands.items × KeepsOnes s.watches.items s.ones.items × (length s.watches.items ≤ vec_capacity s.ones) × KeepsSeen s.ships s.seen s.watches.items };
 }
 
 // What was seen of the last clause to look at.
@@ -52,13 +56,15 @@ enum Next {
 }
 
 impl WatchStore {
-    /// A store without clauses, ready for every room. It makes an empty list for each bound of a
-    /// ship and for each two ships: 1,680 lists at 40 ships.
+    /// A store without clauses, ready for every room. It makes a room, and an empty list for each bound
+    /// of a ship and for each two ships: 1,680 lists at 40 ships.
     pub fn new(alloc: Global, flat: &Flat) -> Result<WatchStore, NoMemory>
         ensures value { IfOk result (λ store. IsNew flat.now.ships store) }
     {
-        let ships = flat.shape().ships;
+        let shape = flat.shape();
+        let ships = shape.ships;
         let lists = no_places(alloc, 2 * ships + ships * ships)?;
+        let seen = Room::whole(alloc, shape)?;
         Ok(WatchStore {
             ships,
             held: Vec::new(alloc),
@@ -66,6 +72,8 @@ impl WatchStore {
             due: Vec::new(alloc),
             lists,
             stands: Vec::new(alloc),
+            ones: Vec::new(alloc),
+            seen,
         })
     }
 
@@ -73,9 +81,11 @@ impl WatchStore {
     // want of memory the clause is still to be looked at.
     fn look_next(&mut self, room: &Room) -> Result<Next, NoMemory>
         requires ready { WatchReady self.old room.now }
+        requires seen { self.old.seen ≡ room.now }
         ensures same { self.new.held ≡ self.old.held }
         ensures ships { self.new.ships ≡ self.old.ships }
         ensures ready { WatchReady self.new room.now }
+        ensures seen { self.new.seen ≡ room.now }
         ensures next { IfOk result (λ next. NextIs self.old self.new room.now next) }
     {
         if self.due.is_empty() {
@@ -87,6 +97,7 @@ impl WatchStore {
             Look::Dead => Ok(Next::Found(Held::Clause { id: one.number })),
             Look::Unit { lit: _lit } => Ok(Next::Found(Held::Clause { id: one.number })),
             Look::Sure { lit } => {
+                self.ones.push_reserved(place);
                 resolve(place, Watch::One { lit }, &mut self.watches, &mut self.due);
                 Ok(Next::Went)
             }
@@ -121,12 +132,13 @@ impl Store for WatchStore {
     ghost ready = { WatchReady };
 
     // The clause is to be looked at. All its memory is taken before anything is changed, also that
-    // for a place in `due`, so that `changed` and `undone` need none.
+    // for a place in `due` and in `ones`, so that `changed` and `undone` need none.
     fn add(&mut self, id: u32, clause: Clause, _room: &Room) -> Result<(), NoMemory> {
         self.held.reserve(1)?;
         self.watches.reserve(1)?;
         self.stands.reserve(1)?;
         let place = self.held.len();
+        self.ones.reserve(place + 1)?;
         self.due.reserve(place + 1)?;
         self.held.push_reserved(Stored { number: id, clause });
         self.watches.push_reserved(Watch::Due);
@@ -138,9 +150,10 @@ impl Store for WatchStore {
         Ok(())
     }
 
-    // It looks once at each clause to look at, up to the first one that isn't quiet, and takes memory
-    // only where a watched side's list grows.
+    // It copies the room, looks once at each clause to look at, up to the first one that isn't quiet,
+    // and takes memory only where a watched side's list grows.
     fn step(&mut self, room: &Room) -> Result<Held, NoMemory> {
+        self.seen.copy_from(room);
         loop {
             match self.look_next(room)? {
                 Next::Found(held) => return Ok(held),
@@ -170,9 +183,16 @@ impl Store for WatchStore {
         );
     }
 
-    // One look at what is watched of each clause.
+    // One look at each clause with one watched literal, and one pass over the room. Only if that
+    // doesn't hold the one of the last step, one look at what is watched of each clause.
     fn undone(&mut self, room: &Room) {
-        review(room, &mut self.watches, &mut self.due);
+        recheck(
+            room,
+            &self.seen,
+            &mut self.ones,
+            &mut self.watches,
+            &mut self.due,
+        );
     }
 }
 
@@ -252,6 +272,7 @@ fn mark_at(
     requires keeps { KeepsDue watches.old due.old.items (vec_capacity due.old) }
     ensures keeps { KeepsDue watches.new due.new.items (vec_capacity due.new) }
     ensures drops { DropsSome watches.old watches.new }
+    ensures ones { OnesStay watches.old watches.new }
     ensures sifted { SiftsOne ships side cutting watches.new lists.old lists.new }
     ensures same { length stands.new ≡ length stands.old }
     ensures known { KeepsSides lists.new stands.new }

@@ -3,8 +3,9 @@
 ghost use Rattle.std.specs.Prelude.{◌≡◌, ◌≢◌, ◌⊎◌, ◌+◌, ◌-◌, ◌*◌, ◌<◌, ◌≤◌, false, true, [], All, Contains, OnOk, length, take, slice_set, slice_index_or, vec_capacity, MatchBool};
 ghost use Rattle.hw_model.specs.Narrowing.{truth};
 ghost use Rattle.hw_model.specs.Lits.{IsLitOf};
-ghost use Rattle.hw_store.specs.Watches.{side, hits, is_hit, IsWatchOf, Shows, ShowsAll, KeepsDue, DropsSome, Sifted, is_due, is_on, is_side, is_among, other_side, without, nowhere, Forgets, Leaves};
+ghost use Rattle.hw_store.specs.Watches.{side, hits, is_hit, IsWatchOf, Shows, ShowsAll, KeepsDue, KeepsOnes, KeepsSeen, ShowsOnes, DropsSome, OnesStay, Sifted, is_due, is_on, is_side, is_among, other_side, without, nowhere, Forgets, Leaves};
 
+use crate::within::is_within;
 use hw_flat::Room;
 use hw_lits::truth;
 use hw_model::{Lit, LitTruth, NoMemory};
@@ -81,6 +82,7 @@ impl Places {
         requires keeps { KeepsDue watches.old due.old.items (vec_capacity due.old) }
         ensures keeps { KeepsDue watches.new due.new.items (vec_capacity due.new) }
         ensures drops { DropsSome watches.old watches.new }
+        ensures ones { OnesStay watches.old watches.new }
         ensures sifted { Sifted ships side cutting watches.new self.old self.new }
         ensures forgets { Forgets stands.old stands.new }
         ensures leaves { Leaves side stands.new self.old self.new }
@@ -132,7 +134,7 @@ fn is_hit(cutting: Lit, watch: Watch) -> bool
 
 fn is_open(lit: Lit, room: &Room) -> bool
     requires fits { IsLitOf room.now.ships lit }
-    ensures value { MatchBool result (truth room.now lit ≢ LitTruth.False) ⊤ }
+    ensures value { MatchBool result (truth room.now lit ≢ LitTruth.False) (truth room.now lit ≡ LitTruth.False) }
 {
     match truth(lit, room) {
         LitTruth::False => false,
@@ -140,12 +142,10 @@ fn is_open(lit: Lit, room: &Room) -> bool
     }
 }
 
-ghost use Rattle.std.specs.Prelude.{⊤};
-
 // Whether what is watched shows that the clause is quiet.
 fn shows(watch: Watch, room: &Room) -> bool
     requires fits { IsWatchOf room.now.ships watch }
-    ensures value { MatchBool result (Shows room.now watch) ⊤ }
+    ensures value { MatchBool result (Shows room.now watch) (Shows room.now watch → ⊥) }
 {
     match watch {
         Watch::Due => true,
@@ -229,6 +229,7 @@ fn stays(
     requires keeps { KeepsDue watches.old due.old.items (vec_capacity due.old) }
     ensures keeps { KeepsDue watches.new due.new.items (vec_capacity due.new) }
     ensures drops { DropsSome watches.old watches.new }
+    ensures ones { OnesStay watches.old watches.new }
     ensures missed { is_hit cutting (slice_index_or watches.new place Watch.Due) ≡ false }
     ensures value { result ≡ is_on ships side (slice_index_or watches.new place Watch.Due) }
 {
@@ -296,6 +297,7 @@ fn sift(
     requires keeps { KeepsDue watches.old due.old.items (vec_capacity due.old) }
     ensures keeps { KeepsDue watches.new due.new.items (vec_capacity due.new) }
     ensures drops { DropsSome watches.old watches.new }
+    ensures ones { OnesStay watches.old watches.new }
     ensures same { length places.new ≡ length places.old }
     ensures sifted { Sifted ships side cutting watches.new places.old (take result places.new) }
     ensures forgets { Forgets stands.old stands.new }
@@ -314,18 +316,70 @@ fn sift(
     kept
 }
 
-/// Puts those of the clauses among the ones to look at whose watch doesn't show that they are
-/// quiet. It looks at each watch once, and takes no memory.
-pub fn review(room: &Room, watches: &mut [Watch], due: &mut Vec<u32>)
+// Puts those of the clauses at these places among the ones to look at whose watch doesn't show that
+// they are quiet, and moves the places of the others to the front: how many they are.
+fn pass(room: &Room, ones: &mut [u32], watches: &mut [Watch], due: &mut Vec<u32>) -> usize
+    requires fits { All (IsWatchOf room.now.ships) watches.old }
+    requires keeps { KeepsDue watches.old due.old.items (vec_capacity due.old) }
+    requires ones { KeepsOnes watches.old ones.old }
+    ensures keeps { KeepsDue watches.new due.new.items (vec_capacity due.new) }
+    ensures drops { DropsSome watches.old watches.new }
+    ensures ones { KeepsOnes watches.new (take result ones.new) }
+    ensures shown { ShowsOnes room.now watches.new }
+{
+    let mut kept = 0;
+    for at in 0..ones.len() {
+        let place = ones[at];
+        if shows(watches[place as usize], room) {
+            ones[kept] = place;
+            kept += 1;
+        } else {
+            make_due(place, watches, due);
+        }
+    }
+    kept
+}
+
+// Puts those of the clauses among the ones to look at whose watch doesn't show that they are
+// quiet. It looks at each watch once.
+fn review(room: &Room, watches: &mut [Watch], due: &mut Vec<u32>)
     requires fits { All (IsWatchOf room.now.ships) watches.old }
     requires keeps { KeepsDue watches.old due.old.items (vec_capacity due.old) }
     ensures keeps { KeepsDue watches.new due.new.items (vec_capacity due.new) }
     ensures drops { DropsSome watches.old watches.new }
+    ensures stay { (i : ℕ) → Shows room.now (slice_index_or watches.old i Watch.Due) → slice_index_or watches.new i Watch.Due ≡ slice_index_or watches.old i Watch.Due }
     ensures shown { ShowsAll room.now watches.new }
 {
     for place in 0..watches.len() {
         if !shows(watches[place], room) {
             make_due(place as u32, watches, due);
         }
+    }
+}
+
+/// Puts those of the clauses among the ones to look at whose watch doesn't show that they are
+/// quiet. It takes no memory, and looks at the clauses with one watched literal, at others only if
+/// the room doesn't hold the one that was seen.
+pub fn recheck(
+    room: &Room,
+    seen: &Room,
+    ones: &mut Vec<u32>,
+    watches: &mut [Watch],
+    due: &mut Vec<u32>,
+)
+    requires fits { All (IsWatchOf room.now.ships) watches.old }
+    requires keeps { KeepsDue watches.old due.old.items (vec_capacity due.old) }
+    requires ones { KeepsOnes watches.old ones.old.items }
+    requires seen { KeepsSeen room.now.ships seen.now watches.old }
+    ensures keeps { KeepsDue watches.new due.new.items (vec_capacity due.new) }
+    ensures drops { DropsSome watches.old watches.new }
+    ensures ones { KeepsOnes watches.new ones.new.items }
+    ensures reserved { vec_capacity ones.new ≡ vec_capacity ones.old }
+    ensures shown { ShowsAll room.now watches.new }
+{
+    let kept = pass(room, ones, watches, due);
+    ones.truncate(kept);
+    if !is_within(seen, room) {
+        review(room, watches, due);
     }
 }

@@ -1,9 +1,8 @@
 use Rattle.std.proofs.Common.{arith, sym, length, ◌<◌, ◌≤◌, get_or, subst, ◌+◌}
 use Rattle.std.proofs.Common.{MatchBool}
-use Rattle.std.specs.Prelude.{⊤}
 use Rattle.hw_store.specs.declared.watching.Watch.TheVariants.{Due}
 use Rattle.hw_store.specs.Watches.{Shows, DropsSome}
-use Rattle.hw_store.proofs.Drops.{drops_more, shows_drop, shows_keep, shows_ends, watch_fits, ShowsUpto}
+use Rattle.hw_store.proofs.Drops.{drops_more, shows_drop, shows_keep, shows_ends, watch_fits, ShowsUpto, StayShown, stay_shown_more}
 use Rattle.hw_store.proofs.watching.review.Goals.{then-not-shows, else-not-shows}
 use Rattle.hw_store.proofs.watching.review.Goals as goal
 
@@ -15,11 +14,15 @@ loop-place-preserved c =
         w.make_due.ensures.keeps,
         subst (DropsSome c.args.watches.now) (sym w.make_due.ensures.watches) (drops_more c.args.watches.now c.loop-place.watches c.loop-place.place lt c.loop-place.invariant.1),
         subst (λ ws. ShowsUpto c.args.room.now ws (c.loop-place.place + 1)) (sym w.make_due.ensures.watches) (shows_drop c.args.room.now c.loop-place.watches c.loop-place.place lt c.loop-place.invariant.2),
+        subst (StayShown c.args.room.now c.args.watches.now) (sym w.make_due.ensures.watches)
+            (stay_shown_more c.args.room.now c.args.watches.now c.loop-place.watches c.loop-place.place
+            (subst (λ b. MatchBool b (Shows c.args.room.now (get_or c.loop-place.watches c.loop-place.place Due)) (Shows c.args.room.now (get_or c.loop-place.watches c.loop-place.place Due) → ⊥)) w.if-not-shows.true c.shows.ensures.value) c.loop-place.invariant.3),
       )
       | else-not-shows w ↦ rw (w.watches-is, w.due-is) (
         c.loop-place.invariant.0,
         c.loop-place.invariant.1,
-        shows_keep c.args.room.now c.loop-place.watches c.loop-place.place (subst (λ b. MatchBool b (Shows c.args.room.now (get_or c.loop-place.watches c.loop-place.place Due)) ⊤) w.if-not-shows.false c.shows.ensures.value) c.loop-place.invariant.2,
+        shows_keep c.args.room.now c.loop-place.watches c.loop-place.place (subst (λ b. MatchBool b (Shows c.args.room.now (get_or c.loop-place.watches c.loop-place.place Due)) (Shows c.args.room.now (get_or c.loop-place.watches c.loop-place.place Due) → ⊥)) w.if-not-shows.false c.shows.ensures.value) c.loop-place.invariant.2,
+        c.loop-place.invariant.3,
       )
     ]
 

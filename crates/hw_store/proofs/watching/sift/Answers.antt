@@ -5,11 +5,12 @@ use Rattle.hw_store.specs.Watches.{is_hit, is_on, is_among, nowhere, Forgets}
 use Rattle.hw_store.proofs.Standing.{Leaving, forgets_none, forgets_twice, leave_starts, leave_keeps, leave_passes, leave_ends}
 use Rattle.hw_store.proofs.Drops.{drops_none, watch_fits}
 use Rattle.hw_store.proofs.Sifting.{Sifting, drops_twice, sift_starts, sift_passes, sift_keeps, sift_ends}
+use Rattle.hw_store.proofs.Ones.{stay_all, stay_twice}
 use Rattle.hw_store.proofs.watching.sift.Goals.{then-stays, else-stays}
 use Rattle.hw_store.proofs.watching.sift.Goals as goal
 
 pub loop-at-init : goal.loop-at-init
-loop-at-init c = (c.requires.keeps, drops_none c.args.watches.now, sift_starts c.args.ships c.args.side c.args.cutting c.args.watches.now c.args.places.now, forgets_none c.args.stands.now, leave_starts c.args.side c.args.stands.now c.args.places.now)
+loop-at-init c = (c.requires.keeps, drops_none c.args.watches.now, sift_starts c.args.ships c.args.side c.args.cutting c.args.watches.now c.args.places.now, forgets_none c.args.stands.now, leave_starts c.args.side c.args.stands.now c.args.places.now, stay_all c.args.watches.now)
 
 pub stays-requires : goal.stays-requires
 stays-requires c =
@@ -39,6 +40,7 @@ loop-at-preserved c =
         subst (λ (st : List Sides). Leaving c.args.side st c.args.places.now (set c.loop-at.places c.loop-at.kept (get_or c.loop-at.places c.loop-at.at 0)) (c.loop-at.at + 1) (c.loop-at.kept + 1)) (sym w.stands-is)
             (subst (λ n. Leaving c.args.side c.loop-at.stands c.args.places.now (set c.loop-at.places c.loop-at.kept n) (c.loop-at.at + 1) (c.loop-at.kept + 1)) (sym same)
             (leave_keeps c.args.side c.loop-at.stands c.args.places.now c.loop-at.places c.loop-at.at c.loop-at.kept (omega (arith, lt, c.loop-at.invariant.2.few, c.loop-at.invariant.2.same_length)) c.loop-at.invariant.4)),
+        stay_twice c.args.watches.now c.loop-at.watches c.stays.new.watches c.loop-at.invariant.5 c.stays.ensures.ones,
       )
       | else-stays w ↦ rw (w.places-is, w.kept-is) (
         c.stays.ensures.keeps,
@@ -49,6 +51,7 @@ loop-at-preserved c =
         subst (λ (st : List Sides). Leaving c.args.side st c.args.places.now c.loop-at.places (c.loop-at.at + 1) c.loop-at.kept) (sym w.stands-is)
             (leave_passes c.args.side c.loop-at.stands w.leave.new.stands c.args.places.now c.loop-at.places c.loop-at.at c.loop-at.kept w.leave.ensures.forgets
             (subst (λ n. is_among (get_or w.leave.new.stands n nowhere) c.args.side ≡ false) same w.leave.ensures.gone) c.loop-at.invariant.4),
+        stay_twice c.args.watches.now c.loop-at.watches c.stays.new.watches c.loop-at.invariant.5 c.stays.ensures.ones,
       )
     ]
 
@@ -58,6 +61,7 @@ returns c =
     record {
       keeps = c.loop-at.invariant.0;
       drops = c.loop-at.invariant.1;
+      ones = c.loop-at.invariant.5;
       same = c.loop-at.invariant.2.same_length;
       sifted = sift_ends c.args.ships c.args.side c.args.cutting c.loop-at.watches c.args.places.now c.loop-at.places c.loop-at.at c.loop-at.kept c.loop-at.invariant.2 end;
       forgets = c.loop-at.invariant.3;
