@@ -2,9 +2,15 @@
 #![tactic(auto)]
 
 #[cfg(test)]
+mod found;
+#[cfg(test)]
 mod goal;
 #[cfg(test)]
+mod kinds;
+#[cfg(test)]
 mod pairs;
+#[cfg(test)]
+mod rooms;
 #[cfg(test)]
 mod shaving;
 #[cfg(test)]
