@@ -4,6 +4,8 @@
 #[cfg(test)]
 mod learning;
 #[cfg(test)]
+mod levels;
+#[cfg(test)]
 mod stores;
 #[cfg(test)]
 mod tests;

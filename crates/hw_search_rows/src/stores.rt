@@ -1,192 +1,17 @@
-//! Both stores beside each other, in rooms that are drawn.
+//! Both stores in the same rooms, which are drawn.
 
-ghost use Rattle.std.specs.Prelude.{◌≡◌, ◌<◌, ◌+◌, [], All, IfOk, OnOk};
+ghost use Rattle.std.specs.Prelude.{◌≡◌, ◌<◌, ◌+◌, [], All, IsTrue, OnOk};
 ghost use Rattle.hw_model.specs.Lits.{IsLitOf};
-ghost use Rattle.hw_store.specs.Scans.{ScanReady};
-ghost use Rattle.hw_store.specs.Watches.{WatchReady};
+ghost use Rattle.hw_model.specs.Problem.{shape_of};
+ghost use Rattle.hw_model.specs.Rooms.{whole_room};
 
-use hw_flat::{Room, Shape, make_demo};
+use hw_flat::{Flat, Room, make_demo};
 use hw_lits::{Clause, cut, truth};
 use hw_model::{Lit, LitTruth, NoMemory};
 use hw_store::{Held, ScanStore, Store, WatchStore};
 use std::alloc::Global;
+use std::process::Abort;
 use std::test::Fail;
-
-const SHAPE: Shape = Shape {
-    ships: 4,
-    slots: 6,
-    rules: 0,
-};
-
-// Both stores, and the room for which they are ready.
-#[derive(Drop)]
-struct Both {
-    scan: ScanStore,
-    watch: WatchStore,
-    room: Room,
-}
-
-// The next state of the generator.
-fn next(state: u32) -> u32
-    requires small { state < 65521 }
-    ensures small { result < 65521 }
-{
-    (state * 1103 + 12345) % 65521
-}
-
-// A literal of four ships and six slots.
-fn lit_of(state: u32) -> Lit
-    requires small { state < 65521 }
-    ensures fits { IsLitOf 4 result }
-{
-    let ship = state / 4 % 4;
-    let slot = 1 + state / 16 % 5;
-    match state % 4 {
-        0 => Lit::AtOrAfter { ship, slot },
-        1 => Lit::Before { ship, slot },
-        2 => Lit::First {
-            v: ship / 2,
-            w: 2 + slot % 2,
-        },
-        _ => Lit::NotFirst {
-            v: ship / 2,
-            w: 2 + slot % 2,
-        },
-    }
-}
-
-// Cuts the room by a literal, where it is open.
-fn cut_both(both: &mut Both, lit: Lit)
-    requires fits { IsLitOf 4 lit }
-    requires ships { both.old.room.ships ≡ 4 }
-    requires slots { both.old.room.slots ≡ 6 }
-    requires scan { ScanReady both.old.scan both.old.room }
-    requires watch { WatchReady both.old.watch both.old.room }
-    ensures ships { both.new.room.ships ≡ 4 }
-    ensures slots { both.new.room.slots ≡ 6 }
-    ensures scan { ScanReady both.new.scan both.new.room }
-    ensures watch { WatchReady both.new.watch both.new.room }
-    ensures kept { both.new.scan.held ≡ both.old.scan.held }
-    ensures same { both.new.watch.held ≡ both.old.watch.held }
-{
-    if let LitTruth::Free = truth(lit, &both.room) {
-        both.scan.changed(&both.room, lit);
-        both.watch.changed(&both.room, lit);
-        cut(lit, &mut both.room);
-    }
-}
-
-// Another room: one ship's range is narrow, everything else is open.
-fn open_both(both: &mut Both, state: u32)
-    requires small { state < 65521 }
-    requires ships { both.old.room.ships ≡ 4 }
-    requires slots { both.old.room.slots ≡ 6 }
-    requires scan { ScanReady both.old.scan both.old.room }
-    requires watch { WatchReady both.old.watch both.old.room }
-    ensures ships { both.new.room.ships ≡ 4 }
-    ensures slots { both.new.room.slots ≡ 6 }
-    ensures scan { ScanReady both.new.scan both.new.room }
-    ensures watch { WatchReady both.new.watch both.new.room }
-    ensures kept { both.new.scan.held ≡ both.old.scan.held }
-    ensures same { both.new.watch.held ≡ both.old.watch.held }
-{
-    let low = state / 8 % 6;
-    both.room.reset();
-    both.room.put(state / 2 % 4, low, low + (5 - low) / 2);
-    both.scan.undone(&both.room);
-    both.watch.undone(&both.room);
-}
-
-// One time in five another room, else a cut.
-fn play(both: &mut Both, state: u32)
-    requires small { state < 65521 }
-    requires ships { both.old.room.ships ≡ 4 }
-    requires slots { both.old.room.slots ≡ 6 }
-    requires scan { ScanReady both.old.scan both.old.room }
-    requires watch { WatchReady both.old.watch both.old.room }
-    ensures ships { both.new.room.ships ≡ 4 }
-    ensures slots { both.new.room.slots ≡ 6 }
-    ensures scan { ScanReady both.new.scan both.new.room }
-    ensures watch { WatchReady both.new.watch both.new.room }
-    ensures kept { both.new.scan.held ≡ both.old.scan.held }
-    ensures same { both.new.watch.held ≡ both.old.watch.held }
-{
-    if state % 5 == 0 {
-        open_both(both, state / 5);
-    } else {
-        cut_both(both, lit_of(state / 5));
-    }
-}
-
-// Asks both stores, and tells whether each is quiet. That they tell the truth is a clause of `step`.
-fn ask(both: &mut Both) -> Result<(bool, bool), NoMemory>
-    requires ships { both.old.room.ships ≡ 4 }
-    requires slots { both.old.room.slots ≡ 6 }
-    requires scan { ScanReady both.old.scan both.old.room }
-    requires watch { WatchReady both.old.watch both.old.room }
-    ensures ships { both.new.room.ships ≡ 4 }
-    ensures slots { both.new.room.slots ≡ 6 }
-    ensures scan { ScanReady both.new.scan both.new.room }
-    ensures watch { WatchReady both.new.watch both.new.room }
-    ensures kept { both.new.scan.held ≡ both.old.scan.held }
-    ensures same { both.new.watch.held ≡ both.old.watch.held }
-{
-    let one = both.scan.step(&both.room)?;
-    let two = both.watch.step(&both.room)?;
-    Ok((one == Held::Quiet, two == Held::Quiet))
-}
-
-// Forty rooms: the generator's next state, in how many of them both named a clause, and in how many
-// only one did.
-fn rounds(both: &mut Both, start: u32) -> Result<(u32, u32, u32), NoMemory>
-    requires small { start < 65521 }
-    requires ships { both.old.room.ships ≡ 4 }
-    requires slots { both.old.room.slots ≡ 6 }
-    requires scan { ScanReady both.old.scan both.old.room }
-    requires watch { WatchReady both.old.watch both.old.room }
-    ensures small { IfOk result (λ found. found.0 < 65521) }
-    ensures ships { both.new.room.ships ≡ 4 }
-    ensures slots { both.new.room.slots ≡ 6 }
-    ensures scan { ScanReady both.new.scan both.new.room }
-    ensures watch { WatchReady both.new.watch both.new.room }
-    ensures kept { both.new.scan.held ≡ both.old.scan.held }
-    ensures same { both.new.watch.held ≡ both.old.watch.held }
-{
-    let mut state = start;
-    let mut named: u32 = 0;
-    let mut apart: u32 = 0;
-    for _count in 0..40 {
-        state = next(state);
-        play(both, state);
-        let (one, two) = ask(both)?;
-        named = named.saturating_add(u32::from(!one && !two));
-        apart = apart.saturating_add(u32::from(one != two));
-    }
-    Ok((state, named, apart))
-}
-
-// One more clause for both.
-#[tactic(auto, using(hw_lits::proofs::Forms::clause_lits))]
-fn add_both(alloc: Global, both: &mut Both, id: u32, lits: &[Lit]) -> Result<(), Fail>
-    requires id { id < 100 }
-    requires above { All (λ one. one.number < id) both.old.scan.held }
-    requires over { All (λ one. one.number < id) both.old.watch.held }
-    requires ships { both.old.room.ships ≡ 4 }
-    requires slots { both.old.room.slots ≡ 6 }
-    requires scan { ScanReady both.old.scan both.old.room }
-    requires watch { WatchReady both.old.watch both.old.room }
-    ensures ships { both.new.room.ships ≡ 4 }
-    ensures slots { both.new.room.slots ≡ 6 }
-    ensures scan { ScanReady both.new.scan both.new.room }
-    ensures watch { WatchReady both.new.watch both.new.room }
-    ensures above { OnOk result (All (λ one. one.number < id + 1) both.new.scan.held) }
-    ensures over { OnOk result (All (λ one. one.number < id + 1) both.new.watch.held) }
-{
-    let clause = Clause::from_lits(alloc, SHAPE, lits)?;
-    both.watch.add(id, clause.copy(alloc)?, &both.room)?;
-    both.scan.add(id, clause, &both.room)?;
-    Ok(())
-}
 
 /// A clause each.
 const ROWS: [[Lit; 3]; 7] = [
@@ -227,35 +52,171 @@ const ROWS: [[Lit; 3]; 7] = [
     ],
 ];
 
-// Both stores, without clauses, and the whole room.
-fn both_new(alloc: Global) -> Result<Both, Fail>
-    ensures ships { IfOk result (λ both. both.room.ships ≡ 4) }
-    ensures slots { IfOk result (λ both. both.room.slots ≡ 6) }
-    ensures scan { IfOk result (λ both. ScanReady both.scan both.room) }
-    ensures watch { IfOk result (λ both. WatchReady both.watch both.room) }
-    ensures none { IfOk result (λ both. both.scan.held ≡ []) }
-    ensures nothing { IfOk result (λ both. both.watch.held ≡ []) }
+// The next state of the generator.
+fn next(state: u32) -> u32 {
+    state.wrapping_mul(1103).wrapping_add(12345) % 65521
+}
+
+// A literal of four ships and six slots.
+fn lit_of(state: u32) -> Lit {
+    let ship = state / 4 % 4;
+    let slot = 1 + state / 16 % 5;
+    match state % 4 {
+        0 => Lit::AtOrAfter { ship, slot },
+        1 => Lit::Before { ship, slot },
+        2 => Lit::First {
+            v: ship / 2,
+            w: 2 + slot % 2,
+        },
+        _ => Lit::NotFirst {
+            v: ship / 2,
+            w: 2 + slot % 2,
+        },
+    }
+}
+
+fn is_lit_of(ships: u32, lit: Lit) -> bool
+    ensures { IsTrue result → IsLitOf ships lit }
 {
-    let flat = make_demo(alloc, 1, 4, 6)?;
-    Ok(Both {
-        scan: ScanStore::new(alloc, &flat)?,
-        watch: WatchStore::new(alloc, &flat)?,
-        room: Room::whole(alloc, SHAPE)?,
-    })
+    match lit {
+        Lit::AtOrAfter { ship, slot } | Lit::Before { ship, slot } => ship < ships && slot >= 1,
+        Lit::First { v, w } | Lit::NotFirst { v, w } => v < w && w < ships,
+    }
+}
+
+// Cuts the room by a literal, where it is open.
+fn follow<S: Store>(store: &mut S, room: &mut Room, lit: Lit)
+    requires ships { S.ships store.old ≡ room.old.ships }
+    requires ready { S.ready store.old room.old }
+    ensures kept { S.ships store.new ≡ S.ships store.old }
+    ensures ships { S.ships store.new ≡ room.new.ships }
+    ensures ready { S.ready store.new room.new }
+    ensures same { S.clauses store.new ≡ S.clauses store.old }
+{
+    if is_lit_of(room.ships(), lit) {
+        if let LitTruth::Free = truth(lit, room) {
+            store.changed(room, lit);
+            cut(lit, room);
+        }
+    }
+}
+
+// Another room: one ship's range is narrow, everything else is open.
+fn open<S: Store>(store: &mut S, room: &mut Room, state: u32)
+    requires ships { S.ships store.old ≡ room.old.ships }
+    requires ready { S.ready store.old room.old }
+    ensures kept { S.ships store.new ≡ S.ships store.old }
+    ensures ships { S.ships store.new ≡ room.new.ships }
+    ensures ready { S.ready store.new room.new }
+    ensures same { S.clauses store.new ≡ S.clauses store.old }
+{
+    let ship = state / 2 % 4;
+    let low = state / 8 % 6;
+    let high = low + (5 - low) / 2;
+    room.reset();
+    if ship < room.ships() && high < room.slots() {
+        room.put(ship, low, high);
+    }
+    store.undone(room);
+}
+
+// One time in five another room, else a cut. Gives whether the store names a clause then: that it
+// tells the truth is a clause of `step`.
+fn names_a_clause<S: Store>(store: &mut S, room: &mut Room, state: u32) -> Result<bool, NoMemory>
+    requires ships { S.ships store.old ≡ room.old.ships }
+    requires ready { S.ready store.old room.old }
+    ensures kept { S.ships store.new ≡ S.ships store.old }
+    ensures ships { S.ships store.new ≡ room.new.ships }
+    ensures ready { S.ready store.new room.new }
+    ensures same { S.clauses store.new ≡ S.clauses store.old }
+{
+    if state % 5 == 0 {
+        open(store, room, state / 5);
+    } else {
+        follow(store, room, lit_of(state / 5));
+    }
+    Ok(store.step(room)? != Held::Quiet)
+}
+
+// Forty rooms: the generator's next state, and a bit for each room in which the store names a clause.
+fn rounds<S: Store>(store: &mut S, room: &mut Room, start: u32) -> Result<(u32, u64), NoMemory>
+    requires ships { S.ships store.old ≡ room.old.ships }
+    requires ready { S.ready store.old room.old }
+    ensures kept { S.ships store.new ≡ S.ships store.old }
+    ensures ships { S.ships store.new ≡ room.new.ships }
+    ensures ready { S.ready store.new room.new }
+    ensures same { S.clauses store.new ≡ S.clauses store.old }
+{
+    let mut state = start;
+    let mut named: u64 = 0;
+    for count in 0..40u32 {
+        state = next(state);
+        if names_a_clause(store, room, state)? {
+            named |= 1 << count;
+        }
+    }
+    Ok((state, named))
+}
+
+// One more clause.
+#[tactic(auto, using(hw_lits::proofs::Forms::clause_lits))]
+fn add<S: Store>(
+    alloc: Global,
+    flat: &Flat,
+    store: &mut S,
+    room: &Room,
+    id: u32,
+    lits: &[Lit],
+) -> Result<(), Fail>
+    requires id { id < 100 }
+    requires above { All (λ one. one.number < id) (S.clauses store.old) }
+    requires fits { S.ships store.old ≡ flat.now.ships }
+    requires ships { S.ships store.old ≡ room.now.ships }
+    requires ready { S.ready store.old room.now }
+    ensures fits { S.ships store.new ≡ flat.now.ships }
+    ensures ships { S.ships store.new ≡ room.now.ships }
+    ensures ready { S.ready store.new room.now }
+    ensures above { OnOk result (All (λ one. one.number < id + 1) (S.clauses store.new)) }
+{
+    let clause = Clause::from_lits(alloc, flat.shape(), lits)?;
+    store.add(id, clause, room)?;
+    Ok(())
+}
+
+// In which of forty rooms a store names a clause, after each clause that it was given.
+fn named_rooms<S: Store + Drop>(alloc: Global, flat: &Flat, store: S) -> Result<[u64; 7], Fail>
+    requires empty { S.clauses store ≡ [] }
+    requires ships { S.ships store ≡ flat.now.ships }
+    requires right { S.ready store (whole_room (shape_of flat.now)) }
+{
+    let mut store = store;
+    let mut room = Room::whole(alloc, flat.shape())?;
+    let mut state = 7;
+    let mut named = [0; 7];
+    for at in 0..7u32 {
+        add(alloc, flat, &mut store, &room, at + 1, &ROWS[at as usize])?;
+        let (next, bits) = rounds(&mut store, &mut room, state)?;
+        named[at as usize] = bits;
+        state = next;
+    }
+    Ok(named)
+}
+
+fn count(named: [u64; 7]) -> u32 {
+    let mut sum: u32 = 0;
+    for bits in named {
+        sum = sum.saturating_add(bits.count_ones());
+    }
+    sum
 }
 
 #[test]
 fn both_stores_agree(rt: HostRuntime) -> Result<(), Fail> {
-    let mut both = both_new(rt.alloc())?;
-    let mut state = 7;
-    let mut named: u32 = 0;
-    for (at, row) in ROWS.iter().enumerate() {
-        add_both(rt.alloc(), &mut both, at as u32 + 1, row)?;
-        let (next, more, apart) = rounds(&mut both, state)?;
-        assert!(rt; apart == 0, "both are quiet, or neither, in each room");
-        state = next;
-        named = named.saturating_add(more);
-    }
+    let flat = make_demo(rt.alloc(), 1, 4, 6)?;
+    let plain = named_rooms(rt.alloc(), &flat, ScanStore::new(rt.alloc(), &flat)?)?;
+    let watching = named_rooms(rt.alloc(), &flat, WatchStore::new(rt.alloc(), &flat)?)?;
+    assert_eq!(rt; plain, watching, "both are quiet, or neither, in each room");
+    let named = count(plain);
     assert!(rt; 50 < named && named < 250, "{named} of 280 rooms");
     Ok(())
 }

@@ -5,7 +5,7 @@ use Rattle.hw_model.specs.Lits.{IsLitOf}
 use Rattle.hw_story.specs.Trails.{trail_shape}
 use Rattle.hw_story.proofs.Denials.{clause_lits}
 use Rattle.hw_trail.proofs.Shapes.{end_shape}
-use Rattle.hw_search_rows.proofs.trails.imply.Goals as goal
+use Rattle.hw_search_rows.proofs.levels.imply.Goals as goal
 
 pub narrow-requires : goal.narrow-requires
 narrow-requires c =

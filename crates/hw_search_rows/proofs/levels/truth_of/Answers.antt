@@ -2,7 +2,7 @@ use Rattle.std.proofs.Common.{ℕ, ap, subst, sym}
 use Rattle.hw_model.specs.declared.shape.Shape.{Shape}
 use Rattle.hw_model.specs.Lits.{IsLitOf}
 use Rattle.hw_trail.proofs.Shapes.{end_shape}
-use Rattle.hw_search_rows.proofs.learning.truth_of.Goals as goal
+use Rattle.hw_search_rows.proofs.levels.truth_of.Goals as goal
 
 pub truth-requires : goal.truth-requires
 truth-requires c =
