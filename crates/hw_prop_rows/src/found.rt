@@ -4,7 +4,7 @@ ghost use Rattle.std.specs.Prelude.{◌≡◌, ◌<◌, IsTrue};
 ghost use Rattle.hw_model.specs.Lits.{IsLitOf};
 ghost use Rattle.hw_model.specs.Refuting.{IsSourceOf};
 
-use crate::rooms::{ANY, OPEN, Orders, Ranges, Rooms, fits, nth_orders, nth_ranges, room_of};
+use crate::rooms::{ANY, OPEN, Rooms, fits, nth_orders, nth_ranges, room_of};
 use hw_flat::{Flat, Room, Source};
 use hw_lits::{Found, cut, truth};
 use hw_model::{Lit, LitTruth, NoMemory};
@@ -212,7 +212,7 @@ pub fn first_apart<P: Propagator>(
 ) -> Result<Option<u32>, NoMemory>
     requires serves { P.serves propagator.old flat.now }
 {
-    for number in 0..rooms.2 {
+    for number in 0..rooms.count {
         if !agrees_in(propagator, alloc, flat, best, rooms, number)? {
             return Ok(Some(number));
         }

@@ -6,7 +6,7 @@ ghost use Rattle.hw_model.specs.Narrowing.{truth};
 
 use crate::found::is_lit_of;
 use crate::kinds::{Asked, Kind, Row, Sweep, agree, hold};
-use crate::rooms::{ANY, OPEN, WHOLE, fits};
+use crate::rooms::{ANY, OPEN, Rooms, WHOLE, fits};
 use hw_flat::{Flat, Room, Source};
 use hw_goal::GoalBound;
 use hw_lits::truth;
@@ -112,17 +112,24 @@ const ROWS: [Row; 10] = [
     ),
 ];
 
+/// Each two ranges of three slots.
+const TWO_RANGES: Rooms = Rooms {
+    ranges: 6,
+    third: false,
+    count: 36,
+};
+
 const SWEEPS: [Sweep; 10] = [
-    ("no best", GOODS, GOAL, None, (6, false, 36)),
-    ("0", GOODS, GOAL, Some(0), (6, false, 36)),
-    ("20", GOODS, GOAL, Some(20), (6, false, 36)),
-    ("45", GOODS, GOAL, Some(45), (6, false, 36)),
-    ("no best, staying", STAYING, GOAL, None, (6, false, 36)),
-    ("0, staying", STAYING, GOAL, Some(0), (6, false, 36)),
-    ("30, staying", STAYING, GOAL, Some(30), (6, false, 36)),
-    ("0, holes", HOLES, GOAL, Some(0), (6, false, 36)),
-    ("7, holes", HOLES, GOAL, Some(7), (6, false, 36)),
-    ("12, holes", HOLES, GOAL, Some(12), (6, false, 36)),
+    ("no best", GOODS, GOAL, None, TWO_RANGES),
+    ("0", GOODS, GOAL, Some(0), TWO_RANGES),
+    ("20", GOODS, GOAL, Some(20), TWO_RANGES),
+    ("45", GOODS, GOAL, Some(45), TWO_RANGES),
+    ("no best, staying", STAYING, GOAL, None, TWO_RANGES),
+    ("0, staying", STAYING, GOAL, Some(0), TWO_RANGES),
+    ("30, staying", STAYING, GOAL, Some(30), TWO_RANGES),
+    ("0, holes", HOLES, GOAL, Some(0), TWO_RANGES),
+    ("7, holes", HOLES, GOAL, Some(7), TWO_RANGES),
+    ("12, holes", HOLES, GOAL, Some(12), TWO_RANGES),
 ];
 
 #[test]

@@ -4,7 +4,7 @@ ghost use Rattle.std.specs.Prelude.{◌≡◌, ◌<◌};
 
 use crate::found::{follow, found};
 use crate::kinds::{Asked, Kind, Row, Sweep, agree, hold, is_pair};
-use crate::rooms::{ANY, OPEN, WHOLE, room_of};
+use crate::rooms::{ANY, OPEN, Rooms, WHOLE, room_of};
 use hw_flat::Order::{First, NotFirst, Unset};
 use hw_flat::{Flat, Order, Room, Slot, Source};
 use hw_lits::Found;
@@ -141,28 +141,30 @@ const ROWS: [Row; 11] = [
     ),
 ];
 
+/// Each two ranges of three slots, with each order of the first two ships.
+const ONE_ORDER: Rooms = Rooms {
+    ranges: 6,
+    third: false,
+    count: 108,
+};
+
+/// The same, with each order of each two ships.
+const THREE_ORDERS: Rooms = Rooms {
+    ranges: 6,
+    third: false,
+    count: 972,
+};
+
 const SWEEPS: [Sweep; 9] = [
-    ("holes", SAILING, HOLES, None, (6, false, 108)),
-    ("a hole", SAILING, HOLE, None, (6, false, 108)),
-    (
-        "greater later",
-        SAILING,
-        GREATER_LATER,
-        None,
-        (6, false, 108),
-    ),
-    ("lesser later", SAILING, LESSER_LATER, None, (6, false, 108)),
-    ("holes, staying", STAYING, HOLES, None, (6, false, 108)),
-    ("a hole, staying", STAYING, HOLE, None, (6, false, 108)),
-    (
-        "greater, stay",
-        STAYING,
-        GREATER_LATER,
-        None,
-        (6, false, 108),
-    ),
-    ("lesser, stay", STAYING, LESSER_LATER, None, (6, false, 108)),
-    ("orders", THREE_SHIPS, ORDERS, None, (6, false, 972)),
+    ("holes", SAILING, HOLES, None, ONE_ORDER),
+    ("a hole", SAILING, HOLE, None, ONE_ORDER),
+    ("greater later", SAILING, GREATER_LATER, None, ONE_ORDER),
+    ("lesser later", SAILING, LESSER_LATER, None, ONE_ORDER),
+    ("holes, staying", STAYING, HOLES, None, ONE_ORDER),
+    ("a hole, staying", STAYING, HOLE, None, ONE_ORDER),
+    ("greater, stay", STAYING, GREATER_LATER, None, ONE_ORDER),
+    ("lesser, stay", STAYING, LESSER_LATER, None, ONE_ORDER),
+    ("orders", THREE_SHIPS, ORDERS, None, THREE_ORDERS),
 ];
 
 #[test]

@@ -43,7 +43,12 @@ const EACH_ORDER: [Order; 3] = [Unset, First, NotFirst];
 
 /// Rooms by number: how many of the ranges a ship takes, whether a third ship takes them too or the
 /// orders change in its place, and how many rooms there are.
-pub type Rooms = (u32, bool, u32);
+#[derive(Clone, Copy)]
+pub struct Rooms {
+    pub ranges: u32,
+    pub third: bool,
+    pub count: u32,
+}
 
 /// Whether the room is one of the problem.
 pub fn fits(flat: &Flat, room: &Room) -> bool
@@ -94,8 +99,8 @@ fn nth_order(number: u32) -> Order {
 
 /// The ranges of a number.
 pub fn nth_ranges(rooms: Rooms, number: u32) -> Ranges {
-    let ranges = rooms.0.max(1);
-    let third = if rooms.1 {
+    let ranges = rooms.ranges.max(1);
+    let third = if rooms.third {
         nth_range(number / ranges / ranges % ranges)
     } else {
         ANY
@@ -109,10 +114,10 @@ pub fn nth_ranges(rooms: Rooms, number: u32) -> Ranges {
 
 /// The orders of a number.
 pub fn nth_orders(rooms: Rooms, number: u32) -> Orders {
-    if rooms.1 {
+    if rooms.third {
         return OPEN;
     }
-    let ranges = rooms.0.max(1);
+    let ranges = rooms.ranges.max(1);
     let rest = number / ranges / ranges;
     [nth_order(rest), nth_order(rest / 3), nth_order(rest / 9)]
 }

@@ -45,7 +45,7 @@ const ORDER: Asked = (Kind::Plain, Source::Order { v: 0, w: 1, x: 2 });
 
 const GOAL: Asked = (Kind::Plain, Source::Goal);
 
-const ROWS: [Row; 26] = [
+const ROWS: [Row; 11] = [
     (
         "no value before 2",
         VALUES,
@@ -145,6 +145,9 @@ const ROWS: [Row; 26] = [
         [First, Unset, Unset],
         None,
     ),
+];
+
+const STAYING_ROWS: [Row; 9] = [
     (
         "no value but staying",
         STAYING_VALUES,
@@ -226,6 +229,9 @@ const ROWS: [Row; 26] = [
         [NotFirst, First, Unset],
         Some(&[('f', 0, 1), ('n', 0, 2), ('f', 1, 2)]),
     ),
+];
+
+const GOAL_ROWS: [Row; 6] = [
     (
         "10 and 30",
         GOODS,
@@ -277,6 +283,16 @@ const ROWS: [Row; 26] = [
 #[test]
 fn first_steps(rt: HostRuntime) -> Result<(), Fail> {
     hold(&rt, rt.alloc(), &ROWS)
+}
+
+#[test]
+fn first_steps_with_staying(rt: HostRuntime) -> Result<(), Fail> {
+    hold(&rt, rt.alloc(), &STAYING_ROWS)
+}
+
+#[test]
+fn first_steps_of_the_goal(rt: HostRuntime) -> Result<(), Fail> {
+    hold(&rt, rt.alloc(), &GOAL_ROWS)
 }
 
 /// What a propagator finds in a room, in that room cut by a literal, and in another room.

@@ -4,7 +4,7 @@ ghost use Rattle.std.specs.Prelude.{◌≡◌};
 
 use crate::found::is_lit_of;
 use crate::kinds::{Asked, Kind, Row, Sweep, agree, hold, is_tugs};
-use crate::rooms::{ANY, OPEN};
+use crate::rooms::{ANY, OPEN, Rooms};
 use hw_flat::{Flat, Room, Source};
 use hw_lits::{cut, truth};
 use hw_model::{Lit, LitTruth, NoMemory};
@@ -94,10 +94,24 @@ const ROWS: [Row; 7] = [
     ),
 ];
 
+/// Each two ranges of four slots.
+const TWO_RANGES: Rooms = Rooms {
+    ranges: 10,
+    third: false,
+    count: 100,
+};
+
+/// Each three ranges of three slots.
+const THREE_RANGES: Rooms = Rooms {
+    ranges: 6,
+    third: true,
+    count: 216,
+};
+
 const SWEEPS: [Sweep; 3] = [
-    ("two ships", TWO_SHIPS, TUGS, None, (10, false, 100)),
-    ("three ships", THREE_SHIPS, TUGS, None, (6, true, 216)),
-    ("ships that may stay", STAYING, TUGS, None, (10, false, 100)),
+    ("two ships", TWO_SHIPS, TUGS, None, TWO_RANGES),
+    ("three ships", THREE_SHIPS, TUGS, None, THREE_RANGES),
+    ("ships that may stay", STAYING, TUGS, None, TWO_RANGES),
 ];
 
 #[test]
