@@ -1,5 +1,7 @@
 //! Reading an instance.
 
+ghost use Rattle.std.specs.Prelude.{◌≡◌};
+ghost use Rattle.serde_json.specs.Errors.{IsMemory};
 ghost use Rattle.serde_json.specs.View.{view};
 ghost use Rattle.hw_read.specs.Instance.{Gives, instance_of, Reads};
 
@@ -7,7 +9,7 @@ use crate::building::build_parts;
 use crate::fault::ReadFault;
 use crate::walking::test_form;
 use hw_port::Port;
-use serde_json::Value;
+use serde_json::{Error, Value};
 use std::alloc::Global;
 
 /// The port that a value stands for.
@@ -30,10 +32,18 @@ pub fn read_port(alloc: Global, bytes: &[u8]) -> Result<Port, ReadFault>
 {
     match Value::from_slice(alloc, bytes) {
         Ok(value) => port_of_value(alloc, &value),
-        Err(e) => if e.is_memory() {
-            Err(ReadFault::NoMemory)
-        } else {
-            Err(ReadFault::NotJson)
-        },
+        Err(error) => Err(no_value(&error)),
+    }
+}
+
+/// Why the JSON reader gave no value. It takes no memory.
+fn no_value(error: &Error) -> ReadFault
+    ensures memory { IsMemory error.now → result ≡ ReadFault.NoMemory }
+    ensures text { ¬ IsMemory error.now → result ≡ ReadFault.NotJson }
+{
+    if error.is_memory() {
+        ReadFault::NoMemory
+    } else {
+        ReadFault::NotJson
     }
 }
