@@ -1,6 +1,6 @@
 //! The records of a text.
 
-ghost use Rattle.std.specs.Prelude.{◌≡◌, true, map, IfOk};
+ghost use Rattle.std.specs.Prelude.{◌≡◌, true, map, IfErr, IfOk};
 ghost use Rattle.csv.specs.Reading.{AreRecords, default_config, strip_bom, error_kind, stops_reader};
 ghost use Rattle.csv.specs.Records.{fields_of};
 ghost use Rattle.csv.specs.declared.parser.State.TheVariants as st;
@@ -20,9 +20,10 @@ fn stopped(error: &Error) -> TideFault
     TideFault::NoMemory
 }
 
-/// Every record of a text, however many fields each has.
+/// Every record of a text, however many fields each has. There are none for want of memory alone.
 pub fn all_records(alloc: Global, text: &[u8]) -> Result<Vec<ByteRecord>, TideFault>
-    ensures { IfOk result (λ v. AreRecords default_config st.StartRecord (strip_bom text.now) (map fields_of v.items)) }
+    ensures records { IfOk result (λ v. AreRecords default_config st.StartRecord (strip_bom text.now) (map fields_of v.items)) }
+    ensures memory { IfErr result (λ fault. fault ≡ NoMemory) }
 {
     let rdr = ReaderBuilder::new()
         .has_headers(false)
