@@ -1,11 +1,11 @@
 -- What a store that watches literals keeps.
-use Rattle.std.proofs.Common.{◌≡◌, ◌≢◌, ◌⊎◌, ℕ, zero, suc, ◌+◌, ◌-◌, ◌*◌, ◌^◌, ◌<◌, ◌≤◌, ◌||◌, ◌==◌, Bool, true, false, List, [], ◌∷◌, ◌++◌, length, take, get_or, set, refl, sym, ap, ◌∙◌, subst, arith, All, Contains, inl, inr, length-append, length-set, get_or-set_same, get_or-set_other}
+use Rattle.std.proofs.Common.{◌≡◌, ◌≢◌, ◌⊎◌, ℕ, zero, suc, ◌+◌, ◌-◌, ◌^◌, ◌<◌, ◌≤◌, ◌||◌, ◌==◌, Bool, true, false, List, [], ◌∷◌, ◌++◌, length, take, get_or, set, refl, sym, ap, ◌∙◌, subst, arith, All, Contains, inl, inr, length-append, length-set, get_or-set_same, get_or-set_other}
 use Rattle.std.proofs.lemmas.List.{get_or_default, get_or_append_left, get_or_push}
 use Rattle.std.proofs.lemmas.List.Elements.{All-contains, All-set, All-push, All-weaker, Contains-append_left, Contains-append_right, Contains-push}
 use Rattle.std.proofs.lemmas.Bool.{cases_eq, eq-eqb, or_right}
 use Rattle.hw_model.specs.declared.lit.Lit.{Lit}
-use Rattle.hw_model.specs.declared.lit.LitTruth.TheVariants.{Free}
-use Rattle.hw_model.specs.Lits.{negation, IsLitOf}
+use Rattle.hw_model.specs.declared.lit.LitTruth.TheVariants.{False, Free}
+use Rattle.hw_model.specs.Lits.{IsLitOf}
 use Rattle.hw_model.specs.Rooms.{RoomModel, IsRoom}
 use Rattle.hw_model.specs.Narrowing.{truth, cut}
 use Rattle.hw_model.specs.Replay.{QuietClause}
@@ -14,10 +14,10 @@ use Rattle.hw_store.specs.declared.watching.Watch.{Watch}
 use Rattle.hw_store.specs.declared.watching.Watch.TheVariants.{Due, One, Two}
 use Rattle.hw_store.specs.Looks.{StandsBefore}
 use Rattle.hw_store.specs.Stores.{Ascends}
-use Rattle.hw_store.specs.Watches.{WatchModel, side, hits, is_hit, count_due, IsWatchOf, Watches, Listed, Shows, ShowsAll, KeepsDue, DropsSome, Grows, SiftsOne, is_on, KeepsWatches, WatchReady}
+use Rattle.hw_store.specs.Watches.{WatchModel, side, hits, is_hit, count_due, IsWatchOf, Watches, Listed, Shows, ShowsAll, KeepsDue, DropsSome, Grows, SiftsRun, HitsWithin, side_count, is_on, KeepsWatches, WatchReady}
 use Rattle.hw_store.proofs.Views.{sure_quiet, two_quiet}
 use Rattle.hw_store.proofs.Drops.{dropped}
-use Rattle.hw_store.proofs.Sides.{hits_side, cut_sure, cut_open}
+use Rattle.hw_store.proofs.Cuts.{cut_sure, cut_open}
 use Rattle.hw_store.proofs.Holding.{keeps_more, keeps_none}
 
 -- ---- the watched literals are of the problem's ships
@@ -57,31 +57,33 @@ all_quiet s cap room k r none i d lt =
 
 -- ---- a cut
 
-missed : (ships : ℕ) (lists : List (List ℕ)) (i : ℕ) (lit m : Lit) (b : Bool) → Contains (get_or lists (side ships m) []) i → (Contains (get_or lists (side ships (negation lit)) []) i → hits lit m ≡ false) → hits lit m ≡ b → hits lit m ≡ false
-missed ships lists i lit m false c f e = e
-missed ships lists i lit m true c f e = f (subst (λ n. Contains (get_or lists n []) i) (hits_side ships lit m e) c)
+missed : (ships slots : ℕ) (lists : List (List ℕ)) (room : RoomModel) (run : ℕ × ℕ) (i : ℕ) (lit m : Lit) (b : Bool) → HitsWithin ships slots room lit run → truth room m ≢ False → Contains (get_or lists (side ships slots m) []) i → ((n : ℕ) → run.0 ≤ n → n < run.1 → Contains (get_or lists n []) i → hits lit m ≡ false) → hits lit m ≡ b → hits lit m ≡ false
+missed ships slots lists room run i lit m false within still c f e = e
+missed ships slots lists room run i lit m true within still c f e =
+    let at = within m e still in
+    f (side ships slots m) at.0 at.1 c
 
 neither : (a b : Bool) → (a || b) ≡ false → (a ≡ false) × (b ≡ false)
 neither false false e = (refl, refl)
 neither false true e = absurd cc
 neither true b e = absurd cc
 
-cut_shows : (ships : ℕ) (lists : List (List ℕ)) (room : RoomModel) (lit : Lit) (i : ℕ) (w : Watch) → IsRoom room → room.ships ≡ ships → IsLitOf ships lit → truth room lit ≡ Free → IsWatchOf ships w → Listed ships lists i w → (Contains (get_or lists (side ships (negation lit)) []) i → is_hit lit w ≡ false) → Shows room w → Shows (cut lit room) w
-cut_shows ships lists room lit i Due is e of free fits listed f h = tt
-cut_shows ships lists room lit i (One m) is e of free fits listed f h = cut_sure room lit m is (subst (λ n. IsLitOf n lit) (sym e) of) (subst (λ n. IsLitOf n m) (sym e) fits) free h
-cut_shows ships lists room lit i (Two a b) is e of free fits listed f h =
+cut_shows : (ships slots : ℕ) (lists : List (List ℕ)) (room : RoomModel) (run : ℕ × ℕ) (lit : Lit) (i : ℕ) (w : Watch) → IsRoom room → room.ships ≡ ships → IsLitOf ships lit → truth room lit ≡ Free → IsWatchOf ships w → HitsWithin ships slots room lit run → Listed ships slots lists i w → ((n : ℕ) → run.0 ≤ n → n < run.1 → Contains (get_or lists n []) i → is_hit lit w ≡ false) → Shows room w → Shows (cut lit room) w
+cut_shows ships slots lists room run lit i Due is e of free fits within listed f h = tt
+cut_shows ships slots lists room run lit i (One m) is e of free fits within listed f h = cut_sure room lit m is (subst (λ n. IsLitOf n lit) (sym e) of) (subst (λ n. IsLitOf n m) (sym e) fits) free h
+cut_shows ships slots lists room run lit i (Two a b) is e of free fits within listed f h =
     let of' : IsLitOf room.ships lit = subst (λ n. IsLitOf n lit) (sym e) of in
-    let one : hits lit a ≡ false = missed ships lists i lit a (hits lit a) listed.0 (λ c. (neither (hits lit a) (hits lit b) (f c)).0) refl in
-    let two : hits lit b ≡ false = missed ships lists i lit b (hits lit b) listed.1 (λ c. (neither (hits lit a) (hits lit b) (f c)).1) refl in
+    let one : hits lit a ≡ false = missed ships slots lists room run i lit a (hits lit a) within h.0 listed.0 (λ n x y c. (neither (hits lit a) (hits lit b) (f n x y c)).0) refl in
+    let two : hits lit b ≡ false = missed ships slots lists room run i lit b (hits lit b) within h.1 listed.1 (λ n x y c. (neither (hits lit a) (hits lit b) (f n x y c)).1) refl in
     (cut_open room lit a is of' (subst (λ n. IsLitOf n a) (sym e) fits.0) free one h.0, cut_open room lit b is of' (subst (λ n. IsLitOf n b) (sym e) fits.1) free two h.1)
 
-pub marked_shows : (s : WatchModel) (cap : ℕ) (room : RoomModel) (lit : Lit) (ws : List Watch) → KeepsWatches s cap → WatchReady s room → IsRoom room → IsLitOf s.ships lit → truth room lit ≡ Free → DropsSome s.watches ws → ((p : ℕ) → Contains (get_or s.lists (side s.ships (negation lit)) []) p → is_hit lit (get_or ws p Due) ≡ false) → ShowsAll (cut lit room) ws
-marked_shows s cap room lit ws k r is of free d marked i e lt = subst (Shows (cut lit room)) (get_or_default ws i Due e lt) (elim (d.each i) [
+pub marked_shows : (s : WatchModel) (cap : ℕ) (room : RoomModel) (run : ℕ × ℕ) (lit : Lit) (ws : List Watch) → KeepsWatches s cap → WatchReady s room → IsRoom room → IsLitOf s.ships lit → truth room lit ≡ Free → DropsSome s.watches ws → HitsWithin s.ships s.slots room lit run → ((n p : ℕ) → run.0 ≤ n → n < run.1 → Contains (get_or s.lists n []) p → is_hit lit (get_or ws p Due) ≡ false) → ShowsAll (cut lit room) ws
+marked_shows s cap room run lit ws k r is of free d within marked i e lt = subst (Shows (cut lit room)) (get_or_default ws i Due e lt) (elim (d.each i) [
   | inr due ↦ subst (Shows (cut lit room)) (sym due) tt
   | inl same ↦ (
       let inside : i < length s.watches = omega (arith, lt, d.same_length) in
-      subst (Shows (cut lit room)) (sym same) (cut_shows s.ships s.lists room lit i (get_or s.watches i Due) is r.0 of free (watch_at s cap i k inside) (k.listed i inside)
-      (λ c. subst (λ w. is_hit lit w ≡ false) same (marked i c)) (r.1 i Due inside)))
+      subst (Shows (cut lit room)) (sym same) (cut_shows s.ships s.slots s.lists room run lit i (get_or s.watches i Due) is r.0 of free (watch_at s cap i k inside) within (k.listed i inside)
+      (λ n x y c. subst (λ w. is_hit lit w ≡ false) same (marked n i x y c)) (r.1 i Due inside)))
 ])
 
 -- ---- changes of what is kept
@@ -90,11 +92,13 @@ pub keeps_drops : (s : WatchModel) (cap cap' : ℕ) (ws : List Watch) (due : Lis
 keeps_drops s cap cap' ws due k d q = record {
   clauses = k.clauses;
   few_ships = k.few_ships;
+  some_slots = k.some_slots;
+  few_slots = k.few_slots;
   each_clause = d.same_length ∙ k.each_clause;
   each_side = k.each_side;
   among = λ side place h. subst (λ n. place < n) (sym d.same_length) (k.among side place h);
   watched = λ i e lt. dropped (Watches (get_or s.held i e).clause) s.watches ws i d tt (k.watched i e lt);
-  listed = λ i lt. dropped (Listed s.ships s.lists i) s.watches ws i d tt (k.listed i (subst (λ n. i < n) d.same_length lt));
+  listed = λ i lt. dropped (Listed s.ships s.slots s.lists i) s.watches ws i d tt (k.listed i (subst (λ n. i < n) d.same_length lt));
   due = q;
 }
 
@@ -102,6 +106,8 @@ pub keeps_seen : (s : WatchModel) (cap : ℕ) (seen : RoomModel) → KeepsWatche
 keeps_seen s cap seen k = record {
   clauses = k.clauses;
   few_ships = k.few_ships;
+  some_slots = k.some_slots;
+  few_slots = k.few_slots;
   each_clause = k.each_clause;
   each_side = k.each_side;
   among = k.among;
@@ -110,57 +116,49 @@ keeps_seen s cap seen k = record {
   due = k.due;
 }
 
--- a place stays in the list of a literal that its clause watches
-listed_on : (ships place i : ℕ) (cutting m : Lit) (ws : List Watch) (old new : List (List ℕ)) → SiftsOne ships place cutting ws old new → (side ships m ≡ place → is_on ships place (get_or ws i Due) ≡ true) → Contains (get_or old (side ships m) []) i → Contains (get_or new (side ships m) []) i
-listed_on ships place i cutting m ws old new f on h = elim (cases_eq (side ships m) place) [
-  | inl e ↦ subst (λ n. Contains (get_or new n []) i) (sym e) (f.one.stays i (subst (λ n. Contains (get_or old n []) i) e h) (on e))
-  | inr n ↦ subst (λ l. Contains l i) (sym (f.others (side ships m) n)) h
-]
+on_first : (ships slots : ℕ) (a b : Lit) → is_on ships slots (side ships slots a) (Two a b) ≡ true
+on_first ships slots a b = ap (λ x. x || side ships slots b == side ships slots a) (eq-eqb (side ships slots a) (side ships slots a) refl)
 
-on_first : (ships place : ℕ) (a b : Lit) → side ships a ≡ place → is_on ships place (Two a b) ≡ true
-on_first ships place a b e = ap (λ x. x || side ships b == place) (eq-eqb (side ships a) place e)
+on_second : (ships slots : ℕ) (a b : Lit) → is_on ships slots (side ships slots b) (Two a b) ≡ true
+on_second ships slots a b = or_right (side ships slots a == side ships slots b) (side ships slots b == side ships slots b) (eq-eqb (side ships slots b) (side ships slots b) refl)
 
-on_second : (ships place : ℕ) (a b : Lit) → side ships b ≡ place → is_on ships place (Two a b) ≡ true
-on_second ships place a b e = or_right (side ships a == place) (side ships b == place) (eq-eqb (side ships b) place e)
-
-listed_sifts : (ships place i : ℕ) (cutting : Lit) (ws : List Watch) (old new : List (List ℕ)) (w : Watch) → SiftsOne ships place cutting ws old new → get_or ws i Due ≡ w → Listed ships old i w → Listed ships new i w
-listed_sifts ships place i cutting ws old new Due f at h = tt
-listed_sifts ships place i cutting ws old new (One lit) f at h = tt
-listed_sifts ships place i cutting ws old new (Two a b) f at h = (
-  listed_on ships place i cutting a ws old new f (λ e. ap (is_on ships place) at ∙ on_first ships place a b e) h.0,
-  listed_on ships place i cutting b ws old new f (λ e. ap (is_on ships place) at ∙ on_second ships place a b e) h.1,
+-- a place stays in the lists of the literals that its clause watches
+listed_sifts : (ships slots first end i : ℕ) (cutting : Lit) (ws : List Watch) (old new : List (List ℕ)) (w : Watch) → SiftsRun ships slots first end cutting ws old new → get_or ws i Due ≡ w → Listed ships slots old i w → Listed ships slots new i w
+listed_sifts ships slots first end i cutting ws old new Due f at h = tt
+listed_sifts ships slots first end i cutting ws old new (One lit) f at h = tt
+listed_sifts ships slots first end i cutting ws old new (Two a b) f at h = (
+  f.stays (side ships slots a) i h.0 (ap (is_on ships slots (side ships slots a)) at ∙ on_first ships slots a b),
+  f.stays (side ships slots b) i h.1 (ap (is_on ships slots (side ships slots b)) at ∙ on_second ships slots a b),
 )
 
-among_sifts : (s : WatchModel) (cap place : ℕ) (cutting : Lit) (ws : List Watch) (lists : List (List ℕ)) → KeepsWatches s cap → SiftsOne s.ships place cutting ws s.lists lists → (n p : ℕ) → Contains (get_or lists n []) p → p < length s.watches
-among_sifts s cap place cutting ws lists k f n p h = elim (cases_eq n place) [
-  | inl e ↦ k.among place p (f.one.only p (subst (λ m. Contains (get_or lists m []) p) e h))
-  | inr ne ↦ k.among n p (subst (λ l. Contains l p) (f.others n ne) h)
-]
-
--- one list was gone through after a cut
-pub keeps_sifts : (s : WatchModel) (cap cap' place : ℕ) (cutting : Lit) (ws : List Watch) (due : List ℕ) (lists : List (List ℕ)) → KeepsWatches s cap → DropsSome s.watches ws → KeepsDue ws due cap' → SiftsOne s.ships place cutting ws s.lists lists → KeepsWatches (record s { watches = ws; due = due; lists = lists }) cap'
-keeps_sifts s cap cap' place cutting ws due lists k d q f =
+-- lists were gone through after a cut
+pub keeps_sifts : (s : WatchModel) (cap cap' first end : ℕ) (cutting : Lit) (ws : List Watch) (due : List ℕ) (lists : List (List ℕ)) → KeepsWatches s cap → DropsSome s.watches ws → KeepsDue ws due cap' → SiftsRun s.ships s.slots first end cutting ws s.lists lists → KeepsWatches (record s { watches = ws; due = due; lists = lists }) cap'
+keeps_sifts s cap cap' first end cutting ws due lists k d q f =
     let m = keeps_drops s cap cap' ws due k d q in
     record {
       clauses = m.clauses;
       few_ships = m.few_ships;
+      some_slots = m.some_slots;
+      few_slots = m.few_slots;
       each_clause = m.each_clause;
       each_side = f.same_length ∙ k.each_side;
-      among = λ n p h. subst (λ x. p < x) (sym d.same_length) (among_sifts s cap place cutting ws lists k f n p h);
+      among = λ n p h. subst (λ x. p < x) (sym d.same_length) (k.among n p (f.only n p h));
       watched = m.watched;
-      listed = λ i lt. listed_sifts s.ships place i cutting ws s.lists lists (get_or ws i Due) f refl (m.listed i lt);
+      listed = λ i lt. listed_sifts s.ships s.slots first end i cutting ws s.lists lists (get_or ws i Due) f refl (m.listed i lt);
       due = q;
     }
 
-listed_more : (ships place i : ℕ) (old new : List (List ℕ)) (w : Watch) → Grows place old new → Listed ships old i w → Listed ships new i w
-listed_more ships place i old new Due g h = tt
-listed_more ships place i old new (One lit) g h = tt
-listed_more ships place i old new (Two a b) g h = (g.kept (side ships a) i h.0, g.kept (side ships b) i h.1)
+listed_more : (ships slots place i : ℕ) (old new : List (List ℕ)) (w : Watch) → Grows place old new → Listed ships slots old i w → Listed ships slots new i w
+listed_more ships slots place i old new Due g h = tt
+listed_more ships slots place i old new (One lit) g h = tt
+listed_more ships slots place i old new (Two a b) g h = (g.kept (side ships slots a) i h.0, g.kept (side ships slots b) i h.1)
 
 pub keeps_lists : (s : WatchModel) (cap place : ℕ) (lists : List (List ℕ)) → KeepsWatches s cap → Grows place s.lists lists → place < length s.watches → KeepsWatches (record s { lists = lists }) cap
 keeps_lists s cap place lists k g lt = record {
   clauses = k.clauses;
   few_ships = k.few_ships;
+  some_slots = k.some_slots;
+  few_slots = k.few_slots;
   each_clause = k.each_clause;
   each_side = g.same_length ∙ k.each_side;
   among = λ side p h. elim (g.only side p h) [
@@ -168,16 +166,18 @@ keeps_lists s cap place lists k g lt = record {
     | inr e ↦ subst (λ n. n < length s.watches) (sym e) lt
   ];
   watched = k.watched;
-  listed = λ i inside. listed_more s.ships place i s.lists lists (get_or s.watches i Due) g (k.listed i inside);
+  listed = λ i inside. listed_more s.ships s.slots place i s.lists lists (get_or s.watches i Due) g (k.listed i inside);
   due = k.due;
 }
 
-pub keeps_resolve : (s : WatchModel) (cap cap' place : ℕ) (watch : Watch) (due : List ℕ) (d : Stored) → KeepsWatches s cap → place < length s.watches → Watches (get_or s.held place d).clause watch → Listed s.ships s.lists place watch → KeepsDue (set s.watches place watch) due cap' → KeepsWatches (record s { watches = set s.watches place watch; due = due }) cap'
+pub keeps_resolve : (s : WatchModel) (cap cap' place : ℕ) (watch : Watch) (due : List ℕ) (d : Stored) → KeepsWatches s cap → place < length s.watches → Watches (get_or s.held place d).clause watch → Listed s.ships s.slots s.lists place watch → KeepsDue (set s.watches place watch) due cap' → KeepsWatches (record s { watches = set s.watches place watch; due = due }) cap'
 keeps_resolve s cap cap' place watch due d k lt stands listed q =
     let long = length-set s.watches place watch in
     record {
       clauses = k.clauses;
       few_ships = k.few_ships;
+      some_slots = k.some_slots;
+      few_slots = k.few_slots;
       each_clause = long ∙ k.each_clause;
       each_side = k.each_side;
       among = λ side p h. subst (λ n. p < n) (sym long) (k.among side p h);
@@ -187,8 +187,8 @@ keeps_resolve s cap cap' place watch due d k lt stands listed q =
         | inr n ↦ subst (λ w. Watches (get_or s.held i e).clause w) (sym (get_or-set_other s.watches place i watch Due n)) (k.watched i e inside)
       ];
       listed = λ i inside. elim (cases_eq i place) [
-        | inl q ↦ subst (Listed s.ships s.lists i) (sym (ap (λ n. get_or (set s.watches place watch) n Due) q ∙ get_or-set_same s.watches place watch Due lt)) (subst (λ n. Listed s.ships s.lists n watch) (sym q) listed)
-        | inr n ↦ subst (Listed s.ships s.lists i) (sym (get_or-set_other s.watches place i watch Due n)) (k.listed i (omega (arith, inside, long)))
+        | inl q ↦ subst (Listed s.ships s.slots s.lists i) (sym (ap (λ n. get_or (set s.watches place watch) n Due) q ∙ get_or-set_same s.watches place watch Due lt)) (subst (λ n. Listed s.ships s.slots s.lists n watch) (sym q) listed)
+        | inr n ↦ subst (Listed s.ships s.slots s.lists i) (sym (get_or-set_other s.watches place i watch Due n)) (k.listed i (omega (arith, inside, long)))
       ];
       due = q;
     }
@@ -258,12 +258,14 @@ keeps_add s cap cap' place one k above fits small room at =
     record {
       clauses = keeps_more s.ships s.held one k.clauses above fits;
       few_ships = k.few_ships;
+      some_slots = k.some_slots;
+      few_slots = k.few_slots;
       each_clause = omega (arith, long, longer, k.each_clause);
       each_side = k.each_side;
       among = λ side p h. omega (arith, long, k.among side p h);
       watched = λ i d lt. at_push (Watches (get_or (s.held ++ one ∷ []) i d).clause) s.watches i
           (λ inside. subst (λ (x : Stored). Watches x.clause (get_or s.watches i Due)) (sym (get_or_append_left s.held (one ∷ []) d i (omega (arith, inside, k.each_clause)))) (k.watched i d (omega (arith, inside, k.each_clause)))) tt (omega (arith, lt, long, longer, k.each_clause));
-      listed = λ i lt. at_push (Listed s.ships s.lists i) s.watches i (λ inside. k.listed i inside) tt lt;
+      listed = λ i lt. at_push (Listed s.ships s.slots s.lists i) s.watches i (λ inside. k.listed i inside) tt lt;
       due = subst (λ n. KeepsDue (s.watches ++ Due ∷ []) (s.due ++ n ∷ []) cap') (k.each_clause ∙ sym at) (due_push s.watches s.due cap cap' k.due (omega (arith, room, k.each_clause)) (omega (arith, few, small, k.each_clause)));
     }
 
@@ -291,10 +293,12 @@ none_listed lists h side p c = by (order_of_side side (length lists))
     by (inl lt) = empty (h side [] lt)
     by (inr le) = empty (past lists side le)
 
-pub keeps_new : (ships cap : ℕ) (lists : List (List ℕ)) (seen : RoomModel) → ships ≤ 40 → length lists ≡ 2 * ships + ships * ships → All (λ (l : List ℕ). l ≡ []) lists → KeepsWatches (record { ships = ships; held = []; watches = []; due = []; lists = lists; seen = seen }) cap
-keeps_new ships cap lists seen few n empty = record {
+pub keeps_new : (ships slots cap : ℕ) (lists : List (List ℕ)) (seen : RoomModel) → ships ≤ 40 → 1 ≤ slots → slots ≤ 513 → length lists ≡ side_count ships slots → All (λ (l : List ℕ). l ≡ []) lists → KeepsWatches (record { ships = ships; slots = slots; held = []; watches = []; due = []; lists = lists; seen = seen }) cap
+keeps_new ships slots cap lists seen few some few_slots n empty = record {
   clauses = keeps_none ships;
   few_ships = few;
+  some_slots = some;
+  few_slots = few_slots;
   each_clause = refl;
   each_side = n;
   among = λ side p h. absurd (none_listed lists empty side p h);
@@ -325,7 +329,7 @@ written n m rest e = ap (λ k. take k (m ++ rest)) e ∙ front m rest
 pub last_in : (s : WatchModel) (cap place : ℕ) → KeepsWatches s cap → 0 < length s.due → place ≡ get_or s.due (length s.due - 1) place → place < length s.watches
 last_in s cap place k some e = subst (λ n. n < length s.watches) (sym e) (k.due.among (length s.due - 1) place (omega (arith, some)))
 
-pub resolved : (s : WatchModel) (cap cap' place : ℕ) (watch : Watch) (one : Stored) (ws : List Watch) (due : List ℕ) → KeepsWatches s cap → place < length s.watches → one ≡ get_or s.held place one → Watches one.clause watch → Listed s.ships s.lists place watch → ws ≡ set s.watches place watch → KeepsDue ws due cap' → KeepsWatches (record s { watches = ws; due = due }) cap'
+pub resolved : (s : WatchModel) (cap cap' place : ℕ) (watch : Watch) (one : Stored) (ws : List Watch) (due : List ℕ) → KeepsWatches s cap → place < length s.watches → one ≡ get_or s.held place one → Watches one.clause watch → Listed s.ships s.slots s.lists place watch → ws ≡ set s.watches place watch → KeepsDue ws due cap' → KeepsWatches (record s { watches = ws; due = due }) cap'
 resolved s cap cap' place watch one ws due k lt at stands listed e q =
     subst (λ (l : List Watch). KeepsWatches (record s { watches = l; due = due }) cap') (sym e)
     (keeps_resolve s cap cap' place watch due one k lt (subst (λ (x : Stored). Watches x.clause watch) at stands) listed (subst (λ l. KeepsDue l due cap') e q))
@@ -337,6 +341,3 @@ clause_in s cap place one k lt e =
 
 pub two_fit : (ships : ℕ) (clause : List Lit) (a b : Lit) → All (IsLitOf ships) clause → StandsBefore a b clause → IsLitOf ships a × IsLitOf ships b
 two_fit ships clause a b h k = fits_watch ships clause (Two a b) h k
-
-pub list_in : (s : WatchModel) (cap n : ℕ) → KeepsWatches s cap → All (λ p. p < length s.watches) (get_or s.lists n [])
-list_in s cap n k i d h = k.among n (get_or (get_or s.lists n []) i d) (i, h, get_or_default (get_or s.lists n []) i (get_or (get_or s.lists n []) i d) d h)

@@ -7,7 +7,7 @@ use Rattle.hw_store.specs.declared.watching.Watch.{Watch}
 use Rattle.hw_store.specs.declared.watching.Watch.TheVariants.{Due, One, Two}
 use Rattle.hw_store.specs.Watches.{is_one, IsWatchOf, Shows, ShowsAll, ShowsOnes, IsOpen, DropsSome, KeepsSeen}
 use Rattle.hw_store.proofs.Drops.{dropped}
-use Rattle.hw_store.proofs.Sides.{open_around}
+use Rattle.hw_store.proofs.Cuts.{open_around}
 use Rattle.hw_store.proofs.Ones.{due_pushed}
 
 shows_open : (room : RoomModel) (w : Watch) → Shows room w → IsOpen room w

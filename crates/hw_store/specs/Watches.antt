@@ -1,5 +1,5 @@
 -- Two watched literals of each clause, the lists of watched sides, and the clauses to look at.
-use Rattle.std.specs.Prelude.{◌≡◌, ◌≢◌, ◌⊎◌, ℕ, ◌+◌, ◌*◌, ◌^◌, ◌<◌, ◌≤◌, Bool, true, false, ◌&&◌, ◌||◌, ◌==◌, nat_le, List, [], All, Contains, length, get_or, cond, ◌∷◌, ⊤, Option, Some, None}
+use Rattle.std.specs.Prelude.{◌≡◌, ◌≢◌, ◌⊎◌, ℕ, ◌+◌, ◌-◌, ◌*◌, ◌^◌, min, ◌<◌, ◌≤◌, Bool, true, false, ◌&&◌, ◌||◌, ◌==◌, nat_le, List, [], All, Contains, length, get_or, cond, ◌∷◌, ⊤, Option, Some, None}
 use Rattle.hw_model.specs.declared.lit.Lit.{Lit}
 use Rattle.hw_model.specs.declared.lit.Lit.TheVariants as lits
 use Rattle.hw_model.specs.declared.lit.LitTruth.TheVariants.{True, False}
@@ -18,6 +18,7 @@ use Rattle.hw_store.specs.Stores.{KeepsClauses, Finds}
 -- `watches` and `held` go side by side; `lists` has for each side the places of the clauses that watch it, and maybe others; `due` has the places of the clauses to look at; `seen` is the room of the last step, at first the whole room
 pub record WatchModel : Type 0 where
   pub ships : ℕ
+  pub slots : ℕ
   pub held : List Stored
   pub watches : List Watch
   pub due : List ℕ
@@ -26,12 +27,24 @@ pub record WatchModel : Type 0 where
 
 -- ---- sides
 
--- the bound or the pair that a literal names, as a number: lower bounds, then upper ones, then pairs
-abbrev pub side : ℕ → Lit → ℕ
-side ships (lits.AtOrAfter v k) = v
-side ships (lits.Before v k) = ships + v
-side ships (lits.First v w) = 2 * ships + (v * ships + w)
-side ships (lits.NotFirst v w) = 2 * ships + (v * ships + w)
+-- the number of a slot in a row of so many: a slot past the last one has the last one's
+abbrev pub in_row : ℕ → ℕ → ℕ → ℕ
+in_row slots row slot = row * slots + min slot (slots - 1)
+
+-- the number of two ships, past the rows of the bounds
+abbrev pub pair_side : ℕ → ℕ → ℕ → ℕ → ℕ
+pair_side ships slots v w = 2 * ships * slots + (v * ships + w)
+
+-- the bound or the pair that a literal names, as a number: a row of lower bounds for each ship, then rows of upper ones, then pairs
+abbrev pub side : ℕ → ℕ → Lit → ℕ
+side ships slots (lits.AtOrAfter v k) = in_row slots v k
+side ships slots (lits.Before v k) = in_row slots (ships + v) k
+side ships slots (lits.First v w) = pair_side ships slots v w
+side ships slots (lits.NotFirst v w) = pair_side ships slots v w
+
+-- how many sides there are
+abbrev pub side_count : ℕ → ℕ → ℕ
+side_count ships slots = 2 * ships * slots + ships * ships
 
 -- a cut by the first literal makes the second False
 abbrev pub hits : Lit → Lit → Bool
@@ -48,10 +61,10 @@ is_hit cutting (One lit) = false
 is_hit cutting (Two first second) = hits cutting first || hits cutting second
 
 -- one of two watched literals is on the side
-abbrev pub is_on : ℕ → ℕ → Watch → Bool
-is_on ships place Due = false
-is_on ships place (One lit) = false
-is_on ships place (Two first second) = side ships first == place || side ships second == place
+abbrev pub is_on : ℕ → ℕ → ℕ → Watch → Bool
+is_on ships slots place Due = false
+is_on ships slots place (One lit) = false
+is_on ships slots place (Two first second) = side ships slots first == place || side ships slots second == place
 
 -- ---- watches
 
@@ -88,10 +101,10 @@ Watches clause (One lit) = Contains clause lit
 Watches clause (Two first second) = StandsBefore first second clause
 
 -- the clause's place is in the lists of both watched literals
-abbrev pub Listed : ℕ → List (List ℕ) → ℕ → Watch → Type 0
-Listed ships lists place Due = ⊤
-Listed ships lists place (One lit) = ⊤
-Listed ships lists place (Two first second) = Contains (get_or lists (side ships first) []) place × Contains (get_or lists (side ships second) []) place
+abbrev pub Listed : ℕ → ℕ → List (List ℕ) → ℕ → Watch → Type 0
+Listed ships slots lists place Due = ⊤
+Listed ships slots lists place (One lit) = ⊤
+Listed ships slots lists place (Two first second) = Contains (get_or lists (side ships slots first) []) place × Contains (get_or lists (side ships slots second) []) place
 
 -- the watched literals show that the clause is quiet: one is True, or two aren't False
 abbrev pub Shows : RoomModel → Watch → Type 0
@@ -143,16 +156,27 @@ pub record OnesStay (old new : List Watch) : Type 0 where
   pub each : (i : ℕ) → is_one (get_or old i Due) ≡ true → is_one (get_or new i Due) ≡ true
 
 -- of the places of a side's list after a cut: no watch of theirs is hit, those that still watch the side stay, and none is new
-pub record Sifted (ships place : ℕ) (cutting : Lit) (ws : List Watch) (old new : List ℕ) : Type 0 where
+pub record Sifted (ships slots place : ℕ) (cutting : Lit) (ws : List Watch) (old new : List ℕ) : Type 0 where
   pub missed : (p : ℕ) → Contains old p → is_hit cutting (get_or ws p Due) ≡ false
-  pub stays : (p : ℕ) → Contains old p → is_on ships place (get_or ws p Due) ≡ true → Contains new p
+  pub stays : (p : ℕ) → Contains old p → is_on ships slots place (get_or ws p Due) ≡ true → Contains new p
   pub only : (p : ℕ) → Contains new p → Contains old p
 
 -- so of one side's list, and the others stay
-pub record SiftsOne (ships place : ℕ) (cutting : Lit) (ws : List Watch) (old new : List (List ℕ)) : Type 0 where
+pub record SiftsOne (ships slots place : ℕ) (cutting : Lit) (ws : List Watch) (old new : List (List ℕ)) : Type 0 where
   pub same_length : length new ≡ length old
   pub others : (n : ℕ) → n ≢ place → get_or new n [] ≡ get_or old n []
-  pub one : Sifted ships place cutting ws (get_or old place []) (get_or new place [])
+  pub one : Sifted ships slots place cutting ws (get_or old place []) (get_or new place [])
+
+-- of the lists of the sides from the first one to before the end: no watch of a place of theirs is hit. In every list those stay that still watch its side, and none is new
+pub record SiftsRun (ships slots first end : ℕ) (cutting : Lit) (ws : List Watch) (old new : List (List ℕ)) : Type 0 where
+  pub same_length : length new ≡ length old
+  pub missed : (n p : ℕ) → first ≤ n → n < end → Contains (get_or old n []) p → is_hit cutting (get_or ws p Due) ≡ false
+  pub stays : (n p : ℕ) → Contains (get_or old n []) p → is_on ships slots n (get_or ws p Due) ≡ true → Contains (get_or new n []) p
+  pub only : (n p : ℕ) → Contains (get_or new n []) p → Contains (get_or old n []) p
+
+-- every literal that a cut of the room makes False, and that wasn't so before, has its side from the first one to before the end
+abbrev pub HitsWithin : ℕ → ℕ → RoomModel → Lit → ℕ × ℕ → Type 0
+HitsWithin ships slots room cutting run = (lit : Lit) → hits cutting lit ≡ true → truth room lit ≢ False → (run.0 ≤ side ships slots lit) × (side ships slots lit < run.1)
 
 -- the lists gain nothing but this place, and lose nothing
 pub record Grows (place : ℕ) (old new : List (List ℕ)) : Type 0 where
@@ -200,11 +224,13 @@ pub record Leaves (side : ℕ) (stands : List Sides) (old new : List ℕ) : Type
 pub record KeepsWatches (s : WatchModel) (capacity : ℕ) : Type 0 where
   pub clauses : KeepsClauses s.ships s.held
   pub few_ships : s.ships ≤ 40
+  pub some_slots : 1 ≤ s.slots
+  pub few_slots : s.slots ≤ 513
   pub each_clause : length s.watches ≡ length s.held
-  pub each_side : length s.lists ≡ 2 * s.ships + s.ships * s.ships
+  pub each_side : length s.lists ≡ side_count s.ships s.slots
   pub among : (side place : ℕ) → Contains (get_or s.lists side []) place → place < length s.watches
   pub watched : (i : ℕ) (d : Stored) → i < length s.held → Watches (get_or s.held i d).clause (get_or s.watches i Due)
-  pub listed : (i : ℕ) → i < length s.watches → Listed s.ships s.lists i (get_or s.watches i Due)
+  pub listed : (i : ℕ) → i < length s.watches → Listed s.ships s.slots s.lists i (get_or s.watches i Due)
   pub due : KeepsDue s.watches s.due capacity
 
 abbrev pub watch_ships : WatchModel → ℕ

@@ -3,12 +3,13 @@
 ghost use Rattle.std.specs.Prelude.{◌≡◌, ◌⊎◌, ◌+◌, ◌*◌, ◌<◌, ◌≤◌, [], ◌∷◌, List, ℕ, All, Contains, IfOk, OnOk, length, slice_index_or, vec_capacity};
 ghost use Rattle.hw_model.specs.Rooms.{RoomModel};
 ghost use Rattle.hw_model.specs.Lits.{IsLitOf};
-ghost use Rattle.hw_store.specs.Watches.{WatchModel, WatchReady, Listed, Grows, SiftsOne, KeepsDue, DropsSome, OnesStay, IsWatchOf, NextIs, IsNew, StandsAt, KeepsSides};
+ghost use Rattle.hw_store.specs.Watches.{WatchModel, WatchReady, Listed, Grows, side_count, SiftsOne, SiftsRun, KeepsDue, DropsSome, OnesStay, IsWatchOf, NextIs, IsNew, StandsAt, KeepsSides};
 
 use crate::looking::{Look, look_at};
 use crate::scan::find;
+use crate::sides::{side_of, sides_hit};
 use crate::store::{Held, Store, Stored};
-use crate::watching::{Places, Sides, Watch, is_among, recheck, resolve, side_of};
+use crate::watching::{Places, Sides, Watch, is_among, recheck, resolve};
 use hw_flat::{Flat, Room};
 use hw_lits::Clause;
 use hw_model::{Lit, NoMemory};
@@ -20,6 +21,7 @@ use std::marker::Model;
 #[derive(Debug, Drop)]
 pub struct WatchStore {
     ships: u32,
+    slots: u32,
     // the clauses, by ascending numbers
     held: Vec<Stored>,
     // beside each clause what is watched of it
@@ -43,9 +45,9 @@ impl Model for WatchStore {
 
     ghost Value = { WatchModel };
 
-    ghost view = { λ s. record { ships = s.ships; held = s.held.items; watches = s.watches.items; due = s.due.items; lists = s.lists.items; seen = s.seen } };
+    ghost view = { λ s. record { ships = s.ships; slots = s.slots; held = s.held.items; watches = s.watches.items; due = s.due.items; lists = s.lists.items; seen = s.seen } };
 
-    ghost invariant = { λ s. KeepsWatches (record { ships = s.ships; held = s.held.items; watches = s.watches.items; due = s.due.items; lists = s.lists.items; seen = s.seen }) (vec_capacity s.due) × (length s.stands.items ≡ length s.watches.items) × KeepsSides s.lists.items s.stands.items × KeepsOnes s.watches.items s.ones.items × (length s.watches.items ≤ vec_capacity s.ones) × KeepsSeen s.ships s.seen s.watches.items };
+    ghost invariant = { λ s. KeepsWatches (record { ships = s.ships; slots = s.slots; held = s.held.items; watches = s.watches.items; due = s.due.items; lists = s.lists.items; seen = s.seen }) (vec_capacity s.due) × (length s.stands.items ≡ length s.watches.items) × KeepsSides s.lists.items s.stands.items × KeepsOnes s.watches.items s.ones.items × (length s.watches.items ≤ vec_capacity s.ones) × KeepsSeen s.ships s.seen s.watches.items };
 }
 
 // What was seen of the last clause to look at.
@@ -56,17 +58,19 @@ enum Next {
 }
 
 impl WatchStore {
-    /// A store without clauses, ready for every room. It makes a room, and an empty list for each bound
-    /// of a ship and for each two ships: 1,680 lists at 40 ships.
+    /// A store without clauses, ready for every room. It makes a room, and an empty list for each slot of
+    /// either bound of a ship and for each two ships: 4,800 lists at 40 ships and 40 slots.
     pub fn new(alloc: Global, flat: &Flat) -> Result<WatchStore, NoMemory>
         ensures value { IfOk result (λ store. IsNew flat.now.ships store) }
     {
         let shape = flat.shape();
         let ships = shape.ships;
-        let lists = no_places(alloc, 2 * ships + ships * ships)?;
+        let slots = shape.slots;
+        let lists = no_places(alloc, 2 * ships * slots + ships * ships)?;
         let seen = Room::whole(alloc, shape)?;
         Ok(WatchStore {
             ships,
+            slots,
             held: Vec::new(alloc),
             watches: Vec::new(alloc),
             due: Vec::new(alloc),
@@ -104,6 +108,7 @@ impl WatchStore {
             Look::Two { first, second } => {
                 list_both(
                     self.ships,
+                    self.slots,
                     first,
                     second,
                     place,
@@ -167,14 +172,16 @@ impl Store for WatchStore {
         find(&self.held, id)
     }
 
-    // One pass over the list of the side that the literal makes False: clauses whose watch it hits are
-    // to be looked at.
+    // One pass over the list of each bound or order that the cut makes False and that wasn't so before:
+    // clauses whose watch it hits are to be looked at.
     fn changed(&mut self, before: &Room, lit: Lit) {
         let _ships = before.ships();
-        let side = side_of(self.ships, lit.not());
-        mark_at(
+        let (first, end) = sides_hit(self.ships, self.slots, before, lit);
+        mark_run(
             self.ships,
-            side,
+            self.slots,
+            first,
+            end,
             lit,
             &mut self.lists,
             &mut self.watches,
@@ -224,6 +231,7 @@ fn list_at(side: usize, place: u32, sides: Sides, lists: &mut [Places]) -> Resul
 // Takes a clause's place into the lists of both watched literals.
 fn list_both(
     ships: u32,
+    slots: u32,
     first: Lit,
     second: Lit,
     place: u32,
@@ -231,19 +239,21 @@ fn list_both(
     lists: &mut [Places],
 ) -> Result<(), NoMemory>
     requires few { ships ≤ 40 }
+    requires some_slots { 1 ≤ slots }
+    requires few_slots { slots ≤ 513 }
     requires one { IsLitOf ships first }
     requires two { IsLitOf ships second }
     requires inside { place < length stands.old }
-    requires sides { length lists.old ≡ 2 * ships + ships * ships }
+    requires sides { length lists.old ≡ side_count ships slots }
     requires known { KeepsSides lists.old stands.old }
     ensures grows { Grows place lists.old lists.new }
-    ensures listed { OnOk result (Listed ships lists.new place (Watch.Two first second)) }
+    ensures listed { OnOk result (Listed ships slots lists.new place (Watch.Two first second)) }
     ensures same { length stands.new ≡ length stands.old }
     ensures known { KeepsSides lists.new stands.new }
 {
     let sides = stands[place as usize];
-    let one = side_of(ships, first);
-    let two = side_of(ships, second);
+    let one = side_of(ships, slots, first);
+    let two = side_of(ships, slots, second);
     list_at(one, place, sides, lists)?;
     list_at(two, place, sides, lists)?;
     stands[place as usize] = Sides {
@@ -253,9 +263,43 @@ fn list_both(
     Ok(())
 }
 
+// Goes through the lists of the sides from the first one to before the end after a cut.
+fn mark_run(
+    ships: u32,
+    slots: u32,
+    first: usize,
+    end: usize,
+    cutting: Lit,
+    lists: &mut [Places],
+    watches: &mut [Watch],
+    stands: &mut [Sides],
+    due: &mut Vec<u32>,
+)
+    requires few { ships ≤ 40 }
+    requires some_slots { 1 ≤ slots }
+    requires few_slots { slots ≤ 513 }
+    requires beside { length stands.old ≡ length watches.old }
+    requires known { KeepsSides lists.old stands.old }
+    requires inside_lists { end ≤ length lists.old }
+    requires fits { All (IsWatchOf ships) watches.old }
+    requires inside { (side place : ℕ) → Contains (slice_index_or lists.old side []) place → place < length watches.old }
+    requires keeps { KeepsDue watches.old due.old.items (vec_capacity due.old) }
+    ensures keeps { KeepsDue watches.new due.new.items (vec_capacity due.new) }
+    ensures drops { DropsSome watches.old watches.new }
+    ensures ones { OnesStay watches.old watches.new }
+    ensures sifted { SiftsRun ships slots first end cutting watches.new lists.old lists.new }
+    ensures same { length stands.new ≡ length stands.old }
+    ensures known { KeepsSides lists.new stands.new }
+{
+    for side in first..end {
+        mark_at(ships, slots, side, cutting, lists, watches, stands, due);
+    }
+}
+
 // Goes through the list of a side after a cut.
 fn mark_at(
     ships: u32,
+    slots: u32,
     side: usize,
     cutting: Lit,
     lists: &mut [Places],
@@ -264,6 +308,8 @@ fn mark_at(
     due: &mut Vec<u32>,
 )
     requires few { ships ≤ 40 }
+    requires some_slots { 1 ≤ slots }
+    requires few_slots { slots ≤ 513 }
     requires beside { length stands.old ≡ length watches.old }
     requires known { KeepsSides lists.old stands.old }
     requires side { side < length lists.old }
@@ -273,9 +319,9 @@ fn mark_at(
     ensures keeps { KeepsDue watches.new due.new.items (vec_capacity due.new) }
     ensures drops { DropsSome watches.old watches.new }
     ensures ones { OnesStay watches.old watches.new }
-    ensures sifted { SiftsOne ships side cutting watches.new lists.old lists.new }
+    ensures sifted { SiftsOne ships slots side cutting watches.new lists.old lists.new }
     ensures same { length stands.new ≡ length stands.old }
     ensures known { KeepsSides lists.new stands.new }
 {
-    lists[side].mark(ships, side, cutting, watches, stands, due);
+    lists[side].mark(ships, slots, side, cutting, watches, stands, due);
 }

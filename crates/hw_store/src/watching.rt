@@ -1,10 +1,11 @@
 //! The watched literals of clauses, and the lists of the sides that they watch.
 
-ghost use Rattle.std.specs.Prelude.{◌≡◌, ◌≢◌, ◌⊎◌, ◌+◌, ◌-◌, ◌*◌, ◌<◌, ◌≤◌, false, true, [], All, Contains, OnOk, length, take, slice_set, slice_index_or, vec_capacity, MatchBool};
+ghost use Rattle.std.specs.Prelude.{◌≡◌, ◌≢◌, ◌⊎◌, ◌+◌, ◌-◌, ◌<◌, ◌≤◌, false, true, [], All, Contains, OnOk, length, take, slice_set, slice_index_or, vec_capacity, MatchBool};
 ghost use Rattle.hw_model.specs.Narrowing.{truth};
 ghost use Rattle.hw_model.specs.Lits.{IsLitOf};
-ghost use Rattle.hw_store.specs.Watches.{side, hits, is_hit, IsWatchOf, Shows, ShowsAll, KeepsDue, KeepsOnes, KeepsSeen, ShowsOnes, DropsSome, OnesStay, Sifted, is_due, is_on, is_side, is_among, other_side, without, nowhere, Forgets, Leaves};
+ghost use Rattle.hw_store.specs.Watches.{hits, is_hit, IsWatchOf, Shows, ShowsAll, KeepsDue, KeepsOnes, KeepsSeen, ShowsOnes, DropsSome, OnesStay, Sifted, is_due, is_on, is_side, is_among, other_side, without, nowhere, Forgets, Leaves};
 
+use crate::sides::side_of;
 use crate::within::is_within;
 use hw_flat::Room;
 use hw_lits::truth;
@@ -69,6 +70,7 @@ impl Places {
     pub fn mark(
         &mut self,
         ships: u32,
+        slots: u32,
         side: usize,
         cutting: Lit,
         watches: &mut [Watch],
@@ -76,6 +78,8 @@ impl Places {
         due: &mut Vec<u32>,
     )
         requires few { ships ≤ 40 }
+        requires some_slots { 1 ≤ slots }
+        requires few_slots { slots ≤ 513 }
         requires beside { length stands.old ≡ length watches.old }
         requires fits { All (IsWatchOf ships) watches.old }
         requires inside { All (λ place. place < length watches.old) self.old }
@@ -83,31 +87,25 @@ impl Places {
         ensures keeps { KeepsDue watches.new due.new.items (vec_capacity due.new) }
         ensures drops { DropsSome watches.old watches.new }
         ensures ones { OnesStay watches.old watches.new }
-        ensures sifted { Sifted ships side cutting watches.new self.old self.new }
+        ensures sifted { Sifted ships slots side cutting watches.new self.old self.new }
         ensures forgets { Forgets stands.old stands.new }
         ensures leaves { Leaves side stands.new self.old self.new }
     {
-        let kept = sift(ships, side, cutting, &mut self.items, watches, stands, due);
+        let kept = sift(
+            ships,
+            slots,
+            side,
+            cutting,
+            &mut self.items,
+            watches,
+            stands,
+            due,
+        );
         self.items.truncate(kept);
     }
 }
 
 ghost use Rattle.std.specs.Prelude.{ℕ};
-
-/// The number of a literal's bound or pair.
-pub fn side_of(ships: u32, lit: Lit) -> usize
-    requires few { ships ≤ 40 }
-    requires fits { IsLitOf ships lit }
-    ensures value { result ≡ side ships lit }
-    ensures small { result < 2 * ships + ships * ships }
-{
-    match lit {
-        Lit::AtOrAfter { ship, .. } => ship as usize,
-        Lit::Before { ship, .. } => (ships + ship) as usize,
-        Lit::First { v, w } => (2 * ships + (v * ships + w)) as usize,
-        Lit::NotFirst { v, w } => (2 * ships + (v * ships + w)) as usize,
-    }
-}
 
 // Whether a cut by the first literal makes the second one False.
 fn hits(cutting: Lit, lit: Lit) -> bool
@@ -200,16 +198,18 @@ pub fn resolve(place: u32, watch: Watch, watches: &mut [Watch], due: &mut Vec<u3
 }
 
 // Whether one of two watched literals is on a side.
-fn is_on(ships: u32, side: usize, watch: Watch) -> bool
+fn is_on(ships: u32, slots: u32, side: usize, watch: Watch) -> bool
     requires few { ships ≤ 40 }
+    requires some_slots { 1 ≤ slots }
+    requires few_slots { slots ≤ 513 }
     requires fits { IsWatchOf ships watch }
-    ensures value { result ≡ is_on ships side watch }
+    ensures value { result ≡ is_on ships slots side watch }
 {
     match watch {
         Watch::Due => false,
         Watch::One { lit: _lit } => false,
-        Watch::Two { first, second } => side_of(ships, first) == side
-            || side_of(ships, second) == side,
+        Watch::Two { first, second } => side_of(ships, slots, first) == side
+            || side_of(ships, slots, second) == side,
     }
 }
 
@@ -217,6 +217,7 @@ fn is_on(ships: u32, side: usize, watch: Watch) -> bool
 // the side.
 fn stays(
     ships: u32,
+    slots: u32,
     side: usize,
     cutting: Lit,
     place: u32,
@@ -224,6 +225,8 @@ fn stays(
     due: &mut Vec<u32>,
 ) -> bool
     requires few { ships ≤ 40 }
+    requires some_slots { 1 ≤ slots }
+    requires few_slots { slots ≤ 513 }
     requires fits { IsWatchOf ships (slice_index_or watches.old place Watch.Due) }
     requires inside { place < length watches.old }
     requires keeps { KeepsDue watches.old due.old.items (vec_capacity due.old) }
@@ -231,14 +234,14 @@ fn stays(
     ensures drops { DropsSome watches.old watches.new }
     ensures ones { OnesStay watches.old watches.new }
     ensures missed { is_hit cutting (slice_index_or watches.new place Watch.Due) ≡ false }
-    ensures value { result ≡ is_on ships side (slice_index_or watches.new place Watch.Due) }
+    ensures value { result ≡ is_on ships slots side (slice_index_or watches.new place Watch.Due) }
 {
     let watch = watches[place as usize];
     if is_hit(cutting, watch) {
         make_due(place, watches, due);
         return false;
     }
-    is_on(ships, side, watch)
+    is_on(ships, slots, side, watch)
 }
 
 fn is_side(one: Option<usize>, side: usize) -> bool
@@ -283,6 +286,7 @@ fn leave(place: u32, side: usize, stands: &mut [Sides])
 // False, and moves the places that stay to the front: how many they are.
 fn sift(
     ships: u32,
+    slots: u32,
     side: usize,
     cutting: Lit,
     places: &mut [u32],
@@ -291,6 +295,8 @@ fn sift(
     due: &mut Vec<u32>,
 ) -> usize
     requires few { ships ≤ 40 }
+    requires some_slots { 1 ≤ slots }
+    requires few_slots { slots ≤ 513 }
     requires beside { length stands.old ≡ length watches.old }
     requires fits { All (IsWatchOf ships) watches.old }
     requires inside { All (λ place. place < length watches.old) places.old }
@@ -299,14 +305,14 @@ fn sift(
     ensures drops { DropsSome watches.old watches.new }
     ensures ones { OnesStay watches.old watches.new }
     ensures same { length places.new ≡ length places.old }
-    ensures sifted { Sifted ships side cutting watches.new places.old (take result places.new) }
+    ensures sifted { Sifted ships slots side cutting watches.new places.old (take result places.new) }
     ensures forgets { Forgets stands.old stands.new }
     ensures leaves { Leaves side stands.new places.old (take result places.new) }
 {
     let mut kept = 0;
     for at in 0..places.len() {
         let place = places[at];
-        if stays(ships, side, cutting, place, watches, due) {
+        if stays(ships, slots, side, cutting, place, watches, due) {
             places[kept] = place;
             kept += 1;
         } else {

@@ -10,7 +10,7 @@ use Rattle.hw_store.proofs.watching.sift.Goals.{then-stays, else-stays}
 use Rattle.hw_store.proofs.watching.sift.Goals as goal
 
 pub loop-at-init : goal.loop-at-init
-loop-at-init c = (c.requires.keeps, drops_none c.args.watches.now, sift_starts c.args.ships c.args.side c.args.cutting c.args.watches.now c.args.places.now, forgets_none c.args.stands.now, leave_starts c.args.side c.args.stands.now c.args.places.now, stay_all c.args.watches.now)
+loop-at-init c = (c.requires.keeps, drops_none c.args.watches.now, sift_starts c.args.ships c.args.slots c.args.side c.args.cutting c.args.watches.now c.args.places.now, forgets_none c.args.stands.now, leave_starts c.args.side c.args.stands.now c.args.places.now, stay_all c.args.watches.now)
 
 pub stays-requires : goal.stays-requires
 stays-requires c =
@@ -20,6 +20,8 @@ stays-requires c =
     let in' : get_or c.loop-at.places c.loop-at.at 0 < length c.loop-at.watches = subst (λ n. n < length c.loop-at.watches) (sym same) old in
     record {
       few = c.requires.few;
+      some_slots = c.requires.some_slots;
+      few_slots = c.requires.few_slots;
       fits = watch_fits c.args.ships c.args.watches.now c.loop-at.watches (get_or c.loop-at.places c.loop-at.at 0) c.loop-at.invariant.1 c.requires.fits in';
       inside = in';
       keeps = c.loop-at.invariant.0;
@@ -34,8 +36,8 @@ loop-at-preserved c =
       | then-stays w ↦ rw (w.places-is, w.kept-is) (
         c.stays.ensures.keeps,
         drops_twice c.args.watches.now c.loop-at.watches c.stays.new.watches c.loop-at.invariant.1 c.stays.ensures.drops,
-        subst (λ n. Sifting c.args.ships c.args.side c.args.cutting c.stays.new.watches c.args.places.now (set c.loop-at.places c.loop-at.kept n) (c.loop-at.at + 1) (c.loop-at.kept + 1)) (sym same)
-            (sift_keeps c.args.ships c.args.side c.args.cutting c.loop-at.watches c.stays.new.watches c.args.places.now c.loop-at.places c.loop-at.at c.loop-at.kept c.loop-at.invariant.2 lt c.stays.ensures.drops missed),
+        subst (λ n. Sifting c.args.ships c.args.slots c.args.side c.args.cutting c.stays.new.watches c.args.places.now (set c.loop-at.places c.loop-at.kept n) (c.loop-at.at + 1) (c.loop-at.kept + 1)) (sym same)
+            (sift_keeps c.args.ships c.args.slots c.args.side c.args.cutting c.loop-at.watches c.stays.new.watches c.args.places.now c.loop-at.places c.loop-at.at c.loop-at.kept c.loop-at.invariant.2 lt c.stays.ensures.drops missed),
         subst (Forgets c.args.stands.now) (sym w.stands-is) c.loop-at.invariant.3,
         subst (λ (st : List Sides). Leaving c.args.side st c.args.places.now (set c.loop-at.places c.loop-at.kept (get_or c.loop-at.places c.loop-at.at 0)) (c.loop-at.at + 1) (c.loop-at.kept + 1)) (sym w.stands-is)
             (subst (λ n. Leaving c.args.side c.loop-at.stands c.args.places.now (set c.loop-at.places c.loop-at.kept n) (c.loop-at.at + 1) (c.loop-at.kept + 1)) (sym same)
@@ -45,8 +47,8 @@ loop-at-preserved c =
       | else-stays w ↦ rw (w.places-is, w.kept-is) (
         c.stays.ensures.keeps,
         drops_twice c.args.watches.now c.loop-at.watches c.stays.new.watches c.loop-at.invariant.1 c.stays.ensures.drops,
-        sift_passes c.args.ships c.args.side c.args.cutting c.loop-at.watches c.stays.new.watches c.args.places.now c.loop-at.places c.loop-at.at c.loop-at.kept c.loop-at.invariant.2 c.stays.ensures.drops missed
-            (subst (λ n. is_on c.args.ships c.args.side (get_or c.stays.new.watches n Due) ≡ false) same (sym c.stays.ensures.value ∙ w.if-stays.false)),
+        sift_passes c.args.ships c.args.slots c.args.side c.args.cutting c.loop-at.watches c.stays.new.watches c.args.places.now c.loop-at.places c.loop-at.at c.loop-at.kept c.loop-at.invariant.2 c.stays.ensures.drops missed
+            (subst (λ n. is_on c.args.ships c.args.slots c.args.side (get_or c.stays.new.watches n Due) ≡ false) same (sym c.stays.ensures.value ∙ w.if-stays.false)),
         subst (Forgets c.args.stands.now) (sym w.stands-is) (forgets_twice c.args.stands.now c.loop-at.stands w.leave.new.stands c.loop-at.invariant.3 w.leave.ensures.forgets),
         subst (λ (st : List Sides). Leaving c.args.side st c.args.places.now c.loop-at.places (c.loop-at.at + 1) c.loop-at.kept) (sym w.stands-is)
             (leave_passes c.args.side c.loop-at.stands w.leave.new.stands c.args.places.now c.loop-at.places c.loop-at.at c.loop-at.kept w.leave.ensures.forgets
@@ -63,7 +65,7 @@ returns c =
       drops = c.loop-at.invariant.1;
       ones = c.loop-at.invariant.5;
       same = c.loop-at.invariant.2.same_length;
-      sifted = sift_ends c.args.ships c.args.side c.args.cutting c.loop-at.watches c.args.places.now c.loop-at.places c.loop-at.at c.loop-at.kept c.loop-at.invariant.2 end;
+      sifted = sift_ends c.args.ships c.args.slots c.args.side c.args.cutting c.loop-at.watches c.args.places.now c.loop-at.places c.loop-at.at c.loop-at.kept c.loop-at.invariant.2 end;
       forgets = c.loop-at.invariant.3;
       leaves = leave_ends c.args.side c.loop-at.stands c.args.places.now c.loop-at.places c.loop-at.at c.loop-at.kept c.loop-at.invariant.4 end (omega (arith, c.loop-at.invariant.2.few, c.loop-at.invariant.2.same_length, end));
     }
