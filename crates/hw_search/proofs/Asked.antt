@@ -52,8 +52,8 @@ quiet_cleared f best room sources marks place asked at calm quiet other source t
   | inr ne ↦ quiet other source there (sym (get_or-set_other marks place other false true ne) ∙ clear)
 ]
 
-pub kept_cleared : (e : EngineModel) (table : SpeakersModel) (goal : ℕ) (best : List ℕ) (worth : Option ℕ) (capacity : ℕ) (place : ℕ) (asked : Source) → KeepsEngine e table goal best worth capacity → slice_get e.sources place ≡ Some asked → QuietSource e.search.problem asked (best_cargo e.search) (room_in e.search) → KeepsEngine (record e { marks = slice_set e.marks place false }) table goal best worth capacity
-kept_cleared e table goal best worth capacity place asked k at calm = record {
+pub kept_cleared : (e : EngineModel) (table : SpeakersModel) (goal : ℕ) (best : List ℕ) (worth : Option ℕ) (capacity : ℕ) (place : ℕ) (asked : Source) (marks : List Bool) → KeepsEngine e table goal best worth capacity → slice_get e.sources place ≡ Some asked → QuietSource e.search.problem asked (best_cargo e.search) (room_in e.search) → marks ≡ slice_set e.marks place false → KeepsEngine (record e { marks = marks }) table goal best worth capacity
+kept_cleared e table goal best worth capacity place asked marks k at calm m = subst (λ xs. KeepsEngine (record e { marks = xs }) table goal best worth capacity) (sym m) (record {
   search = k.search;
   once = k.once;
   of_problem = k.of_problem;
@@ -65,7 +65,7 @@ kept_cleared e table goal best worth capacity place asked k at calm = record {
   best_ready = k.best_ready;
   worth_is = k.worth_is;
   reserved = k.reserved;
-}
+})
 
 -- a clause that a source gave may be a reason
 pub source_reason : (s : SearchModel) (sources : List Source) (place : ℕ) (asked : Source) (clause : List Lit) → IsSearch s → All (IsSourceOf s.problem) sources → slice_get sources place ≡ Some asked → Explanation s.problem asked (best_cargo s) (room_in s) clause → IsReason s (whys.Source asked clause)

@@ -1,5 +1,5 @@
 -- What a turn that learns needs and keeps, in the words of a call.
-use Rattle.std.proofs.Common.{◌≡◌, ℕ, ◌+◌, ◌^◌, ◌<◌, ◌≤◌, Bool, true, false, cond, List, [], ◌∷◌, ◌++◌, Option, Some, option_and_then, length, slice_get, take, drop, refl, sym, ap, ◌∙◌, subst, arith, inl, inr}
+use Rattle.std.proofs.Common.{◌≡◌, ℕ, ◌+◌, ◌^◌, ◌<◌, ◌≤◌, Bool, true, false, cond, List, [], ◌∷◌, Option, Some, option_and_then, length, slice_get, refl, sym, ap, ◌∙◌, subst, arith, inl, inr}
 use Rattle.std.specs.Prelude.{All, IsSome, ◌==◌}
 use Rattle.std.proofs.lemmas.Bool.{cases_lt, eq-eqb}
 use Rattle.std.proofs.lemmas.List.Elements.{All-weaker}
@@ -29,7 +29,6 @@ use Rattle.hw_search.specs.Speaking.{SpeakersModel, TellsSpeakers}
 use Rattle.hw_search.specs.Naming.{taught, Taught}
 use Rattle.hw_search.specs.GoingBack.{due, NextLevel}
 use Rattle.hw_search.proofs.Levels.{levels_back, quiet_gone, at_get}
-use Rattle.hw_search.proofs.Markings.{written_whole}
 use Rattle.hw_search.proofs.Taught.{Teaches}
 
 -- ---- what was learnt
@@ -76,9 +75,9 @@ numbers_below mid why lemma back places ws lines t n =
 
 -- ---- what is kept
 
--- the goal is marked, through the marks' vector
-pub goal_marked : (goal n : ℕ) (sources : List Source) (new old lent : List Bool) → n ≡ length new → lent ≡ old → length new ≡ length lent → length old ≡ length sources → slice_get sources goal ≡ Some Goal → ((other : ℕ) → other < length lent → is_marked new other ≡ (other == goal)) → is_marked (take n (new ++ drop (length new) old)) goal ≡ true
-goal_marked goal n sources new old lent e l same long at h = ap (λ xs. is_marked xs goal) (written_whole n new old e) ∙ h goal (omega (arith, (at_get sources goal Goal at).0, long, ap length l)) ∙ eq-eqb goal goal refl
+-- the goal is marked
+pub goal_marked : (goal : ℕ) (sources : List Source) (new old : List Bool) → length old ≡ length sources → slice_get sources goal ≡ Some Goal → ((other : ℕ) → other < length old → is_marked new other ≡ (other == goal)) → is_marked new goal ≡ true
+goal_marked goal sources new old long at h = h goal (omega (arith, (at_get sources goal Goal at).0, long)) ∙ eq-eqb goal goal refl
 
 pub kept_back : (e : EngineModel) (table : SpeakersModel) (goal : ℕ) (best : List ℕ) (worth : Option ℕ) (capacity capacity' level : ℕ) (u : SearchModel) (marks : List Bool) → KeepsEngine e table goal best worth capacity → IsSearch u → u.problem ≡ e.search.problem → u.best ≡ e.search.best → u.trail ≡ back_to e.search.trail level → level < e.search.trail.level → length marks ≡ length e.marks → is_marked marks goal ≡ true → capacity' ≡ capacity
     → KeepsEngine (record { search = u; sources = e.sources; marks = marks }) table goal best worth capacity'

@@ -49,11 +49,6 @@ quiet_cut f best room sources table old new lit flat of fits is free tells marks
 pub quiet_all : (f : Problem) (best : Option ℕ) (room : RoomModel) (sources : List Source) (marks : List Bool) → ((place : ℕ) → is_marked marks place ≡ true) → QuietUnmarked f best room sources marks
 quiet_all f best room sources marks all place source at clear = absurd (never (sym (all place) ∙ clear))
 
--- marks that were set through their vector
-pub marks_through : (places given : List ℕ) (old lent new : List Bool) (n : ℕ) → given ≡ places → lent ≡ old → n ≡ length new → MarksPlaces given lent new → MarksPlaces places old (take n (new ++ drop (length new) old))
-marks_through places given old lent new n p l e m =
-    subst (λ xs. MarksPlaces places old xs) (sym (written_whole n new old e)) (subst (λ xs. MarksPlaces places xs new) l (subst (λ xs. MarksPlaces xs lent new) p m))
-
 some_same : {A : Type 0} (x y : A) → Some x ≡ Some y → x ≡ y
 some_same x y e = cc
 

@@ -8,6 +8,7 @@ ghost use Rattle.hw_model.specs.Rooms.{whole_room};
 ghost use Rattle.hw_progress.specs.Searches.{new_search, room_in, IsSearch};
 ghost use Rattle.hw_progress.specs.Starting.{EachSourceOnce};
 
+use crate::marking::Marks;
 use crate::speakers::Speakers;
 use hw_flat::{Flat, Room, Source, Timetable};
 use hw_model::NoMemory;
@@ -34,7 +35,7 @@ pub struct Engine<'f, S: Store + Drop, P: Propagator + Drop> {
     /// A propagator for each source, in the order of the sources.
     pub props: Vec<P>,
     /// Beside each propagator whether its source is marked.
-    pub marks: Vec<bool>,
+    pub marks: Marks,
     pub speakers: Speakers,
     /// The place of the goal among the sources.
     pub goal: usize,
@@ -66,10 +67,10 @@ impl<'f, S: Store + Drop, P: Propagator + Drop> Model for Engine<'f, S, P> {
 
     ghost Value = { EngineModel };
 
-    ghost view = { λ s. record { search = record { problem = s.flat.now; branching = s.branching; trail = s.trail; stored = S.clauses s.store; written = s.written.items; best = if s.found then Some s.best else None; clause_lines = s.clause_lines; lemmas = s.lemmas; restarts = s.restarts; since = s.since; over = s.over }; sources = map P.source s.props.items; marks = s.marks.items } };
+    ghost view = { λ s. record { search = record { problem = s.flat.now; branching = s.branching; trail = s.trail; stored = S.clauses s.store; written = s.written.items; best = if s.found then Some s.best else None; clause_lines = s.clause_lines; lemmas = s.lemmas; restarts = s.restarts; since = s.since; over = s.over }; sources = map P.source s.props.items; marks = s.marks } };
 
     ghost invariant = { λ s.
-        KeepsEngine (record { search = record { problem = s.flat.now; branching = s.branching; trail = s.trail; stored = S.clauses s.store; written = s.written.items; best = if s.found then Some s.best else None; clause_lines = s.clause_lines; lemmas = s.lemmas; restarts = s.restarts; since = s.since; over = s.over }; sources = map P.source s.props.items; marks = s.marks.items }) s.speakers s.goal s.best s.worth (vec_capacity s.written)
+        KeepsEngine (record { search = record { problem = s.flat.now; branching = s.branching; trail = s.trail; stored = S.clauses s.store; written = s.written.items; best = if s.found then Some s.best else None; clause_lines = s.clause_lines; lemmas = s.lemmas; restarts = s.restarts; since = s.since; over = s.over }; sources = map P.source s.props.items; marks = s.marks }) s.speakers s.goal s.best s.worth (vec_capacity s.written)
         × (S.ships s.store ≡ s.flat.now.ships)
         × S.ready s.store (room_of s.trail)
         × All (λ one. P.serves one s.flat.now) s.props.items };
@@ -125,7 +126,7 @@ impl<'f, S: Store + Drop, P: Propagator + Drop> Engine<'f, S, P> {
         let sources = sources_of(alloc, &props)?;
         let goal = goal_of(&sources);
         let speakers = Speakers::new(alloc, flat, &sources)?;
-        let marks = vec![in alloc; true; props.len()]?;
+        let marks = Marks::all(alloc, props.len())?;
         Ok(Engine {
             alloc,
             flat,

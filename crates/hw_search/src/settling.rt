@@ -1,7 +1,7 @@
 //! Settling: store and sources are asked in rounds until all are quiet or a clause has no
 //! literal left.
 
-ghost use Rattle.std.specs.Prelude.{◌≡◌, ◌<◌, [], ◌∷◌, false, true, Ok, Some, length, slice_set};
+ghost use Rattle.std.specs.Prelude.{◌≡◌, ◌<◌, ◌≤◌, ◌^◌, [], ◌∷◌, false, true, Ok, Some, length, slice_set};
 ghost use Rattle.hw_model.specs.declared.lit.LitTruth.TheVariants.{Free};
 ghost use Rattle.hw_model.specs.declared.narrowing.Narrowed.TheVariants.{Cut as CutBy};
 ghost use Rattle.hw_model.specs.Lits.{lit_fits, IsClause};
@@ -10,14 +10,13 @@ ghost use Rattle.hw_model.specs.Problem.{shape_of};
 ghost use Rattle.hw_model.specs.Replay.{narrowing};
 ghost use Rattle.hw_prop.specs.Finds.{IsActive};
 ghost use Rattle.hw_story.specs.Trails.{trail_shape, clause_of};
-ghost use Rattle.hw_progress.specs.Searches.{room_in, IsReason};
+ghost use Rattle.hw_progress.specs.Searches.{room_in, IsReason, IsSearch};
 ghost use Rattle.hw_progress.specs.Settling.{SettleMeets, with_events};
-ghost use Rattle.hw_search.specs.Marks.{is_marked, ClearWithin};
+ghost use Rattle.hw_search.specs.Marks.{AllClear, NextMarked};
 ghost use Rattle.hw_search.specs.Askings.{AskMeets, StoreMeets, LemmasQuiet, SourcesQuiet};
 
 use crate::asking::{ask_at, clause_of, lemma_of};
 use crate::engine::Engine;
-use crate::marking::{mark, next_marked};
 use hw_lits::{Found, narrowing};
 use hw_model::{Lit, Narrowed, NoMemory};
 use hw_progress::Settled;
@@ -48,7 +47,7 @@ impl<'f, S: Store + Drop, P: Propagator + Drop> Engine<'f, S, P> {
         self.store.changed(self.trail.room(), lit);
         self.trail.imply(lit, why);
         self.written.push_reserved(None);
-        mark(&mut self.marks, self.speakers.of(lit));
+        self.marks.mark(self.speakers.of(lit));
     }
 
     // Takes the literal that a clause has left, or tells that it has none. It takes no memory.
@@ -114,22 +113,35 @@ impl<'f, S: Store + Drop, P: Propagator + Drop> Engine<'f, S, P> {
         )?;
         match found {
             Found::Quiet => {
-                self.marks[place] = false;
+                self.marks.clear(place);
                 Ok(Asked::Quiet)
             }
             Found::Clause(clause) => Ok(self.take(Why::Source { source, clause })),
         }
     }
 
+    // The first marked source from a place on. Where none is marked each is quiet.
+    fn next_marked(&mut self, from: usize) -> Option<usize>
+        requires within { from ≤ length self.old.sources }
+        ensures next { NextMarked self.new.marks from result }
+        ensures same { self.new ≡ self.old }
+        ensures search { IsSearch self.new.search }
+        ensures each { length self.new.marks ≡ length self.new.sources }
+        ensures few { length self.new.sources < 2 ^ 64 }
+        ensures quiet { AllClear self.new.marks → SourcesQuiet self.new.search }
+    {
+        self.marks.next(from)
+    }
+
     // Asks each marked source in turn, each until it is quiet. A round that brings a cut may leave
-    // marks behind. It goes over all marks once, and asks no other source.
+    // marks behind. It goes over the marks once, block by block, and asks no other source.
     fn ask_round(&mut self) -> Result<Asked, NoMemory>
         ensures meets { AskMeets (SourcesQuiet self.new.search) self.old.search self.new.search result }
         ensures sources { self.new.sources ≡ self.old.sources }
     {
         let mut cut = false;
         let mut from = 0;
-        while let Some(place) = next_marked(&self.marks, from) {
+        while let Some(place) = self.next_marked(from) {
             match self.ask(place)? {
                 Asked::Quiet => from = place + 1,
                 Asked::Cut => {

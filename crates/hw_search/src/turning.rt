@@ -18,7 +18,6 @@ use crate::branching::branch;
 use crate::engine::Engine;
 use crate::going_back::{go_back, next_level};
 use crate::handing::hand_why;
-use crate::marking::{mark, mark_only};
 use crate::writing::{Written, hand_table, write_lemma};
 use hw_cert::{Log, LogStop};
 use hw_flat::Timetable;
@@ -75,7 +74,7 @@ impl<'f, S: Store + Drop, P: Propagator + Drop> Engine<'f, S, P> {
         self.store.changed(self.trail.room(), lit);
         self.trail.decide(lit);
         self.written.push_reserved(None);
-        mark(&mut self.marks, self.speakers.of(lit));
+        self.marks.mark(self.speakers.of(lit));
     }
 
     // Takes a better timetable, and marks the goal.
@@ -87,7 +86,7 @@ impl<'f, S: Store + Drop, P: Propagator + Drop> Engine<'f, S, P> {
         self.worth = cargo(self.flat, &table);
         self.best = table;
         self.found = true;
-        self.marks[self.goal] = true;
+        self.marks.set(self.goal);
     }
 
     // Writes the timetable of a quiet point room.
@@ -163,7 +162,7 @@ impl<'f, S: Store + Drop, P: Propagator + Drop> Engine<'f, S, P> {
                     self.over = true;
                     return Turn::Ended;
                 }
-                mark_only(&mut self.marks, self.goal);
+                self.marks.mark_only(self.goal);
                 let level = next_level(&mut self.restarts, &mut self.since, back);
                 let gone = go_back(
                     self.alloc,

@@ -1,4 +1,4 @@
-use Rattle.std.proofs.Common.{◌≡◌, ◌+◌, length, None, subst, sym, ◌∙◌, ap, arith, refl}
+use Rattle.std.proofs.Common.{◌≡◌, ◌+◌, None, subst, sym, ◌∙◌, ap, arith, refl}
 use Rattle.hw_model.specs.declared.lit.LitTruth.TheVariants.{Free}
 use Rattle.hw_model.specs.Lits.{IsLitOf}
 use Rattle.hw_model.specs.Narrowing.{truth, cut}
@@ -10,7 +10,7 @@ use Rattle.hw_progress.specs.Searches.{room_in}
 use Rattle.hw_progress.specs.Settling.{AllQuiet}
 use Rattle.hw_progress.specs.Starting.{Branches}
 use Rattle.hw_search.specs.Engines.{EngineModel}
-use Rattle.hw_search.proofs.Markings.{marks_through}
+use Rattle.hw_search.specs.Marks.{MarksPlaces}
 use Rattle.hw_search.proofs.Kept.{of_view}
 use Rattle.hw_search.proofs.Turns.{open_in, room_to_decide, kept_decided}
 use Rattle.hw_search.proofs.engine.Engine.decide.Goals as goal
@@ -48,12 +48,10 @@ pub invariant_of-self : goal.invariant_of-self
 invariant_of-self g c =
     let lit = c.branch-lit.result in
     let o = open_in _ _ c.branch-lit.result c.self.invariant.0.search (of_view _ _ (λ (e : EngineModel). IsPoint (room_in e.search) → ⊥) c.self.view_is c.requires.wide) refl (of_view _ _ (λ (e : EngineModel). Branches e.search c.branch-lit.result) c.self.view_is c.branch-lit.ensures.value) in
-    let whole : c.deref_mut.result.now ≡ c.self.inside.marks.items = c.deref_mut.ensures.value in
-    let n : c.self.inside.marks.len ≡ length c.mark.new.marks = omega (arith, c.self.inside.marks.ok.0, ap length whole, c.mark.ensures.marks.same_length) in
     let event : Event = record { lit = lit; level = c.self.inside.trail.level + 1; why = None } in (
       kept_decided _ _ _ _ _ _ _ lit _ _ _ _ c.self.invariant.0 (of_view _ _ (λ (e : EngineModel). AllQuiet e.search) c.self.view_is c.requires.quiet) o
           c.decide.ensures.value c.changed.ensures.same c.push_reserved.ensures.items
-          (marks_through _ _ _ _ _ _ c.of.ensures.value whole n c.mark.ensures.marks)
+          (subst (λ xs. MarksPlaces xs c.self.inside.marks c.mark.new.self) c.of.ensures.value c.mark.ensures.marks)
           c.push_reserved.ensures.capacity,
       c.changed.ensures.ships ∙ c.self.invariant.1,
       subst (g.S.Store.ready c.changed.new.self) (ap (cut lit) c.room.ensures.value ∙ sym (more_room c.self.inside.trail event) ∙ ap room_of (sym c.decide.ensures.value)) c.changed.ensures.ready,

@@ -1,4 +1,4 @@
-use Rattle.std.proofs.Common.{◌≡◌, true, length, Some, subst, sym, ◌∙◌, ap, arith}
+use Rattle.std.proofs.Common.{◌≡◌, true, Some, subst, sym, ◌∙◌, ap, arith}
 use Rattle.hw_model.specs.declared.lit.LitTruth.TheVariants.{Free}
 use Rattle.hw_model.specs.declared.narrowing.Narrowed.TheVariants.{Cut}
 use Rattle.hw_model.specs.Lits.{lit_fits, IsClause}
@@ -9,7 +9,7 @@ use Rattle.hw_story.specs.Trails.{trail_shape, clause_of, room_of}
 use Rattle.hw_story.proofs.Kept.{more_room}
 use Rattle.hw_progress.specs.Searches.{room_in, IsReason}
 use Rattle.hw_search.specs.Engines.{EngineModel}
-use Rattle.hw_search.proofs.Markings.{marks_through}
+use Rattle.hw_search.specs.Marks.{MarksPlaces}
 use Rattle.hw_search.proofs.Kept.{of_view, one_more, kept_implied}
 use Rattle.hw_search.proofs.engine.Engine.imply.Goals as goal
 
@@ -26,8 +26,6 @@ push_reserved-requires g c =
 pub invariant_of-self : goal.invariant_of-self
 invariant_of-self g c =
     let lit = c.args.lit in
-    let whole : c.deref_mut.result.now ≡ c.self.inside.marks.items = c.deref_mut.ensures.value in
-    let n : c.self.inside.marks.len ≡ length c.mark.new.marks = omega (arith, c.self.inside.marks.ok.0, ap length whole, c.mark.ensures.marks.same_length) in
     let event : Event = record { lit = c.args.lit; level = c.self.inside.trail.level; why = Some c.args.why } in (
       kept_implied _ _ _ _ _ _ _ c.args.lit c.args.why _ _ _ _ c.self.invariant.0
           (of_view _ _ (λ (e : EngineModel). lit_fits (trail_shape e.search.trail) c.args.lit ≡ true) c.self.view_is c.requires.fits)
@@ -36,7 +34,7 @@ invariant_of-self g c =
           (of_view _ _ (λ (e : EngineModel). narrowing (clause_of c.args.why) (room_in e.search) ≡ Cut c.args.lit) c.self.view_is c.requires.only)
           (of_view _ _ (λ (e : EngineModel). IsReason e.search c.args.why) c.self.view_is c.requires.reason)
           c.imply.ensures.value c.changed.ensures.same c.push_reserved.ensures.items
-          (marks_through _ _ _ _ _ _ c.of.ensures.value whole n c.mark.ensures.marks)
+          (subst (λ xs. MarksPlaces xs c.self.inside.marks c.mark.new.self) c.of.ensures.value c.mark.ensures.marks)
           c.push_reserved.ensures.capacity,
       c.changed.ensures.ships ∙ c.self.invariant.1,
       subst (g.S.Store.ready c.changed.new.self) (ap (cut lit) c.room.ensures.value ∙ sym (more_room c.self.inside.trail event) ∙ ap room_of (sym c.imply.ensures.value)) c.changed.ensures.ready,

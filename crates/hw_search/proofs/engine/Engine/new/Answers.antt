@@ -44,9 +44,8 @@ invariant_of-result g c =
     let most : most_events c.args.flat.now.ships c.args.flat.now.slots ≡ most_events c.shape-shape.result.ships c.shape-shape.result.slots = ap (λ (s : Shape). most_events s.ships s.slots) (sym c.shape-shape.ensures.value) in
     let exact = c.in_ok-written.ensures.exact in
     let count : c.len.result ≡ length (map g.P.Propagator.source c.args.props.items) = omega (arith, c.len.ensures, c.args.props.ok.0, length-map c.args.props.items g.P.Propagator.source) in
-    let filled = c.in_ok-marks.ensures.items_if_clones_equal (λ y e. e) in
-    let marks : c.in_ok-marks.marks.items ≡ replicate (length (map g.P.Propagator.source c.args.props.items)) true = filled ∙ ap (λ n. replicate n true) count in (
-      kept_new c.args.flat.now c.args.branching (map g.P.Propagator.source c.args.props.items) _ _ _ _ c.in_ok-trail.trail (g.S.Store.clauses c.args.store) c.in_ok-written.written.items c.in_ok-marks.marks.items c.shape-shape.ensures.limits c.requires.sources of tells at long (omega (arith, most, exact)) c.in_ok-trail.ensures.value c.requires.empty c.in_ok-written.ensures.items marks,
+    let marks : c.in_ok-marks.marks ≡ replicate (length (map g.P.Propagator.source c.args.props.items)) true = c.in_ok-marks.ensures.value ∙ ap (λ n. replicate n true) count in (
+      kept_new c.args.flat.now c.args.branching (map g.P.Propagator.source c.args.props.items) _ _ _ _ c.in_ok-trail.trail (g.S.Store.clauses c.args.store) c.in_ok-written.written.items c.in_ok-marks.marks c.shape-shape.ensures.limits c.requires.sources of tells at long (omega (arith, most, exact)) c.in_ok-trail.ensures.value c.requires.empty c.in_ok-written.ensures.items marks,
       c.requires.ships,
       subst (λ (t : TrailModel). g.S.Store.ready c.args.store (room_of t)) (sym c.in_ok-trail.ensures.value) c.requires.right,
       all,

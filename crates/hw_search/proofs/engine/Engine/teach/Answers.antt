@@ -16,7 +16,6 @@ use Rattle.hw_search.proofs.Answering.{same_mid, stopped_early}
 use Rattle.hw_search.proofs.Ending.{turned}
 use Rattle.hw_search.proofs.Handed.{all_whole}
 use Rattle.hw_search.proofs.Lessons.{teaches, places_inside, numbers_left, level_below, lits_here, numbers_below, goal_marked, kept_back, no_lits}
-use Rattle.hw_search.proofs.Markings.{written_whole}
 use Rattle.hw_search.proofs.Taught.{Teaches, WentBack, analysed, went, went_search, stopped_past, went_meets, stop_meets_past}
 use Rattle.hw_search.proofs.Teaching.{lemma_stops, last_meets}
 use Rattle.hw_cert.specs.declared.log.LogStop.TheVariants as stops
@@ -32,7 +31,7 @@ returns-in_default-clause-turns g c = λ s b settles.
 pub write_lemma-written-requires-clause-places_in : goal.write_lemma-written-requires-clause-places_in
 write_lemma-written-requires-clause-places_in g c =
     let mid : SearchModel = record { problem = c.self.inside.flat.now; branching = c.self.inside.branching; trail = c.self.inside.trail; stored = g.S.Store.clauses c.self.inside.store; written = c.self.inside.written.items; best = if c.self.inside.found then Some c.self.inside.best else None; clause_lines = c.self.inside.clause_lines; lemmas = c.self.inside.lemmas; restarts = c.self.inside.restarts; since = c.self.inside.since; over = c.self.inside.over } in
-    let e : EngineModel = record { search = mid; sources = map g.P.Propagator.source c.self.inside.props.items; marks = c.self.inside.marks.items } in
+    let e : EngineModel = record { search = mid; sources = map g.P.Propagator.source c.self.inside.props.items; marks = c.self.inside.marks } in
     let why = c.args.why.now in
     let lemma = c.in-Ok.learnt.lemma in
     let back = c.in-Ok.learnt.back in
@@ -43,7 +42,7 @@ write_lemma-written-requires-clause-places_in g c =
 pub write_lemma-written-requires-clause-few : goal.write_lemma-written-requires-clause-few
 write_lemma-written-requires-clause-few g c =
     let mid : SearchModel = record { problem = c.self.inside.flat.now; branching = c.self.inside.branching; trail = c.self.inside.trail; stored = g.S.Store.clauses c.self.inside.store; written = c.self.inside.written.items; best = if c.self.inside.found then Some c.self.inside.best else None; clause_lines = c.self.inside.clause_lines; lemmas = c.self.inside.lemmas; restarts = c.self.inside.restarts; since = c.self.inside.since; over = c.self.inside.over } in
-    let e : EngineModel = record { search = mid; sources = map g.P.Propagator.source c.self.inside.props.items; marks = c.self.inside.marks.items } in
+    let e : EngineModel = record { search = mid; sources = map g.P.Propagator.source c.self.inside.props.items; marks = c.self.inside.marks } in
     let why = c.args.why.now in
     let lemma = c.in-Ok.learnt.lemma in
     let back = c.in-Ok.learnt.back in
@@ -54,7 +53,7 @@ write_lemma-written-requires-clause-few g c =
 pub returns-then-len-eq0-clause-turns : goal.returns-then-len-eq0-clause-turns
 returns-then-len-eq0-clause-turns g c = λ s b settles.
     let mid : SearchModel = record { problem = c.self.inside.flat.now; branching = c.self.inside.branching; trail = c.self.inside.trail; stored = g.S.Store.clauses c.self.inside.store; written = c.self.inside.written.items; best = if c.self.inside.found then Some c.self.inside.best else None; clause_lines = c.self.inside.clause_lines; lemmas = c.self.inside.lemmas; restarts = c.self.inside.restarts; since = c.self.inside.since; over = c.self.inside.over } in
-    let e : EngineModel = record { search = mid; sources = map g.P.Propagator.source c.self.inside.props.items; marks = c.self.inside.marks.items } in
+    let e : EngineModel = record { search = mid; sources = map g.P.Propagator.source c.self.inside.props.items; marks = c.self.inside.marks } in
     let why = c.args.why.now in
     let lemma = c.in-Ok.learnt.lemma in
     let back = c.in-Ok.learnt.back in
@@ -76,7 +75,7 @@ returns-then-len-eq0-clause-turns g c = λ s b settles.
 pub go_back-gone-requires-clause-level : goal.go_back-gone-requires-clause-level
 go_back-gone-requires-clause-level g c =
     let mid : SearchModel = record { problem = c.self.inside.flat.now; branching = c.self.inside.branching; trail = c.self.inside.trail; stored = g.S.Store.clauses c.self.inside.store; written = c.self.inside.written.items; best = if c.self.inside.found then Some c.self.inside.best else None; clause_lines = c.self.inside.clause_lines; lemmas = c.self.inside.lemmas; restarts = c.self.inside.restarts; since = c.self.inside.since; over = c.self.inside.over } in
-    let e : EngineModel = record { search = mid; sources = map g.P.Propagator.source c.self.inside.props.items; marks = c.self.inside.marks.items } in
+    let e : EngineModel = record { search = mid; sources = map g.P.Propagator.source c.self.inside.props.items; marks = c.self.inside.marks } in
     let why = c.args.why.now in
     let lemma = c.in-Ok.learnt.lemma in
     let back = c.in-Ok.learnt.back in
@@ -96,7 +95,7 @@ go_back-gone-requires-clause-level g c =
 pub go_back-gone-requires-clause-lits : goal.go_back-gone-requires-clause-lits
 go_back-gone-requires-clause-lits g c =
     let mid : SearchModel = record { problem = c.self.inside.flat.now; branching = c.self.inside.branching; trail = c.self.inside.trail; stored = g.S.Store.clauses c.self.inside.store; written = c.self.inside.written.items; best = if c.self.inside.found then Some c.self.inside.best else None; clause_lines = c.self.inside.clause_lines; lemmas = c.self.inside.lemmas; restarts = c.self.inside.restarts; since = c.self.inside.since; over = c.self.inside.over } in
-    let e : EngineModel = record { search = mid; sources = map g.P.Propagator.source c.self.inside.props.items; marks = c.self.inside.marks.items } in
+    let e : EngineModel = record { search = mid; sources = map g.P.Propagator.source c.self.inside.props.items; marks = c.self.inside.marks } in
     let why = c.args.why.now in
     let lemma = c.in-Ok.learnt.lemma in
     let back = c.in-Ok.learnt.back in
@@ -115,7 +114,7 @@ go_back-gone-requires-clause-lits g c =
 pub go_back-gone-requires-clause-above : goal.go_back-gone-requires-clause-above
 go_back-gone-requires-clause-above g c =
     let mid : SearchModel = record { problem = c.self.inside.flat.now; branching = c.self.inside.branching; trail = c.self.inside.trail; stored = g.S.Store.clauses c.self.inside.store; written = c.self.inside.written.items; best = if c.self.inside.found then Some c.self.inside.best else None; clause_lines = c.self.inside.clause_lines; lemmas = c.self.inside.lemmas; restarts = c.self.inside.restarts; since = c.self.inside.since; over = c.self.inside.over } in
-    let e : EngineModel = record { search = mid; sources = map g.P.Propagator.source c.self.inside.props.items; marks = c.self.inside.marks.items } in
+    let e : EngineModel = record { search = mid; sources = map g.P.Propagator.source c.self.inside.props.items; marks = c.self.inside.marks } in
     let why = c.args.why.now in
     let lemma = c.in-Ok.learnt.lemma in
     let back = c.in-Ok.learnt.back in
@@ -134,7 +133,7 @@ go_back-gone-requires-clause-above g c =
 pub go_back-gone-requires-clause-whole : goal.go_back-gone-requires-clause-whole
 go_back-gone-requires-clause-whole g c =
     let mid : SearchModel = record { problem = c.self.inside.flat.now; branching = c.self.inside.branching; trail = c.self.inside.trail; stored = g.S.Store.clauses c.self.inside.store; written = c.self.inside.written.items; best = if c.self.inside.found then Some c.self.inside.best else None; clause_lines = c.self.inside.clause_lines; lemmas = c.self.inside.lemmas; restarts = c.self.inside.restarts; since = c.self.inside.since; over = c.self.inside.over } in
-    let e : EngineModel = record { search = mid; sources = map g.P.Propagator.source c.self.inside.props.items; marks = c.self.inside.marks.items } in
+    let e : EngineModel = record { search = mid; sources = map g.P.Propagator.source c.self.inside.props.items; marks = c.self.inside.marks } in
     let why = c.args.why.now in
     let lemma = c.in-Ok.learnt.lemma in
     let back = c.in-Ok.learnt.back in
@@ -153,7 +152,7 @@ go_back-gone-requires-clause-whole g c =
 pub invariant_of-self-in-Ok-gone : goal.invariant_of-self-in-Ok-gone
 invariant_of-self-in-Ok-gone g c =
     let mid : SearchModel = record { problem = c.self.inside.flat.now; branching = c.self.inside.branching; trail = c.self.inside.trail; stored = g.S.Store.clauses c.self.inside.store; written = c.self.inside.written.items; best = if c.self.inside.found then Some c.self.inside.best else None; clause_lines = c.self.inside.clause_lines; lemmas = c.self.inside.lemmas; restarts = c.self.inside.restarts; since = c.self.inside.since; over = c.self.inside.over } in
-    let e : EngineModel = record { search = mid; sources = map g.P.Propagator.source c.self.inside.props.items; marks = c.self.inside.marks.items } in
+    let e : EngineModel = record { search = mid; sources = map g.P.Propagator.source c.self.inside.props.items; marks = c.self.inside.marks } in
     let why = c.args.why.now in
     let lemma = c.in-Ok.learnt.lemma in
     let back = c.in-Ok.learnt.back in
@@ -177,13 +176,10 @@ invariant_of-self-in-Ok-gone g c =
     let level = c.next_level-level.result in
     let w : WentBack mid why lemma back places trail left ws lines restarts since level = record { numbers = numbers; next = c.next_level-level.ensures.next; at = c.in-Ok-gone.ensures.trail; taken = c.in-Ok-gone.ensures.written } in
     let tidies = subst (λ (xs : List Lit). Tidies {A = Unit {0}} mid.stored (record { number = lines; clause = xs }) ws (length (back_to mid.trail level).events) own (Ok tt) stored wrote new) same c.in-Ok-gone.ensures.tidies in
-    let n : c.self.inside.marks.len ≡ length c.mark_only.new.marks = omega (arith, c.self.inside.marks.ok.0, ap length c.deref_mut.ensures.value, c.mark_only.ensures.same_length) in
-    let whole = written_whole c.self.inside.marks.len c.mark_only.new.marks c.self.inside.marks.items n in
-    let many = ap length whole ∙ c.mark_only.ensures.same_length ∙ ap length c.deref_mut.ensures.value in
-    let marked = goal_marked c.self.inside.goal c.self.inside.marks.len e.sources c.mark_only.new.marks c.self.inside.marks.items c.deref_mut.result.now n c.deref_mut.ensures.value c.mark_only.ensures.same_length c.self.invariant.0.each_mark c.self.invariant.0.goal_at c.mark_only.ensures.marked in
+    let marked = goal_marked c.self.inside.goal e.sources c.mark_only.new.self c.self.inside.marks c.self.invariant.0.each_mark c.self.invariant.0.goal_at c.mark_only.ensures.marked in
     let below = level_below mid why lemma back places restarts since level t literal c.next_level-level.ensures.next in
     let cap = c.go_back-gone.ensures.capacity ∙ c.write_lemma-written.ensures.capacity in (
-      kept_back e _ _ _ _ _ _ level (went mid trail stored left lines restarts since) _ c.self.invariant.0 (went_search mid why lemma back places trail stored left ws lines restarts since level t literal w tidies.0) refl refl w.at below many marked cap,
+      kept_back e _ _ _ _ _ _ level (went mid trail stored left lines restarts since) _ c.self.invariant.0 (went_search mid why lemma back places trail stored left ws lines restarts since level t literal w tidies.0) refl refl w.at below c.mark_only.ensures.same_length marked cap,
       c.in-Ok-gone.ensures.ships ∙ c.self.invariant.1,
       c.in-Ok-gone.ensures.ready,
       c.self.invariant.3,
@@ -192,7 +188,7 @@ invariant_of-self-in-Ok-gone g c =
 pub returns-in-Ok-gone-clause-turns : goal.returns-in-Ok-gone-clause-turns
 returns-in-Ok-gone-clause-turns g c = λ s b settles.
     let mid : SearchModel = record { problem = c.self.inside.flat.now; branching = c.self.inside.branching; trail = c.self.inside.trail; stored = g.S.Store.clauses c.self.inside.store; written = c.self.inside.written.items; best = if c.self.inside.found then Some c.self.inside.best else None; clause_lines = c.self.inside.clause_lines; lemmas = c.self.inside.lemmas; restarts = c.self.inside.restarts; since = c.self.inside.since; over = c.self.inside.over } in
-    let e : EngineModel = record { search = mid; sources = map g.P.Propagator.source c.self.inside.props.items; marks = c.self.inside.marks.items } in
+    let e : EngineModel = record { search = mid; sources = map g.P.Propagator.source c.self.inside.props.items; marks = c.self.inside.marks } in
     let why = c.args.why.now in
     let lemma = c.in-Ok.learnt.lemma in
     let back = c.in-Ok.learnt.back in
@@ -222,7 +218,7 @@ returns-in-Ok-gone-clause-turns g c = λ s b settles.
 pub invariant_of-self-in-Err-gone : goal.invariant_of-self-in-Err-gone
 invariant_of-self-in-Err-gone g c =
     let mid : SearchModel = record { problem = c.self.inside.flat.now; branching = c.self.inside.branching; trail = c.self.inside.trail; stored = g.S.Store.clauses c.self.inside.store; written = c.self.inside.written.items; best = if c.self.inside.found then Some c.self.inside.best else None; clause_lines = c.self.inside.clause_lines; lemmas = c.self.inside.lemmas; restarts = c.self.inside.restarts; since = c.self.inside.since; over = c.self.inside.over } in
-    let e : EngineModel = record { search = mid; sources = map g.P.Propagator.source c.self.inside.props.items; marks = c.self.inside.marks.items } in
+    let e : EngineModel = record { search = mid; sources = map g.P.Propagator.source c.self.inside.props.items; marks = c.self.inside.marks } in
     let why = c.args.why.now in
     let lemma = c.in-Ok.learnt.lemma in
     let back = c.in-Ok.learnt.back in
@@ -246,13 +242,10 @@ invariant_of-self-in-Err-gone g c =
     let level = c.next_level-level.result in
     let w : WentBack mid why lemma back places trail left ws lines restarts since level = record { numbers = numbers; next = c.next_level-level.ensures.next; at = c.in-Err-gone.ensures.trail; taken = c.in-Err-gone.ensures.written } in
     let tidies = subst (λ (xs : List Lit). Tidies {A = Unit {0}} mid.stored (record { number = lines; clause = xs }) ws (length (back_to mid.trail level).events) own (Err c.in-Err-gone.stop) stored wrote new) same c.in-Err-gone.ensures.tidies in
-    let n : c.self.inside.marks.len ≡ length c.mark_only.new.marks = omega (arith, c.self.inside.marks.ok.0, ap length c.deref_mut.ensures.value, c.mark_only.ensures.same_length) in
-    let whole = written_whole c.self.inside.marks.len c.mark_only.new.marks c.self.inside.marks.items n in
-    let many = ap length whole ∙ c.mark_only.ensures.same_length ∙ ap length c.deref_mut.ensures.value in
-    let marked = goal_marked c.self.inside.goal c.self.inside.marks.len e.sources c.mark_only.new.marks c.self.inside.marks.items c.deref_mut.result.now n c.deref_mut.ensures.value c.mark_only.ensures.same_length c.self.invariant.0.each_mark c.self.invariant.0.goal_at c.mark_only.ensures.marked in
+    let marked = goal_marked c.self.inside.goal e.sources c.mark_only.new.self c.self.inside.marks c.self.invariant.0.each_mark c.self.invariant.0.goal_at c.mark_only.ensures.marked in
     let below = level_below mid why lemma back places restarts since level t literal c.next_level-level.ensures.next in
     let cap = c.go_back-gone.ensures.capacity ∙ c.write_lemma-written.ensures.capacity in (
-      kept_back e _ _ _ _ _ _ level (record (went mid trail stored left lines restarts since) { over = true }) _ c.self.invariant.0 (stopped_past mid why lemma back places trail stored left ws lines restarts since level c.in-Err-gone.stop t literal w tidies.0) refl refl w.at below many marked cap,
+      kept_back e _ _ _ _ _ _ level (record (went mid trail stored left lines restarts since) { over = true }) _ c.self.invariant.0 (stopped_past mid why lemma back places trail stored left ws lines restarts since level c.in-Err-gone.stop t literal w tidies.0) refl refl w.at below c.mark_only.ensures.same_length marked cap,
       c.in-Err-gone.ensures.ships ∙ c.self.invariant.1,
       c.in-Err-gone.ensures.ready,
       c.self.invariant.3,
@@ -261,7 +254,7 @@ invariant_of-self-in-Err-gone g c =
 pub returns-in-Ok-written-clause-turns : goal.returns-in-Ok-written-clause-turns
 returns-in-Ok-written-clause-turns g c = λ s b settles.
     let mid : SearchModel = record { problem = c.self.inside.flat.now; branching = c.self.inside.branching; trail = c.self.inside.trail; stored = g.S.Store.clauses c.self.inside.store; written = c.self.inside.written.items; best = if c.self.inside.found then Some c.self.inside.best else None; clause_lines = c.self.inside.clause_lines; lemmas = c.self.inside.lemmas; restarts = c.self.inside.restarts; since = c.self.inside.since; over = c.self.inside.over } in
-    let e : EngineModel = record { search = mid; sources = map g.P.Propagator.source c.self.inside.props.items; marks = c.self.inside.marks.items } in
+    let e : EngineModel = record { search = mid; sources = map g.P.Propagator.source c.self.inside.props.items; marks = c.self.inside.marks } in
     let why = c.args.why.now in
     let lemma = c.in-Ok.learnt.lemma in
     let back = c.in-Ok.learnt.back in
@@ -292,7 +285,7 @@ returns-in-Ok-written-clause-turns g c = λ s b settles.
 pub returns-clause-turns : goal.returns-clause-turns
 returns-clause-turns g c = λ s b settles.
     let mid : SearchModel = record { problem = c.self.inside.flat.now; branching = c.self.inside.branching; trail = c.self.inside.trail; stored = g.S.Store.clauses c.self.inside.store; written = c.self.inside.written.items; best = if c.self.inside.found then Some c.self.inside.best else None; clause_lines = c.self.inside.clause_lines; lemmas = c.self.inside.lemmas; restarts = c.self.inside.restarts; since = c.self.inside.since; over = c.self.inside.over } in
-    let e : EngineModel = record { search = mid; sources = map g.P.Propagator.source c.self.inside.props.items; marks = c.self.inside.marks.items } in
+    let e : EngineModel = record { search = mid; sources = map g.P.Propagator.source c.self.inside.props.items; marks = c.self.inside.marks } in
     let why = c.args.why.now in
     let lemma = c.in-Ok.learnt.lemma in
     let back = c.in-Ok.learnt.back in
