@@ -12,7 +12,7 @@ use Rattle.hw_flat.specs.Text.{Fault, fault, ◌>>=◌, rows_at, rules_at, probl
 use Rattle.hw_flat.specs.TextForms.{header_form, size_form, row_form, rule_form}
 use Rattle.hw_flat.proofs.TextRows.{text_read}
 use Rattle.hw_flat_laws.specs.FirstLines.{line_behind, line_of}
-use Rattle.hw_flat_laws.specs.Wanted.{Begins, IsWanted}
+use Rattle.hw_flat_laws.specs.Wanted.{SaysSize, IsWanted}
 use Rattle.hw_flat_laws.proofs.Same.{Parts, Full, Same, full_after, full_is, full_some, has, behind_next, behind_front, drop_front}
 use Rattle.hw_flat_laws.proofs.Refusals.{Refused, followed, behind_lines}
 use Rattle.hw_flat_laws.proofs.ShipLines.{Row, Ended, filled, is_err, not_both, ships_refused, ships_read, ships_leave, last_ship}
@@ -58,7 +58,7 @@ body_mended stay size =
     record { first = f.first; more = f.more; values = f.value.0; reads = ap (λ (r : Result (Row × Parts) Fault). r >>= λ rows. closing stay size rows.0 rows.1) f.reads ∙ ap (closing stay size f.value.0) f.ended ∙ closed_here stay size f.value.0 }
 
 -- the numbers of ships and slots keep the limits
-limits_of : (header size_line : List ℕ) (stay : Bool) (size : ℕ × ℕ) → header_form header ≡ Some stay → size_form size_line ≡ Some size → IsFlat (problem_of stay size (body_mended stay size).values [])
+pub limits_of : (header size_line : List ℕ) (stay : Bool) (size : ℕ × ℕ) → header_form header ≡ Some stay → size_form size_line ≡ Some size → IsFlat (problem_of stay size (body_mended stay size).values [])
 limits_of header size_line stay size a b =
     let m = body_mended stay size in
     let whole : text_of (header ∷ size_line ∷ m.first ∷ m.more) ≡ Ok (problem_of stay size m.values []) = text_body header size_line (m.first ∷ m.more) stay size a b (m.first, m.more, refl) ∙ m.reads in
@@ -114,10 +114,10 @@ pub record BodyRefused (header size_line : List ℕ) (stay : Bool) (size : ℕ �
   pub wanted : IsWanted (header ∷ size_line ∷ body) e.number e.word
   pub refused : Refused AnyProblem (body_at stay size) body e count
 
-begun : (header size_line : List ℕ) (body : Parts) (stay : Bool) (size : ℕ × ℕ) → header_form header ≡ Some stay → size_form size_line ≡ Some size → Full body → Begins (header ∷ size_line ∷ body) stay size.0 size.1
+begun : (header size_line : List ℕ) (body : Parts) (stay : Bool) (size : ℕ × ℕ) → header_form header ≡ Some stay → size_form size_line ≡ Some size → Full body → SaysSize (header ∷ size_line ∷ body) stay size.0 size.1
 begun header size_line body stay size a b full = record { header = a; size = rw full.2 b }
 
-numbered : (header size_line : List ℕ) (body : Parts) (number count : ℕ) → number ≡ 3 + count → Full body → line_of (header ∷ size_line ∷ body) number ≡ line_behind count body
+pub numbered : (header size_line : List ℕ) (body : Parts) (number count : ℕ) → number ≡ 3 + count → Full body → line_of (header ∷ size_line ∷ body) number ≡ line_behind count body
 numbered header size_line body number count place full =
     let n : number - 1 ≡ suc (suc count) = omega (arith, place) in
     ap (λ i. line_behind i (header ∷ size_line ∷ body)) n ∙ behind_next count size_line body full
@@ -132,7 +132,7 @@ ships_bad header size_line stay size body e a b full h =
         stay = stay;
         ships = size.0;
         slots = size.1;
-        begins = begun header size_line body stay size a b full;
+        said = begun header size_line body stay size a b full;
         behind_size = omega (arith, r.place);
         before_rules = omega (arith, r.place, r.below);
         wrong = ap (has (row_form stay size.1)) (numbered header size_line body e.number r.count r.place full) ∙ r.wrong;
@@ -150,13 +150,13 @@ before_rule stay size front rest body x (suc j) i lines full each h earlier n =
     let place : length front + j ≡ i = omega (arith, n) in
     λ s. earlier j refl (sym (behind_front j front rest full) ∙ ap (λ k. line_behind k (front ++ rest)) place ∙ ap (line_behind i) (sym lines) ∙ s)
 
-says_wanted : (parts rest : Parts) (stay : Bool) (ships slots number count : ℕ) (word : FlatWord) → Begins parts stay ships slots → number ≡ 3 + ships + count → count ≤ 4_000 → line_of parts (number - 1) ≢ Some (codes "end") → line_of parts number ≡ line_behind count rest → SaysOfRule ships 4_000 count rest word
+says_wanted : (parts rest : Parts) (stay : Bool) (ships slots number count : ℕ) (word : FlatWord) → SaysSize parts stay ships slots → number ≡ 3 + ships + count → count ≤ 4_000 → line_of parts (number - 1) ≢ Some (codes "end") → line_of parts number ≡ line_behind count rest → SaysOfRule ships 4_000 count rest word
     → IsWanted parts number word
 says_wanted parts rest stay ships slots number count words.Rule begins place few before line s = record {
   stay = stay;
   ships = ships;
   slots = slots;
-  begins = begins;
+  said = begins;
   behind_ships = omega (arith, place);
   few_rules = omega (arith, place, few);
   no_end_before = before;
@@ -167,7 +167,7 @@ says_wanted parts rest stay ships slots number count words.Many begins place few
   stay = stay;
   ships = ships;
   slots = slots;
-  begins = begins;
+  said = begins;
   behind_rules = omega (arith, place, s.0);
   no_end_before = before;
   rule = s.1.0;
@@ -229,7 +229,7 @@ tail_bad header size_line stay size body x y e a b full h k t =
         stay = stay;
         ships = size.0;
         slots = size.1;
-        begins = begun header size_line body stay size a b full;
+        said = begun header size_line body stay size a b full;
         behind_ships = omega (arith, place, total);
         few_rules = omega (arith, place, total, g.few);
         end = ends;

@@ -4,3 +4,7 @@ pub mod ShipLines
 pub mod RuleLines
 pub mod Bodies
 pub mod Texts
+pub mod GoodBodies
+pub mod OneWord
+pub mod Converse
+pub mod Rows

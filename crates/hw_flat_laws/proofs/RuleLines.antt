@@ -1,5 +1,5 @@
 -- The lines of the rules, where one is bad and where none is.
-use Rattle.std.proofs.Common.{◌≡◌, ◌≢◌, ℕ, zero, suc, ◌+◌, ◌-◌, ◌≤◌, true, false, List, [], ◌∷◌, ◌++◌, map, length, Some, None, Result, Ok, Err, refl, sym, ap, ◌∙◌, subst, arith, codes, bytes_eq, append_assoc}
+use Rattle.std.proofs.Common.{◌≡◌, ◌≢◌, ℕ, zero, suc, ◌+◌, ◌-◌, ◌<◌, ◌≤◌, true, false, List, [], ◌∷◌, ◌++◌, map, length, Some, None, Result, Ok, Err, refl, sym, ap, ◌∙◌, subst, arith, codes, bytes_eq, append_assoc}
 use Rattle.std.proofs.lemmas.List.{length-map}
 use Rattle.hw_model.specs.declared.rule.Rule.{Rule}
 use Rattle.hw_flat.specs.declared.fault.FlatWord.{FlatWord}
@@ -134,6 +134,10 @@ rules_were_read ships number room parts x small h =
       reads = λ others full. ap (rules_at ships number room) (append_assoc front (codes "end" ∷ []) others) ∙ rules_back ships number room x.0 others full small r.1 r.2;
     }
 
+last_step : (r : Result (List Rule × Parts) Fault) (rule : Rule) (x : List Rule × Parts) → (r >>= λ y. Ok (rule ∷ y.0, y.1)) ≡ Ok x → (y : List Rule × Parts) × (r ≡ Ok y) × ((rule ∷ y.0, y.1) ≡ x)
+last_step (Err d) rule x k = absurd cc
+last_step (Ok y) rule x k = let e : (rule ∷ y.0, y.1) ≡ x = cc in (y, refl, e)
+
 -- something is left behind `end`
 pub rules_leave : (ships number room : ℕ) (parts : Parts) (x : List Rule × Parts) → rules_at ships number room parts ≡ Ok x → Full x.1
 unfolding rules_at
@@ -153,13 +157,39 @@ rules_leave ships number room (line ∷ next ∷ parts) x h =
                   | zero ↦ λ none. let bad : rules_at ships number room (line ∷ next ∷ parts) ≡ Err (record { number = number; word = words.Many }) = rw (other, form, none) refl in absurd (not_both (rules_at ships number room (line ∷ next ∷ parts)) x _ h bad)
                   | suc less ↦ λ more.
                       let step = rule_step ships number room less line rule (next ∷ parts) other form more (next, parts, refl) in
-                      let r = last_step (rules_at ships (number + 1) (room - 1) (next ∷ parts)) rule (sym step ∙ h) in
+                      let r = last_step (rules_at ships (number + 1) (room - 1) (next ∷ parts)) rule x (sym step ∙ h) in
                       let left = rules_leave ships (number + 1) (room - 1) (next ∷ parts) r.0 r.1 in
-                      full_is r.0.1 x.1 r.2 left
+                      full_is r.0.1 x.1 (ap (λ z. z.1) r.2) left
                 ] refl
           ] refl
     ] refl
-  where
-    last_step : (r : Result (List Rule × Parts) Fault) (rule : Rule) → (r >>= λ y. Ok (rule ∷ y.0, y.1)) ≡ Ok x → (y : List Rule × Parts) × (r ≡ Ok y) × (y.1 ≡ x.1)
-    last_step (Err d) rule k = absurd cc
-    last_step (Ok y) rule k = let e : (rule ∷ y.0, y.1) ≡ x = cc in (y, refl, ap (λ z. z.1) e)
+
+-- each of them has its form
+pub each_rule : (ships number room : ℕ) (parts : Parts) (x : List Rule × Parts) → rules_at ships number room parts ≡ Ok x → (i : ℕ) → i < length x.0 → has (rule_form ships) (line_behind i parts) ≢ None
+unfolding rules_at
+each_rule ships number room [] x h i lt = absurd cc
+each_rule ships number room (line ∷ []) x h i lt = absurd cc
+each_rule ships number room (line ∷ next ∷ parts) x h i lt =
+    elim (bytes_eq line (codes "end")) as (λ b. bytes_eq line (codes "end") ≡ b → has (rule_form ships) (line_behind i (line ∷ next ∷ parts)) ≢ None) [
+      | true ↦ λ ends.
+          let good : rules_at ships number room (line ∷ next ∷ parts) ≡ Ok ([], next ∷ parts) = rw ends refl in
+          let e : ([], next ∷ parts) ≡ x = cc in
+          let none : 0 ≡ length x.0 = ap (λ (y : List Rule × Parts). length y.0) e in
+          absurd (omega (arith, none, lt))
+      | false ↦ λ other.
+          elim (rule_form ships line) as (λ o. rule_form ships line ≡ o → has (rule_form ships) (line_behind i (line ∷ next ∷ parts)) ≢ None) [
+            | None ↦ λ form. let bad : rules_at ships number room (line ∷ next ∷ parts) ≡ Err (record { number = number; word = words.Rule }) = rw (other, form) refl in absurd (not_both (rules_at ships number room (line ∷ next ∷ parts)) x _ h bad)
+            | Some rule ↦ λ form.
+                elim room as (λ n. room ≡ n → has (rule_form ships) (line_behind i (line ∷ next ∷ parts)) ≢ None) [
+                  | zero ↦ λ none. let bad : rules_at ships number room (line ∷ next ∷ parts) ≡ Err (record { number = number; word = words.Many }) = rw (other, form, none) refl in absurd (not_both (rules_at ships number room (line ∷ next ∷ parts)) x _ h bad)
+                  | suc less ↦ λ more.
+                      let step = rule_step ships number room less line rule (next ∷ parts) other form more (next, parts, refl) in
+                      let r = last_step (rules_at ships (number + 1) (room - 1) (next ∷ parts)) rule x (sym step ∙ h) in
+                      let count : suc (length r.0.0) ≡ length x.0 = ap (λ (y : List Rule × Parts). length y.0) r.2 in
+                      elim i as (λ n. n < length x.0 → has (rule_form ships) (line_behind n (line ∷ next ∷ parts)) ≢ None) [
+                        | zero ↦ λ _ s. cc
+                        | suc j ↦ λ k. each_rule ships (number + 1) (room - 1) (next ∷ parts) r.0 r.1 j (omega (arith, k, count))
+                      ] lt
+                ] refl
+          ] refl
+    ] refl

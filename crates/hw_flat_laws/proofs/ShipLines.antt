@@ -137,7 +137,7 @@ ships_read stay slots number ships parts x h =
       reads = λ others full. rows_back stay slots number ships x.0 others full r.1;
     }
 
-last_step : (r : Result (Row × Parts) Fault) (row : Row) (x : Row × Parts) → (r >>= λ more. Ok (row ++ more.0, more.1)) ≡ Ok x → (y : Row × Parts) × (r ≡ Ok y) × (y.1 ≡ x.1)
+pub last_step : (r : Result (Row × Parts) Fault) (row : Row) (x : Row × Parts) → (r >>= λ more. Ok (row ++ more.0, more.1)) ≡ Ok x → (y : Row × Parts) × (r ≡ Ok y) × (y.1 ≡ x.1)
 last_step (Err d) row x k = absurd cc
 last_step (Ok y) row x k = let e : (row ++ y.0, y.1) ≡ x = cc in (y, refl, ap (λ z. z.1) e)
 
@@ -180,4 +180,24 @@ last_ship stay slots number ships (line ∷ next ∷ parts) x h =
                 let r = last_step (rows_at stay slots (number + 1) (suc more) (next ∷ parts)) row x (sym step ∙ h) in
                 last_ship stay slots (number + 1) more (next ∷ parts) r.0 r.1
           ] refl
+    ] refl
+
+-- each of them has its form
+pub each_ship : (stay : Bool) (slots number ships : ℕ) (parts : Parts) (x : Row × Parts) → rows_at stay slots number ships parts ≡ Ok x → (i : ℕ) → i < ships → has (row_form stay slots) (line_behind i parts) ≢ None
+unfolding rows_at row_at
+each_ship stay slots number zero parts x h i lt = absurd (omega (arith, lt))
+each_ship stay slots number (suc ships) [] x h i lt = absurd cc
+each_ship stay slots number (suc ships) (line ∷ []) x h i lt = absurd cc
+each_ship stay slots number (suc ships) (line ∷ next ∷ parts) x h i lt =
+    elim (row_form stay slots line) as (λ o. row_form stay slots line ≡ o → has (row_form stay slots) (line_behind i (line ∷ next ∷ parts)) ≢ None) [
+      | None ↦ λ form.
+          let bad : rows_at stay slots number (suc ships) (line ∷ next ∷ parts) ≡ Err (record { number = number; word = words.Values }) = rw form refl in
+          absurd (not_both (rows_at stay slots number (suc ships) (line ∷ next ∷ parts)) x _ h bad)
+      | Some row ↦ λ form.
+          let step : rows_at stay slots number (suc ships) (line ∷ next ∷ parts) ≡ (rows_at stay slots (number + 1) ships (next ∷ parts) >>= λ y. Ok (row ++ y.0, y.1)) = rw form refl in
+          let r = last_step (rows_at stay slots (number + 1) ships (next ∷ parts)) row x (sym step ∙ h) in
+          elim i as (λ n. n < suc ships → has (row_form stay slots) (line_behind n (line ∷ next ∷ parts)) ≢ None) [
+            | zero ↦ λ _ s. cc
+            | suc j ↦ λ k. each_ship stay slots (number + 1) ships (next ∷ parts) r.0 r.1 j (omega (arith, k))
+          ] lt
     ] refl

@@ -27,10 +27,7 @@ record SecondRefused (header : List ℕ) (stay : Bool) (parts : Parts) (e : Faul
   wanted : IsWanted (header ∷ parts) e.number e.word
   refused : Refused AnyProblem (second_at stay) parts e count
 
--- a size line and a problem of it
-one_ship : List ℕ
-one_ship = codes "size 1 1"
-
+-- a size line and the rest of a text that reads
 one_ship_reads : (stay : Bool) → second_at stay (codes "size 1 1" ∷ (body_mended stay (1, 1)).first ∷ (body_mended stay (1, 1)).more) ≡ Ok (problem_of stay (1, 1) (body_mended stay (1, 1)).values [])
 one_ship_reads stay = (body_mended stay (1, 1)).reads
 

@@ -32,3 +32,7 @@ pub record BadLine (bytes : List ℕ) (number : ℕ) (word : FlatWord) : Type 0 
 
 abbrev pub FirstBadLine : Type 0
 FirstBadLine = (bytes : List ℕ) (number : ℕ) (word : FlatWord) → IsRefused bytes number word → BadLine bytes number word
+
+-- the lines before it and what is wanted at it make a line the first bad one
+abbrev pub WantedRefuses : Type 0
+WantedRefuses = (bytes : List ℕ) (number : ℕ) (word : FlatWord) → GoesOn (number - 1) bytes → IsWanted (parts_of 10 bytes) number word → IsRefused bytes number word

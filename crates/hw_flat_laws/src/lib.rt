@@ -5,4 +5,4 @@
 
 mod laws;
 
-pub use laws::first_bad_line;
+pub use laws::{bad_line_rows, first_bad_line, wanted_refuses};
