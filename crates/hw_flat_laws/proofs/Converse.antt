@@ -1,0 +1,128 @@
+-- Where the lines before begin a text that reads, the wanted word is what the refusal says.
+use Rattle.std.proofs.Common.{◌≡◌, ℕ, zero, suc, ◌-◌, ◌<◌, ◌≤◌, Bool, [], ◌∷◌, length, Some, Result, Ok, Err, refl, sym, ap, ◌∙◌, subst, arith, inl, inr}
+use Rattle.std.proofs.lemmas.Bool.{cases_order}
+use Rattle.std.proofs.lemmas.List.{length-drop}
+use Rattle.hw_model.specs.Problem.{Problem}
+use Rattle.hw_text.specs.Parts.{parts_of}
+use Rattle.hw_flat.specs.declared.fault.FlatWord.{FlatWord}
+use Rattle.hw_flat.specs.declared.fault.FlatWord.TheVariants as words
+use Rattle.hw_flat.specs.Text.{Fault, fault, text_of}
+use Rattle.hw_flat.specs.TextForms.{header_form, size_form, row_form, rule_form}
+use Rattle.hw_flat.specs.TextWritten.{problem_text}
+use Rattle.hw_flat.proofs.TextBack.{text_reads_back}
+use Rattle.hw_flat_laws.specs.FirstLines.{line_behind, line_of}
+use Rattle.hw_flat_laws.specs.Wanted.{SaysSize, IsWanted}
+use Rattle.hw_flat_laws.specs.Laws.{GoesOn, IsRefused, WantedRefuses}
+use Rattle.hw_flat_laws.proofs.Same.{Parts, Same, same_from, same_takes, has}
+use Rattle.hw_flat_laws.proofs.ShipLines.{not_both}
+use Rattle.hw_flat_laws.proofs.Texts.{first_bad_line_law}
+use Rattle.hw_flat_laws.proofs.GoodBodies.{reads_wants_nothing}
+use Rattle.hw_flat_laws.proofs.OneWord.{one_word}
+
+-- fewer lines are the same too
+same_less : (i count : ℕ) (xs ys : Parts) → i ≤ count → Same count xs ys → Same i xs ys
+same_less i count [] ys le s = absurd s
+same_less i count (x ∷ xs) [] le s = absurd s
+same_less zero count (x ∷ xs) (y ∷ ys) le s = tt
+same_less (suc i) zero (x ∷ xs) (y ∷ ys) le s = absurd (omega (arith, le))
+same_less (suc i) (suc count) (x ∷ xs) (y ∷ ys) le s = (s.0, same_less i count xs ys (omega (arith, le)) s.1)
+
+line_same : (i count : ℕ) (xs ys : Parts) → i < count → Same count xs ys → line_behind i ys ≡ line_behind i xs
+line_same i count [] ys lt s = absurd s
+line_same i count (x ∷ xs) [] lt s = absurd s
+line_same i zero (x ∷ xs) (y ∷ ys) lt s = absurd (omega (arith, lt))
+line_same i (suc count) (x ∷ []) (y ∷ ys) lt s = absurd s.1
+line_same i (suc count) (x ∷ p ∷ xs) (y ∷ []) lt s = absurd s.1
+line_same zero (suc count) (x ∷ p ∷ xs) (y ∷ q ∷ ys) lt s = ap (λ l. Some l) s.0
+line_same (suc i) (suc count) (x ∷ p ∷ xs) (y ∷ q ∷ ys) lt s = line_same i count (p ∷ xs) (q ∷ ys) (omega (arith, lt)) s.1
+
+line_of_same : (i number : ℕ) (xs ys : Parts) → 1 ≤ number → i ≤ number → Same number xs ys → line_of ys i ≡ line_of xs i
+line_of_same i number xs ys some le s = line_same (i - 1) number xs ys (omega (arith, some, le)) s
+
+begins_same : (number : ℕ) (xs ys : Parts) (stay : Bool) (ships slots : ℕ) → 2 ≤ number → Same number xs ys → SaysSize xs stay ships slots → SaysSize ys stay ships slots
+begins_same number xs ys stay ships slots two s b = record {
+  header = ap (has header_form) (line_of_same 1 number xs ys (omega (arith, two)) (omega (arith, two)) s) ∙ b.header;
+  size = ap (has size_form) (line_of_same 2 number xs ys (omega (arith, two)) two s) ∙ b.size;
+}
+
+-- what is wanted at a line depends on the lines up to it
+wanted_same : (number : ℕ) (xs ys : Parts) (word : FlatWord) → Same number xs ys → IsWanted xs number word → IsWanted ys number word
+wanted_same number xs ys words.Header s w = record { place = w.place; wrong = ap (has header_form) (line_of_same number number xs ys (omega (arith, w.place)) (omega arith) s) ∙ w.wrong }
+wanted_same number xs ys words.Size s w = record { place = w.place; wrong = ap (has size_form) (line_of_same number number xs ys (omega (arith, w.place)) (omega arith) s) ∙ w.wrong }
+wanted_same number xs ys words.Values s w = record {
+  stay = w.stay;
+  ships = w.ships;
+  slots = w.slots;
+  said = begins_same number xs ys w.stay w.ships w.slots (omega (arith, w.behind_size)) s w.said;
+  behind_size = w.behind_size;
+  before_rules = w.before_rules;
+  wrong = ap (has (row_form w.stay w.slots)) (line_of_same number number xs ys (omega (arith, w.behind_size)) (omega arith) s) ∙ w.wrong;
+}
+wanted_same number xs ys words.Rule s w =
+    let some : 2 ≤ number = omega (arith, w.behind_ships) in
+    let line = line_of_same number number xs ys (omega (arith, some)) (omega arith) s in
+    record {
+      stay = w.stay;
+      ships = w.ships;
+      slots = w.slots;
+      said = begins_same number xs ys w.stay w.ships w.slots some s w.said;
+      behind_ships = w.behind_ships;
+      few_rules = w.few_rules;
+      no_end_before = λ k. w.no_end_before (sym (line_of_same (number - 1) number xs ys (omega (arith, some)) (omega arith) s) ∙ k);
+      no_end = λ k. w.no_end (sym line ∙ k);
+      wrong = ap (has (rule_form w.ships)) line ∙ w.wrong;
+    }
+wanted_same number xs ys words.Many s w =
+    let some : 2 ≤ number = omega (arith, w.behind_rules) in
+    record {
+      stay = w.stay;
+      ships = w.ships;
+      slots = w.slots;
+      said = begins_same number xs ys w.stay w.ships w.slots some s w.said;
+      behind_rules = w.behind_rules;
+      no_end_before = λ k. w.no_end_before (sym (line_of_same (number - 1) number xs ys (omega (arith, some)) (omega arith) s) ∙ k);
+      rule = w.rule;
+      one_more = ap (has (rule_form w.ships)) (line_of_same number number xs ys (omega (arith, some)) (omega arith) s) ∙ w.one_more;
+    }
+wanted_same number xs ys words.Tail s w =
+    let some : 2 ≤ number = omega (arith, w.behind_ships) in
+    let ended = (same_takes number xs ys s).1 in
+    record {
+      stay = w.stay;
+      ships = w.ships;
+      slots = w.slots;
+      said = begins_same number xs ys w.stay w.ships w.slots some s w.said;
+      behind_ships = w.behind_ships;
+      few_rules = w.few_rules;
+      end = line_of_same (number - 1) number xs ys (omega (arith, some)) (omega arith) s ∙ w.end;
+      more = λ k. omega (arith, ended, some, ap length k, length-drop (number - 1) ys);
+    }
+
+pub wanted_refuses_law : WantedRefuses
+wanted_refuses_law bytes number word g w = by_reading (text_of parts) refl
+  where
+    parts : Parts
+    parts = parts_of 10 bytes
+
+    back : (count : ℕ) (k : GoesOn count bytes) → text_of (parts_of 10 (problem_text k.problem)) ≡ Ok k.problem
+    back count k = text_reads_back k.problem k.limits k.writable
+
+    alike : (count i : ℕ) (k : GoesOn count bytes) → i ≤ count → Same i (parts_of 10 bytes) (parts_of 10 (problem_text k.problem))
+    alike count i k le = same_less i count (parts_of 10 bytes) (parts_of 10 (problem_text k.problem)) le (same_from count (parts_of 10 bytes) (parts_of 10 (problem_text k.problem)) k.begins.ended k.begins.others_ended k.begins.same)
+
+    by_reading : (r : Result Problem Fault) → text_of (parts_of 10 bytes) ≡ r → IsRefused bytes number word
+    by_reading (Ok f) h = absurd (reads_wants_nothing (parts_of 10 bytes) f number word h (omega (arith, g.begins.ended)) w)
+    by_reading (Err e) h =
+        let bad = first_bad_line_law bytes e.number e.word h in
+        elim (cases_order e.number number) [
+          | inl same ↦
+              let one : e.word ≡ word = one_word (parts_of 10 bytes) number e.word word (subst (λ n. IsWanted (parts_of 10 bytes) n e.word) same bad.told) w in
+              h ∙ ap (λ n. fault {A = Problem} n e.word) same ∙ ap (λ v. fault {A = Problem} number v) one
+          | inr (inl below) ↦
+              let s = same_takes e.number (parts_of 10 bytes) (parts_of 10 (problem_text g.problem)) (alike (number - 1) e.number g (omega (arith, below))) in
+              absurd (not_both (text_of (parts_of 10 (problem_text g.problem))) g.problem e (back (number - 1) g) (bad.dead_end (problem_text g.problem) (record { ended = s.0; others_ended = s.1; same = s.2 })))
+          | inr (inr above) ↦
+              let s : Same number (parts_of 10 bytes) (parts_of 10 (problem_text bad.begins.problem)) = alike (e.number - 1) number bad.begins (omega (arith, above)) in
+              let within = (same_takes number (parts_of 10 bytes) (parts_of 10 (problem_text bad.begins.problem)) s).1 in
+              absurd (reads_wants_nothing (parts_of 10 (problem_text bad.begins.problem)) bad.begins.problem number word (back (e.number - 1) bad.begins) (omega (arith, within)) (wanted_same number (parts_of 10 bytes) (parts_of 10 (problem_text bad.begins.problem)) word s w))
+        ]

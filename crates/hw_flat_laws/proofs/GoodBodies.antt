@@ -1,0 +1,167 @@
+-- A text that reads wants nothing at any of its lines.
+use Rattle.std.proofs.Common.{◌≡◌, ◌≢◌, ℕ, suc, ◌+◌, ◌-◌, ◌<◌, ◌≤◌, Bool, List, [], ◌∷◌, ◌++◌, length, drop, Some, None, Result, Ok, Err, refl, sym, ap, ◌∙◌, subst, arith, codes, append_assoc, inl, inr}
+use Rattle.std.proofs.lemmas.Bool.{cases_order}
+use Rattle.std.proofs.lemmas.List.{length-append}
+use Rattle.hw_model.specs.declared.rule.Rule.{Rule}
+use Rattle.hw_model.specs.Problem.{Problem}
+use Rattle.hw_flat.specs.declared.fault.FlatWord.{FlatWord}
+use Rattle.hw_flat.specs.declared.fault.FlatWord.TheVariants as words
+use Rattle.hw_flat.specs.Text.{Fault, ◌>>=◌, rows_at, rules_at, text_of}
+use Rattle.hw_flat.specs.TextForms.{header_form, size_form, row_form, rule_form}
+use Rattle.hw_flat.proofs.TextRows.{text_read}
+use Rattle.hw_flat_laws.specs.FirstLines.{line_behind, line_of}
+use Rattle.hw_flat_laws.specs.Wanted.{SaysSize, IsWanted}
+use Rattle.hw_flat_laws.proofs.Same.{Parts, Full, full_after, has, behind_front, drop_front}
+use Rattle.hw_flat_laws.proofs.ShipLines.{Row, not_both, ships_read, ships_leave, each_ship}
+use Rattle.hw_flat_laws.proofs.RuleLines.{rules_were_read, rules_leave, each_rule}
+use Rattle.hw_flat_laws.proofs.Bodies.{tail_at, closing, body_at, text_body, limits_of, numbered}
+
+did : {A B : Type 0} (r : Result A Fault) (f : A → Result B Fault) (y : B) → (r >>= f) ≡ Ok y → (x : A) × (r ≡ Ok x) × (f x ≡ Ok y)
+did (Err e) f y h = absurd cc
+did (Ok x) f y h = (x, refl, h)
+
+nothing_more : (stay : Bool) (size : ℕ × ℕ) (values : Row) (rules : List Rule) (parts : Parts) (f : Problem) → tail_at stay size values rules parts ≡ Ok f → parts ≡ [] ∷ []
+nothing_more stay size values rules [] f h = absurd cc
+nothing_more stay size values rules ([] ∷ []) f h = refl
+nothing_more stay size values rules ([] ∷ p ∷ parts) f h = absurd cc
+nothing_more stay size values rules ((b ∷ p) ∷ parts) f h = absurd cc
+
+-- a body that reads, line by line
+record BodyReads (ships slots : ℕ) (stay : Bool) (body : Parts) : Type 0 where
+  rest : Parts
+  rules : List Rule
+  ship_lines : (i : ℕ) → i < ships → has (row_form stay slots) (line_behind i body) ≢ None
+  behind_ships : (i : ℕ) → line_behind (ships + i) body ≡ line_behind i rest
+  rule_lines : (i : ℕ) → i < length rules → has (rule_form ships) (line_behind i rest) ≢ None
+  end : line_behind (length rules) rest ≡ Some (codes "end")
+  few : length rules ≤ 4_000
+  total : length body ≡ ships + length rules + 2
+  dropped : drop (ships + length rules + 1) body ≡ [] ∷ []
+
+body_reads : (stay : Bool) (size : ℕ × ℕ) (body : Parts) (f : Problem) → size.0 ≤ 40 → Full body → body_at stay size body ≡ Ok f → BodyReads size.0 size.1 stay body
+body_reads stay size body f small full h =
+    let s = did (rows_at stay size.1 3 size.0 body) (λ rows. closing stay size rows.0 rows.1) f h in
+    let t = did (rules_at size.0 (3 + size.0) 4_000 s.0.1) (λ rules. tail_at stay size s.0.0 rules.0 rules.1) f s.2 in
+    let rest : Parts = s.0.1 in
+    let rules : List Rule = t.0.0 in
+    let a = ships_read stay size.1 3 size.0 body s.0 s.1 in
+    let b = rules_were_read size.0 (3 + size.0) 4_000 rest t.0 small t.1 in
+    let left = ships_leave stay size.1 3 size.0 body s.0 full s.1 in
+    let last = rules_leave size.0 (3 + size.0) 4_000 rest t.0 t.1 in
+    let no_more : t.0.1 ≡ [] ∷ [] = nothing_more stay size s.0.0 rules t.0.1 f t.2 in
+    let closed : Parts = b.front ++ codes "end" ∷ [] in
+    let closed_count : length closed ≡ length rules + 1 = omega (arith, length-append b.front (codes "end" ∷ []), b.each) in
+    let lines : body ≡ (a.front ++ closed) ++ [] ∷ [] = a.lines ∙ ap (λ ps. a.front ++ ps) (b.lines ∙ ap (λ ps. closed ++ ps) no_more) ∙ sym (append_assoc a.front closed ([] ∷ [])) in
+    let front_count : length (a.front ++ closed) ≡ size.0 + length rules + 1 = omega (arith, length-append a.front closed, a.each, closed_count) in
+    let count : length body ≡ length (a.front ++ closed) + 1 = ap length lines ∙ length-append (a.front ++ closed) ([] ∷ []) in
+    record {
+      rest = rest;
+      rules = rules;
+      ship_lines = each_ship stay size.1 3 size.0 body s.0 s.1;
+      behind_ships = λ i. ap (λ n. line_behind (n + i) body) (sym a.each) ∙ ap (line_behind (length a.front + i)) a.lines ∙ behind_front i a.front rest left;
+      rule_lines = each_rule size.0 (3 + size.0) 4_000 rest t.0 t.1;
+      end =
+          let n : length rules ≡ length b.front + 0 = omega (arith, b.each) in
+          ap (λ i. line_behind i rest) n ∙ ap (line_behind (length b.front + 0)) (b.lines ∙ append_assoc b.front (codes "end" ∷ []) t.0.1) ∙ behind_front 0 b.front (codes "end" ∷ t.0.1) (codes "end", t.0.1, refl) ∙ (rw last.2 refl);
+      few = b.few;
+      total = omega (arith, count, front_count);
+      dropped = ap (drop (size.0 + length rules + 1)) lines ∙ drop_front (size.0 + length rules + 1) (a.front ++ closed) ([] ∷ []) (sym front_count);
+    }
+
+-- ---- the whole text
+
+-- the first two lines
+record TextReads (parts : Parts) : Type 0 where
+  header : List ℕ
+  size_line : List ℕ
+  body : Parts
+  lines : parts ≡ header ∷ size_line ∷ body
+  full : Full body
+
+of_lines : (parts : Parts) (header size_line : List ℕ) (front : Parts) → parts ≡ header ∷ size_line ∷ (front ++ [] ∷ []) → TextReads parts
+of_lines parts header size_line front h = record { header = header; size_line = size_line; body = front ++ [] ∷ []; lines = h; full = full_after front ([] ∷ []) ([], [], refl) }
+
+text_lines : (parts : Parts) (f : Problem) → text_of parts ≡ Ok f → TextReads parts
+text_lines parts f h = of_lines parts _ _ _ (text_read parts f h).lines
+
+header_reads : (header next : List ℕ) (parts : Parts) (f : Problem) → text_of (header ∷ next ∷ parts) ≡ Ok f → header_form header ≢ None
+unfolding text_of
+header_reads header next parts f h none = let bad : text_of (header ∷ next ∷ parts) ≡ Err (record { number = 1; word = words.Header }) = rw none refl in not_both (text_of (header ∷ next ∷ parts)) f _ h bad
+
+size_reads : (header size_line : List ℕ) (body : Parts) (f : Problem) → Full body → text_of (header ∷ size_line ∷ body) ≡ Ok f → size_form size_line ≢ None
+unfolding text_of
+size_reads header size_line body f full h none =
+    elim (header_form header) as (λ o. header_form header ≡ o → ⊥) [
+      | None ↦ λ form. header_reads header size_line body f h form
+      | Some stay ↦ λ form. let bad : text_of (header ∷ size_line ∷ body) ≡ Err (record { number = 2; word = words.Size }) = rw (full.2, form, none) refl in not_both (text_of (header ∷ size_line ∷ body)) f _ h bad
+    ] refl
+
+second_line : (header size_line : List ℕ) (body : Parts) → Full body → line_of (header ∷ size_line ∷ body) 2 ≡ Some size_line
+second_line header size_line body full = rw full.2 refl
+
+reads_begun : (header size_line : List ℕ) (body : Parts) (stay : Bool) (ships slots : ℕ) (f : Problem) → Full body → text_of (header ∷ size_line ∷ body) ≡ Ok f → SaysSize (header ∷ size_line ∷ body) stay ships slots → BodyReads ships slots stay body
+reads_begun header size_line body stay ships slots f full h b =
+    let size : size_form size_line ≡ Some (ships, slots) = sym (ap (has size_form) (second_line header size_line body full)) ∙ b.size in
+    let limits = limits_of header size_line stay (ships, slots) b.header size in
+    body_reads stay (ships, slots) body f limits.few_ships full (sym (text_body header size_line body stay (ships, slots) b.header size full) ∙ h)
+
+wants_nothing : (header size_line : List ℕ) (body : Parts) (f : Problem) (number : ℕ) (word : FlatWord) → Full body → text_of (header ∷ size_line ∷ body) ≡ Ok f → number ≤ 2 + length body → IsWanted (header ∷ size_line ∷ body) number word → ⊥
+wants_nothing header size_line body f number words.Header full h within w = header_reads header size_line body f h (ap (λ n. has header_form (line_of (header ∷ size_line ∷ body) n)) (sym w.place) ∙ w.wrong)
+wants_nothing header size_line body f number words.Size full h within w =
+    size_reads header size_line body f full h (sym (ap (has size_form) (second_line header size_line body full)) ∙ ap (λ n. has size_form (line_of (header ∷ size_line ∷ body) n)) (sym w.place) ∙ w.wrong)
+wants_nothing header size_line body f number words.Values full h within w =
+    let r = reads_begun header size_line body w.stay w.ships w.slots f full h w.said in
+    let line = numbered header size_line body number (number - 3) (omega (arith, w.behind_size)) full in
+    r.ship_lines (number - 3) (omega (arith, w.behind_size, w.before_rules)) (sym (ap (has (row_form w.stay w.slots)) line) ∙ w.wrong)
+wants_nothing header size_line body f number words.Rule full h within w =
+    let r = reads_begun header size_line body w.stay w.ships w.slots f full h w.said in
+    let i : ℕ = number - (3 + w.ships) in
+    let place : number ≡ 3 + (w.ships + i) = omega (arith, w.behind_ships) in
+    let line : line_of (header ∷ size_line ∷ body) number ≡ line_behind i r.rest = numbered header size_line body number (w.ships + i) place full ∙ r.behind_ships i in
+    elim (cases_order i (length r.rules)) [
+      | inl same ↦ w.no_end (line ∙ ap (λ n. line_behind n r.rest) same ∙ r.end)
+      | inr (inl below) ↦ r.rule_lines i below (sym (ap (has (rule_form w.ships)) line) ∙ w.wrong)
+      | inr (inr above) ↦
+          let before : number - 1 ≡ 3 + (w.ships + length r.rules) = omega (arith, above, place, within, r.total) in
+          w.no_end_before (numbered header size_line body (number - 1) (w.ships + length r.rules) before full ∙ r.behind_ships (length r.rules) ∙ r.end)
+    ]
+wants_nothing header size_line body f number words.Many full h within w =
+    let r = reads_begun header size_line body w.stay w.ships w.slots f full h w.said in
+    let place : number ≡ 3 + (w.ships + 4_000) = omega (arith, w.behind_rules) in
+    let line : line_of (header ∷ size_line ∷ body) number ≡ line_behind 4_000 r.rest = numbered header size_line body number (w.ships + 4_000) place full ∙ r.behind_ships 4_000 in
+    elim (cases_order 4_000 (length r.rules)) [
+      | inl same ↦
+          let ends : line_of (header ∷ size_line ∷ body) number ≡ Some (codes "end") = line ∙ ap (λ n. line_behind n r.rest) same ∙ r.end in
+          let none : has (rule_form w.ships) (line_of (header ∷ size_line ∷ body) number) ≡ None = ap (has (rule_form w.ships)) ends in
+          apart w.rule (sym none ∙ w.one_more)
+      | inr (inl below) ↦ absurd (omega (arith, below, r.few))
+      | inr (inr above) ↦
+          let before : number - 1 ≡ 3 + (w.ships + length r.rules) = omega (arith, above, place, within, r.total) in
+          w.no_end_before (numbered header size_line body (number - 1) (w.ships + length r.rules) before full ∙ r.behind_ships (length r.rules) ∙ r.end)
+    ]
+  where
+    apart : (rule : Rule) → None ≡ Some rule → ⊥
+    apart rule e = cc
+wants_nothing header size_line body f number words.Tail full h within w =
+    let r = reads_begun header size_line body w.stay w.ships w.slots f full h w.said in
+    let i : ℕ = number - 1 - (3 + w.ships) in
+    let place : number - 1 ≡ 3 + (w.ships + i) = omega (arith, w.behind_ships) in
+    let line : line_of (header ∷ size_line ∷ body) (number - 1) ≡ line_behind i r.rest = numbered header size_line body (number - 1) (w.ships + i) place full ∙ r.behind_ships i in
+    elim (cases_order i (length r.rules)) [
+      | inl same ↦
+          let n : number - 1 ≡ suc (suc (w.ships + length r.rules + 1)) = omega (arith, same, place) in
+          w.more (ap (λ k. drop k (header ∷ size_line ∷ body)) n ∙ r.dropped)
+      | inr (inl below) ↦
+          let ends : line_behind i r.rest ≡ Some (codes "end") = sym line ∙ w.end in
+          r.rule_lines i below (ap (has (rule_form w.ships)) ends)
+      | inr (inr above) ↦ absurd (omega (arith, above, place, within, r.total))
+    ]
+
+pub reads_wants_nothing : (parts : Parts) (f : Problem) (number : ℕ) (word : FlatWord) → text_of parts ≡ Ok f → number ≤ length parts → IsWanted parts number word → ⊥
+reads_wants_nothing parts f number word h within w =
+    let t = text_lines parts f h in
+    let body_count : length parts ≡ 2 + length t.body = ap length t.lines ∙ two t.header t.size_line t.body in
+    wants_nothing t.header t.size_line t.body f number word t.full (ap text_of (sym t.lines) ∙ h) (omega (arith, body_count, within)) (subst (λ (ps : Parts). IsWanted ps number word) t.lines w)
+  where
+    two : (x y : List ℕ) (ps : Parts) → length (x ∷ y ∷ ps) ≡ 2 + length ps
+    two x y ps = omega arith

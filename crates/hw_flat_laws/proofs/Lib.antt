@@ -1,0 +1,10 @@
+pub mod Same
+pub mod Refusals
+pub mod ShipLines
+pub mod RuleLines
+pub mod Bodies
+pub mod Texts
+pub mod GoodBodies
+pub mod OneWord
+pub mod Converse
+pub mod Rows

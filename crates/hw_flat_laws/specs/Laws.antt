@@ -1,0 +1,38 @@
+-- What it means that a text is refused at a line.
+use Rattle.std.specs.Prelude.{◌≡◌, ◌≢◌, ℕ, ◌-◌, ◌≤◌, List}
+use Rattle.hw_model.specs.Problem.{Problem}
+use Rattle.hw_model.specs.Limits.{IsFlat}
+use Rattle.hw_text.specs.Parts.{parts_of}
+use Rattle.hw_flat.specs.declared.fault.FlatWord.{FlatWord}
+use Rattle.hw_flat.specs.declared.fault.FlatWord.TheVariants as words
+use Rattle.hw_flat.specs.Text.{flat_text, fault}
+use Rattle.hw_flat.specs.TextWritten.{problem_text, IsWritable}
+use Rattle.hw_flat_laws.specs.FirstLines.{part_count, SameLines}
+use Rattle.hw_flat_laws.specs.Wanted.{IsWanted}
+
+-- a problem whose text has these first lines
+pub record GoesOn (count : ℕ) (bytes : List ℕ) : Type 0 where
+  pub problem : Problem
+  pub limits : IsFlat problem
+  pub writable : IsWritable problem
+  pub begins : SameLines count bytes (problem_text problem)
+
+-- the text is refused at this line, for want of this
+abbrev pub IsRefused : List ℕ → ℕ → FlatWord → Type 0
+IsRefused bytes number word = flat_text bytes ≡ fault number word
+
+-- a first bad line: nothing before it is wrong, and nothing goes on behind it. A text that has lines only before it ends too
+-- early, whatever stands behind them, unless it has all lines of a problem
+pub record BadLine (bytes : List ℕ) (number : ℕ) (word : FlatWord) : Type 0 where
+  pub counted : 1 ≤ number
+  pub begins : GoesOn (number - 1) bytes
+  pub dead_end : (others : List ℕ) → SameLines number bytes others → IsRefused others number word
+  pub cut_off : word ≢ words.Tail → part_count bytes ≡ number → (others : List ℕ) → SameLines (number - 1) bytes others → part_count others ≡ number → IsRefused others number word
+  pub told : IsWanted (parts_of 10 bytes) number word
+
+abbrev pub FirstBadLine : Type 0
+FirstBadLine = (bytes : List ℕ) (number : ℕ) (word : FlatWord) → IsRefused bytes number word → BadLine bytes number word
+
+-- the lines before it and what is wanted at it make a line the first bad one
+abbrev pub WantedRefuses : Type 0
+WantedRefuses = (bytes : List ℕ) (number : ℕ) (word : FlatWord) → GoesOn (number - 1) bytes → IsWanted (parts_of 10 bytes) number word → IsRefused bytes number word

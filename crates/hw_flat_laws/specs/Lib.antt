@@ -1,0 +1,4 @@
+pub mod FirstLines
+pub mod Wanted
+pub mod Laws
+pub mod Rows
