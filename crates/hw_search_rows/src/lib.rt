@@ -1,4 +1,5 @@
-//! Tests of the certified search through its public calls: the worked rows, over both stores.
+//! Tests of trails, stores, conflict analysis and the certified search through their public calls: the
+//! worked rows of searches are over both stores.
 #![tactic(auto)]
 
 #[cfg(test)]
