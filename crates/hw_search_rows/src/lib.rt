@@ -1,5 +1,4 @@
-//! Tests of trails, stores, conflict analysis and the certified search through their public calls: the
-//! worked rows of searches are over both stores.
+//! Tests of the certified search through its public calls: the worked rows, over both stores.
 #![tactic(auto)]
 
 #[cfg(test)]
