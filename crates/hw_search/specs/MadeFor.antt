@@ -1,5 +1,5 @@
 -- Which kind of propagator a source has: the one that reads bounds and figures, and trying alone for a window.
-use Rattle.std.specs.Prelude.{◌≡◌, ◌≢◌, length, slice_get, Option, Some, None, ⊤}
+use Rattle.std.specs.Prelude.{◌≡◌, ◌≢◌, length, slice_get, Option, Some, ⊤}
 use Rattle.hw_model.specs.declared.rule.Rule.{Rule}
 use Rattle.hw_model.specs.declared.rule.Rule.TheVariants.{Pair, After, Tugs}
 use Rattle.hw_model.specs.declared.source.Source.{Source}

@@ -1,4 +1,5 @@
-//! Tests of the certified search through its public calls: the worked rows, over both stores.
+//! Tests of the certified search and of what it stands on, by their public calls: trails, stores of clauses,
+//! conflict analysis, levels and whole turns, over both stores.
 #![tactic(auto)]
 
 #[cfg(test)]
