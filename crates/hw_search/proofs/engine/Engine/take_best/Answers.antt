@@ -1,4 +1,4 @@
-use Rattle.std.proofs.Common.{◌≡◌, ℕ, Some, IsTrue, search, rules}
+use Rattle.std.proofs.Common.{◌≡◌, ℕ, Some, IsTrue, rules}
 use Rattle.hw_model.specs.Timetables.{Permits, cargo, beats}
 use Rattle.hw_progress.specs.Searches.{best_cargo}
 use Rattle.hw_search.specs.Engines.{EngineModel}
