@@ -22,12 +22,12 @@ AllClear marks = ClearWithin marks 0 (length marks)
 -- the first marked place from a place on and before another one, none where there is none
 abbrev pub NextWithin : List Bool → ℕ → ℕ → Option ℕ → Type 0
 NextWithin marks from upto None = ClearWithin marks from upto
-NextWithin marks from upto (Some place) = (from ≤ place) × (place < upto) × ClearWithin marks from place
+NextWithin marks from upto (Some place) = (from ≤ place) × (place < upto) × (is_marked marks place ≡ true) × ClearWithin marks from place
 
 -- the first marked place from a place on, none where there is none
 abbrev pub NextMarked : List Bool → ℕ → Option ℕ → Type 0
 NextMarked marks from None = ClearWithin marks from (length marks)
-NextMarked marks from (Some place) = (from ≤ place) × (place < length marks) × ClearWithin marks from place
+NextMarked marks from (Some place) = (from ≤ place) × (place < length marks) × (is_marked marks place ≡ true) × ClearWithin marks from place
 
 -- each place is in a block of 64, and a block that isn't set has no marked place
 pub record KeepsBlocks (marks blocks : List Bool) : Type 0 where
