@@ -1,6 +1,6 @@
 //! The desk in memory whose calls never fail.
 
-ghost use Rattle.std.specs.Prelude.{◌≡◌, ◌<◌, [], IfOk, IsOk, true, false, length, Some, None, MatchOption};
+ghost use Rattle.std.specs.Prelude.{◌≡◌, ◌<◌, [], IfOk, IfSome, IsOk, true, false, length, min, Some, None, MatchOption};
 ghost use Rattle.hw_desk.specs.Names.{kept_name};
 ghost use Rattle.hw_desk.specs.CalmBytes.{sent_more};
 
@@ -200,6 +200,7 @@ impl Desk for CalmDesk {
         requires begun { ((calm_state self.old).feeds feed).begun ≡ true }
         requires some { 0 < length into.old }
         ensures reads { Reads feed into.new (calm_state self.old) (calm_state self.new) result }
+        ensures count { IfOk result (λ n. IfSome ((calm_state self.old).feeds feed).left (λ left. n ≡ min (length into.old) (length left))) }
         ensures ok { IsOk result }
     {
         Ok(take_some(&self.files, self.feeds.get_mut(feed), usize::MAX, into))
