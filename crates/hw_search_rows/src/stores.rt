@@ -213,7 +213,7 @@ fn count(named: [u64; 7]) -> u32 {
 #[test]
 fn both_stores_agree(rt: HostRuntime) -> Result<(), Fail> {
     let flat = make_demo(rt.alloc(), 1, 4, 6)?;
-    let plain = named_rooms(rt.alloc(), &flat, ScanStore::new(rt.alloc(), &flat)?)?;
+    let plain = named_rooms(rt.alloc(), &flat, ScanStore::new(rt.alloc(), &flat))?;
     let watching = named_rooms(rt.alloc(), &flat, WatchStore::new(rt.alloc(), &flat)?)?;
     assert_eq!(rt; plain, watching, "both are quiet, or neither, in each room");
     let named = count(plain);

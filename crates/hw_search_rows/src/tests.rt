@@ -85,7 +85,7 @@ fn settles_to(
     order: Order,
 ) -> Result<bool, Fail> {
     let flat = Flat::read(alloc, text)?;
-    let store = ScanStore::new(alloc, &flat)?;
+    let store = ScanStore::new(alloc, &flat);
     match settled(alloc, &flat, store)? {
         Some(room) => Ok(quiet && is_room(&room, ranges, order)),
         None => Ok(!quiet),
@@ -109,7 +109,7 @@ fn settles(rt: HostRuntime) -> Result<(), Fail> {
 // Whether this is the literal by which a rule decides in the whole room.
 fn decides_by(alloc: Global, text: &[u8], branching: Branching, lit: Lit) -> Result<bool, Fail> {
     let flat = Flat::read(alloc, text)?;
-    let store = ScanStore::new(alloc, &flat)?;
+    let store = ScanStore::new(alloc, &flat);
     Ok(decided(alloc, &flat, store, branching)? == Some(lit))
 }
 
@@ -206,7 +206,7 @@ const FOUND: [(&[u8], &[[Slot; 2]]); 6] = [
 // are none.
 fn ends_with(alloc: Global, text: &[u8], wanted: &[[Slot; 2]]) -> Result<bool, Fail> {
     let flat = Flat::read(alloc, text)?;
-    let store = ScanStore::new(alloc, &flat)?;
+    let store = ScanStore::new(alloc, &flat);
     let mut log = MemoryLog::new(alloc);
     let run = whole_run(alloc, &flat, store, 2000, &mut log)?;
     let right = match &run.best {

@@ -1,6 +1,6 @@
 //! The plain store: each step looks at every clause.
 
-ghost use Rattle.std.specs.Prelude.{IfOk, MatchOption};
+ghost use Rattle.std.specs.Prelude.{◌≡◌, IsOk, MatchOption};
 
 use crate::looking::is_quiet;
 use crate::store::{Held, Store, Stored};
@@ -30,18 +30,19 @@ impl Model for ScanStore {
 
 impl ScanStore {
     /// A store without clauses, ready for every room.
-    pub fn new(alloc: Global, flat: &Flat) -> Result<ScanStore, NoMemory>
-        ensures value { IfOk result (λ store. IsNewScan flat.now.ships store) }
+    pub fn new(alloc: Global, flat: &Flat) -> ScanStore
+        ensures value { IsNewScan flat.now.ships result }
     {
-        Ok(ScanStore {
+        ScanStore {
             ships: flat.shape().ships,
             held: Vec::new(alloc),
-        })
+        }
     }
 }
 
 impl Store for ScanStore {
     ghost use Rattle.hw_store.specs.Scans.{scan_ships, scan_clauses, ScanReady};
+    ghost use Rattle.hw_store.specs.Stores.{StoreFinds};
 
     ghost ships = { scan_ships };
 
@@ -54,7 +55,15 @@ impl Store for ScanStore {
         Ok(())
     }
 
-    fn step(&mut self, room: &Room) -> Result<Held, NoMemory> {
+    /// It takes no memory, and so always answers.
+    fn step(&mut self, room: &Room) -> Result<Held, NoMemory>
+        requires ready { ScanReady self.old room.now }
+        ensures same { scan_clauses self.new ≡ scan_clauses self.old }
+        ensures ships { scan_ships self.new ≡ scan_ships self.old }
+        ensures ready { ScanReady self.new room.now }
+        ensures found { StoreFinds (scan_clauses self.old) room.now result }
+        ensures ok { IsOk result }
+    {
         Ok(first_active(&self.held, room))
     }
 
