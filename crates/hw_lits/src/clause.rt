@@ -1,6 +1,6 @@
 //! Clauses in normal form.
 
-ghost use Rattle.std.specs.Prelude.{◌≡◌, ◌<◌, ◌≤◌, length, Some, slice_get, IfOk, OnOk, IfErr};
+ghost use Rattle.std.specs.Prelude.{◌≡◌, ◌≢◌, ◌<◌, ◌≤◌, length, Some, slice_get, IfOk, OnOk, IfErr};
 ghost use Rattle.hw_model.specs.Lits.{first_bad, IsClause};
 ghost use Rattle.hw_lits.specs.Normal.{IsNormal};
 
@@ -53,6 +53,7 @@ impl Clause {
         ensures value { IfOk result (λ clause. clause ≡ lits.items) }
         ensures normal { OnOk result (IsClause shape lits.items) }
         ensures refused { IfErr result (λ fault. TellsBad fault (first_bad shape lits.items)) }
+        ensures no_memory { IfErr result (λ fault. fault ≢ ClauseFault.NoMemory) }
     {
         test_form(shape, &lits)?;
         Ok(Clause { lits })

@@ -1,6 +1,6 @@
 //! The test of the normal form, literal by literal.
 
-ghost use Rattle.std.specs.Prelude.{◌≡◌, ◌≤◌, length, MatchResult, None, Bool};
+ghost use Rattle.std.specs.Prelude.{◌≡◌, ◌≢◌, ◌≤◌, length, MatchResult, IfErr, None, Bool};
 ghost use Rattle.hw_model.specs.Lits.{lit_fits, place_of, is_earlier, leaves_some, may_follow, keeps_form, first_bad, IsClause};
 ghost use Rattle.hw_lits.specs.Faults.{TellsBad};
 
@@ -56,10 +56,11 @@ fn follows(before: Option<Lit>, lit: Lit) -> bool
     }
 }
 
-/// The first bad literal from the left, if there is one. One pass.
+/// The first bad literal from the left, if there is one. One pass, which takes no memory.
 pub fn test_form(shape: Shape, lits: &[Lit]) -> Result<(), ClauseFault>
     requires few_ships { shape.ships ≤ 40 }
     ensures normal { MatchResult result (λ _. IsClause shape lits.now) (λ fault. TellsBad fault (first_bad shape lits.now)) }
+    ensures no_memory { IfErr result (λ fault. fault ≢ ClauseFault.NoMemory) }
 {
     let mut before = None;
     for (place, lit) in lits.iter().enumerate() {
