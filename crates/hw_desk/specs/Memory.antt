@@ -121,6 +121,8 @@ pub record Counts (c : DeskCall) (old new : MemoryModel) : Type 0 where
   pub files : new.files ≡ old.files
   pub most : new.most ≡ old.most
   pub fails : new.fails ≡ old.fails
+  pub report_room : new.report.sent.room ≡ old.report.sent.room
+  pub proof_room : new.proof.sent.room ≡ old.proof.sent.room
   pub calls : new.calls ≡ counted_call old.calls c
 
 -- a count of faults after an answer: one more after a failure

@@ -189,6 +189,7 @@ impl Desk for CalmDesk {
         requires fresh { ((calm_state self.old).feeds feed).begun ≡ false }
         ensures begins { Begins feed name.now (calm_state self.old) (calm_state self.new) result }
         ensures named { ((calm_state self.new).feeds feed).name ≡ kept_name name.now }
+        ensures trays { (t : Tray) → calm_sent self.new t ≡ calm_sent self.old t }
         ensures ok { IsOk result }
     {
         let file = find(&self.files, name);
@@ -201,6 +202,7 @@ impl Desk for CalmDesk {
         requires some { 0 < length into.old }
         ensures reads { Reads feed into.new (calm_state self.old) (calm_state self.new) result }
         ensures count { IfOk result (λ n. IfSome ((calm_state self.old).feeds feed).left (λ left. n ≡ min (length into.old) (length left))) }
+        ensures trays { (t : Tray) → calm_sent self.new t ≡ calm_sent self.old t }
         ensures ok { IsOk result }
     {
         Ok(take_some(&self.files, self.feeds.get_mut(feed), usize::MAX, into))
@@ -210,6 +212,8 @@ impl Desk for CalmDesk {
         requires fresh { ((calm_state self.old).trays tray).made ≡ false }
         ensures makes { Makes tray name.now (calm_state self.old) (calm_state self.new) result }
         ensures named { ((calm_state self.new).trays tray).name ≡ kept_name name.now }
+        ensures none_sent { calm_sent self.new tray ≡ record { told = Some []; count = 0 } }
+        ensures others { (t : Tray) → same_tray t tray ≡ false → calm_sent self.new t ≡ calm_sent self.old t }
         ensures ok { IsOk result }
     {
         match tray {
