@@ -5,11 +5,12 @@ use Rattle.std.specs.Prelude.{◌≡◌, ℕ, ◌+◌, ◌*◌, ◌<◌, ◌≤�
 abbrev pub is_marked : List Bool → ℕ → Bool
 is_marked marks place = slice_index_or marks place true
 
--- the places are marked, and no mark is taken away
+-- the places are marked, as far as there are so many, no other one is, and no mark is taken away
 pub record MarksPlaces (places : List ℕ) (old new : List Bool) : Type 0 where
   pub same_length : length new ≡ length old
   pub marked : (place : ℕ) → Contains places place → is_marked new place ≡ true
   pub stays : (place : ℕ) → is_marked old place ≡ true → is_marked new place ≡ true
+  pub only : (place : ℕ) → is_marked old place ≡ false → is_marked new place ≡ true → Contains places place
 
 -- no place from the first one on and before the second is marked
 abbrev pub ClearWithin : List Bool → ℕ → ℕ → Type 0
