@@ -1,6 +1,7 @@
 //! From the command line to a status, and from a status to the process's end.
 
-ghost use Rattle.std.specs.Prelude.{◌≡◌, [], IfOk, MatchResult, drop, map, string_bytes};
+ghost use Rattle.std.specs.Prelude.{◌≡◌, [], IfErr, IfOk, IsErr, MatchResult, drop, map, string_bytes};
+ghost use Rattle.std.specs.IoError.{error_kind};
 ghost use Rattle.std.specs.Process.{exit_status};
 ghost use Rattle.std.specs.Vec.Iter.{into_iter_items};
 ghost use Rattle.hw_desk.specs.State.{IsNew};
@@ -27,9 +28,10 @@ fn words_behind(alloc: Global, mut args: Args) -> Result<Vec<String>, AllocError
 }
 
 /// The words of a command line without the program's name. Where it can't be had as text there are
-/// none.
+/// none, and where it wanted memory so does this.
 pub fn words_of(alloc: Global, args: io::Result<Args>) -> Result<Vec<String>, AllocError>
-    ensures { IfOk result (λ words. MatchResult args (λ all. words.items ≡ drop 1 (into_iter_items all)) (λ _. words.items ≡ [])) }
+    ensures words { IfOk result (λ words. MatchResult args (λ all. words.items ≡ drop 1 (into_iter_items all)) (λ _. words.items ≡ [])) }
+    ensures memory { IfErr args (λ e. error_kind e ≡ ErrorKind.OutOfMemory → IsErr result) }
 {
     match args {
         Ok(args) => words_behind(alloc, args),
