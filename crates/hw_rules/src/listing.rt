@@ -1,7 +1,5 @@
 //! The list of a problem's sources, in order: windows by ship, rules by place, orders of three
 //! ships, and the goal.
-//!
-//! Wrong body that is refused: `an_order_left_out`.
 ghost use Rattle.std.specs.Prelude.{◌≡◌, ◌<◌, ◌+◌, IfOk, OnOk};
 ghost use Rattle.hw_model.specs.declared.source.Source.TheVariants as kinds;
 ghost use Rattle.hw_rules.specs.Sources.{AreSourcesOf, AreSourcesBefore};

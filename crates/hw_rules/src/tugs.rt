@@ -1,6 +1,4 @@
 //! Tugs: whether the jobs hold no more tugs than a fleet has, in each slot of the horizon.
-//!
-//! Wrong body that is refused: `tugs_counted_in_the_staying_slot`.
 ghost use Rattle.std.specs.Prelude.{◌≡◌, ◌≤◌, ◌<◌, length, All, nat_lt, nat_le, find, sum_by};
 ghost use Rattle.std.specs.List.{list_all, list_any, range_with_len};
 ghost use Rattle.hw_model.specs.Problem.{horizon};

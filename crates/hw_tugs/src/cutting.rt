@@ -1,7 +1,6 @@
 //! The reductions of a room that a rule on tugs refutes, by the load of the slots.
 //!
-//! Wrong bodies that are refused: `one_tug_over_the_fleet_is_quiet`, `held_from_the_lowest_slot`,
-//! `highest_slot_not_tried`.
+//! Wrong bodies that are refused: `one_tug_over_the_fleet_is_quiet`, `highest_slot_not_tried`.
 ghost use Rattle.std.specs.Prelude.{◌≡◌, ℕ, ◌<◌, ◌≤◌, All, AllPairs, MatchOption, length, slice_index};
 ghost use Rattle.hw_model.specs.Limits.{JobFits};
 ghost use Rattle.hw_prop.specs.Reductions.{IsQuiet};

@@ -1,6 +1,4 @@
 //! The tugs that the jobs of a rule hold for sure in each slot, and the ranges that say so.
-//!
-//! Wrong bodies that are refused: `hold_ends_one_slot_early`, `changed_mends_the_low_side_alone`.
 ghost use Rattle.std.specs.Prelude.{◌≡◌, ◌≢◌, ℕ, ◌<◌, ◌≤◌, All, AllPairs, IfOk, MatchOption, length, slice_set, slice_index_or};
 ghost use Rattle.hw_model.specs.Limits.{JobFits};
 ghost use Rattle.hw_model.specs.Lits.{IsLitOf};
