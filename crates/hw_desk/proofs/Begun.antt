@@ -1,7 +1,7 @@
 -- A begin and a read of a desk in memory, told.
 use Rattle.std.proofs.Common.{◌≡◌, ◌≤◌, ◌<◌, ◌^◌, ◌⊎◌, ◌++◌, ◌↔◌, inl, inr, ℕ, List, [], refl, sym, subst, ap, ◌∙◌, true, false, Option, Some, None, Result, Ok, Err, IfSome, OnOk, OnErr, IsErr, IsNone, MatchResult, length, take, arith}
 use Rattle.std.proofs.lemmas.Grind.{common_steps}
-use Rattle.hw_desk.specs.State.{FeedState, TrayState, DeskState, Rose, put_feed}
+use Rattle.hw_desk.specs.State.{FeedState, TrayState, DeskState, Rose, put_feed, bounded_count}
 use Rattle.hw_desk.specs.Calls.{Begins, Reads}
 use Rattle.hw_desk.specs.Files.{held_in, left_at, left_of, file_named}
 use Rattle.hw_desk.specs.Feeds.{FeedModel, feed_of, told_feed}
@@ -32,6 +32,14 @@ put_same feeds Tides s = refl
 put_same feeds Certificate s = refl
 put_same feeds Plan s = refl
 put_same feeds Events s = refl
+
+-- a count that a desk tells goes on as the count itself does
+pub told_count : {E T : Type 0} (result : Result T E) (a b : ℕ) → MatchResult result (λ _. b ≡ a) (λ _. b ≡ next_count a) → MatchResult result (λ _. bounded_count b ≡ bounded_count a) (λ _. bounded_count b ≡ next_count (bounded_count a))
+told_count (Ok x) a b h = rw h refl
+told_count (Err e) a b h = omega arith
+
+pub bounded_small : (n : ℕ) → bounded_count n < 2 ^ 64
+bounded_small n = omega arith
 
 later : {E T : Type 0} (result : Result T E) (a b : ℕ) → a < 2 ^ 64 → MatchResult result (λ _. b ≡ a) (λ _. b ≡ next_count a) → a ≤ b
 later (Ok x) a b r h = omega arith

@@ -1,6 +1,7 @@
 -- A desk that never fails, as a contract sees it.
 use Rattle.std.specs.Prelude.{◌≡◌, List, [], false, Some, None, IfSome, cond, unwrap_or, refl}
-use Rattle.hw_desk.specs.State.{FeedState, TrayState, DeskState, IsFresh}
+use Rattle.std.proofs.Common.{lit≤}
+use Rattle.hw_desk.specs.State.{FeedState, TrayState, DeskState, IsFresh, IsBounded}
 use Rattle.hw_desk.specs.Files.{held_in}
 use Rattle.hw_desk.specs.Feeds.{FeedModel, told_feed}
 use Rattle.hw_desk.specs.Memory.{fresh_feed}
@@ -60,3 +61,6 @@ unbegun d f h = rw h refl
 
 pub calm_fresh : (d : CalmModel) → IsFresh (calm_state d)
 calm_fresh d = record { left = unbegun d; sent = λ h. rw h refl }
+
+pub calm_bounded : (d : CalmModel) → IsBounded (calm_state d)
+calm_bounded d = record { reads = lit≤ tt; writes = lit≤ tt }

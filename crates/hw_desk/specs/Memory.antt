@@ -1,7 +1,8 @@
 -- A desk in memory, as a contract sees it.
 use Rattle.std.specs.Prelude.{◌≡◌, ◌+◌, ◌-◌, ◌^◌, ◌&&◌, ◌==◌, ℕ, List, [], Bool, true, false, Some, None, Result, Ok, Err, IfSome, cond, min, refl}
 use Rattle.std.specs.List.{list_any}
-use Rattle.hw_desk.specs.State.{FeedState, TrayState, DeskState, IsFresh}
+use Rattle.std.proofs.Math.Nat.{min-le_right}
+use Rattle.hw_desk.specs.State.{FeedState, TrayState, DeskState, IsFresh, IsBounded, bounded_count}
 use Rattle.hw_desk.specs.Files.{held_in}
 use Rattle.hw_desk.specs.Feeds.{FeedModel, told_feed}
 use Rattle.hw_desk.specs.Sent.{SentModel}
@@ -42,8 +43,8 @@ memory_state d = record {
   held = held_in d.files;
   feeds = feeds_of d;
   trays = trays_of d;
-  read_faults = d.read_faults;
-  write_faults = d.write_faults;
+  read_faults = bounded_count d.read_faults;
+  write_faults = bounded_count d.write_faults;
 }
 
 -- a feed that wasn't begun, and a tray that wasn't made
@@ -142,6 +143,9 @@ pub record WriteFaults {T E : Type 0} (old new : MemoryModel) (result : Result T
 
 unbegun : (d : MemoryModel) (f : Feed) → (feeds_of d f).begun ≡ false → IfSome (feeds_of d f).left (λ bytes. bytes ≡ [])
 unbegun d f h = rw h refl
+
+pub memory_bounded : (d : MemoryModel) → IsBounded (memory_state d)
+memory_bounded d = record { reads = min-le_right d.read_faults (2 ^ 64 - 1); writes = min-le_right d.write_faults (2 ^ 64 - 1) }
 
 pub memory_fresh : (d : MemoryModel) → IsFresh (memory_state d)
 memory_fresh d = record {

@@ -51,6 +51,10 @@ put_feed feeds feed s = λ f. cond (same_feed f feed) s (feeds f)
 abbrev pub put_tray : (Tray → TrayState) → Tray → TrayState → Tray → TrayState
 put_tray trays tray s = λ t. cond (same_tray t tray) s (trays t)
 
+-- a count as a desk tells it: at most the last u64
+abbrev pub bounded_count : ℕ → ℕ
+bounded_count n = min n (2 ^ 64 - 1)
+
 -- the count is above what it was, or stands at its end
 abbrev pub Rose : ℕ → ℕ → Type 0
 Rose before now = min (before + 1) (2 ^ 64 - 1) ≤ now
@@ -59,6 +63,11 @@ Rose before now = min (before + 1) (2 ^ 64 - 1) ≤ now
 pub record IsFresh (s : DeskState) : Type 0 where
   pub left : (f : Feed) → (s.feeds f).begun ≡ false → IfSome (s.feeds f).left (λ bytes. bytes ≡ [])
   pub sent : (s.trays Proof).made ≡ false → IfSome (s.trays Proof).sent (λ bytes. bytes ≡ [])
+
+-- both counts of faults are at most the last u64
+pub record IsBounded (s : DeskState) : Type 0 where
+  pub reads : s.read_faults ≤ 2 ^ 64 - 1
+  pub writes : s.write_faults ≤ 2 ^ 64 - 1
 
 -- Report needs no make
 abbrev pub can_send : Tray → DeskState → Bool

@@ -179,11 +179,13 @@ impl CalmDesk {
 impl Desk for CalmDesk {
     ghost use Rattle.hw_desk.specs.State.{CanSend, same_tray};
     ghost use Rattle.hw_desk.specs.Calls.{Begins, Reads, Makes, Writes};
-    ghost use Rattle.hw_desk.specs.Calm.{calm_state, calm_fresh, calm_sent};
+    ghost use Rattle.hw_desk.specs.Calm.{calm_state, calm_fresh, calm_bounded, calm_sent};
 
     ghost state = { calm_state };
 
     ghost fresh = { calm_fresh };
+
+    ghost bounded = { calm_bounded };
 
     fn begin(&mut self, feed: Feed, name: &str) -> Result<(), DeskFailed>
         requires fresh { ((calm_state self.old).feeds feed).begun ≡ false }

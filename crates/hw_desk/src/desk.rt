@@ -1,7 +1,7 @@
 //! The outside world as a trait: what its calls do, and what they leave when they fail.
 
 ghost use Rattle.std.specs.Prelude.{◌≡◌, ◌<◌, length, false, true};
-ghost use Rattle.hw_desk.specs.State.{DeskState, IsFresh, CanSend};
+ghost use Rattle.hw_desk.specs.State.{DeskState, IsFresh, IsBounded, CanSend};
 ghost use Rattle.hw_desk.specs.Calls.{Begins, Reads, Makes, Writes};
 
 /// An input of the program.
@@ -66,4 +66,7 @@ pub trait Desk {
 
     /// Before its begin a feed has no bytes left, and before its make the proof has no sent bytes.
     ghost fresh: { (desk : Self) → IsFresh (state desk) };
+
+    /// Neither count of faults passes the last `u64`.
+    ghost bounded: { (desk : Self) → IsBounded (state desk) };
 }

@@ -250,13 +250,15 @@ impl MemoryDesk {
 
 impl Desk for MemoryDesk {
     ghost use Rattle.hw_desk.specs.State.{CanSend};
-    ghost use Rattle.hw_desk.specs.Memory.{memory_state, memory_fresh, Counts, ReadFaults, WriteFaults, is_listed, write_call, sent_to};
+    ghost use Rattle.hw_desk.specs.Memory.{memory_state, memory_fresh, memory_bounded, Counts, ReadFaults, WriteFaults, is_listed, write_call, sent_to};
     ghost use Rattle.hw_desk.specs.Files.{held_in};
     ghost use Rattle.hw_desk.specs.Calls.{Begins, Reads, Makes, Writes};
 
     ghost state = { memory_state };
 
     ghost fresh = { memory_fresh };
+
+    ghost bounded = { memory_bounded };
 
     fn begin(&mut self, feed: Feed, name: &str) -> Result<(), DeskFailed>
         requires fresh { ((memory_state self.old).feeds feed).begun ≡ false }
