@@ -14,7 +14,7 @@ use Rattle.hw_model.specs.Lits.{IsLitOf}
 use Rattle.hw_story.specs.Sides.{implies}
 use Rattle.hw_story.specs.Replays.{meets}
 use Rattle.hw_story.specs.Stories.{Story, room_at}
-use Rattle.hw_story.specs.Walks.{In, InSome, chain, reason_of, Ascends, Late, IsTop, denying, level_of as story_level, OneOfLevel as StoryOne, Levels, Learns as StoryLearns}
+use Rattle.hw_story.specs.Walks.{In, InSome, chain, reason_of, Ascends, OneLess, Late, IsTop, denying, level_of as story_level, OneOfLevel as StoryOne, Levels, Learns as StoryLearns}
 use Rattle.hw_story.specs.Walks.Levels.{Nothing, One}
 use Rattle.hw_story.specs.Knowing.{knows, always}
 use Rattle.hw_story.specs.Trails.{TrailModel, trail_shape, reason, room_of, IsTrail}
@@ -24,8 +24,10 @@ use Rattle.hw_story.proofs.Sides.{implies_self, implies_antisym}
 use Rattle.hw_story.proofs.Replays.{ends_inside}
 use Rattle.hw_story.proofs.Stories.{room_grows, room_falls}
 use Rattle.hw_story.proofs.Knowing.{know_world}
-use Rattle.hw_story.proofs.Steps.{meets_replays}
-use Rattle.hw_story.proofs.Denials.{clause_lits, in_fits, knows_denied}
+use Rattle.hw_story.proofs.Needs.{ascends_less, less_split}
+use Rattle.hw_story.proofs.Ends.{denied_start}
+use Rattle.hw_story.proofs.Steps.{meets_replays, replay_meets}
+use Rattle.hw_story.proofs.Denials.{clause_lits, in_fits, knows_denied, denied_knows}
 use Rattle.hw_laws.proofs.Denying.{denied_is}
 use Rattle.hw_story.proofs.Trails.{told_at}
 use Rattle.hw_story.proofs.Levels.{made_false, level_is, level_stays, top_is, end_false}
@@ -176,6 +178,13 @@ learns_from t is n le top clause lemma back places cf known it f zb gb h =
       fits = f;
       ascends = increasing (story_of t) n 0 places h.ascends;
       reasons = with_reason t n le 0 places h.ascends;
+      needed = λ before later place e met.
+          let less : OneLess places (before ++ later) = subst (λ xs. OneLess xs (before ++ later)) (sym e) (less_split before later place) in
+          let asc : Ascends (story_of t) n 0 (before ++ later) = ascends_less (story_of t) n 0 places (before ++ later) h.ascends less in
+          let back' : replay (denied (trail_shape t) lemma) (chain (story_of t) (before ++ later) clause) ≡ conflict = subst (λ cs. replay (denied (trail_shape t) lemma) cs ≡ conflict) (sym (chain_same t n le clause 0 (before ++ later) asc)) met in
+          let lits' : All (All (IsLitOf (denied (trail_shape t) lemma).ships)) (chain (story_of t) (before ++ later) clause) = subst (λ k. All (All (IsLitOf k)) (chain (story_of t) (before ++ later) clause)) (sym room.same_ships) (chain_lits t is n le clause 0 (before ++ later) cf asc) in
+          h.needed (knows (denied (trail_shape t) lemma)) (know_world (denied (trail_shape t) lemma) room.is_room) (λ m y. knows_denied (trail_shape t) lemma is.shape.some_slot f m (denied_start (story_of t).start lemma m y)) (denied_knows (trail_shape t) lemma is.shape.some_slot f) (before ++ later) less
+          (replay_meets (chain (story_of t) (before ++ later) clause) 0 (denied (trail_shape t) lemma) room.is_room lits' back');
       replays = subst (λ cs. replay (denied (trail_shape t) lemma) cs ≡ conflict) chains (meets_replays (chain (story_of t) places clause) 0 (denied (trail_shape t) lemma) room.is_room lits met);
       all_false = all_in (λ lit. truth (room_of t) lit ≡ False) lemma (λ l i. end_false t is l (room_grows (story_of t) n (length t.events) le (negation l) (h.all_false l i)));
       lean = all_in (λ lit. Any (λ other. Contains other lit) (chain_of t places clause)) lemma (λ l i. subst (λ cs. Any (λ other. Contains other l) cs) chains (some_any (chain (story_of t) places clause) l (h.lean l i)));

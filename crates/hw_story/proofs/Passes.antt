@@ -1,5 +1,5 @@
 -- A step of the walk back: a miss, a hit that stays, one that is resolved; and where the walk begins.
-use Rattle.std.proofs.Common.{◌≡◌, ℕ, zero, suc, ◌<◌, ◌≤◌, ◌+◌, ◌-◌, Bool, true, false, refl, arith, ◌⊎◌, inl, inr, ◌∙◌, sym, ap, subst, cond, List, [], ◌∷◌, ◌++◌, length, get_or, Some, None, Option, add-one}
+use Rattle.std.proofs.Common.{◌≡◌, ℕ, zero, suc, ◌<◌, ◌≤◌, ◌+◌, ◌-◌, Bool, true, false, refl, arith, ◌⊎◌, inl, inr, ◌∙◌, sym, ap, subst, cond, List, [], ◌∷◌, ◌++◌, length, get_or, Some, None, add-one}
 use Rattle.std.specs.Prelude.{MatchBool}
 use Rattle.std.proofs.lemmas.Bool.{cases_Bool, cases_lt, or_cases, or_left}
 use Rattle.hw_model.specs.declared.lit.Lit.{Lit}
@@ -10,7 +10,7 @@ use Rattle.hw_laws.proofs.Cuts.{full_room}
 use Rattle.hw_story.specs.Sides.{same_side, implies}
 use Rattle.hw_story.specs.Replays.{Facts, Narrower, dropping, OnlyLeft, AllFalse}
 use Rattle.hw_story.specs.Knowing.{knows, always, widened}
-use Rattle.hw_story.specs.Stories.{Story, room_at, IsStory, Because}
+use Rattle.hw_story.specs.Stories.{Story, room_at, IsStory}
 use Rattle.hw_story.specs.Walks.{In, Bounds, Walk, Hit, Miss, Top, Denies, Resolves}
 use Rattle.hw_story.specs.Walks.Top.{Ground, Open, Found}
 use Rattle.hw_story.specs.Passes.{DeniesOne, MostOf, NothingOf, HitBefore, NoHit, DeniesOthers, DeniesAll, StepKeeps, When, Walks}
@@ -18,6 +18,7 @@ use Rattle.hw_story.specs.Passes.When.{OnGround, WithAnother}
 use Rattle.hw_story.proofs.Sides.{same_when_implied, same_sym, same_trans}
 use Rattle.hw_story.proofs.Knowing.{know_world, know_basic, widen_in, widen_out}
 use Rattle.hw_story.proofs.Stories.{room_world, room_grows, room_falls, start_known}
+use Rattle.hw_story.proofs.Needs.{others_false, unit_of}
 use Rattle.hw_story.proofs.Walks.{walk_miss, walk_keep, walk_resolve, has_reason, found_no_hit, first_of_top, still_known, wide_parts, miss_known, hit_side, new_free}
 
 clash : (r : Facts) (m : Lit) → r m ≡ true → r m ≡ false → ⊥
@@ -165,18 +166,6 @@ alone_from t n top first base p b places bs lt h up none (Found z u k f g rest l
     absurd (found_no_hit t n top first base p b bs lt h (first_of_top t n top first base p bs e) u k g rest)
 
 -- RESOLVING
-in_only : (r : Facts) (e : Lit) (c : List Lit) → OnlyLeft r e c → (l : Lit) → In l c → (l ≡ e) ⊎ (r (negation l) ≡ true)
-in_only r e [] h l i = absurd i
-in_only r e (x ∷ c) (inl h) l (inl q) = inl (sym q ∙ h.0)
-in_only r e (x ∷ c) (inl h) l (inr q) = inr (false_in r c l h.1 q)
-  where
-    false_in : (r : Facts) (c : List Lit) (d : Lit) → AllFalse r c → In d c → r (negation d) ≡ true
-    false_in r [] d h k = absurd k
-    false_in r (l ∷ c) d h (inl e) = subst (λ (x : Lit). r (negation x) ≡ true) e h.0
-    false_in r (l ∷ c) d h (inr k) = false_in r c d h.1 k
-in_only r e (x ∷ c) (inr h) l (inl q) = inr (subst (λ (y : Lit). r (negation y) ≡ true) q h.0)
-in_only r e (x ∷ c) (inr h) l (inr q) = in_only r e c h.1 l q
-
 all_moved : (r s : Facts) (c : List Lit) → AllFalse r c → ((l : Lit) → In l c → r (negation l) ≡ true → s (negation l) ≡ true) → AllFalse s c
 all_moved r s [] h f = tt
 all_moved r s (l ∷ c) h f = (f l (inl refl) h.0, all_moved r s c h.1 (λ x i. f x (inr i)))
@@ -186,10 +175,6 @@ only_moved r s e [] h f = h
 only_moved r s e (l ∷ c) (inl h) f = inl (h.0, all_moved r s c h.1 (λ x i. f x (inr i)))
 only_moved r s e (l ∷ c) (inr h) f = inr (f l (inl refl) h.0, only_moved r s e c h.1 (λ x i. f x (inr i)))
 
-unit_of : (t : Story) (p : ℕ) (c : List Lit) (why : Option (List Lit)) → why ≡ Some c → Because t p why → OnlyLeft (room_at t p) (t.at p).lit c
-unit_of t p c None e b = absurd cc
-unit_of t p c (Some d) e b = let same : d ≡ c = cc in subst (λ (x : List Lit). OnlyLeft (room_at t p) (t.at p).lit x) same b.1
-
 -- what the new room knows, the trail knows
 new_around : (t : Story) (n : ℕ) → IsStory t n → (p : ℕ) → p < n → (r : RoomModel) → IsRoom r → (new : Facts) (c : List Lit) → t.start ≡ always r.ships r.slots
     → IsLitOf r.ships (t.at p).lit → OnlyLeft (room_at t p) (t.at p).lit c → DeniesOthers (knows (widened (t.at p).lit r)) new c (t.at p).lit → Narrower (room_at t n) (knows r) → Narrower (room_at t n) new
@@ -198,7 +183,7 @@ new_around t n s p lt r i new c st f only d around m y = elim (d.sources m y) [
     | inl z ↦ start_known t n m (subst (λ (x : Facts). x m ≡ true) (sym st) z)
     | inr z ↦ around m z.0
   ]
-  | inr q ↦ elim (in_only (room_at t p) (t.at p).lit c only q.0 q.1) [
+  | inr q ↦ elim (others_false (room_at t p) (t.at p).lit c only q.0 q.1) [
     | inl e ↦ absurd (q.2 e)
     | inr k ↦ (room_world t n s n (omega arith)).closed (negation q.0) m (room_grows t p n (omega arith) (negation q.0) k) q.3
   ]
@@ -224,7 +209,7 @@ resolves_from t n s p lt r i new c st f why d around =
           | inl z ↦ inl (subst (λ (x : Facts). x m ≡ true) (sym st) z)
           | inr z ↦ inr (inl z)
         ]
-        | inr q ↦ elim (in_only (room_at t p) (t.at p).lit c only q.0 q.1) [
+        | inr q ↦ elim (others_false (room_at t p) (t.at p).lit c only q.0 q.1) [
           | inl e ↦ absurd (q.2 e)
           | inr k ↦ inr (inr (record { by = q.0; within = q.1; was_false = k; known = q.4; implied = q.3 }))
         ]

@@ -174,7 +174,7 @@ all_false_by : (b : Bool) (r : Facts) (l : Lit) (xs c : List Lit) → r (negatio
 all_false_by true r l xs c e h k = (e, k h)
 all_false_by false r l xs c e h k = absurd cc
 
-all_false_left : (r : Facts) (c : List Lit) → left r c ≡ [] → AllFalse r c
+pub all_false_left : (r : Facts) (c : List Lit) → left r c ≡ [] → AllFalse r c
 all_false_left r [] h = tt
 all_false_left r (l ∷ c) h = all_false_by (r (negation l)) r l (left r c) c refl h (all_false_left r c)
 
