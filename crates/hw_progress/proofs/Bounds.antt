@@ -12,7 +12,7 @@ use Rattle.hw_model.specs.Problem.{Problem, shape_of}
 use Rattle.hw_model.specs.Limits.{IsFlat}
 use Rattle.hw_model.specs.Lits.{IsClause}
 use Rattle.hw_model.specs.Rooms.{room_count}
-use Rattle.hw_laws.proofs.Horizon.{horizon_le, slots_le}
+use Rattle.hw_laws.proofs.Horizon.{slots_le}
 use Rattle.hw_lines.specs.declared.line.Line.{Line}
 use Rattle.hw_lines.specs.declared.line.Line.TheVariants as lines
 use Rattle.hw_lines.specs.Lines.{clause_of, clause_count, live, deletes}

@@ -17,7 +17,6 @@ use Rattle.hw_model.specs.Lits.{lit_fits, clause_holds, IsClause}
 use Rattle.hw_model.specs.Rooms.{RoomWithin}
 use Rattle.hw_model.specs.Narrowing.{truth}
 use Rattle.hw_model.specs.Replay.{narrowing}
-use Rattle.hw_laws.proofs.Horizon.{horizon_le}
 use Rattle.hw_lines.specs.Valid.{denied_room}
 use Rattle.hw_story.specs.declared.event.Event.{Event}
 use Rattle.hw_story.specs.declared.event.Why.{Why}

@@ -8,6 +8,8 @@ ghost use Rattle.hw_progress.specs.Searches.{LogFits, new_search, room_in, IsSea
 ghost use Rattle.hw_cert.specs.Logs.{WhereTold};
 ghost use Rattle.hw_progress.specs.Settling.{SettleMeets};
 ghost use Rattle.hw_progress.specs.Turns.{TurnMeets};
+ghost use Rattle.hw_progress.specs.Offers.{IsBetter, OfferMeets};
+ghost use Rattle.hw_model.specs.Timetables.{Permits};
 ghost use Rattle.hw_progress.specs.Starting.{Branches, EachSourceOnce};
 ghost use Rattle.hw_search.specs.Faults.{TurnKeepsFaults};
 
@@ -89,6 +91,21 @@ impl<'f, S: Store + Drop, P: Propagator + Drop> Search<'f, S, P> {
         ensures same_reference { L.anchor log.new ≡ L.anchor log.old }
     {
         self.engine.turn(log)
+    }
+
+    /// Takes a permitted timetable that somebody else found, whose cargo beats the best: its line is
+    /// handed to the log. It answers `Better`, `NoMemory` or `LogFailed`; after the last two the search is
+    /// over. All else of the search is as before. It copies the timetable once, and looks at nothing else.
+    pub fn offer<L: Log>(&mut self, table: &Timetable, log: &mut L) -> Turn
+        requires going { self.old.over ≡ false }
+        requires permitted { Permits self.old.problem table.now }
+        requires better { IsBetter self.old table.now }
+        requires fits { WhereTold (L.state log.old) (λ told. LogFits told self.old) }
+        ensures offers { OfferMeets self.old table.now (L.state log.old) result self.new (L.state log.new) }
+        ensures kept { TurnKeepsFaults result (L.state log.old) (L.state log.new) }
+        ensures same_reference { L.anchor log.new ≡ L.anchor log.old }
+    {
+        self.engine.offer(table, log)
     }
 
     /// The best timetable so far.

@@ -10,6 +10,7 @@ ghost use Rattle.hw_progress.specs.Starting.{EachSourceOnce};
 ghost use Rattle.hw_search.specs.Faults.{SolvedKeepsFaults};
 ghost use Rattle.hw_search.specs.Going.{Going, EndsSolved};
 ghost use Rattle.hw_search.specs.MadeFor.{IsMadeFor};
+ghost use Rattle.hw_rules.specs.Sources.{AreSourcesOf};
 
 use crate::any::{AnyPropagator, for_source};
 use crate::search::Search;
@@ -26,6 +27,7 @@ use std::alloc::Global;
 /// for the whole room.
 pub fn propagators(alloc: Global, flat: &Flat) -> Result<Vec<AnyPropagator>, NoMemory>
     ensures sources { IfOk result (λ props. EachSourceOnce flat.now (map ⟦<AnyPropagator as Propagator>⟧.source props.items)) }
+    ensures order { IfOk result (λ props. AreSourcesOf flat.now (map ⟦<AnyPropagator as Propagator>⟧.source props.items)) }
     ensures ready { IfOk result (λ props. All (λ one. ⟦<AnyPropagator as Propagator>⟧.ready one flat.now (whole_room (shape_of flat.now))) props.items) }
     ensures kinds { IfOk result (λ props. All (λ one. IsMadeFor flat.now (⟦<AnyPropagator as Propagator>⟧.source one) one) props.items) }
 {

@@ -10,6 +10,7 @@ ghost use Rattle.hw_progress.specs.Searches.{SearchModel, LogFits, room_in, best
 ghost use Rattle.hw_progress.specs.Settling.{AllQuiet, IsConflict, Settles};
 ghost use Rattle.hw_progress.specs.Starting.{Branches};
 ghost use Rattle.hw_progress.specs.Turns.{TurnMeets};
+ghost use Rattle.hw_progress.specs.Offers.{IsBetter, OfferMeets};
 ghost use Rattle.hw_search.specs.Faults.{TurnKeepsFaults};
 ghost use Rattle.hw_search.specs.Turning.{Begins, Decides, turn_of};
 
@@ -18,7 +19,7 @@ use crate::branching::branch;
 use crate::engine::Engine;
 use crate::going_back::{go_back, next_level};
 use crate::handing::hand_why;
-use crate::writing::{Written, hand_table, write_lemma};
+use crate::writing::{Written, hand_copy, hand_table, write_lemma};
 use hw_cert::{Log, LogStop};
 use hw_flat::Timetable;
 use hw_learn::{Learnt, learn};
@@ -105,6 +106,26 @@ impl<'f, S: Store + Drop, P: Propagator + Drop> Engine<'f, S, P> {
             }
             Err(stop) => self.halt(stop),
         }
+    }
+
+    /// Takes a better timetable from outside: its line is written, and the goal is marked. Where the
+    /// line isn't taken the search is over, and all else of it is as before.
+    pub fn offer<L: Log>(&mut self, table: &Timetable, log: &mut L) -> Turn
+        requires going { self.old.search.over ≡ false }
+        requires permitted { Permits self.old.search.problem table.now }
+        requires better { IsBetter self.old.search table.now }
+        requires fits { WhereTold (L.state log.old) (λ told. LogFits told self.old.search) }
+        ensures offers { OfferMeets self.old.search table.now (L.state log.old) result self.new.search (L.state log.new) }
+        ensures kept { TurnKeepsFaults result (L.state log.old) (L.state log.new) }
+        ensures same_reference { L.anchor log.new ≡ L.anchor log.old }
+    {
+        let _ = &self.trail;
+        let copied = match hand_copy(self.alloc, table, log) {
+            Ok(copied) => copied,
+            Err(stop) => return self.halt(stop),
+        };
+        self.take_best(copied);
+        Turn::Better
     }
 
     // Writes a conflict without literals.
