@@ -1,0 +1,64 @@
+-- What is kept of a crew: the lines that were handed on, told or not, the pages and the board.
+use Rattle.std.specs.Prelude.{◌≡◌, ℕ, ◌<◌, List, [], Some, All, length, take, slice_get, slice_set}
+use Rattle.hw_model.specs.Problem.{Problem}
+use Rattle.hw_lines.specs.declared.line.Line.{Line}
+use Rattle.hw_lines.specs.Lines.{clause_count, last_table, is_closed}
+use Rattle.hw_lines.specs.Valid.{LineFits, Valid}
+use Rattle.hw_lines.specs.Lemmas.{lemmas_of, IsNew, IsLean}
+use Rattle.hw_cert.specs.declared.log.LogStop.{LogStop}
+use Rattle.hw_cert.specs.declared.log.LogStop.TheVariants.{Failed, NoMemory}
+use Rattle.hw_cert.specs.Logs.{LogModel, WhereTold}
+use Rattle.hw_progress.specs.Turns.{FailsAt}
+use Rattle.hw_search.specs.Handing.{StopCause}
+use Rattle.hw_crew.specs.Pages.{Page}
+use Rattle.hw_crew.specs.Crews.{Shared}
+use Rattle.hw_turns.specs.declared.board.Board.{Board}
+
+-- where a log is told, these are its lines, and nothing is behind them
+abbrev pub IsSaid : List Line → LogModel → Type 0
+IsSaid all log = WhereTold log (λ told. (told.lines ≡ all) × (told.behind ≡ []))
+
+-- these lines were handed on: all pages are tied to them, and the board tells of them
+pub record Crewing (f : Problem) (pages : List Page) (board : Board) (all : List Line) : Type 0 where
+  pub shared : Shared f pages all
+  pub count : board.clause_lines ≡ clause_count all
+  pub lemmas : board.lemmas ≡ length (lemmas_of all)
+  pub best : board.best ≡ last_table all
+
+-- own lines that a searcher wrote
+pub record OwnWell (f : Problem) (own : List Line) : Type 0 where
+  pub fit : All (LineFits f) own
+  pub valid : Valid f own
+  pub lean : IsLean f own
+  pub new : IsNew f own
+
+-- the first `count` own lines of the page at a place were handed on
+pub record HandedOn (f : Problem) (own : List Line) (count : ℕ) (numbers : List ℕ) (board : Board) (pages : List Page) (place : ℕ) : Type 0 where
+  pub all : List Line
+  pub crewing : Crewing f (slice_set pages place (record { lines = take count own; numbers = numbers })) board all
+  pub closed : is_closed all ≡ is_closed (take count own)
+
+-- all of them were, and the log has them
+pub record HandsAll (f : Problem) (own : List Line) (numbers : List ℕ) (board : Board) (pages : List Page) (place : ℕ) (new : LogModel) : Type 0 where
+  pub handed : HandedOn f own (length own) numbers board pages place
+  pub said : IsSaid handed.all new
+
+-- what the log has where a line wasn't taken
+abbrev pub StopSays : Problem → LogStop → List Line → LogModel → Type 0
+StopSays f Failed all new = WhereTold new (λ told. (told.lines ≡ all) × FailsAt f told)
+StopSays f NoMemory all new = IsSaid all new
+
+-- some first ones of them were
+pub record HandsSome (f : Problem) (stop : LogStop) (own : List Line) (numbers : List ℕ) (board : Board) (pages : List Page) (place : ℕ) (old new : LogModel) : Type 0 where
+  pub count : ℕ
+  pub inside : count < length own
+  pub handed : HandedOn f own count numbers board pages place
+  pub cause : StopCause stop old new
+  pub says : StopSays f stop handed.all new
+
+-- before that: the page at the place has the first `count` own lines
+pub record HandsFrom (f : Problem) (own : List Line) (count : ℕ) (numbers : List ℕ) (board : Board) (pages : List Page) (place : ℕ) (all : List Line) (old : LogModel) : Type 0 where
+  pub page : slice_get pages place ≡ Some (record { lines = take count own; numbers = numbers })
+  pub crewing : Crewing f pages board all
+  pub closed : is_closed all ≡ is_closed (take count own)
+  pub said : IsSaid all old

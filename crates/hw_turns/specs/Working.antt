@@ -1,0 +1,102 @@
+-- What a crew meets.
+use Rattle.std.specs.Prelude.{◌≡◌, ℕ, ◌*◌, ◌≤◌, Bool, true, false, List, Option, Some, None, All, IfSome, length, ⊤}
+use Rattle.hw_model.specs.Problem.{Problem}
+use Rattle.hw_model.specs.Timetables.{Permits, cargo, IsBest, NonePermitted}
+use Rattle.hw_model.specs.Rooms.{room_count}
+use Rattle.hw_desk.specs.State.{Rose}
+use Rattle.hw_lines.specs.declared.line.Line.{Line}
+use Rattle.hw_lines.specs.Lines.{last_table, is_closed, ends}
+use Rattle.hw_lines.specs.Valid.{LineFits, Valid}
+use Rattle.hw_lines.specs.Lemmas.{lemmas_of, IsLean}
+use Rattle.hw_cert.specs.Logs.{LogModel, WhereTold, IsWhole, Grows}
+use Rattle.hw_progress.specs.declared.outcome.Branching.{Branching}
+use Rattle.hw_progress.specs.Turns.{FailsAt}
+use Rattle.hw_crew.specs.Crews.{NewAmong}
+use Rattle.hw_turns.specs.Orders.{searcher_count}
+use Rattle.hw_turns.specs.declared.outcome.Crewed.{Crewed}
+use Rattle.hw_turns.specs.declared.outcome.Crewed.TheVariants.{Optimal, Infeasible, Spent, NoMemory, LogFailed}
+
+-- the answer is Optimal or Infeasible
+abbrev pub is_proved : Crewed → Bool
+is_proved (Optimal table c) = true
+is_proved Infeasible = true
+is_proved (Spent table) = false
+is_proved (NoMemory table) = false
+is_proved LogFailed = false
+
+-- what each answer says of the lines
+abbrev pub AnswerTells : Problem → ℕ → Crewed → List Line → Type 0
+AnswerTells f budget (Optimal table c) all = (last_table all ≡ Some table) × (cargo f table ≡ Some c)
+AnswerTells f budget Infeasible all = last_table all ≡ None
+AnswerTells f budget (Spent table) all = (last_table all ≡ table) × (length (lemmas_of all) ≡ budget) × (is_closed all ≡ false)
+AnswerTells f budget (NoMemory table) all = last_table all ≡ table
+AnswerTells f budget LogFailed all = ⊤
+
+-- Spent, or out of memory, which is free
+abbrev pub may_be_spent : Crewed → Bool
+may_be_spent (Optimal table c) = false
+may_be_spent Infeasible = false
+may_be_spent (Spent table) = true
+may_be_spent (NoMemory table) = true
+may_be_spent LogFailed = false
+
+-- the lines that a crew handed on, and the answer by them; the log's faults were `before` and are `now`
+pub record CrewWrites (f : Problem) (order : List Branching) (budget : ℕ) (answer : Crewed) (before now : ℕ) (all : List Line) : Type 0 where
+  pub fit : All (LineFits f) all
+  pub valid : Valid f all
+  pub lean : IsLean f all
+  pub new : NewAmong f (searcher_count order) all
+  pub proved_just : is_proved answer ≡ ends all
+  pub tells : AnswerTells f budget answer all
+  pub lemmas : length (lemmas_of all) ≤ budget
+  pub spent : (Rose before now → ⊥) → length (lemmas_of all) ≡ budget → is_closed all ≡ false → may_be_spent answer ≡ true
+
+-- the timetable of an answer
+abbrev pub table_of : Crewed → Option (List ℕ)
+table_of (Optimal table c) = Some table
+table_of Infeasible = None
+table_of (Spent table) = table
+table_of (NoMemory table) = table
+table_of LogFailed = None
+
+-- a failure has its cause, and leaves a first part of a line that is valid there; else nothing is behind the lines
+abbrev pub CrewEnds : Problem → LogModel → LogModel → Crewed → Type 0
+CrewEnds f old new (Optimal table c) = IsWhole new
+CrewEnds f old new Infeasible = IsWhole new
+CrewEnds f old new (Spent table) = IsWhole new
+CrewEnds f old new (NoMemory table) = IsWhole new
+CrewEnds f old new LogFailed = Rose old.faults new.faults × WhereTold new (FailsAt f)
+
+-- the cargo of an answer is that of its timetable
+abbrev pub IsWorth : Problem → Crewed → Type 0
+IsWorth f (Optimal table c) = cargo f table ≡ Some c
+IsWorth f Infeasible = ⊤
+IsWorth f (Spent table) = ⊤
+IsWorth f (NoMemory table) = ⊤
+IsWorth f LogFailed = ⊤
+
+-- what an answer means, also where the lines are untold: Optimal's timetable is a best one, Infeasible says that none is permitted, and Spent comes with no more lemmas than rooms for each searcher
+abbrev pub AnswerMeans : Problem → ℕ → ℕ → Crewed → Type 0
+AnswerMeans f most budget (Optimal table c) = IsBest f table c
+AnswerMeans f most budget Infeasible = NonePermitted f
+AnswerMeans f most budget (Spent table) = budget ≤ most * room_count f
+AnswerMeans f most budget (NoMemory table) = ⊤
+AnswerMeans f most budget LogFailed = ⊤
+
+-- the log's faults are as they were, but where it failed
+abbrev pub KeepsFaults : Crewed → LogModel → LogModel → Type 0
+KeepsFaults (Optimal table c) old new = new.faults ≡ old.faults
+KeepsFaults Infeasible old new = new.faults ≡ old.faults
+KeepsFaults (Spent table) old new = new.faults ≡ old.faults
+KeepsFaults (NoMemory table) old new = new.faults ≡ old.faults
+KeepsFaults LogFailed old new = ⊤
+
+-- what a crew meets. It needs an order that isn't empty, a budget in its limit and a log without lines
+pub record CrewMeets (f : Problem) (order : List Branching) (budget : ℕ) (old : LogModel) (answer : Crewed) (new : LogModel) : Type 0 where
+  pub later : old.faults ≤ new.faults
+  pub writes : Grows old new (λ was now. CrewWrites f order budget answer old.faults new.faults now.lines)
+  pub permitted : IfSome (table_of answer) (Permits f)
+  pub worth : IsWorth f answer
+  pub means : AnswerMeans f (searcher_count order) budget answer
+  pub ends : CrewEnds f old new answer
+  pub kept : KeepsFaults answer old new
