@@ -75,12 +75,22 @@ const FIELDS: [(&[u8], u64, u32); 13] = [
     (b"slot,Berth,Bar\n0,1, 1\n", 1, 2),
 ];
 
-/// A table without a record, and one with a record that is too short.
-const OTHERS: [(&[u8], TideFault); 2] = [
+/// A table without a record, one with a record that is too short, and tables in which nothing
+/// after the first fault counts: further faults, and a quote without an end.
+const OTHERS: [(&[u8], TideFault); 5] = [
     (b"slot,Berth,Bar\n", TideFault::Few),
     (
         b"slot,Berth,Bar\n0,210,0\n1,200\n",
         TideFault::Length { row: 2 },
+    ),
+    (b"1\n2\n3\n", TideFault::Header { column: 0 }),
+    (
+        b"slot,Berth,Bar\n0,210,0\n1\n2\n2,x,y\n",
+        TideFault::Length { row: 2 },
+    ),
+    (
+        b"water,Berth,Bar\n0,1,1\n3,1,x\n\"5,1,1\n",
+        TideFault::Field { row: 2, column: 2 },
     ),
 ];
 

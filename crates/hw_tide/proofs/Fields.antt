@@ -31,7 +31,7 @@ pub field_or_end : (xs : List (List ℕ)) (i : ℕ) (o : Option (Bor (List ℕ))
 field_or_end xs i None h = no_field xs i (sym h)
 field_or_end xs i (Some f) h = rw add-one (drop_field xs i f.now (sym h))
 
-one_more : {A : Type 0} (front : List A) (h : A) (read : Result (List A) TideFault) → with_front (front ++ h ∷ []) read ≡ with_front front (read >>= λ hs. Ok (h ∷ hs))
+pub one_more : {A : Type 0} (front : List A) (h : A) (read : Result (List A) TideFault) → with_front (front ++ h ∷ []) read ≡ with_front front (read >>= λ hs. Ok (h ∷ hs))
 one_more front h (Ok hs) = ap (λ xs. Ok xs) (append_assoc front (h ∷ []) hs)
 one_more front h (Err e) = refl
 

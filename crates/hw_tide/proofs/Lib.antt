@@ -4,6 +4,9 @@ pub mod Rows
 pub mod Sizes
 pub mod Kept
 pub mod OneList
+pub mod Listed
+pub mod ComingRecords
+pub mod TideRead
 pub mod Causes
 pub mod ToldTables
 pub mod ToldTides

@@ -3,6 +3,7 @@ pub mod Levels
 pub mod Table
 pub mod Tides
 pub mod Whole
+pub mod Coming
 pub mod Laws
 pub mod Told
 pub mod Faults

@@ -1,12 +1,17 @@
 //! What a tide table's bytes tell.
 
 ghost use Rattle.hw_tide.specs.Faults.{FaultTold};
-ghost use Rattle.hw_tide.specs.Laws.{OneList};
+ghost use Rattle.hw_tide.specs.Laws.{OneList, SomeList};
 ghost use Rattle.hw_tide.specs.Told.{TableTold, TideTold};
 
 /// The records of given bytes are one list.
 pub fn one_list()
     ensures { OneList }
+{}
+
+/// Any bytes have a list of records, if only an empty one.
+pub fn some_list()
+    ensures { SomeList }
 {}
 
 /// A table is read as these levels exactly where its records tell them.

@@ -3,10 +3,12 @@
 ghost use Rattle.std.specs.Prelude.{◌≡◌, ◌≤◌, ◌<◌, ◌+◌, map, drop, length, MatchOption, [], ◌∷◌, None, option_and_then};
 ghost use Rattle.csv.specs.Records.{fields_of};
 ghost use Rattle.hw_text.specs.Numbers.{number_up_to};
+ghost use Rattle.hw_tide.specs.Coming.{IsReading, ReadsComing};
 ghost use Rattle.hw_tide.specs.Table.{Gives, slot_fits, fitting, first_field, heights_from, levels_form, levels_from};
 
 use crate::fault::TideFault;
 use crate::kind::TableKind;
+use crate::records::{Records, next_record};
 use csv::ByteRecord;
 use hw_text::{read_number, read_signed};
 use std::alloc::Global;
@@ -110,20 +112,23 @@ fn levels_of(
     Ok(Levels { slot, heights })
 }
 
-/// The heights of all records behind the header.
+/// The heights of all records that are still to come. Each is judged as it is taken, and the first
+/// that is wrong ends it.
 pub fn all_levels(
     alloc: Global,
     kind: TableKind,
     columns: usize,
-    records: &[ByteRecord],
+    records: &mut Records<'_>,
 ) -> Result<Vec<Levels>, TideFault>
-    requires { columns ≤ 17 }
-    ensures { Gives (λ v. v.items) result (levels_from kind columns 1 None (map fields_of records.now)) }
+    requires few { columns ≤ 17 }
+    requires reading { IsReading records.old }
+    ensures { ReadsComing (λ v. v.items) records.old (levels_from kind columns 1 None) result }
 {
     let mut levels = Vec::new(alloc);
     let mut last = None;
-    for (i, fields) in records.iter().enumerate() {
-        let one = levels_of(alloc, kind, columns, i as u64 + 1, last, fields)?;
+    while let Some(record) = next_record(records)? {
+        let row = levels.len() as u64 + 1;
+        let one = levels_of(alloc, kind, columns, row, last, &record)?;
         last = Some(one.slot);
         levels.push(one)?;
     }

@@ -15,6 +15,6 @@ mod twelfths;
 
 pub use fault::TideFault;
 pub use kind::TableKind;
-pub use laws::{fault_told, one_list, table_told, tide_told};
+pub use laws::{fault_told, one_list, some_list, table_told, tide_told};
 pub use reading::{read_heights, read_tides, read_waters};
 pub use tide::Tide;

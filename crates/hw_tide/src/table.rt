@@ -1,12 +1,14 @@
-//! A tide table: its header, and the records behind it.
+//! A tide table: its header, and the records after it.
 
 ghost use Rattle.std.specs.Prelude.{◌≡◌, ◌≤◌, ◌∷◌, length, map, drop, true, ◌+◌, bytes_eq};
 ghost use Rattle.csv.specs.Records.{fields_of};
+ghost use Rattle.hw_tide.specs.Coming.{IsReading, ReadsComing};
 ghost use Rattle.hw_tide.specs.Table.{Gives, kind_word, wrong_column, header_of, not_empty, table_of};
 
 use crate::fault::TideFault;
 use crate::kind::TableKind;
 use crate::levels::{Levels, all_levels, field_of};
+use crate::records::Records;
 use csv::ByteRecord;
 use hw_port::Waypoint;
 use std::alloc::Global;
@@ -81,21 +83,20 @@ fn some_levels(levels: Vec<Levels>) -> Result<Vec<Levels>, TideFault>
     }
 }
 
-/// The heights that the records give, of waters or slot by slot.
+/// The heights that a header and the records to come give, of waters or slot by slot.
 #[tactic(auto, unfolding(crate::specs::Table::table_of))]
 pub fn table(
     alloc: Global,
     kind: TableKind,
     waypoints: &[Waypoint],
-    records: &[ByteRecord],
+    header: &ByteRecord,
+    records: &mut Records<'_>,
 ) -> Result<Vec<Levels>, TideFault>
-    requires { length waypoints.now ≤ 16 }
-    ensures { Gives (λ v. v.items) result (table_of kind (map (λ w. w.name) waypoints.now) (map fields_of records.now)) }
+    requires few { length waypoints.now ≤ 16 }
+    requires reading { IsReading records.old }
+    ensures { ReadsComing (λ v. v.items) records.old (λ rows. table_of kind (map (λ w. w.name) waypoints.now) (fields_of header.now ∷ rows)) result }
 {
-    let [header, rest @ ..] = records else {
-        return Err(TideFault::Header { column: 0 });
-    };
     test_header(kind, waypoints, header)?;
-    let levels = all_levels(alloc, kind, 1 + waypoints.len(), rest)?;
+    let levels = all_levels(alloc, kind, 1 + waypoints.len(), records)?;
     some_levels(levels)
 }
