@@ -1,0 +1,6 @@
+use Rattle.hw_text.specs.Parts.{parts_of}
+use Rattle.hw_repair.proofs.Fitting.{plan_fits}
+use Rattle.hw_repair.proofs.reading.read_plan.Goals as goal
+
+pub returns-clause-fits : goal.returns-clause-fits
+returns-clause-fits c = plan_fits c.args.flat.now (parts_of 10 c.in_ok-rest.rest.now) c.in_ok-items.items.items (parts_of 10 c.in_ok-items.rest.now) c.shape.ensures.limits (rw c.shape.ensures.value at c.shape.ensures.fits).some_slot c.in_ok-items.ensures

@@ -1,0 +1,35 @@
+-- Small plans with what was worked out for them by hand.
+use Rattle.std.specs.Prelude.{◌≡◌, [], ◌∷◌, Some, None, Ok, Err, codes, false}
+use Rattle.hw_laws.specs.Rows.{two_apart, one_stays}
+use Rattle.hw_model.specs.Problem.{Problem}
+use Rattle.hw_repair.specs.declared.fault.PlanWord.TheVariants as words
+use Rattle.hw_repair.specs.declared.plan.Wish.TheVariants.{Kept, Planned}
+use Rattle.hw_repair.specs.Wishes.{moved}
+use Rattle.hw_repair.specs.Repaired.{repaired}
+use Rattle.hw_repair.specs.Text.{plan_text}
+
+-- two ships, the first of which has a value that can't be three times as large
+abbrev pub too_worthy : Problem
+too_worthy = record { ships = 2; slots = 3; stay = false; values = Some 500_000_000_000 ∷ Some 20 ∷ Some 30 ∷ Some 10 ∷ Some 20 ∷ Some 30 ∷ []; rules = [] }
+
+-- the values of repairs, and the ships that are moved
+pub record RepairRows : Type 0 where
+  pub planned : (repaired two_apart (Planned 0 0 ∷ Planned 2 0 ∷ [])).values ≡ Some 31 ∷ Some 60 ∷ Some 90 ∷ Some 30 ∷ Some 60 ∷ Some 91 ∷ []
+  pub sailed : (repaired two_apart (Kept 2 ∷ Planned 2 0 ∷ [])).values ≡ None ∷ None ∷ Some 91 ∷ Some 30 ∷ Some 60 ∷ Some 91 ∷ []
+  pub sailed_between : (repaired two_apart (Kept 1 ∷ Planned 2 0 ∷ [])).values ≡ None ∷ Some 61 ∷ None ∷ Some 30 ∷ Some 60 ∷ Some 91 ∷ []
+  pub delayed : (repaired two_apart (Planned 0 1 ∷ Planned 2 1 ∷ [])).values ≡ None ∷ Some 60 ∷ Some 90 ∷ None ∷ Some 60 ∷ Some 91 ∷ []
+  pub wishes_to_stay : (repaired one_stays (Planned 0 0 ∷ Planned 3 1 ∷ [])).values ≡ Some 31 ∷ Some 60 ∷ Some 90 ∷ None ∷ None ∷ Some 60 ∷ Some 90 ∷ Some 1 ∷ []
+  pub none_moved : moved (Planned 0 0 ∷ Planned 2 0 ∷ []) (0 ∷ 2 ∷ []) ≡ 0
+  pub one_moved : moved (Kept 2 ∷ Planned 2 0 ∷ []) (2 ∷ 0 ∷ []) ≡ 1
+
+-- what texts of plans say
+pub record PlanRows : Type 0 where
+  pub two_wishes : plan_text two_apart (codes "plan 1\nk 2\no 2 0\nend\n") ≡ Ok (Kept 2 ∷ Planned 2 0 ∷ [])
+  pub no_byte : plan_text two_apart [] ≡ Err (record { number = 1; word = words.Header })
+  pub no_such_slot : plan_text two_apart (codes "plan 1\nk 2\no 3 0\nend\n") ≡ Err (record { number = 3; word = words.Ship })
+  pub two_spellings : plan_text two_apart (codes "plan 1\nk 02\no 2 0\nend\n") ≡ Err (record { number = 2; word = words.Ship })
+  pub large : plan_text too_worthy (codes "plan 1\no 0 0\no 2 0\nend\n") ≡ Err (record { number = 2; word = words.Large })
+  pub form_before_large : plan_text too_worthy (codes "plan 1\no 0 3\no 2 0\nend\n") ≡ Err (record { number = 2; word = words.Ship })
+  pub no_end : plan_text two_apart (codes "plan 1\nk 2\no 2 0\n") ≡ Err (record { number = 4; word = words.Tail })
+  pub end_without_its_end : plan_text two_apart (codes "plan 1\nk 2\no 2 0\nend") ≡ Err (record { number = 4; word = words.Tail })
+  pub a_byte_after : plan_text two_apart (codes "plan 1\nk 2\no 2 0\nend\n\n") ≡ Err (record { number = 5; word = words.Tail })

@@ -1,0 +1,58 @@
+//! Why a text isn't a plan.
+
+ghost use Rattle.std.specs.Prelude.{◌≡◌, codes};
+ghost use Rattle.hw_repair.specs.declared.fault.PlanFault.TheVariants.{NoMemory};
+ghost use Rattle.hw_repair.specs.Words.{word_text};
+
+use std::alloc::{AllocError, AllocFailed};
+
+/// What was demanded at the first bad line.
+#[derive(Clone, Copy, Debug, PartialEq, Eq)]
+pub enum PlanWord {
+    /// The first line, `plan 1`.
+    Header,
+    /// The wish of a ship.
+    Ship,
+    /// A ship with values small enough to be repaired: each of them, times one more than the number
+    /// of ships, is below the limit of a value.
+    Large,
+    /// `end`, or the end of the text.
+    Tail,
+}
+
+impl PlanWord {
+    /// The word as it is printed. It takes no memory.
+    pub fn text(self) -> &'static [u8]
+        ensures { result.now ≡ word_text self }
+    {
+        match self {
+            PlanWord::Header => b"header",
+            PlanWord::Ship => b"ship",
+            PlanWord::Large => b"large",
+            PlanWord::Tail => b"tail",
+        }
+    }
+}
+
+/// Why `read_plan` gave no plan: its first wrong line, numbered from 1, or memory ran out.
+#[derive(Clone, Copy, Debug, PartialEq, Eq)]
+pub enum PlanFault {
+    Line { number: u64, word: PlanWord },
+    NoMemory,
+}
+
+impl From<AllocError> for PlanFault {
+    ghost from_gives = { λ _ e. e ≡ NoMemory };
+
+    fn from(_e: AllocError) -> PlanFault {
+        PlanFault::NoMemory
+    }
+}
+
+impl<T: Drop> From<AllocFailed<T>> for PlanFault {
+    ghost from_gives = { λ _ e. e ≡ NoMemory };
+
+    fn from(_e: AllocFailed<T>) -> PlanFault {
+        PlanFault::NoMemory
+    }
+}

@@ -1,0 +1,57 @@
+//! The forms of a plan's lines.
+
+ghost use Rattle.std.specs.Prelude.{◌≡◌, ◌<◌};
+ghost use Rattle.hw_repair.specs.Text.{kept_words, planned_words, wish_form, is_large};
+
+use crate::plan::Wish;
+use hw_derived::slot_of;
+use hw_flat::Flat;
+use hw_model::ShipId;
+use hw_text::{Words, is_text};
+
+/// `SLOT`, of a ship that has sailed.
+fn kept_of(mut words: Words<'_>, slots: u32) -> Option<Wish>
+    requires some { 0 < slots }
+    ensures form { result ≡ kept_words slots words.entry }
+{
+    let slot = words.word()?;
+    words.end()?;
+    let slot = slot_of(slot, slots)?;
+    Some(Wish::Kept { slot })
+}
+
+/// `SLOT FROM`, of a ship that was planned for a slot.
+fn planned_of(mut words: Words<'_>, slots: u32) -> Option<Wish>
+    requires some { 0 < slots }
+    ensures form { result ≡ planned_words slots words.entry }
+{
+    let slot = words.word()?;
+    let from = words.word()?;
+    words.end()?;
+    let slot = slot_of(slot, slots)?;
+    let from = slot_of(from, slots)?;
+    Some(Wish::Planned { slot, from })
+}
+
+/// `k SLOT` or `o SLOT FROM`.
+pub fn wish_of(line: &[u8], slots: u32) -> Option<Wish>
+    requires some { 0 < slots }
+    ensures form { result ≡ wish_form slots line.now }
+{
+    let mut words = Words::of(line);
+    match words.word() {
+        Some(key) if is_text(key, b"k") => kept_of(words, slots),
+        Some(key) if is_text(key, b"o") => planned_of(words, slots),
+        _ => None,
+    }
+}
+
+/// Whether some value of a ship is too large to be repaired.
+pub fn is_large(flat: &Flat, ship: ShipId) -> bool
+    requires ship_in { ship < flat.now.ships }
+    ensures { result ≡ is_large flat.now ship }
+{
+    let shape = flat.shape();
+    let times = u64::from(shape.ships) + 1;
+    (0..shape.slots).any(|slot| flat.value(ship, slot).unwrap_or(0) * times + 1 > 1_000_000_000_000)
+}

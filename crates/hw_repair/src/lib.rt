@@ -1,0 +1,24 @@
+//! Repairs of a plan: some ships have sailed, others can sail only later than planned. A best
+//! timetable of the repair's problem carries the greatest cargo, and of those moves the fewest ships.
+//!
+//! The repair's problem is a flat problem like any other: it is searched, and its certificates are
+//! checked, without a word on plans.
+#![tactic(auto)]
+
+mod fault;
+mod forms;
+mod laws;
+mod moving;
+mod plan;
+mod reading;
+mod repairing;
+
+pub use fault::{PlanFault, PlanWord};
+pub use laws::{
+    best_repair, none_repair, plan_rows, repair_rows, repaired_cargo, repaired_fits,
+    repaired_meets, repaired_permits, repaired_value,
+};
+pub use moving::moved;
+pub use plan::{Plan, Wish};
+pub use reading::read_plan;
+pub use repairing::repaired;
