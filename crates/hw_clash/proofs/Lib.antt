@@ -1,0 +1,11 @@
+pub mod Lists
+pub mod Kept
+pub mod Parts
+pub mod Irreducible
+mod Worked
+pub mod Lines
+pub mod Said
+pub mod Asked
+pub mod Reducing
+pub mod Written
+pub mod Spelled

@@ -1,0 +1,11 @@
+pub mod Words
+pub mod Parts
+pub mod Clashing
+pub mod Outcomes
+pub mod Asking
+pub mod Clashes
+pub mod Read
+pub mod Text
+pub mod Written
+pub mod Laws
+pub mod Rows

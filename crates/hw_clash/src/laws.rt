@@ -1,0 +1,69 @@
+//! The laws of parts and of the clash, each a function without a body whose clause is the law.
+
+ghost use Rattle.hw_clash.specs.Laws.{PartValue, PartPermits, PartFits, PartCargo, PartRules, PartOfAll, ClashMeans, OneClash, WrittenReads, OneClashText};
+ghost use Rattle.hw_clash.specs.Rows.{PartRows, ClashRows, TextRows};
+
+/// The value of a ship in a slot of a part.
+pub fn part_value()
+    ensures { PartValue }
+{}
+
+/// A part permits just the timetables of which its restrictions hold.
+pub fn part_permits()
+    ensures { PartPermits }
+{}
+
+/// A part keeps the limits of a flat problem, and has a text.
+pub fn part_fits()
+    ensures { PartFits }
+{}
+
+/// What a part permits carries nothing.
+pub fn part_cargo()
+    ensures { PartCargo }
+{}
+
+/// The rules of a part are the problem's rules of its numbers, in order.
+pub fn part_rules()
+    ensures { PartRules }
+{}
+
+/// All restrictions together permit what the problem permits.
+pub fn part_of_all()
+    ensures { PartOfAll }
+{}
+
+/// Where nothing is permitted, the clash can't be met together, and none of it can be left out.
+pub fn clash_means()
+    ensures { ClashMeans }
+{}
+
+/// A problem has one clash.
+pub fn one_clash()
+    ensures { OneClash }
+{}
+
+/// A clash of a problem, written as a text, reads back as itself.
+pub fn written_reads()
+    ensures { WrittenReads }
+{}
+
+/// A clash has one text: no other one reads as it.
+pub fn one_clash_text()
+    ensures { OneClashText }
+{}
+
+/// Worked rows: parts.
+pub fn part_rows()
+    ensures { PartRows }
+{}
+
+/// Worked rows: a clash.
+pub fn clash_rows()
+    ensures { ClashRows }
+{}
+
+/// Worked rows: what texts of clashes say.
+pub fn text_rows()
+    ensures { TextRows }
+{}

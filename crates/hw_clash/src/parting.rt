@@ -1,0 +1,109 @@
+//! Parts of a problem.
+
+ghost use Rattle.std.specs.Prelude.{◌≡◌, ◌<◌, ◌≤◌, ◌++◌, ◌&&◌, IfOk, OnOk, All, length, is_none, if◌then◌else◌, Some, None};
+ghost use Rattle.std.specs.List.Sorted.{IsStrictlyIncreasing};
+ghost use Rattle.hw_model.specs.Timetables.{restriction_count};
+ghost use Rattle.hw_derived.specs.Grids.{row_of, grid};
+ghost use Rattle.hw_clash.specs.Parts.{has, part_value, rules_in, part};
+
+use hw_derived::copy_rule;
+use hw_flat::Flat;
+use hw_model::{NoMemory, Rule, ShipId};
+use std::alloc::{AllocError, Global};
+
+/// Whether a restriction is kept, by a binary search.
+fn has(kept: &[u32], n: u32) -> bool
+    requires ascending { IsStrictlyIncreasing kept.now }
+    ensures { result ≡ has kept.now n }
+{
+    kept.binary_search(&n).is_ok()
+}
+
+/// The value of a ship in a slot, by whether its window is kept and by the problem's value there.
+fn part_value(is_kept: bool, value: Option<u64>) -> Option<u64>
+    ensures { result ≡ (if is_kept && is_none value then None else Some 0) }
+{
+    if is_kept && value.is_none() {
+        None
+    } else {
+        Some(0)
+    }
+}
+
+/// Appends the values of a ship: none where its window is kept and the problem has no value.
+fn put_row(
+    out: &mut Vec<Option<u64>>,
+    flat: &Flat,
+    kept: &[u32],
+    ship: ShipId,
+) -> Result<(), AllocError>
+    requires ascending { IsStrictlyIncreasing kept.now }
+    requires ship_in { ship < flat.now.ships }
+    ensures { OnOk result (out.new.items ≡ out.old.items ++ row_of (part_value flat.now kept.now) flat.now.slots ship) }
+{
+    let is_kept = has(kept, ship);
+    for slot in 0..flat.shape().slots {
+        let value = flat.value(ship, slot);
+        out.push(part_value(is_kept, value))?;
+    }
+    Ok(())
+}
+
+/// The values of all ships.
+fn values_of(alloc: Global, flat: &Flat, kept: &[u32]) -> Result<Vec<Option<u64>>, AllocError>
+    requires ascending { IsStrictlyIncreasing kept.now }
+    ensures { IfOk result (λ values. values.items ≡ grid (part_value flat.now kept.now) flat.now.ships flat.now.slots) }
+{
+    let mut values = Vec::new(alloc);
+    for ship in 0..flat.shape().ships {
+        put_row(&mut values, flat, kept, ship)?;
+    }
+    Ok(values)
+}
+
+/// The kept rules, in order; the first one of these has the number `first`.
+fn rules_of(alloc: Global, rules: &[Rule], kept: &[u32], first: u32) -> Result<Vec<Rule>, NoMemory>
+    requires ascending { IsStrictlyIncreasing kept.now }
+    requires few { length rules.now ≤ 4_000 }
+    requires small { first ≤ 40 }
+    ensures { IfOk result (λ list. list.items ≡ rules_in kept.now first rules.now) }
+{
+    let mut list = Vec::new(alloc);
+    for (place, rule) in rules.iter().enumerate() {
+        if has(kept, first + place as u32) {
+            list.push(copy_rule(alloc, rule)?)?;
+        }
+    }
+    Ok(list)
+}
+
+/// The problem made of these values and rules, which keeps its limits.
+fn assembled(flat: &Flat, kept: &[u32], values: Vec<Option<u64>>, rules: Vec<Rule>) -> Flat
+    requires values { values.items ≡ grid (part_value flat.now kept.now) flat.now.ships flat.now.slots }
+    requires rules { rules.items ≡ rules_in kept.now flat.now.ships flat.now.rules }
+    ensures { result ≡ part flat.now kept.now }
+{
+    let shape = flat.shape();
+    Flat {
+        ships: shape.ships,
+        slots: shape.slots,
+        stay: flat.may_stay(),
+        values,
+        rules,
+    }
+}
+
+/// The part of a problem that keeps these restrictions. They ascend, and there may be none. A
+/// ship's value is none where its window is kept and the problem has none there, and 0 elsewhere;
+/// the kept rules stand in order, so they have new numbers in the part.
+///
+/// It takes the time and the memory of a copy of the problem.
+pub fn part(alloc: Global, flat: &Flat, kept: &[u32]) -> Result<Flat, NoMemory>
+    requires numbered { All (λ n. n < restriction_count flat.now) kept.now }
+    requires ascending { IsStrictlyIncreasing kept.now }
+    ensures { IfOk result (λ made. made ≡ part flat.now kept.now) }
+{
+    let values = values_of(alloc, flat, kept)?;
+    let rules = rules_of(alloc, flat.rules(), kept, flat.shape().ships)?;
+    Ok(assembled(flat, kept, values, rules))
+}

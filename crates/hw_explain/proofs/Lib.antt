@@ -1,0 +1,5 @@
+pub mod Steps
+pub mod Parallel
+pub mod Windows
+pub mod Means
+pub mod Numbers

@@ -1,0 +1,4 @@
+pub mod Restrictions
+pub mod Lines
+pub mod Meaning
+pub mod Laws

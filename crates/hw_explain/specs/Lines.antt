@@ -1,0 +1,60 @@
+-- The text that explains a port's restrictions, one line for each.
+use Rattle.std.specs.Prelude.{ℕ, ◌+◌, List, [], ◌∷◌, ◌++◌, map, codes, decimal, slice_get}
+use Rattle.std.specs.Option.{option_map_or}
+use Rattle.hw_port.specs.Whole.{Parts}
+use Rattle.hw_flat.specs.TextWritten.{led}
+use Rattle.hw_explain.specs.declared.named.Named.{Named}
+use Rattle.hw_explain.specs.declared.named.Named.TheVariants.{Window, Separation, Sections, Berth, Tugs}
+use Rattle.hw_explain.specs.Restrictions.{named_restrictions}
+
+abbrev pub kind_text : Named → List ℕ
+kind_text (Window ship) = codes "window"
+kind_text (Separation v w after before) = codes "separation"
+kind_text (Sections v w sections) = codes "sections"
+kind_text (Berth v w clear) = codes "berth"
+kind_text (Tugs fleet) = codes "tugs"
+
+-- the numbers after the kind
+abbrev pub numbers_of : Named → List ℕ
+numbers_of (Window ship) = ship ∷ []
+numbers_of (Separation v w after before) = v ∷ w ∷ after ∷ before ∷ []
+numbers_of (Sections v w sections) = v ∷ w ∷ sections
+numbers_of (Berth v w clear) = v ∷ w ∷ clear ∷ []
+numbers_of (Tugs fleet) = fleet ∷ []
+
+abbrev pub ship_name : Parts → ℕ → List ℕ
+ship_name p v = option_map_or (λ s. s.name) (slice_get p.ships v) []
+
+abbrev pub section_name : Parts → ℕ → List ℕ
+section_name p n = option_map_or (λ s. s.name) (slice_get p.sections n) []
+
+-- the names after the numbers: of the ships, and then of the sections
+abbrev pub names_of : Parts → Named → List (List ℕ)
+names_of p (Window ship) = ship_name p ship ∷ []
+names_of p (Separation v w after before) = ship_name p v ∷ ship_name p w ∷ []
+names_of p (Sections v w sections) = ship_name p v ∷ ship_name p w ∷ map (section_name p) sections
+names_of p (Berth v w clear) = ship_name p v ∷ ship_name p w ∷ []
+names_of p (Tugs fleet) = []
+
+-- names, each after a slash
+abbrev pub slashed : List (List ℕ) → List ℕ
+slashed [] = []
+slashed (name ∷ names) = codes " / " ++ name ++ slashed names
+
+-- the names of a line, with a slash between two
+abbrev pub names_text : List (List ℕ) → List ℕ
+names_text [] = []
+names_text (name ∷ names) = codes " " ++ name ++ slashed names
+
+-- the line of a restriction: its number, its kind, numbers and names
+abbrev pub named_line : Parts → ℕ → Named → List ℕ
+named_line p number named = decimal number ++ 32 ∷ kind_text named ++ led (map decimal (numbers_of named)) ++ names_text (names_of p named)
+
+-- the lines of restrictions, the first of which has this number
+abbrev pub named_lines : Parts → ℕ → List Named → List ℕ
+named_lines p number [] = []
+named_lines p number (named ∷ more) = named_line p number named ++ 10 ∷ named_lines p (number + 1) more
+
+-- a line for each restriction, and the last line
+abbrev pub explained : Parts → List ℕ
+explained p = named_lines p 0 (named_restrictions p) ++ codes "end\n"

@@ -1,0 +1,19 @@
+//! The laws of a port's restrictions, each a function without a body whose clause is the law.
+
+ghost use Rattle.hw_explain.specs.Laws.{EachIsNamed, NamedByRule, NamedMeans};
+
+/// As many restrictions are named as the flat problem of the port has.
+pub fn each_is_named()
+    ensures { EachIsNamed }
+{}
+
+/// What is named for a number is the flat problem's restriction of that number.
+pub fn named_by_rule()
+    ensures { NamedByRule }
+{}
+
+/// What is named for a number holds of a timetable of the port just where the flat problem's
+/// restriction of that number does.
+pub fn named_means()
+    ensures { NamedMeans }
+{}
