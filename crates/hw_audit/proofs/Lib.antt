@@ -1,0 +1,9 @@
+pub mod Taken
+pub mod Broken
+pub mod Lines
+pub mod Moving
+pub mod Keeping
+pub mod PortRules
+pub mod Begun
+pub mod Listed
+pub mod Ports

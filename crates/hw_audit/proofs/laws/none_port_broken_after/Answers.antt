@@ -1,0 +1,5 @@
+use Rattle.hw_audit.proofs.Ports.{none_port_broken_after}
+use Rattle.hw_audit.proofs.laws.none_port_broken_after.Goals as goal
+
+pub returns : goal.returns
+returns c = none_port_broken_after

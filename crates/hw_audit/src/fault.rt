@@ -1,0 +1,78 @@
+//! Why a text holds no timetable or no events, and why an event is refused.
+
+ghost use Rattle.std.specs.Prelude.{◌≡◌, codes};
+ghost use Rattle.hw_audit.specs.declared.fault.TextFault.TheVariants.{NoMemory};
+ghost use Rattle.hw_audit.specs.Words.{word_text};
+
+use hw_model::NoMemory;
+use std::alloc::{AllocError, AllocFailed};
+
+/// What the first bad line should have been, or why an event is refused.
+#[derive(Clone, Copy, Debug, PartialEq, Eq)]
+pub enum AuditWord {
+    /// The first line, `table 1` or `events 1`.
+    Header,
+    /// The line `t`, with a slot for each ship.
+    Table,
+    /// The line of an event, or `end`.
+    Form,
+    /// There is no such ship, or its new slot isn't a sailing slot.
+    Range,
+    /// The ship sailed in an earlier event.
+    Sailed,
+    /// The event delays a ship that stays.
+    Stays,
+    /// More tugs are withdrawn than are left, or more are back than are withdrawn.
+    Fleet,
+    /// No byte after the end.
+    Tail,
+}
+
+impl AuditWord {
+    /// The word as it is printed. It takes no memory.
+    pub fn text(self) -> &'static [u8]
+        ensures { result.now ≡ word_text self }
+    {
+        match self {
+            AuditWord::Header => b"header",
+            AuditWord::Table => b"table",
+            AuditWord::Form => b"form",
+            AuditWord::Range => b"range",
+            AuditWord::Sailed => b"sailed",
+            AuditWord::Stays => b"stays",
+            AuditWord::Fleet => b"fleet",
+            AuditWord::Tail => b"tail",
+        }
+    }
+}
+
+/// Why `read_table` returned no timetable, or `read_events` no events. Lines are numbered from 1.
+#[derive(Clone, Copy, Debug, PartialEq, Eq)]
+pub enum TextFault {
+    Line { number: u64, word: AuditWord },
+    NoMemory,
+}
+
+impl From<AllocError> for TextFault {
+    ghost from_gives = { λ _ e. e ≡ NoMemory };
+
+    fn from(_e: AllocError) -> TextFault {
+        TextFault::NoMemory
+    }
+}
+
+impl<T: Drop> From<AllocFailed<T>> for TextFault {
+    ghost from_gives = { λ _ e. e ≡ NoMemory };
+
+    fn from(_e: AllocFailed<T>) -> TextFault {
+        TextFault::NoMemory
+    }
+}
+
+impl From<NoMemory> for TextFault {
+    ghost from_gives = { λ _ e. e ≡ NoMemory };
+
+    fn from(_e: NoMemory) -> TextFault {
+        TextFault::NoMemory
+    }
+}
