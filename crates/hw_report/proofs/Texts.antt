@@ -140,14 +140,22 @@ too_many_bytes = refl
 pub want_of_memory : report_text no_memory ≡ codes "memory\n"
 want_of_memory = refl
 
-pub a_repair : report_text (repaired (Optimal 228_000) (flattened (small true) tides) (Some (0 ∷ [])) 1) ≡ codes "optimal 228000\nmoved 1\nsail 0 228000 0\nend\n"
+pub a_repair : report_text (repaired (Optimal 228_000) (flattened (small true) tides) by_number (Some (0 ∷ [])) 1) ≡ codes "optimal 228000\nmoved 1\nsail 0 228000 0\nend\n"
 unfolding digits
 a_repair = refl
 
-pub no_repair : report_text (repaired Infeasible (flattened (small true) tides) None 0) ≡ codes "infeasible\nend\n"
+pub no_repair : report_text (repaired Infeasible (flattened (small true) tides) by_number None 0) ≡ codes "infeasible\nend\n"
 no_repair = refl
 
-pub a_repair's_verdict : report_text (rechecked (verdicts.Optimal 121) 2) ≡ codes "optimal 40 moved 1\n"
+pub cape_grace_moved : report_text (repaired (Optimal 228_000) (flattened (small false) tides) (by_name (small false) tides) (Some (0 ∷ [])) 1) ≡ codes "optimal 22800.0\nmoved 1\nsail 0 0 1590 22800.0 Cape Grace\nend\n"
+unfolding digits sail_line
+cape_grace_moved = refl
+
+pub moved_in_tonnes : report_text (rechecked (verdicts.Unfinished (Some 121)) 2 (by_name (small true) tides)) ≡ codes "unfinished 4.0 moved 1\n"
+unfolding digits
+moved_in_tonnes = refl
+
+pub a_repair's_verdict : report_text (rechecked (verdicts.Optimal 121) 2 by_number) ≡ codes "optimal 40 moved 1\n"
 unfolding digits
 a_repair's_verdict = refl
 

@@ -93,20 +93,20 @@ numbers_text [] = []
 numbers_text (n ∷ ns) = joined (codes " " ∷ decimal n ∷ []) ++ numbers_text ns
 
 -- the cargo and the number of moved ships for which a repaired problem's cargo stands
-abbrev pub repair_text : List ℕ → ℕ → ℕ → List ℕ
-repair_text label ships c = joined (label ∷ decimal (c / (ships + 1)) ∷ codes " moved " ∷ decimal (ships - c % (ships + 1)) ∷ codes "\n" ∷ [])
+abbrev pub repair_text : List ℕ → Naming → ℕ → ℕ → List ℕ
+repair_text label names ships c = joined (label ∷ cargo_text names (c / (ships + 1)) ∷ codes " moved " ∷ decimal (ships - c % (ships + 1)) ∷ codes "\n" ∷ [])
 
 -- what a repair's certificate shows
-abbrev pub repair_verdict_text : ℕ → Verdict → List ℕ
-repair_verdict_text ships (verdicts.Optimal c) = repair_text (codes "optimal ") ships c
-repair_verdict_text ships verdicts.Infeasible = codes "infeasible\n"
-repair_verdict_text ships (verdicts.Unfinished None) = codes "unfinished none\n"
-repair_verdict_text ships (verdicts.Unfinished (Some c)) = repair_text (codes "unfinished ") ships c
+abbrev pub repair_verdict_text : Naming → ℕ → Verdict → List ℕ
+repair_verdict_text names ships (verdicts.Optimal c) = repair_text (codes "optimal ") names ships c
+repair_verdict_text names ships verdicts.Infeasible = codes "infeasible\n"
+repair_verdict_text names ships (verdicts.Unfinished None) = codes "unfinished none\n"
+repair_verdict_text names ships (verdicts.Unfinished (Some c)) = repair_text (codes "unfinished ") names ships c
 
 -- how many ships moved and the lines of the ships, where there is a timetable
-abbrev pub moved_text : Problem → Option (List ℕ) → ℕ → List ℕ
-moved_text f None moved = codes "end\n"
-moved_text f (Some table) moved = joined (numbered (codes "moved ") moved ∷ table_text f by_number (Some table) ∷ [])
+abbrev pub moved_text : Problem → Naming → Option (List ℕ) → ℕ → List ℕ
+moved_text f names None moved = codes "end\n"
+moved_text f names (Some table) moved = joined (numbered (codes "moved ") moved ∷ table_text f names (Some table) ∷ [])
 
 -- a restriction of a clash, and a timetable that meets the others
 abbrev pub drop_line : ℕ → List ℕ → List ℕ

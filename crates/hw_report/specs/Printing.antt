@@ -17,5 +17,5 @@ AreNamesOf f (by_name p h) = (f ≡ flattened p h) × (h.columns ≡ length p.wa
 -- a report's timetable is one of its problem, and the names are of the port whose problem that is
 abbrev pub CanPrint : Report → Type 0
 CanPrint (solved head f names table) = IsTableOf f table × AreNamesOf f names
-CanPrint (repaired head f table moved) = IsTableOf f table
+CanPrint (repaired head f names table moved) = IsTableOf f table × AreNamesOf f names
 CanPrint _ = ⊤

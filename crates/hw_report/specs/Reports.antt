@@ -34,9 +34,9 @@ pub data Report : Type 0 where
   too_long : Feed → Report
   no_memory : Report
   -- a repaired plan: how its problem was solved, with the problem's own cargo, and the ships that moved
-  repaired : Head → Problem → Option (List ℕ) → ℕ → Report
-  -- what a repair's certificate shows, for so many ships
-  rechecked : Verdict → ℕ → Report
+  repaired : Head → Problem → Naming → Option (List ℕ) → ℕ → Report
+  -- what a repair's certificate shows, for this many ships
+  rechecked : Verdict → ℕ → Naming → Report
   -- the first wrong line of a plan or of events, with its word
   bad_text : Feed → ℕ → List ℕ → Report
   -- the restrictions that can't be met together, and for each one a timetable that meets the others

@@ -35,7 +35,7 @@ pub fn put_numbered<W: Writer>(out: &mut W, label: &[u8], number: u64)
 }
 
 /// A cargo, in tenths of a tonne, as it is printed.
-fn cargo_piece(names: Names, cargo: u64) -> Piece<'static>
+pub fn cargo_piece(names: Names, cargo: u64) -> Piece<'static>
     ensures { piece_text result ≡ cargo_text (names_seen names.entry) cargo }
 {
     match names {

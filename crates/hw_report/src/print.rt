@@ -9,7 +9,7 @@ ghost use Rattle.hw_report.specs.Reports.{repaired, solved, spent_step};
 ghost use Rattle.hw_report.specs.Seen.{names_seen};
 ghost use Rattle.hw_report.specs.Texts.{report_text, summary_text, demo_text};
 
-use crate::lines::{put_head, put_numbered, put_table, put_verdict};
+use crate::lines::{cargo_piece, put_head, put_numbered, put_table, put_verdict};
 use crate::piece::{Piece, put_pieces};
 use crate::report::{Head, Names};
 use hw_cert::Verdict;
@@ -69,15 +69,16 @@ pub fn put_demo<W: Writer>(
 }
 
 /// Puts the cargo and the number of moved ships for which a repaired problem's cargo stands.
-fn put_repair<W: Writer>(out: &mut W, label: &[u8], ships: u32, cargo: u64)
-    ensures { Puts (repair_text label.now ships cargo) (W.state out.old) (W.state out.new) }
+fn put_repair<W: Writer>(out: &mut W, label: &[u8], names: Names, ships: u32, cargo: u64)
+    ensures { Puts (repair_text label.now (names_seen names.entry) ships cargo) (W.state out.old) (W.state out.new) }
 {
     let scale = u64::from(ships) + 1;
+    let own = cargo_piece(names, cargo / scale);
     put_pieces(
         out,
         &[
             Piece::Word(label),
-            Piece::Number(cargo / scale),
+            own,
             Piece::Word(b" moved "),
             Piece::Number(u64::from(ships) - cargo % scale),
             Piece::Word(b"\n"),
@@ -86,25 +87,33 @@ fn put_repair<W: Writer>(out: &mut W, label: &[u8], ships: u32, cargo: u64)
 }
 
 /// Puts what a repair's certificate shows.
-pub fn put_rechecked<W: Writer>(out: &mut W, verdict: Verdict, ships: u32)
-    ensures { Puts (repair_verdict_text ships verdict) (W.state out.old) (W.state out.new) }
+pub fn put_rechecked<W: Writer>(out: &mut W, names: Names, verdict: Verdict, ships: u32)
+    ensures { Puts (repair_verdict_text (names_seen names.entry) ships verdict) (W.state out.old) (W.state out.new) }
 {
     match verdict {
-        Verdict::Optimal(cargo) => put_repair(out, b"optimal ", ships, cargo),
+        Verdict::Optimal(cargo) => put_repair(out, b"optimal ", names, ships, cargo),
         Verdict::Infeasible => out.put(b"infeasible\n"),
-        Verdict::Unfinished(Some(cargo)) => put_repair(out, b"unfinished ", ships, cargo),
+        Verdict::Unfinished(Some(cargo)) => put_repair(out, b"unfinished ", names, ships, cargo),
         Verdict::Unfinished(None) => out.put(b"unfinished none\n"),
     }
 }
 
 /// Puts a repaired plan's report with its timetable.
-pub fn put_repaired<W: Writer>(out: &mut W, head: Head, flat: &Flat, table: &Timetable, moved: u32)
+pub fn put_repaired<W: Writer>(
+    out: &mut W,
+    head: Head,
+    flat: &Flat,
+    names: Names,
+    table: &Timetable,
+    moved: u32,
+)
     requires table { IsTimetable flat.now table.now }
-    ensures { Puts (report_text (repaired head flat.now (Some table.now) moved)) (W.state out.old) (W.state out.new) }
+    requires names { AreNamesOf flat.now (names_seen names) }
+    ensures { Puts (report_text (repaired head flat.now (names_seen names.entry) (Some table.now) moved)) (W.state out.old) (W.state out.new) }
 {
-    put_head(out, Names::Flat, head, cargo(flat, table));
+    put_head(out, names, head, cargo(flat, table));
     put_numbered(out, b"moved ", u64::from(moved));
-    put_table(out, flat, Names::Flat, table);
+    put_table(out, flat, names, table);
 }
 
 /// Puts that the budget was spent in a step.

@@ -12,7 +12,7 @@ use crate::print::{put_demo, put_none, put_rechecked, put_repaired, put_solved, 
 use crate::refusals::{
     put_bad_field, put_bad_flat, put_bad_text, put_bad_tides, put_feed, put_refused,
 };
-use crate::report::{Names, Report};
+use crate::report::Report;
 use hw_desk::{Desk, DeskFailed, Tray, TrayWriter, Writer};
 
 /// Sends a report. After an error a proper prefix of its text was sent, and nothing more will be.
@@ -63,15 +63,21 @@ fn put_report<W: Writer>(out: &mut W, report: &Report)
         Report::Repaired {
             head,
             flat,
+            names,
             table: Some(table),
             moved,
-        } => put_repaired(out, head, flat, table, moved),
+        } => put_repaired(out, head, flat, names, table, moved),
         Report::Repaired {
             head,
+            names,
             table: None,
             ..
-        } => put_none(out, head, Names::Flat),
-        Report::Rechecked { verdict, ships } => put_rechecked(out, verdict, ships),
+        } => put_none(out, head, names),
+        Report::Rechecked {
+            verdict,
+            ships,
+            names,
+        } => put_rechecked(out, names, verdict, ships),
         Report::BadText { feed, number, word } => put_bad_text(out, feed, number, word),
         Report::Clashed { kept, drops } => put_clash(out, kept, drops),
         Report::Met { table } => put_met(out, table),
