@@ -1,10 +1,10 @@
 -- A demonstration that is solved, checked and sent.
-use Rattle.std.proofs.Common.{◌≡◌, ◌<◌, ◌+◌, ◌∙◌, ◌++◌, ◌∷◌, ◌&&◌, ◌==◌, cond, ℕ, zero, suc, List, [], Bool, true, false, Option, Some, None, Ok, Err, inr, length, drop, get_or, drop-cons, add-one, refl, sym, ap, subst, append_assoc, append-nil, arith}
-use Rattle.std.specs.Prelude.{IfSome, All, unwrap_or}
+use Rattle.std.proofs.Common.{◌≡◌, ◌<◌, ◌+◌, ◌∙◌, ◌++◌, ◌∷◌, ℕ, List, [], Bool, true, false, Option, Some, None, Ok, Err, length, drop, get_or, drop-cons, add-one, refl, sym, ap, subst, append_assoc, append-nil, arith}
+use Rattle.std.specs.Prelude.{IfSome, All}
 use Rattle.hw_model.specs.Problem.{Problem}
+use Rattle.hw_model.specs.Rooms.{room_count}
 use Rattle.hw_model.specs.Timetables.{Permits}
 use Rattle.hw_desk.specs.State.{DeskState}
-use Rattle.hw_flat.specs.Demonstration.{demonstration}
 use Rattle.hw_lines.specs.declared.check.Verdict.{Verdict}
 use Rattle.hw_lines.specs.declared.line.Line.{Line}
 use Rattle.hw_lines.specs.Kept.{Kept}
@@ -24,20 +24,16 @@ use Rattle.hw_progress.specs.Solving.{SolveWrites, SolveMeets, SolveFails}
 use Rattle.hw_report.specs.Reports.{demo, no_memory}
 use Rattle.hw_report.specs.declared.report.Head.{Head}
 use Rattle.hw_report.specs.declared.report.Head.TheVariants as heads
-use Rattle.hw_text.specs.Numbers.{number_from_to}
-use Rattle.hw_app.specs.Certified.{HeadMeans, IsSpent, head_verdict}
-use Rattle.hw_app.specs.Demo.{Demonstrates, IsFound, best_in, head_of}
-use Rattle.hw_app.specs.Ends.{Ends}
-use Rattle.hw_app.specs.Forms.{agreed, fits, takes, word_at, number_in}
-use Rattle.hw_app.specs.declared.form.Wanted.{Wanted}
-use Rattle.hw_app.specs.Run.{FormMeets, drawn_by}
-use Rattle.hw_app.specs.Scope.{MakesProof}
-use Rattle.hw_app.specs.Sending.{SendsTo}
-use Rattle.hw_app.specs.declared.form.Form.TheVariants.{Demo}
-use Rattle.hw_app.specs.declared.status.Status.{Status}
-use Rattle.hw_app.specs.declared.status.Status.TheVariants.{WriteFault}
-use Rattle.hw_app.proofs.Begun.{begun_past, entered_none, wants_memory}
-use Rattle.hw_app.proofs.Searched.{well, verdict_of, optimal_says, infeasible_says}
+use Rattle.hw_command.specs.Carries.{Carries}
+use Rattle.hw_command.specs.Certified.{HeadMeans, IsSpent, head_verdict}
+use Rattle.hw_app.specs.Demo.{Demonstrates, IsFound, best_in, head_of, demo_task}
+use Rattle.hw_command.specs.Ends.{Ends}
+use Rattle.hw_command.specs.Sending.{SendsTo}
+use Rattle.hw_command.specs.declared.status.Status.{Status}
+use Rattle.hw_command.specs.declared.status.Status.TheVariants.{WriteFault}
+use Rattle.hw_command.proofs.Begun.{entered_none, wants_memory}
+use Rattle.hw_command.proofs.Searched.{well, verdict_of, optimal_says, infeasible_says}
+use Rattle.hw_command.proofs.SentWorks.{made, sent_works, broken_works}
 
 -- ---- what was solved
 
@@ -63,7 +59,7 @@ abbrev Says : Problem → ℕ → Head → Option (List ℕ) → List Line → T
 Says f budget head table all = (last_table all ≡ table) × (verdict f all ≡ head_verdict head (best_of f all)) × IsSpent budget head all
 
 found : {f : Problem} {budget b n : ℕ} {all : List Line} (answer : Solved) (head : Head) (table : Option (List ℕ)) (v : Verdict) (count : ℕ)
-    → SolveWrites f budget answer b n all → IsFound head → Says f budget head table all → IfSome table (Permits f) → HeadMeans f budget head table → v ≡ verdict f all → count ≡ length (lemmas_of all)
+    → SolveWrites f budget answer b n all → IsFound head → Says f budget head table all → IfSome table (Permits f) → HeadMeans f budget (room_count f) head table → v ≡ verdict f all → count ≡ length (lemmas_of all)
     → Demonstrates f budget head (best_in v) v count all
 found {f = f} {budget = budget} {all = all} answer head table v count w is_found says permitted means is counted =
     let best = best_shown f all v is in
@@ -71,7 +67,7 @@ found {f = f} {budget = budget} {all = all} answer head table v count w is_found
       written = well answer w;
       permitted = subst (λ (t : Option (List ℕ)). IfSome t (Permits f)) (sym says.0) permitted;
       found = is_found;
-      means = subst (HeadMeans f budget head) (sym says.0) means;
+      means = subst (HeadMeans f budget (room_count f) head) (sym says.0) means;
       cargo = best;
       checked = is;
       tells = says.1 ∙ ap (head_verdict head) (sym best);
@@ -148,88 +144,34 @@ all_taken {f = f} {all = all} {c = c} h none tells =
     let same : h.before ≡ all = sym (append-nil h.before) ∙ (ap (λ (ls : List Line). h.before ++ ls) (sym none) ∙ h.whole) in
     tells h.before h.follows ∙ (ap (λ (g : Problem). verdict g h.before) h.problem ∙ ap (verdict f) same)
 
--- ---- the form
+-- ---- the command
 
-taken_step : (b : Bool) (n m : ℕ) → cond b (n + 1) 0 ≡ suc m → (b ≡ true) × (n ≡ m)
-taken_step true n m e = (refl, omega arith)
-taken_step false n m e = absurd (omega arith)
-
-agreed_takes : (all : List Wanted) (words : List (List ℕ)) → agreed all words ≡ length all → (k : ℕ) (w : Wanted) → k < length all → takes (get_or all k w) (word_at words k) ≡ true
-agreed_takes [] words e k w lt = absurd (omega arith)
-agreed_takes (wanted ∷ more) [] e k w lt = absurd (omega arith)
-agreed_takes (wanted ∷ more) (word ∷ words) e zero w lt = (taken_step (takes wanted word) (agreed more words) (length more) e).0
-agreed_takes (wanted ∷ more) (word ∷ words) e (suc k) w lt = agreed_takes more words (taken_step (takes wanted word) (agreed more words) (length more) e).1 k w (omega arith)
-
-second_of : (a : Bool) (m n : ℕ) → (a && (m == n)) ≡ true → m ≡ n
-second_of true m n e = grind arith
-second_of false m n e = absurd (cc)
-
--- each word is what is wanted there
-pub word_taken : (all : List Wanted) (words : List (List ℕ)) → fits all words ≡ true → (k : ℕ) (w : Wanted) → k < length all → takes (get_or all k w) (word_at words k) ≡ true
-word_taken all words e = agreed_takes all words (second_of (length words == length all) (agreed all words) (length all) e)
-
--- the number that a word is
-pub number_is : (least most : ℕ) (word : List ℕ) {number : ℕ} → number_from_to least most word ≡ Some number → number ≡ number_in least most word
-number_is least most word e = sym (ap (λ (o : Option ℕ). unwrap_or o 0) e)
-
--- memory was wanting, and nothing was touched
-pub memory_meets : {x end : DeskState} {s : Status} (words : List (List ℕ)) → Ends no_memory x end s → FormMeets Demo words x end s
-memory_meets {x = x} words ends = record {
+-- memory ran out, and nothing was touched
+pub memory_meets : {x end : DeskState} {s : Status} (f : Problem) (budget : ℕ) (proof : List ℕ) → Ends (no_memory ∷ []) x end s → Carries (demo_task f budget proof) x end s
+memory_meets {x = x} f budget proof ends = record {
   mid = x;
-  report = Some no_memory;
-  works = wants_memory (Some (word_at words 5)) [] [] refl (entered_none x) refl;
+  reports = no_memory ∷ [];
+  works = wants_memory (Some proof) [] [] refl (entered_none x) tt refl;
   says = λ e. absurd (cc);
   ends = ends;
 }
 
-abbrev Drawn : List (List ℕ) → Head → Option ℕ → Verdict → ℕ → List Line → Type 0
-Drawn words head best v count all = Demonstrates (drawn_by words) (number_in 1 100_000 (word_at words 4)) head best v count all
-
--- the numbers are those of the words
-pub drawn_is : {number ships slots budget : ℕ} {head : Head} {best : Option ℕ} {v : Verdict} {count : ℕ} {all : List Line} (words : List (List ℕ))
-    → number_from_to 0 4_294_967_295 (word_at words 1) ≡ Some number → number_from_to 1 40 (word_at words 2) ≡ Some ships → number_from_to 1 512 (word_at words 3) ≡ Some slots → number_from_to 1 100_000 (word_at words 4) ≡ Some budget
-    → Demonstrates (demonstration number ships slots) budget head best v count all → Drawn words head best v count all
-drawn_is {number = number} {ships = ships} {slots = slots} {budget = budget} {head = head} {best = best} {v = v} {count = count} {all = all} words a b c d h =
-    let first = number_in 0 4_294_967_295 (word_at words 1) in
-    let second = number_in 1 40 (word_at words 2) in
-    let third = number_in 1 512 (word_at words 3) in
-    let one = subst (λ (n : ℕ). Demonstrates (demonstration n ships slots) budget head best v count all) (number_is 0 4_294_967_295 (word_at words 1) a) h in
-    let two = subst (λ (n : ℕ). Demonstrates (demonstration first n slots) budget head best v count all) (number_is 1 40 (word_at words 2) b) one in
-    let three = subst (λ (n : ℕ). Demonstrates (demonstration first second n) budget head best v count all) (number_is 1 512 (word_at words 3) c) two in
-    subst (λ (n : ℕ). Demonstrates (demonstration first second third) n head best v count all) (number_is 1 100_000 (word_at words 4) d) three
-
 -- the certificate was sent
-pub sent_meets : {E : Type 0} {x y end : DeskState} {s : Status} {u : Unit} {head : Head} {best : Option ℕ} {v : Verdict} {count : ℕ} {all : List Line} (words : List (List ℕ)) → Drawn words head best v count all → SendsTo {E = E} (word_at words 5) (cert_text Two all) x y (Ok u) → Ends (demo head best v count) y end s → FormMeets Demo words x end s
-sent_meets {x = x} {y = y} {head = head} {best = best} {v = v} {count = count} {all = all} words d k ends =
-    let made : MakesProof (word_at words 5) x y = record { trays = k.only.trays; made = k.made; named = k.named } in
-    record {
-      mid = y;
-      report = Some (demo head best v count);
-      works = record {
-        done = [];
-        rest = [];
-        parts = refl;
-        begins = begun_past k.only (entered_none x).begins;
-        upto = refl;
-        trays = inr made;
-        read_cause = k.only.read_faults;
-        write_faults = k.answer.0;
-      };
-      says = λ own. record { lines = all; demonstrates = d; made = made; holds = k.answer.1 };
-      ends = ends;
-    }
+pub sent_meets : {E : Type 0} {f : Problem} {budget : ℕ} {proof : List ℕ} {x y end : DeskState} {s : Status} {u : Unit} {head : Head} {best : Option ℕ} {v : Verdict} {count : ℕ} {all : List Line} → Demonstrates f budget head best v count all → SendsTo {E = E} proof (cert_text Two all) x y (Ok u) → Ends (demo head best v count ∷ []) y end s → Carries (demo_task f budget proof) x end s
+sent_meets {x = x} {y = y} {head = head} {best = best} {v = v} {count = count} {all = all} d k ends = record {
+  mid = y;
+  reports = demo head best v count ∷ [];
+  works = sent_works (demo head best v count) refl (entered_none x) tt k k.only.read_faults;
+  says = λ own. record { lines = all; demonstrates = d; made = made (entered_none x) k; holds = k.answer.1 };
+  ends = ends;
+}
 
 -- a make or a write failed
-pub broken_meets : {E : Type 0} {x y : DeskState} {e : E} {head : Head} {best : Option ℕ} {v : Verdict} {count : ℕ} {all : List Line} (words : List (List ℕ)) → Drawn words head best v count all → SendsTo (word_at words 5) (cert_text Two all) x y (Err e) → FormMeets Demo words x y WriteFault
-broken_meets {x = x} {y = y} {all = all} words d k = record {
+pub broken_meets : {E : Type 0} {f : Problem} {budget : ℕ} {proof : List ℕ} {x y : DeskState} {e : E} {head : Head} {best : Option ℕ} {v : Verdict} {count : ℕ} {all : List Line} → Demonstrates f budget head best v count all → SendsTo proof (cert_text Two all) x y (Err e) → Carries (demo_task f budget proof) x y WriteFault
+broken_meets {x = x} {y = y} {all = all} d k = record {
   mid = y;
-  report = None;
-  works = record {
-    begins = begun_past k.only (entered_none x).begins;
-    makes = record { trays = k.only.trays; made = k.made; named = k.named };
-    read_faults = k.only.read_faults;
-    write_cause = k.answer.0;
-  };
-  says = record { lines = all; written = d.written; part = k.answer.1 };
+  reports = [];
+  works = broken_works (entered_none x) tt refl k;
+  says = λ own. record { lines = all; written = d.written; part = k.answer.1 };
   ends = (refl, refl);
 }

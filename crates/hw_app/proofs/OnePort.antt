@@ -16,14 +16,14 @@ use Rattle.hw_tide.proofs.OneList.{one_list_law}
 use Rattle.hw_flat.specs.TextWritten.{problem_text}
 use Rattle.hw_port_rules.specs.Flattened.{flattened}
 use Rattle.hw_report.specs.Reports.{Report, by_name, checked, refused, too_long, bad_json, bad_field, bad_tides, flattened_text}
-use Rattle.hw_app.specs.Certificates.{cert_outcome, report_of}
+use Rattle.hw_command.specs.Certificates.{cert_outcome, report_of}
 use Rattle.hw_app.specs.CheckFlat.{Checks, texts_report}
 use Rattle.hw_app.specs.CheckPort.{ChecksPortTexts}
 use Rattle.hw_app.specs.Flattening.{FlattensTexts}
 use Rattle.hw_app.specs.Laws.{OneCertificateReport, OnePortReport, RenewalOfFlat, RenewalOfPort}
-use Rattle.hw_app.specs.PortInputs.{NoPort, IsBadTable}
+use Rattle.hw_command.specs.PortInputs.{NoPort, IsBadTable}
 use Rattle.hw_app.specs.RenewPort.{RenewsPortTexts}
-use Rattle.hw_app.specs.Values.{most_bytes, IsLong, IsPortOf, GivesPort}
+use Rattle.hw_command.specs.Values.{most_bytes, IsLong, IsPortOf, GivesPort}
 
 -- what a value is read as
 abbrev as_read : Result Parts PortFault → Result Parts ReadFault

@@ -21,10 +21,10 @@ use Rattle.hw_cert.specs.Texts.{cert_text}
 use Rattle.hw_cert.proofs.ValidText.{are_lines}
 use Rattle.hw_cert.proofs.Shapes.{fits_problem}
 use Rattle.hw_cert.proofs.WholeCerts.{cert_again, cert_back, stream_agrees}
-use Rattle.hw_app.specs.Certificates.{cert_outcome, end_outcome, line_outcome, lines_outcome}
+use Rattle.hw_command.specs.Certificates.{cert_outcome, end_outcome, line_outcome, lines_outcome}
 use Rattle.hw_app.specs.Laws.{IsShown, OwnCertificate, RenewedCertificate, ShowsValid}
-use Rattle.hw_app.specs.declared.outcome.CertOutcome.{CertOutcome}
-use Rattle.hw_app.specs.declared.outcome.CertOutcome.TheVariants.{Shows}
+use Rattle.hw_command.specs.declared.outcome.CertOutcome.{CertOutcome}
+use Rattle.hw_command.specs.declared.outcome.CertOutcome.TheVariants.{Shows}
 
 -- valid lines to the end show their verdict
 valid_shows : (f : Problem) (more before : List Line) (number : ℕ) → All (LineFits f) more → ValidFrom f before more → lines_outcome f before number more complete ≡ Shows (verdict f (before ++ more))

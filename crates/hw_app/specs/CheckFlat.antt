@@ -1,21 +1,19 @@
 -- `check flat NAME CERT`: a certificate of a flat text is checked line by line.
-use Rattle.std.specs.Prelude.{◌≡◌, ℕ, List, Option, Some, None, IfSome, All, Result, Ok, Err, ⊤, length, nat_lt, if◌then◌else◌}
+use Rattle.std.specs.Prelude.{◌≡◌, ℕ, List, [], ◌∷◌, Option, Some, None, IfSome, Result, Ok, Err, length, nat_lt, if◌then◌else◌}
 use Rattle.hw_model.specs.Limits.{IsFlat}
 use Rattle.hw_model.specs.Problem.{Problem}
-use Rattle.hw_model.specs.Timetables.{IsBest, NonePermitted}
 use Rattle.hw_desk.specs.State.{DeskState}
 use Rattle.hw_desk.specs.declared.desk.Feed.TheVariants.{Flat, Certificate}
 use Rattle.hw_flat.specs.Text.{Fault, flat_text}
-use Rattle.hw_lines.specs.declared.check.Verdict.{Verdict}
-use Rattle.hw_lines.specs.declared.check.Verdict.TheVariants as verdicts
-use Rattle.hw_lines.specs.declared.line.Line.{Line}
-use Rattle.hw_lines.specs.Valid.{verdict, LineFits, Valid}
 use Rattle.hw_report.specs.Reports.{Report, by_number, checked, refused, bad_flat, too_long}
-use Rattle.hw_app.specs.Certificates.{cert_outcome, report_of}
-use Rattle.hw_app.specs.Inputs.{NoFlat}
-use Rattle.hw_app.specs.Values.{most_bytes, IsTextOf}
-use Rattle.hw_app.specs.declared.outcome.CertOutcome.{CertOutcome}
-use Rattle.hw_app.specs.declared.outcome.CertOutcome.TheVariants.{Shows, Wrong, TooLong}
+use Rattle.hw_command.specs.Carries.{Task, one_report}
+use Rattle.hw_command.specs.Certificates.{cert_outcome, report_of}
+use Rattle.hw_command.specs.Inputs.{NoFlat}
+use Rattle.hw_command.specs.Scope.{named}
+use Rattle.hw_command.specs.Values.{most_bytes, IsTextOf, FlatGives}
+use Rattle.hw_command.specs.Verdicts.{ShownBy}
+use Rattle.hw_command.specs.declared.outcome.CertOutcome.{CertOutcome}
+use Rattle.hw_command.specs.declared.outcome.CertOutcome.TheVariants.{Shows, Wrong, TooLong}
 
 -- a certificate of what a text reads as
 abbrev pub read_report : Result Problem Fault → List ℕ → Report
@@ -26,25 +24,6 @@ read_report (Ok f) bytes = report_of by_number (cert_outcome f bytes)
 abbrev pub texts_report : List ℕ → List ℕ → Report
 texts_report text bytes = if nat_lt most_bytes (length text) then too_long Flat else read_report (flat_text text) bytes
 
--- what a verdict says of the problem
-abbrev pub Means : Problem → Verdict → Type 0
-Means f (verdicts.Optimal c) = (table : List ℕ) × IsBest f table c
-Means f verdicts.Infeasible = NonePermitted f
-Means f (verdicts.Unfinished best) = ⊤
-
--- valid lines of the problem have this verdict, and what it says of the problem is so
-pub record IsShown (f : Problem) (v : Verdict) : Type 0 where
-  pub lines : List Line
-  pub fit : All (LineFits f) lines
-  pub valid : Valid f lines
-  pub verdict : v ≡ verdict f lines
-  pub means : Means f v
-
--- what an outcome shows
-abbrev pub ShownBy : Problem → CertOutcome → Type 0
-ShownBy f (Shows v) = IsShown f v
-ShownBy f outcome = ⊤
-
 -- a problem, that of the text where it is told, and what its certificate comes to, where that is told
 pub record ChecksText (text bytes : Option (List ℕ)) (o : CertOutcome) : Type 0 where
   pub problem : Problem
@@ -53,7 +32,7 @@ pub record ChecksText (text bytes : Option (List ℕ)) (o : CertOutcome) : Type 
   pub outcome : IfSome bytes (λ bs. o ≡ cert_outcome problem bs)
   pub shown : ShownBy problem o
 
--- what a report says of the text and of the certificate, each as far as it is told. No two reports hold together, and no other is given
+-- what a report says of the text and of the certificate, each as far as it is told. Where these are told, and but for want of memory, no two reports hold together; no other is given
 abbrev pub ChecksTexts : Option (List ℕ) → Option (List ℕ) → Report → Type 0
 ChecksTexts text bytes (checked v names) = (names ≡ by_number) × ChecksText text bytes (Shows v)
 ChecksTexts text bytes (refused number word hint) = ChecksText text bytes (Wrong number word hint)
@@ -68,3 +47,11 @@ pub record Checks (text bytes : Option (List ℕ)) (r : Report) : Type 0 where
 abbrev pub CheckFlatSays : List ℕ → List ℕ → DeskState → Option Report → Type 0
 CheckFlatSays name cert old None = ⊥
 CheckFlatSays name cert old (Some r) = Checks (old.held name) (old.held cert) r
+
+abbrev pub check_flat_task : List ℕ → List ℕ → Task
+check_flat_task name cert = record {
+  inputs = named Flat name ∷ named Certificate cert ∷ [];
+  Gives = FlatGives name;
+  proof = None;
+  Says = one_report (λ old new. CheckFlatSays name cert old);
+}

@@ -1,6 +1,7 @@
 -- `demo NUMBER SHIPS SLOTS BUDGET PROOF`: a demonstration is solved, and its certificate is checked and sent to Proof.
-use Rattle.std.specs.Prelude.{◌≡◌, ℕ, List, Option, Some, None, IfSome, ⊤, length}
+use Rattle.std.specs.Prelude.{◌≡◌, ◌≤◌, ℕ, List, [], Option, Some, None, IfSome, ⊤, length}
 use Rattle.hw_model.specs.Problem.{Problem}
+use Rattle.hw_model.specs.Rooms.{room_count}
 use Rattle.hw_model.specs.Timetables.{Permits}
 use Rattle.hw_desk.specs.State.{DeskState}
 use Rattle.hw_desk.specs.declared.desk.Tray.TheVariants as tray
@@ -17,9 +18,24 @@ use Rattle.hw_progress.specs.declared.outcome.Solved.TheVariants as answers
 use Rattle.hw_report.specs.Reports.{Report, demo}
 use Rattle.hw_report.specs.declared.report.Head.{Head}
 use Rattle.hw_report.specs.declared.report.Head.TheVariants as heads
-use Rattle.hw_app.specs.Certified.{HeadMeans, IsWritten, IsSpent, head_verdict}
-use Rattle.hw_app.specs.Scope.{MakesProof}
-use Rattle.hw_app.specs.Sending.{IsCutOf}
+use Rattle.hw_command.specs.Carries.{Task, one_report}
+use Rattle.hw_command.specs.Certified.{HeadMeans, IsWritten, SolveLines, IsSpent, head_verdict}
+use Rattle.hw_command.specs.Scope.{MakesProof}
+use Rattle.hw_command.specs.Sending.{IsCutOf}
+
+-- the limits of a demonstration
+abbrev pub most_ships : ℕ
+most_ships = 40
+
+abbrev pub most_slots : ℕ
+most_slots = 512
+
+-- a demonstration of this size can be drawn
+pub record CanDraw (ships slots : ℕ) : Type 0 where
+  pub some_ship : 1 ≤ ships
+  pub few_ships : ships ≤ most_ships
+  pub some_slot : 1 ≤ slots
+  pub few_slots : slots ≤ most_slots
 
 -- what was found; want of memory is nothing that was found
 abbrev pub IsFound : Head → Type 0
@@ -30,11 +46,11 @@ IsFound heads.Memory = ⊥
 
 -- lines of a problem that was solved, and what a summary says of them
 pub record Demonstrates (f : Problem) (budget : ℕ) (head : Head) (best : Option ℕ) (shown : Verdict) (lemmas : ℕ) (all : List Line) : Type 0 where
-  pub written : IsWritten f budget all
+  pub written : IsWritten f budget (SolveLines f) all
   -- the last table is permitted, and the head says of the problem what is so
   pub permitted : IfSome (last_table all) (Permits f)
   pub found : IsFound head
-  pub means : HeadMeans f budget head (last_table all)
+  pub means : HeadMeans f budget (room_count f) head (last_table all)
   -- the cargo is that of the last table
   pub cargo : best ≡ best_of f all
   -- the check and the head tell the verdict of the lines
@@ -53,14 +69,23 @@ pub record Shows (f : Problem) (budget : ℕ) (proof : List ℕ) (old new : Desk
 -- lines of the problem; after a failed make or write Proof holds a proper prefix of their text, where it is told
 pub record ShowsPart (f : Problem) (budget : ℕ) (new : DeskState) : Type 0 where
   pub lines : List Line
-  pub written : IsWritten f budget lines
+  pub written : IsWritten f budget (SolveLines f) lines
   pub part : IfSome (new.trays tray.Proof).sent (IsCutOf (cert_text Two lines))
 
--- what the report of a demonstration says; none is a write fault on Proof. Want of memory is common to all forms, and no other report is given
+-- what the report of a demonstration says; none is a write fault on Proof. Want of memory is common to all commands, and no other report is given
 abbrev pub DemoSays : Problem → ℕ → List ℕ → DeskState → DeskState → Option Report → Type 0
 DemoSays f budget proof old new None = ShowsPart f budget new
 DemoSays f budget proof old new (Some (demo head best shown lemmas)) = Shows f budget proof old new head best shown lemmas
 DemoSays f budget proof old new (Some r) = ⊥
+
+-- no input is read, so none gives anything
+abbrev pub demo_task : Problem → ℕ → List ℕ → Task
+demo_task f budget proof = record {
+  inputs = [];
+  Gives = λ held feed. ⊥;
+  proof = Some proof;
+  Says = one_report (DemoSays f budget proof);
+}
 
 -- ---- the calls
 

@@ -1,6 +1,7 @@
 -- `flatten INSTANCE TIDES`: the flat text of a port.
-use Rattle.std.specs.Prelude.{◌≡◌, ℕ, List, Option, Some, None, Ok}
+use Rattle.std.specs.Prelude.{◌≡◌, ℕ, List, [], ◌∷◌, Option, Some, None, Ok}
 use Rattle.hw_desk.specs.State.{DeskState}
+use Rattle.hw_desk.specs.declared.desk.Feed.TheVariants.{Instance, Tides}
 use Rattle.hw_flat.specs.Text.{flat_text}
 use Rattle.hw_flat.specs.TextWritten.{problem_text}
 use Rattle.hw_port.specs.Whole.{Parts}
@@ -8,8 +9,10 @@ use Rattle.hw_tide.specs.Levels.{TideParts}
 use Rattle.hw_port_rules.specs.Alike.{IsSameProblem}
 use Rattle.hw_port_rules.specs.Flattened.{flattened}
 use Rattle.hw_report.specs.Reports.{Report, flattened_text}
-use Rattle.hw_app.specs.PortInputs.{NoPort}
-use Rattle.hw_app.specs.Values.{IsPortOf}
+use Rattle.hw_command.specs.Carries.{Task, one_report}
+use Rattle.hw_command.specs.PortInputs.{NoPort}
+use Rattle.hw_command.specs.Scope.{named}
+use Rattle.hw_command.specs.Values.{IsPortOf, PortGives}
 
 -- the one text of the port's flat problem: it reads back as that problem, which says of each list of slots what the port says
 pub record IsFlatTextOf (p : Parts) (h : TideParts) (text : List ℕ) : Type 0 where
@@ -32,3 +35,11 @@ FlattensTexts instance table (Some r) = NoPort instance table r
 
 abbrev pub FlattenSays : List ℕ → List ℕ → DeskState → Option Report → Type 0
 FlattenSays instance table old r = FlattensTexts (old.held instance) (old.held table) r
+
+abbrev pub flatten_task : List ℕ → List ℕ → Task
+flatten_task instance table = record {
+  inputs = named Instance instance ∷ named Tides table ∷ [];
+  Gives = PortGives instance table;
+  proof = None;
+  Says = one_report (λ old new. FlattenSays instance table old);
+}

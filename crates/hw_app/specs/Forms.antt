@@ -3,10 +3,14 @@ use Rattle.std.specs.Prelude.{ℕ, ◌+◌, ◌==◌, ◌&&◌, List, [], ◌∷
 use Rattle.std.specs.List.{slice_index_or}
 use Rattle.hw_desk.specs.declared.desk.Feed.TheVariants as feed
 use Rattle.hw_text.specs.Numbers.{number_from_to}
+use Rattle.hw_command.specs.Budgets.{most_budget}
+use Rattle.hw_app.specs.Demo.{most_ships, most_slots}
 use Rattle.hw_app.specs.declared.form.Form.{Form}
 use Rattle.hw_app.specs.declared.form.Form.TheVariants.{SolveFlat, SolvePort, CheckFlat, CheckPort, RenewFlat, RenewPort, Flatten, Demo}
 use Rattle.hw_app.specs.declared.form.Keyword.{Keyword as KeywordOf}
 use Rattle.hw_app.specs.declared.form.Keyword.TheVariants as key
+use Rattle.hw_app.specs.declared.form.Quantity.{Quantity}
+use Rattle.hw_app.specs.declared.form.Quantity.TheVariants as counts
 use Rattle.hw_app.specs.declared.form.Wanted.{Wanted}
 use Rattle.hw_app.specs.declared.form.Wanted.TheVariants.{Keyword, Input, Proof, Number}
 
@@ -23,23 +27,36 @@ keyword_text key.Demo = codes "demo"
 abbrev pub forms : List Form
 forms = SolveFlat ∷ SolvePort ∷ CheckFlat ∷ CheckPort ∷ RenewFlat ∷ RenewPort ∷ Flatten ∷ Demo ∷ []
 
+-- the limits of a number
+abbrev pub least_of : Quantity → ℕ
+least_of counts.Demonstration = 0
+least_of counts.Ships = 1
+least_of counts.Slots = 1
+least_of counts.Budget = 1
+
+abbrev pub most_of : Quantity → ℕ
+most_of counts.Demonstration = 4_294_967_295
+most_of counts.Ships = most_ships
+most_of counts.Slots = most_slots
+most_of counts.Budget = most_budget
+
 -- what the words of a form have to be
 abbrev pub words_of : Form → List Wanted
-words_of SolveFlat = Keyword key.Solve ∷ Keyword key.Flat ∷ Input feed.Flat ∷ Number 1 100_000 ∷ Proof ∷ []
-words_of SolvePort = Keyword key.Solve ∷ Keyword key.Port ∷ Input feed.Instance ∷ Input feed.Tides ∷ Number 1 100_000 ∷ Proof ∷ []
+words_of SolveFlat = Keyword key.Solve ∷ Keyword key.Flat ∷ Input feed.Flat ∷ Number counts.Budget ∷ Proof ∷ []
+words_of SolvePort = Keyword key.Solve ∷ Keyword key.Port ∷ Input feed.Instance ∷ Input feed.Tides ∷ Number counts.Budget ∷ Proof ∷ []
 words_of CheckFlat = Keyword key.Check ∷ Keyword key.Flat ∷ Input feed.Flat ∷ Input feed.Certificate ∷ []
 words_of CheckPort = Keyword key.Check ∷ Keyword key.Port ∷ Input feed.Instance ∷ Input feed.Tides ∷ Input feed.Certificate ∷ []
 words_of RenewFlat = Keyword key.Renew ∷ Keyword key.Flat ∷ Input feed.Flat ∷ Input feed.Certificate ∷ Proof ∷ []
 words_of RenewPort = Keyword key.Renew ∷ Keyword key.Port ∷ Input feed.Instance ∷ Input feed.Tides ∷ Input feed.Certificate ∷ Proof ∷ []
 words_of Flatten = Keyword key.Flatten ∷ Input feed.Instance ∷ Input feed.Tides ∷ []
-words_of Demo = Keyword key.Demo ∷ Number 0 4_294_967_295 ∷ Number 1 40 ∷ Number 1 512 ∷ Number 1 100_000 ∷ Proof ∷ []
+words_of Demo = Keyword key.Demo ∷ Number counts.Demonstration ∷ Number counts.Ships ∷ Number counts.Slots ∷ Number counts.Budget ∷ Proof ∷ []
 
 -- a keyword is itself, a name any word that isn't empty, and a number one in plain decimal within its limits
 abbrev pub takes : Wanted → List ℕ → Bool
 takes (Keyword keyword) word = bytes_eq word (keyword_text keyword)
 takes (Input feed) word = nat_lt 0 (length word)
 takes Proof word = nat_lt 0 (length word)
-takes (Number least most) word = is_some (number_from_to least most word)
+takes (Number quantity) word = is_some (number_from_to (least_of quantity) (most_of quantity) word)
 
 -- how many of the words, from the first on, are what is wanted
 abbrev pub agreed : List Wanted → List (List ℕ) → ℕ
@@ -65,7 +82,7 @@ abbrev pub or_place : ℕ → Option Form → Result Form ℕ
 or_place place None = Err place
 or_place place (Some form) = Ok form
 
--- the form that the words are of, or the first place at which no form goes on with all the words up to there. Places count from 1; a missing word has the place behind the last, and an extra word its own
+-- the form that the words are of, or the first place at which no form goes on with all the words up to there. Places count from 1; a missing word has the place after the last, and an extra word its own
 abbrev pub form_of : List (List ℕ) → Result Form ℕ
 form_of words = or_place (furthest forms words + 1) (first_fitting forms words)
 
@@ -74,5 +91,5 @@ abbrev pub word_at : List (List ℕ) → ℕ → List ℕ
 word_at words place = slice_index_or words place []
 
 -- the number that a word of a form is
-abbrev pub number_in : ℕ → ℕ → List ℕ → ℕ
-number_in least most word = unwrap_or (number_from_to least most word) 0
+abbrev pub number_in : Quantity → List ℕ → ℕ
+number_in quantity word = unwrap_or (number_from_to (least_of quantity) (most_of quantity) word) (least_of quantity)

@@ -1,13 +1,17 @@
 -- `renew flat NAME CERT PROOF`: a certificate of a flat text is checked as by `check flat`, and its lines renewed are sent to Proof.
-use Rattle.std.specs.Prelude.{◌≡◌, ℕ, List, Option, Some, None, IfSome}
+use Rattle.std.specs.Prelude.{◌≡◌, ℕ, List, [], ◌∷◌, Option, Some, None, IfSome}
 use Rattle.hw_model.specs.Limits.{IsFlat}
 use Rattle.hw_model.specs.Problem.{Problem}
 use Rattle.hw_desk.specs.State.{DeskState}
+use Rattle.hw_desk.specs.declared.desk.Feed.TheVariants.{Flat, Certificate}
 use Rattle.hw_lines.specs.declared.check.Verdict.{Verdict}
 use Rattle.hw_report.specs.Reports.{Report, by_number, checked}
-use Rattle.hw_app.specs.CheckFlat.{Means, ChecksTexts, texts_report}
-use Rattle.hw_app.specs.Renewing.{Renews, RenewBreaks}
-use Rattle.hw_app.specs.Values.{IsTextOf}
+use Rattle.hw_command.specs.Carries.{Task, one_report}
+use Rattle.hw_app.specs.CheckFlat.{ChecksTexts, texts_report}
+use Rattle.hw_command.specs.Renewing.{Renews, RenewBreaks}
+use Rattle.hw_command.specs.Scope.{named}
+use Rattle.hw_command.specs.Values.{IsTextOf, FlatGives}
+use Rattle.hw_command.specs.Verdicts.{Means}
 
 -- a problem, that of the text where it is told, of which the verdict says what is so. Proof was made, and holds the certificate renewed
 pub record RenewsText (text bytes : Option (List ℕ)) (proof : List ℕ) (old new : DeskState) (v : Verdict) : Type 0 where
@@ -38,3 +42,11 @@ pub record RenewsBy (text bytes : Option (List ℕ)) (proof : List ℕ) (old new
 abbrev pub RenewFlatSays : List ℕ → List ℕ → List ℕ → DeskState → DeskState → Option Report → Type 0
 RenewFlatSays name cert proof old new None = RenewTextBreaks (old.held name) (old.held cert) new
 RenewFlatSays name cert proof old new (Some r) = RenewsBy (old.held name) (old.held cert) proof old new r
+
+abbrev pub renew_flat_task : List ℕ → List ℕ → List ℕ → Task
+renew_flat_task name cert proof = record {
+  inputs = named Flat name ∷ named Certificate cert ∷ [];
+  Gives = FlatGives name;
+  proof = Some proof;
+  Says = one_report (RenewFlatSays name cert proof);
+}

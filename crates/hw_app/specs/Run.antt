@@ -1,57 +1,36 @@
 -- What a run does, by its words.
-use Rattle.std.specs.Prelude.{◌≡◌, ℕ, List, false, Option, Some, None, Result, Ok, Err}
-use Rattle.hw_model.specs.Problem.{Problem}
+use Rattle.std.specs.Prelude.{ℕ, List, [], ◌∷◌, Result, Ok, Err}
 use Rattle.hw_flat.specs.Demonstration.{demonstration}
 use Rattle.hw_desk.specs.State.{DeskState}
-use Rattle.hw_report.specs.Reports.{Report, bad_words}
-use Rattle.hw_app.specs.Ends.{Ends, EndsWith}
-use Rattle.hw_app.specs.Forms.{words_of, form_of, word_at, number_in}
-use Rattle.hw_app.specs.Scope.{inputs_of, proof_of}
-use Rattle.hw_app.specs.Works.{WorksTo, is_common}
-use Rattle.hw_app.specs.SolveFlat.{SolveFlatSays}
-use Rattle.hw_app.specs.SolvePort.{SolvePortSays}
-use Rattle.hw_app.specs.CheckFlat.{CheckFlatSays}
-use Rattle.hw_app.specs.CheckPort.{CheckPortSays}
-use Rattle.hw_app.specs.RenewFlat.{RenewFlatSays}
-use Rattle.hw_app.specs.RenewPort.{RenewPortSays}
-use Rattle.hw_app.specs.Flattening.{FlattenSays}
-use Rattle.hw_app.specs.Demo.{DemoSays}
-use Rattle.hw_app.specs.declared.form.Form.{Form}
-use Rattle.hw_app.specs.declared.form.Form.TheVariants.{SolveFlat, SolvePort, CheckFlat, CheckPort, RenewFlat, RenewPort, Flatten, Demo}
-use Rattle.hw_app.specs.declared.status.Status.{Status}
+use Rattle.hw_report.specs.Reports.{bad_words}
+use Rattle.hw_command.specs.Carries.{Task, Carries}
+use Rattle.hw_command.specs.Ends.{Ends}
+use Rattle.hw_command.specs.declared.status.Status.{Status}
+use Rattle.hw_app.specs.Commands.{Command, solve_flat, solve_port, check_flat, check_port, renew_flat, renew_port, flatten, demo, command_of}
+use Rattle.hw_app.specs.SolveFlat.{solve_flat_task}
+use Rattle.hw_app.specs.SolvePort.{solve_port_task}
+use Rattle.hw_app.specs.CheckFlat.{check_flat_task}
+use Rattle.hw_app.specs.CheckPort.{check_port_task}
+use Rattle.hw_app.specs.RenewFlat.{renew_flat_task}
+use Rattle.hw_app.specs.RenewPort.{renew_port_task}
+use Rattle.hw_app.specs.Flattening.{flatten_task}
+use Rattle.hw_app.specs.Demo.{demo_task}
 
--- the demonstration that is named
-abbrev pub drawn_by : List (List ℕ) → Problem
-drawn_by words = demonstration (number_in 0 4_294_967_295 (word_at words 1)) (number_in 1 40 (word_at words 2)) (number_in 1 512 (word_at words 3))
-
--- what a form's answer says, of the words, of the desk before and after the work, and of the report; none is a write fault on Proof
-abbrev pub says_of : Form → List (List ℕ) → DeskState → DeskState → Option Report → Type 0
-says_of SolveFlat words old new r = SolveFlatSays (word_at words 2) (number_in 1 100_000 (word_at words 3)) (word_at words 4) old new r
-says_of SolvePort words old new r = SolvePortSays (word_at words 2) (word_at words 3) (number_in 1 100_000 (word_at words 4)) (word_at words 5) old new r
-says_of CheckFlat words old new r = CheckFlatSays (word_at words 2) (word_at words 3) old r
-says_of CheckPort words old new r = CheckPortSays (word_at words 2) (word_at words 3) (word_at words 4) old r
-says_of RenewFlat words old new r = RenewFlatSays (word_at words 2) (word_at words 3) (word_at words 4) old new r
-says_of RenewPort words old new r = RenewPortSays (word_at words 2) (word_at words 3) (word_at words 4) (word_at words 5) old new r
-says_of Flatten words old new r = FlattenSays (word_at words 1) (word_at words 2) old r
-says_of Demo words old new r = DemoSays (drawn_by words) (number_in 1 100_000 (word_at words 4)) (word_at words 5) old new r
-
--- the same, but for the reports whose causes are common to all forms
-abbrev pub SaysOwn : Form → List (List ℕ) → DeskState → DeskState → Option Report → Type 0
-SaysOwn form words old new None = says_of form words old new None
-SaysOwn form words old new (Some r) = is_common r ≡ false → says_of form words old new (Some r)
-
--- a form's work, and then its report
-pub record FormMeets (form : Form) (words : List (List ℕ)) (old new : DeskState) (s : Status) : Type 0 where
-  pub mid : DeskState
-  pub report : Option Report
-  pub works : WorksTo (inputs_of (words_of form) words) (proof_of (words_of form) words) old mid report
-  pub says : SaysOwn form words old mid report
-  pub ends : EndsWith report mid new s
+-- what a command has to do
+abbrev pub task_of : Command → Task
+task_of (solve_flat name budget proof) = solve_flat_task name budget proof
+task_of (solve_port instance tides budget proof) = solve_port_task instance tides budget proof
+task_of (check_flat name cert) = check_flat_task name cert
+task_of (check_port instance tides cert) = check_port_task instance tides cert
+task_of (renew_flat name cert proof) = renew_flat_task name cert proof
+task_of (renew_port instance tides cert proof) = renew_port_task instance tides cert proof
+task_of (flatten instance tides) = flatten_task instance tides
+task_of (demo number ships slots budget proof) = demo_task (demonstration number ships slots) budget proof
 
 -- a command is carried out; of words that are no command the place of the first bad one is reported, and nothing is begun or made
-abbrev pub CommandMeets : Result Form ℕ → List (List ℕ) → DeskState → DeskState → Status → Type 0
-CommandMeets (Err place) words old new s = Ends (bad_words place) old new s
-CommandMeets (Ok form) words old new s = FormMeets form words old new s
+abbrev pub CommandMeets : Result Command ℕ → DeskState → DeskState → Status → Type 0
+CommandMeets (Err place) old new s = Ends (bad_words place ∷ []) old new s
+CommandMeets (Ok command) old new s = Carries (task_of command) old new s
 
 abbrev pub RunMeets : List (List ℕ) → DeskState → DeskState → Status → Type 0
-RunMeets words old new s = CommandMeets (form_of words) words old new s
+RunMeets words old new s = CommandMeets (command_of words) old new s

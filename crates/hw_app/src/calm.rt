@@ -6,7 +6,7 @@ ghost use Rattle.hw_desk.specs.State.{IsNew};
 ghost use Rattle.hw_app.specs.Run.{RunMeets};
 
 use crate::running::run;
-use crate::status::Status;
+use hw_command::Status;
 use hw_desk::CalmDesk;
 use std::alloc::Global;
 

@@ -1,31 +1,24 @@
 //! `check port INSTANCE TIDES CERT`: a certificate of a port.
 
-ghost use Rattle.std.specs.Prelude.{IsTrue, map, string_bytes};
 ghost use Rattle.hw_desk.specs.State.{IsNew};
-ghost use Rattle.hw_app.specs.Forms.{fits, words_of as wanted_of};
-ghost use Rattle.hw_app.specs.Run.{FormMeets};
+ghost use Rattle.hw_command.specs.Carries.{Carries};
+ghost use Rattle.hw_app.specs.CheckPort.{check_port_task};
 
-use crate::cert::{check_cert, check_report};
-use crate::form::Form;
-use crate::port_input::read_port_problem;
-use crate::running::finish;
-use crate::status::Status;
-use crate::words::name_at;
+use hw_command::{PortNames, Status, check_cert, check_report, finish, read_port_problem};
 use hw_desk::Desk;
 use hw_report::Names;
 use std::alloc::Global;
 
 /// Reads the instance and then its tide table, checks the certificate of the port, and reports.
-pub fn check_port<D: Desk>(alloc: Global, desk: &mut D, words: &[String]) -> Status
-    requires form { IsTrue (fits (wanted_of Form.CheckPort) (map string_bytes words.now)) }
+pub fn check_port<D: Desk>(alloc: Global, desk: &mut D, port: PortNames, cert: &str) -> Status
     requires fresh { IsNew (D.state desk.old) }
-    ensures { FormMeets Form.CheckPort (map string_bytes words.now) (D.state desk.old) (D.state desk.new) result }
+    ensures { Carries (check_port_task port.entry.instance.now port.entry.tides.now cert.now) (D.state desk.old) (D.state desk.new) result }
 {
-    let problem = match read_port_problem(alloc, desk, name_at(words, 2), name_at(words, 3)) {
+    let problem = match read_port_problem(alloc, desk, port) {
         Ok(problem) => problem,
         Err(report) => return finish(desk, &report),
     };
-    let checked = check_cert(alloc, desk, &problem.flat, name_at(words, 4));
+    let checked = check_cert(alloc, desk, &problem.flat, cert);
     let names = Names::Port {
         port: &problem.port,
         tide: &problem.tide,

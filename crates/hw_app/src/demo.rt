@@ -1,6 +1,6 @@
 //! `demo NUMBER SHIPS SLOTS BUDGET PROOF`: a demonstration that is solved and checked.
 
-ghost use Rattle.std.specs.Prelude.{◌≡◌, ◌≤◌, ◌∷◌, ◌++◌, [], All, IfOk, IsTrue, List, None, length, map, string_bytes};
+ghost use Rattle.std.specs.Prelude.{◌≡◌, ◌≤◌, ◌∷◌, ◌++◌, [], All, IfOk, List, None, length};
 ghost use Rattle.hw_cert.specs.Logs.{memory_log};
 ghost use Rattle.hw_check.specs.Follows.{Follows};
 ghost use Rattle.hw_desk.specs.State.{IsNew};
@@ -13,17 +13,13 @@ ghost use Rattle.hw_progress.specs.Solving.{SolveMeets};
 ghost use Rattle.hw_report.specs.Printing.{CanPrint};
 ghost use Rattle.hw_report.specs.Reports.{demo as summary_of};
 ghost use Rattle.hw_report.specs.Seen.{report_seen};
-ghost use Rattle.hw_app.specs.Demo.{Demonstrates, best_in, head_of};
-ghost use Rattle.hw_app.specs.Forms.{fits, words_of as wanted_of};
-ghost use Rattle.hw_app.specs.Run.{FormMeets};
+ghost use Rattle.hw_command.specs.Budgets.{most_budget};
+ghost use Rattle.hw_command.specs.Carries.{Carries};
+ghost use Rattle.hw_app.specs.Demo.{CanDraw, Demonstrates, best_in, demo_task, head_of};
 
-use crate::form::{Form, MOST_BUDGET, MOST_SHIPS, MOST_SLOTS};
-use crate::running::finish;
-use crate::sending::send_lines;
-use crate::status::Status;
-use crate::words::{name_at, number_at};
 use hw_cert::{Line, MemoryLog, Verdict};
 use hw_check::{CheckStop, Checker};
+use hw_command::{Status, finish, send_lines};
 use hw_desk::Desk;
 use hw_flat::{Flat, make_demo};
 use hw_model::NoMemory;
@@ -31,7 +27,15 @@ use hw_report::{Head, Report};
 use hw_search::{Solved, solve};
 use std::alloc::Global;
 
-/// What a demonstration comes to, and its certificate.
+/// Which demonstration is drawn: its number, of 1 to 40 ships and 1 to 512 slots.
+#[derive(Clone, Copy, Debug)]
+pub struct Draw {
+    pub number: u32,
+    pub ships: u32,
+    pub slots: u32,
+}
+
+/// What was found of a demonstration, and its certificate.
 #[derive(Drop)]
 struct Shown {
     head: Head,
@@ -43,26 +47,24 @@ struct Shown {
 
 /// Draws the problem, solves it and checks the certificate in memory, and then sends the certificate
 /// to Proof and reports. Proof isn't made where memory was wanting.
-pub fn demo<D: Desk>(alloc: Global, desk: &mut D, words: &[String]) -> Status
-    requires form { IsTrue (fits (wanted_of Form.Demo) (map string_bytes words.now)) }
+pub fn demo<D: Desk>(alloc: Global, desk: &mut D, draw: Draw, budget: u32, proof: &str) -> Status
+    requires draw { CanDraw draw.ships draw.slots }
+    requires least { 1 ≤ budget }
+    requires most { budget ≤ most_budget }
     requires fresh { IsNew (D.state desk.old) }
-    ensures { FormMeets Form.Demo (map string_bytes words.now) (D.state desk.old) (D.state desk.new) result }
+    ensures { Carries (demo_task (demonstration draw.number draw.ships draw.slots) budget proof.now) (D.state desk.old) (D.state desk.new) result }
 {
-    let number = number_at(words, 1, 0, u32::MAX);
-    let ships = number_at(words, 2, 1, MOST_SHIPS);
-    let slots = number_at(words, 3, 1, MOST_SLOTS);
-    let budget = number_at(words, 4, 1, MOST_BUDGET);
-    let shown = match show(alloc, number, ships, slots, budget) {
+    let shown = match show(alloc, draw, budget) {
         Ok(shown) => shown,
         Err(_) => return finish(desk, &Report::Memory),
     };
-    match send_lines(desk, &shown.lines, name_at(words, 5)) {
+    match send_lines(desk, &shown.lines, proof) {
         Ok(()) => finish(desk, &summary(&shown)),
         Err(_) => Status::WriteFault,
     }
 }
 
-/// The report of what a demonstration comes to.
+/// The report of what was found.
 fn summary(shown: &Shown) -> Report<'static>
     ensures value { report_seen result ≡ summary_of shown.now.head shown.now.best shown.now.verdict shown.now.lemmas }
     ensures printed { CanPrint (report_seen result) }
@@ -75,17 +77,14 @@ fn summary(shown: &Shown) -> Report<'static>
     }
 }
 
-/// Solves and checks the demonstration of this number.
-fn show(alloc: Global, number: u32, ships: u32, slots: u32, budget: u32) -> Result<Shown, NoMemory>
-    requires some_ship { 1 ≤ ships }
-    requires few_ships { ships ≤ 40 }
-    requires some_slot { 1 ≤ slots }
-    requires few_slots { slots ≤ 512 }
+/// Solves and checks the demonstration.
+fn show(alloc: Global, draw: Draw, budget: u32) -> Result<Shown, NoMemory>
+    requires draw { CanDraw draw.ships draw.slots }
     requires least { 1 ≤ budget }
-    requires most { budget ≤ 100_000 }
-    ensures { IfOk result (λ shown. Demonstrates (demonstration number ships slots) budget shown.head shown.best shown.verdict shown.lemmas shown.lines.items) }
+    requires most { budget ≤ most_budget }
+    ensures { IfOk result (λ s. Demonstrates (demonstration draw.number draw.ships draw.slots) budget s.head s.best s.verdict s.lemmas s.lines.items) }
 {
-    let flat = make_demo(alloc, number, ships, slots)?;
+    let flat = make_demo(alloc, draw.number, draw.ships, draw.slots)?;
     let (solved, lines) = solve_kept(alloc, &flat, budget);
     let head = match head_of(&solved, budget) {
         Some(head) => head,
@@ -104,7 +103,7 @@ fn show(alloc: Global, number: u32, ships: u32, slots: u32, budget: u32) -> Resu
 /// Solves a problem, and keeps the lines.
 fn solve_kept(alloc: Global, flat: &Flat, budget: u32) -> (Solved, Vec<Line>)
     requires least { 1 ≤ budget }
-    requires most { budget ≤ 100_000 }
+    requires most { budget ≤ most_budget }
     ensures { SolveMeets flat.now budget (memory_log []) result.0 (memory_log result.1.items) }
 {
     let mut log = MemoryLog::new(alloc);
@@ -166,7 +165,7 @@ fn check_one<'f>(checker: Checker<'f>, line: &Line) -> Result<Checker<'f>, NoMem
 
 /// How many of the lines are lemmas.
 fn count_lemmas(lines: &[Line]) -> u32
-    requires few { length (lemmas_of lines.now) ≤ 100_000 }
+    requires few { length (lemmas_of lines.now) ≤ most_budget }
     ensures { result ≡ length (lemmas_of lines.now) }
 {
     let mut count = 0;

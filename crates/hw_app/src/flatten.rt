@@ -1,19 +1,15 @@
 //! `flatten INSTANCE TIDES`: the flat text of a port.
 
-ghost use Rattle.std.specs.Prelude.{◌≡◌, IfOk, IsTrue, map, string_bytes};
+ghost use Rattle.std.specs.Prelude.{◌≡◌, IfOk};
 ghost use Rattle.hw_desk.specs.State.{IsNew};
 ghost use Rattle.hw_flat.specs.TextWritten.{IsWritable, problem_text};
 ghost use Rattle.hw_report.specs.Printing.{CanPrint};
 ghost use Rattle.hw_report.specs.Reports.{flattened_text};
 ghost use Rattle.hw_report.specs.Seen.{report_seen};
-ghost use Rattle.hw_app.specs.Forms.{fits, words_of as wanted_of};
-ghost use Rattle.hw_app.specs.Run.{FormMeets};
+ghost use Rattle.hw_command.specs.Carries.{Carries};
+ghost use Rattle.hw_app.specs.Flattening.{flatten_task};
 
-use crate::form::Form;
-use crate::port_input::read_port_problem;
-use crate::running::finish;
-use crate::status::Status;
-use crate::words::name_at;
+use hw_command::{PortNames, Status, finish, read_port_problem};
 use hw_desk::Desk;
 use hw_flat::Flat;
 use hw_model::NoMemory;
@@ -22,12 +18,11 @@ use std::alloc::Global;
 
 /// Reads the instance and then its tide table, and sends the flat text of the port. The whole text
 /// stands in memory before the first byte is sent: up to some 400,000 bytes.
-pub fn flatten_port<D: Desk>(alloc: Global, desk: &mut D, words: &[String]) -> Status
-    requires form { IsTrue (fits (wanted_of Form.Flatten) (map string_bytes words.now)) }
+pub fn flatten_port<D: Desk>(alloc: Global, desk: &mut D, port: PortNames) -> Status
     requires fresh { IsNew (D.state desk.old) }
-    ensures { FormMeets Form.Flatten (map string_bytes words.now) (D.state desk.old) (D.state desk.new) result }
+    ensures { Carries (flatten_task port.entry.instance.now port.entry.tides.now) (D.state desk.old) (D.state desk.new) result }
 {
-    let problem = match read_port_problem(alloc, desk, name_at(words, 1), name_at(words, 2)) {
+    let problem = match read_port_problem(alloc, desk, port) {
         Ok(problem) => problem,
         Err(report) => return finish(desk, &report),
     };

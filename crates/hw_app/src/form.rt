@@ -1,8 +1,9 @@
 //! The table of forms of a command.
 
 ghost use Rattle.std.specs.Prelude.{◌≡◌};
-ghost use Rattle.hw_app.specs.Forms.{keyword_text, words_of};
+ghost use Rattle.hw_app.specs.Forms.{keyword_text, least_of, most_of, words_of};
 
+use hw_command::MOST_BUDGET;
 use hw_desk::Feed;
 
 /// A form of a command.
@@ -16,9 +17,9 @@ pub enum Form {
     CheckFlat,
     /// `check port INSTANCE TIDES CERT` checks a certificate of a port.
     CheckPort,
-    /// `renew flat NAME CERT PROOF` checks a certificate of a flat text and writes it anew, with deletions.
+    /// `renew flat NAME CERT PROOF` checks a certificate of a flat text and writes it again, with deletions.
     RenewFlat,
-    /// `renew port INSTANCE TIDES CERT PROOF` checks a certificate of a port and writes it anew, with deletions.
+    /// `renew port INSTANCE TIDES CERT PROOF` checks a certificate of a port and writes it again, with deletions.
     RenewPort,
     /// `flatten INSTANCE TIDES` writes the flat text of a port.
     Flatten,
@@ -38,6 +39,19 @@ pub enum Keyword {
     Demo,
 }
 
+/// What a number of a form counts.
+#[derive(Clone, Copy, Debug, PartialEq, Eq)]
+pub enum Quantity {
+    /// Nothing: it names a demonstration.
+    Demonstration,
+    /// The ships of a demonstration.
+    Ships,
+    /// The slots of a demonstration.
+    Slots,
+    /// The lemmas of a search, at most.
+    Budget,
+}
+
 /// What a word of a form has to be.
 #[derive(Clone, Copy, Debug, PartialEq, Eq)]
 pub enum Wanted {
@@ -46,8 +60,8 @@ pub enum Wanted {
     Input(Feed),
     /// The name under which the proof is made.
     Proof,
-    /// A number in plain decimal within these limits.
-    Number { least: u32, most: u32 },
+    /// A number in plain decimal within the limits of what it counts.
+    Number(Quantity),
 }
 
 /// The forms that there are.
@@ -62,94 +76,57 @@ pub const FORMS: [Form; 8] = [
     Form::Demo,
 ];
 
-/// The greatest budget, in lemmas.
-pub const MOST_BUDGET: u32 = 100_000;
-
 /// The most ships of a demonstration.
-pub const MOST_SHIPS: u32 = 40;
+const MOST_SHIPS: u32 = 40;
 
 /// The most slots of a demonstration.
-pub const MOST_SLOTS: u32 = 512;
+const MOST_SLOTS: u32 = 512;
+
+const SOLVE: Wanted = Wanted::Keyword(Keyword::Solve);
+
+const CHECK: Wanted = Wanted::Keyword(Keyword::Check);
+
+const RENEW: Wanted = Wanted::Keyword(Keyword::Renew);
+
+const FLAT: Wanted = Wanted::Keyword(Keyword::Flat);
+
+const PORT: Wanted = Wanted::Keyword(Keyword::Port);
+
+const FLATTEN: Wanted = Wanted::Keyword(Keyword::Flatten);
+
+const DEMO: Wanted = Wanted::Keyword(Keyword::Demo);
+
+const NAME: Wanted = Wanted::Input(Feed::Flat);
+
+const INSTANCE: Wanted = Wanted::Input(Feed::Instance);
+
+const TIDES: Wanted = Wanted::Input(Feed::Tides);
+
+const CERT: Wanted = Wanted::Input(Feed::Certificate);
+
+const PROOF: Wanted = Wanted::Proof;
+
+const NUMBER: Wanted = Wanted::Number(Quantity::Demonstration);
+
+const SHIPS: Wanted = Wanted::Number(Quantity::Ships);
+
+const SLOTS: Wanted = Wanted::Number(Quantity::Slots);
+
+const BUDGET: Wanted = Wanted::Number(Quantity::Budget);
 
 /// What the words of a form have to be.
 pub fn words_of(form: Form) -> &'static [Wanted]
     ensures { result.now ≡ words_of form }
 {
     match form {
-        Form::SolveFlat => &[
-            Wanted::Keyword(Keyword::Solve),
-            Wanted::Keyword(Keyword::Flat),
-            Wanted::Input(Feed::Flat),
-            Wanted::Number {
-                least: 1,
-                most: MOST_BUDGET,
-            },
-            Wanted::Proof,
-        ],
-        Form::SolvePort => &[
-            Wanted::Keyword(Keyword::Solve),
-            Wanted::Keyword(Keyword::Port),
-            Wanted::Input(Feed::Instance),
-            Wanted::Input(Feed::Tides),
-            Wanted::Number {
-                least: 1,
-                most: MOST_BUDGET,
-            },
-            Wanted::Proof,
-        ],
-        Form::CheckFlat => &[
-            Wanted::Keyword(Keyword::Check),
-            Wanted::Keyword(Keyword::Flat),
-            Wanted::Input(Feed::Flat),
-            Wanted::Input(Feed::Certificate),
-        ],
-        Form::CheckPort => &[
-            Wanted::Keyword(Keyword::Check),
-            Wanted::Keyword(Keyword::Port),
-            Wanted::Input(Feed::Instance),
-            Wanted::Input(Feed::Tides),
-            Wanted::Input(Feed::Certificate),
-        ],
-        Form::RenewFlat => &[
-            Wanted::Keyword(Keyword::Renew),
-            Wanted::Keyword(Keyword::Flat),
-            Wanted::Input(Feed::Flat),
-            Wanted::Input(Feed::Certificate),
-            Wanted::Proof,
-        ],
-        Form::RenewPort => &[
-            Wanted::Keyword(Keyword::Renew),
-            Wanted::Keyword(Keyword::Port),
-            Wanted::Input(Feed::Instance),
-            Wanted::Input(Feed::Tides),
-            Wanted::Input(Feed::Certificate),
-            Wanted::Proof,
-        ],
-        Form::Flatten => &[
-            Wanted::Keyword(Keyword::Flatten),
-            Wanted::Input(Feed::Instance),
-            Wanted::Input(Feed::Tides),
-        ],
-        Form::Demo => &[
-            Wanted::Keyword(Keyword::Demo),
-            Wanted::Number {
-                least: 0,
-                most: u32::MAX,
-            },
-            Wanted::Number {
-                least: 1,
-                most: MOST_SHIPS,
-            },
-            Wanted::Number {
-                least: 1,
-                most: MOST_SLOTS,
-            },
-            Wanted::Number {
-                least: 1,
-                most: MOST_BUDGET,
-            },
-            Wanted::Proof,
-        ],
+        Form::SolveFlat => &[SOLVE, FLAT, NAME, BUDGET, PROOF],
+        Form::SolvePort => &[SOLVE, PORT, INSTANCE, TIDES, BUDGET, PROOF],
+        Form::CheckFlat => &[CHECK, FLAT, NAME, CERT],
+        Form::CheckPort => &[CHECK, PORT, INSTANCE, TIDES, CERT],
+        Form::RenewFlat => &[RENEW, FLAT, NAME, CERT, PROOF],
+        Form::RenewPort => &[RENEW, PORT, INSTANCE, TIDES, CERT, PROOF],
+        Form::Flatten => &[FLATTEN, INSTANCE, TIDES],
+        Form::Demo => &[DEMO, NUMBER, SHIPS, SLOTS, BUDGET, PROOF],
     }
 }
 
@@ -165,5 +142,27 @@ pub fn keyword_text(keyword: Keyword) -> &'static str
         Keyword::Port => "port",
         Keyword::Flatten => "flatten",
         Keyword::Demo => "demo",
+    }
+}
+
+/// The least number of this kind.
+pub fn least_of(quantity: Quantity) -> u32
+    ensures { result ≡ least_of quantity }
+{
+    match quantity {
+        Quantity::Demonstration => 0,
+        Quantity::Ships | Quantity::Slots | Quantity::Budget => 1,
+    }
+}
+
+/// The greatest number of this kind.
+pub fn most_of(quantity: Quantity) -> u32
+    ensures { result ≡ most_of quantity }
+{
+    match quantity {
+        Quantity::Demonstration => u32::MAX,
+        Quantity::Ships => MOST_SHIPS,
+        Quantity::Slots => MOST_SLOTS,
+        Quantity::Budget => MOST_BUDGET,
     }
 }

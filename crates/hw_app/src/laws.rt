@@ -1,6 +1,6 @@
 //! The laws of a run: functions without a body whose clause is the statement.
 
-ghost use Rattle.hw_app.specs.Laws.{FaultCauses, OneCertificateReport, OnePortReport, OwnCertificate, RenewedCertificate, ShowsValid};
+ghost use Rattle.hw_app.specs.Laws.{FaultCauses, OneCertificateReport, OnePortReport, OwnCertificate, OwnStatus, RenewedCertificate, ShowsValid};
 
 /// A fault comes only where the count of its kind rose.
 pub fn fault_causes()
@@ -16,6 +16,12 @@ pub fn shows_valid()
 /// A certificate that a search wrote shows what the search found.
 pub fn own_certificate()
     ensures { OwnCertificate }
+{}
+
+/// `check` of a certificate that `solve` wrote ends with the status of `solve`, where both are told the
+/// same input, unless the certificate passes a limit, a call fails or memory runs out.
+pub fn own_status()
+    ensures { OwnStatus }
 {}
 
 /// A certificate that was renewed shows what it showed before.

@@ -1,33 +1,37 @@
 //! `solve port INSTANCE TIDES BUDGET PROOF`: a certified search of a port.
 
-ghost use Rattle.std.specs.Prelude.{IsTrue, map, string_bytes};
+ghost use Rattle.std.specs.Prelude.{◌≤◌};
 ghost use Rattle.hw_desk.specs.State.{IsNew};
-ghost use Rattle.hw_app.specs.Forms.{fits, words_of as wanted_of};
-ghost use Rattle.hw_app.specs.Run.{FormMeets};
+ghost use Rattle.hw_command.specs.Budgets.{most_budget};
+ghost use Rattle.hw_command.specs.Carries.{Carries};
+ghost use Rattle.hw_app.specs.SolvePort.{solve_port_task};
 
-use crate::form::{Form, MOST_BUDGET};
-use crate::port_input::read_port_problem;
-use crate::running::{finish, finish_with};
-use crate::searching::{search_report, search_to};
-use crate::status::Status;
-use crate::words::{name_at, number_at};
+use hw_command::{
+    PortNames, Status, finish, finish_with, read_port_problem, search_report, search_to,
+};
 use hw_desk::Desk;
 use hw_report::Names;
 use std::alloc::Global;
 
 /// Reads the instance and then its tide table, searches with its lines sent to Proof, and reports by
 /// the port's names. Proof is made only once both were read.
-pub fn solve_port<D: Desk>(alloc: Global, desk: &mut D, words: &[String]) -> Status
-    requires form { IsTrue (fits (wanted_of Form.SolvePort) (map string_bytes words.now)) }
+pub fn solve_port<D: Desk>(
+    alloc: Global,
+    desk: &mut D,
+    port: PortNames,
+    budget: u32,
+    proof: &str,
+) -> Status
+    requires least { 1 ≤ budget }
+    requires most { budget ≤ most_budget }
     requires fresh { IsNew (D.state desk.old) }
-    ensures { FormMeets Form.SolvePort (map string_bytes words.now) (D.state desk.old) (D.state desk.new) result }
+    ensures { Carries (solve_port_task port.entry.instance.now port.entry.tides.now budget proof.now) (D.state desk.old) (D.state desk.new) result }
 {
-    let budget = number_at(words, 4, 1, MOST_BUDGET);
-    let problem = match read_port_problem(alloc, desk, name_at(words, 2), name_at(words, 3)) {
+    let problem = match read_port_problem(alloc, desk, port) {
         Ok(problem) => problem,
         Err(report) => return finish(desk, &report),
     };
-    let solved = search_to(alloc, desk, &problem.flat, budget, name_at(words, 5));
+    let solved = search_to(alloc, desk, &problem.flat, budget, proof);
     let names = Names::Port {
         port: &problem.port,
         tide: &problem.tide,

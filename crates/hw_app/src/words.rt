@@ -1,11 +1,14 @@
 //! The words of the command line, read by the table of forms.
 
-ghost use Rattle.std.specs.Prelude.{◌≡◌, ◌≤◌, ◌<◌, IsTrue, Some, length, map, string_bytes};
-ghost use Rattle.hw_text.specs.Numbers.{number_from_to};
-ghost use Rattle.hw_app.specs.Forms.{agreed, first_fitting, form_of, furthest, takes, word_at};
-ghost use Rattle.hw_app.specs.declared.form.Wanted.TheVariants as wants;
+ghost use Rattle.std.specs.Prelude.{◌≡◌, ◌≤◌, ◌<◌, ◌+◌, ◌^◌, IfOk, length, map, string_bytes};
+ghost use Rattle.hw_app.specs.Commands.{KeepsLimits, command_in, command_of, command_seen, read_seen};
+ghost use Rattle.hw_app.specs.Demo.{CanDraw};
+ghost use Rattle.hw_app.specs.Forms.{agreed, first_fitting, form_of, furthest, least_of, most_of, number_in, takes, word_at};
 
-use crate::form::{FORMS, Form, Wanted, keyword_text, words_of};
+use crate::command::Command;
+use crate::demo::Draw;
+use crate::form::{FORMS, Form, Quantity, Wanted, keyword_text, least_of, most_of, words_of};
+use hw_command::PortNames;
 use hw_text::read_small;
 
 /// Whether a word is what is wanted.
@@ -15,7 +18,9 @@ fn takes(wanted: Wanted, word: &str) -> bool
     match wanted {
         Wanted::Keyword(keyword) => word == keyword_text(keyword),
         Wanted::Input(_) | Wanted::Proof => !word.is_empty(),
-        Wanted::Number { least, most } => read_small(word.as_bytes(), least, most).is_some(),
+        Wanted::Number(quantity) => {
+            read_small(word.as_bytes(), least_of(quantity), most_of(quantity)).is_some()
+        }
     }
 }
 
@@ -67,9 +72,8 @@ fn furthest(forms: &[Form], words: &[String]) -> usize
     }
 }
 
-/// The form that the words are of, or the place of the first bad word, counted from 1. A missing
-/// word has the place behind the last one, and an extra word its own.
-pub fn read_form(words: &[String]) -> Result<Form, u64>
+/// The form that the words are of, or the place of the first bad word.
+fn read_form(words: &[String]) -> Result<Form, u64>
     ensures { result ≡ form_of (map string_bytes words.now) }
 {
     match find_fitting(&FORMS, words) {
@@ -78,22 +82,109 @@ pub fn read_form(words: &[String]) -> Result<Form, u64>
     }
 }
 
-/// A name among the words.
-pub fn name_at<'w>(words: &'w [String], place: usize) -> &'w str
-    requires { place < length words.now }
-    ensures { result.now ≡ word_at (map string_bytes words.now) place }
+/// The command that the words are, or the place of the first bad word, counted from 1. A missing word
+/// has the place after the last one, and an extra word its own.
+pub fn read_command(words: &[String]) -> Result<Command<'_>, u64>
+    ensures command { read_seen result ≡ command_of (map string_bytes words.now) }
+    ensures limits { IfOk result (λ command. KeepsLimits (command_seen command)) }
 {
-    words[place].as_str()
+    match read_form(words) {
+        Ok(form) => Ok(command_in(form, words)),
+        Err(place) => Err(place),
+    }
 }
 
-/// A number among the words.
-pub fn number_at(words: &[String], place: usize, least: u32, most: u32) -> u32
-    requires place { place < length words.now }
-    requires number { IsTrue (takes (wants.Number least most) (word_at (map string_bytes words.now) place)) }
-    ensures { number_from_to least most (word_at (map string_bytes words.now) place) ≡ Some result }
+/// The command of a form that the words are of.
+fn command_in(form: Form, words: &[String]) -> Command<'_>
+    ensures command { command_seen result ≡ command_in form (map string_bytes words.now) }
+    ensures limits { KeepsLimits (command_seen result) }
 {
-    match read_small(words[place].as_bytes(), least, most) {
+    match form {
+        Form::SolveFlat => Command::SolveFlat {
+            name: name_at(words, 2),
+            budget: number_at(words, 3, Quantity::Budget),
+            proof: name_at(words, 4),
+        },
+        Form::SolvePort => Command::SolvePort {
+            port: port_at(words, 2),
+            budget: number_at(words, 4, Quantity::Budget),
+            proof: name_at(words, 5),
+        },
+        Form::CheckFlat => Command::CheckFlat {
+            name: name_at(words, 2),
+            cert: name_at(words, 3),
+        },
+        Form::CheckPort => Command::CheckPort {
+            port: port_at(words, 2),
+            cert: name_at(words, 4),
+        },
+        Form::RenewFlat => Command::RenewFlat {
+            name: name_at(words, 2),
+            cert: name_at(words, 3),
+            proof: name_at(words, 4),
+        },
+        Form::RenewPort => Command::RenewPort {
+            port: port_at(words, 2),
+            cert: name_at(words, 4),
+            proof: name_at(words, 5),
+        },
+        Form::Flatten => Command::Flatten {
+            port: port_at(words, 1),
+        },
+        Form::Demo => Command::Demo {
+            draw: draw_at(words, 1),
+            budget: number_at(words, 4, Quantity::Budget),
+            proof: name_at(words, 5),
+        },
+    }
+}
+
+/// The name at a place, counted from 0. It is empty where there is no such word.
+fn name_at(words: &[String], place: usize) -> &str
+    ensures { result.now ≡ word_at (map string_bytes words.now) place }
+{
+    match words.get(place) {
+        Some(word) => word.as_str(),
+        None => "",
+    }
+}
+
+/// The names of a port's inputs from a place on.
+fn port_at(words: &[String], place: usize) -> PortNames<'_>
+    requires { place < 2 ^ 32 }
+    ensures instance { result.instance.now ≡ word_at (map string_bytes words.now) place }
+    ensures tides { result.tides.now ≡ word_at (map string_bytes words.now) (place + 1) }
+{
+    PortNames {
+        instance: name_at(words, place),
+        tides: name_at(words, place + 1),
+    }
+}
+
+/// The number at a place. It is the least one where there is no such word, or another word.
+fn number_at(words: &[String], place: usize, quantity: Quantity) -> u32
+    ensures number { result ≡ number_in quantity (word_at (map string_bytes words.now) place) }
+    ensures least { least_of quantity ≤ result }
+    ensures most { result ≤ most_of quantity }
+{
+    let least = least_of(quantity);
+    match read_small(name_at(words, place).as_bytes(), least, most_of(quantity)) {
         Some(number) => number,
-        None => unreachable!(),
+        None => least,
+    }
+}
+
+/// The numbers of a demonstration from a place on.
+fn draw_at(words: &[String], place: usize) -> Draw
+    requires { place < 2 ^ 32 }
+    ensures number { result.number ≡ number_in Quantity.Demonstration (word_at (map string_bytes words.now) place) }
+    ensures ships { result.ships ≡ number_in Quantity.Ships (word_at (map string_bytes words.now) (place + 1)) }
+    ensures slots { result.slots ≡ number_in Quantity.Slots (word_at (map string_bytes words.now) (place + 2)) }
+    ensures size { CanDraw result.ships result.slots }
+{
+    Draw {
+        number: number_at(words, place, Quantity::Demonstration),
+        ships: number_at(words, place + 1, Quantity::Ships),
+        slots: number_at(words, place + 2, Quantity::Slots),
     }
 }

@@ -1,6 +1,7 @@
 use Rattle.std.proofs.Common.{map, string_bytes, refl}
 use Rattle.hw_desk.specs.Calm.{calm_state}
-use Rattle.hw_app.proofs.Faults.{fault_causes, none_rose}
+use Rattle.hw_command.proofs.Faults.{none_rose}
+use Rattle.hw_app.proofs.RunFaults.{fault_causes}
 use Rattle.hw_app.proofs.calm.run_calm.Goals as goal
 
 pub returns-clause-no_read_fault : goal.returns-clause-no_read_fault

@@ -1,4 +1,4 @@
-use Rattle.hw_app.proofs.Faults.{fault_causes}
+use Rattle.hw_app.proofs.RunFaults.{fault_causes}
 use Rattle.hw_app.proofs.laws.fault_causes.Goals as goal
 
 pub returns : goal.returns

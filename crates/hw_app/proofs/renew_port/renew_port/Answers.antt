@@ -1,14 +1,14 @@
-use Rattle.std.proofs.Common.{Option, map, string_bytes, subst}
+use Rattle.std.proofs.Common.{Option, subst}
 use Rattle.hw_report.specs.Reports.{Report}
-use Rattle.hw_app.specs.Ends.{EndsWith}
-use Rattle.hw_app.proofs.PortRenewed.{no_port_meets, renew_meets}
+use Rattle.hw_command.specs.Ends.{EndsWith}
+use Rattle.hw_app.proofs.PortRenewed.{renew_stops, renew_meets}
 use Rattle.hw_app.proofs.renew_port.renew_port.Goals as goal
 
 pub returns-in-Err : goal.returns-in-Err
-returns-in-Err g c = no_port_meets (map string_bytes c.args.words.now) (rw c.name_at-2.ensures at (rw c.name_at.ensures at c.in-Err.ensures.no_problem)) c.finish.ensures
+returns-in-Err g c = renew_stops c.args.port.instance.now c.args.port.tides.now c.args.cert.now c.args.proof.now c.in-Err.ensures.no_problem c.finish.ensures
 
 pub returns : goal.returns
 returns g c =
     let z = g.D.Desk.state c.renew_to-renewal.new.desk in
     let end = g.D.Desk.state c.finish_with.new.desk in
-    renew_meets z (map string_bytes c.args.words.now) c.renew_to-renewal.result (rw c.name_at-2.ensures at (rw c.name_at.ensures at c.in-Ok.ensures.problem)) (rw c.name_at-3.ensures at (rw c.name_at-4.ensures at c.renew_to-renewal.ensures)) (subst (λ (o : Option Report). EndsWith o z end c.finish_with.result) c.renewal_report.ensures.value c.finish_with.ensures)
+    renew_meets z c.renew_to-renewal.result c.in-Ok.ensures.problem c.renew_to-renewal.ensures (subst (λ (o : Option Report). EndsWith o z end c.finish_with.result) c.renewal_report.ensures.value c.finish_with.ensures)

@@ -1,0 +1,78 @@
+-- A command, with its names and numbers.
+use Rattle.std.specs.Prelude.{ℕ, ◌≤◌, List, Result, Ok, Err, ⊤}
+use Rattle.hw_command.specs.Budgets.{most_budget}
+use Rattle.hw_app.specs.Demo.{CanDraw}
+use Rattle.hw_app.specs.Forms.{form_of, word_at, number_in}
+use Rattle.hw_app.specs.declared.command.Command.{Command as Told}
+use Rattle.hw_app.specs.declared.command.Command.TheVariants as told
+use Rattle.hw_app.specs.declared.form.Form.{Form}
+use Rattle.hw_app.specs.declared.form.Form.TheVariants.{SolveFlat, SolvePort, CheckFlat, CheckPort, RenewFlat, RenewPort, Flatten, Demo}
+use Rattle.hw_app.specs.declared.form.Quantity.TheVariants.{Demonstration, Ships, Slots, Budget}
+
+-- in the order of the words
+pub data Command : Type 0 where
+  -- the flat text, the budget, Proof
+  solve_flat : List ℕ → ℕ → List ℕ → Command
+  -- the instance, the tide table, the budget, Proof
+  solve_port : List ℕ → List ℕ → ℕ → List ℕ → Command
+  -- the flat text, the certificate
+  check_flat : List ℕ → List ℕ → Command
+  -- the instance, the tide table, the certificate
+  check_port : List ℕ → List ℕ → List ℕ → Command
+  -- the flat text, the certificate, Proof
+  renew_flat : List ℕ → List ℕ → List ℕ → Command
+  -- the instance, the tide table, the certificate, Proof
+  renew_port : List ℕ → List ℕ → List ℕ → List ℕ → Command
+  -- the instance, the tide table
+  flatten : List ℕ → List ℕ → Command
+  -- the number, the ships and the slots of a demonstration, the budget, Proof
+  demo : ℕ → ℕ → ℕ → ℕ → List ℕ → Command
+
+-- the command of a form that the words are of
+abbrev pub command_in : Form → List (List ℕ) → Command
+command_in SolveFlat words = solve_flat (word_at words 2) (number_in Budget (word_at words 3)) (word_at words 4)
+command_in SolvePort words = solve_port (word_at words 2) (word_at words 3) (number_in Budget (word_at words 4)) (word_at words 5)
+command_in CheckFlat words = check_flat (word_at words 2) (word_at words 3)
+command_in CheckPort words = check_port (word_at words 2) (word_at words 3) (word_at words 4)
+command_in RenewFlat words = renew_flat (word_at words 2) (word_at words 3) (word_at words 4)
+command_in RenewPort words = renew_port (word_at words 2) (word_at words 3) (word_at words 4) (word_at words 5)
+command_in Flatten words = flatten (word_at words 1) (word_at words 2)
+command_in Demo words = demo (number_in Demonstration (word_at words 1)) (number_in Ships (word_at words 2)) (number_in Slots (word_at words 3)) (number_in Budget (word_at words 4)) (word_at words 5)
+
+abbrev pub command_or_place : Result Form ℕ → List (List ℕ) → Result Command ℕ
+command_or_place (Ok form) words = Ok (command_in form words)
+command_or_place (Err place) words = Err place
+
+-- the command that the words are, or the place of the first bad one
+abbrev pub command_of : List (List ℕ) → Result Command ℕ
+command_of words = command_or_place (form_of words) words
+
+-- the numbers of a command are within their limits
+abbrev pub IsBudget : ℕ → Type 0
+IsBudget budget = (1 ≤ budget) × (budget ≤ most_budget)
+
+abbrev pub KeepsLimits : Command → Type 0
+KeepsLimits (solve_flat name budget proof) = IsBudget budget
+KeepsLimits (solve_port instance tides budget proof) = IsBudget budget
+KeepsLimits (check_flat name cert) = ⊤
+KeepsLimits (check_port instance tides cert) = ⊤
+KeepsLimits (renew_flat name cert proof) = ⊤
+KeepsLimits (renew_port instance tides cert proof) = ⊤
+KeepsLimits (flatten instance tides) = ⊤
+KeepsLimits (demo number ships slots budget proof) = CanDraw ships slots × IsBudget budget
+
+-- ---- without where its names lie
+
+abbrev pub command_seen : Told → Command
+command_seen (told.SolveFlat name budget proof) = solve_flat name.now budget proof.now
+command_seen (told.SolvePort port budget proof) = solve_port port.instance.now port.tides.now budget proof.now
+command_seen (told.CheckFlat name cert) = check_flat name.now cert.now
+command_seen (told.CheckPort port cert) = check_port port.instance.now port.tides.now cert.now
+command_seen (told.RenewFlat name cert proof) = renew_flat name.now cert.now proof.now
+command_seen (told.RenewPort port cert proof) = renew_port port.instance.now port.tides.now cert.now proof.now
+command_seen (told.Flatten port) = flatten port.instance.now port.tides.now
+command_seen (told.Demo draw budget proof) = demo draw.number draw.ships draw.slots budget proof.now
+
+abbrev pub read_seen : Result Told ℕ → Result Command ℕ
+read_seen (Ok command) = Ok (command_seen command)
+read_seen (Err place) = Err place

@@ -1,0 +1,40 @@
+-- The words of a form as a text for people.
+use Rattle.std.specs.Prelude.{ℕ, List, [], ◌∷◌, ◌++◌, codes}
+use Rattle.hw_desk.specs.declared.desk.Feed.{Feed}
+use Rattle.hw_desk.specs.declared.desk.Feed.TheVariants as feeds
+use Rattle.hw_app.specs.Forms.{keyword_text, words_of}
+use Rattle.hw_app.specs.declared.form.Form.{Form}
+use Rattle.hw_app.specs.declared.form.Quantity.{Quantity}
+use Rattle.hw_app.specs.declared.form.Quantity.TheVariants as counts
+use Rattle.hw_app.specs.declared.form.Wanted.{Wanted}
+use Rattle.hw_app.specs.declared.form.Wanted.TheVariants.{Keyword, Input, Proof, Number}
+
+abbrev pub input_text : Feed → List ℕ
+input_text feeds.Flat = codes "NAME"
+input_text feeds.Instance = codes "INSTANCE"
+input_text feeds.Tides = codes "TIDES"
+input_text feeds.Certificate = codes "CERT"
+input_text feeds.Plan = codes "PLAN"
+input_text feeds.Events = codes "EVENTS"
+
+abbrev pub quantity_text : Quantity → List ℕ
+quantity_text counts.Demonstration = codes "NUMBER"
+quantity_text counts.Ships = codes "SHIPS"
+quantity_text counts.Slots = codes "SLOTS"
+quantity_text counts.Budget = codes "BUDGET"
+
+-- a keyword itself, and a name in capitals for each other word
+abbrev pub wanted_text : Wanted → List ℕ
+wanted_text (Keyword keyword) = keyword_text keyword
+wanted_text (Input feed) = input_text feed
+wanted_text Proof = codes "PROOF"
+wanted_text (Number quantity) = quantity_text quantity
+
+-- with a space between two
+abbrev pub words_text : List Wanted → List ℕ
+words_text [] = []
+words_text (last ∷ []) = wanted_text last
+words_text (word ∷ next ∷ more) = wanted_text word ++ codes " " ++ words_text (next ∷ more)
+
+abbrev pub usage : Form → List ℕ
+usage form = words_text (words_of form)

@@ -1,0 +1,180 @@
+//! Checking a certificate of a problem, line by line.
+
+ghost use Rattle.std.specs.Prelude.{◌≡◌, [], ℕ, List, false};
+ghost use Rattle.hw_check.specs.Follows.{Follows};
+ghost use Rattle.hw_desk.specs.Calls.{Moves};
+ghost use Rattle.hw_report.specs.Printing.{CanPrint};
+ghost use Rattle.hw_report.specs.Seen.{names_seen, report_seen};
+ghost use Rattle.hw_command.specs.Certificates.{report_of_check};
+ghost use Rattle.hw_command.specs.Checking.{ChecksCert, FindsRest, GoesFurther, IsReady, OpensCert, StepsOn, of_line_stop, of_check_stop};
+ghost use Rattle.hw_command.specs.Keeping.{ReadsOn};
+
+use crate::outcome::{CertOutcome, CertStop};
+use hw_cert::{Line, LineReader, LineStop, Next};
+use hw_check::{CheckStop, Checker};
+use hw_desk::{Desk, Feed};
+use hw_flat::Flat;
+use hw_report::{Names, RefusedWord, Report};
+use std::alloc::Global;
+
+/// A certificate of which no line was taken yet.
+#[derive(Drop)]
+pub struct OpenCert<'f> {
+    pub reader: LineReader,
+    pub checker: Checker<'f>,
+}
+
+/// Where a check stands after one more line, which is handed back.
+#[derive(Drop)]
+pub enum CertStep<'f> {
+    Further {
+        reader: LineReader,
+        checker: Checker<'f>,
+        line: Line,
+    },
+    Ended(Result<CertOutcome, CertStop>),
+}
+
+/// Begins the certificate under its name.
+pub fn open_cert<'f, D: Desk>(
+    alloc: Global,
+    desk: &mut D,
+    flat: &'f Flat,
+    name: &str,
+) -> Result<OpenCert<'f>, CertStop>
+    requires { ((D.state desk.old).feeds Feed.Certificate).begun ≡ false }
+    ensures { OpensCert flat.now name.now (D.state desk.old) (D.state desk.new) result }
+{
+    let shape = flat.shape();
+    if desk.begin(Feed::Certificate, name).is_err() {
+        return Err(CertStop::Fault);
+    }
+    let Ok(reader) = LineReader::new(alloc, shape, Feed::Certificate) else {
+        return Err(CertStop::NoMemory);
+    };
+    let Ok(checker) = Checker::new(alloc, flat) else {
+        return Err(CertStop::NoMemory);
+    };
+    Ok(OpenCert { reader, checker })
+}
+
+/// Begins the certificate under its name, and checks its lines one by one up to its end or up to the
+/// first wrong one.
+pub fn check_cert<D: Desk>(
+    alloc: Global,
+    desk: &mut D,
+    flat: &Flat,
+    name: &str,
+) -> Result<CertOutcome, CertStop>
+    requires { ((D.state desk.old).feeds Feed.Certificate).begun ≡ false }
+    ensures checks { ChecksCert flat.now name.now (D.state desk.old) (D.state desk.new) result }
+{
+    match open_cert(alloc, desk, flat, name) {
+        Ok(OpenCert { reader, checker }) => check_lines(desk, reader, checker),
+        Err(stop) => Err(stop),
+    }
+}
+
+/// Takes the lines that are left, each at least one byte of at most 2^40.
+fn check_lines<D: Desk>(
+    desk: &mut D,
+    mut reader: LineReader,
+    mut checker: Checker<'_>,
+) -> Result<CertOutcome, CertStop>
+    requires ready { IsReady reader checker (D.state desk.old) }
+    requires fresh { Follows checker [] }
+    ensures moved { (bytes : List ℕ) × Moves Feed.Certificate bytes (D.state desk.old) (D.state desk.new) }
+    ensures finds { FindsRest reader checker.entry (D.state desk.old) (D.state desk.new) result }
+{
+    'lines: loop {
+        match check_line(desk, reader, checker) {
+            CertStep::Further {
+                reader: behind,
+                checker: followed,
+                line,
+            } => {
+                std::mem::drop(line);
+                reader = behind;
+                checker = followed;
+            }
+            CertStep::Ended(found) => return found,
+        }
+    }
+}
+
+/// Takes one line more.
+pub fn check_line<'f, D: Desk>(
+    desk: &mut D,
+    reader: LineReader,
+    checker: Checker<'f>,
+) -> CertStep<'f>
+    requires ready { IsReady reader checker (D.state desk.old) }
+    ensures moved { (bytes : List ℕ) × Moves Feed.Certificate bytes (D.state desk.old) (D.state desk.new) }
+    ensures further { GoesFurther reader (D.state desk.new) result }
+    ensures reads { ReadsOn reader checker.entry (D.state desk.old) (D.state desk.new) result }
+    ensures steps { StepsOn reader checker.entry (D.state desk.old) (D.state desk.new) result }
+{
+    match reader.next(desk) {
+        Ok(Next::Line { reader, line }) => {
+            let number = reader.number() - 1;
+            match checker.borrowed_line(&line) {
+                Ok(checker) => CertStep::Further {
+                    reader,
+                    checker,
+                    line,
+                },
+                Err(stop) => CertStep::Ended(refused_line(number, stop)),
+            }
+        }
+        Ok(Next::End) => CertStep::Ended(Ok(CertOutcome::Shows(checker.verdict()))),
+        Err(stop) => CertStep::Ended(no_line(stop)),
+    }
+}
+
+/// What a certificate comes to whose line of this number isn't taken.
+fn refused_line(number: u64, stop: CheckStop) -> Result<CertOutcome, CertStop>
+    ensures { result ≡ of_check_stop number stop }
+{
+    match stop {
+        CheckStop::Refused(refusal) => Ok(CertOutcome::Wrong {
+            number,
+            word: RefusedWord::Check(refusal.word),
+            hint: refusal.hint,
+        }),
+        CheckStop::NoMemory => Err(CertStop::NoMemory),
+    }
+}
+
+/// What a certificate comes to of which no line more is had.
+fn no_line(stop: LineStop) -> Result<CertOutcome, CertStop>
+    ensures { result ≡ of_line_stop stop }
+{
+    match stop {
+        LineStop::Form { number, word } => Ok(CertOutcome::Wrong {
+            number,
+            word: RefusedWord::Form(word),
+            hint: None,
+        }),
+        LineStop::Fault => Err(CertStop::Fault),
+        LineStop::TooLong => Ok(CertOutcome::TooLong),
+        LineStop::NoMemory => Err(CertStop::NoMemory),
+    }
+}
+
+/// The report of what a check of a certificate gives, in these names.
+pub fn check_report(checked: Result<CertOutcome, CertStop>, names: Names) -> Report
+    ensures value { report_seen result ≡ report_of_check (names_seen names.entry) checked }
+    ensures printed { CanPrint (report_seen result) }
+{
+    match checked {
+        Ok(CertOutcome::Shows(verdict)) => Report::Checked { verdict, names },
+        Ok(CertOutcome::Wrong { number, word, hint }) => Report::Refused { number, word, hint },
+        Ok(CertOutcome::TooLong) => Report::TooLong {
+            feed: Feed::Certificate,
+        },
+        Err(CertStop::Fault) => Report::ReadFault {
+            feed: Feed::Certificate,
+        },
+        Err(CertStop::NoMemory) => Report::Memory,
+    }
+}

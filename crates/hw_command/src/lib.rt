@@ -1,0 +1,30 @@
+//! What every command keeps: its inputs, a certificate that is checked or written, and its end.
+//!
+//! A command is a function over a desk, with names and numbers as arguments. What it touches, the
+//! causes of its faults and how its reports are sent are said and proved here once. What its answer
+//! says stands in a file of the command's own.
+#![tactic(auto)]
+
+mod budget;
+mod cert;
+mod finishing;
+mod input;
+mod keeping;
+mod outcome;
+mod port_input;
+mod renewing;
+mod searching;
+mod sending;
+mod status;
+
+pub use budget::MOST_BUDGET;
+pub use cert::{CertStep, OpenCert, check_cert, check_line, check_report, open_cert};
+pub use finishing::{finish, finish_with};
+pub use input::{read_flat, read_input, stopped};
+pub use keeping::{KeptCert, keep_cert};
+pub use outcome::{CertOutcome, CertStop};
+pub use port_input::{PortNames, PortProblem, read_port_problem};
+pub use renewing::{Renewal, renew_to, renewal_report};
+pub use searching::{search_report, search_to};
+pub use sending::send_lines;
+pub use status::{Status, status_of};

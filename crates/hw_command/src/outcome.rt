@@ -1,0 +1,27 @@
+//! What a certificate comes to.
+
+use hw_cert::Verdict;
+use hw_report::RefusedWord;
+
+/// What a certificate comes to, whatever its problem is of.
+#[derive(Clone, Copy, Debug, PartialEq, Eq)]
+pub enum CertOutcome {
+    /// All its lines are valid and show this.
+    Shows(Verdict),
+    /// Its first wrong line, counted from 1 with the header, and the clause number that the word names.
+    Wrong {
+        number: u64,
+        word: RefusedWord,
+        hint: Option<u32>,
+    },
+    /// After valid lines comes one that passes a limit.
+    TooLong,
+}
+
+/// Why it isn't known what a certificate comes to.
+#[derive(Clone, Copy, Debug, PartialEq, Eq)]
+pub enum CertStop {
+    /// A begin or a read failed.
+    Fault,
+    NoMemory,
+}
