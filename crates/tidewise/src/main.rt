@@ -2,25 +2,21 @@
 //! status's code.
 #![tactic(auto)]
 
+mod files;
+mod help;
 mod host;
+mod info;
+mod output;
 #[cfg(test)]
 mod tests;
 mod words;
 
 use host::HostDesk;
+use std::env;
 use std::process::ExitCode;
-use std::{env, fs};
-use words::{exit_of, run_words, words_of};
+use words::end_of;
 
 fn main(rt: HostRuntime) -> ExitCode {
-    // Where a standard stream is closed, the next file that is opened takes its number. Without these
-    // three, Proof would stand where the report is written.
-    let _streams = (
-        fs::open(&rt, "/dev/null"),
-        fs::open(&rt, "/dev/null"),
-        fs::open(&rt, "/dev/null"),
-    );
     let mut desk = HostDesk::new(&rt);
-    let words = words_of(rt.alloc(), env::args(&rt));
-    exit_of(run_words(rt.alloc(), words, &mut desk))
+    end_of(rt.alloc(), env::args(&rt), &mut desk)
 }

@@ -1,22 +1,23 @@
-//! From the command line to a status, and from a status to the process's end.
+//! From the command line to the process's end.
 
-ghost use Rattle.std.specs.Prelude.{◌≡◌, [], IfErr, IfOk, IsErr, MatchResult, drop, map, string_bytes};
-ghost use Rattle.std.specs.IoError.{error_kind};
+ghost use Rattle.std.specs.Prelude.{◌≡◌, IfOk, codes, drop, map, string_bytes};
 ghost use Rattle.std.specs.Process.{exit_status};
 ghost use Rattle.std.specs.Vec.Iter.{into_iter_items};
 ghost use Rattle.hw_desk.specs.State.{IsNew};
-ghost use Rattle.hw_app.specs.Statuses.{code_of};
-ghost use Rattle.tidewise.specs.Words.{LineMeets, Wordless};
+ghost use Rattle.hw_command.specs.Statuses.{code_of};
+ghost use Rattle.tidewise.specs.Info.{info_text};
+ghost use Rattle.tidewise.specs.Words.{AreWordsOf, EndsBy, EndsSending, ProgramEnds, sent_status};
 
+use crate::info::{Info, info_of, send_info};
 use hw_app::{Status, run};
-use hw_desk::{Desk, Tray, write_all};
+use hw_desk::{Desk, DeskFailed, Tray, write_all};
 use std::alloc::{AllocError, Global};
 use std::env::Args;
 use std::io::{self, ErrorKind};
 use std::process::ExitCode;
 
-/// The words of a command line without the program's name.
-fn words_behind(alloc: Global, mut args: Args) -> Result<Vec<String>, AllocError>
+/// The words of a command line after the program's name.
+fn words_after(alloc: Global, mut args: Args) -> Result<Vec<String>, AllocError>
     ensures { IfOk result (λ words. words.items ≡ drop 1 (into_iter_items args)) }
 {
     let mut words = Vec::new(alloc);
@@ -27,48 +28,72 @@ fn words_behind(alloc: Global, mut args: Args) -> Result<Vec<String>, AllocError
     Ok(words)
 }
 
-/// The words of a command line without the program's name. Where it can't be had as text there are
-/// none, and where it wanted memory so does this.
-pub fn words_of(alloc: Global, args: io::Result<Args>) -> Result<Vec<String>, AllocError>
-    ensures words { IfOk result (λ words. MatchResult args (λ all. words.items ≡ drop 1 (into_iter_items all)) (λ _. words.items ≡ [])) }
-    ensures memory { IfErr args (λ e. error_kind e ≡ ErrorKind.OutOfMemory → IsErr result) }
+/// The words of a command line without the program's name. A line that isn't text has none, and where
+/// memory ran out for the line it ran out for its words.
+fn words_of(alloc: Global, args: io::Result<Args>) -> Result<Vec<String>, AllocError>
+    ensures { AreWordsOf args result }
 {
     match args {
-        Ok(args) => words_behind(alloc, args),
+        Ok(args) => words_after(alloc, args),
         Err(e) if e.kind() == ErrorKind::OutOfMemory => Err(AllocError),
         Err(_) => Ok(Vec::new(alloc)),
     }
 }
 
-/// How a run ends for which the words had no memory.
-fn without_words<D: Desk>(desk: &mut D) -> Status
-    requires { IsNew (D.state desk.old) }
-    ensures { Wordless (D.state desk.old) (D.state desk.new) result }
-{
-    match write_all(desk, Tray::Report, b"memory\n") {
-        Ok(()) => Status::NoMemory,
-        Err(_) => Status::WriteFault,
-    }
-}
-
-/// Runs the words. Where there was no memory for them it prints `memory` itself, in place of `run`.
-pub fn run_words<D: Desk>(
-    alloc: Global,
-    words: Result<Vec<String>, AllocError>,
-    desk: &mut D,
-) -> Status
-    requires { IsNew (D.state desk.old) }
-    ensures { LineMeets words (D.state desk.old) (D.state desk.new) result }
-{
-    match words {
-        Ok(words) => run(alloc, &words, desk),
-        Err(_) => without_words(desk),
-    }
-}
-
 /// The process ends with the status's code.
-pub fn exit_of(status: Status) -> ExitCode
+fn exit_of(status: Status) -> ExitCode
     ensures { exit_status result ≡ code_of status }
 {
     ExitCode::from(status.code())
+}
+
+/// How the process ends after a text was sent: with this status, or with that of a write that failed.
+fn exit_after(sent: Result<(), DeskFailed>, status: Status) -> ExitCode
+    ensures { exit_status result ≡ code_of (sent_status status sent) }
+{
+    match sent {
+        Ok(()) => exit_of(status),
+        Err(_) => exit_of(Status::WriteFault),
+    }
+}
+
+/// Sends what the program tells of itself.
+fn tell<D: Desk>(desk: &mut D, info: Info) -> ExitCode
+    ensures { EndsSending (info_text info) Status.Optimal (D.state desk.old) (D.state desk.new) (exit_status result) }
+{
+    exit_after(send_info(desk, info), Status::Optimal)
+}
+
+/// Reports that memory ran out for the words.
+fn end_without_words<D: Desk>(desk: &mut D) -> ExitCode
+    ensures { EndsSending (codes "memory\n") Status.NoMemory (D.state desk.old) (D.state desk.new) (exit_status result) }
+{
+    let sent = write_all(desk, Tray::Report, b"memory\n");
+    exit_after(sent, Status::NoMemory)
+}
+
+/// Answers words that ask about the program itself, and runs all others.
+fn end_of_words<D: Desk>(alloc: Global, words: &[String], desk: &mut D) -> ExitCode
+    requires { IsNew (D.state desk.old) }
+    ensures { EndsBy (map string_bytes words.now) (D.state desk.old) (D.state desk.new) (exit_status result) }
+{
+    match info_of(words) {
+        Some(info) => tell(desk, info),
+        None => exit_of(run(alloc, words, desk)),
+    }
+}
+
+/// What the whole program does with its command line, over a desk on which nothing was begun or made,
+/// and the code with which its process ends.
+///
+/// `--help` and `--version`, each alone, are answered here. All other words are run, and where memory
+/// ran out for them `memory` is reported.
+pub fn end_of<D: Desk>(alloc: Global, args: io::Result<Args>, desk: &mut D) -> ExitCode
+    requires { IsNew (D.state desk.old) }
+    ensures { ProgramEnds args (D.state desk.old) (D.state desk.new) (exit_status result) }
+{
+    match words_of(alloc, args) {
+        Ok(words) => end_of_words(alloc, &words, desk),
+        Err(_) => end_without_words(desk),
+    }
 }

@@ -1,0 +1,60 @@
+//! Standard output.
+
+ghost use Rattle.std.specs.Prelude.{◌≡◌, ◌≤◌, ◌<◌, length, IfOk, OnErr, OnOk};
+ghost use Rattle.hw_desk.specs.State.{Rose};
+
+use crate::files::{count_write, failed};
+use hw_desk::DeskFailed;
+use std::fs::File;
+use std::io::Write;
+use std::{fs, io};
+
+/// Whether the numbers of the standard streams are kept from files that are opened later.
+///
+/// Where a standard stream is closed, the next file that is opened takes its number, and what is meant
+/// for standard output would go there. The three files that are kept open here take those numbers
+/// first. They are the root directory, which is everywhere, and which takes no bytes.
+#[derive(Drop)]
+pub enum Output {
+    Kept {
+        first: File,
+        second: File,
+        third: File,
+    },
+    /// One of them couldn't be opened, so nothing is written.
+    Lost,
+}
+
+impl Output {
+    pub fn new(rt: &HostRuntime) -> Output {
+        match (fs::open(rt, "/"), fs::open(rt, "/"), fs::open(rt, "/")) {
+            (Ok(first), Ok(second), Ok(third)) => Output::Kept {
+                first,
+                second,
+                third,
+            },
+            _ => Output::Lost,
+        }
+    }
+
+    /// Writes some bytes to standard output, or counts a fault.
+    pub fn write(
+        &self,
+        rt: &HostRuntime,
+        bytes: &[u8],
+        faults: &mut u64,
+    ) -> Result<usize, DeskFailed>
+        ensures bound { IfOk result (λ n. (0 < n) × (n ≤ length bytes.now)) }
+        ensures later { faults.old ≤ faults.new }
+        ensures cause { OnErr result (Rose faults.old faults.new) }
+        ensures kept { OnOk result (faults.new ≡ faults.old) }
+    {
+        match self {
+            Output::Kept { .. } => {
+                let answer = io::writer(rt).write(bytes);
+                count_write(answer, faults)
+            }
+            Output::Lost => Err(failed(faults)),
+        }
+    }
+}
