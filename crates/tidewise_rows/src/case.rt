@@ -1,371 +1,94 @@
-//! A case: what its desk holds, how it works, and its runs.
+//! A case: its name, its desk, and what its runs came to beside what is wanted of them.
 
-ghost use Rattle.std.specs.Prelude.{◌≡◌, ◌∷◌, [], codes, IfOk};
-ghost use Rattle.hw_desk.specs.State.{IsNew};
-ghost use Rattle.hw_desk.specs.Calm.{calm_state};
-ghost use Rattle.hw_desk.specs.Memory.{memory_state};
-
-use crate::outcome::Outcome;
-use crate::runs::Runs;
-use crate::shown::put_bytes;
-use hw_app::{run, run_calm};
-use hw_desk::{CalmDesk, Desk, DeskCall, FailAt, MemoryDesk, NamedBytes, NoMemory};
-use hw_lexicon::{Lexicon, each_word};
-use hw_text::read_small;
+use crate::compared::Compared;
+use crate::setup::Setup;
+use hw_desk::NoMemory;
 use std::alloc::{AllocError, Global};
 
-/// How many places are tried at most.
-const MOST_PLACES: u32 = 1000;
-
-/// The desk of a case.
+/// A case, as far as it was read.
 #[derive(Drop)]
 pub struct Case {
-    files: Vec<NamedBytes>,
-    most: Vec<u32>,
-    room: u32,
-    fails: Vec<FailAt>,
-    each: Option<DeskCall>,
-    calm: bool,
-    /// How many lines of a report are printed at most, where Proof isn't.
-    brief: Option<u32>,
-    /// What the last run sent to Proof, under its last word.
-    proof: Option<NamedBytes>,
-}
-
-fn keywords() -> Lexicon<'static>
-    ensures { result ≡ codes "case" ∷ codes "file" ∷ codes "most" ∷ codes "room" ∷ codes "fail" ∷ codes "each" ∷ codes "calm" ∷ codes "brief" ∷ codes "run" ∷ codes "then" ∷ [] }
-{
-    Lexicon::new(b"case file most room fail each calm brief run then")
-}
-
-fn calls() -> Lexicon<'static>
-    ensures { result ≡ codes "begin" ∷ codes "read" ∷ codes "make" ∷ codes "report" ∷ codes "proof" ∷ [] }
-{
-    Lexicon::new(b"begin read make report proof")
-}
-
-fn call_of(word: &str) -> Option<DeskCall> {
-    each_word!(calls().find(word.as_bytes());
-        0 => Some(DeskCall::Begin),
-        1 => Some(DeskCall::Read),
-        2 => Some(DeskCall::Make),
-        3 => Some(DeskCall::WriteReport),
-        4 => Some(DeskCall::WriteProof),
-        else None
-    )
-}
-
-fn fail_of(text: &str) -> Option<FailAt> {
-    let (call, place) = text.split_once(' ')?;
-    let call = call_of(call)?;
-    let place = read_small(place.as_bytes(), 1, u32::MAX)?;
-    Some(FailAt { call, place })
-}
-
-fn copied(alloc: Global, files: &[NamedBytes]) -> Result<Vec<NamedBytes>, AllocError> {
-    let mut copy = Vec::new(alloc);
-    for file in files {
-        copy.push(NamedBytes {
-            name: String::from_str(alloc, file.name.as_str())?,
-            bytes: Vec::from_slice(alloc, &file.bytes)?,
-        })?;
-    }
-    Ok(copy)
-}
-
-/// The words of a text, one space between two; none where there is no text.
-fn words_in(alloc: Global, text: Option<&str>) -> Result<Vec<String>, AllocError> {
-    let mut words = Vec::new(alloc);
-    if let Some(text) = text {
-        for word in text.split(' ') {
-            words.push(String::from_str(alloc, word)?)?;
-        }
-    }
-    Ok(words)
-}
-
-fn all_fails(
-    alloc: Global,
-    fails: &[FailAt],
-    fail: Option<FailAt>,
-) -> Result<Vec<FailAt>, AllocError> {
-    let mut all = Vec::from_slice(alloc, fails)?;
-    if let Some(fail) = fail {
-        all.push(fail)?;
-    }
-    Ok(all)
-}
-
-fn new_memory(
-    alloc: Global,
-    files: Vec<NamedBytes>,
-    most: u32,
-    room: u32,
-    fails: Vec<FailAt>,
-) -> Result<MemoryDesk, NoMemory>
-    ensures { IfOk result (λ desk. IsNew (memory_state desk)) }
-{
-    MemoryDesk::new(alloc, files, most.max(1), room, fails)
-}
-
-/// The exit code of a run. It says nothing of the desk, so that nothing of it is proved at each
-/// kind of desk again.
-fn code_of_run<D: Desk>(alloc: Global, words: &[String], desk: &mut D) -> u8
-    requires { IsNew (D.state desk.old) }
-{
-    run(alloc, words, desk).code()
-}
-
-/// The same over the desk whose calls never fail.
-fn code_of_calm(alloc: Global, words: &[String], desk: &mut CalmDesk) -> u8
-    requires { IsNew (calm_state desk.old) }
-{
-    run_calm(alloc, words, desk).code()
+    name: String,
+    setup: Setup,
+    /// The last run, until a line comes that isn't wanted of it.
+    run: Option<Compared>,
+    has_run: bool,
+    /// What is printed for the runs that came to something else than is wanted.
+    differences: Vec<u8>,
 }
 
 impl Case {
     /// A case whose desk holds nothing.
-    pub fn new(alloc: Global) -> Case {
+    pub fn new(alloc: Global, name: String) -> Case {
         Case {
-            files: Vec::new(alloc),
-            most: Vec::new(alloc),
-            room: 65_536,
-            fails: Vec::new(alloc),
-            each: None,
-            calm: false,
-            brief: None,
-            proof: None,
+            name,
+            setup: Setup::new(alloc),
+            run: None,
+            has_run: false,
+            differences: Vec::new(alloc),
         }
     }
 
-    /// Takes a line of the input, and says whether it has a form. What is printed for it is
-    /// appended.
-    pub fn take(&mut self, alloc: Global, line: &str, out: &mut Vec<u8>) -> Result<bool, NoMemory> {
-        match line.as_bytes() {
-            [] | [b'#', ..] => Ok(true),
-            [b'|', text @ ..] => Ok(self.put_many(text, b"\n", 1)?),
-            [b'+', text @ ..] => Ok(self.put_many(text, b"", 1)?),
-            [b'*', ..] => Ok(self.put_repeated(line, '*', b"\n")?),
-            [b'-', ..] => Ok(self.put_repeated(line, '-', b"")?),
-            _ => self.take_keyword(alloc, line, out),
+    /// Takes a line of the case, with its number in the file, and says whether it has a form.
+    pub fn take(&mut self, alloc: Global, number: u64, line: &str) -> Result<bool, NoMemory> {
+        if let Some(run) = &mut self.run
+            && run.want(line)?
+        {
+            return Ok(true);
         }
-    }
-
-    fn take_keyword(
-        &mut self,
-        alloc: Global,
-        line: &str,
-        out: &mut Vec<u8>,
-    ) -> Result<bool, NoMemory> {
+        self.end_run(alloc)?;
         let (key, text) = match line.split_once(' ') {
             Some((key, text)) => (key, Some(text)),
             None => (line, None),
         };
-        each_word!(keywords().find(key.as_bytes());
-            0 => self.begin(alloc, line, out),
-            1 => Ok(self.add_file(alloc, text)?),
-            2 => Ok(self.set_most(text)?),
-            3 => Ok(self.set_room(text)),
-            4 => Ok(self.add_fail(text)?),
-            5 => Ok(self.set_each(text)),
-            6 => Ok(self.set_calm(text)),
-            7 => Ok(self.set_brief(text)),
-            8 => self.run_all(alloc, text, out),
-            9 => self.run_then(alloc, text, out),
-            else Ok(false)
-        )
-    }
-
-    fn begin(&mut self, alloc: Global, line: &str, out: &mut Vec<u8>) -> Result<bool, NoMemory> {
-        *self = Case::new(alloc);
-        out.extend_from_slice(line.as_bytes())?;
-        out.push(b'\n')?;
-        Ok(true)
-    }
-
-    fn add_file(&mut self, alloc: Global, text: Option<&str>) -> Result<bool, AllocError> {
-        let Some(name) = text else {
-            return Ok(false);
-        };
-        self.files.push(NamedBytes {
-            name: String::from_str(alloc, name)?,
-            bytes: Vec::new(alloc),
-        })?;
-        Ok(true)
-    }
-
-    /// Adds bytes with an end to the last file, so many times.
-    fn put_many(&mut self, text: &[u8], end: &[u8], count: u32) -> Result<bool, AllocError> {
-        let Some(file) = self.files.last_mut() else {
-            return Ok(false);
-        };
-        for _ in 0..count {
-            if !put_bytes(&mut file.bytes, text)? {
-                return Ok(false);
-            }
-            file.bytes.extend_from_slice(end)?;
-        }
-        Ok(true)
-    }
-
-    /// A mark, `COUNT TEXT`
-    fn put_repeated(&mut self, line: &str, mark: char, end: &[u8]) -> Result<bool, AllocError> {
-        let Some((count, text)) = line.split_once(' ') else {
-            return Ok(false);
-        };
-        let Some(count) = count.strip_prefix(mark) else {
-            return Ok(false);
-        };
-        match read_small(count.as_bytes(), 1, 100_000) {
-            Some(count) => self.put_many(text.as_bytes(), end, count),
-            None => Ok(false),
-        }
-    }
-
-    fn set_most(&mut self, text: Option<&str>) -> Result<bool, AllocError> {
-        self.most.clear();
-        let Some(text) = text else {
-            return Ok(false);
-        };
-        for word in text.split(' ') {
-            let Some(most) = read_small(word.as_bytes(), 1, u32::MAX) else {
-                return Ok(false);
-            };
-            self.most.push(most)?;
-        }
-        Ok(true)
-    }
-
-    fn set_room(&mut self, text: Option<&str>) -> bool {
-        match text.and_then(|text| read_small(text.as_bytes(), 0, 1 << 27)) {
-            Some(room) => {
-                self.room = room;
-                true
-            }
-            None => false,
-        }
-    }
-
-    fn add_fail(&mut self, text: Option<&str>) -> Result<bool, AllocError> {
-        match text.and_then(|text| fail_of(text)) {
-            Some(fail) => {
-                self.fails.push(fail)?;
+        match key {
+            "run" => {
+                self.begin_run(alloc, number, line, text)?;
                 Ok(true)
             }
-            None => Ok(false),
-        }
-    }
-
-    fn set_each(&mut self, text: Option<&str>) -> bool {
-        self.each = text.and_then(|text| call_of(text));
-        self.each.is_some()
-    }
-
-    fn set_calm(&mut self, text: Option<&str>) -> bool {
-        self.calm = text.is_none();
-        self.calm
-    }
-
-    fn set_brief(&mut self, text: Option<&str>) -> bool {
-        self.brief = match text {
-            None => Some(u32::MAX),
-            Some(text) => read_small(text.as_bytes(), 1, u32::MAX),
-        };
-        self.brief.is_some()
-    }
-
-    /// Runs the words over a desk that also holds what the last run sent to Proof.
-    fn run_then(
-        &mut self,
-        alloc: Global,
-        text: Option<&str>,
-        out: &mut Vec<u8>,
-    ) -> Result<bool, NoMemory> {
-        match self.proof.take() {
-            Some(proof) => self.files.push(proof)?,
-            None => return Ok(false),
-        }
-        self.run_all(alloc, text, out)
-    }
-
-    /// Runs the words for each number of bytes at once.
-    fn run_all(
-        &mut self,
-        alloc: Global,
-        text: Option<&str>,
-        out: &mut Vec<u8>,
-    ) -> Result<bool, NoMemory> {
-        let words = words_in(alloc, text)?;
-        let mut runs = Runs::new(self.each.is_some() || self.most.len() > 1, self.brief);
-        if self.most.is_empty() {
-            self.run_most(alloc, &words, 4096, &mut runs, out)?;
-        }
-        for most in &self.most {
-            self.run_most(alloc, &words, *most, &mut runs, out)?;
-        }
-        runs.put(out)?;
-        self.proof = runs.into_proof(alloc, words.last().map(|word| word.as_str()))?;
-        Ok(true)
-    }
-
-    /// Runs the words once, or with a call of the kind failing at each place in turn.
-    fn run_most(
-        &self,
-        alloc: Global,
-        words: &[String],
-        most: u32,
-        runs: &mut Runs,
-        out: &mut Vec<u8>,
-    ) -> Result<(), NoMemory> {
-        let whole = self.ran(alloc, words, most, None)?;
-        let Some(call) = self.each else {
-            runs.add(whole, out)?;
-            return Ok(());
-        };
-        for place in 1..=MOST_PLACES {
-            let outcome = self.ran(alloc, words, most, Some(FailAt { call, place }))?;
-            let last = outcome.is_same(&whole, self.brief.is_some());
-            runs.add(outcome, out)?;
-            if last {
-                return Ok(());
+            "then" => {
+                let is_kept = self.setup.keep_proof()?;
+                self.begin_run(alloc, number, line, text)?;
+                Ok(is_kept)
             }
+            _ => Ok(self.setup.take(alloc, line)?),
         }
+    }
+
+    fn begin_run(
+        &mut self,
+        alloc: Global,
+        number: u64,
+        line: &str,
+        text: Option<&str>,
+    ) -> Result<(), NoMemory> {
+        let mut came = Vec::new(alloc);
+        self.setup.run_all(alloc, text, &mut came)?;
+        self.has_run = true;
+        self.run = Some(Compared::new(alloc, number, line, came)?);
         Ok(())
     }
 
-    /// Runs the words over a new desk.
-    fn ran(
-        &self,
-        alloc: Global,
-        words: &[String],
-        most: u32,
-        fail: Option<FailAt>,
-    ) -> Result<Outcome, NoMemory> {
-        if self.calm {
-            self.over_calm(alloc, words)
-        } else {
-            self.over_memory(alloc, words, most, fail)
+    fn end_run(&mut self, alloc: Global) -> Result<(), AllocError> {
+        match self.run.take() {
+            Some(run) => run.put_difference(alloc, &mut self.differences),
+            None => Ok(()),
         }
     }
 
-    fn over_calm(&self, alloc: Global, words: &[String]) -> Result<Outcome, NoMemory> {
-        let files = copied(alloc, &self.files)?;
-        let mut desk = CalmDesk::new(alloc, files)?;
-        let code = code_of_calm(alloc, words, &mut desk);
-        Ok(Outcome::of_calm(alloc, code, &desk)?)
-    }
-
-    fn over_memory(
-        &self,
-        alloc: Global,
-        words: &[String],
-        most: u32,
-        fail: Option<FailAt>,
-    ) -> Result<Outcome, NoMemory> {
-        let files = copied(alloc, &self.files)?;
-        let fails = all_fails(alloc, &self.fails, fail)?;
-        let mut desk = new_memory(alloc, files, most, self.room, fails)?;
-        let code = code_of_run(alloc, words, &mut desk);
-        Ok(Outcome::of_memory(alloc, code, &desk)?)
+    /// Appends what is printed for the case, which is then over.
+    pub fn finish(mut self, alloc: Global, out: &mut Vec<u8>) -> Result<(), AllocError> {
+        self.end_run(alloc)?;
+        let verdict: &[u8] = if !self.has_run {
+            b"no run "
+        } else if self.differences.is_empty() {
+            b"ok "
+        } else {
+            b"differs "
+        };
+        out.extend_from_slice(verdict)?;
+        out.extend_from_slice(self.name.as_str().as_bytes())?;
+        out.push(b'\n')?;
+        out.extend_from_slice(&self.differences)
     }
 }

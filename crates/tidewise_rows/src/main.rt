@@ -1,8 +1,10 @@
-//! Cases of whole runs: each is run over a desk in memory, and what comes of it is printed.
+//! Cases of whole runs: each is run over a desk in memory, and what comes of it is compared with what
+//! the case wants.
 //!
-//! The input is lines. `case` begins a case, and what follows holds up to the next one:
+//! The arguments are files of cases, one file a topic. A file is lines. `case` begins a case, and what
+//! follows holds up to the next one:
 //!
-//!     case NAME ..      begins a case, named by what it shows; its name is printed
+//!     case NAME ..      begins a case, named by what it shows
 //!     file NAME         a file of the desk, whose lines follow
 //!     |TEXT             a line of it
 //!     +TEXT             bytes of it without a line end
@@ -13,9 +15,10 @@
 //!     fail CALL PLACE   a call that fails, by its kind and its place among those, from 1
 //!     each CALL         a run for each place, up to the run in which no call of the kind fails
 //!     calm              the desk whose calls never fail
-//!     brief             of a run the report and the status alone are printed
+//!     brief             of a run the report and the status alone are wanted
 //!     brief N           the same, and of the report the first N lines alone
-//!     run WORD ..       runs the words, one space between two; `run` alone runs none
+//!     run WORD ..       runs the words, one space between two; `run` alone runs none. The lines that are
+//!                       wanted of it follow
 //!     then WORD ..      the same over a desk that also holds what the last run sent to Proof, under
 //!                       that run's last word
 //!
@@ -23,33 +26,88 @@
 //! `\` and two hexadecimal digits are a byte. An empty line says nothing, nor does one that begins
 //! with `#`.
 //!
-//! For a run the report is printed, line by line as in a file, then `status CODE proof COUNT` with
-//! the number of bytes that Proof holds, and then these. Where there are several runs, `runs I to J`
-//! stands before what comes of all of these.
+//! What is wanted of a run: the report, each line after `|`, and after `+` what has no line end; then
+//! `status CODE proof COUNT` with the number of bytes that Proof holds, and those bytes as the report's;
+//! where it is brief, `status CODE` alone. Where there are several runs, `runs I to J` stands before what
+//! is wanted of all of these.
+//!
+//! For a case one line is printed, `ok NAME`. Where a run came to something else than is wanted it is
+//! `differs NAME`, and for each such run there follow its line with its number in the file, what is wanted
+//! and didn't come, each line after `-`, and what came and isn't wanted, each line after `+`.
 #![tactic(auto)]
 
 mod case;
+mod compared;
 mod outcome;
 mod runs;
+mod setup;
 mod shown;
 mod stop;
 
 use case::Case;
-use std::io;
+use hw_desk::NoMemory;
+use std::alloc::Global;
 use std::io::{BufRead, BufReader, Write};
+use std::{env, fs, io};
 use stop::Stop;
 
-fn main(rt: HostRuntime) -> Result<(), Stop> {
-    let mut case = Case::new(rt.alloc());
+/// Takes a line of a file, with its number, and says whether it has a form. Where it ends a case, what is
+/// printed for that is appended.
+fn take_line(
+    alloc: Global,
+    case: &mut Option<Case>,
+    number: u64,
+    line: &str,
+    out: &mut Vec<u8>,
+) -> Result<bool, NoMemory> {
+    if line.is_empty() || line.starts_with('#') {
+        return Ok(true);
+    }
+    if let Some(name) = line.strip_prefix("case ") {
+        end_case(alloc, case, out)?;
+        *case = Some(Case::new(alloc, String::from_str(alloc, name)?));
+        return Ok(true);
+    }
+    match case {
+        Some(case) => case.take(alloc, number, line),
+        None => Ok(false),
+    }
+}
+
+/// Ends the case, if there is one, and appends what is printed for it.
+fn end_case(alloc: Global, case: &mut Option<Case>, out: &mut Vec<u8>) -> Result<(), NoMemory> {
+    match case.take() {
+        Some(case) => Ok(case.finish(alloc, out)?),
+        None => Ok(()),
+    }
+}
+
+/// Runs the cases of a file, and prints what comes of each.
+fn run_file(rt: &HostRuntime, name: &str) -> Result<(), Stop> {
+    let alloc = rt.alloc();
+    let mut case = None;
     let mut number: u64 = 0;
-    for line in BufReader::new(rt.alloc(), rt.reader())?.lines(rt.alloc()) {
+    for line in BufReader::new(alloc, fs::open(rt, name)?)?.lines(alloc) {
         let line = line?;
         number = number.saturating_add(1);
-        let mut out = Vec::new(rt.alloc());
-        if !case.take(rt.alloc(), line.as_str(), &mut out)? {
-            return Err(Stop::Line { number });
+        let mut out = Vec::new(alloc);
+        if !take_line(alloc, &mut case, number, line.as_str(), &mut out)? {
+            let file = String::from_str(alloc, name)?;
+            return Err(Stop::Line { file, number });
         }
-        io::writer(&rt).write_all(&out)?;
+        io::writer(rt).write_all(&out)?;
+    }
+    let mut out = Vec::new(alloc);
+    end_case(alloc, &mut case, &mut out)?;
+    io::writer(rt).write_all(&out)?;
+    Ok(())
+}
+
+fn main(rt: HostRuntime) -> Result<(), Stop> {
+    let mut names = env::args(&rt)?;
+    let _program = names.next();
+    for name in names {
+        run_file(&rt, name.as_str())?;
     }
     Ok(())
 }

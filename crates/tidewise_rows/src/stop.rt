@@ -7,11 +7,11 @@ use std::io;
 /// Why the cases weren't all run.
 #[derive(Debug, Drop)]
 pub enum Stop {
-    /// A line of the input has no form.
-    Line { number: u64 },
+    /// A line of a file has no form.
+    Line { file: String, number: u64 },
     /// Memory was wanting.
     NoMemory,
-    /// The input couldn't be read, or what came of it not be printed.
+    /// A file couldn't be read, or what came of it not be printed.
     Io(io::Error),
 }
 
