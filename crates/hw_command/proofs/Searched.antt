@@ -34,17 +34,17 @@ some_told None e = absurd (cc)
 some_told (Some told) e = (told, refl)
 
 -- what holds of the lines told holds of the bytes told
-by_lines : {P : LogTold → Type 0} {Q : List ℕ → Type 0} (sent : Option (List ℕ)) → is_told sent ≡ true → IfSome (option_and_then bytes_told sent) P → ((told : LogTold) (bytes : List ℕ) → IsTextOf told bytes → P told → Q bytes) → IfSome sent Q
+pub by_lines : {P : LogTold → Type 0} {Q : List ℕ → Type 0} (sent : Option (List ℕ)) → is_told sent ≡ true → IfSome (option_and_then bytes_told sent) P → ((told : LogTold) (bytes : List ℕ) → IsTextOf told bytes → P told → Q bytes) → IfSome sent Q
 by_lines None told h k = tt
 by_lines {P = P} (Some bytes) told h k =
     let t = some_told (bytes_told bytes) told in
     k t.0 bytes (text_told bytes t.0 t.1) (subst (λ (o : Option LogTold). IfSome o P) t.1 h)
 
-both_told : (A B : LogTold → Type 0) (o : Option LogTold) → IfSome o A → IfSome o B → IfSome o (λ told. A told × B told)
+pub both_told : (A B : LogTold → Type 0) (o : Option LogTold) → IfSome o A → IfSome o B → IfSome o (λ told. A told × B told)
 both_told A B None a b = tt
 both_told A B (Some told) a b = (a, b)
 
-now_told : (A : LogTold → Type 0) (old new : Option LogTold) → IfSome new (λ now. IsSomeAnd old (λ was. A now)) → IfSome new A
+pub now_told : (A : LogTold → Type 0) (old new : Option LogTold) → IfSome new (λ now. IsSomeAnd old (λ was. A now)) → IfSome new A
 now_told A old None h = tt
 now_told A None (Some now) h = absurd h
 now_told A (Some was) (Some now) h = h
@@ -55,7 +55,7 @@ pub well : {f : Problem} {budget b n : ℕ} {all : List Line} (answer : Solved) 
 well answer w = record { fit = w.fit; valid = w.valid; lean = w.lean; promised = record { new = w.new; few_live = w.few_live }; few = w.lemmas }
 
 -- the text of whole lines
-whole_text : {told : LogTold} {bytes : List ℕ} → IsTextOf told bytes → told.behind ≡ [] → bytes ≡ cert_text Two told.lines
+pub whole_text : {told : LogTold} {bytes : List ℕ} → IsTextOf told bytes → told.behind ≡ [] → bytes ≡ cert_text Two told.lines
 whole_text {told = told} t e = t.text ∙ ap (λ (behind : List ℕ). cert_text Two told.lines ++ behind) e ∙ append-nil (cert_text Two told.lines)
 
 pub verdict_of : (f : Problem) (all : List Line) (b : Bool) → b ≡ ends all → verdict f all ≡ verdict_by b (best_of f all)
@@ -116,7 +116,7 @@ only_proof x y e = λ i t. (at t) i
     at Report = e
     at Proof = refl
 
-outside_only : {y z : DeskState} → outside_of z ≡ outside_of y → y.write_faults ≤ z.write_faults → OnlyTray Proof y z
+pub outside_only : {y z : DeskState} → outside_of z ≡ outside_of y → y.write_faults ≤ z.write_faults → OnlyTray Proof y z
 outside_only {y = y} {z = z} e later = record {
   held = ap (λ (o : Outside). o.held) e;
   feeds = ap (λ (o : Outside). o.feeds) e;

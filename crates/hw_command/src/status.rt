@@ -95,7 +95,7 @@ pub fn status_of(report: &Report) -> Status
         Report::TooLong { .. } => Status::TooLong,
         Report::Memory => Status::NoMemory,
         Report::Clashed { .. } | Report::ClashHolds => Status::Infeasible,
-        Report::Met { .. } | Report::After { .. } | Report::AuditEnd | Report::FlatText { .. } => {
+        Report::Met { .. } | Report::After { .. } | Report::AuditEnd | Report::WholeText { .. } => {
             Status::Optimal
         }
         Report::Step { .. } => Status::Unfinished,

@@ -48,5 +48,5 @@ pub data Report : Type 0 where
   -- the restrictions broken after so many events
   after : ℕ → List ℕ → Report
   audit_end : Report
-  -- the flat text of a port's problem
-  flattened_text : List ℕ → Report
+  -- a text as it is
+  whole_text : List ℕ → Report

@@ -85,6 +85,6 @@ fn put_report<W: Writer>(out: &mut W, report: &Report)
         Report::ClashHolds => out.put(b"clash holds\n"),
         Report::After { number, broken } => put_after(out, number, broken),
         Report::AuditEnd => out.put(b"end\n"),
-        Report::FlatText { text } => out.put(text),
+        Report::WholeText { text } => out.put(text),
     }
 }
