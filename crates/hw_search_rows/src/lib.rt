@@ -3,13 +3,21 @@
 #![tactic(auto)]
 
 #[cfg(test)]
+mod asking;
+#[cfg(test)]
 mod learning;
 #[cfg(test)]
 mod levels;
 #[cfg(test)]
-mod stores;
+mod problems;
 #[cfg(test)]
-mod tests;
+mod restarts;
+#[cfg(test)]
+mod settling;
+#[cfg(test)]
+mod solving;
+#[cfg(test)]
+mod stores;
 #[cfg(test)]
 mod trails;
 #[cfg(test)]

@@ -6,12 +6,14 @@ ghost use Rattle.hw_model.specs.Problem.{shape_of};
 ghost use Rattle.hw_model.specs.Rooms.{whole_room};
 ghost use Rattle.hw_progress.specs.Searches.{new_search};
 
+use crate::asking::{Asking, propagators};
 use hw_cert::Log;
 use hw_flat::{Flat, Room, Timetable};
 use hw_model::{Lit, NoMemory};
-use hw_search::{AnyPropagator, Branching, Search, Settled, Turn, propagators};
+use hw_search::{AnyPropagator, Branching, Search, Settled, Turn};
 use hw_store::Store;
 use std::alloc::Global;
+use std::test::Fail;
 
 /// What came of a whole run: the levels are those behind each lemma with literals.
 #[derive(Drop)]
@@ -26,15 +28,16 @@ fn begin<'f, S: Store + Drop>(
     alloc: Global,
     flat: &'f Flat,
     store: S,
+    asking: Asking,
     branching: Branching,
-) -> Result<Search<'f, S, AnyPropagator>, NoMemory>
+) -> Result<Search<'f, S, AnyPropagator>, Fail>
     requires empty { S.clauses store ≡ [] }
     requires ships { S.ships store ≡ flat.now.ships }
     requires right { S.ready store (whole_room (shape_of flat.now)) }
     ensures value { IfOk result (λ search. search ≡ new_search flat.now branching) }
 {
-    let props = propagators(alloc, flat)?;
-    Search::new(alloc, flat, store, props, branching)
+    let props = propagators(alloc, flat, asking)?;
+    Ok(Search::new(alloc, flat, store, props, branching)?)
 }
 
 // Turn after turn of a search that has done nothing, until it ended or has as many lemmas as the
@@ -72,14 +75,14 @@ pub fn whole_run<S: Store + Drop, L: Log>(
     store: S,
     budget: u32,
     log: &mut L,
-) -> Result<Run, NoMemory>
+) -> Result<Run, Fail>
     requires empty { S.clauses store ≡ [] }
     requires ships { S.ships store ≡ flat.now.ships }
     requires right { S.ready store (whole_room (shape_of flat.now)) }
     requires most { budget ≤ 100_000 }
     requires none { IsEmpty (L.state log.old) }
 {
-    let mut search = begin(alloc, flat, store, Branching::Greatest)?;
+    let mut search = begin(alloc, flat, store, Asking::Made, Branching::Greatest)?;
     let mut levels = Vec::new(alloc);
     let ended = take_turns(flat, budget, &mut search, log, &mut levels)?;
     let best = search.into_best();
@@ -90,22 +93,32 @@ pub fn whole_run<S: Store + Drop, L: Log>(
     })
 }
 
-/// The room to which the whole room settles over a store without clauses, none where there is a
-/// conflict.
+/// How the whole room settles: the answer, and then the level and the room.
+#[derive(Drop)]
+pub struct End {
+    pub answer: Settled,
+    pub level: u32,
+    pub room: Room,
+}
+
+/// How the whole room settles over a store without clauses.
 pub fn settled<S: Store + Drop>(
     alloc: Global,
     flat: &Flat,
     store: S,
-) -> Result<Option<Room>, NoMemory>
+    asking: Asking,
+) -> Result<End, Fail>
     requires empty { S.clauses store ≡ [] }
     requires ships { S.ships store ≡ flat.now.ships }
     requires right { S.ready store (whole_room (shape_of flat.now)) }
 {
-    let mut search = begin(alloc, flat, store, Branching::Greatest)?;
-    match search.settle()? {
-        Settled::Quiet => Ok(Some(search.room().copy(alloc)?)),
-        Settled::Conflict(_why) => Ok(None),
-    }
+    let mut search = begin(alloc, flat, store, asking, Branching::Greatest)?;
+    let answer = search.settle()?;
+    Ok(End {
+        answer,
+        level: search.level(),
+        room: search.room().copy(alloc)?,
+    })
 }
 
 /// The literal by which a rule decides in the whole room, none where that is a point.
@@ -114,12 +127,12 @@ pub fn decided<S: Store + Drop>(
     flat: &Flat,
     store: S,
     branching: Branching,
-) -> Result<Option<Lit>, NoMemory>
+) -> Result<Option<Lit>, Fail>
     requires empty { S.clauses store ≡ [] }
     requires ships { S.ships store ≡ flat.now.ships }
     requires right { S.ready store (whole_room (shape_of flat.now)) }
 {
-    let search = begin(alloc, flat, store, branching)?;
+    let search = begin(alloc, flat, store, Asking::Made, branching)?;
     if search.room().is_point() {
         return Ok(None);
     }
