@@ -1,0 +1,5 @@
+mod Letters
+mod Crewed
+mod CrewWorks
+mod FlatCrewed
+mod PortCrewed

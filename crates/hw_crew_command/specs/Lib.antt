@@ -1,0 +1,4 @@
+pub mod Orders
+pub mod Crewing
+pub mod CrewFlat
+pub mod CrewPort

@@ -1,0 +1,118 @@
+//! A searcher that is played by hand: a search over a log of its own.
+
+ghost use Rattle.std.specs.Prelude.{◌≡◌, ◌<◌, ℕ, false, IfOk, IfSome, IsTrue, OnOk, option_and_then};
+ghost use Rattle.std.specs.Option.{option_copied};
+ghost use Rattle.hw_model.specs.Problem.{IsTimetable};
+ghost use Rattle.hw_model.specs.Timetables.{Permits, cargo, beats};
+ghost use Rattle.hw_progress.specs.Turns.{is_last};
+ghost use Rattle.hw_turns.specs.Members.{Working, Caught, TurnsOwn, UnlessStopped};
+
+use hw_cert::MemoryLog;
+use hw_flat::{Flat, NoMemory, Timetable};
+use hw_rules::{broken, cargo};
+use hw_search::{AnyPropagator, Branching, Search, Turn, propagators};
+use hw_store::WatchStore;
+use std::alloc::Global;
+
+/// A searcher.
+#[derive(Drop)]
+pub struct Player<'f> {
+    pub search: Search<'f, WatchStore, AnyPropagator>,
+    pub log: MemoryLog,
+}
+
+/// Whether a timetable is of the problem: it has a slot for each ship.
+pub fn is_timetable(flat: &Flat, table: &Timetable) -> bool
+    ensures { IsTrue result → IsTimetable flat.now table.now }
+{
+    let shape = flat.shape();
+    let slots = table.as_slice();
+    slots.len() == shape.ships as usize && slots.iter().all(|slot| *slot < shape.slots)
+}
+
+/// Whether a timetable is permitted.
+fn is_permitted(flat: &Flat, table: &Timetable) -> bool
+    ensures { IsTrue result → Permits flat.now table.now }
+{
+    is_timetable(flat, table) && broken(flat, table).is_none()
+}
+
+/// Whether a timetable carries more than another one, or there is no other.
+fn is_above(flat: &Flat, table: &Timetable, other: Option<&Timetable>) -> bool
+    requires table { IsTimetable flat.now table.now }
+    requires other { IfSome (option_copied other) (IsTimetable flat.now) }
+    ensures better { IsTrue result → (c : ℕ) × (cargo flat.now table.now ≡ Some c) × IsTrue (beats c (option_and_then (cargo flat.now) (option_copied other.entry))) }
+{
+    let Some(worth) = cargo(flat, table) else {
+        return false;
+    };
+    match other {
+        None => true,
+        Some(other) => match cargo(flat, other) {
+            None => true,
+            Some(most) => most < worth,
+        },
+    }
+}
+
+impl<'f> Player<'f> {
+    /// A searcher that has done nothing.
+    pub fn new(alloc: Global, flat: &'f Flat, rule: Branching) -> Result<Player<'f>, NoMemory>
+        ensures works { IfOk result (λ player. Working flat.now player.search player.log) }
+    {
+        let _shape = flat.shape();
+        let store = WatchStore::new(alloc, flat)?;
+        let props = propagators(alloc, flat)?;
+        let search = Search::new(alloc, flat, store, props, rule)?;
+        Ok(Player {
+            search,
+            log: MemoryLog::new(alloc),
+        })
+    }
+
+    /// Is offered the best of all, where that is above its own.
+    fn offer(&mut self, flat: &Flat, best: &Option<Timetable>) -> Result<(), NoMemory>
+        requires working { Working flat.now self.old.search self.old.log }
+        ensures caught { OnOk result (Caught flat.now self.old.search self.old.log self.new.search self.new.log) }
+    {
+        let Some(best) = best else {
+            return Ok(());
+        };
+        if !is_permitted(flat, best) {
+            return Ok(());
+        }
+        if !is_above(flat, best, self.search.best()) {
+            return Ok(());
+        }
+        match self.search.offer(best, &mut self.log) {
+            Turn::Better => Ok(()),
+            _other => Err(NoMemory),
+        }
+    }
+
+    /// Takes a turn.
+    fn take_turn(&mut self, flat: &Flat) -> Turn
+        requires working { Working flat.now self.old.search self.old.log }
+        requires few { self.old.search.lemmas < 100000 }
+        ensures turns { UnlessStopped result (TurnsOwn flat.now self.old.search self.old.log result self.new.search self.new.log) }
+    {
+        let _shape = flat.shape();
+        let turn = self.search.turn(&mut self.log);
+        let _lemmas = self.search.lemmas();
+        turn
+    }
+
+    /// Is offered the best of all, where that is above its own, and takes a turn.
+    pub fn turn(&mut self, flat: &Flat, best: &Option<Timetable>) -> Turn
+        requires working { Working flat.now self.old.search self.old.log }
+        ensures goes_on { is_last result ≡ false → Working flat.now self.new.search self.new.log }
+    {
+        if self.offer(flat, best).is_err() {
+            return Turn::NoMemory;
+        }
+        if self.search.lemmas() >= 100_000 {
+            return Turn::NoMemory;
+        }
+        self.take_turn(flat)
+    }
+}
