@@ -1,0 +1,10 @@
+pub mod Plans
+pub mod PortPlans
+pub mod PlanInputs
+pub mod Reports
+pub mod Repairs
+pub mod PortRepairs
+pub mod RepairFlat
+pub mod RepairPort
+pub mod CheckRepair
+pub mod CheckRepairPort
