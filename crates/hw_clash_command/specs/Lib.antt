@@ -1,0 +1,9 @@
+pub mod Found
+pub mod Plans
+pub mod PartReports
+pub mod PortWords
+pub mod ClashFlat
+pub mod ClashPort
+pub mod CheckClash
+pub mod CheckClashPort
+pub mod ExplainPort

@@ -1,0 +1,59 @@
+//! Reading a clash text, and the part of the problem that it keeps.
+
+ghost use Rattle.std.specs.Prelude.{◌≡◌, IfErr, IfOk, false};
+ghost use Rattle.hw_report.specs.Printing.{CanPrint};
+ghost use Rattle.hw_report.specs.Seen.{report_seen};
+ghost use Rattle.hw_clash_command.specs.Plans.{ReadsPart, StopsAtPlan, report_of_fault};
+
+use hw_clash::{ClashFault, part, read_clash};
+use hw_command::{read_input, stopped};
+use hw_desk::{Desk, Feed};
+use hw_flat::Flat;
+use hw_report::Report;
+use std::alloc::Global;
+
+/// Begins the clash text under its name, reads it to its end, and makes the part of the problem that
+/// keeps its restrictions. An error is the report of why there is none.
+pub fn read_part<D: Desk>(
+    alloc: Global,
+    desk: &mut D,
+    flat: &Flat,
+    plan: &str,
+) -> Result<Flat, Report<'static>>
+    requires unread { ((D.state desk.old).feeds Feed.Plan).begun ≡ false }
+    ensures part { IfOk result (λ made. ReadsPart flat.now plan.now (D.state desk.old) (D.state desk.new) made) }
+    ensures no_part { IfErr result (λ report. StopsAtPlan flat.now plan.now (D.state desk.old) (D.state desk.new) (report_seen report)) }
+    ensures printed { IfErr result (λ report. CanPrint (report_seen report)) }
+{
+    let bytes = match read_input(alloc, desk, Feed::Plan, plan) {
+        Ok(bytes) => bytes,
+        Err(stop) => return Err(stopped(Feed::Plan, stop)),
+    };
+    let clash = match read_clash(alloc, &bytes, flat) {
+        Ok(clash) => clash,
+        Err(fault) => return Err(bad_clash(fault)),
+    };
+    match part(alloc, flat, &clash.kept) {
+        Ok(made) => {
+            // The call tells that the part is within the limits.
+            let _shape = made.shape();
+            Ok(made)
+        }
+        Err(_) => Err(Report::Memory),
+    }
+}
+
+/// The report of bytes that are no clash of the problem.
+fn bad_clash(fault: ClashFault) -> Report<'static>
+    ensures value { report_seen result ≡ report_of_fault fault }
+    ensures printed { CanPrint (report_seen result) }
+{
+    match fault {
+        ClashFault::Line { number, word } => Report::BadText {
+            feed: Feed::Plan,
+            number,
+            word: word.text(),
+        },
+        ClashFault::NoMemory => Report::Memory,
+    }
+}
