@@ -1,0 +1,107 @@
+-- `audit port INSTANCE TIDES PLAN EVENTS`: a port's plan is watched through events.
+use Rattle.std.specs.Prelude.{◌≡◌, ◌↔◌, ◌+◌, ◌≤◌, ℕ, List, [], ◌∷◌, ◌++◌, length, map, take, Option, Some, None, IfSome}
+use Rattle.std.specs.List.{range_with_len}
+use Rattle.hw_model.specs.Problem.{Problem, shape_of}
+use Rattle.hw_desk.specs.State.{DeskState}
+use Rattle.hw_desk.specs.declared.desk.Feed.TheVariants.{Instance, Tides, Plan, Events}
+use Rattle.hw_port.specs.Whole.{Parts}
+use Rattle.hw_tide.specs.Levels.{TideParts}
+use Rattle.hw_port_rules.specs.Flattened.{flattened}
+use Rattle.hw_port_rules.specs.Numbers.{whole}
+use Rattle.hw_port_rules.specs.Permitted.{PortPermits}
+use Rattle.hw_report.specs.Reports.{Report, after, audit_end, bad_text, too_long}
+use Rattle.hw_audit.specs.Laws.{fewer_tugs}
+use Rattle.hw_audit.specs.Text.{fault, table_text, events_text}
+use Rattle.hw_audit.specs.Watching.{Watched, watched, after_all, first_refused, broken_now}
+use Rattle.hw_audit.specs.Words.{word_text}
+use Rattle.hw_audit.specs.declared.event.PortEvent.{PortEvent}
+use Rattle.hw_audit.specs.declared.fault.AuditWord.{AuditWord}
+use Rattle.hw_command.specs.Carries.{Task}
+use Rattle.hw_command.specs.PortInputs.{NoPort}
+use Rattle.hw_command.specs.Scope.{named}
+use Rattle.hw_command.specs.Values.{IsLong, IsPortOf, GivesTide}
+use Rattle.hw_audit_command.specs.Reading.{ReadsAs}
+use Rattle.hw_audit_command.specs.Values.{IsPlanOf, AreEventsOf, GivesPlan, AuditGives}
+
+-- ---- the whole report
+
+-- the state after so many of the events
+abbrev pub state_after : Watched → List PortEvent → ℕ → Watched
+state_after s events n = after_all s (take n events)
+
+-- the restrictions broken after so many of the events
+abbrev pub line_after : Problem → Watched → List PortEvent → ℕ → Report
+line_after f s events n = after n (broken_now f (state_after s events n))
+
+-- what is printed: a line for each number of events, from none to all of them, and the end
+abbrev pub audit_reports : Problem → Watched → List PortEvent → List Report
+audit_reports f s events = map (line_after f s events) (range_with_len 0 (length events + 1)) ++ audit_end ∷ []
+
+-- where nothing is broken after so many of the events, and only there, the port with the tugs that are left permits the timetable that then stands
+abbrev pub TellsOfPort : Parts → TideParts → List ℕ → List PortEvent → Type 0
+TellsOfPort p h table events = (n : ℕ) → n ≤ length events
+    → let s = state_after (watched table) events n in ((broken_now (flattened p h) s ≡ []) ↔ PortPermits (fewer_tugs s.withdrawn p) h s.table)
+
+-- a port with its tide, a timetable of the port, and events that are all taken from it on, those of the four texts where they are told. The reports are all the lines, from the timetable on
+pub record Audits (instance tides plan events : Option (List ℕ)) (reports : List Report) : Type 0 where
+  pub port : Parts
+  pub tide : TideParts
+  pub reads : IsPortOf instance tides port tide
+  pub table : List ℕ
+  pub planned : IsPlanOf plan port tide table
+  pub happened : List PortEvent
+  pub told : AreEventsOf events happened
+  pub taken : first_refused (flattened port tide) (whole port.fleet) 2 (watched table) happened ≡ None
+  pub printed : reports ≡ audit_reports (flattened port tide) (watched table) happened
+  pub means : TellsOfPort port tide table happened
+
+-- ---- a report that ends the run early
+
+-- the first bad line of the plan
+pub record IsBadPlan (instance tides plan : Option (List ℕ)) (number : ℕ) (word : List ℕ) : Type 0 where
+  pub port : Parts
+  pub tide : TideParts
+  pub gives : IsPortOf instance tides port tide
+  pub cause : AuditWord
+  pub named : word ≡ word_text cause
+  pub reads : IfSome plan (ReadsAs (table_text (shape_of (flattened port tide))) (fault number cause))
+
+-- the first bad line of the events; or else the line of the first event that is refused. The first event is line 2
+pub data EventsFail (f : Problem) (fleet : ℕ) (s : Watched) (text : Option (List ℕ)) (number : ℕ) (cause : AuditWord) : Type 0 where
+  by_form : IfSome text (ReadsAs events_text (fault number cause)) → EventsFail f fleet s text number cause
+  by_event : (events : List PortEvent) → AreEventsOf text events → first_refused f fleet 2 s events ≡ Some (number, cause) → EventsFail f fleet s text number cause
+
+pub record AreBadEvents (instance tides plan events : Option (List ℕ)) (number : ℕ) (word : List ℕ) : Type 0 where
+  pub port : Parts
+  pub tide : TideParts
+  pub gives : IsPortOf instance tides port tide
+  pub table : List ℕ
+  pub planned : IsPlanOf plan port tide table
+  pub cause : AuditWord
+  pub named : word ≡ word_text cause
+  pub fail : EventsFail (flattened port tide) (whole port.fleet) (watched table) events number cause
+
+-- what a lone report says of the four texts, each where it is told
+abbrev pub NoAudit : Option (List ℕ) → Option (List ℕ) → Option (List ℕ) → Option (List ℕ) → Report → Type 0
+NoAudit instance tides plan events (bad_text Plan number word) = IsBadPlan instance tides plan number word
+NoAudit instance tides plan events (bad_text Events number word) = AreBadEvents instance tides plan events number word
+NoAudit instance tides plan events (too_long Plan) = GivesTide instance tides × IfSome plan IsLong
+NoAudit instance tides plan events (too_long Events) = GivesPlan instance tides plan × IfSome events IsLong
+NoAudit instance tides plan events r = NoPort instance tides r
+
+-- what the reports say of the four texts, each where it is told. Where these are told, and but for want of memory, no two lists of reports hold together
+abbrev pub AuditsTexts : Option (List ℕ) → Option (List ℕ) → Option (List ℕ) → Option (List ℕ) → List Report → Type 0
+AuditsTexts instance tides plan events [] = ⊥
+AuditsTexts instance tides plan events (r ∷ []) = NoAudit instance tides plan events r
+AuditsTexts instance tides plan events (r ∷ next ∷ more) = Audits instance tides plan events (r ∷ next ∷ more)
+
+abbrev pub AuditPortSays : List ℕ → List ℕ → List ℕ → List ℕ → DeskState → List Report → Type 0
+AuditPortSays instance tides plan events old reports = AuditsTexts (old.held instance) (old.held tides) (old.held plan) (old.held events) reports
+
+abbrev pub audit_port_task : List ℕ → List ℕ → List ℕ → List ℕ → Task
+audit_port_task instance tides plan events = record {
+  inputs = named Instance instance ∷ named Tides tides ∷ named Plan plan ∷ named Events events ∷ [];
+  Gives = AuditGives instance tides plan;
+  proof = None;
+  Says = λ old mid. AuditPortSays instance tides plan events old;
+}

@@ -1,0 +1,5 @@
+pub mod Reading
+pub mod Trying
+pub mod Values
+pub mod AuditPort
+pub mod Laws
