@@ -9,7 +9,7 @@ use Rattle.hw_flat.specs.TextWritten.{problem_text}
 use Rattle.hw_port.specs.Whole.{Parts}
 use Rattle.hw_tide.specs.Levels.{TideParts}
 use Rattle.hw_port_rules.specs.Alike.{IsSameProblem}
-use Rattle.hw_report.specs.Reports.{Report, flattened_text, no_memory}
+use Rattle.hw_report.specs.Reports.{Report, whole_text, no_memory}
 use Rattle.hw_command.specs.Carries.{Carries}
 use Rattle.hw_command.specs.Ends.{Ends}
 use Rattle.hw_command.specs.PortInputs.{ReadsPortProblem, StopsAtPort}
@@ -43,11 +43,11 @@ text_is {p = p} {t = t} {f = f} text h written = record {
 }
 
 -- the text is sent
-pub text_meets : {x y z : DeskState} {s : Status} {p : Parts} {t : TideParts} {f : Problem} {instance table : List ℕ} (text : List ℕ) → ReadsPortProblem instance table x y p t f → text ≡ problem_text f → Ends (flattened_text text ∷ []) y z s → Carries (flatten_task instance table) x z s
+pub text_meets : {x y z : DeskState} {s : Status} {p : Parts} {t : TideParts} {f : Problem} {instance table : List ℕ} (text : List ℕ) → ReadsPortProblem instance table x y p t f → text ≡ problem_text f → Ends (whole_text text ∷ []) y z s → Carries (flatten_task instance table) x z s
 text_meets {y = y} {p = p} {t = t} text h written ends = record {
   mid = y;
-  reports = flattened_text text ∷ [];
-  works = answers None (flattened_text text) refl h.entered (port_given h, tt) h.read_faults;
+  reports = whole_text text ∷ [];
+  works = answers None (whole_text text) refl h.entered (port_given h, tt) h.read_faults;
   says = λ own. record { port = p; tide = t; reads = h.port; flat = text_is text h written };
   ends = ends;
 }

@@ -11,3 +11,5 @@ mod OnePort
 mod Demonstrated
 mod Answered
 mod OwnStatus
+mod OneClash
+mod OwnedClash

@@ -15,8 +15,10 @@ use Rattle.hw_tide.specs.declared.fault.TideFault.TheVariants as tide
 use Rattle.hw_tide.proofs.OneList.{one_list_law}
 use Rattle.hw_flat.specs.TextWritten.{problem_text}
 use Rattle.hw_port_rules.specs.Flattened.{flattened}
-use Rattle.hw_report.specs.Reports.{Report, by_name, checked, refused, too_long, bad_json, bad_field, bad_tides, flattened_text}
+use Rattle.hw_report.specs.Reports.{Report, by_name, checked, refused, too_long, bad_json, bad_field, bad_tides, whole_text}
 use Rattle.hw_command.specs.Certificates.{cert_outcome, report_of}
+use Rattle.hw_repair_command.specs.CheckRepair.{plan_report}
+use Rattle.hw_repair_command.specs.CheckRepairPort.{RechecksPort}
 use Rattle.hw_app.specs.CheckFlat.{Checks, texts_report}
 use Rattle.hw_app.specs.CheckPort.{ChecksPortTexts}
 use Rattle.hw_app.specs.Flattening.{FlattensTexts}
@@ -89,11 +91,11 @@ abbrev of_table : (TideParts → Report) → Result TideParts TideFault → Repo
 of_table last (Ok h) = last h
 of_table last (Err fault) = bad_tides fault
 
-record OfTable (table : List ℕ) (last : TideParts → Report) (p : Parts) (r : Report) : Type 0 where
-  what : Result TideParts TideFault
-  told : what ≢ Err tide.NoMemory
-  reads : ReadsHeights table (tide_by_header (waypoint_names p)) what
-  gives : r ≡ of_table last what
+pub record OfTable (table : List ℕ) (last : TideParts → Report) (p : Parts) (r : Report) : Type 0 where
+  pub what : Result TideParts TideFault
+  pub told : what ≢ Err tide.NoMemory
+  pub reads : ReadsHeights table (tide_by_header (waypoint_names p)) what
+  pub gives : r ≡ of_table last what
 
 -- the report of an instance, by what it is read as
 abbrev Follows : List ℕ → (Parts → TideParts → Report) → Result Parts ReadFault → Report → Type 0
@@ -103,14 +105,14 @@ Follows table last (Err (read.Field fault)) r = r ≡ bad_field fault
 Follows table last (Err read.NoMemory) r = ⊥
 
 -- a report is the last one of a port with its tide, or tells the first fault of their files, the instance keeping its limit
-record Within (instance table : List ℕ) (last : Parts → TideParts → Report) (r : Report) : Type 0 where
-  what : Result Parts ReadFault
-  told : what ≢ Err read.NoMemory
-  reads : ReadsPort instance what
-  follows : Follows table last what r
+pub record Within (instance table : List ℕ) (last : Parts → TideParts → Report) (r : Report) : Type 0 where
+  pub what : Result Parts ReadFault
+  pub told : what ≢ Err read.NoMemory
+  pub reads : ReadsPort instance what
+  pub follows : Follows table last what r
 
 -- the same of any instance
-abbrev OfFiles : List ℕ → List ℕ → (Parts → TideParts → Report) → Report → Type 0
+abbrev pub OfFiles : List ℕ → List ℕ → (Parts → TideParts → Report) → Report → Type 0
 OfFiles instance table last r = Limited instance (too_long Instance) (Within instance table last) r
 
 one_table_report : (table : List ℕ) (last : TideParts → Report) (p : Parts) (r s : Report) → OfTable table last p r → OfTable table last p s → r ≡ s
@@ -127,10 +129,10 @@ one_within instance table last r s h g =
     let same = one_instance instance g.what h.what g.told h.told g.reads h.reads in
     one_follows table last h.what r s h.follows (subst (λ (what : Result Parts ReadFault). Follows table last what s) same g.follows)
 
-one_report : (instance table : List ℕ) (last : Parts → TideParts → Report) (r s : Report) → OfFiles instance table last r → OfFiles instance table last s → r ≡ s
+pub one_report : (instance table : List ℕ) (last : Parts → TideParts → Report) (r s : Report) → OfFiles instance table last r → OfFiles instance table last s → r ≡ s
 one_report instance table last r s h g = one_limited instance (too_long Instance) (Within instance table last) (one_within instance table last) r s h g
 
-of_port : {instance table : List ℕ} {p : Parts} {h : TideParts} (last : Parts → TideParts → Report) (r : Report) → IsPortOf (Some instance) (Some table) p h → r ≡ last p h → OfFiles instance table last r
+pub of_port : {instance table : List ℕ} {p : Parts} {h : TideParts} (last : Parts → TideParts → Report) (r : Report) → IsPortOf (Some instance) (Some table) p h → r ≡ last p h → OfFiles instance table last r
 of_port {p = p} {h = h} last r port e = inr (
   port.instance_reads.0,
   record {
@@ -159,7 +161,7 @@ of_long_table last gives long = inr (
 )
 
 -- the report of files that give no port
-no_port_files : (instance table : List ℕ) (last : Parts → TideParts → Report) (r : Report) → NoPort (Some instance) (Some table) r → OfFiles instance table last r
+pub no_port_files : (instance table : List ℕ) (last : Parts → TideParts → Report) (r : Report) → NoPort (Some instance) (Some table) r → OfFiles instance table last r
 no_port_files instance table last bad_json says = inr (says.0, record { what = Err read.NotJson; told = λ no. absurd (cc); reads = says.1; follows = refl })
 no_port_files instance table last (bad_field fault) says = inr (says.0, record { what = Err (read.Field fault); told = λ no. absurd (cc); reads = says.1; follows = refl })
 no_port_files instance table last (bad_tides fault) says = of_bad_table last fault says
@@ -179,16 +181,27 @@ check_files instance table bytes r says = no_port_files instance table (of_cert 
 
 -- the report of a port with its tide by their flat text
 abbrev of_text : Parts → TideParts → Report
-of_text p h = flattened_text (problem_text (flattened p h))
+of_text p h = whole_text (problem_text (flattened p h))
 
 flatten_files : (instance table : List ℕ) (r : Report) → FlattensTexts (Some instance) (Some table) (Some r) → OfFiles instance table of_text r
-flatten_files instance table (flattened_text text) says = of_port of_text _ says.reads (ap flattened_text says.flat.written)
+flatten_files instance table (whole_text text) says = of_port of_text _ says.reads (ap whole_text says.flat.written)
 flatten_files instance table r says = no_port_files instance table of_text r says
+
+-- the report of a plan and a certificate of a port with its tide
+abbrev of_plan : List ℕ → List ℕ → Parts → TideParts → Report
+of_plan plan bytes p h = plan_report (by_name p h) (flattened p h) plan bytes
+
+recheck_files : (instance table plan bytes : List ℕ) (r : Report) → RechecksPort (Some instance) (Some table) (Some plan) (Some bytes) r → OfFiles instance table (of_plan plan bytes) r
+recheck_files instance table plan bytes r says = elim says.decided [
+  | inl bad ↦ no_port_files instance table (of_plan plan bytes) r bad
+  | inr by ↦ of_port (of_plan plan bytes) r by.reads by.report
+]
 
 pub one_port_report : OnePortReport
 one_port_report = record {
   check = λ instance table bytes r s h g. one_report instance table (of_cert bytes) r s (check_files instance table bytes r h) (check_files instance table bytes s g);
   flatten = λ instance table r s h g. one_report instance table of_text r s (flatten_files instance table r h) (flatten_files instance table s g);
+  recheck = λ instance table plan bytes r s h g. one_report instance table (of_plan plan bytes) r s (recheck_files instance table plan bytes r h) (recheck_files instance table plan bytes s g);
 }
 
 -- a certificate that is checked or renewed

@@ -1,5 +1,5 @@
 -- A check of what a search wrote ends as the search.
-use Rattle.std.proofs.Common.{◌≡◌, ◌⊎◌, ◌∙◌, ℕ, true, List, [], ◌∷◌, Option, Some, All, ap, inl, inr, refl, sym, subst}
+use Rattle.std.proofs.Common.{◌≡◌, ◌⊎◌, ◌∙◌, ℕ, true, List, Option, Some, All, ap, inl, inr, refl, sym, subst}
 use Rattle.std.specs.Prelude.{IfSome}
 use Rattle.hw_model.specs.Limits.{IsFlat}
 use Rattle.hw_model.specs.Problem.{Problem, shape_of}
@@ -23,7 +23,6 @@ use Rattle.hw_command.specs.Certificates.{cert_outcome}
 use Rattle.hw_command.specs.Certified.{SolveLines, IsCertificate, head_verdict}
 use Rattle.hw_command.specs.Statuses.{status_of, status_of_head, status_of_verdict}
 use Rattle.hw_command.specs.Values.{IsTextOf, IsPortOf}
-use Rattle.hw_command.specs.declared.outcome.CertOutcome.{CertOutcome}
 use Rattle.hw_command.specs.declared.outcome.CertOutcome.TheVariants.{Shows}
 use Rattle.hw_command.specs.declared.status.Status.{Status}
 use Rattle.hw_command.proofs.Meanings.{port_means}

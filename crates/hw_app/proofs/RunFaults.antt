@@ -1,5 +1,5 @@
 -- Faults of a run have their causes.
-use Rattle.std.proofs.Common.{◌≡◌, ℕ, List, Result, Ok, Err}
+use Rattle.std.proofs.Common.{◌≡◌, ℕ, Result, Ok, Err}
 use Rattle.hw_desk.specs.State.{DeskState}
 use Rattle.hw_report.specs.Reports.{bad_words}
 use Rattle.hw_command.specs.Causes.{FaultsCaused}

@@ -8,7 +8,7 @@ use Rattle.hw_port.specs.Whole.{Parts}
 use Rattle.hw_tide.specs.Levels.{TideParts}
 use Rattle.hw_port_rules.specs.Alike.{IsSameProblem}
 use Rattle.hw_port_rules.specs.Flattened.{flattened}
-use Rattle.hw_report.specs.Reports.{Report, flattened_text}
+use Rattle.hw_report.specs.Reports.{Report, whole_text}
 use Rattle.hw_command.specs.Carries.{Task, one_report}
 use Rattle.hw_command.specs.PortInputs.{NoPort}
 use Rattle.hw_command.specs.Scope.{named}
@@ -30,7 +30,7 @@ pub record Flattens (instance table : Option (List ℕ)) (text : List ℕ) : Typ
 -- what a report says of the instance and of the table, each where it is told
 abbrev pub FlattensTexts : Option (List ℕ) → Option (List ℕ) → Option Report → Type 0
 FlattensTexts instance table None = ⊥
-FlattensTexts instance table (Some (flattened_text text)) = Flattens instance table text
+FlattensTexts instance table (Some (whole_text text)) = Flattens instance table text
 FlattensTexts instance table (Some r) = NoPort instance table r
 
 abbrev pub FlattenSays : List ℕ → List ℕ → DeskState → Option Report → Type 0

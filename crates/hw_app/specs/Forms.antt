@@ -4,20 +4,26 @@ use Rattle.std.specs.List.{slice_index_or}
 use Rattle.hw_desk.specs.declared.desk.Feed.TheVariants as feed
 use Rattle.hw_text.specs.Numbers.{number_from_to}
 use Rattle.hw_command.specs.Budgets.{most_budget}
+use Rattle.hw_crew_command.specs.Orders.{order_read}
 use Rattle.hw_app.specs.Demo.{most_ships, most_slots}
 use Rattle.hw_app.specs.declared.form.Form.{Form}
-use Rattle.hw_app.specs.declared.form.Form.TheVariants.{SolveFlat, SolvePort, CheckFlat, CheckPort, RenewFlat, RenewPort, Flatten, Demo}
+use Rattle.hw_app.specs.declared.form.Form.TheVariants.{SolveFlat, SolvePort, CheckFlat, CheckPort, RenewFlat, RenewPort, CrewFlat, CrewPort, RepairFlat, RepairPort, CheckRepair, CheckRepairPort, ClashFlat, ClashPort, CheckClash, CheckClashPort, ExplainPort, AuditPort, Flatten, Demo}
 use Rattle.hw_app.specs.declared.form.Keyword.{Keyword as KeywordOf}
 use Rattle.hw_app.specs.declared.form.Keyword.TheVariants as key
 use Rattle.hw_app.specs.declared.form.Quantity.{Quantity}
 use Rattle.hw_app.specs.declared.form.Quantity.TheVariants as counts
 use Rattle.hw_app.specs.declared.form.Wanted.{Wanted}
-use Rattle.hw_app.specs.declared.form.Wanted.TheVariants.{Keyword, Input, Proof, Number}
+use Rattle.hw_app.specs.declared.form.Wanted.TheVariants.{Keyword, Input, Proof, Order, Number}
 
 abbrev pub keyword_text : KeywordOf → List ℕ
 keyword_text key.Solve = codes "solve"
 keyword_text key.Check = codes "check"
 keyword_text key.Renew = codes "renew"
+keyword_text key.Crew = codes "crew"
+keyword_text key.Repair = codes "repair"
+keyword_text key.Clash = codes "clash"
+keyword_text key.Explain = codes "explain"
+keyword_text key.Audit = codes "audit"
 keyword_text key.Flat = codes "flat"
 keyword_text key.Port = codes "port"
 keyword_text key.Flatten = codes "flatten"
@@ -25,7 +31,7 @@ keyword_text key.Demo = codes "demo"
 
 -- the forms that there are
 abbrev pub forms : List Form
-forms = SolveFlat ∷ SolvePort ∷ CheckFlat ∷ CheckPort ∷ RenewFlat ∷ RenewPort ∷ Flatten ∷ Demo ∷ []
+forms = SolveFlat ∷ SolvePort ∷ CheckFlat ∷ CheckPort ∷ RenewFlat ∷ RenewPort ∷ CrewFlat ∷ CrewPort ∷ RepairFlat ∷ RepairPort ∷ CheckRepair ∷ CheckRepairPort ∷ ClashFlat ∷ ClashPort ∷ CheckClash ∷ CheckClashPort ∷ ExplainPort ∷ AuditPort ∷ Flatten ∷ Demo ∷ []
 
 -- the limits of a number
 abbrev pub least_of : Quantity → ℕ
@@ -48,14 +54,27 @@ words_of CheckFlat = Keyword key.Check ∷ Keyword key.Flat ∷ Input feed.Flat 
 words_of CheckPort = Keyword key.Check ∷ Keyword key.Port ∷ Input feed.Instance ∷ Input feed.Tides ∷ Input feed.Certificate ∷ []
 words_of RenewFlat = Keyword key.Renew ∷ Keyword key.Flat ∷ Input feed.Flat ∷ Input feed.Certificate ∷ Proof ∷ []
 words_of RenewPort = Keyword key.Renew ∷ Keyword key.Port ∷ Input feed.Instance ∷ Input feed.Tides ∷ Input feed.Certificate ∷ Proof ∷ []
+words_of CrewFlat = Keyword key.Crew ∷ Keyword key.Flat ∷ Input feed.Flat ∷ Order ∷ Number counts.Budget ∷ Proof ∷ []
+words_of CrewPort = Keyword key.Crew ∷ Keyword key.Port ∷ Input feed.Instance ∷ Input feed.Tides ∷ Order ∷ Number counts.Budget ∷ Proof ∷ []
+words_of RepairFlat = Keyword key.Repair ∷ Keyword key.Flat ∷ Input feed.Flat ∷ Input feed.Plan ∷ Number counts.Budget ∷ Proof ∷ []
+words_of RepairPort = Keyword key.Repair ∷ Keyword key.Port ∷ Input feed.Instance ∷ Input feed.Tides ∷ Input feed.Plan ∷ Number counts.Budget ∷ Proof ∷ []
+words_of CheckRepair = Keyword key.Check ∷ Keyword key.Repair ∷ Input feed.Flat ∷ Input feed.Plan ∷ Input feed.Certificate ∷ []
+words_of CheckRepairPort = Keyword key.Check ∷ Keyword key.Repair ∷ Keyword key.Port ∷ Input feed.Instance ∷ Input feed.Tides ∷ Input feed.Plan ∷ Input feed.Certificate ∷ []
+words_of ClashFlat = Keyword key.Clash ∷ Keyword key.Flat ∷ Input feed.Flat ∷ Number counts.Budget ∷ Proof ∷ []
+words_of ClashPort = Keyword key.Clash ∷ Keyword key.Port ∷ Input feed.Instance ∷ Input feed.Tides ∷ Number counts.Budget ∷ Proof ∷ []
+words_of CheckClash = Keyword key.Check ∷ Keyword key.Clash ∷ Input feed.Flat ∷ Input feed.Plan ∷ Input feed.Certificate ∷ []
+words_of CheckClashPort = Keyword key.Check ∷ Keyword key.Clash ∷ Keyword key.Port ∷ Input feed.Instance ∷ Input feed.Tides ∷ Input feed.Plan ∷ Input feed.Certificate ∷ []
+words_of ExplainPort = Keyword key.Explain ∷ Keyword key.Port ∷ Input feed.Instance ∷ Input feed.Tides ∷ []
+words_of AuditPort = Keyword key.Audit ∷ Keyword key.Port ∷ Input feed.Instance ∷ Input feed.Tides ∷ Input feed.Plan ∷ Input feed.Events ∷ []
 words_of Flatten = Keyword key.Flatten ∷ Input feed.Instance ∷ Input feed.Tides ∷ []
 words_of Demo = Keyword key.Demo ∷ Number counts.Demonstration ∷ Number counts.Ships ∷ Number counts.Slots ∷ Number counts.Budget ∷ Proof ∷ []
 
--- a keyword is itself, a name any word that isn't empty, and a number one in plain decimal within its limits
+-- a keyword is itself, a name any word that isn't empty, an order 1 to 64 letters of searchers, and a number one in plain decimal within its limits
 abbrev pub takes : Wanted → List ℕ → Bool
 takes (Keyword keyword) word = bytes_eq word (keyword_text keyword)
 takes (Input feed) word = nat_lt 0 (length word)
 takes Proof word = nat_lt 0 (length word)
+takes Order word = is_some (order_read word)
 takes (Number quantity) word = is_some (number_from_to (least_of quantity) (most_of quantity) word)
 
 -- how many of the words, from the first on, are what is wanted

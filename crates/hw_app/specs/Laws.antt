@@ -18,6 +18,7 @@ use Rattle.hw_port_rules.specs.Flattened.{flattened}
 use Rattle.hw_report.specs.Reports.{Report}
 use Rattle.hw_command.specs.Causes.{FaultsCaused}
 use Rattle.hw_command.specs.Certificates.{cert_outcome}
+use Rattle.hw_repair_command.specs.CheckRepairPort.{RechecksPort}
 use Rattle.hw_app.specs.CheckFlat.{Checks}
 use Rattle.hw_app.specs.CheckPort.{ChecksPortTexts}
 use Rattle.hw_app.specs.Flattening.{FlattensTexts}
@@ -65,10 +66,11 @@ RenewedCertificate = (f : Problem) (all : List Line) → IsFlat f → All (LineF
 abbrev pub OneReport : (Report → Type 0) → Type 0
 OneReport Says = (r s : Report) → Says r → Says s → r ≡ s
 
--- the files' bytes decide what is reported of a port's certificate, and of a port's flat text, but for a failed call and want of memory
+-- the files' bytes decide what is reported of a port's certificate, of a port's flat text, and of a certificate of the repair of a port's plan, but for a failed call and want of memory
 pub record OnePortReport : Type 0 where
   pub check : (instance table cert : List ℕ) → OneReport (λ r. ChecksPortTexts (Some instance) (Some table) (Some cert) (Some r))
   pub flatten : (instance table : List ℕ) → OneReport (λ r. FlattensTexts (Some instance) (Some table) (Some r))
+  pub recheck : (instance table plan cert : List ℕ) → OneReport (RechecksPort (Some instance) (Some table) (Some plan) (Some cert))
 
 -- a run of `renew flat` over some desk says this report of a text and a certificate of these bytes
 pub record RenewalOfFlat (text cert : List ℕ) (r : Report) : Type 0 where

@@ -11,3 +11,4 @@ pub mod Usage
 pub mod Commands
 pub mod Run
 pub mod Laws
+pub mod LawsOfClashes

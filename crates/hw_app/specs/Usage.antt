@@ -7,7 +7,7 @@ use Rattle.hw_app.specs.declared.form.Form.{Form}
 use Rattle.hw_app.specs.declared.form.Quantity.{Quantity}
 use Rattle.hw_app.specs.declared.form.Quantity.TheVariants as counts
 use Rattle.hw_app.specs.declared.form.Wanted.{Wanted}
-use Rattle.hw_app.specs.declared.form.Wanted.TheVariants.{Keyword, Input, Proof, Number}
+use Rattle.hw_app.specs.declared.form.Wanted.TheVariants.{Keyword, Input, Proof, Order, Number}
 
 abbrev pub input_text : Feed → List ℕ
 input_text feeds.Flat = codes "NAME"
@@ -28,6 +28,7 @@ abbrev pub wanted_text : Wanted → List ℕ
 wanted_text (Keyword keyword) = keyword_text keyword
 wanted_text (Input feed) = input_text feed
 wanted_text Proof = codes "PROOF"
+wanted_text Order = codes "ORDER"
 wanted_text (Number quantity) = quantity_text quantity
 
 -- with a space between two

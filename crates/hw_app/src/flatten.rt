@@ -4,7 +4,7 @@ ghost use Rattle.std.specs.Prelude.{◌≡◌, IfOk};
 ghost use Rattle.hw_desk.specs.State.{IsNew};
 ghost use Rattle.hw_flat.specs.TextWritten.{IsWritable, problem_text};
 ghost use Rattle.hw_report.specs.Printing.{CanPrint};
-ghost use Rattle.hw_report.specs.Reports.{flattened_text};
+ghost use Rattle.hw_report.specs.Reports.{whole_text};
 ghost use Rattle.hw_report.specs.Seen.{report_seen};
 ghost use Rattle.hw_command.specs.Carries.{Carries};
 ghost use Rattle.hw_app.specs.Flattening.{flatten_task};
@@ -44,8 +44,8 @@ fn flat_text(alloc: Global, flat: &Flat) -> Result<Vec<u8>, NoMemory>
 
 /// The report that is a flat text.
 fn flat_report(text: &[u8]) -> Report
-    ensures value { report_seen result ≡ flattened_text text.now }
+    ensures value { report_seen result ≡ whole_text text.now }
     ensures printed { CanPrint (report_seen result) }
 {
-    Report::FlatText { text }
+    Report::WholeText { text }
 }

@@ -21,6 +21,30 @@ pub enum Form {
     RenewFlat,
     /// `renew port INSTANCE TIDES CERT PROOF` checks a certificate of a port and writes it again, with deletions.
     RenewPort,
+    /// `crew flat NAME ORDER BUDGET PROOF` lets searchers take turns on a flat text, in ORDER, up to BUDGET lemmas.
+    CrewFlat,
+    /// `crew port INSTANCE TIDES ORDER BUDGET PROOF` lets searchers take turns on a port, in ORDER, up to BUDGET lemmas.
+    CrewPort,
+    /// `repair flat NAME PLAN BUDGET PROOF` searches for a best repair of a plan of a flat text, up to BUDGET lemmas.
+    RepairFlat,
+    /// `repair port INSTANCE TIDES PLAN BUDGET PROOF` searches for a best repair of a plan of a port, up to BUDGET lemmas.
+    RepairPort,
+    /// `check repair NAME PLAN CERT` checks a certificate of the repair of a plan.
+    CheckRepair,
+    /// `check repair port INSTANCE TIDES PLAN CERT` checks a certificate of the repair of a port's plan.
+    CheckRepairPort,
+    /// `clash flat NAME BUDGET PROOF` searches for the restrictions of a flat text that can't be met together, up to BUDGET lemmas a step.
+    ClashFlat,
+    /// `clash port INSTANCE TIDES BUDGET PROOF` searches for the restrictions of a port that can't be met together, up to BUDGET lemmas a step.
+    ClashPort,
+    /// `check clash NAME PLAN CERT` checks a clash of a flat text, with its certificate.
+    CheckClash,
+    /// `check clash port INSTANCE TIDES PLAN CERT` checks a clash of a port, with its certificate.
+    CheckClashPort,
+    /// `explain port INSTANCE TIDES` tells each restriction of a port in the port's own words.
+    ExplainPort,
+    /// `audit port INSTANCE TIDES PLAN EVENTS` watches a timetable of a port through events.
+    AuditPort,
     /// `flatten INSTANCE TIDES` writes the flat text of a port.
     Flatten,
     /// `demo NUMBER SHIPS SLOTS BUDGET PROOF` draws a problem, solves it and checks its certificate.
@@ -33,6 +57,11 @@ pub enum Keyword {
     Solve,
     Check,
     Renew,
+    Crew,
+    Repair,
+    Clash,
+    Explain,
+    Audit,
     Flat,
     Port,
     Flatten,
@@ -60,18 +89,32 @@ pub enum Wanted {
     Input(Feed),
     /// The name under which the proof is made.
     Proof,
+    /// The letters of the searchers of a crew, in the order of their turns.
+    Order,
     /// A number in plain decimal within the limits of what it counts.
     Number(Quantity),
 }
 
 /// The forms that there are.
-pub const FORMS: [Form; 8] = [
+pub const FORMS: [Form; 20] = [
     Form::SolveFlat,
     Form::SolvePort,
     Form::CheckFlat,
     Form::CheckPort,
     Form::RenewFlat,
     Form::RenewPort,
+    Form::CrewFlat,
+    Form::CrewPort,
+    Form::RepairFlat,
+    Form::RepairPort,
+    Form::CheckRepair,
+    Form::CheckRepairPort,
+    Form::ClashFlat,
+    Form::ClashPort,
+    Form::CheckClash,
+    Form::CheckClashPort,
+    Form::ExplainPort,
+    Form::AuditPort,
     Form::Flatten,
     Form::Demo,
 ];
@@ -87,6 +130,16 @@ const SOLVE: Wanted = Wanted::Keyword(Keyword::Solve);
 const CHECK: Wanted = Wanted::Keyword(Keyword::Check);
 
 const RENEW: Wanted = Wanted::Keyword(Keyword::Renew);
+
+const CREW: Wanted = Wanted::Keyword(Keyword::Crew);
+
+const REPAIR: Wanted = Wanted::Keyword(Keyword::Repair);
+
+const CLASH: Wanted = Wanted::Keyword(Keyword::Clash);
+
+const EXPLAIN: Wanted = Wanted::Keyword(Keyword::Explain);
+
+const AUDIT: Wanted = Wanted::Keyword(Keyword::Audit);
 
 const FLAT: Wanted = Wanted::Keyword(Keyword::Flat);
 
@@ -104,7 +157,13 @@ const TIDES: Wanted = Wanted::Input(Feed::Tides);
 
 const CERT: Wanted = Wanted::Input(Feed::Certificate);
 
+const PLAN: Wanted = Wanted::Input(Feed::Plan);
+
+const EVENTS: Wanted = Wanted::Input(Feed::Events);
+
 const PROOF: Wanted = Wanted::Proof;
+
+const ORDER: Wanted = Wanted::Order;
 
 const NUMBER: Wanted = Wanted::Number(Quantity::Demonstration);
 
@@ -125,6 +184,18 @@ pub fn words_of(form: Form) -> &'static [Wanted]
         Form::CheckPort => &[CHECK, PORT, INSTANCE, TIDES, CERT],
         Form::RenewFlat => &[RENEW, FLAT, NAME, CERT, PROOF],
         Form::RenewPort => &[RENEW, PORT, INSTANCE, TIDES, CERT, PROOF],
+        Form::CrewFlat => &[CREW, FLAT, NAME, ORDER, BUDGET, PROOF],
+        Form::CrewPort => &[CREW, PORT, INSTANCE, TIDES, ORDER, BUDGET, PROOF],
+        Form::RepairFlat => &[REPAIR, FLAT, NAME, PLAN, BUDGET, PROOF],
+        Form::RepairPort => &[REPAIR, PORT, INSTANCE, TIDES, PLAN, BUDGET, PROOF],
+        Form::CheckRepair => &[CHECK, REPAIR, NAME, PLAN, CERT],
+        Form::CheckRepairPort => &[CHECK, REPAIR, PORT, INSTANCE, TIDES, PLAN, CERT],
+        Form::ClashFlat => &[CLASH, FLAT, NAME, BUDGET, PROOF],
+        Form::ClashPort => &[CLASH, PORT, INSTANCE, TIDES, BUDGET, PROOF],
+        Form::CheckClash => &[CHECK, CLASH, NAME, PLAN, CERT],
+        Form::CheckClashPort => &[CHECK, CLASH, PORT, INSTANCE, TIDES, PLAN, CERT],
+        Form::ExplainPort => &[EXPLAIN, PORT, INSTANCE, TIDES],
+        Form::AuditPort => &[AUDIT, PORT, INSTANCE, TIDES, PLAN, EVENTS],
         Form::Flatten => &[FLATTEN, INSTANCE, TIDES],
         Form::Demo => &[DEMO, NUMBER, SHIPS, SLOTS, BUDGET, PROOF],
     }
@@ -138,6 +209,11 @@ pub fn keyword_text(keyword: Keyword) -> &'static str
         Keyword::Solve => "solve",
         Keyword::Check => "check",
         Keyword::Renew => "renew",
+        Keyword::Crew => "crew",
+        Keyword::Repair => "repair",
+        Keyword::Clash => "clash",
+        Keyword::Explain => "explain",
+        Keyword::Audit => "audit",
         Keyword::Flat => "flat",
         Keyword::Port => "port",
         Keyword::Flatten => "flatten",

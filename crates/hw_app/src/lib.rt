@@ -7,6 +7,7 @@
 mod calm;
 mod check_flat;
 mod check_port;
+mod clash_laws;
 mod command;
 mod demo;
 mod flatten;
@@ -21,6 +22,7 @@ mod usage;
 mod words;
 
 pub use calm::run_calm;
+pub use clash_laws::{one_clash_report, own_clash};
 pub use form::{FORMS, Form};
 pub use hw_command::Status;
 pub use laws::{

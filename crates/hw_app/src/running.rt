@@ -15,8 +15,12 @@ use crate::renew_port::renew_port;
 use crate::solve_flat::solve_flat;
 use crate::solve_port::solve_port;
 use crate::words::read_command;
+use hw_audit_command::audit_port;
+use hw_clash_command::{check_clash, check_clash_port, clash_flat, clash_port, explain_port};
 use hw_command::{Status, finish};
+use hw_crew_command::{crew_flat, crew_port};
 use hw_desk::Desk;
+use hw_repair_command::{check_repair, check_repair_port, repair_flat, repair_port};
 use hw_report::Report;
 use std::alloc::Global;
 
@@ -46,6 +50,50 @@ pub fn run<D: Desk>(alloc: Global, words: &[String], desk: &mut D) -> Status
         Command::CheckPort { port, cert } => check_port(alloc, desk, port, cert),
         Command::RenewFlat { name, cert, proof } => renew_flat(alloc, desk, name, cert, proof),
         Command::RenewPort { port, cert, proof } => renew_port(alloc, desk, port, cert, proof),
+        Command::CrewFlat {
+            name,
+            order,
+            budget,
+            proof,
+        } => crew_flat(alloc, desk, name, &order, budget, proof),
+        Command::CrewPort {
+            port,
+            order,
+            budget,
+            proof,
+        } => crew_port(alloc, desk, port, &order, budget, proof),
+        Command::RepairFlat {
+            name,
+            plan,
+            budget,
+            proof,
+        } => repair_flat(alloc, desk, name, plan, budget, proof),
+        Command::RepairPort {
+            port,
+            plan,
+            budget,
+            proof,
+        } => repair_port(alloc, desk, port, plan, budget, proof),
+        Command::CheckRepair { name, plan, cert } => check_repair(alloc, desk, name, plan, cert),
+        Command::CheckRepairPort { port, plan, cert } => check_repair_port(
+            alloc, desk, port, plan, cert,
+        ),
+        Command::ClashFlat {
+            name,
+            budget,
+            proof,
+        } => clash_flat(alloc, desk, name, budget, proof),
+        Command::ClashPort {
+            port,
+            budget,
+            proof,
+        } => clash_port(alloc, desk, port, budget, proof),
+        Command::CheckClash { name, plan, cert } => check_clash(alloc, desk, name, plan, cert),
+        Command::CheckClashPort { port, plan, cert } => check_clash_port(
+            alloc, desk, port, plan, cert,
+        ),
+        Command::ExplainPort { port } => explain_port(alloc, desk, port),
+        Command::AuditPort { port, plan, events } => audit_port(alloc, desk, port, plan, events),
         Command::Flatten { port } => flatten_port(alloc, desk, port),
         Command::Demo {
             draw,

@@ -36,6 +36,7 @@ fn wanted_text(wanted: Wanted) -> &'static str
         Wanted::Keyword(keyword) => keyword_text(keyword),
         Wanted::Input(feed) => input_text(feed),
         Wanted::Proof => "PROOF",
+        Wanted::Order => "ORDER",
         Wanted::Number(quantity) => quantity_text(quantity),
     }
 }

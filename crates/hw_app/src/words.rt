@@ -1,6 +1,7 @@
 //! The words of the command line, read by the table of forms.
 
 ghost use Rattle.std.specs.Prelude.{◌≡◌, ◌≤◌, ◌<◌, ◌+◌, ◌^◌, IfOk, length, map, string_bytes};
+ghost use Rattle.hw_crew_command.specs.Orders.{order_in};
 ghost use Rattle.hw_app.specs.Commands.{KeepsLimits, command_in, command_of, command_seen, read_seen};
 ghost use Rattle.hw_app.specs.Demo.{CanDraw};
 ghost use Rattle.hw_app.specs.Forms.{agreed, first_fitting, form_of, furthest, least_of, most_of, number_in, takes, word_at};
@@ -9,6 +10,8 @@ use crate::command::Command;
 use crate::demo::Draw;
 use crate::form::{FORMS, Form, Quantity, Wanted, keyword_text, least_of, most_of, words_of};
 use hw_command::PortNames;
+use hw_crew_command::Order;
+use hw_search::Branching;
 use hw_text::read_small;
 
 /// Whether a word is what is wanted.
@@ -18,6 +21,7 @@ fn takes(wanted: Wanted, word: &str) -> bool
     match wanted {
         Wanted::Keyword(keyword) => word == keyword_text(keyword),
         Wanted::Input(_) | Wanted::Proof => !word.is_empty(),
+        Wanted::Order => Order::read(word).is_some(),
         Wanted::Number(quantity) => {
             read_small(word.as_bytes(), least_of(quantity), most_of(quantity)).is_some()
         }
@@ -128,6 +132,68 @@ fn command_in(form: Form, words: &[String]) -> Command<'_>
             cert: name_at(words, 4),
             proof: name_at(words, 5),
         },
+        Form::CrewFlat => Command::CrewFlat {
+            name: name_at(words, 2),
+            order: order_at(words, 3),
+            budget: number_at(words, 4, Quantity::Budget),
+            proof: name_at(words, 5),
+        },
+        Form::CrewPort => Command::CrewPort {
+            port: port_at(words, 2),
+            order: order_at(words, 4),
+            budget: number_at(words, 5, Quantity::Budget),
+            proof: name_at(words, 6),
+        },
+        Form::RepairFlat => Command::RepairFlat {
+            name: name_at(words, 2),
+            plan: name_at(words, 3),
+            budget: number_at(words, 4, Quantity::Budget),
+            proof: name_at(words, 5),
+        },
+        Form::RepairPort => Command::RepairPort {
+            port: port_at(words, 2),
+            plan: name_at(words, 4),
+            budget: number_at(words, 5, Quantity::Budget),
+            proof: name_at(words, 6),
+        },
+        Form::CheckRepair => Command::CheckRepair {
+            name: name_at(words, 2),
+            plan: name_at(words, 3),
+            cert: name_at(words, 4),
+        },
+        Form::CheckRepairPort => Command::CheckRepairPort {
+            port: port_at(words, 3),
+            plan: name_at(words, 5),
+            cert: name_at(words, 6),
+        },
+        Form::ClashFlat => Command::ClashFlat {
+            name: name_at(words, 2),
+            budget: number_at(words, 3, Quantity::Budget),
+            proof: name_at(words, 4),
+        },
+        Form::ClashPort => Command::ClashPort {
+            port: port_at(words, 2),
+            budget: number_at(words, 4, Quantity::Budget),
+            proof: name_at(words, 5),
+        },
+        Form::CheckClash => Command::CheckClash {
+            name: name_at(words, 2),
+            plan: name_at(words, 3),
+            cert: name_at(words, 4),
+        },
+        Form::CheckClashPort => Command::CheckClashPort {
+            port: port_at(words, 3),
+            plan: name_at(words, 5),
+            cert: name_at(words, 6),
+        },
+        Form::ExplainPort => Command::ExplainPort {
+            port: port_at(words, 2),
+        },
+        Form::AuditPort => Command::AuditPort {
+            port: port_at(words, 2),
+            plan: name_at(words, 4),
+            events: name_at(words, 5),
+        },
         Form::Flatten => Command::Flatten {
             port: port_at(words, 1),
         },
@@ -158,6 +224,16 @@ fn port_at(words: &[String], place: usize) -> PortNames<'_>
     PortNames {
         instance: name_at(words, place),
         tides: name_at(words, place + 1),
+    }
+}
+
+/// The order at a place. It is one searcher with Greatest where there is no such word, or another word.
+fn order_at(words: &[String], place: usize) -> Order
+    ensures { result ≡ order_in (word_at (map string_bytes words.now) place) }
+{
+    match Order::read(name_at(words, place)) {
+        Some(order) => order,
+        None => Order::one(Branching::Greatest),
     }
 }
 

@@ -3,7 +3,7 @@ use Rattle.std.specs.Prelude.{ℕ, List, [], ◌∷◌, ◌++◌, ◌||◌, Opti
 use Rattle.hw_app.specs.Forms.{forms}
 use Rattle.hw_app.specs.Usage.{usage}
 use Rattle.hw_app.specs.declared.form.Form.{Form}
-use Rattle.hw_app.specs.declared.form.Form.TheVariants.{SolveFlat, SolvePort, CheckFlat, CheckPort, RenewFlat, RenewPort, Flatten, Demo}
+use Rattle.hw_app.specs.declared.form.Form.TheVariants.{SolveFlat, SolvePort, CheckFlat, CheckPort, RenewFlat, RenewPort, CrewFlat, CrewPort, RepairFlat, RepairPort, CheckRepair, CheckRepairPort, ClashFlat, ClashPort, CheckClash, CheckClashPort, ExplainPort, AuditPort, Flatten, Demo}
 use Rattle.tidewise.specs.declared.info.Info.{Info}
 use Rattle.tidewise.specs.declared.info.Info.TheVariants.{Help, Version}
 use Rattle.tidewise.specs.declared.help.TheConstants.{HEAD, TAIL}
@@ -30,6 +30,18 @@ purpose_of CheckFlat = codes "says what a certificate shows of a flat text, or i
 purpose_of CheckPort = codes "says what a certificate shows of a port, or its first bad line"
 purpose_of RenewFlat = codes "checks a certificate of a flat text, and writes a leaner one to PROOF"
 purpose_of RenewPort = codes "checks a certificate of a port, and writes a leaner one to PROOF"
+purpose_of CrewFlat = codes "lets searchers take turns on a flat text, and writes a certificate to PROOF"
+purpose_of CrewPort = codes "lets searchers take turns on a port, and writes a certificate to PROOF"
+purpose_of RepairFlat = codes "looks for a best repair of a plan, with the fewest ships moved"
+purpose_of RepairPort = codes "looks for a best repair of a port's plan, with the fewest ships moved"
+purpose_of CheckRepair = codes "says what a certificate shows of a plan's repair, or its first bad line"
+purpose_of CheckRepairPort = codes "says what a certificate shows of the repair of a port's plan"
+purpose_of ClashFlat = codes "lists restrictions that can't be met together, none of which can be left out"
+purpose_of ClashPort = codes "the same for a port, whose restrictions `explain port` tells by their numbers"
+purpose_of CheckClash = codes "says whether the restrictions that a clash lists can't be met together"
+purpose_of CheckClashPort = codes "the same for a port"
+purpose_of ExplainPort = codes "tells each restriction of a port by its number, in the port's own words"
+purpose_of AuditPort = codes "tells after each event which restrictions a port's plan breaks"
 purpose_of Flatten = codes "prints the flat text of a port"
 purpose_of Demo = codes "draws a problem by NUMBER, solves it, and checks its own certificate"
 

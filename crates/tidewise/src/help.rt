@@ -45,6 +45,24 @@ pub fn purpose_of(form: Form) -> &'static str
         Form::CheckPort => "says what a certificate shows of a port, or its first bad line",
         Form::RenewFlat => "checks a certificate of a flat text, and writes a leaner one to PROOF",
         Form::RenewPort => "checks a certificate of a port, and writes a leaner one to PROOF",
+        Form::CrewFlat =>
+            "lets searchers take turns on a flat text, and writes a certificate to PROOF",
+        Form::CrewPort => "lets searchers take turns on a port, and writes a certificate to PROOF",
+        Form::RepairFlat => "looks for a best repair of a plan, with the fewest ships moved",
+        Form::RepairPort => "looks for a best repair of a port's plan, with the fewest ships moved",
+        Form::CheckRepair =>
+            "says what a certificate shows of a plan's repair, or its first bad line",
+        Form::CheckRepairPort => "says what a certificate shows of the repair of a port's plan",
+        Form::ClashFlat =>
+            "lists restrictions that can't be met together, none of which can be left out",
+        Form::ClashPort =>
+            "the same for a port, whose restrictions `explain port` tells by their numbers",
+        Form::CheckClash =>
+            "says whether the restrictions that a clash lists can't be met together",
+        Form::CheckClashPort => "the same for a port",
+        Form::ExplainPort =>
+            "tells each restriction of a port by its number, in the port's own words",
+        Form::AuditPort => "tells after each event which restrictions a port's plan breaks",
         Form::Flatten => "prints the flat text of a port",
         Form::Demo => "draws a problem by NUMBER, solves it, and checks its own certificate",
     }

@@ -88,14 +88,26 @@ const RUNS: [(&str, u8); 21] = [
     ("solve port host-port host-tides 9 host-proof", 0),
 ];
 
+/// Lines of a day that goes otherwise: plans, clashes and events are files too.
+const DAYS: [(&str, u8); 7] = [
+    ("crew flat host-two eg 109 host-proof", 0),
+    ("repair flat host-two host-plan 109 host-proof", 0),
+    ("check repair host-two host-plan host-proof", 0),
+    ("clash flat host-none 109 host-proof", 1),
+    ("check clash host-none host-plan host-proof", 4),
+    ("audit port host-port host-tides host-table host-events", 0),
+    ("explain port host-port host-tides", 0),
+];
+
 /// Lines whose PROOF is an input, by its name, by another way to it, and by links; and that input.
-const SLIPS: [(&str, &str); 11] = [
+const SLIPS: [(&str, &str); 12] = [
     ("solve flat host-two 109 host-two", "host-two"),
     ("solve flat host-two 109 ./host-two", "host-two"),
     ("solve flat host-two 109 host-soft", "host-two"),
     ("solve flat host-soft 109 host-two", "host-two"),
     ("solve flat host-hard 109 host-two", "host-two"),
     ("renew flat host-two host-cert host-cert", "host-cert"),
+    ("repair flat host-two host-plan 9 host-plan", "host-plan"),
     ("renew flat host-two host-cert host-two", "host-two"),
     ("solve port host-port host-tides 9 host-port", "host-port"),
     ("solve port host-port host-tides 9 host-tides", "host-tides"),
@@ -109,14 +121,23 @@ const SLIPS: [(&str, &str); 11] = [
     ),
 ];
 
-/// Files for the lines, and their names.
+/// Files for the lines, by their names.
+const FILES: [(&str, &str); 8] = [
+    ("host-two", TWO),
+    ("host-none", NONE),
+    ("host-cert", "cert 1\n"),
+    ("host-port", PORT),
+    ("host-tides", TIDES),
+    ("host-plan", "plan 1\nk 2\no 2 0\nend\n"),
+    ("host-table", "table 1\nt 0\n"),
+    ("host-events", "events 1\nw 3\nend\n"),
+];
+
 fn make_files(rt: &HostRuntime) -> Result<(), Fail> {
-    fs::write(rt, "host-two", TWO)?;
-    fs::write(rt, "host-none", NONE)?;
+    for (name, text) in FILES {
+        fs::write(rt, name, text)?;
+    }
     fs::write(rt, "host-long", long_certificate(rt)?.as_slice())?;
-    fs::write(rt, "host-cert", "cert 1\n")?;
-    fs::write(rt, "host-port", PORT)?;
-    fs::write(rt, "host-tides", TIDES)?;
     Ok(())
 }
 
@@ -124,6 +145,15 @@ fn make_files(rt: &HostRuntime) -> Result<(), Fail> {
 fn ends_over_files(rt: HostRuntime) -> Result<(), Fail> {
     make_files(&rt)?;
     for (line, code) in RUNS {
+        assert_eq!(rt; ended(&rt, line)?, ExitCode::from(code), "{line}");
+    }
+    Ok(())
+}
+
+#[test]
+fn a_day_goes_otherwise_over_files(rt: HostRuntime) -> Result<(), Fail> {
+    make_files(&rt)?;
+    for (line, code) in DAYS {
         assert_eq!(rt; ended(&rt, line)?, ExitCode::from(code), "{line}");
     }
     Ok(())
@@ -153,13 +183,25 @@ fn printed(rt: &HostRuntime, line: &str) -> Result<(ExitCode, String), Fail> {
 }
 
 /// The commands, as the help lists them.
-const COMMANDS: [&str; 10] = [
+const COMMANDS: [&str; 22] = [
     "solve flat NAME BUDGET PROOF",
     "solve port INSTANCE TIDES BUDGET PROOF",
     "check flat NAME CERT",
     "check port INSTANCE TIDES CERT",
     "renew flat NAME CERT PROOF",
     "renew port INSTANCE TIDES CERT PROOF",
+    "crew flat NAME ORDER BUDGET PROOF",
+    "crew port INSTANCE TIDES ORDER BUDGET PROOF",
+    "repair flat NAME PLAN BUDGET PROOF",
+    "repair port INSTANCE TIDES PLAN BUDGET PROOF",
+    "check repair NAME PLAN CERT",
+    "check repair port INSTANCE TIDES PLAN CERT",
+    "clash flat NAME BUDGET PROOF",
+    "clash port INSTANCE TIDES BUDGET PROOF",
+    "check clash NAME PLAN CERT",
+    "check clash port INSTANCE TIDES PLAN CERT",
+    "explain port INSTANCE TIDES",
+    "audit port INSTANCE TIDES PLAN EVENTS",
     "flatten INSTANCE TIDES",
     "demo NUMBER SHIPS SLOTS BUDGET PROOF",
     "--help, -h",
