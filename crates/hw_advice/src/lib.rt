@@ -1,0 +1,8 @@
+//! What prices advise a search: a clause more, where its sources and lemmas are quiet.
+//!
+//! It is found by the same trying and loosening as the clause of a source.
+#![tactic(auto)]
+
+mod pricing;
+
+pub use pricing::{ByPrices, find_priced};

@@ -1,0 +1,237 @@
+//! The best balance of each ship under a tariff, and those of all ships together.
+ghost use Rattle.std.specs.Prelude.{◌≡◌, ℕ, ◌+◌, ◌*◌, ◌<◌, ◌≤◌, length, All, IfSome, unwrap_or, option_map, slice_index};
+ghost use Rattle.hw_model.specs.Limits.{IsFlat};
+ghost use Rattle.hw_model.specs.Rooms.{RoomFits};
+ghost use Rattle.hw_tolls.specs.Tolls.{IsToll};
+ghost use Rattle.hw_tolls.specs.Prices.{TariffFits};
+ghost use Rattle.hw_tolls.specs.Computed as computed;
+ghost use Rattle.hw_tolls.specs.Computed.{BalanceFits};
+
+use crate::charging::charge;
+use crate::taking::pays;
+use hw_flat::{Flat, Room, ShipId, Slot};
+use hw_tolls::{Balance, Block, Tariff, Toll};
+
+/// The balance of a ship in a slot, or none where it has no value there. Each due costs one look
+/// at its toll's blocks or jobs.
+pub fn balance(
+    flat: &Flat,
+    tolls: &[Toll],
+    tariff: &Tariff,
+    ship: ShipId,
+    slot: Slot,
+) -> Option<Balance>
+    requires tolls { All (IsToll flat.now) tolls.now }
+    requires fits { TariffFits (length tolls.now) tariff.now }
+    requires ship_in { ship < flat.now.ships }
+    requires slot_in { slot < flat.now.slots }
+    ensures value { result ≡ computed.balance flat.now tolls.now tariff.now ship slot }
+    ensures small { IfSome result (BalanceFits 1) }
+{
+    match flat.value(ship, slot) {
+        None => None,
+        Some(value) => Some(Balance {
+            gain: scaled(tariff.scale, value),
+            cost: pays(flat, tolls, &tariff.dues.items, ship, slot),
+        }),
+    }
+}
+
+/// A value, in tenths of a tonne, as parts.
+fn scaled(scale: u32, value: u64) -> u128
+    requires small_scale { scale ≤ 1_000_000 }
+    requires small_value { value ≤ 1_000_000_000_000 }
+    ensures value { result ≡ scale * value }
+    ensures small { result ≤ 1_000_000_000_000_000_000 }
+{
+    u128::from(scale) * u128::from(value)
+}
+
+/// The first of two balances, unless the second is better.
+pub fn better(first: Option<Balance>, second: Option<Balance>) -> Option<Balance>
+    requires small_first { IfSome first (BalanceFits 1) }
+    requires small_second { IfSome second (BalanceFits 1) }
+    ensures value { result ≡ computed.better first second }
+    ensures small { IfSome result (BalanceFits 1) }
+{
+    match (first, second) {
+        (None, _) => second,
+        (Some(_), None) => first,
+        (Some(a), Some(b)) => {
+            if a.gain + b.cost < b.gain + a.cost {
+                second
+            } else {
+                first
+            }
+        }
+    }
+}
+
+/// The best balance of a ship in a range of its slots, or none where it has no value there.
+///
+/// Each slot of the range costs one look at each due's blocks or jobs.
+pub fn best_balance(flat: &Flat, tolls: &[Toll], tariff: &Tariff, range: Block) -> Option<Balance>
+    requires tolls { All (IsToll flat.now) tolls.now }
+    requires fits { TariffFits (length tolls.now) tariff.now }
+    requires ship_in { range.ship < flat.now.ships }
+    requires slot_in { range.high < flat.now.slots }
+    ensures value { result ≡ computed.best_balance flat.now tolls.now tariff.now range.ship range.low range.high }
+    ensures small { IfSome result (BalanceFits 1) }
+{
+    let mut most: Option<Balance> = None;
+    for slot in range.low..behind(flat, range.high) {
+        most = better(most, balance(flat, tolls, tariff, range.ship, slot));
+    }
+    most
+}
+
+/// The same by costs, one for each slot of the problem, which are overwritten.
+///
+/// Each due costs one look at its toll's blocks or jobs, and a step for each slot of the range that
+/// they charge.
+pub fn best_charged(
+    flat: &Flat,
+    tolls: &[Toll],
+    tariff: &Tariff,
+    range: Block,
+    costs: &mut [u128],
+) -> Option<Balance>
+    requires tolls { All (IsToll flat.now) tolls.now }
+    requires fits { TariffFits (length tolls.now) tariff.now }
+    requires ship_in { range.ship < flat.now.ships }
+    requires slot_in { range.high < flat.now.slots }
+    requires each_slot { length costs.old ≡ flat.now.slots }
+    ensures value { result ≡ computed.best_balance flat.now tolls.now tariff.now range.ship range.low range.high }
+    ensures small { IfSome result (BalanceFits 1) }
+{
+    charge(costs, flat, tolls, &tariff.dues.items, range);
+    best_by_costs(flat, tolls, tariff, range, costs)
+}
+
+/// The same by what the ship pays in the slots of the range.
+fn best_by_costs(
+    flat: &Flat,
+    tolls: &[Toll],
+    tariff: &Tariff,
+    range: Block,
+    costs: &[u128],
+) -> Option<Balance>
+    requires fits { TariffFits (length tolls.now) tariff.now }
+    requires ship_in { range.ship < flat.now.ships }
+    requires slot_in { range.high < flat.now.slots }
+    requires each_slot { length costs.now ≡ flat.now.slots }
+    requires told { (k : ℕ) → range.low ≤ k → k ≤ range.high → slice_index costs.now k ≡ computed.pays flat.now tolls.now tariff.now.dues range.ship k }
+    requires small { All (λ c. c ≤ 256_000_000_000_000_000_000_000_000) costs.now }
+    ensures value { result ≡ computed.best_balance flat.now tolls.now tariff.now range.ship range.low range.high }
+    ensures small { IfSome result (BalanceFits 1) }
+{
+    let _tolls = tolls;
+    let mut most: Option<Balance> = None;
+    for slot in range.low..behind(flat, range.high) {
+        let next = costed(
+            tariff.scale,
+            flat.value(range.ship, slot),
+            costs[slot as usize],
+        );
+        most = better(most, next);
+    }
+    most
+}
+
+/// The balance of a value and what is paid, or none without a value.
+fn costed(scale: u32, value: Option<u64>, cost: u128) -> Option<Balance>
+    requires small_scale { scale ≤ 1_000_000 }
+    requires small_value { unwrap_or value 0 ≤ 1_000_000_000_000 }
+    requires small_cost { cost ≤ 256_000_000_000_000_000_000_000_000 }
+    ensures value { result ≡ option_map (λ v. record { gain = scale * v; cost = cost }) value }
+    ensures small { IfSome result (BalanceFits 1) }
+{
+    match value {
+        None => None,
+        Some(value) => Some(Balance {
+            gain: scaled(scale, value),
+            cost,
+        }),
+    }
+}
+
+/// The number behind a slot.
+fn behind(flat: &Flat, slot: Slot) -> Slot
+    requires slot_in { slot < flat.now.slots }
+    ensures value { result ≡ slot + 1 }
+    ensures in_slots { result ≤ flat.now.slots }
+{
+    let _slots = flat.shape();
+    slot + 1
+}
+
+/// Two balances together, or none where one is wanting.
+fn together(sum: Option<Balance>, next: Option<Balance>) -> Option<Balance>
+    requires small_sum { IfSome sum (BalanceFits 39) }
+    requires small_next { IfSome next (BalanceFits 1) }
+    ensures value { result ≡ computed.together sum next }
+    ensures parts { (ships : ℕ) → IfSome sum (BalanceFits ships) → IfSome result (BalanceFits (ships + 1)) }
+{
+    match (sum, next) {
+        (Some(sum), Some(next)) => Some(Balance {
+            gain: sum.gain + next.gain,
+            cost: sum.cost + next.cost,
+        }),
+        (None, _) | (Some(_), None) => None,
+    }
+}
+
+/// The ships' best balances in their ranges together, or none where a ship has no value in its
+/// range.
+///
+/// Each slot of the ranges costs one look at each due's blocks or jobs.
+pub fn best_balances(flat: &Flat, tolls: &[Toll], tariff: &Tariff, room: &Room) -> Option<Balance>
+    requires tolls { All (IsToll flat.now) tolls.now }
+    requires fits { TariffFits (length tolls.now) tariff.now }
+    requires room { RoomFits flat.now room.now }
+    ensures value { result ≡ computed.best_balances flat.now tolls.now tariff.now room.now }
+    ensures small { IfSome result (BalanceFits 40) }
+    ensures limits { IsFlat flat.now }
+{
+    let mut sum: Option<Balance> = Some(Balance { gain: 0, cost: 0 });
+    for ship in 0..flat.shape().ships {
+        let range = Block {
+            ship,
+            low: room.low(ship),
+            high: room.high(ship),
+        };
+        sum = together(sum, best_balance(flat, tolls, tariff, range));
+    }
+    sum
+}
+
+/// The same by costs, one for each slot of the problem, which are overwritten.
+///
+/// Each due costs one look at its toll's blocks or jobs for each ship, and a step for each slot of
+/// the ranges that they charge.
+pub fn charged_balances(
+    flat: &Flat,
+    tolls: &[Toll],
+    tariff: &Tariff,
+    room: &Room,
+    costs: &mut [u128],
+) -> Option<Balance>
+    requires tolls { All (IsToll flat.now) tolls.now }
+    requires fits { TariffFits (length tolls.now) tariff.now }
+    requires room { RoomFits flat.now room.now }
+    requires each_slot { length costs.old ≡ flat.now.slots }
+    ensures value { result ≡ computed.best_balances flat.now tolls.now tariff.now room.now }
+    ensures small { IfSome result (BalanceFits 40) }
+    ensures limits { IsFlat flat.now }
+{
+    let mut sum: Option<Balance> = Some(Balance { gain: 0, cost: 0 });
+    for ship in 0..flat.shape().ships {
+        let range = Block {
+            ship,
+            low: room.low(ship),
+            high: room.high(ship),
+        };
+        sum = together(sum, best_charged(flat, tolls, tariff, range, costs));
+    }
+    sum
+}

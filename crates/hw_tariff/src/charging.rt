@@ -1,0 +1,174 @@
+//! What a ship pays in each slot of a range, for all of these slots at once.
+ghost use Rattle.std.specs.Prelude.{◌≡◌, ℕ, ◌+◌, ◌*◌, ◌<◌, ◌≤◌, ◌&&◌, nat_le, nat_lt, if◌then◌else◌, length, map, sum_by, All, Some, slice_index};
+ghost use Rattle.hw_model.specs.Limits.{RuleFits, JobFits};
+ghost use Rattle.hw_tolls.specs.Tolls.{IsToll, WeighsUpTo, lies_in, block_charge, job_charge, job_charges, rule_charges};
+ghost use Rattle.hw_tolls.specs.Prices.{DueFits};
+ghost use Rattle.hw_tolls.specs.Computed as computed;
+
+use hw_flat::{Flat, Slot};
+use hw_model::{Job, Rule};
+use hw_tolls::{Block, Charge, Due, Toll};
+
+/// A ship's slots that are charged, and the price of a unit.
+#[derive(Clone, Copy)]
+struct Span {
+    range: Block,
+    price: u64,
+}
+
+/// Adds so much to the costs of the slots from `from` on and below `to`.
+fn add(costs: &mut [u128], from: usize, to: usize, amount: u128)
+    requires inside { to ≤ length costs.old }
+    requires small { All (λ c. c ≤ 1_000_000_000_000_000_000_000_000_000) costs.old }
+    requires small_amount { amount ≤ 64_000_000_000_000_000_000 }
+    ensures value { (k : ℕ) → slice_index costs.new k ≡ slice_index costs.old k + (if nat_le from k && nat_lt k to then amount else 0) }
+{
+    for k in from..to {
+        costs[k] += amount;
+    }
+}
+
+/// Adds what the ship pays in its slots for a charge.
+fn charge_one(costs: &mut [u128], span: Span, charge: Charge)
+    requires inside { span.range.high < length costs.old }
+    requires small { All (λ c. c ≤ 1_000_000_000_000_000_000_000_000_000) costs.old }
+    requires small_price { span.price ≤ 1_000_000_000_000_000_000 }
+    requires small_amount { charge.amount ≤ 64 }
+    ensures value { (k : ℕ) → slice_index costs.new k ≡ slice_index costs.old k + (if lies_in span.range.low span.range.high k then span.price * computed.takes span.range.ship k charge else 0) }
+{
+    if charge.ship == span.range.ship {
+        let from = span.range.low.max(charge.low);
+        let to = span.range.high.min(charge.high);
+        let amount = u128::from(span.price) * u128::from(charge.amount);
+        add(costs, from as usize, to as usize + 1, amount);
+    }
+}
+
+/// Adds what the ship pays in its slots for blocks.
+fn charge_blocks(costs: &mut [u128], span: Span, blocks: &[Block])
+    requires inside { span.range.high < length costs.old }
+    requires small { All (λ c. c ≤ 256_000_000_000_000_000_000_000_000) costs.old }
+    requires small_price { span.price ≤ 1_000_000_000_000_000_000 }
+    requires few { length blocks.now ≤ 40 }
+    ensures value { (k : ℕ) → slice_index costs.new k ≡ slice_index costs.old k + (if lies_in span.range.low span.range.high k then span.price * sum_by (computed.takes span.range.ship k) (map block_charge blocks.now) else 0) }
+{
+    for block in blocks {
+        charge_one(costs, span, charge_of(*block));
+    }
+}
+
+/// The charge of a block.
+fn charge_of(block: Block) -> Charge
+    ensures value { result ≡ block_charge block }
+{
+    Charge {
+        ship: block.ship,
+        low: block.low,
+        high: block.high,
+        amount: 1,
+    }
+}
+
+/// Adds what the ship pays in its slots for jobs with their weights.
+fn charge_jobs(costs: &mut [u128], span: Span, jobs: &[Job], weights: &[u32], busy: Slot)
+    requires inside { span.range.high < length costs.old }
+    requires small { All (λ c. c ≤ 256_000_000_000_000_000_000_000_000) costs.old }
+    requires small_price { span.price ≤ 1_000_000_000_000_000_000 }
+    requires few { length jobs.now ≤ 40 }
+    requires each_job { length weights.now ≡ length jobs.now }
+    requires fit { All (JobFits 40) jobs.now }
+    requires small_weights { All (λ weight. weight ≤ 64) weights.now }
+    requires in_slots { busy ≤ 512 }
+    ensures value { (k : ℕ) → slice_index costs.new k ≡ slice_index costs.old k + (if lies_in span.range.low span.range.high k then span.price * sum_by (computed.takes span.range.ship k) (job_charges busy weights.now jobs.now) else 0) }
+{
+    for (place, job) in jobs.iter().enumerate() {
+        charge_one(costs, span, charge_for(*job, weights[place], busy));
+    }
+}
+
+/// The charge of a job with its weight, in a slot.
+fn charge_for(job: Job, weight: u32, busy: Slot) -> Charge
+    requires in_slots { busy ≤ 512 }
+    ensures value { result ≡ job_charge busy weight job }
+{
+    Charge {
+        ship: job.ship,
+        low: (busy + 1).saturating_sub(job.hold),
+        high: busy,
+        amount: weight,
+    }
+}
+
+/// Adds what the ship pays in its slots for a rule's jobs; other rules have none.
+fn charge_rule(costs: &mut [u128], span: Span, rule: &Rule, weights: &[u32], busy: Slot)
+    requires inside { span.range.high < length costs.old }
+    requires small { All (λ c. c ≤ 256_000_000_000_000_000_000_000_000) costs.old }
+    requires small_price { span.price ≤ 1_000_000_000_000_000_000 }
+    requires fits { RuleFits 40 rule.now }
+    requires weighed { WeighsUpTo weights.now 2_560 rule.now }
+    requires small_weights { All (λ weight. weight ≤ 64) weights.now }
+    requires in_slots { busy ≤ 512 }
+    ensures value { (k : ℕ) → slice_index costs.new k ≡ slice_index costs.old k + (if lies_in span.range.low span.range.high k then span.price * sum_by (computed.takes span.range.ship k) (rule_charges busy weights.now (Some rule.now)) else 0) }
+{
+    match rule {
+        Rule::Pair { .. } | Rule::After { .. } => {}
+        Rule::Tugs { jobs, .. } => charge_jobs(costs, span, &jobs.items, weights, busy),
+    }
+}
+
+/// Adds what the ship pays in its slots for a toll.
+fn charge_toll(costs: &mut [u128], span: Span, flat: &Flat, toll: &Toll)
+    requires inside { span.range.high < length costs.old }
+    requires small { All (λ c. c ≤ 256_000_000_000_000_000_000_000_000) costs.old }
+    requires small_price { span.price ≤ 1_000_000_000_000_000_000 }
+    requires toll { IsToll flat.now toll.now }
+    ensures value { (k : ℕ) → slice_index costs.new k ≡ slice_index costs.old k + (if lies_in span.range.low span.range.high k then span.price * computed.takes_at flat.now (Some toll.now) span.range.ship k else 0) }
+{
+    match toll {
+        Toll::Narrows { blocks } => charge_blocks(costs, span, &blocks.items),
+        Toll::Tugs {
+            place,
+            slot,
+            weights,
+            ..
+        } => charge_rule(
+            costs,
+            span,
+            &flat.rules()[*place as usize],
+            &weights.items,
+            *slot,
+        ),
+    }
+}
+
+/// Writes what a ship pays in each slot of a range into that slot's cost, and 0 into all others.
+///
+/// Each due costs one look at its toll's blocks or jobs, and a step for each slot of the range that
+/// they charge.
+pub fn charge(costs: &mut [u128], flat: &Flat, tolls: &[Toll], dues: &[Due], range: Block)
+    requires inside { range.high < length costs.old }
+    requires tolls { All (IsToll flat.now) tolls.now }
+    requires few { length dues.now ≤ 100_000 }
+    requires fit { All (DueFits (length tolls.now)) dues.now }
+    ensures value { (k : ℕ) → slice_index costs.new k ≡ (if lies_in range.low range.high k then computed.pays flat.now tolls.now dues.now range.ship k else 0) }
+    ensures small { All (λ c. c ≤ 256_000_000_000_000_000_000_000_000) costs.new }
+{
+    let _shape = flat.shape();
+    clear(costs);
+    for due in dues {
+        let span = Span {
+            range,
+            price: due.price,
+        };
+        charge_toll(costs, span, flat, &tolls[due.toll as usize]);
+    }
+}
+
+/// Sets each cost to 0.
+fn clear(costs: &mut [u128])
+    ensures value { (k : ℕ) → slice_index costs.new k ≡ 0 }
+{
+    for cost in costs.iter_mut() {
+        *cost = 0;
+    }
+}

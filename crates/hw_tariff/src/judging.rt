@@ -1,0 +1,217 @@
+//! Whether a toll is one of a problem.
+ghost use Rattle.std.specs.Prelude.{◌≡◌, ◌↔◌, ℕ, ◌<◌, ◌≤◌, length, All, AllPairs, IfOk, IsTrue, None};
+ghost use Rattle.hw_model.specs.declared.source.Source.TheVariants as sources;
+ghost use Rattle.hw_model.specs.Limits.{RuleFits};
+ghost use Rattle.hw_model.specs.Refuting.{Refutes};
+ghost use Rattle.hw_tolls.specs.Tolls.{IsToll, WeighsUpTo, Weigh, BlockFits, Apart, NarrowsFit, TugsTollFits, two_blocks};
+
+use crate::weighing::heaviest;
+use hw_flat::{Flat, Room, Slot, Source};
+use hw_model::{Job, NoMemory, Rule};
+use hw_rules::refuted;
+use hw_tolls::{Block, Toll};
+use std::alloc::Global;
+
+/// Whether the toll is one of the problem: narrows of which each two blocks are apart, or tugs of a
+/// rule on tugs in a slot of the horizon, with a weight for each job, so that jobs which the fleet
+/// can serve together weigh no more than is said.
+///
+/// For narrows each rule may be asked about each two blocks, and a room's memory is taken. For tugs
+/// it costs what [`heaviest`] does. An error says that there was no memory.
+pub fn is_toll(alloc: Global, flat: &Flat, toll: &Toll) -> Result<bool, NoMemory>
+    ensures value { IfOk result (λ yes. IsTrue yes ↔ IsToll flat.now toll.now) }
+{
+    match toll {
+        Toll::Narrows { blocks } => narrows_fit(alloc, flat, &blocks.items),
+        Toll::Tugs {
+            place,
+            slot,
+            weights,
+            most,
+        } => tugs_fit(alloc, flat, *place, *slot, &weights.items, *most),
+    }
+}
+
+/// Whether the weights of the rule at a place are a toll in a slot.
+fn tugs_fit(
+    alloc: Global,
+    flat: &Flat,
+    place: u32,
+    slot: Slot,
+    weights: &[u32],
+    most: u32,
+) -> Result<bool, NoMemory>
+    ensures value { IfOk result (λ yes. IsTrue yes ↔ TugsTollFits flat.now place slot weights.now most) }
+{
+    if flat.shape().rules <= place
+        || flat.horizon() <= slot
+        || 2_560 < most
+        || !are_small(weights)
+    {
+        return Ok(false);
+    }
+    weighs_up_to(alloc, &flat.rules()[place as usize], weights, most)
+}
+
+/// Whether each weight is within its limit.
+fn are_small(weights: &[u32]) -> bool
+    ensures value { IsTrue result ↔ All (λ weight. weight ≤ 64) weights.now }
+{
+    weights.iter().all(|weight| *weight <= 64)
+}
+
+/// Whether the rule is one on tugs, and the jobs that its fleet can serve together weigh at most so
+/// much.
+fn weighs_up_to(alloc: Global, rule: &Rule, weights: &[u32], most: u32) -> Result<bool, NoMemory>
+    requires fits { RuleFits 40 rule.now }
+    requires small { All (λ weight. weight ≤ 64) weights.now }
+    ensures value { IfOk result (λ yes. IsTrue yes ↔ WeighsUpTo weights.now most rule.now) }
+{
+    match rule {
+        Rule::Pair { .. } | Rule::After { .. } => Ok(false),
+        Rule::Tugs { fleet, jobs } => jobs_weigh(alloc, *fleet, &jobs.items, weights, most),
+    }
+}
+
+/// Whether there is a weight for each job, and jobs that the fleet can serve together weigh at most
+/// so much.
+fn jobs_weigh(
+    alloc: Global,
+    fleet: u32,
+    jobs: &[Job],
+    weights: &[u32],
+    most: u32,
+) -> Result<bool, NoMemory>
+    requires few { length jobs.now ≤ 40 }
+    requires small { All (λ weight. weight ≤ 64) weights.now }
+    requires small_fleet { fleet ≤ 1_000 }
+    ensures value { IfOk result (λ yes. IsTrue yes ↔ Weigh fleet jobs.now weights.now most) }
+{
+    if weights.len() != jobs.len() {
+        return Ok(false);
+    }
+    let heaviest = heaviest(alloc, weights, jobs, fleet)?;
+    Ok(heaviest <= most)
+}
+
+/// Whether there are 1 to 40 blocks, each two of them apart.
+fn narrows_fit(alloc: Global, flat: &Flat, blocks: &[Block]) -> Result<bool, NoMemory>
+    ensures value { IfOk result (λ yes. IsTrue yes ↔ NarrowsFit flat.now blocks.now) }
+{
+    let mut room = Room::whole(alloc, flat.shape())?;
+    Ok(blocks_fit(flat, blocks, &mut room))
+}
+
+/// The same by a room of the problem's size, which serves to try them.
+fn blocks_fit(flat: &Flat, blocks: &[Block], room: &mut Room) -> bool
+    requires ships { room.old.ships ≡ flat.now.ships }
+    requires slots { room.old.slots ≡ flat.now.slots }
+    ensures value { IsTrue result ↔ NarrowsFit flat.now blocks.now }
+{
+    if blocks.is_empty() {
+        return false;
+    }
+    if 40 < blocks.len() {
+        return false;
+    }
+    if !each_fits(flat, blocks) {
+        return false;
+    }
+    all_apart(flat, blocks, room)
+}
+
+/// Whether each block is one of the problem.
+fn each_fits(flat: &Flat, blocks: &[Block]) -> bool
+    ensures value { IsTrue result ↔ All (BlockFits flat.now) blocks.now }
+{
+    for block in blocks {
+        if !block_fits(flat, *block) {
+            return false;
+        }
+    }
+    true
+}
+
+/// Whether a block is of one of the ships, not empty, and of the problem's slots.
+fn block_fits(flat: &Flat, block: Block) -> bool
+    ensures value { IsTrue result ↔ BlockFits flat.now block }
+{
+    let shape = flat.shape();
+    block.ship < shape.ships && block.low <= block.high && block.high < shape.slots
+}
+
+/// Whether each two of these blocks are apart. The room serves to try them.
+fn all_apart(flat: &Flat, blocks: &[Block], room: &mut Room) -> bool
+    requires fit { All (BlockFits flat.now) blocks.now }
+    requires ships { room.old.ships ≡ flat.now.ships }
+    requires slots { room.old.slots ≡ flat.now.slots }
+    ensures value { IsTrue result ↔ AllPairs (Apart flat.now) blocks.now }
+{
+    for (place, block) in blocks.iter().enumerate() {
+        if !apart_from_earlier(flat, &blocks[..place], *block, room) {
+            return false;
+        }
+    }
+    true
+}
+
+/// Whether each of the blocks is apart from a later one.
+fn apart_from_earlier(flat: &Flat, earlier: &[Block], block: Block, room: &mut Room) -> bool
+    requires fit { All (BlockFits flat.now) earlier.now }
+    requires block_fits { BlockFits flat.now block }
+    requires ships { room.old.ships ≡ flat.now.ships }
+    requires slots { room.old.slots ≡ flat.now.slots }
+    ensures value { IsTrue result ↔ All (λ first. Apart flat.now first block) earlier.now }
+    ensures ships { room.new.ships ≡ flat.now.ships }
+    ensures slots { room.new.slots ≡ flat.now.slots }
+{
+    for first in earlier {
+        if !apart(flat, *first, block, room) {
+            return false;
+        }
+    }
+    true
+}
+
+/// Whether two blocks are of ascending ships, and some rule refutes that both ships lie in theirs.
+fn apart(flat: &Flat, first: Block, second: Block, room: &mut Room) -> bool
+    requires first_fits { BlockFits flat.now first }
+    requires second_fits { BlockFits flat.now second }
+    requires ships { room.old.ships ≡ flat.now.ships }
+    requires slots { room.old.slots ≡ flat.now.slots }
+    ensures value { IsTrue result ↔ Apart flat.now first second }
+    ensures ships { room.new.ships ≡ flat.now.ships }
+    ensures slots { room.new.slots ≡ flat.now.slots }
+{
+    set_blocks(flat, first, second, room);
+    first.ship < second.ship && some_rule_refutes(flat, room)
+}
+
+/// Leaves all open but the two blocks.
+fn set_blocks(flat: &Flat, first: Block, second: Block, room: &mut Room)
+    requires first_fits { BlockFits flat.now first }
+    requires second_fits { BlockFits flat.now second }
+    requires ships { room.old.ships ≡ flat.now.ships }
+    requires slots { room.old.slots ≡ flat.now.slots }
+    ensures value { room.new ≡ two_blocks flat.now first second }
+{
+    let _shape = flat.shape();
+    room.reset();
+    room.put(first.ship, first.low, first.high);
+    room.put(second.ship, second.low, second.high);
+}
+
+/// Whether some rule refutes the room.
+fn some_rule_refutes(flat: &Flat, room: &Room) -> bool
+    requires ships { room.now.ships ≡ flat.now.ships }
+    requires slots { room.now.slots ≡ flat.now.slots }
+    ensures value { IsTrue result ↔ ((place : ℕ) × (place < length flat.now.rules) × Refutes flat.now (sources.Rule place) None room.now) }
+{
+    let _ships = room.ships();
+    for place in 0..flat.shape().rules {
+        if refuted(flat, Source::Rule { place }, None, room) {
+            return true;
+        }
+    }
+    false
+}

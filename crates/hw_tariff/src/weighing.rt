@@ -1,0 +1,72 @@
+//! The greatest weight of jobs that a fleet can serve together.
+ghost use Rattle.std.specs.Prelude.{◌≡◌, ℕ, ◌+◌, ◌-◌, ◌<◌, ◌≤◌, max, nat_le, if◌then◌else◌, length, All, IfOk, slice_index};
+ghost use Rattle.hw_tolls.specs.Tolls as tolls;
+
+use hw_model::{Job, NoMemory};
+use std::alloc::Global;
+
+/// The greatest weight of jobs that hold no more than so many tugs together.
+///
+/// It takes a step for each job and each number of tugs, and memory for two numbers of each number
+/// of tugs. An error says that there was none.
+pub fn heaviest(alloc: Global, weights: &[u32], jobs: &[Job], tugs: u32) -> Result<u32, NoMemory>
+    requires few { length jobs.now ≤ 40 }
+    requires each_job { length weights.now ≡ length jobs.now }
+    requires small { All (λ weight. weight ≤ 64) weights.now }
+    requires small_fleet { tugs ≤ 1_000 }
+    ensures value { IfOk result (λ most. most ≡ tolls.heaviest weights.now jobs.now tugs) }
+{
+    let most = heaviest_each(alloc, weights, jobs, tugs)?;
+    Ok(most[tugs as usize])
+}
+
+/// The same for each number of tugs up to this one.
+fn heaviest_each(
+    alloc: Global,
+    weights: &[u32],
+    jobs: &[Job],
+    tugs: u32,
+) -> Result<Vec<u32>, NoMemory>
+    requires few { length jobs.now ≤ 40 }
+    requires each_job { length weights.now ≡ length jobs.now }
+    requires small { All (λ weight. weight ≤ 64) weights.now }
+    requires small_fleet { tugs ≤ 1_000 }
+    ensures long { IfOk result (λ most. length most.items ≡ tugs + 1) }
+    ensures value { IfOk result (λ most. (k : ℕ) → k < tugs + 1 → slice_index most.items k ≡ tolls.heaviest weights.now jobs.now k) }
+{
+    let mut most = vec![in alloc; 0; tugs as usize + 1]?;
+    let mut left = jobs.len();
+    while left > 0 {
+        left -= 1;
+        most = with_job(alloc, weights[left], jobs[left].tugs, &most)?;
+    }
+    Ok(most)
+}
+
+/// The greatest weights for each number of tugs with one job more.
+fn with_job(alloc: Global, weight: u32, tugs: u32, most: &[u32]) -> Result<Vec<u32>, NoMemory>
+    requires small_weight { weight ≤ 64 }
+    requires small { All (λ m. m ≤ 2_496) most.now }
+    ensures long { IfOk result (λ next. length next.items ≡ length most.now) }
+    ensures value { IfOk result (λ next. (k : ℕ) → k < length most.now → slice_index next.items k ≡ (if nat_le tugs k then max (slice_index most.now k) (weight + slice_index most.now (k - tugs)) else slice_index most.now k)) }
+{
+    let mut next = Vec::with_capacity(alloc, most.len())?;
+    for k in 0..most.len() {
+        next.push(heavier(weight, tugs as usize, most, k))?;
+    }
+    Ok(next)
+}
+
+/// The greater weight with one job more, or without it.
+fn heavier(weight: u32, tugs: usize, most: &[u32], k: usize) -> u32
+    requires small_weight { weight ≤ 64 }
+    requires small { All (λ m. m ≤ 2_496) most.now }
+    requires inside { k < length most.now }
+    ensures value { result ≡ (if nat_le tugs k then max (slice_index most.now k) (weight + slice_index most.now (k - tugs)) else slice_index most.now k) }
+{
+    if tugs <= k {
+        most[k].max(weight + most[k - tugs])
+    } else {
+        most[k]
+    }
+}

@@ -1,0 +1,17 @@
+//! Tolls: what every permitted timetable takes at most so much of, and prices on them.
+//!
+//! Where prices leave a room no more than the best, no permitted timetable inside carries more. The
+//! laws are public functions without a body whose clause is the statement.
+#![tactic(auto)]
+
+mod laws;
+mod tariff;
+mod toll;
+
+pub use laws::{
+    balance_changed, more_tolls, only_ranges, price_rows, prices_computed, prices_within,
+    rising_prices, sound_bound, sound_prices, teams_are_tolls, toll_kept, toll_usage, wider_prices,
+    without_dues,
+};
+pub use tariff::{Balance, Due, Dues, Tariff};
+pub use toll::{Block, Blocks, Charge, Toll, Weights};

@@ -1,0 +1,46 @@
+//! Prices on tolls, and what a ship gains and pays under them.
+
+use std::marker::Model;
+
+/// A price on a toll.
+#[derive(Clone, Copy, Debug, PartialEq, Eq)]
+pub struct Due {
+    /// The toll's place in a list, counted from 0.
+    pub toll: u32,
+    /// What one unit costs, at most 1,000,000,000,000,000,000 parts.
+    pub price: u64,
+}
+
+/// Dues, seen as their list.
+#[derive(Debug, Drop)]
+pub struct Dues {
+    pub items: Vec<Due>,
+}
+
+impl Model for Dues {
+    ghost use Rattle.std.specs.Prelude.{List};
+    ghost use Rattle.hw_tolls.specs.declared.tariff.Due.{Due};
+
+    ghost Value = { List Due };
+
+    ghost view = { λ s. s.items.items };
+}
+
+/// Prices on tolls, and the scale of their parts.
+#[derive(Debug, Drop)]
+pub struct Tariff {
+    /// How many parts make a tenth of a tonne, at most 1,000,000. With a scale of 0 cargo counts
+    /// nothing, and the tolls alone must refute.
+    pub scale: u32,
+    /// At most 100,000.
+    pub dues: Dues,
+}
+
+/// What ships gain in their slots, and what they pay there for what they take, both in parts.
+///
+/// There is no difference of the two, so no number is below 0: two balances are compared crosswise.
+#[derive(Clone, Copy, Debug, PartialEq, Eq)]
+pub struct Balance {
+    pub gain: u128,
+    pub cost: u128,
+}

@@ -1,0 +1,73 @@
+//! Tolls, and the charges of which they are made.
+
+use hw_model::{ShipId, Slot};
+use std::marker::Model;
+
+/// A range of slots of a ship, both ends taken in.
+#[derive(Clone, Copy, Debug, PartialEq, Eq)]
+pub struct Block {
+    pub ship: ShipId,
+    pub low: Slot,
+    pub high: Slot,
+}
+
+/// Blocks, seen as their list.
+#[derive(Debug, Drop)]
+pub struct Blocks {
+    pub items: Vec<Block>,
+}
+
+impl Model for Blocks {
+    ghost use Rattle.std.specs.Prelude.{List};
+    ghost use Rattle.hw_tolls.specs.declared.toll.Block.{Block};
+
+    ghost Value = { List Block };
+
+    ghost view = { λ s. s.items.items };
+}
+
+/// A weight for each job of a rule, seen as their list.
+#[derive(Debug, Drop)]
+pub struct Weights {
+    pub items: Vec<u32>,
+}
+
+impl Model for Weights {
+    ghost use Rattle.std.specs.Prelude.{List, ℕ};
+
+    ghost Value = { List ℕ };
+
+    ghost view = { λ s. s.items.items };
+}
+
+/// What every permitted timetable takes at most so much of.
+#[derive(Debug, Drop)]
+pub enum Toll {
+    /// At most one ship lies in its block: of each two blocks some rule of the problem refutes that
+    /// both ships lie in theirs. There are 1 to 40 blocks, of ascending ships.
+    Narrows {
+        blocks: Blocks,
+    },
+    /// The jobs of a rule on tugs that hold their tugs in one slot weigh at most so much together,
+    /// since any jobs that the fleet can serve together do. The tugs themselves are such weights,
+    /// and so are whole teams of tugs.
+    Tugs {
+        /// The rule's place among the rules of the problem, counted from 0.
+        place: u32,
+        /// A slot of the horizon.
+        slot: Slot,
+        /// At most 64 each.
+        weights: Weights,
+        /// At most 2,560.
+        most: u32,
+    },
+}
+
+/// So many units, which a ship takes where its slot lies in a range, both ends taken in.
+#[derive(Clone, Copy, Debug, PartialEq, Eq)]
+pub struct Charge {
+    pub ship: ShipId,
+    pub low: Slot,
+    pub high: Slot,
+    pub amount: u32,
+}
