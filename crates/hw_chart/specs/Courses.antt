@@ -1,0 +1,15 @@
+-- What a timetable says of a ship.
+use Rattle.std.specs.Prelude.{⊤, ◌<◌, ℕ, Option, Some, None, nat_lt, if◌then◌else◌}
+use Rattle.hw_chart.specs.declared.course.Course.{Course}
+use Rattle.hw_chart.specs.declared.course.Course.TheVariants.{Unplanned, Stays, Sails}
+
+-- a ship with this slot, where ships sail in so many slots
+abbrev pub course_of : Option ℕ → ℕ → Course
+course_of None slots = Unplanned
+course_of (Some slot) slots = if nat_lt slot slots then Sails slot else Stays
+
+-- if the ship sails, then before this slot
+abbrev pub SailsBefore : ℕ → Course → Type 0
+SailsBefore slots Unplanned = ⊤
+SailsBefore slots Stays = ⊤
+SailsBefore slots (Sails slot) = slot < slots

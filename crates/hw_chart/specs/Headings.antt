@@ -1,0 +1,33 @@
+-- The head of a picture: its title and ground, and what its colours say.
+use Rattle.std.specs.Prelude.{ℕ, ◌+◌, List, [], ◌∷◌, ◌++◌, codes}
+use Rattle.hw_lines.specs.declared.check.Verdict.{Verdict}
+use Rattle.hw_svg.specs.Joined.{joined}
+use Rattle.hw_svg.specs.Lettering.{line}
+use Rattle.hw_svg.specs.Shapes.{block}
+use Rattle.hw_svg.specs.Sheets.{picture_begin}
+use Rattle.hw_chart.specs.declared.style.TheConstants.{STYLE}
+use Rattle.hw_chart.specs.declared.heading.Entry.{Entry}
+use Rattle.hw_chart.specs.declared.outcome.CargoUnit.{CargoUnit}
+use Rattle.hw_chart.specs.Outcomes.{badge, meaning_text, title_text}
+
+-- the style sheet is one constant
+unfoldable pub style : List ℕ
+style = STYLE.now
+
+abbrev pub ground : ℕ → List ℕ
+ground height = block (codes "gr") (record { left = 0; right = 1280; top = 0; bottom = height })
+
+-- the title, what it means, and the sizes of the problem
+abbrev pub heading_lines : CargoUnit → Verdict → List ℕ → List ℕ
+heading_lines unit verdict sizes = joined (line (codes "h") 48 36 (title_text unit verdict) ∷ line (codes "m") 48 56 (meaning_text verdict) ∷ line (codes "m r") 1268 36 sizes ∷ [])
+
+abbrev pub heading : CargoUnit → Verdict → ℕ → List ℕ → List ℕ
+heading unit verdict height sizes = joined (picture_begin 1280 height (title_text unit verdict) ∷ style ∷ ground height ∷ badge verdict ∷ heading_lines unit verdict sizes ∷ [])
+
+-- an entry of the legend: a patch of a class, and what it says
+abbrev pub entry_text : Entry → List ℕ
+entry_text e = block e.class.now (record { left = e.x; right = e.x + 10; top = 77; bottom = 87 }) ++ line (codes "m") (e.x + 14) 86 e.says.now
+
+abbrev pub entries_text : List Entry → List ℕ
+entries_text [] = []
+entries_text (e ∷ es) = entry_text e ++ entries_text es

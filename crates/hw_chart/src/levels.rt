@@ -1,0 +1,74 @@
+//! Figures made of others.
+
+ghost use Rattle.std.specs.Prelude.{◌≡◌, ◌-◌, ◌≤◌, length};
+ghost use Rattle.hw_chart.specs.Figures.{full_level, greatest_level, move_level};
+
+use hw_svg::Levels;
+
+/// What a window shows that hangs from its top: in each slot how far an amount stays below the window's height.
+#[derive(Drop)]
+pub struct Rising<'l, L: Levels> {
+    pub amounts: &'l L,
+    pub tall: u64,
+}
+
+impl<L: Levels> Levels for Rising<'_, L> {
+    ghost level = { λ r slot. r.tall - L.level r.amounts.now slot };
+
+    ghost end = { λ r. L.end r.amounts.now };
+
+    fn level(&self, slot: u32) -> u64 {
+        self.tall.saturating_sub(self.amounts.level(slot))
+    }
+}
+
+/// The slots in which an amount is all that there is: the window from top to foot, and otherwise its foot alone.
+#[derive(Drop)]
+pub struct Full<'l, L: Levels> {
+    pub amounts: &'l L,
+    pub all: u64,
+    pub tall: u64,
+}
+
+impl<L: Levels> Levels for Full<'_, L> {
+    ghost level = { λ f slot. full_level f.all f.tall (L.level f.amounts.now slot) };
+
+    ghost end = { λ f. L.end f.amounts.now };
+
+    fn level(&self, slot: u32) -> u64 {
+        let amount = self.amounts.level(slot);
+        if amount == self.all && amount > 0 {
+            0
+        } else {
+            self.tall
+        }
+    }
+}
+
+/// The slots to which a ship alone could move: the top of the window, and otherwise its foot.
+#[derive(Drop)]
+pub struct Moves<'m> {
+    pub open: &'m [bool],
+}
+
+impl Levels for Moves<'_> {
+    ghost level = { λ m slot. move_level m.open.now slot };
+
+    ghost end = { λ m. length m.open.now };
+
+    fn level(&self, slot: u32) -> u64 {
+        if self.open[slot as usize] { 0 } else { 1 }
+    }
+}
+
+/// The greatest amount in the slots before an end, 0 where there is none.
+pub fn greatest<L: Levels>(amounts: &L, end: u32) -> u64
+    requires { end ≤ L.end amounts.now }
+    ensures { result ≡ greatest_level (L.level amounts.now) end }
+{
+    let mut most = 0;
+    for slot in 0..end {
+        most = amounts.level(slot).max(most);
+    }
+    most
+}

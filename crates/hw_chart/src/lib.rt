@@ -1,0 +1,26 @@
+//! What the pictures of plans have in common: a head that says what was proved, a legend, windows over slots, rows in the
+//! order of a timetable, panels of tugs, and a grid.
+#![tactic(auto)]
+
+mod course;
+mod grid;
+mod heading;
+mod layout;
+mod levels;
+mod outcome;
+mod panel;
+mod row;
+mod style;
+
+pub use course::{Course, course_at};
+pub use grid::{Axis, MINUTES, SLOTS, Scale, put_grid, put_span_end};
+pub use heading::{Entry, put_heading, put_legend};
+pub use layout::{place, plot, put_pin, put_stripe, rank};
+pub use levels::{Full, Moves, Rising, greatest};
+pub use outcome::{CargoUnit, cargo_piece, meaning, put_badge, title};
+pub use panel::{Panel, put_planned_panel, put_unplanned_panel};
+pub use row::{
+    Sailings, put_bar, put_bars_begin, put_moves_window, put_no_slot, put_sailing_mark,
+    put_sailing_steps, put_sailings_begin, put_stays,
+};
+pub use style::{STYLE, put_style};

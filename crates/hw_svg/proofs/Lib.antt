@@ -1,0 +1,6 @@
+pub mod Onward
+pub mod Digits
+pub mod Words
+pub mod Paths
+pub mod ReadBack
+pub mod Nested

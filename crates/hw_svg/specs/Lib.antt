@@ -1,0 +1,12 @@
+pub mod Joined
+pub mod Names
+pub mod Widths
+pub mod Numbers
+pub mod Pieces
+pub mod Shapes
+pub mod Figures
+pub mod Lettering
+pub mod Sheets
+pub mod Trees
+pub mod WellFormed
+pub mod Marks

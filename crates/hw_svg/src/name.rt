@@ -1,0 +1,63 @@
+//! Names as the text of an element.
+
+ghost use Rattle.std.specs.Prelude.{◌≡◌, nat_lt, sum_by};
+ghost use Rattle.hw_desk.specs.Writers.{Puts};
+ghost use Rattle.hw_svg.specs.Names.{byte_text, escaped};
+ghost use Rattle.hw_svg.specs.Widths.{advance, width_of};
+
+use hw_desk::Writer;
+
+/// Puts a byte of a name, spelled out where it is a mark of the text around it.
+#[tactic(auto, unfolding(crate::specs::Names::byte_text))]
+fn put_byte<W: Writer>(out: &mut W, byte: u8)
+    ensures { Puts (byte_text byte) (W.state out.old) (W.state out.new) }
+{
+    match byte {
+        38 => out.put(b"&amp;"),
+        60 => out.put(b"&lt;"),
+        62 => out.put(b"&gt;"),
+        34 => out.put(b"&quot;"),
+        39 => out.put(b"&#39;"),
+        _ => out.put(&[byte]),
+    }
+}
+
+/// Puts a name.
+pub fn put_name<W: Writer>(out: &mut W, name: &[u8])
+    ensures { Puts (escaped name.now) (W.state out.old) (W.state out.new) }
+{
+    for byte in name {
+        put_byte(out, *byte);
+    }
+}
+
+/// About how wide a byte is in the type of a name, hardly ever less.
+#[tactic(auto, unfolding(crate::specs::Widths::advance))]
+fn advance(byte: u8) -> u64
+    ensures { result ≡ advance byte }
+{
+    if b" !'()*,-./:;I[\\]`fijlrt{|}".contains(&byte) {
+        4
+    } else if b"%@MWmw".contains(&byte) {
+        12
+    } else if b"ABCDEFGHJKLNOPQRSTUVXYZ&+<=>~".contains(&byte) {
+        9
+    } else {
+        7
+    }
+}
+
+/// Whether a name may be wider than its place.
+pub fn is_wider(name: &[u8], place: u64) -> bool
+    ensures { result ≡ nat_lt place (width_of name.now) }
+{
+    let mut left = place;
+    for byte in name {
+        let width = advance(*byte);
+        if width > left {
+            return true;
+        }
+        left -= width;
+    }
+    false
+}
