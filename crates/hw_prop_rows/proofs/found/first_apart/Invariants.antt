@@ -1,4 +1,0 @@
-use Rattle.hw_prop_rows.proofs.found.first_apart.Given as goal
-
-abbrev pub invariant-loop-number : goal.invariant-loop-number
-invariant-loop-number g l = g.P.Propagator.serves l.propagator l.flat
