@@ -91,7 +91,7 @@ pub can_still : {t : Tray} {bytes : List ℕ} {x y : DeskState} → CanSend t x 
 can_still {t = Report} can h = refl
 can_still {t = Proof} can h = h.made ∙ can
 
--- one write more of a text, offered what is left of it
+-- one more write of a text, offered what is left of it
 pub one_write : {E : Type 0} {t : Tray} {x y z : DeskState} {n : ℕ} {rest : List ℕ} (text : List ℕ) (at : ℕ) → rest ≡ drop at text → at ≤ length text → Sends t (take at text) x y → Writes {E = E} t rest y z (Ok n) → Sends t (take (at + n) text) x z × (at + n ≤ length text)
 one_write {t = t} {x = x} {y = y} {z = z} {n = n} {rest = rest} text at e le h w =
     let part : Sends t (take n (drop at text)) y z = subst (λ (bytes : List ℕ). Sends t (take n bytes) y z) e w.sent in

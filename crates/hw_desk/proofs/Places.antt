@@ -1,4 +1,4 @@
--- One value for each feed: what a look at one shows behind a change of one.
+-- One value for each feed: what a look at one shows after a change of one.
 use Rattle.std.proofs.Common.{◌≡◌, cond, refl}
 use Rattle.hw_desk.specs.State.{FeedState, put_feed, same_feed}
 use Rattle.hw_desk.specs.Places.{place, with_place, map_feeds}
@@ -15,7 +15,7 @@ place_put v Certificate x = refl
 place_put v Plan x = refl
 place_put v Events x = refl
 
--- seen another way, the value of a feed is that value seen so
+-- where each value is seen another way, so is the value of a feed
 pub place_map : {A B : Type 0} (g : A → B) (v : Feeds A) (feed : Feed) → place (map_feeds g v) feed ≡ g (place v feed)
 place_map g v Flat = refl
 place_map g v Instance = refl

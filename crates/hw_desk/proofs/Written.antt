@@ -60,7 +60,7 @@ sends_nothing t s = record {
   sent = tells_nothing (s.trays t).sent;
 }
 
--- what waits was sent, and bytes behind it, or a write failed
+-- what waits was sent, and then bytes after it, or a write failed
 pub after_send : {E : Type 0} {t : Tray} {sent bytes : List ℕ} {start mid : DeskState} {now : WriterState} {r : Result Unit E} → Sends t sent start mid → mid.write_faults ≡ start.write_faults → SendsText t bytes mid now.desk r → now.tray ≡ t → now.waiting ≡ [] → now.spent ≡ is_err r → WasGiven (sent ++ bytes) start now
 after_send {t = t} {sent = sent} {bytes = bytes} {start = start} {mid = mid} {now = now} {r = Ok u} h faults k tray waiting spent = record {
   going = λ e. record {
@@ -191,7 +191,7 @@ flushed x y r answer borrow tray none spent stays sends = record {
           };
         }
 
--- a text that didn't fit beside the bytes that waited, behind them
+-- a text that didn't fit beside the waiting bytes goes after them
 pub flush_then_put : {E : Type 0} {text : List ℕ} {x y z : WriterState} {r : Result Unit E} → 8192 < length x.waiting + length text → Flushes x y r → Puts text y z → Puts text x z
 flush_then_put long f p = record {
   borrow = p.borrow ∙ f.borrow;

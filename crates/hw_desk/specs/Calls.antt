@@ -40,16 +40,19 @@ pub record Sends (tray : Tray) (bytes : List ℕ) (old new : DeskState) : Type 0
   pub named : (new.trays tray).name ≡ (old.trays tray).name
   pub sent : Tells (new.trays tray).sent (append_known (old.trays tray).sent bytes)
 
--- a failure has a cause: the count rose. An answer Ok leaves the count as it was
+-- a begin or read that failed has its cause: the count rose
 abbrev pub ReadCause : {T E : Type 0} → DeskState → DeskState → Result T E → Type 0
 ReadCause old new result = OnErr result (Rose old.read_faults new.read_faults)
 
+-- a make or write that failed has its cause: the count rose
 abbrev pub WriteCause : {T E : Type 0} → DeskState → DeskState → Result T E → Type 0
 WriteCause old new result = OnErr result (Rose old.write_faults new.write_faults)
 
+-- a begin or read that answers Ok leaves its count of faults as it was
 abbrev pub ReadKept : {T E : Type 0} → DeskState → DeskState → Result T E → Type 0
 ReadKept old new result = OnOk result (new.read_faults ≡ old.read_faults)
 
+-- the same of a make or write
 abbrev pub WriteKept : {T E : Type 0} → DeskState → DeskState → Result T E → Type 0
 WriteKept old new result = OnOk result (new.write_faults ≡ old.write_faults)
 
@@ -58,6 +61,8 @@ abbrev pub counted : {E : Type 0} → Result ℕ E → List ℕ → List ℕ
 counted (Ok n) bytes = take n bytes
 counted (Err e) bytes = []
 
+-- what a begin does: the feed is begun under the name; Ok leaves what is held under it to be read, a failure what was left
+-- before
 pub record Begins {E : Type 0} (feed : Feed) (name : List ℕ) (old new : DeskState) (result : Result Unit E) : Type 0 where
   pub only : OnlyFeed feed old new
   pub begun : (new.feeds feed).begun ≡ true
@@ -67,6 +72,7 @@ pub record Begins {E : Type 0} (feed : Feed) (name : List ℕ) (old new : DeskSt
   pub cause : ReadCause old new result
   pub kept : ReadKept old new result
 
+-- what a read does: bytes are moved to the front of the buffer, none only at the end of the feed
 pub record Reads {E : Type 0} (feed : Feed) (into : List ℕ) (old new : DeskState) (result : Result ℕ E) : Type 0 where
   pub moved : Moves feed (counted result into) old new
   pub bound : IfOk result (λ n. n ≤ length into)
@@ -74,6 +80,7 @@ pub record Reads {E : Type 0} (feed : Feed) (into : List ℕ) (old new : DeskSta
   pub cause : ReadCause old new result
   pub kept : ReadKept old new result
 
+-- what a make does: the tray is made under the name; Ok empties it, a failure leaves what was sent
 pub record Makes {E : Type 0} (tray : Tray) (name : List ℕ) (old new : DeskState) (result : Result Unit E) : Type 0 where
   pub only : OnlyTray tray old new
   pub made : (new.trays tray).made ≡ true
@@ -83,6 +90,7 @@ pub record Makes {E : Type 0} (tray : Tray) (name : List ℕ) (old new : DeskSta
   pub cause : WriteCause old new result
   pub kept : WriteKept old new result
 
+-- what a write does: some first bytes are sent, at least one where it answers Ok
 pub record Writes {E : Type 0} (tray : Tray) (bytes : List ℕ) (old new : DeskState) (result : Result ℕ E) : Type 0 where
   pub sent : Sends tray (counted result bytes) old new
   pub bound : IfOk result (λ n. (0 < n) × (n ≤ length bytes))

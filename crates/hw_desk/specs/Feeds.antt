@@ -11,6 +11,7 @@ pub record FeedModel : Type 0 where
   pub name : Option (List ℕ)
   pub left : List ℕ
 
+-- a feed of a desk in memory, as a contract sees it: begun or not, its name, and what is left of the file
 abbrev pub feed_of : List NamedBytes → FeedSlot → FeedModel
 feed_of files s = record { begun = s.begun; name = s.name; left = left_of files s }
 

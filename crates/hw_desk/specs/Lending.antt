@@ -1,4 +1,4 @@
--- What the values of the feeds end as, where one of them is lent.
+-- The values of the feeds after the borrow of one of them has ended.
 use Rattle.std.specs.Borrow.{Lends, MutBor, Fml, RattleType}
 use Rattle.hw_desk.specs.declared.desk.Feed.{Feed}
 use Rattle.hw_desk.specs.declared.feeds.Feeds.{Feeds}

@@ -38,6 +38,7 @@ abbrev pub trays_of : MemoryModel → Tray → TrayState
 trays_of d Report = record { made = d.report.made; name = d.report.name; sent = Some d.report.sent.bytes }
 trays_of d Proof = record { made = d.proof.made; name = d.proof.name; sent = Some (cond d.proof.made d.proof.sent.bytes []) }
 
+-- the state of a desk in memory that fails where it is told to
 abbrev pub memory_state : MemoryModel → DeskState
 memory_state d = record {
   held = held_in d.files;
@@ -57,7 +58,7 @@ fresh_tray room = record { made = false; name = None; sent = record { room = roo
 abbrev pub no_calls : Calls
 no_calls = record { begins = 0; reads = 0; makes = 0; report_writes = 0; proof_writes = 0 }
 
--- a new desk, with room for so many bytes in each tray
+-- a new desk, with room for `room` bytes in each tray
 abbrev pub new_memory : List NamedBytes → ℕ → ℕ → List FailAt → MemoryModel
 new_memory files most room fails = record {
   files = files;
@@ -136,7 +137,7 @@ pub record ReadFaults {T E : Type 0} (old new : MemoryModel) (result : Result T 
   pub reads : new.read_faults ≡ after_answer result old.read_faults
   pub writes : new.write_faults ≡ old.write_faults
 
--- the same of a make or a write
+-- what an answer of a make or a write does to both counts of faults
 pub record WriteFaults {T E : Type 0} (old new : MemoryModel) (result : Result T E) : Type 0 where
   pub reads : new.read_faults ≡ old.read_faults
   pub writes : new.write_faults ≡ after_answer result old.write_faults
@@ -144,9 +145,11 @@ pub record WriteFaults {T E : Type 0} (old new : MemoryModel) (result : Result T
 unbegun : (d : MemoryModel) (f : Feed) → (feeds_of d f).begun ≡ false → IfSome (feeds_of d f).left (λ bytes. bytes ≡ [])
 unbegun d f h = rw h refl
 
+-- neither count of faults of such a desk passes the last `u64`, as IsBounded says
 pub memory_bounded : (d : MemoryModel) → IsBounded (memory_state d)
 memory_bounded d = record { reads = min-le_right d.read_faults (2 ^ 64 - 1); writes = min-le_right d.write_faults (2 ^ 64 - 1) }
 
+-- such a desk is fresh, as IsFresh says
 pub memory_fresh : (d : MemoryModel) → IsFresh (memory_state d)
 memory_fresh d = record {
   left = unbegun d;

@@ -17,6 +17,8 @@ pub record TrayState : Type 0 where
   pub name : Option (List ℕ)
   pub sent : Option (List ℕ)
 
+-- a desk: the bytes held under each name, where they are told; its feeds and trays; the counts of failed begins and reads,
+-- and of failed makes and writes
 pub record DeskState : Type 0 where
   -- the bytes held under each name, where they are told
   pub held : List ℕ → Option (List ℕ)
@@ -69,7 +71,7 @@ pub record IsBounded (s : DeskState) : Type 0 where
   pub reads : s.read_faults ≤ 2 ^ 64 - 1
   pub writes : s.write_faults ≤ 2 ^ 64 - 1
 
--- Report needs no make
+-- bytes may be sent to the tray: Report needs no make, Proof does
 abbrev pub can_send : Tray → DeskState → Bool
 can_send Report s = true
 can_send Proof s = (s.trays Proof).made

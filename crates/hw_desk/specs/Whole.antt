@@ -9,7 +9,7 @@ use Rattle.hw_desk.specs.declared.desk.Tray.{Tray}
 use Rattle.hw_desk.specs.declared.whole.ReadStop.{ReadStop}
 use Rattle.hw_desk.specs.declared.whole.ReadStop.TheVariants.{Fault, TooLong}
 
--- all bytes left were read, or why not. Unless the answer is Fault, no read failed. Of a told feed with more bytes than the limit only TooLong, Fault with its cause, and want of memory can come, and of another one all but TooLong
+-- all bytes left were read, or why not. Unless the answer is Fault, no read failed. A told feed with more bytes than the limit gives only TooLong, Fault with its cause, or out of memory; another told feed gives anything but TooLong
 pub record ReadsWhole (feed : Feed) (limit : ℕ) (old new : DeskState) (result : Result (Vec ℕ Global) ReadStop) : Type 0 where
   pub moved : (bytes : List ℕ) × Moves feed bytes old new
   pub whole : IfOk result (λ v. Moves feed v.items old new × IsAtEnd (new.feeds feed).left)

@@ -5,7 +5,7 @@ use Rattle.hw_desk.specs.State.{DeskState, Rose}
 use Rattle.hw_desk.specs.Calls.{Sends}
 use Rattle.hw_desk.specs.declared.desk.Tray.{Tray}
 
--- the desk as it is, the borrow by which it is lent, the tray, the bytes that wait to be sent, and whether a write has failed
+-- the desk as it is, the borrow that gave it, the tray, the bytes that wait to be sent, and whether a write has failed
 pub record WriterState : Type 0 where
   pub desk : DeskState
   pub borrow : GName
@@ -41,7 +41,7 @@ pub record WasGiven (text : List ℕ) (start : DeskState) (now : WriterState) : 
   pub going : now.spent ≡ false → Waits text start now
   pub stopped : now.spent ≡ true → Stopped text start now
 
--- one text more was given. What fits beside the bytes that wait is not sent yet, and nothing is sent after a failed write
+-- one more text was given. What fits beside the bytes that wait is not sent yet, and nothing is sent after a failed write
 pub record Puts (text : List ℕ) (old new : WriterState) : Type 0 where
   pub borrow : new.borrow ≡ old.borrow
   pub tray : new.tray ≡ old.tray

@@ -42,7 +42,7 @@ impl TextBuffer {
         &self.text[..self.len]
     }
 
-    /// Whether so many bytes more have room.
+    /// Whether `count` more bytes have room.
     pub fn has_room(&self, count: usize) -> bool
         ensures { IsTrue result ↔ (length self.now + count ≤ 8192) }
     {

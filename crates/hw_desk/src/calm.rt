@@ -2,7 +2,7 @@
 
 ghost use Rattle.std.specs.Prelude.{◌≡◌, ◌<◌, [], IfOk, IfSome, IsOk, true, false, length, min, Some, None, MatchOption};
 ghost use Rattle.hw_desk.specs.Names.{kept_name};
-ghost use Rattle.hw_desk.specs.CalmBytes.{sent_more};
+ghost use Rattle.hw_desk.specs.CalmBytes.{told_with};
 
 use crate::name::KeptName;
 use crate::slots::{FeedSlot, NamedBytes, find, fresh_slots, take_some};
@@ -14,21 +14,19 @@ use std::marker::Model;
 /// How many bytes a tray keeps.
 const ROOM: usize = 1_048_576;
 
-/// Bytes sent to a tray: past the room only their count is kept.
+/// The bytes sent to a tray. Once they have no room, none are kept until the tray is cleared.
 #[derive(Drop)]
 pub struct CalmBytes {
     bytes: Vec<u8>,
     lost: bool,
-    count: u64,
 }
 
 impl Model for CalmBytes {
-    ghost use Rattle.hw_desk.specs.CalmBytes.{CalmSent};
-    ghost use Rattle.std.specs.Prelude.{cond, None, Some, ◌≤◌, length, vec_capacity};
+    ghost use Rattle.std.specs.Prelude.{cond, List, ℕ, Option, None, Some, ◌≤◌, length, vec_capacity};
 
-    ghost Value = { CalmSent };
+    ghost Value = { Option (List ℕ) };
 
-    ghost view = { λ s. record { told = cond s.lost None (Some s.bytes.items); count = s.count } };
+    ghost view = { λ s. cond s.lost None (Some s.bytes.items) };
 
     ghost invariant = { λ s. (1048576 ≤ vec_capacity s.bytes) × (length s.bytes.items ≤ 1048576) };
 }
@@ -36,49 +34,36 @@ impl Model for CalmBytes {
 impl CalmBytes {
     /// No bytes.
     pub fn new(alloc: Global) -> Result<CalmBytes, NoMemory>
-        ensures { IfOk result (λ sent. sent ≡ record { told = Some []; count = 0 }) }
+        ensures { IfOk result (λ sent. sent ≡ Some []) }
     {
         let bytes = Vec::with_capacity(alloc, ROOM)?;
-        Ok(CalmBytes {
-            bytes,
-            lost: false,
-            count: 0,
-        })
+        Ok(CalmBytes { bytes, lost: false })
     }
 
     /// The bytes, while they are kept.
     pub fn kept(&self) -> Option<&[u8]>
-        ensures { MatchOption result (self.now.told ≡ None) (λ bytes. self.now.told ≡ Some bytes.now) }
+        ensures { MatchOption result (self.now ≡ None) (λ bytes. self.now ≡ Some bytes.now) }
     {
         if self.lost { None } else { Some(&self.bytes) }
     }
 
-    /// How many bytes were sent.
-    pub fn count(&self) -> u64
-        ensures { result ≡ self.now.count }
-    {
-        self.count
-    }
-
     /// Forgets the bytes.
     pub fn clear(&mut self)
-        ensures { self.new ≡ record { told = Some []; count = 0 } }
+        ensures { self.new ≡ Some [] }
     {
         self.bytes.clear();
         self.lost = false;
-        self.count = 0;
     }
 
     /// Sends the bytes.
     pub fn send(&mut self, bytes: &[u8])
-        ensures { self.new ≡ sent_more self.old bytes.now }
+        ensures { self.new ≡ told_with self.old bytes.now }
     {
         if !self.lost && bytes.len() <= ROOM - self.bytes.len() {
             self.bytes.extend_from_slice(bytes).unwrap();
         } else {
             self.lost = true;
         }
-        self.count = self.count.saturating_add(bytes.len() as u64);
     }
 }
 
@@ -106,7 +91,7 @@ impl CalmTray {
 
     /// Makes the tray, with nothing sent to it.
     fn make(&mut self, name: &str)
-        ensures { self.new ≡ record { made = true; name = kept_name name.now; sent = record { told = Some []; count = 0 } } }
+        ensures { self.new ≡ record { made = true; name = kept_name name.now; sent = Some [] } }
     {
         self.made = true;
         self.name.keep(name);
@@ -116,8 +101,8 @@ impl CalmTray {
 
 /// A desk in memory whose calls never fail. An unknown name holds no bytes.
 ///
-/// It tells the bytes sent to a tray while they are at most 1,048,576, and then keeps their count alone;
-/// a name of more than 256 bytes isn't told.
+/// It tells the bytes sent to a tray while they are at most 1,048,576, and none of them after that. A
+/// name of more than 256 bytes isn't told.
 #[derive(Drop)]
 pub struct CalmDesk {
     files: Vec<NamedBytes>,
@@ -138,7 +123,7 @@ impl Model for CalmDesk {
 
 impl CalmDesk {
     ghost use Rattle.hw_desk.specs.State.{IsNew};
-    ghost use Rattle.hw_desk.specs.Calm.{calm_state, new_calm, calm_sent};
+    ghost use Rattle.hw_desk.specs.Calm.{calm_state, new_calm};
 
     /// A desk with these files, on which nothing was begun or made. It takes 1,048,576 bytes for each
     /// tray and 256 bytes for each name; of two files of one name the first is read.
@@ -162,16 +147,6 @@ impl CalmDesk {
             Tray::Report => self.report.sent.kept(),
             Tray::Proof if self.proof.made => self.proof.sent.kept(),
             Tray::Proof => Some(&[]),
-        }
-    }
-
-    /// How many bytes were sent to a tray, told or not.
-    pub fn sent_count(&self, tray: Tray) -> u64
-        ensures { result ≡ (calm_sent self.now tray).count }
-    {
-        match tray {
-            Tray::Report => self.report.sent.count(),
-            Tray::Proof => self.proof.sent.count(),
         }
     }
 }
@@ -214,7 +189,7 @@ impl Desk for CalmDesk {
         requires fresh { ((calm_state self.old).trays tray).made ≡ false }
         ensures makes { Makes tray name.now (calm_state self.old) (calm_state self.new) result }
         ensures named { ((calm_state self.new).trays tray).name ≡ kept_name name.now }
-        ensures none_sent { calm_sent self.new tray ≡ record { told = Some []; count = 0 } }
+        ensures none_sent { calm_sent self.new tray ≡ Some [] }
         ensures others { (t : Tray) → same_tray t tray ≡ false → calm_sent self.new t ≡ calm_sent self.old t }
         ensures ok { IsOk result }
     {
@@ -230,7 +205,7 @@ impl Desk for CalmDesk {
         requires some { 0 < length bytes.now }
         ensures writes { Writes tray bytes.now (calm_state self.old) (calm_state self.new) result }
         ensures all { IfOk result (λ n. n ≡ length bytes.now) }
-        ensures sent { calm_sent self.new tray ≡ sent_more (calm_sent self.old tray) bytes.now }
+        ensures sent { calm_sent self.new tray ≡ told_with (calm_sent self.old tray) bytes.now }
         ensures others { (t : Tray) → same_tray t tray ≡ false → calm_sent self.new t ≡ calm_sent self.old t }
         ensures ok { IsOk result }
     {

@@ -47,7 +47,7 @@ pub trait Desk {
         requires fresh { ((state self.old).feeds feed).begun ≡ false }
         ensures begins { Begins feed name.now (state self.old) (state self.new) result };
 
-    /// Moves some of the bytes that are left into the slice, and says how many: 0 where none is left.
+    /// Moves some of the bytes that are left into the slice. Returns how many, 0 where none is left.
     fn read(&mut self, feed: Feed, into: &mut [u8]) -> Result<usize, DeskFailed>
         requires begun { ((state self.old).feeds feed).begun ≡ true }
         requires some { 0 < length into.old }
@@ -58,7 +58,7 @@ pub trait Desk {
         requires fresh { ((state self.old).trays tray).made ≡ false }
         ensures makes { Makes tray name.now (state self.old) (state self.new) result };
 
-    /// Sends some of the bytes, the first ones, and says how many. `Report` needs no make.
+    /// Sends some of the bytes, the first ones. Returns how many. `Report` needs no make.
     fn write(&mut self, tray: Tray, bytes: &[u8]) -> Result<usize, DeskFailed>
         requires made { CanSend tray (state self.old) }
         requires some { 0 < length bytes.now }

@@ -122,7 +122,7 @@ fn open_or_fail(
     Ok(())
 }
 
-/// A tray that wasn't made, with room for so many bytes.
+/// A tray that wasn't made, with room for `room` bytes.
 fn empty_tray(alloc: Global, room: usize) -> Result<TraySlot, NoMemory>
     ensures { IfOk result (λ tray. tray ≡ fresh_tray room) }
 {

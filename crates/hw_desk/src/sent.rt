@@ -6,7 +6,7 @@ use hw_model::NoMemory;
 use std::alloc::Global;
 use std::marker::Model;
 
-/// The bytes sent to a tray, with room for so many.
+/// The bytes sent to a tray, and for how many in all it has room.
 #[derive(Drop)]
 pub struct SentBytes {
     room: usize,
@@ -25,7 +25,7 @@ impl Model for SentBytes {
 }
 
 impl SentBytes {
-    /// No bytes, with room for so many.
+    /// No bytes yet, with room for `room` bytes.
     pub fn new(alloc: Global, room: usize) -> Result<SentBytes, NoMemory>
         ensures { IfOk result (λ sent. sent ≡ record { room = room; bytes = [] }) }
     {
@@ -47,7 +47,8 @@ impl SentBytes {
         self.bytes.clear();
     }
 
-    /// Sends at most so many of the bytes, as many as have room; none where the room is full.
+    /// Sends at most `most` of the bytes, as many as have room. Returns how many were sent, or none
+    /// where the room is full.
     pub fn send(&mut self, most: usize, bytes: &[u8]) -> Option<usize>
         requires { 1 ≤ most }
         ensures full { IsNone result ↔ self.old.room ≤ length self.old.bytes }

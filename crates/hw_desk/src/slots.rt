@@ -93,7 +93,7 @@ fn rest_of<'a>(files: &'a [NamedBytes], slot: &FeedSlot) -> &'a [u8]
     }
 }
 
-/// Moves some of what is left of a feed, at most so many bytes.
+/// Moves some of what is left of a feed, at most `most` bytes. Returns how many were moved.
 pub fn take_some(files: &[NamedBytes], slot: &mut FeedSlot, most: usize, into: &mut [u8]) -> usize
     requires { 1 ≤ most }
     ensures same { slot.new ≡ record slot.old { at = slot.new.at } }

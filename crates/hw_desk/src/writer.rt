@@ -40,7 +40,7 @@ fn is_spent<D: Desk>(desk: &mut D, tray: Tray, spent: bool, bytes: &[u8]) -> boo
     spent || write_all(desk, tray, bytes).is_err()
 }
 
-/// A writer over a tray of a lent desk.
+/// A writer over a tray of a borrowed desk.
 #[derive(Drop)]
 pub struct TrayWriter<'d, D: Desk> {
     pub desk: &'d mut D,

@@ -52,7 +52,7 @@ three_ships = record { ships = 3; slots = 2; stay = false; values = Some 1 ∷ S
 abbrev pub three_orders : Order → Order → Order → RoomModel
 three_orders a b c = record { ships = 3; slots = 2; ranges = (0, 1) ∷ (0, 1) ∷ (0, 1) ∷ []; orders = Unset ∷ a ∷ c ∷ Unset ∷ Unset ∷ b ∷ Unset ∷ Unset ∷ Unset ∷ [] }
 
--- where sources are quiet
+-- small problems and rooms in which sources are quiet or not
 pub record QuietRows : Type 0 where
   pub window_hole_inside : QuietSource one_ship (sources.Window 0) None (from_to 1 3)
   pub window_low_without_value : QuietSource one_ship (sources.Window 0) None (from_to 0 3) → ⊥
@@ -73,7 +73,7 @@ pub record QuietRows : Type 0 where
   pub goal_at_the_best : QuietSource two_apart sources.Goal (Some 40) (two_ranges (0, 2) (0, 2) Unset) → ⊥
   pub goal_without_a_best : QuietSource two_apart sources.Goal None (two_ranges (0, 0) (0, 0) Unset)
 
--- the numbers of rooms
+-- the numbers of rooms of small problems
 pub record RoomCounts : Type 0 where
   pub one_ship : room_count one_ship ≡ 10
   pub two_apart : room_count two_apart ≡ 108

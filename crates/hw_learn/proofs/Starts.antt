@@ -9,7 +9,7 @@ use Rattle.hw_model.specs.Lits.{negation, lit_fits}
 use Rattle.hw_model.specs.Narrowing.{truth}
 use Rattle.hw_story.specs.declared.event.Event.{Event}
 use Rattle.hw_story.specs.Stories.{Story, room_at, IsStory}
-use Rattle.hw_story.specs.Walks.{In, Bounds, IsTop, level_of as story_level}
+use Rattle.hw_story.specs.Walks.{In, Bounds, IsTop, story_level}
 use Rattle.hw_story.specs.Trails.{TrailModel, trail_shape, room_of, IsTrail}
 use Rattle.hw_story.specs.Learning.{event_of, level_by, level_made, level_of}
 use Rattle.hw_story.specs.Bridge.{event_at, story_of, GoesBack}

@@ -7,7 +7,7 @@ use Rattle.hw_model.specs.Rooms.{RoomModel, IsRoom, whole_room}
 use Rattle.hw_flat.specs.Opened.{shape_in}
 use Rattle.hw_story.specs.Replays.{Facts, Narrower}
 use Rattle.hw_story.specs.Stories.{Story, room_at}
-use Rattle.hw_story.specs.Walks.{In, Walk, Denies, Spells, Learns as StoryLearns}
+use Rattle.hw_story.specs.Walks.{In, Walk, Denies, Spells, WalkGives}
 use Rattle.hw_story.specs.Passes.{DeniesAll, Walks}
 use Rattle.hw_story.specs.Knowing.{knows, always}
 use Rattle.hw_story.specs.Trails.{TrailModel, trail_shape, IsTrail}
@@ -46,6 +46,6 @@ taught t is clause lemma last top first back places begun held cf l level f of0 
     let w = walks b.0 clause b.1 w0 in
     let sp : Spells s.start (knows held) lemma = subst (λ (r : Facts). Spells r (knows held) lemma) (start_is t held.ships held.slots of.ships of.slots) spells in
     let cl : IsClause (trail_shape t) lemma = lemma_clause t held lemma of normal in
-    let h : StoryLearns s last top clause lemma back places = walk_end s last top first b.0 clause (knows held) places back b.1 w lemma sp in
+    let h : WalkGives s last top clause lemma back places = walk_end s last top first b.0 clause (knows held) places back b.1 w lemma sp in
     let gb = goes_back t is last l.inside top back lemma (in_fits (trail_shape t) lemma 0 None cl) h.all_false ib in
     learns_from t is last l.inside top clause lemma back places cf l.known it cl (back_ground t top back lemma ib) gb h

@@ -8,6 +8,7 @@ ghost use Rattle.hw_flat.specs.Opened.{shape_in};
 ghost use Rattle.hw_story.specs.Knowing.{knows, always, widened};
 ghost use Rattle.hw_story.specs.Passes.{DeniesOne, MostOf, NothingOf};
 ghost use Rattle.hw_learn.specs.Sames.{SameShape};
+ghost use Rattle.hw_learn.specs.Steps.{IsMost};
 
 use hw_flat::{Order, Room};
 use hw_lits::cut;
@@ -48,7 +49,7 @@ pub fn deny(room: &mut Room, lit: Lit)
 /// The greatest literal that a room knows of a literal's side, none where it knows what every room does.
 pub fn most(room: &Room, lit: Lit) -> Option<Lit>
     requires fits { IsLitOf room.now.ships lit }
-    ensures most { MatchOption result (NothingOf (always room.now.ships room.now.slots) (knows room.now) lit) (MostOf (always room.now.ships room.now.slots) (knows room.now) lit) }
+    ensures most { IsMost room.now lit result }
     ensures fits { IfSome result (λ x. lit_fits (shape_in room.now) x ≡ true) }
 {
     match lit {

@@ -44,7 +44,7 @@ pub fn last_of(trail: &Trail, clause: &[Lit]) -> u32
     last
 }
 
-/// The level of the last of so many events.
+/// The level of the last of the first `last` events.
 pub fn top_of(trail: &Trail, last: u32) -> u32
     requires inside { last ≤ length trail.now.events }
     ensures level { IsLevelOf trail.now last result }
@@ -55,7 +55,7 @@ pub fn top_of(trail: &Trail, last: u32) -> u32
     trail.event(last - 1).level
 }
 
-/// The place from which on so many events are of a level.
+/// The first place from which all of the first `last` events are of this level.
 pub fn first_of(trail: &Trail, last: u32, top: u32) -> u32
     requires inside { last ≤ length trail.now.events }
     ensures first { IsFirst trail.now last top result }

@@ -10,6 +10,7 @@ ghost use Rattle.hw_story.specs.Bridge.{story_of};
 ghost use Rattle.hw_story.specs.Trails.{clause_of};
 ghost use Rattle.hw_story.specs.Passes.{HitBefore, NoHit, DeniesOthers, DeniesAll, StepKeeps, When, Walks};
 ghost use Rattle.hw_learn.specs.Sames.{SameShape, OfTrail};
+ghost use Rattle.hw_learn.specs.Steps.{DeniesOneMore, IsDue, IsPassed};
 
 use crate::sides::{deny, most, widen};
 use hw_flat::Room;
@@ -30,8 +31,8 @@ pub fn hit(trail: &Trail, held: &Room, place: u32) -> bool
     }
 }
 
-/// Whether an event from `first` to before a place is a hit, the later ones looked at first: the
-/// walk stops there next, so that all of it looks twice at most at an event.
+/// Whether some event from `first` on and before a place is a hit. It looks at the later ones first:
+/// the walk stops there next, so that all of it looks at each event at most twice.
 pub fn another(trail: &Trail, held: &Room, first: u32, place: u32) -> bool
     requires inside { place ≤ length trail.now.events }
     requires shape { OfTrail trail.now held.now }
@@ -56,7 +57,7 @@ fn same(l: Lit, m: Lit) -> bool
 fn deny_unless(held: &mut Room, lit: Lit, but: Lit)
     requires fits { IsLitOf held.old.ships lit }
     ensures shape { SameShape held.new held.old }
-    ensures denies { (old : RoomModel) (clause : List LitOf) → DeniesOthers (knows old) (knows held.old) clause but → DeniesOthers (knows old) (knows held.new) (clause ++ lit ∷ []) but }
+    ensures denies { DeniesOneMore held.new held.old lit but }
 {
     if same(lit, but) {
         return;
@@ -86,11 +87,11 @@ pub fn deny_all(held: &mut Room, clause: &[Lit])
     }
 }
 
-/// Whether an event is to be resolved.
+/// Whether to resolve an event.
 pub fn due(trail: &Trail, top: u32, first: u32, held: &Room, place: u32) -> bool
     requires inside { place < length trail.now.events }
     requires shape { OfTrail trail.now held.now }
-    ensures answer { MatchBool result (Hit (story_of trail.now) place (knows held.now) × When (story_of trail.now) place top first (knows held.now)) (StepKeeps (story_of trail.now) place top first (knows held.now) (knows held.now) false) }
+    ensures answer { MatchBool result (IsDue trail.now held.now place top first) (IsPassed trail.now held.now place top first) }
 {
     if !hit(trail, held, place) {
         return false;
@@ -148,7 +149,8 @@ pub fn step(trail: &Trail, top: u32, first: u32, held: &mut Room, place: u32) ->
     }
 }
 
-/// Walks back over the events before `last`, and gives the places of those that were resolved, ascending.
+/// Walks back over the events before `last`. Returns the places of those that were resolved,
+/// ascending. After an error `held` is still a room of the trail's shape, with any content.
 pub fn walk_back(
     alloc: Global,
     trail: &Trail,

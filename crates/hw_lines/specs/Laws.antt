@@ -24,7 +24,7 @@ pub record OneMore (f : Problem) (before : List Line) (line : Line) : Type 0 whe
 abbrev pub LinesPushed : Type 0
 LinesPushed = (f : Problem) (before : List Line) (line : Line) → OneMore f before line
 
--- a clause line brings one number more, which is live, and changes no other
+-- a clause line brings one more number, which is live, and changes no other
 pub record ClauseAdded (f : Problem) (before after : List Line) (clause : List Lit) : Type 0 where
   pub count : clause_count after ≡ clause_count before + 1
   pub live_ones : (id : ℕ) → live after id ≡ if id == clause_count before + 1 then Some clause else live before id
@@ -32,6 +32,7 @@ pub record ClauseAdded (f : Problem) (before after : List Line) (clause : List L
   pub best : best_of f after ≡ best_of f before
   pub closed : is_closed after ≡ (is_closed before || is_end (Some clause))
 
+-- what one more clause line changes, of every problem and line
 abbrev pub ClausePushed : Type 0
 ClausePushed = (f : Problem) (before : List Line) (line : Line) (clause : List Lit) → DeletesEarlier before → clause_of line ≡ Some clause → ClauseAdded f before (before ++ line ∷ []) clause
 
@@ -43,6 +44,7 @@ pub record TableAdded (f : Problem) (before after : List Line) (slots : List ℕ
   pub best : best_of f after ≡ cargo f slots
   pub closed : is_closed after ≡ is_closed before
 
+-- what one more table changes
 abbrev pub TablePushed : Type 0
 TablePushed = (f : Problem) (before : List Line) (table : List ℕ) → TableAdded f before (before ++ lines.Table table ∷ []) table
 
@@ -54,6 +56,7 @@ pub record NumbersDeleted (f : Problem) (before after : List Line) (ids : List �
   pub best : best_of f after ≡ best_of f before
   pub closed : is_closed after ≡ is_closed before
 
+-- what one more deletion changes
 abbrev pub DeletionPushed : Type 0
 DeletionPushed = (f : Problem) (before : List Line) (ids : List ℕ) → NumbersDeleted f before (before ++ lines.Delete ids ∷ []) ids
 

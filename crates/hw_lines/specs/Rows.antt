@@ -12,18 +12,23 @@ use Rattle.hw_lines.specs.Refusals.{refusal, refused, refused_at}
 abbrev pub two_apart : Problem
 two_apart = record { ships = 2; slots = 3; stay = false; values = Some 10 ∷ Some 20 ∷ Some 30 ∷ Some 10 ∷ Some 20 ∷ Some 30 ∷ []; rules = Pair 0 1 (record { lo = neg_ℤ (pos 1); hi = pos 1 } ∷ []) ∷ [] }
 
+-- the table of slots 2 and 0
 abbrev pub best_table : Line
 best_table = lines.Table (2 ∷ 0 ∷ [])
 
+-- the goal line: ship 1 sails in slot 1 or later
 abbrev pub second_late : Line
 second_late = lines.Goal (AtOrAfter 1 1 ∷ [])
 
+-- the goal line: ship 0 sails in slot 1 or later
 abbrev pub first_late : Line
 first_late = lines.Goal (AtOrAfter 0 1 ∷ [])
 
+-- the explanation by the rule: one of the ships sails in slot 0
 abbrev pub apart : Line
 apart = lines.Explain 2 (Before 0 1 ∷ Before 1 1 ∷ [])
 
+-- the lemma without literals, by all three clauses
 abbrev pub last_line : Line
 last_line = lines.Lemma [] (1 ∷ 2 ∷ 3 ∷ [])
 
@@ -35,7 +40,7 @@ open_lines = best_table ∷ second_late ∷ first_late ∷ apart ∷ []
 abbrev pub whole_lines : List Line
 whole_lines = best_table ∷ second_late ∷ first_late ∷ apart ∷ last_line ∷ []
 
--- which lines are refused behind these, and why
+-- which lines are refused after these, and why
 pub record RefusalRows : Type 0 where
   pub the_last_line : refusal two_apart open_lines last_line ≡ None
   pub a_line_behind_it : refusal two_apart whole_lines first_late ≡ refused words.Ended

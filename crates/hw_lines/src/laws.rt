@@ -53,7 +53,7 @@ pub fn kept_verdict()
     ensures { KeptVerdict }
 {}
 
-/// Worked rows: why lines behind a small certificate are refused.
+/// Worked rows: why lines after a small certificate are refused.
 pub fn refusal_rows()
     ensures { RefusalRows }
 {}

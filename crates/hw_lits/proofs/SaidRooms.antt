@@ -306,7 +306,7 @@ order_skip : (room : RoomModel) (k v w : ℕ) (out : List Lit) → v < w → w <
 order_skip room k v w out vw lt e s =
     said_on (1, v, w) (1, v, w + 1) (up_in 1 v w (w + 1) (omega arith)) s s.high s.low (one_more_pair room s.left s.left v w s.pairs (s.pairs.rest v w vw lt (inr (refl, omega arith)) ∙ sym e) (λ a b inb ne. refl))
 
--- a literal that turns the order of a pair round
+-- a literal that reverses the order of a pair
 order_add : (room : RoomModel) (k v w : ℕ) (out : List Lit) (lit : Lit) (order : Order) → v < w → w < room.ships → order_of room v w ≡ order → place_of lit ≡ (1, v, w) → lit_fits (shape_in room) lit ≡ true → ((l : Lit) → leaves_some l lit ≡ true) → AboveRoom room lit
     → ((r : RoomModel) → cut (negation lit) r ≡ with_order r v w order) → Said room k k v w (1, v, w) out → Said room k k v (w + 1) (1, v, w + 1) (out ++ lit ∷ [])
 order_add room k v w out lit order vw lt e place fits leaves above cuts s =

@@ -3,3 +3,4 @@ pub mod Faults
 pub mod Cuts
 pub mod Steps
 pub mod Said
+pub mod Active

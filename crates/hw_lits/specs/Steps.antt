@@ -36,7 +36,7 @@ Tells room clause (Cut lit) = IsUnit room clause lit
 Tells room clause Conflict = AllFalse room clause
 Tells room clause (Loose first second) = HasTwoFree room clause first second
 
--- each step tells so
+-- the law: each step tells what the definition says
 abbrev pub StepTells : Type 0
 StepTells = (room : RoomModel) (clause : List Lit) → Tells room clause (narrowing clause room)
 

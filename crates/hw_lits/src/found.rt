@@ -1,4 +1,4 @@
-//! What a question about a room is answered by: quiet, or a clause.
+//! The answer to a question about a room: quiet, or a clause.
 
 use crate::clause::Clause;
 

@@ -11,8 +11,8 @@ use hw_flat::{Order, Room};
 use hw_model::{Lit, NoMemory};
 use std::alloc::{AllocFailed, Global};
 
-/// The normal clause whose denied room is a given room: for each ship the bounds that are not
-/// those of all slots, and for each pair the order that is set, all turned round.
+/// The normal clause whose denied room is a given room. It negates, for each ship, the bounds that
+/// are not those of all slots, and for each pair the order that is set.
 pub fn clause_of_room(alloc: Global, room: &Room) -> Result<Clause, NoMemory>
     ensures denies { IfOk result (λ clause. denied (shape_in room.now) clause ≡ room.now) }
     ensures normal { IfOk result (λ clause. IsClause (shape_in room.now) clause) }

@@ -1,4 +1,4 @@
--- What valid lines prove of a port.
+-- The law of a certificate's verdict on a port.
 use Rattle.std.specs.Prelude.{◌≡◌, ℕ, List, All, IsSomeAnd}
 use Rattle.hw_lines.specs.declared.check.Verdict.TheVariants.{Optimal, Infeasible}
 use Rattle.hw_lines.specs.declared.line.Line.{Line}

@@ -1,13 +1,12 @@
--- Few lines are live, few lemmas are new, and deletions in valid lines name earlier lines.
+-- Few lines are live, and few lemmas are new.
 use Rattle.hw_laws.proofs.Denying.{shape_fits}
-use Rattle.std.proofs.Common.{◌≡◌, ◌⊎◌, ℕ, zero, suc, ◌+◌, ◌-◌, ◌*◌, ◌^◌, ◌<◌, ◌≤◌, ◌||◌, not, Bool, true, false, cond, List, [], ◌∷◌, ◌++◌, Option, Some, None, length, map, filter, filter_map, is_some, All, IfSome, IsSome, refl, sym, ap, ◌∙◌, subst, arith, inl, inr, append-nil, append_assoc, length-append}
+use Rattle.std.proofs.Common.{◌≡◌, ◌⊎◌, ℕ, zero, suc, ◌+◌, ◌-◌, ◌*◌, ◌^◌, ◌<◌, ◌≤◌, not, Bool, true, false, cond, List, [], ◌∷◌, Option, Some, None, length, map, filter, filter_map, is_some, All, IsSome, refl, sym, ap, ◌∙◌, subst, arith, inl, inr, length-append}
 use Rattle.std.specs.Prelude.{Contains, ◌==◌}
 use Rattle.std.specs.List.{list_any, cons_option, range_with_len}
-use Rattle.std.proofs.lemmas.Bool.{cases_Bool, or_cases, or_left, or_right, eqb-true, eq-eqb}
+use Rattle.std.proofs.lemmas.Bool.{or_cases, or_left, or_right, eqb-true, eq-eqb}
 use Rattle.std.proofs.lemmas.List.{length-map}
 use Rattle.std.proofs.lemmas.List.Elements.{All-nil, All-cons, All-head, All-tail}
 use Rattle.std.proofs.Math.Nat.{mul-le-mul_right}
-use Rattle.hw_model.specs.declared.lit.Lit.{Lit}
 use Rattle.hw_model.specs.Problem.{Problem, shape_of}
 use Rattle.hw_model.specs.Limits.{IsFlat}
 use Rattle.hw_model.specs.Lits.{IsClause}
@@ -15,18 +14,16 @@ use Rattle.hw_model.specs.Rooms.{room_count}
 use Rattle.hw_laws.proofs.Horizon.{slots_le}
 use Rattle.hw_lines.specs.declared.line.Line.{Line}
 use Rattle.hw_lines.specs.declared.line.Line.TheVariants as lines
-use Rattle.hw_lines.specs.Lines.{clause_of, clause_count, live, deletes}
-use Rattle.hw_lines.specs.Valid.{LineFits, ValidAfter, ValidFrom, Valid}
+use Rattle.hw_lines.specs.Lines.{clause_count, live, live_numbers}
+use Rattle.hw_lines.specs.Valid.{LineFits}
 use Rattle.hw_lines.specs.Lemmas.{lemma_of, lemmas_of, IsNew}
-use Rattle.hw_lines.proofs.Pushed.{one_more}
 use Rattle.hw_story.specs.Trails.{most_events}
 use Rattle.hw_story.proofs.Many.{few_events}
 use Rattle.hw_story.proofs.Decisions.{clauses_few}
 use Rattle.hw_store.specs.declared.store.Stored.{Stored}
-use Rattle.hw_progress.specs.Searches.{SearchModel, IsSearch, FitsOpen, DeletesEarlier, lemmas_in, kept_numbers}
-use Rattle.hw_progress.specs.Living.{live_numbers, FewLive}
+use Rattle.hw_progress.specs.Searches.{SearchModel, IsSearch, FitsOpen, lemmas_in, kept_numbers}
+use Rattle.hw_progress.specs.Living.{FewLive}
 use Rattle.hw_progress.proofs.Backs.{contains_any, from_filter}
-use Rattle.hw_progress.proofs.Lines.{any_push, live_inside}
 
 -- ---- a rising list of members
 
@@ -169,43 +166,3 @@ few_numbers s is over few =
 
 pub few_restarts : (s : SearchModel) → IsSearch s → s.over ≡ false → s.lemmas < 100000 → s.restarts + 1 ≤ 100000
 few_restarts s is over few = omega (arith, few, is.few_restarts over)
-
--- ---- deletions of valid lines
-
-ids_inside : (before : List Line) (ids : List ℕ) → All (λ id. IsSome (live before id)) ids → (n : ℕ) → clause_count before < n → list_any (λ x. x == n) ids ≡ false
-ids_inside before [] h n lt = refl
-ids_inside before (id ∷ ids) h n lt =
-    let le = live_inside before id (All-head (λ id. IsSome (live before id)) id ids h) in
-    both (id == n) (list_any (λ x. x == n) ids) (apart id n (omega (arith, le, lt))) (ids_inside before ids (All-tail (λ id. IsSome (live before id)) id ids h) n lt)
-  where
-    apart : (a b : ℕ) → a < b → (a == b) ≡ false
-    apart a b lt = elim (cases_Bool (a == b)) [ inl y ↦ absurd (let same : a ≡ b = eqb-true a b y in omega (arith, same, lt)) | inr n ↦ n ]
-
-    both : (a b : Bool) → a ≡ false → b ≡ false → (a || b) ≡ false
-    both true b e h = absurd cc
-    both false b e h = h
-
-no_deletion : (f : Problem) (before : List Line) (line : Line) → ValidAfter f before line → (n : ℕ) → clause_count before < n → deletes n line ≡ false
-no_deletion f before (lines.Table table) h n lt = refl
-no_deletion f before (lines.Explain m clause) h n lt = refl
-no_deletion f before (lines.Order v w x clause) h n lt = refl
-no_deletion f before (lines.Goal clause) h n lt = refl
-no_deletion f before (lines.Lemma clause hints) h n lt = refl
-no_deletion f before (lines.Delete ids) h n lt = ids_inside before ids h.claim n lt
-
-count_grows : (f : Problem) (before : List Line) (line : Line) → clause_count before ≤ clause_count (before ++ line ∷ [])
-count_grows f before line = by (clause_of line) refl
-  where
-    by : (o : Option (List Lit)) → clause_of line ≡ o → clause_count before ≤ clause_count (before ++ line ∷ [])
-    by None e = omega (arith, (one_more f before line).uncounted e)
-    by (Some clause) e = omega (arith, subst (λ o. IfSome o (λ clause. clause_count (before ++ line ∷ []) ≡ clause_count before + 1)) e (one_more f before line).counted)
-
-deletes_from : (f : Problem) (more before : List Line) → ValidFrom f before more → DeletesEarlier before → DeletesEarlier (before ++ more)
-deletes_from f [] before v d = subst DeletesEarlier (sym (append-nil before)) d
-deletes_from f (line ∷ more) before v d =
-    subst DeletesEarlier (append_assoc before (line ∷ []) more) (deletes_from f more (before ++ line ∷ []) v.1 (λ n lt.
-    let past : clause_count before < n = omega (arith, lt, count_grows f before line) in
-    any_push n before line (d n past) (no_deletion f before line v.0 n past)))
-
-pub valid_deletes : (f : Problem) (all : List Line) → Valid f all → DeletesEarlier all
-valid_deletes f all v = deletes_from f all [] v (λ n lt. refl)

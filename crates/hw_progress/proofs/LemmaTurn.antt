@@ -1,4 +1,4 @@
--- A lemma with its reasons, its conflict and the deletion behind it: valid, lean, new, and fitting.
+-- A lemma with its reasons, its conflict and the deletion after it: valid, lean, new, and fitting.
 use Rattle.std.proofs.Common.{◌≡◌, ℕ, ◌+◌, ◌^◌, ◌<◌, ◌≤◌, Bool, true, false, cond, List, [], ◌∷◌, ◌++◌, length, All, IsSome, refl, sym, ap, ◌∙◌, subst, arith, append-nil, append_assoc, length-append}
 use Rattle.std.specs.Prelude.{AllPairs}
 use Rattle.std.specs.List.Sorted.{IsStrictlyIncreasing}

@@ -12,13 +12,13 @@ use Rattle.hw_model.specs.declared.source.Source.TheVariants as sources
 use Rattle.hw_model.specs.Problem.{Problem}
 use Rattle.hw_lines.specs.declared.line.Line.{Line}
 use Rattle.hw_lines.specs.declared.line.Line.TheVariants as lines
-use Rattle.hw_lines.specs.Lines.{clause_of, clauses_of, clause_count, clause_at, live, deletes, table_after, last_table, is_end, is_closed}
+use Rattle.hw_lines.specs.Lines.{clause_of, clauses_of, clause_count, clause_at, live, deletes, DeletesEarlier, table_after, last_table, is_end, is_closed}
 use Rattle.hw_lines.specs.Lemmas.{lemma_of, lemmas_of}
 use Rattle.hw_lines.proofs.Pushed.{one_more}
 use Rattle.hw_lines.proofs.Pushed.{last_push, clauses_push}
 use Rattle.hw_story.specs.Learning.{reason_at}
 use Rattle.hw_store.specs.declared.store.Stored.{Stored}
-use Rattle.hw_progress.specs.Searches.{SearchModel, FitsOpen, LiveKept, DeletesEarlier, written_at, kept_numbers}
+use Rattle.hw_progress.specs.Searches.{SearchModel, FitsOpen, LiveKept, written_at, kept_numbers}
 use Rattle.hw_progress.specs.Turns.{source_line, with_written, with_lemma}
 use Rattle.hw_progress.proofs.Numbers.{WrittenAt, written_found, found_written, set_here, set_other, get_within}
 

@@ -11,7 +11,7 @@ use Rattle.hw_model.specs.declared.source.Source.{Source}
 use Rattle.hw_model.specs.Problem.{Problem}
 use Rattle.hw_lines.specs.declared.line.Line.{Line}
 use Rattle.hw_lines.specs.declared.line.Line.TheVariants as lines
-use Rattle.hw_lines.specs.Lines.{clause_count, live}
+use Rattle.hw_lines.specs.Lines.{clause_count, live, live_numbers}
 use Rattle.hw_lines.specs.Lemmas.{lemmas_of}
 use Rattle.hw_story.specs.declared.event.Why.{Why}
 use Rattle.hw_story.specs.declared.event.Why.TheVariants as whys
@@ -21,7 +21,7 @@ use Rattle.hw_store.specs.declared.store.Stored.{Stored}
 use Rattle.hw_progress.specs.Searches.{SearchModel, IsSearch, FitsOpen, LiveKept, kept_numbers, why_at, written_at}
 use Rattle.hw_progress.specs.Settling.{IsConflict}
 use Rattle.hw_progress.specs.Turns.{source_line, Cited, cite_by, cite, cited, cite_conflict, with_lemma, gone_back, unkept, deletion}
-use Rattle.hw_progress.specs.Living.{live_numbers, FewLive, FewLiveFrom, FewLiveThroughout}
+use Rattle.hw_progress.specs.Living.{FewLive, FewLiveFrom, FewLiveThroughout}
 use Rattle.hw_progress.specs.Laws.{lemma_lines, LemmaMeets, LiveTurn}
 use Rattle.hw_progress.proofs.Lines.{IsClauseLine, source_is, lemma_is, source_no_lemma, same_lemmas, lemmas_push, live_back, live_inside}
 use Rattle.hw_progress.proofs.Backs.{contains_any, in_filter, from_filter, in_range, some_live}

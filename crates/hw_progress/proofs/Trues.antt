@@ -64,7 +64,7 @@ all_filtered : (P : List Lit → Type 0) (g : ℕ → Option (List Lit)) (places
 all_filtered P g [] h = All-nil P
 all_filtered P g (place ∷ places) h = add_some P (g place) (filter_map g places) (h place) (all_filtered P g places h)
 
--- and of the reasons at places and a conflict behind them
+-- and of the reasons at places with a conflict after them
 all_chain : (s : SearchModel) → IsSearch s → (P : List Lit → Type 0) → ((why : Why) → IsClause (shape_of s.problem) (clause_of why) → IsReason s why → P (clause_of why)) → (places : List ℕ) (clause : List Lit) → P clause → All P (chain_of s.trail places clause)
 all_chain s is P h places clause p = All-append P (filter_map (reason_at s.trail) places) (clause ∷ []) (all_filtered P (reason_at s.trail) places (each_reason s is P h)) (All-cons P clause [] p (All-nil P))
 

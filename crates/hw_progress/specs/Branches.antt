@@ -18,7 +18,7 @@ wide_ships room = filter (λ ship. nat_lt (low_of room ship) (high_of room ship)
 abbrev pub greatest_in : Problem → RoomModel → ℕ → ℕ
 greatest_in f room ship = greatest_value f ship (low_of room ship) (high_of room ship)
 
--- the least of these ships none of which has a greater value in its range
+-- the first of these ships whose range has the greatest value
 abbrev pub greatest_ship : Problem → RoomModel → List ℕ → Option ℕ
 greatest_ship f room ships = find (λ ship. list_all (λ other. nat_le (greatest_in f room other) (greatest_in f room ship)) ships) ships
 

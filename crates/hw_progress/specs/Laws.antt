@@ -1,4 +1,4 @@
--- The laws of a search: what it keeps, and that its lines are valid, lean and new and fit it.
+-- The laws of a search: what it keeps, and that the lines it writes are valid, lean and new and fit it.
 use Rattle.std.specs.Prelude.{◌≡◌, ◌⊎◌, ℕ, ◌+◌, ◌-◌, ◌^◌, ◌<◌, ◌≤◌, true, false, List, [], ◌∷◌, ◌++◌, Option, Some, None, All, Contains, IsSome, IsSomeAnd, IsTrue, length, map, take}
 use Rattle.std.specs.List.{range_with_len}
 use Rattle.hw_model.specs.declared.lit.Lit.{Lit}
@@ -15,7 +15,7 @@ use Rattle.hw_model.specs.Replay.{narrowing}
 use Rattle.hw_lines.specs.declared.line.Line.{Line}
 use Rattle.hw_lines.specs.declared.line.Line.TheVariants as lines
 use Rattle.hw_lines.specs.Lines.{clause_count, live, is_closed}
-use Rattle.hw_lines.specs.Valid.{LineFits, ValidAfter, Valid, hinted}
+use Rattle.hw_lines.specs.Valid.{LineFits, ValidAfter, hinted}
 use Rattle.hw_lines.specs.Lemmas.{LeanAfter, lemmas_of, IsNew}
 use Rattle.hw_story.specs.declared.event.Event.{Event}
 use Rattle.hw_story.specs.declared.event.Why.{Why}
@@ -26,7 +26,7 @@ use Rattle.hw_progress.specs.declared.outcome.Branching.{Branching}
 use Rattle.hw_progress.specs.Luby.{luby}
 use Rattle.hw_progress.specs.Branches.{branch_literal}
 use Rattle.hw_cert.specs.Logs.{LogTold, LogModel}
-use Rattle.hw_progress.specs.Searches.{SearchModel, new_search, IsSearch, IsReason, OfBetter, FitsOpen, LiveKept, LogFits, DeletesEarlier, room_in, best_cargo, written_at, why_at, kept_numbers}
+use Rattle.hw_progress.specs.Searches.{SearchModel, new_search, IsSearch, IsReason, OfBetter, FitsOpen, LiveKept, LogFits, room_in, best_cargo, written_at, why_at, kept_numbers}
 use Rattle.hw_progress.specs.Settling.{AllQuiet, with_events, IsConflict}
 use Rattle.hw_progress.specs.Turns.{source_line, with_written, Cited, cited, cite_conflict, with_lemma, to_level, gone_back, unkept, deletion, DoesEnd, WritesWell}
 use Rattle.hw_progress.specs.declared.outcome.Solved.{Solved}
@@ -67,7 +67,7 @@ abbrev pub TableLine : Type 0
 TableLine = (s : SearchModel) (before : List Line) (table : List ℕ) (c : ℕ) → IsSearch s → FitsOpen before s → Permits s.problem table → cargo s.problem table ≡ Some c → IsTrue (beats c (best_cargo s))
     → GoodLine s.problem before (lines.Table table) × FitGoes before s (before ++ lines.Table table ∷ []) (record s { best = Some table }) × IsSearch (record s { best = Some table })
 
--- the timetable of a quiet point room is such a one
+-- the timetable of a quiet point room is such a timetable
 abbrev pub PointTable : Type 0
 PointTable = (s : SearchModel) → IsSearch s → AllQuiet s → IsPoint (room_in s) → Permits s.problem (point_of (room_in s)) × (c : ℕ) × (cargo s.problem (point_of (room_in s)) ≡ Some c) × IsTrue (beats c (best_cargo s))
 
@@ -77,6 +77,7 @@ DeleteLine = (s : SearchModel) (before : List Line) → FitsOpen before s → ((
 
 -- ---- what changes without a line
 
+-- what implied events, a decision and going back leave of the fit of lines
 pub record FitChanges (s : SearchModel) (before : List Line) : Type 0 where
   pub implied : (more : List Event) → FitGoes before s before (with_events s more)
   pub decision : (lit : Lit) → FitGoes before s before (record s { trail = decided s.trail lit; written = s.written ++ None ∷ [] })
@@ -85,6 +86,7 @@ pub record FitChanges (s : SearchModel) (before : List Line) : Type 0 where
 abbrev pub FitKept : Type 0
 FitKept = (s : SearchModel) (before : List Line) → IsSearch s → FitsOpen before s → FitChanges s before
 
+-- an implied literal, a decision and a better timetable each leave a search
 pub record SearchChanges (s : SearchModel) : Type 0 where
   pub implied : (lit : Lit) (why : Why) → lit_fits (trail_shape s.trail) lit ≡ true → IsClause (trail_shape s.trail) (clause_of why) → truth (room_in s) lit ≡ Free → narrowing (clause_of why) (room_in s) ≡ Cut lit → IsReason s why → IsSearch (with_events s (record { lit = lit; level = s.trail.level; why = Some why } ∷ []))
   pub decision : (lit : Lit) → AllQuiet s → lit_fits (trail_shape s.trail) lit ≡ true → truth (room_in s) lit ≡ Free → IsSearch (record s { trail = decided s.trail lit; written = s.written ++ None ∷ [] })
@@ -103,7 +105,7 @@ ReasonRises = (s : SearchModel) (table : List ℕ) (c : ℕ) (why : Why) → car
 abbrev pub lemma_lines : Cited → List Lit → List Line
 lemma_lines c lemma = c.lines ++ lines.Lemma lemma c.hints ∷ []
 
--- the lemma's hints name, in order, the lines of the reasons at the places and then that of the conflict
+-- the lines of a lemma are written well and fit the search after it, and few are written
 pub record LemmaMeets (s : SearchModel) (before : List Line) (why : Why) (lemma : List Lit) (back : ℕ) (places : List ℕ) (c : Cited) (after : SearchModel) : Type 0 where
   pub hints : hinted (before ++ c.lines) c.hints ≡ chain_of s.trail places (clause_of why)
   pub well : WritesWell s.problem before (lemma_lines c lemma ++ deletion (unkept (before ++ lemma_lines c lemma) after))
@@ -123,6 +125,7 @@ pub record EndMeets (s : SearchModel) (before : List Line) (why : Why) (places :
   pub closed : is_closed (before ++ lemma_lines c []) ≡ true
   pub few : clause_count (lemma_lines c []) ≤ most_events s.problem.ships s.problem.slots + 2
 
+-- a lemma without literals ends the certificate, and its lines are written well
 abbrev pub LastTurn : Type 0
 LastTurn = (s : SearchModel) (before : List Line) (why : Why) (back : ℕ) (places : List ℕ) → IsSearch s → s.over ≡ false → s.lemmas < 100000 → FitsOpen before s → LiveKept before s → IsConflict s why → 1 ≤ length (clause_of why) → Learns s.trail (clause_of why) [] back places
     → EndMeets s before why places (cite_conflict (cited s places) why)
@@ -152,11 +155,13 @@ pub record NumbersKept (s : SearchModel) (c : Cited) (most : ℕ) : Type 0 where
   pub low : s.clause_lines ≤ c.search.clause_lines
   pub high : c.search.clause_lines ≤ s.clause_lines + most
 
+-- a search that went back is one, also where it is over, and without the lemma
 pub record BackKeeps (s gone : SearchModel) : Type 0 where
   pub kept : IsSearch gone
   pub over : IsSearch (record gone { over = true })
   pub lacks : IsSearch (record gone { stored = s.stored; over = true })
 
+-- what a turn that stopped leaves is a search, wherever it stopped
 pub record StopKeeps (s : SearchModel) : Type 0 where
   pub numbers : (why : Why) (places : List ℕ) → NumbersKept s (cite_conflict (cited s places) why) (length places + 1)
   pub before : (written : List (Option ℕ)) (lines lemmas : ℕ) → length written ≡ length s.written → s.clause_lines ≤ lines → IsSearch (record s { written = written; clause_lines = lines; lemmas = lemmas; over = true })
@@ -182,7 +187,7 @@ pub record LiveTurn (s : SearchModel) (before : List Line) : Type 0 where
 abbrev pub TurnLive : Type 0
 TurnLive = (s : SearchModel) (before : List Line) → IsSearch s → s.over ≡ false → s.lemmas < 100000 → FitsOpen before s → LiveKept before s → LiveTurn s before
 
--- few are live throughout: of no lines, and of lines with those of a turn behind them
+-- few are live throughout: of no lines, and of lines followed by those of a turn
 abbrev pub LiveThroughout : Type 0
 LiveThroughout = (f : Problem) → FewLiveThroughout f [] × ((before more : List Line) → FewLiveThroughout f before → FewLiveFrom f before more → FewLiveThroughout f (before ++ more))
 
@@ -192,6 +197,7 @@ pub record PartMeets (f : Problem) (before more part : List Line) : Type 0 where
   pub few_live : FewLiveFrom f before part
   pub few : clause_count part ≤ clause_count more
 
+-- the first lines of what is written well are written well
 abbrev pub PartWritten : Type 0
 PartWritten = (f : Problem) (before more : List Line) (n : ℕ) → WritesWell f before more → FewLiveFrom f before more → PartMeets f before more (take n more)
 
@@ -203,6 +209,7 @@ FewWritten = (s : SearchModel) → IsSearch s → (length s.written ≤ most_eve
 abbrev pub FewNew : Type 0
 FewNew = (f : Problem) (all : List Line) → IsFlat f → All (LineFits f) all → IsNew f all → length (lemmas_of all) ≤ room_count f
 
+-- a search stores no more lemmas than there are rooms
 abbrev pub FewStored : Type 0
 FewStored = (s : SearchModel) → IsSearch s → length s.stored ≤ room_count s.problem
 
@@ -214,10 +221,6 @@ FewNumbers = (s : SearchModel) → IsSearch s → s.over ≡ false → s.lemmas 
 abbrev pub FewRestarts : Type 0
 FewRestarts = (s : SearchModel) → IsSearch s → s.over ≡ false → s.lemmas < 100000 → s.restarts + 1 ≤ 100000
 
--- valid lines delete only what stands before
-abbrev pub ValidDeletes : Type 0
-ValidDeletes = (f : Problem) (all : List Line) → Valid f all → DeletesEarlier all
-
 -- ---- branching and restarts
 
 -- the literal of the branching rule is there, in range and open
@@ -228,7 +231,7 @@ BranchOpen = (branching : Branching) (f : Problem) (room : RoomModel) → RoomFi
 abbrev pub FirstLubys : Type 0
 FirstLubys = map luby (range_with_len 1 15) ≡ 1 ∷ 1 ∷ 2 ∷ 1 ∷ 1 ∷ 2 ∷ 4 ∷ 1 ∷ 1 ∷ 2 ∷ 1 ∷ 1 ∷ 2 ∷ 4 ∷ 8 ∷ []
 
--- the k of 2^k - 1 gives 2^(k-1), and each other place up to 2^k - 1 that of what is left behind 2^(k-1) - 1
+-- the place 2^k - 1 gives 2^(k-1), and a place from 2^(k-1) on and below 2^k - 1 gives what the place 2^(k-1) - 1 before it gives
 abbrev pub LubyRule : Type 0
 LubyRule = (i k : ℕ) → 1 ≤ k → (i + 1 ≡ 2 ^ k → luby i ≡ 2 ^ (k - 1)) × (2 ^ (k - 1) ≤ i → i + 1 < 2 ^ k → luby i ≡ luby (i + 1 - 2 ^ (k - 1)))
 

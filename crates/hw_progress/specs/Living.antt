@@ -1,15 +1,10 @@
 -- How many clauses are live.
-use Rattle.std.specs.Prelude.{ℕ, ◌+◌, ◌≤◌, List, [], ◌∷◌, ◌++◌, length, filter, take, is_some, ⊤}
-use Rattle.std.specs.List.{range_with_len}
+use Rattle.std.specs.Prelude.{ℕ, ◌+◌, ◌≤◌, List, [], ◌∷◌, ◌++◌, length, take, ⊤}
 use Rattle.hw_model.specs.Problem.{Problem}
 use Rattle.hw_lines.specs.declared.line.Line.{Line}
-use Rattle.hw_lines.specs.Lines.{clause_count, live}
+use Rattle.hw_lines.specs.Lines.{live_numbers}
 use Rattle.hw_lines.specs.Lemmas.{lemmas_of}
 use Rattle.hw_story.specs.Trails.{most_events}
-
--- the numbers of the live clauses, ascending
-abbrev pub live_numbers : List Line → List ℕ
-live_numbers all = filter (λ id. is_some (live all id)) (range_with_len 1 (clause_count all))
 
 -- few clauses are live: the lemmas, the reasons on a trail, and one conflict
 abbrev pub FewLive : Problem → List Line → Type 0
@@ -19,7 +14,7 @@ FewLive f all = length (live_numbers all) ≤ length (lemmas_of all) + most_even
 abbrev pub FewLiveThroughout : Problem → List Line → Type 0
 FewLiveThroughout f all = (n : ℕ) → n ≤ length all → FewLive f (take n all)
 
--- after each of these lines behind the ones before
+-- after each of these lines, which follow the ones before
 abbrev pub FewLiveFrom : Problem → List Line → List Line → Type 0
 FewLiveFrom f before [] = ⊤
 FewLiveFrom f before (line ∷ more) = FewLive f (before ++ line ∷ []) × FewLiveFrom f (before ++ line ∷ []) more

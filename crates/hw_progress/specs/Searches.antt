@@ -1,7 +1,6 @@
 -- What contracts see of a search, what its type keeps, and when a log fits it.
 use Rattle.std.specs.Prelude.{◌≡◌, ℕ, ◌+◌, ◌*◌, ◌<◌, ◌≤◌, Bool, false, List, [], ◌++◌, Option, Some, None, All, AllPairs, Contains, IfSome, IsSome, IsTrue, length, map, filter_map, slice_get, option_and_then}
 use Rattle.std.specs.Option.{option_flatten}
-use Rattle.std.specs.List.{list_any}
 use Rattle.std.specs.List.Sorted.{IsStrictlyIncreasing}
 use Rattle.hw_model.specs.declared.lit.Lit.{Lit}
 use Rattle.hw_model.specs.Problem.{Problem, shape_of}
@@ -11,7 +10,7 @@ use Rattle.hw_model.specs.Lits.{clause_holds, IsClause}
 use Rattle.hw_model.specs.Rooms.{RoomModel, RoomWithin}
 use Rattle.hw_model.specs.Refuting.{Refutes, IsSourceOf}
 use Rattle.hw_lines.specs.declared.line.Line.{Line}
-use Rattle.hw_lines.specs.Lines.{clause_count, clause_at, live, deletes, last_table, is_closed}
+use Rattle.hw_lines.specs.Lines.{clause_count, clause_at, live, DeletesEarlier, last_table, is_closed}
 use Rattle.hw_lines.specs.Valid.{denied_room}
 use Rattle.hw_lines.specs.Lemmas.{lemmas_of}
 use Rattle.hw_model.specs.Quiet.{SpeaksOnlyOf}
@@ -96,10 +95,6 @@ pub record IsSearch (s : SearchModel) : Type 0 where
   pub restarts_due : s.since < 32 * luby (s.restarts + 1)
   pub few_restarts : s.over ≡ false → s.restarts + s.since ≤ s.lemmas
   pub sound : OfBetter s (λ table. All (λ clause. IsTrue (clause_holds table clause)) (lemmas_in s))
-
--- no line deletes a number that no clause line has yet. Valid lines are so
-abbrev pub DeletesEarlier : List Line → Type 0
-DeletesEarlier lines = (number : ℕ) → clause_count lines < number → list_any (deletes number) lines ≡ false
 
 -- all of the fit but that no other line is live
 pub record FitsOpen (lines : List Line) (s : SearchModel) : Type 0 where

@@ -30,7 +30,7 @@ AnswerTells f budget (Unfinished table) all = (last_table all ≡ table) × (len
 AnswerTells f budget (NoMemory table) all = last_table all ≡ table
 AnswerTells f budget LogFailed all = ⊤
 
--- Unfinished, or want of memory, which is free
+-- Unfinished, or out of memory, which may come at any time
 abbrev pub may_be_spent : Solved → Bool
 may_be_spent (Optimal table c) = false
 may_be_spent Infeasible = false

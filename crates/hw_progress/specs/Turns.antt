@@ -45,6 +45,8 @@ pub record Cited : Type 0 where
   pub lines : List Line
   pub hints : List ℕ
 
+-- what is written and cited, with one more reason: a stored lemma by its number, a written reason by its own, another one by
+-- a line of its own
 abbrev pub cite_by : Cited → ℕ → Option Why → Option ℕ → Cited
 cite_by c place None number = c
 cite_by c place (Some (whys.Lemma number clause)) other = record c { hints = c.hints ++ number ∷ [] }
@@ -98,6 +100,7 @@ pub record Analysed (s mid : SearchModel) (why : Why) (lemma : List Lit) (back :
   pub settles : Settles s mid (Conflict why)
   pub learns : Learns mid.trail (clause_of why) lemma back places
 
+-- all was quiet, the room was no point, and the search decided by the branching rule; no line was written
 pub record DoesDecide (s after : SearchModel) (old new : LogModel) : Type 0 where
   pub mid : SearchModel
   pub settles : Settles s mid Quiet
@@ -105,6 +108,7 @@ pub record DoesDecide (s after : SearchModel) (old new : LogModel) : Type 0 wher
   pub decides : IsSomeAnd (branch_literal mid.branching mid.problem (room_in mid)) (λ lit. after ≡ record mid { trail = decided mid.trail lit; written = mid.written ++ None ∷ [] })
   pub no_line : Grows old new (λ was now. now ≡ was)
 
+-- all was quiet at a point, whose timetable was written and is the best from now on
 pub record DoesBetter (s after : SearchModel) (old new : LogModel) : Type 0 where
   pub mid : SearchModel
   pub settles : Settles s mid Quiet
@@ -112,6 +116,7 @@ pub record DoesBetter (s after : SearchModel) (old new : LogModel) : Type 0 wher
   pub better : after ≡ record mid { best = Some (point_of (room_in mid)) }
   pub table : Grows old new (λ was now. now.lines ≡ was.lines ++ lines.Table (point_of (room_in mid)) ∷ [])
 
+-- there was a conflict; a lemma that its analysis permits was written after its reasons, and the search went back
 pub record DoesLemma (s after : SearchModel) (old new : LogModel) : Type 0 where
   pub mid : SearchModel
   pub why : Why
@@ -142,6 +147,7 @@ pub record EndsAtConflict (s after : SearchModel) (old new : LogModel) : Type 0 
   pub since : after.since ≡ s.since
   pub written : Grows old new (λ was now. now.lines ≡ was.lines ++ source_line s.problem source [] ∷ [])
 
+-- the lemma of a conflict has no literals: it was written, and the search is over
 pub record EndsAtLemma (s after : SearchModel) (old new : LogModel) : Type 0 where
   pub mid : SearchModel
   pub why : Why
@@ -155,13 +161,14 @@ pub record EndsAtLemma (s after : SearchModel) (old new : LogModel) : Type 0 whe
       let c = cite_conflict (cited mid places) why in
       now.lines ≡ was.lines ++ c.lines ++ lines.Lemma [] c.hints ∷ [])
 
+-- the search ended at a conflict without literals, or at a lemma without literals
 pub data DoesEnd (s after : SearchModel) (old new : LogModel) : Type 0 where
   at_conflict : EndsAtConflict s after old new → DoesEnd s after old new
   at_lemma : EndsAtLemma s after old new → DoesEnd s after old new
 
--- ---- where a turn stopped for want of memory, or since the log failed
+-- ---- where a turn stopped because memory ran out or the log failed
 
--- it stopped before its Lemma line was written: implied events stand behind the trail, and all counts of lemmas are as before
+-- it stopped before its Lemma line was written: implied events follow the trail, and all counts of lemmas are as before
 pub record StopsBefore (s after : SearchModel) : Type 0 where
   pub mid : SearchModel
   pub implies : Implies s mid
@@ -171,7 +178,7 @@ pub record StopsBefore (s after : SearchModel) : Type 0 where
   pub restarts : after.restarts ≡ s.restarts
   pub since : after.since ≡ s.since
 
--- the lemma was added; for want of memory it may be missing
+-- the lemma was added; if memory ran out it may be missing
 abbrev pub IsAdded : Turn → SearchModel → SearchModel → SearchModel → Type 0
 IsAdded turns.Decided s gone after = after.stored ≡ gone.stored
 IsAdded turns.Better s gone after = after.stored ≡ gone.stored
@@ -180,7 +187,7 @@ IsAdded turns.Ended s gone after = after.stored ≡ gone.stored
 IsAdded turns.NoMemory s gone after = (after.stored ≡ gone.stored) ⊎ (after.stored ≡ s.stored)
 IsAdded turns.LogFailed s gone after = after.stored ≡ gone.stored
 
--- it stopped past its Lemma line, with nothing written behind it: it has gone back, as a turn that answers Lemma
+-- it stopped past its Lemma line, with nothing written after it: it has gone back, as a turn that answers Lemma
 pub record StopsPast (turn : Turn) (s after : SearchModel) (old new : LogModel) : Type 0 where
   pub mid : SearchModel
   pub why : Why
@@ -214,25 +221,28 @@ pub record WritesPart (s : SearchModel) (was now : LogTold) : Type 0 where
   pub upto : ℕ
   pub part : now.lines ≡ was.lines ++ take upto plan
 
--- the line that failed is the next one, and a proper prefix of its text is behind the lines
+-- the line that failed is the next one, and a proper prefix of its text follows the lines
 pub record FailsPart (s : SearchModel) (was now : LogTold) : Type 0 where
   pub written : WritesPart s was now
   pub next : IsSomeAnd (slice_get written.plan written.upto) (λ line. IsBegunLine line now.behind)
 
--- the line that failed is of the shape, valid and lean after the lines, and a proper prefix of its text is behind them
+-- the line that failed is of the shape, valid and lean after the lines, and a proper prefix of its text follows them
 abbrev pub FailsAt : Problem → LogTold → Type 0
 FailsAt f now = (line : Line) × LineFits f line × ValidAfter f now.lines line × LeanAfter f now.lines line × IsBegunLine line now.behind
 
+-- the log failed: its faults rose, and some first lines of the turn were written
 pub record DoesFail (s after : SearchModel) (old new : LogModel) : Type 0 where
   pub cause : Rose old.faults new.faults
   pub failed : WhereTold new (FailsAt s.problem)
   pub part : Grows old new (FailsPart s)
   pub stops : Stops turns.LogFailed s after old new
 
+-- memory ran out: some first lines of the turn were written
 pub record WantsMemory (s after : SearchModel) (old new : LogModel) : Type 0 where
   pub part : Grows old new (WritesPart s)
   pub stops : Stops turns.NoMemory s after old new
 
+-- what a turn does, by its answer
 abbrev pub TurnDoes : SearchModel → LogModel → Turn → SearchModel → LogModel → Type 0
 TurnDoes s old turns.Decided after new = DoesDecide s after old new
 TurnDoes s old turns.Better after new = DoesBetter s after old new
@@ -266,6 +276,7 @@ pub record WritesWell (f : Problem) (before more : List Line) : Type 0 where
   pub lean : LeanFrom f before more
   pub new : IsNew f before → IsNew f (before ++ more)
 
+-- the lines of a turn are written well, not many, and few are live after each of them
 pub record TurnWrites (f : Problem) (turn : Turn) (was now : LogTold) : Type 0 where
   pub more : List Line
   pub lines : now.lines ≡ was.lines ++ more

@@ -1,6 +1,8 @@
-//! What contracts see of a search, and what settling, a turn and a whole solution do.
+//! The theory of what a search writes: its state as contracts see it, when a log fits that state,
+//! and what settling, a turn and a whole solution do to both.
 //!
-//! The laws are public functions without a body whose clause is the statement.
+//! Beside the types of the answers there is no code: `hw_search` is proved against it. Each law is a
+//! public function without a body whose clause is the statement.
 #![tactic(auto)]
 
 mod laws;
@@ -10,6 +12,6 @@ pub use laws::{
     branch_open, conflict_line, delete_line, end_means, few_new, few_numbers, few_restarts,
     few_stored, few_written, first_lubys, fit_kept, last_turn, lemma_turn, live_bound,
     live_throughout, luby_rule, new_search, part_written, point_table, reason_line, reason_rises,
-    search_kept, solved_sound, sources_once, stop_kept, table_line, turn_live, valid_deletes,
+    search_kept, solved_sound, sources_once, stop_kept, table_line, turn_live,
 };
 pub use outcome::{Branching, Settled, Solved, Turn};

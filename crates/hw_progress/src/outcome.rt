@@ -6,8 +6,8 @@ use hw_story::Why;
 /// How a search decides in a quiet room.
 #[derive(Clone, Copy, Debug, PartialEq, Eq)]
 pub enum Branching {
-    /// Of the ships with several slots left the first one whose range has the greatest value: it
-    /// sails in the first slot of that value or later, or, where that is its lowest, in just that.
+    /// The first of the ships with several slots left whose range has the greatest value. It sails
+    /// in the first slot of that value or later, or in just that slot if it is the ship's lowest.
     Greatest,
     /// The first ship with several slots left sails in its lowest slot.
     Earliest,
@@ -34,7 +34,7 @@ pub enum Turn {
     Lemma,
     /// A line without literals was written: nothing beats the best timetable so far.
     Ended,
-    /// Memory was wanting.
+    /// Memory ran out.
     NoMemory,
     /// The log didn't take a line.
     LogFailed,
@@ -49,7 +49,7 @@ pub enum Solved {
     Infeasible,
     /// As many lemmas as the budget were written.
     Unfinished { table: Option<Timetable> },
-    /// Memory was wanting.
+    /// Memory ran out.
     NoMemory { table: Option<Timetable> },
     /// The log didn't take a line.
     LogFailed,

@@ -24,7 +24,7 @@ some_fails test (y ∷ ys) (suc k) x l e f = and_right (test y) (list_all test y
 pub held_through : (holes : List Hole) (h : Hole) (e : ℤ) → Contains holes h → h.lo ≤ℤ e → e ≤ℤ h.hi → list_all (misses e) holes ≡ false
 held_through holes h e c p q = some_fails (misses e) holes c.0 h c.1 c.2 (not_missed h e p q)
 
--- the holes that end at a difference or behind it
+-- the holes that end at a difference or after it
 abbrev pub ahead : ℤ → Hole → Bool
 ahead d h = not (int_lt h.hi d)
 
@@ -55,13 +55,13 @@ ahead_at d h le = grind (arith, ints)
 not_behind : (h : Hole) → ahead (h.hi +ℤ pos 1) h ≡ false
 not_behind h = grind (arith, ints)
 
--- going on behind a hole leaves fewer of them
+-- going on after a hole leaves fewer of them
 pub fewer_ahead : (holes : List Hole) (d : ℤ) (h : Hole) → HoleAt holes d h → count_by (ahead (h.hi +ℤ pos 1)) holes < count_by (ahead d) holes
 fewer_ahead holes d h at =
     let le : d ≤ℤ (h.hi +ℤ pos 1) = omega (arith, ints, at.to) in
     count_less (ahead (h.hi +ℤ pos 1)) (ahead d) (ahead_on d (h.hi +ℤ pos 1) le) holes at.among.0 h at.among.1 at.among.2 (not_behind h) (ahead_at d h at.to)
 
--- an interval is covered exactly where the part behind the hole at its low end is
+-- an interval is covered if the part after the hole at its low end is
 pub behind_hole : (lo hi : ℤ) (holes : List Hole) (h : Hole) → HoleAt holes lo h → Covered (h.hi +ℤ pos 1) hi holes → Covered lo hi holes
 behind_hole lo hi holes h at rest d p q =
     elim (le_or_gt d h.hi) [

@@ -19,7 +19,7 @@ moved f p q list back on h = record {
   order = h.order;
 }
 
--- the source of the place, behind those before it
+-- the source of the place, after those before it
 pushed : (f : Problem) (s q : Source) (list : List Source) → IsSourceOf f s → ((t : Source) → IsSourceOf f t → ComesBefore t q → ComesBefore t s ⊎ (s ≡ t)) → ((t : Source) → IsSourceOf f t → ComesBefore t s → ComesBefore t q)
     → ComesBefore s q → AreSourcesBefore f s list → AreSourcesBefore f q (list ++ s ∷ [])
 pushed f s q list is back on here h = record {

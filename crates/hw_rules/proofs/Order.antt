@@ -8,7 +8,7 @@ use Rattle.std.proofs.Math.Nat.{pow-zero, pow-succ', mul-le-mul_right, mod-lt, d
 use Rattle.hw_model.specs.Problem.{Problem, IsTimetable}
 use Rattle.hw_model.specs.Walk.{rank, table_count}
 use Rattle.hw_rules.specs.Listing.{Precedes}
-use Rattle.hw_rules.proofs.Rank.{rank_lt, same_rank, lt_by}
+use Rattle.hw_laws.proofs.Rank.{rank_lt, same_rank, lt_by}
 
 -- a lesser first slot outweighs all the others
 outweighs : (s x y : ℕ) (xs ys : List ℕ) → AllByRecursion (λ t. t < s) xs → length xs ≡ length ys → x < y → x * s ^ length xs + rank s xs < y * s ^ length ys + rank s ys
@@ -60,7 +60,7 @@ follows f a b h g =
     let below' = recursion_from_All _ b g.each_slot in
     (λ p. lesser_by f.slots a b p.0 below n p.1 p.2, λ lt. precedes_by f.slots a b below below' n lt)
 
--- the list of so many slots that has this rank
+-- the list of k slots that has this rank
 ranked : (s k n : ℕ) → n < s ^ k → (xs : List ℕ) × (length xs ≡ k) × AllByRecursion (λ t. t < s) xs × (rank s xs ≡ n)
 ranked s zero n lt =
     let small = rw pow-zero at lt in

@@ -4,7 +4,7 @@ use Rattle.hw_model.specs.Problem.{Problem, IsTimetable}
 use Rattle.hw_model.specs.Timetables.{Permits, FirstBroken, first_broken}
 use Rattle.hw_laws.proofs.Broken.{permits_from, from_permits, is_first_broken}
 
--- none is found just where the timetable is permitted
+-- none is found exactly where the timetable is permitted
 pub none_broken : (f : Problem) (table : List ℕ) → IsTimetable f table → None ≡ first_broken f table → Permits f table
 none_broken f table listed e = permits_from f table listed (sym e)
 

@@ -5,12 +5,11 @@ use Rattle.hw_model.specs.Problem.{Problem, IsTimetable, value_at}
 use Rattle.hw_model.specs.Timetables.{Permits, NonePermitted, cargo, beats}
 use Rattle.hw_model.specs.Walk.{rank, table_count, NoneBefore, FirstBest}
 use Rattle.hw_laws.proofs.Cargoes.{cargo_above}
-use Rattle.hw_laws.proofs.Rank.{first_is_best, none_of_all}
+use Rattle.hw_laws.proofs.Rank.{rank_lt, same_rank, first_is_best, none_of_all}
 use Rattle.hw_rules.specs.declared.outcome.Walked.{Walked}
 use Rattle.hw_rules.specs.declared.outcome.Walked.TheVariants.{Best, NoneLeft, Spent}
 use Rattle.hw_rules.specs.Outcomes.{WalkedTo, SomePermitted, IsBestFound, IsNoneLeft, IsSpent, FoundIsBest}
 use Rattle.hw_rules.specs.Listing.{kept, BestSoFar, answer}
-use Rattle.hw_rules.proofs.Rank.{same_rank, rank_lt}
 
 now_or_before : (f : Problem) (cur u : List ℕ) → IsTimetable f cur → Permits f u → rank f.slots u < rank f.slots cur + 1 → (u ≡ cur) ⊎ (rank f.slots u < rank f.slots cur)
 now_or_before f cur u h g lt =

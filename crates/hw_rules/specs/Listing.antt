@@ -22,7 +22,7 @@ abbrev pub kept : List ℕ → Option ℕ → Option (List ℕ × ℕ)
 kept table None = None
 kept table (Some c) = Some (table, c)
 
--- it is the first best of the first so many lists
+-- it is the first best of the first `many` lists
 abbrev pub BestSoFar : Problem → ℕ → Option (List ℕ × ℕ) → Type 0
 BestSoFar f many None = NoneBefore f many
 BestSoFar f many (Some best) = FirstBest f many best.0 best.1

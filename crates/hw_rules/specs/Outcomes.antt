@@ -1,4 +1,4 @@
--- What a walk through the first so many lists of slots finds.
+-- What a walk through the first n lists of slots finds.
 use Rattle.std.specs.Prelude.{ℕ, ◌<◌, ◌≤◌, List, Option, Some, None}
 use Rattle.hw_model.specs.Problem.{Problem}
 use Rattle.hw_model.specs.Timetables.{Permits, IsBest}
@@ -6,7 +6,7 @@ use Rattle.hw_model.specs.Walk.{NoneBefore, FirstBest, table_count}
 use Rattle.hw_rules.specs.declared.outcome.Walked.{Walked}
 use Rattle.hw_rules.specs.declared.outcome.Walked.TheVariants.{Best, NoneLeft, Spent}
 
--- the first best of the first so many lists, or none where none of these is permitted
+-- the first best of the first `many` lists, or none where none of these is permitted
 abbrev pub BestBefore : Problem → ℕ → Option (List ℕ) → Type 0
 BestBefore f many None = NoneBefore f many
 BestBefore f many (Some table) = (c : ℕ) × FirstBest f many table c
@@ -21,17 +21,19 @@ WalkedTo f budget (Spent table) = (budget < table_count f) × BestBefore f budge
 abbrev pub SomePermitted : Problem → Type 0
 SomePermitted f = (table : List ℕ) × Permits f table
 
--- which answer it is
+-- the answer is a best timetable
 abbrev pub IsBestFound : Walked → Type 0
 IsBestFound (Best table c) = Unit {0}
 IsBestFound NoneLeft = ⊥
 IsBestFound (Spent table) = ⊥
 
+-- the answer is that none is permitted
 abbrev pub IsNoneLeft : Walked → Type 0
 IsNoneLeft (Best table c) = ⊥
 IsNoneLeft NoneLeft = Unit {0}
 IsNoneLeft (Spent table) = ⊥
 
+-- the answer is that the budget is spent
 abbrev pub IsSpent : Walked → Type 0
 IsSpent (Best table c) = ⊥
 IsSpent NoneLeft = ⊥

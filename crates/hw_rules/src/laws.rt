@@ -8,7 +8,7 @@ pub fn rank_follows_order()
     ensures { RankFollowsOrder }
 {}
 
-/// A walk comes to each list of slots once.
+/// A walk visits each list of slots once.
 pub fn each_list_once()
     ensures { EachListOnce }
 {}

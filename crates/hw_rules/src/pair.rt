@@ -13,7 +13,7 @@ ghost use Rattle.hw_model.specs.RefutingComputed.{none_meets};
 use crate::spacing::{Freeing, sailing_slots, two_of, two_refuted};
 use hw_flat::{Flat, Hole, Room, ShipId, Slot};
 
-/// Whether the rule with these holes holds of two slots. Each hole is looked at once.
+/// Whether the rule with these holes holds of two slots. It looks at each hole once.
 pub(crate) fn pair_holds(flat: &Flat, holes: &[Hole], x: Slot, y: Slot) -> bool
     ensures value { result ≡ (stays flat.now x || stays flat.now y || list_all (misses (pos y -ℤ pos x)) holes.now) }
 {

@@ -64,7 +64,7 @@ fn hole_at(holes: &[Hole], d: i64) -> Option<Hole>
     None
 }
 
-/// The difference right behind a hole.
+/// The difference right after a hole.
 fn behind(hole: Hole) -> i64
     ensures { result ≡ hole.hi +ℤ pos 1 }
 {

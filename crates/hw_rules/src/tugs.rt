@@ -11,7 +11,7 @@ use hw_model::{Job, Rule, Slot};
 
 /// The tugs that a rule's jobs hold in a slot; none for a rule on two ships.
 ///
-/// At most 40 jobs are looked at.
+/// It looks at 40 jobs at most.
 pub fn busy(rule: &Rule, table: &Timetable, slot: Slot) -> u64
     requires rule_fits { RuleFits (length table.now) rule.now }
     ensures value { result ≡ busy rule.now table.now slot }
@@ -58,8 +58,8 @@ pub(crate) fn fleet_holds(flat: &Flat, fleet: u32, jobs: &[Job], table: &[Slot])
     (0..flat.horizon()).all(|slot| held(jobs, table, slot) <= u64::from(fleet))
 }
 
-/// The tugs that the jobs hold in a slot wherever their ships sail in their ranges. At most 40
-/// jobs are looked at.
+/// The tugs that the jobs hold in a slot wherever their ships sail in their ranges. It looks at 40
+/// jobs at most.
 pub fn forced_tugs(jobs: &[Job], room: &Room, slot: Slot) -> u64
     requires few { length jobs.now ≤ 40 }
     requires fit { All (JobFits room.now.ships) jobs.now }

@@ -1,21 +1,21 @@
 -- Rooms of one shape, none of which lies inside an earlier one, are at most as many as there are rooms.
 use Rattle.std.proofs.Common.{◌≡◌, ◌≢◌, ℕ, zero, suc, ◌+◌, ◌-◌, ◌*◌, ◌/◌, ◌^◌, ◌<◌, ◌≤◌, true, List, [], ◌∷◌, ◌++◌, length, get_or, refl, sym, ap, ◌∙◌, subst, arith, inl, inr, All, eqb}
 use Rattle.std.specs.Prelude.{AllPairs}
-use Rattle.std.specs.List.{AllByRecursion, list_any}
+use Rattle.std.specs.List.{list_any}
 use Rattle.std.proofs.lemmas.Bool.{cases_lt, cases_eq, or_cases, eqb-true}
 use Rattle.std.proofs.lemmas.Bool.Decides.{Decides-eqb}
 use Rattle.std.proofs.lemmas.List.{length-append}
-use Rattle.std.proofs.lemmas.List.Elements.{All-head, All-tail, All-nil, All-cons, recursion_from_All, All-get_or}
+use Rattle.std.proofs.lemmas.List.Elements.{All-head, All-tail, All-nil, All-cons, All-get_or}
 use Rattle.std.proofs.lemmas.Nat.{same_from_place}
 use Rattle.std.proofs.lemmas.Map.Made.{IsDistinct-from_AllPairs}
 use Rattle.std.proofs.lemmas.Map.Steps.{length-le_from_distinct_below}
-use Rattle.std.proofs.Math.Nat.{pow-zero, pow-succ', mul-le-mul_right}
+use Rattle.std.proofs.Math.Nat.{mul-le-mul_right}
 use Rattle.hw_model.specs.declared.order.Order.{Order}
 use Rattle.hw_model.specs.declared.order.Order.TheVariants as orders
 use Rattle.hw_model.specs.declared.shape.Shape.{Shape}
 use Rattle.hw_model.specs.Rooms.{RoomModel, IsRoomOf, RoomWithin, order_of}
 use Rattle.hw_model.specs.Walk.{rank}
-use Rattle.hw_laws.proofs.Rank.{rank_lt}
+use Rattle.hw_laws.proofs.Rank.{rank_lt, same_rank}
 
 -- ---- ranges by number
 
@@ -82,7 +82,7 @@ same_digit orders.First orders.First e = refl
 same_digit orders.NotFirst orders.NotFirst e = refl
 same_digit _ _ e = absurd (omega (arith, e))
 
--- the pairs of w with the lesser ones below k, and all pairs of so many ships
+-- the pairs of w with the lesser ones below k, and all pairs of n ships
 abbrev pub row : ℕ → ℕ → List (ℕ × ℕ)
 row w zero = []
 row w (suc v) = (v, w) ∷ row w v
@@ -194,47 +194,6 @@ same_orders a b (p ∷ ps) e =
     (same_digit _ _ here, same_orders a b ps rest)
 
 -- ---- one number for a room
-
-lt_by : (s : ℕ) (xs : List ℕ) → AllByRecursion (λ t. t < s) xs → rank s xs < s ^ length xs
-lt_by s [] h = rw pow-zero (omega arith)
-lt_by s (x ∷ xs) h =
-    let r = lt_by s xs h.1 in
-    let lt : x < s = h.0 in
-    let le : x + 1 ≤ s = omega (arith, lt) in
-    let one : (x + 1) * s ^ length xs ≤ s * s ^ length xs = mul-le-mul_right (s ^ length xs) le in
-    rw pow-succ' (omega (arith, r, one))
-
--- two lists of one length and one rank are one
-same_by : (s : ℕ) (xs ys : List ℕ) → AllByRecursion (λ t. t < s) xs → AllByRecursion (λ t. t < s) ys → length xs ≡ length ys → rank s xs ≡ rank s ys → xs ≡ ys
-same_by s [] [] h g n e = refl
-same_by s [] (y ∷ ys) h g n e = absurd (omega (arith, n))
-same_by s (x ∷ xs) [] h g n e = absurd (omega (arith, n))
-same_by s (x ∷ xs) (y ∷ ys) h g n e =
-    let m : length xs ≡ length ys = omega (arith, n) in
-    let p : y * s ^ length xs ≡ y * s ^ length ys = ap (λ k. y * s ^ k) m in
-    let q : s ^ length xs ≡ s ^ length ys = ap (λ k. s ^ k) m in
-    let a = lt_by s xs h.1 in
-    let b = lt_by s ys g.1 in
-    elim (cases_lt x y) [
-      | inl lt ↦
-          let le : x + 1 ≤ y = omega (arith, lt) in
-          let one : (x + 1) * s ^ length xs ≤ y * s ^ length xs = mul-le-mul_right (s ^ length xs) le in
-          absurd (omega (arith, a, b, one, e, p, q))
-      | inr ge ↦ elim (cases_lt y x) [
-        | inl lt ↦
-            let le : y + 1 ≤ x = omega (arith, lt) in
-            let one : (y + 1) * s ^ length xs ≤ x * s ^ length xs = mul-le-mul_right (s ^ length xs) le in
-            absurd (omega (arith, a, b, one, e, p, q))
-        | inr le ↦
-            let head : x ≡ y = omega (arith, ge, le) in
-            let c : x * s ^ length xs ≡ y * s ^ length xs = ap (λ k. k * s ^ length xs) head in
-            let tail : xs ≡ ys = same_by s xs ys h.1 g.1 m (omega (arith, c, p, e)) in
-            cc
-      ]
-    ]
-
-same_rank : (s : ℕ) (xs ys : List ℕ) → All (λ t. t < s) xs → All (λ t. t < s) ys → length xs ≡ length ys → rank s xs ≡ rank s ys → xs ≡ ys
-same_rank s xs ys h g n e = same_by s xs ys (recursion_from_All (λ t. t < s) xs h) (recursion_from_All (λ t. t < s) ys g) n e
 
 abbrev room_code : Shape → RoomModel → ℕ
 room_code shape room = rank (tri shape.slots) (ranges_code room.ranges) * 3 ^ length (pairs shape.ships) + rank 3 (orders_code room (pairs shape.ships))

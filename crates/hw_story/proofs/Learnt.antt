@@ -14,7 +14,7 @@ use Rattle.hw_model.specs.Lits.{IsLitOf}
 use Rattle.hw_story.specs.Sides.{implies}
 use Rattle.hw_story.specs.Replays.{meets}
 use Rattle.hw_story.specs.Stories.{Story, room_at}
-use Rattle.hw_story.specs.Walks.{In, InSome, chain, reason_of, Ascends, OneLess, Late, IsTop, denying, level_of as story_level, OneOfLevel as StoryOne, Levels, Learns as StoryLearns}
+use Rattle.hw_story.specs.Walks.{In, InSome, chain, reason_of, Ascends, OneLess, Late, IsTop, denying, story_level, OneAtTop, Levels, WalkGives}
 use Rattle.hw_story.specs.Walks.Levels.{Nothing, One}
 use Rattle.hw_story.specs.Knowing.{knows, always}
 use Rattle.hw_story.specs.Trails.{TrailModel, trail_shape, reason, room_of, IsTrail}
@@ -128,7 +128,7 @@ place_below s n p (r ∷ rs) h (suc k) q lt e = place_below s n (suc r) rs h.3 k
 -- ---- levels
 
 one_of : (t : TrailModel) → IsTrail t → (n : ℕ) → n ≤ length t.events → (top back : ℕ) (lemma : List Lit) (places : List ℕ) → IsClause (trail_shape t) lemma
-    → ((l : Lit) → In l lemma → room_at (story_of t) n (negation l) ≡ true) → Ascends (story_of t) n 0 places → GoesBack (story_of t) n top lemma back → StoryOne (story_of t) n top back lemma places → OneOfLevel t top lemma back places
+    → ((l : Lit) → In l lemma → room_at (story_of t) n (negation l) ≡ true) → Ascends (story_of t) n 0 places → GoesBack (story_of t) n top lemma back → OneAtTop (story_of t) n top back lemma places → OneOfLevel t top lemma back places
 one_of t is n le top back lemma places f known asc gb h =
     let fits : (l : Lit) → In l lemma → lit_fits (trail_shape t) l ≡ true = in_fits (trail_shape t) lemma 0 None f in
     let known' : (l : Lit) → In l lemma → room_at (story_of t) (length t.events) (negation l) ≡ true = λ l i. room_grows (story_of t) n (length t.events) le (negation l) (known l i) in
@@ -167,7 +167,7 @@ one_of t is n le top back lemma places f known asc gb h =
 pub learns_from : (t : TrailModel) → IsTrail t → (n : ℕ) → n ≤ length t.events → (top : ℕ) (clause lemma : List Lit) (back : ℕ) (places : List ℕ)
     → IsClause (trail_shape t) clause → ((d : Lit) → In d clause → room_at (story_of t) n (negation d) ≡ true) → IsTop (story_of t) n clause top
     → IsClause (trail_shape t) lemma → (top ≡ 0 → back ≡ 0) → GoesBack (story_of t) n top lemma back
-    → StoryLearns (story_of t) n top clause lemma back places → Learns t clause lemma back places
+    → WalkGives (story_of t) n top clause lemma back places → Learns t clause lemma back places
 learns_from t is n le top clause lemma back places cf known it f zb gb h =
     let room = denied_is (trail_shape t) lemma is.shape f in
     let same : top_level t clause ≡ top = top_is t is n le clause top (in_fits (trail_shape t) clause 0 None cf) known it in

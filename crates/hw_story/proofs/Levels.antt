@@ -13,7 +13,7 @@ use Rattle.hw_model.specs.Lits.{IsLitOf}
 use Rattle.hw_laws.proofs.Denials.{lit_of}
 use Rattle.hw_laws.proofs.Searches.{found_first}
 use Rattle.hw_story.specs.Stories.{Story, room_at}
-use Rattle.hw_story.specs.Walks.{In, IsTop, level_of as story_level}
+use Rattle.hw_story.specs.Walks.{In, IsTop, story_level}
 use Rattle.hw_story.specs.Knowing.{always}
 use Rattle.hw_story.specs.Trails.{TrailModel, trail_shape, room_before, room_of, IsTrail}
 use Rattle.hw_story.specs.Learning.{is_false, event_of, level_by, level_made, level_of, top_level}
@@ -64,7 +64,7 @@ when_is_false True e = absurd cc
 when_is_false False e = refl
 when_is_false Free e = absurd cc
 
--- the literal is False in the room before a place just where the story knows its negation there
+-- the literal is False in the room before a place exactly where the story knows its negation there
 pub false_at : (t : TrailModel) → IsTrail t → (p : ℕ) → p ≤ length t.events → (lit : Lit) → lit_fits (trail_shape t) lit ≡ true → truth (room_before t p) lit ≡ False → room_at (story_of t) p (negation lit) ≡ true
 false_at t is p le lit f e =
     let k = room_known t is p le in

@@ -5,7 +5,7 @@ use Rattle.hw_model.specs.declared.lit.Lit.{Lit}
 use Rattle.hw_model.specs.Lits.{negation}
 use Rattle.hw_story.specs.Sides.{same_side, implies}
 use Rattle.hw_story.specs.Replays.{Facts, Narrower, adding, left, any_true, World, AllFalse, OnlyLeft, meets}
-use Rattle.hw_story.specs.Stories.{Story, room_at, IsStory, Because}
+use Rattle.hw_story.specs.Stories.{Story, room_at, IsStory, CameBy}
 use Rattle.hw_story.specs.Walks.{In, chain, reason_of, Ascends, OneLess, Settled, Before, Needed, Hit, Resolves, Denies}
 use Rattle.hw_story.proofs.Sides.{implies_self, same_when_implied}
 use Rattle.hw_story.proofs.Replays.{Step, step_view, cut_world}
@@ -65,7 +65,7 @@ others_false r e (x ∷ c) (inl h) l (inr q) = inr (false_in r c l h.1 q)
 others_false r e (x ∷ c) (inr h) l (inl q) = inr (subst (λ (y : Lit). r (negation y) ≡ true) q h.0)
 others_false r e (x ∷ c) (inr h) l (inr q) = others_false r e c h.1 l q
 
--- what a replay that begins with the reason comes to: its literal is cut by, and the others are false
+-- the outcome of a replay that begins with the reason: its literal is cut by, and the others are false
 pub record Goes (r : Facts) (e : Lit) (c : List Lit) (cs : List (List Lit)) : Type 0 where
   pub others : (l : Lit) → In l c → (l ≡ e) ⊎ (r (negation l) ≡ true)
   pub on : meets cs (adding e r)
@@ -101,7 +101,7 @@ not_known t n s p lt r around = elim (cases_Bool (r (negation (t.at p).lit))) [
   | inr n ↦ n
 ]
 
-pub unit_of : (t : Story) (p : ℕ) (c : List Lit) (why : Option (List Lit)) → why ≡ Some c → Because t p why → OnlyLeft (room_at t p) (t.at p).lit c
+pub unit_of : (t : Story) (p : ℕ) (c : List Lit) (why : Option (List Lit)) → why ≡ Some c → CameBy t p why → OnlyLeft (room_at t p) (t.at p).lit c
 unit_of t p c None e b = absurd cc
 unit_of t p c (Some d) e b = let same : d ≡ c = cc in subst (λ (x : List Lit). OnlyLeft (room_at t p) (t.at p).lit x) same b.1
 

@@ -15,7 +15,7 @@ use Rattle.hw_laws.proofs.Cuts.{full_room, no_order_set, same_ships}
 use Rattle.hw_laws.proofs.Denials.{lit_of}
 use Rattle.hw_story.specs.declared.event.Event.{Event}
 use Rattle.hw_story.specs.Replays.{World}
-use Rattle.hw_story.specs.Stories.{room_at, level_before, Because as StoryBecause, IsStory}
+use Rattle.hw_story.specs.Stories.{room_at, level_before, CameBy, IsStory}
 use Rattle.hw_story.specs.Knowing.{knows, always}
 use Rattle.hw_story.specs.Trails.{TrailModel, trail_shape, reason, room_by, room_before, room_of, level_after, Because, Happens, IsTrail}
 use Rattle.hw_story.specs.Bridge.{idle, event_at, story_of}
@@ -109,7 +109,7 @@ always_world t is =
       consistent = λ m y z. w.consistent m (k.out m y) (k.out (negation m) z);
     }
 
-because_of : (t : TrailModel) (p : ℕ) → IsTrail t → p < length t.events → Known t p → (why : Option (List Lit)) → IfSome why (IsClause (trail_shape t)) → Because (room_before t p) (level_after (take p t.events)) (event_at t p).lit (event_at t p).level why → StoryBecause (story_of t) p why
+because_of : (t : TrailModel) (p : ℕ) → IsTrail t → p < length t.events → Known t p → (why : Option (List Lit)) → IfSome why (IsClause (trail_shape t)) → Because (room_before t p) (level_after (take p t.events)) (event_at t p).lit (event_at t p).level why → CameBy (story_of t) p why
 because_of t p is lt k None f b = b ∙ ap (λ n. n + 1) (level_same t p (omega (arith, lt)))
 because_of t p is lt k (Some c) f b =
     let lits : All (IsLitOf (room_before t p).ships) c = subst (λ n. All (IsLitOf n) c) (sym k.of.same_ships) (clause_lits (trail_shape t) c 0 None f) in

@@ -15,7 +15,7 @@ knows room (Before v k) = nat_lt v room.ships && nat_lt (high_of room v) k
 knows room (First v w) = (nat_lt v w && nat_lt w room.ships) && is_first (order_of room v w)
 knows room (NotFirst v w) = (nat_lt v w && nat_lt w room.ships) && is_not_first (order_of room v w)
 
--- what each room of so many ships and slots knows
+-- what each room of this many ships and slots knows
 abbrev pub always : ℕ → ℕ → Facts
 always ships slots (AtOrAfter v k) = nat_lt v ships && nat_le k 0
 always ships slots (Before v k) = nat_lt v ships && nat_le slots k

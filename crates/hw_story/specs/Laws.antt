@@ -1,4 +1,4 @@
--- The laws of trails, of what a conflict teaches, and of quiet clauses.
+-- The laws of trails, of what a conflict teaches, and of clauses that were quiet below it.
 use Rattle.std.specs.Prelude.{◌≡◌, ◌↔◌, ℕ, ◌+◌, ◌-◌, ◌*◌, ◌/◌, ◌^◌, ◌<◌, ◌≤◌, true, List, [], ◌∷◌, ◌++◌, Some, All, AllPairs, Contains, length, IsSomeAnd, None}
 use Rattle.hw_model.specs.declared.lit.Lit.{Lit}
 use Rattle.hw_model.specs.declared.lit.LitTruth.TheVariants.{True, False, Free}
@@ -14,7 +14,7 @@ use Rattle.hw_story.specs.declared.event.Event.{Event}
 use Rattle.hw_story.specs.declared.event.Why.{Why}
 use Rattle.hw_story.specs.Replays.{meets}
 use Rattle.hw_story.specs.Stories.{room_at, IsStory}
-use Rattle.hw_story.specs.Walks.{In, IsTop, Learns as StoryLearns}
+use Rattle.hw_story.specs.Walks.{In, IsTop, WalkGives}
 use Rattle.hw_story.specs.Knowing.{knows}
 use Rattle.hw_story.specs.Trails.{TrailModel, trail_shape, clause_of, room_before, room_of, IsTrail, no_events, with_event, decided, implied, back_to, most_events}
 use Rattle.hw_story.specs.Learning.{event_of, level_at, top_level, Learns, QuietBelow}
@@ -24,7 +24,7 @@ use Rattle.hw_story.specs.Bridge.{story_of, event_at, GoesBack}
 abbrev pub KnowsTruth : Type 0
 KnowsTruth = (room : RoomModel) (lit : Lit) → IsRoom room → IsLitOf room.ships lit → ((knows room lit ≡ true) ↔ (truth room lit ≡ True)) × ((knows room (negation lit) ≡ true) ↔ (truth room lit ≡ False))
 
--- a replay of rooms meets a conflict just where the replay by what they know does
+-- a replay of rooms meets a conflict exactly where the replay by what they know does
 abbrev pub ReplayKnows : Type 0
 ReplayKnows = (room : RoomModel) (clauses : List (List Lit)) → IsRoom room → All (All (IsLitOf room.ships)) clauses → ((replay room clauses ≡ conflict) ↔ meets clauses (knows room))
 
@@ -80,7 +80,7 @@ abbrev pub WalkLearns : Type 0
 WalkLearns = (t : TrailModel) → IsTrail t → (n : ℕ) → n ≤ length t.events → (top : ℕ) (clause lemma : List Lit) (back : ℕ) (places : List ℕ)
     → IsClause (trail_shape t) clause → ((lit : Lit) → In lit clause → room_at (story_of t) n (negation lit) ≡ true) → IsTop (story_of t) n clause top
     → IsClause (trail_shape t) lemma → (top ≡ 0 → back ≡ 0) → GoesBack (story_of t) n top lemma back
-    → StoryLearns (story_of t) n top clause lemma back places → Learns t clause lemma back places
+    → WalkGives (story_of t) n top clause lemma back places → Learns t clause lemma back places
 
 -- a lemma's denied room lies inside that of no clause that was quiet at the end of the level below its greatest one
 abbrev pub NeverInside : Type 0

@@ -86,8 +86,8 @@ impl Trail {
         });
     }
 
-    /// Takes an implied literal, at the current level. Of its reason's clause it is the only
-    /// literal that isn't False. It changes one bound or one order, and takes no memory.
+    /// Takes an implied literal, at the current level. It is the only literal of its reason's clause
+    /// that isn't False. It changes one bound or one order, and takes no memory.
     pub fn imply(&mut self, lit: Lit, why: Why)
         requires fits { lit_fits (trail_shape self.old) lit ≡ true }
         requires clause_fits { IsClause (trail_shape self.old) (clause_of why) }
@@ -105,7 +105,7 @@ impl Trail {
     }
 
     /// Drops the events above a level, which is then the current one. It looks once at each event,
-    /// and makes the room anew: one pass over its ranges and orders, and a cut for each event that
+    /// and makes the room again: one pass over its ranges and orders, and a cut for each event that
     /// stays. It takes no memory.
     pub fn back_to(&mut self, level: u32)
         requires below { level ≤ self.old.level }
@@ -152,8 +152,7 @@ impl Trail {
         &self.events[place as usize]
     }
 
-    /// Whether an event is the first one after which a literal is False. No event but this one is
-    /// looked at.
+    /// Whether an event is the first one after which a literal is False. It looks at no other event.
     pub fn is_event_of(&self, place: u32, lit: Lit) -> bool
         requires place_in { place < length self.now.events }
         requires fits { lit_fits (trail_shape self.now) lit ≡ true }
@@ -164,8 +163,8 @@ impl Trail {
         makes(event.lit, self.bounds[place as usize], lit.not())
     }
 
-    /// The place of the first event after which a literal is False, none where it isn't False. Only
-    /// the events from there on are looked at.
+    /// The place of the first event after which a literal is False, none where it isn't False. It looks
+    /// only at the events from there on.
     pub fn event_of(&self, lit: Lit) -> Option<u32>
         requires fits { lit_fits (trail_shape self.now) lit ≡ true }
         ensures value { result ≡ event_of self.now lit }

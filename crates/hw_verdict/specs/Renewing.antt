@@ -1,4 +1,4 @@
--- A certificate in which each clause is deleted right behind the last line that names it.
+-- A certificate in which each clause is deleted right after the last line that names it.
 use Rattle.std.specs.Prelude.{◌≡◌, ℕ, ◌+◌, ◌^◌, ◌<◌, ◌≤◌, max, Bool, ◌==◌, ◌&&◌, not, List, [], ◌∷◌, ◌++◌, Option, Some, None, All, filter, fold}
 use Rattle.std.specs.List.{list_any, range_with_len}
 use Rattle.hw_model.specs.declared.lit.Lit.{Lit}
@@ -63,7 +63,7 @@ abbrev pub renewed_from : ℕ → List Line → List Line
 renewed_from n [] = []
 renewed_from n (line ∷ later) = undeleting line ++ deletions n line later (clause_of line) ++ renewed_from (next_number n (clause_of line)) later
 
--- the lines of a whole certificate so
+-- the same for the lines of a whole certificate
 abbrev pub renewed : List Line → List Line
 renewed all = renewed_from 1 all
 
