@@ -1,4 +1,4 @@
-//! What prices advise a search: a clause more, where its sources and lemmas are quiet.
+//! What prices advise a search: one more clause, where its sources and lemmas are quiet.
 //!
 //! It is found by the same trying and loosening as the clause of a source.
 #![tactic(auto)]

@@ -9,7 +9,7 @@ ghost use Rattle.hw_advice.specs.Advice.{PricesFind};
 use hw_flat::{Flat, Room, ShipId};
 use hw_lits::Found;
 use hw_model::NoMemory;
-use hw_prop::{Refuter, find};
+use hw_prop::{Refuter, Spoken, find};
 use hw_tariff::prices_refute;
 use hw_tolls::{Tariff, Toll};
 use std::alloc::Global;
@@ -44,8 +44,8 @@ impl<'f> Refuter for ByPrices<'f> {
 /// denied, no literal of it is True in the room and at most one is Free, and it names no order.
 ///
 /// `trial` is a room of the same size, whatever it holds, and `ships` are all ships. It costs one
-/// test of a room and two for each ship, and for a clause up to 20 more a ship. An error says that
-/// there was no memory for the clause.
+/// test of a room and two for each ship, and up to 20 more for each ship where it finds a clause.
+/// An error says that memory ran out for the clause.
 pub fn find_priced(
     alloc: Global,
     prices: &ByPrices<'_>,
@@ -64,5 +64,10 @@ pub fn find_priced(
     ensures slots { trial.new.slots ≡ prices.now.flat.now.slots }
 {
     let shape = prices.flat.shape();
-    find(alloc, prices, shape, room, trial, ships, &[])
+    let spoken = Spoken {
+        shape,
+        ships,
+        pairs: &[],
+    };
+    find(alloc, prices, &spoken, room, trial)
 }

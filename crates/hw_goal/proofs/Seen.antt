@@ -19,7 +19,7 @@ other_seen before after ship u low high others ne seen =
     let same = others u ne in
     (ap (λ (t : Top). t.low) same ∙ seen.0, ap (λ (t : Top). t.high) same ∙ seen.1)
 
--- one ship more
+-- one more ship
 pub seen_more : (room : RoomModel) (ship : ℕ) (before after : Figures) → SeenIn room ship before → SeenAt after ship (low_of room ship) (high_of room ship) → Others ship before after → SeenIn room (ship + 1) after
 seen_more room ship before after seen here others u lt = elim (cases_eq u ship) [
   | inl same ↦ subst (λ k. SeenAt after k (low_of room k) (high_of room k)) (sym same) here

@@ -7,7 +7,7 @@ ghost use Rattle.hw_model.specs.Problem.{Problem, shape_of};
 ghost use Rattle.hw_model.specs.Rooms.{RoomModel, whole_room};
 ghost use Rattle.hw_model.specs.Refuting.{greatest_sum};
 
-use crate::stepping::goal_step;
+use crate::stepping::{Known, goal_step};
 use crate::tops::{Figures, see_all, see_cut, whole_figures};
 use hw_flat::{Flat, Room, ShipId, Source};
 use hw_lits::Found;
@@ -35,7 +35,7 @@ fn all_ships(alloc: Global, ships: u32) -> Result<Vec<ShipId>, NoMemory>
 }
 
 impl GoalBound {
-    /// The one of a problem, ready for the whole room. It looks once at each value.
+    /// The propagator of a problem's goal, ready for the whole room. It looks at each value once.
     pub fn new(alloc: Global, flat: &Flat) -> Result<GoalBound, NoMemory>
         ensures source { IfOk result (λ goal. ⟦<GoalBound as Propagator>⟧.source goal ≡ Goal) }
         ensures ready { IfOk result (λ goal. ⟦<GoalBound as Propagator>⟧.ready goal flat.now (whole_room (shape_of flat.now))) }
@@ -51,8 +51,8 @@ impl GoalBound {
         })
     }
 
-    /// The sum of the greatest values in the ranges of the room for which it is ready, in tenths
-    /// of a tonne; a range without a value counts 0. It takes no memory.
+    /// The sum of the greatest values in the ranges of the room for which it is ready, in tenths of
+    /// a tonne. A range without a value counts 0. It takes no memory.
     pub fn sum(&self) -> u64
         ensures value { (f : Problem) (room : RoomModel) → ⟦<GoalBound as Propagator>⟧.ready self.now f room → result ≡ greatest_sum f room }
     {
@@ -88,15 +88,12 @@ impl Propagator for GoalBound {
         best: Option<u64>,
         room: &Room,
     ) -> Result<Found, NoMemory> {
-        goal_step(
-            alloc,
+        let known = Known {
             flat,
-            &self.figures,
-            &self.ships,
-            best,
-            room,
-            &mut self.denied,
-        )
+            figures: &self.figures,
+            ships: &self.ships,
+        };
+        goal_step(alloc, &known, best, room, &mut self.denied)
     }
 
     fn changed(&mut self, flat: &Flat, before: &Room, lit: Lit) {

@@ -76,8 +76,8 @@ fn peak_of(flat: &Flat, ship: ShipId, low: Slot, high: Slot) -> Peak
     peak
 }
 
-/// What is to be kept of a ship in another range: the same slot where the range is narrower and
-/// has it still, else by a look at each slot.
+/// What to keep of a ship with another range. If the range is narrower and still has the kept slot,
+/// that slot stays; otherwise it looks at each slot.
 fn moved(flat: &Flat, ship: ShipId, top: Top, low: Slot, high: Slot) -> Top
     requires ship_in { ship < flat.now.ships }
     requires top { IsTop flat.now ship top }
@@ -104,8 +104,8 @@ fn moved(flat: &Flat, ship: ShipId, top: Top, low: Slot, high: Slot) -> Top
     }
 }
 
-/// Sees a ship with a range. Two comparisons where it is the one that was last seen; else what is
-/// kept of this ship is mended, and the sum.
+/// Sees a ship with a range. It costs two comparisons where this is the range last seen. Otherwise
+/// it brings what is kept of this ship, and the sum, up to date.
 pub(crate) fn see(figures: &mut Figures, flat: &Flat, ship: ShipId, low: Slot, high: Slot)
     requires kept { AreKept flat.now flat.now.ships figures.old }
     requires ship_in { ship < flat.now.ships }

@@ -1,10 +1,10 @@
-//! Widens a room that holds nothing above the best as far as this stays so, ship by ship. It goes a
-//! few times through a ship's slots at most, and not through those of all ships for each try.
+//! Widens a room that has nothing above the best, ship by ship, as long as this stays so. It goes
+//! through a ship's slots a few times at most, and never through those of all ships for one try.
 ghost use Rattle.std.specs.Prelude.{◌≡◌, ◌≤◌, ◌<◌, ◌+◌, ℕ};
 ghost use Rattle.hw_model.specs.Rooms.{low_of, high_of};
 ghost use Rattle.hw_model.specs.Refuting as refuting;
 ghost use Rattle.hw_prop.specs.Explains.{Explains};
-ghost use Rattle.hw_prop.specs.Reductions.{IsReduction, side_of};
+ghost use Rattle.hw_prop.specs.Reductions.{IsReduction, edge_of};
 ghost use Rattle.hw_goal.specs.Kept as kept;
 ghost use Rattle.hw_goal.specs.Kept.{IsTop, AreKept};
 
@@ -13,8 +13,8 @@ use hw_flat::{Flat, Room, ShipId, Slot};
 use hw_prop::Reduction;
 use hw_rules::greatest_value;
 
-/// The greatest value of a ship in its range in a room: the kept one where the ship was last seen
-/// with this range, else by a look at each slot.
+/// The greatest value of a ship in its range in a room. It is the kept one if the ship was last seen
+/// with this range. Otherwise it looks at each slot.
 fn current(flat: &Flat, top: Top, room: &Room, ship: ShipId) -> u64
     requires ship_in { ship < flat.now.ships }
     requires top { IsTop flat.now ship top }
@@ -32,7 +32,7 @@ fn current(flat: &Flat, top: Top, room: &Room, ship: ShipId) -> u64
     greatest_value(flat, ship, low, high)
 }
 
-/// The sum of the greatest values in a room, of which most ranges were seen last.
+/// The sum of the greatest values in a room. Most of its ranges are those that were last seen.
 fn sum_in(flat: &Flat, figures: &Figures, room: &Room) -> u64
     requires kept { AreKept flat.now flat.now.ships figures.now }
     requires ships { room.now.ships ≡ flat.now.ships }
@@ -47,28 +47,37 @@ fn sum_in(flat: &Flat, figures: &Figures, room: &Room) -> u64
     sum
 }
 
-/// Opens a ship's range whole where the greatest sum may rise by so much; what is spared then.
+/// A ship, and what is kept of it.
+#[derive(Clone, Copy)]
+struct KeptShip {
+    ship: ShipId,
+    top: Top,
+}
+
+/// Gives a ship its whole range where `spare` covers the rise of the greatest sum. Returns what is
+/// left of `spare`, in tenths of a tonne.
 fn open_ship(
     flat: &Flat,
-    top: Top,
+    one: KeptShip,
     c: Reduction,
     room: &Room,
     denied: &mut Room,
-    ship: ShipId,
     spare: u64,
 ) -> u64
-    requires ship_in { ship < flat.now.ships }
-    requires top { IsTop flat.now ship top }
+    requires ship_in { one.ship < flat.now.ships }
+    requires top { IsTop flat.now one.ship one.top }
     requires ships { denied.old.ships ≡ flat.now.ships }
     requires slots { denied.old.slots ≡ flat.now.slots }
     requires small { spare ≤ 40_000_000_000_000 }
-    requires explains { Explains (side_of c) room.now denied.old }
+    requires explains { Explains (edge_of c) room.now denied.old }
     ensures ships { denied.new.ships ≡ flat.now.ships }
     ensures slots { denied.new.slots ≡ flat.now.slots }
     ensures spared { result ≤ spare }
     ensures sum { refuting.greatest_sum flat.now denied.new + result ≤ refuting.greatest_sum flat.now denied.old + spare }
-    ensures explains { Explains (side_of c) room.now denied.new }
+    ensures explains { Explains (edge_of c) room.now denied.new }
 {
+    let ship = one.ship;
+    let top = one.top;
     let _ships = denied.ships();
     let last = flat.shape().slots - 1;
     let now = current(flat, top, denied, ship);
@@ -115,29 +124,30 @@ fn highest_within(flat: &Flat, ship: ShipId, high: Slot, most: u64) -> Slot
     at
 }
 
-/// Moves the ends of a ship's range outwards while the greatest sum rises by so much at most; what
-/// is spared then.
+/// Moves the ends of a ship's range outwards as long as `spare` covers the rise of the greatest sum.
+/// Returns what is left of `spare`.
 fn widen_ship(
     flat: &Flat,
-    top: Top,
+    one: KeptShip,
     c: Reduction,
     room: &Room,
     denied: &mut Room,
-    ship: ShipId,
     spare: u64,
 ) -> u64
-    requires ship_in { ship < flat.now.ships }
-    requires top { IsTop flat.now ship top }
+    requires ship_in { one.ship < flat.now.ships }
+    requires top { IsTop flat.now one.ship one.top }
     requires ships { denied.old.ships ≡ flat.now.ships }
     requires slots { denied.old.slots ≡ flat.now.slots }
     requires small { spare ≤ 40_000_000_000_000 }
-    requires explains { Explains (side_of c) room.now denied.old }
+    requires explains { Explains (edge_of c) room.now denied.old }
     ensures ships { denied.new.ships ≡ flat.now.ships }
     ensures slots { denied.new.slots ≡ flat.now.slots }
     ensures spared { result ≤ spare }
     ensures sum { refuting.greatest_sum flat.now denied.new + result ≤ refuting.greatest_sum flat.now denied.old + spare }
-    ensures explains { Explains (side_of c) room.now denied.new }
+    ensures explains { Explains (edge_of c) room.now denied.new }
 {
+    let ship = one.ship;
+    let top = one.top;
     let _ships = denied.ships();
     let low = denied.low(ship);
     let high = denied.high(ship);
@@ -151,8 +161,8 @@ fn widen_ship(
     most - greatest_value(flat, ship, lowest, highest)
 }
 
-/// Widens the range that is reduced, if there is one: the cut becomes as long as it may. What is
-/// spared then.
+/// Widens the range that is reduced, if there is one, so that the cut gets as long as it can. Returns
+/// what is left of `spare`.
 fn widen_cut(
     flat: &Flat,
     figures: &Figures,
@@ -167,24 +177,25 @@ fn widen_cut(
     requires ships { denied.old.ships ≡ flat.now.ships }
     requires slots { denied.old.slots ≡ flat.now.slots }
     requires small { spare ≤ 40_000_000_000_000 }
-    requires explains { Explains (side_of c) room.now denied.old }
+    requires explains { Explains (edge_of c) room.now denied.old }
     ensures ships { denied.new.ships ≡ flat.now.ships }
     ensures slots { denied.new.slots ≡ flat.now.slots }
     ensures spared { result ≤ spare }
     ensures sum { refuting.greatest_sum flat.now denied.new + result ≤ refuting.greatest_sum flat.now denied.old + spare }
-    ensures explains { Explains (side_of c) room.now denied.new }
+    ensures explains { Explains (edge_of c) room.now denied.new }
 {
     match c {
         Reduction::Lowest { ship } | Reduction::Highest { ship } => {
             let top = figures.tops[ship as usize];
-            widen_ship(flat, top, c, room, denied, ship, spare)
+            widen_ship(flat, KeptShip { ship, top }, c, room, denied, spare)
         }
         Reduction::Here | Reduction::First { .. } | Reduction::NotFirst { .. } => spare,
     }
 }
 
-/// Widens a reduced room as far as it holds nothing above the best: first the range that is
-/// reduced, then ships are opened whole where this is spared, then the other ranges are widened.
+/// Widens a reduced room as long as it has nothing above the best. First comes the range that is
+/// reduced. Then ships get their whole range where that can be spared, and the other ranges are
+/// widened.
 pub(crate) fn widen(
     flat: &Flat,
     figures: &Figures,
@@ -199,21 +210,21 @@ pub(crate) fn widen(
     requires ships { denied.old.ships ≡ flat.now.ships }
     requires slots { denied.old.slots ≡ flat.now.slots }
     requires sum { refuting.greatest_sum flat.now denied.old ≤ best }
-    requires explains { Explains (side_of c) room.now denied.old }
+    requires explains { Explains (edge_of c) room.now denied.old }
     ensures ships { denied.new.ships ≡ flat.now.ships }
     ensures slots { denied.new.slots ≡ flat.now.slots }
     ensures sum { refuting.greatest_sum flat.now denied.new ≤ best }
-    ensures explains { Explains (side_of c) room.now denied.new }
+    ensures explains { Explains (edge_of c) room.now denied.new }
 {
     let ships = flat.shape().ships;
     let all = (best - sum_in(flat, figures, denied)).min(40_000_000_000_000);
     let mut spare = widen_cut(flat, figures, c, room, denied, all);
     for ship in 0..ships {
         let top = figures.tops[ship as usize];
-        spare = open_ship(flat, top, c, room, denied, ship, spare);
+        spare = open_ship(flat, KeptShip { ship, top }, c, room, denied, spare);
     }
     for ship in 0..ships {
         let top = figures.tops[ship as usize];
-        spare = widen_ship(flat, top, c, room, denied, ship, spare);
+        spare = widen_ship(flat, KeptShip { ship, top }, c, room, denied, spare);
     }
 }

@@ -10,7 +10,7 @@ use Rattle.hw_model.specs.declared.order.Order.{Order}
 use Rattle.hw_model.specs.declared.order.Order.TheVariants as orders
 use Rattle.hw_model.specs.declared.lit.Lit.TheVariants.{AtOrAfter, Before}
 use Rattle.hw_model.specs.declared.lit.Lit.TheVariants as lits
-use Rattle.hw_prop.specs.declared.reduction.Side.{Side}
+use Rattle.hw_prop.specs.declared.reduction.Edge.{Edge}
 use Rattle.hw_model.specs.Rooms.{RoomModel, IsRoom}
 use Rattle.hw_prop.specs.Plain.{range_of}
 use Rattle.hw_model.specs.Rooms.{low_of, high_of, order_of, whole_room}
@@ -184,9 +184,9 @@ none_any f [] e = refl
 none_any f (x ∷ xs) e = none_here f x xs (f x) refl e (none_any f xs)
 
 -- 3. all of it: what the plain explanation of a refuted room that explains is worth
-pub explanation : (refutes : RoomModel → Type 0) (shape : Shape) (side : Side) (r d : RoomModel) (ships : List ℕ) (a b : ℕ) (ps : List (ℕ × ℕ)) → d.ships ≡ shape.ships → d.slots ≡ shape.slots → IsRoom d → Explains side r d → Climb 0 d.ships ships → ClimbPairs a b d.ships ps
+pub explanation : (refutes : RoomModel → Type 0) (shape : Shape) (edge : Edge) (r d : RoomModel) (ships : List ℕ) (a b : ℕ) (ps : List (ℕ × ℕ)) → d.ships ≡ shape.ships → d.slots ≡ shape.slots → IsRoom d → Explains edge r d → Climb 0 d.ships ships → ClimbPairs a b d.ships ps
     → IsLocal refutes ships ps → refutes d → (IsQuiet refutes r → ⊥) → IsExplanation refutes shape ships ps r (plain d ships ps)
-explanation refutes shape side r d ships a b ps e1 e2 room x c q local ref loud =
+explanation refutes shape edge r d ships a b ps e1 e2 room x c q local ref loud =
     let fits : (v : ℕ) → v < d.ships → high_of d v < d.slots = λ v l. room.in_slots v (0, 0) (omega (arith, room.each_ship, l)) in
     let ordered : (v : ℕ) → v < d.ships → low_of d v ≤ high_of d v = λ v l. room.ordered v (0, 0) (omega (arith, room.each_ship, l)) in
     let same : shape_at d shape.rules ≡ shape =
@@ -197,8 +197,8 @@ explanation refutes shape side r d ships a b ps e1 e2 room x c q local ref loud 
       refuted = local d (denied (shape_at d shape.rules) (plain d ships ps)) (λ u i. denied_range d shape.rules ships ps u c fits i)
           (λ v w i. let k = pair_in a b d.ships ps v w q i in denied_order d shape.rules ships a b ps v w c fits q k.0 k.1 i) ref;
       active = (
-        none_any (lit_true r) (plain d ships ps) (none_true side r d x a b d.ships ships ps q (omega (arith, x.same_ships))),
-        omega (arith, length-filter (lit_free r) (plain d ships ps), one_free side r d x 0 d.ships a b d.ships ships ps c q (omega (arith, x.same_ships))),
+        none_any (lit_true r) (plain d ships ps) (none_true edge r d x a b d.ships ships ps q (omega (arith, x.same_ships))),
+        omega (arith, length-filter (lit_free r) (plain d ships ps), one_free edge r d x 0 d.ships a b d.ships ships ps c q (omega (arith, x.same_ships))),
       );
       speaks = speaks d ships ps;
       loud = loud;

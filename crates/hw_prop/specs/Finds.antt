@@ -1,5 +1,5 @@
 -- What a propagator finds.
-use Rattle.std.specs.Prelude.{◌≡◌, ℕ, ◌≤◌, false, List, Option, Result, Ok, Err, length, ⊤}
+use Rattle.std.specs.Prelude.{ℕ, List, Option, Result, Ok, Err, ⊤}
 use Rattle.hw_model.specs.declared.lit.Lit.{Lit}
 use Rattle.hw_model.specs.declared.memory.NoMemory.{NoMemory}
 use Rattle.hw_model.specs.declared.source.Source.{Source}
@@ -9,13 +9,9 @@ use Rattle.hw_model.specs.Rooms.{RoomModel}
 use Rattle.hw_model.specs.Narrowing.{denied}
 use Rattle.hw_model.specs.Refuting.{Refutes}
 use Rattle.hw_model.specs.Quiet.{QuietSource, SpeaksOnlyOf}
-use Rattle.hw_model.specs.Replay.{some_true, free_lits}
+use Rattle.hw_lits.specs.Active.{IsActive}
 use Rattle.hw_lits.specs.declared.found.Found.{Found}
 use Rattle.hw_lits.specs.declared.found.Found.TheVariants.{Quiet, Clause}
-
--- the clause is a conflict or has one literal left
-abbrev pub IsActive : List Lit → RoomModel → Type 0
-IsActive clause room = (some_true room clause ≡ false) × (length (free_lits room clause) ≤ 1)
 
 -- a clause of the source that is active in the room, where the source isn't quiet
 pub record Explanation (f : Problem) (source : Source) (best : Option ℕ) (room : RoomModel) (clause : List Lit) : Type 0 where

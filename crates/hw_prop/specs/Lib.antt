@@ -6,3 +6,4 @@ pub mod Finds
 pub mod Shaved
 pub mod Scope
 pub mod Trials
+pub mod Ruled

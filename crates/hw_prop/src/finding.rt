@@ -11,85 +11,82 @@ ghost use Rattle.hw_prop.specs.Speaks.{SpokenOf};
 ghost use Rattle.hw_prop.specs.Finds.{Explanation, Finds};
 
 use crate::loosening::explain;
-use crate::reduction::{Reduction, reduce, side_at};
-use crate::refuter::{BySource, Refuter};
+use crate::reduction::{Reduction, edge_at, reduce};
+use crate::refuter::{BySource, Refuter, Spoken};
 use crate::shaving::shave;
-use hw_flat::{Flat, Room, Shape, ShipId, Source};
+use hw_flat::{Flat, Room, ShipId, Source};
 use hw_lits::{Clause, Found};
 use hw_model::NoMemory;
 use std::alloc::Global;
 
-/// The clause of a refuted reduction of a room, loosened. `trial` is a room like it, and is used up.
+/// The clause of a refuted reduction of a room, loosened. `trial` is a copy of the room, and is
+/// overwritten.
 pub fn clause_of<R: Refuter>(
     alloc: Global,
     refuter: &R,
-    shape: Shape,
+    spoken: &Spoken<'_>,
     room: &Room,
     trial: &mut Room,
     c: Reduction,
-    ships: &[ShipId],
-    pairs: &[(ShipId, ShipId)],
 ) -> Result<Clause, NoMemory>
-    requires few_ships { shape.ships ≤ 40 }
+    requires few_ships { spoken.now.shape.ships ≤ 40 }
     requires same { trial.old ≡ room.now }
-    requires same_ships { room.now.ships ≡ shape.ships }
-    requires same_slots { room.now.slots ≡ shape.slots }
-    requires all_ships { All (λ v. v < shape.ships) ships.now }
-    requires all_pairs { All (λ p. (p.0 < p.1) × (p.1 < shape.ships)) pairs.now }
-    requires ships { Climb 0 shape.ships ships.now }
-    requires pairs { ClimbPairs 0 0 shape.ships pairs.now }
-    requires local { IsLocal (R.refutes refuter.now) ships.now pairs.now }
-    requires serves { R.serves refuter.now shape.ships shape.slots }
+    requires same_ships { room.now.ships ≡ spoken.now.shape.ships }
+    requires same_slots { room.now.slots ≡ spoken.now.shape.slots }
+    requires all_ships { All (λ v. v < spoken.now.shape.ships) spoken.now.ships.now }
+    requires all_pairs { All (λ p. (p.0 < p.1) × (p.1 < spoken.now.shape.ships)) spoken.now.pairs.now }
+    requires ships { Climb 0 spoken.now.shape.ships spoken.now.ships.now }
+    requires pairs { ClimbPairs 0 0 spoken.now.shape.ships spoken.now.pairs.now }
+    requires local { IsLocal (R.refutes refuter.now) spoken.now.ships.now spoken.now.pairs.now }
+    requires serves { R.serves refuter.now spoken.now.shape.ships spoken.now.shape.slots }
     requires cut { IsCut (R.refutes refuter.now) room.now c }
-    ensures worth { IfOk result (λ clause. IsExplanation (R.refutes refuter.now) shape ships.now pairs.now room.now clause) }
-    ensures ships { trial.new.ships ≡ shape.ships }
-    ensures slots { trial.new.slots ≡ shape.slots }
+    ensures worth { IfOk result (λ clause. IsExplanation (R.refutes refuter.now) spoken.now.shape spoken.now.ships.now spoken.now.pairs.now room.now clause) }
+    ensures ships { trial.new.ships ≡ spoken.now.shape.ships }
+    ensures slots { trial.new.slots ≡ spoken.now.shape.slots }
 {
     let _ships = room.ships();
     reduce(trial, c);
-    explain(alloc, refuter, shape, side_at(c), room, trial, ships, pairs)
+    explain(alloc, refuter, spoken, edge_at(c), room, trial)
 }
 
-/// Quiet exactly where no reduction of the room is refuted, else a clause: by trying each
-/// reduction of these ships and pairs.
+/// Quiet exactly where no reduction of the room is refuted, else a clause. Tries each reduction of
+/// the ships and pairs that are spoken of.
 ///
-/// `trial` is a room of the same size, whatever it holds; a quiet answer takes no memory. It costs
-/// two tests a ship, two an open pair and one more.
+/// `trial` is a room of the same size, with any content. It costs one test, two for each ship and
+/// two for each open pair, and a quiet answer takes no memory.
 pub fn find<R: Refuter>(
     alloc: Global,
     refuter: &R,
-    shape: Shape,
+    spoken: &Spoken<'_>,
     room: &Room,
     trial: &mut Room,
-    ships: &[ShipId],
-    pairs: &[(ShipId, ShipId)],
 ) -> Result<Found, NoMemory>
-    requires few_ships { shape.ships ≤ 40 }
-    requires same_ships { room.now.ships ≡ shape.ships }
-    requires same_slots { room.now.slots ≡ shape.slots }
-    requires trial_ships { trial.old.ships ≡ shape.ships }
-    requires trial_slots { trial.old.slots ≡ shape.slots }
-    requires all_ships { All (λ v. v < shape.ships) ships.now }
-    requires all_pairs { All (λ p. (p.0 < p.1) × (p.1 < shape.ships)) pairs.now }
-    requires ships { Climb 0 shape.ships ships.now }
-    requires pairs { ClimbPairs 0 0 shape.ships pairs.now }
-    requires local { IsLocal (R.refutes refuter.now) ships.now pairs.now }
-    requires serves { R.serves refuter.now shape.ships shape.slots }
-    ensures found { IfOk result (FindsBy (R.refutes refuter.now) shape ships.now pairs.now room.now) }
-    ensures ships { trial.new.ships ≡ shape.ships }
-    ensures slots { trial.new.slots ≡ shape.slots }
+    requires few_ships { spoken.now.shape.ships ≤ 40 }
+    requires same_ships { room.now.ships ≡ spoken.now.shape.ships }
+    requires same_slots { room.now.slots ≡ spoken.now.shape.slots }
+    requires trial_ships { trial.old.ships ≡ spoken.now.shape.ships }
+    requires trial_slots { trial.old.slots ≡ spoken.now.shape.slots }
+    requires all_ships { All (λ v. v < spoken.now.shape.ships) spoken.now.ships.now }
+    requires all_pairs { All (λ p. (p.0 < p.1) × (p.1 < spoken.now.shape.ships)) spoken.now.pairs.now }
+    requires ships { Climb 0 spoken.now.shape.ships spoken.now.ships.now }
+    requires pairs { ClimbPairs 0 0 spoken.now.shape.ships spoken.now.pairs.now }
+    requires local { IsLocal (R.refutes refuter.now) spoken.now.ships.now spoken.now.pairs.now }
+    requires serves { R.serves refuter.now spoken.now.shape.ships spoken.now.shape.slots }
+    ensures found { IfOk result (FindsBy (R.refutes refuter.now) spoken.now.shape spoken.now.ships.now spoken.now.pairs.now room.now) }
+    ensures ships { trial.new.ships ≡ spoken.now.shape.ships }
+    ensures slots { trial.new.slots ≡ spoken.now.shape.slots }
 {
     trial.copy_from(room);
-    match shave(refuter, trial, ships, pairs) {
+    match shave(refuter, trial, spoken.ships, spoken.pairs) {
         None => Ok(Found::Quiet),
         Some(c) => {
-            let clause = clause_of(alloc, refuter, shape, room, trial, c, ships, pairs)?;
+            let clause = clause_of(alloc, refuter, spoken, room, trial, c)?;
             Ok(Found::Clause(clause))
         }
     }
 }
 
-/// The clause of a source of which a reduction of the room is refuted, loosened.
+/// The clause of a source that refutes a reduction of the room, loosened.
 pub fn source_clause(
     alloc: Global,
     test: &BySource<'_>,
@@ -106,11 +103,16 @@ pub fn source_clause(
 {
     let shape = test.flat.shape();
     let mut trial = room.copy(alloc)?;
-    clause_of(alloc, test, shape, room, &mut trial, c, ships, pairs)
+    let spoken = Spoken {
+        shape,
+        ships,
+        pairs,
+    };
+    clause_of(alloc, test, &spoken, room, &mut trial, c)
 }
 
-/// Quiet exactly where the source is quiet in the room, else a clause of it, by trying. The ships
-/// and pairs are those of which the source speaks.
+/// Quiet exactly where the source is quiet in the room, else a clause of it, found by trying. The
+/// ships and pairs are those of which the source speaks.
 pub fn source_finds(
     alloc: Global,
     test: &BySource<'_>,
@@ -129,5 +131,10 @@ pub fn source_finds(
     ensures slots { trial.new.slots ≡ test.now.flat.now.slots }
 {
     let shape = test.flat.shape();
-    find(alloc, test, shape, room, trial, ships, pairs)
+    let spoken = Spoken {
+        shape,
+        ships,
+        pairs,
+    };
+    find(alloc, test, &spoken, room, trial)
 }

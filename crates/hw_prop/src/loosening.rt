@@ -1,4 +1,4 @@
-//! A denied room widened as far as it stays refuted, so that its clause says more.
+//! Widens a denied room as far as it stays refuted, so that its clause says more.
 
 ghost use Rattle.std.specs.Prelude.{◌≡◌, ◌≤◌, ◌<◌, ℕ, All, IsTrue, ◌↔◌, IfOk};
 ghost use Rattle.hw_model.specs.Rooms.{RoomModel};
@@ -8,21 +8,21 @@ ghost use Rattle.hw_prop.specs.Explains.{Explains};
 ghost use Rattle.hw_prop.specs.Speaks.{IsLocal, IsExplanation};
 ghost use Rattle.hw_prop.specs.Plain.{Climb, ClimbPairs};
 
-use crate::reduction::Side;
-use crate::refuter::Refuter;
+use crate::reduction::Edge;
+use crate::refuter::{Refuter, Spoken};
 use crate::writing::plain;
-use hw_flat::{Order, Room, Shape, ShipId, Slot};
+use hw_flat::{Order, Room, ShipId, Slot};
 use hw_lits::Clause;
 use hw_model::NoMemory;
 use std::alloc::Global;
 
-/// The farthest that one test moves a bound, in slots: the greatest power of two up to the 512 that
-/// lie between the first of 513 slots and the last.
+/// The farthest that one test moves a bound, in slots: the greatest power of two that is at most 512,
+/// the distance from the first of 513 slots to the last.
 const FARTHEST: u32 = 512;
 
 fn lower<R: Refuter>(
     refuter: &R,
-    side: Side,
+    edge: Edge,
     room: &Room,
     denied: &mut Room,
     ship: ShipId,
@@ -32,11 +32,11 @@ fn lower<R: Refuter>(
     requires lower { low ≤ low_of denied.old ship }
     requires serves { R.serves refuter.now denied.old.ships denied.old.slots }
     requires refuted { R.refutes refuter.now denied.old }
-    requires explains { Explains side room.now denied.old }
+    requires explains { Explains edge room.now denied.old }
     ensures refuted { R.refutes refuter.now denied.new }
     ensures ships { denied.new.ships ≡ denied.old.ships }
     ensures slots { denied.new.slots ≡ denied.old.slots }
-    ensures explains { Explains side room.now denied.new }
+    ensures explains { Explains edge room.now denied.new }
 {
     let old = denied.low(ship);
     let high = denied.high(ship);
@@ -48,7 +48,7 @@ fn lower<R: Refuter>(
 
 fn raise<R: Refuter>(
     refuter: &R,
-    side: Side,
+    edge: Edge,
     room: &Room,
     denied: &mut Room,
     ship: ShipId,
@@ -59,11 +59,11 @@ fn raise<R: Refuter>(
     requires slots { high < denied.old.slots }
     requires serves { R.serves refuter.now denied.old.ships denied.old.slots }
     requires refuted { R.refutes refuter.now denied.old }
-    requires explains { Explains side room.now denied.old }
+    requires explains { Explains edge room.now denied.old }
     ensures refuted { R.refutes refuter.now denied.new }
     ensures ships { denied.new.ships ≡ denied.old.ships }
     ensures slots { denied.new.slots ≡ denied.old.slots }
-    ensures explains { Explains side room.now denied.new }
+    ensures explains { Explains edge room.now denied.new }
 {
     let low = denied.low(ship);
     let old = denied.high(ship);
@@ -75,7 +75,7 @@ fn raise<R: Refuter>(
 
 fn release<R: Refuter>(
     refuter: &R,
-    side: Side,
+    edge: Edge,
     room: &Room,
     denied: &mut Room,
     v: ShipId,
@@ -85,11 +85,11 @@ fn release<R: Refuter>(
     requires inside { w < denied.old.ships }
     requires serves { R.serves refuter.now denied.old.ships denied.old.slots }
     requires refuted { R.refutes refuter.now denied.old }
-    requires explains { Explains side room.now denied.old }
+    requires explains { Explains edge room.now denied.old }
     ensures refuted { R.refutes refuter.now denied.new }
     ensures ships { denied.new.ships ≡ denied.old.ships }
     ensures slots { denied.new.slots ≡ denied.old.slots }
-    ensures explains { Explains side room.now denied.new }
+    ensures explains { Explains edge room.now denied.new }
 {
     let _ships = denied.ships();
     let old = denied.order(v, w);
@@ -99,67 +99,68 @@ fn release<R: Refuter>(
     }
 }
 
-fn lower_far<R: Refuter>(refuter: &R, side: Side, room: &Room, denied: &mut Room, ship: ShipId)
+fn lower_far<R: Refuter>(refuter: &R, edge: Edge, room: &Room, denied: &mut Room, ship: ShipId)
     requires inside { ship < denied.old.ships }
     requires serves { R.serves refuter.now denied.old.ships denied.old.slots }
     requires refuted { R.refutes refuter.now denied.old }
-    requires explains { Explains side room.now denied.old }
+    requires explains { Explains edge room.now denied.old }
     ensures refuted { R.refutes refuter.now denied.new }
     ensures ships { denied.new.ships ≡ denied.old.ships }
     ensures slots { denied.new.slots ≡ denied.old.slots }
-    ensures explains { Explains side room.now denied.new }
+    ensures explains { Explains edge room.now denied.new }
 {
     let mut step = FARTHEST;
     while step > 0 {
         let low = denied.low(ship);
         if step <= low {
-            lower(refuter, side, room, denied, ship, low - step);
+            lower(refuter, edge, room, denied, ship, low - step);
         }
         step /= 2;
     }
 }
 
-fn raise_far<R: Refuter>(refuter: &R, side: Side, room: &Room, denied: &mut Room, ship: ShipId)
+fn raise_far<R: Refuter>(refuter: &R, edge: Edge, room: &Room, denied: &mut Room, ship: ShipId)
     requires inside { ship < denied.old.ships }
     requires serves { R.serves refuter.now denied.old.ships denied.old.slots }
     requires refuted { R.refutes refuter.now denied.old }
-    requires explains { Explains side room.now denied.old }
+    requires explains { Explains edge room.now denied.old }
     ensures refuted { R.refutes refuter.now denied.new }
     ensures ships { denied.new.ships ≡ denied.old.ships }
     ensures slots { denied.new.slots ≡ denied.old.slots }
-    ensures explains { Explains side room.now denied.new }
+    ensures explains { Explains edge room.now denied.new }
 {
     let mut step = FARTHEST;
     while step > 0 {
         let high = denied.high(ship);
         if step < denied.slots() - high {
-            raise(refuter, side, room, denied, ship, high + step);
+            raise(refuter, edge, room, denied, ship, high + step);
         }
         step /= 2;
     }
 }
 
-fn loosen_ship<R: Refuter>(refuter: &R, side: Side, room: &Room, denied: &mut Room, ship: ShipId)
+fn loosen_ship<R: Refuter>(refuter: &R, edge: Edge, room: &Room, denied: &mut Room, ship: ShipId)
     requires inside { ship < denied.old.ships }
     requires serves { R.serves refuter.now denied.old.ships denied.old.slots }
     requires refuted { R.refutes refuter.now denied.old }
-    requires explains { Explains side room.now denied.old }
+    requires explains { Explains edge room.now denied.old }
     ensures refuted { R.refutes refuter.now denied.new }
     ensures ships { denied.new.ships ≡ denied.old.ships }
     ensures slots { denied.new.slots ≡ denied.old.slots }
-    ensures explains { Explains side room.now denied.new }
+    ensures explains { Explains edge room.now denied.new }
 {
-    lower_far(refuter, side, room, denied, ship);
-    raise_far(refuter, side, room, denied, ship);
+    lower_far(refuter, edge, room, denied, ship);
+    raise_far(refuter, edge, room, denied, ship);
 }
 
-/// Widens the denied room as far as it stays refuted: the bounds of these ships and the orders of these pairs.
+/// Widens the denied room as far as it stays refuted: the bounds of these ships and the orders of
+/// these pairs.
 ///
-/// A bound is moved by powers of two from 512 slots down, so that a ship takes up to 20 tests of a
-/// room and a pair one. It takes no memory.
+/// Moves each bound by powers of two from 512 slots down, so a ship takes up to 20 tests of a room.
+/// A pair takes one. It takes no memory.
 pub fn loosen<R: Refuter>(
     refuter: &R,
-    side: Side,
+    edge: Edge,
     room: &Room,
     denied: &mut Room,
     ships: &[ShipId],
@@ -169,50 +170,48 @@ pub fn loosen<R: Refuter>(
     requires pairs { All (λ p. (p.0 < p.1) × (p.1 < denied.old.ships)) pairs.now }
     requires serves { R.serves refuter.now denied.old.ships denied.old.slots }
     requires refuted { R.refutes refuter.now denied.old }
-    requires explains { Explains side room.now denied.old }
+    requires explains { Explains edge room.now denied.old }
     ensures refuted { R.refutes refuter.now denied.new }
     ensures ships { denied.new.ships ≡ denied.old.ships }
     ensures slots { denied.new.slots ≡ denied.old.slots }
-    ensures explains { Explains side room.now denied.new }
+    ensures explains { Explains edge room.now denied.new }
 {
     for ship in ships {
-        loosen_ship(refuter, side, room, denied, *ship);
+        loosen_ship(refuter, edge, room, denied, *ship);
     }
     for pair in pairs {
-        release(refuter, side, room, denied, pair.0, pair.1);
+        release(refuter, edge, room, denied, pair.0, pair.1);
     }
 }
 
-/// The clause of a refuted room that explains a cut at one side, loosened: up to 20 tests of a room
-/// for each of these ships and one for each pair, and memory for the clause alone. The denied room
-/// is loosened also where that is wanting.
+/// The clause of a refuted room that explains a cut at one edge, loosened. It costs up to 20 tests
+/// of a room for each ship that is spoken of and one for each pair, and memory for the clause alone.
+/// When memory runs out, the denied room is loosened all the same.
 pub fn explain<R: Refuter>(
     alloc: Global,
     refuter: &R,
-    shape: Shape,
-    side: Side,
+    spoken: &Spoken<'_>,
+    edge: Edge,
     room: &Room,
     denied: &mut Room,
-    ships: &[ShipId],
-    pairs: &[(ShipId, ShipId)],
 ) -> Result<Clause, NoMemory>
-    requires few_ships { shape.ships ≤ 40 }
-    requires same_ships { denied.old.ships ≡ shape.ships }
-    requires same_slots { denied.old.slots ≡ shape.slots }
-    requires all_ships { All (λ v. v < denied.old.ships) ships.now }
-    requires all_pairs { All (λ p. (p.0 < p.1) × (p.1 < denied.old.ships)) pairs.now }
-    requires ships { Climb 0 denied.old.ships ships.now }
-    requires pairs { ClimbPairs 0 0 denied.old.ships pairs.now }
-    requires local { IsLocal (R.refutes refuter.now) ships.now pairs.now }
+    requires few_ships { spoken.now.shape.ships ≤ 40 }
+    requires same_ships { denied.old.ships ≡ spoken.now.shape.ships }
+    requires same_slots { denied.old.slots ≡ spoken.now.shape.slots }
+    requires all_ships { All (λ v. v < denied.old.ships) spoken.now.ships.now }
+    requires all_pairs { All (λ p. (p.0 < p.1) × (p.1 < denied.old.ships)) spoken.now.pairs.now }
+    requires ships { Climb 0 denied.old.ships spoken.now.ships.now }
+    requires pairs { ClimbPairs 0 0 denied.old.ships spoken.now.pairs.now }
+    requires local { IsLocal (R.refutes refuter.now) spoken.now.ships.now spoken.now.pairs.now }
     requires serves { R.serves refuter.now denied.old.ships denied.old.slots }
     requires refuted { R.refutes refuter.now denied.old }
-    requires explains { Explains side room.now denied.old }
+    requires explains { Explains edge room.now denied.old }
     requires loud { IsQuiet (R.refutes refuter.now) room.now → ⊥ }
-    ensures worth { IfOk result (λ clause. IsExplanation (R.refutes refuter.now) shape ships.now pairs.now room.now clause) }
+    ensures worth { IfOk result (λ clause. IsExplanation (R.refutes refuter.now) spoken.now.shape spoken.now.ships.now spoken.now.pairs.now room.now clause) }
     ensures ships { denied.new.ships ≡ denied.old.ships }
     ensures slots { denied.new.slots ≡ denied.old.slots }
 {
-    loosen(refuter, side, room, denied, ships, pairs);
+    loosen(refuter, edge, room, denied, spoken.ships, spoken.pairs);
     let _ships = denied.ships();
-    plain(alloc, denied, ships, pairs)
+    plain(alloc, denied, spoken.ships, spoken.pairs)
 }

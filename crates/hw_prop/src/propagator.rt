@@ -1,11 +1,16 @@
 //! What a propagator answers, and when it is ready to be asked.
+//!
+//! A propagator may keep figures of one room, and is asked (`step`) only when they are those of the
+//! room in question. The search calls `undone` before each `step`: that brings the figures up to
+//! date after any number of cuts and returns. `changed` is there for other callers, which follow a
+//! room cut by cut.
 
 use hw_flat::{Flat, Room, Source};
 use hw_lits::Found;
 use hw_model::{Lit, NoMemory};
 use std::alloc::Global;
 
-/// One source, asked where it isn't quiet.
+/// A source that is asked whether it is quiet in a room, and explains itself by a clause if it isn't.
 pub trait Propagator {
     ghost use Rattle.std.specs.Prelude.{◌≡◌, ℕ, Option};
     ghost use Rattle.hw_model.specs.declared.source.Source.{Source as SourceOf};
@@ -23,18 +28,18 @@ pub trait Propagator {
     /// The source is one of this problem and of the propagator's kind.
     ghost serves: { Self → Problem → Type 0 };
 
-    /// It serves the problem, and what it keeps are the figures of this room, one of the problem.
+    /// It serves the problem, and the figures that it keeps are those of this room of the problem.
     ghost ready: { Self → Problem → RoomModel → Type 0 };
 
     /// The source. It takes no memory.
     fn source(&self) -> Source
         ensures value { result ≡ source self.now };
 
-    /// Quiet exactly where the source is quiet in the room, else a clause: it fits the problem, the
-    /// source refutes it under the best when denied, no literal of it is True in the room and at
-    /// most one Free, and it speaks only of what the source speaks of.
+    /// Quiet exactly where the source is quiet in the room, else a clause. The clause fits the problem
+    /// and speaks only of what the source speaks of. The source refutes the room in which it is
+    /// denied, under the best. In this room none of its literals is True and at most one is Free.
     ///
-    /// After want of memory it is as ready as before.
+    /// An error says that memory ran out; the propagator is then as ready as before.
     fn step(
         &mut self,
         alloc: Global,
@@ -47,7 +52,7 @@ pub trait Propagator {
         ensures ready { ready self.new flat.now room.now }
         ensures found { SourceFinds flat.now (source self.old) best room.now result };
 
-    /// The room was cut by a literal that was Free. It takes no memory.
+    /// Follows a cut of the room, by a literal that was Free. It takes no memory.
     fn changed(&mut self, flat: &Flat, before: &Room, lit: Lit)
         requires fits { IsLitOf flat.now.ships lit }
         requires ready { ready self.old flat.now before.now }
@@ -55,16 +60,16 @@ pub trait Propagator {
         ensures same { source self.new ≡ source self.old }
         ensures ready { ready self.new flat.now (cut lit before.now) };
 
-    /// The room is another one. It takes no memory.
+    /// Makes it ready for another room of the problem. It takes no memory.
     fn undone(&mut self, flat: &Flat, room: &Room)
         requires serves { serves self.old flat.now }
         requires room { RoomFits flat.now room.now }
         ensures same { source self.new ≡ source self.old }
         ensures ready { ready self.new flat.now room.now };
 
-    /// What is ready for a room of a problem serves the problem.
+    /// Whatever is ready for a room of a problem serves the problem.
     ghost ready_serves: { (p : Self) (f : Problem) (room : RoomModel) → ready p f room → serves p f };
 
-    /// What it serves has the source.
+    /// The problems that it serves have the source.
     ghost serves_source: { (p : Self) (f : Problem) → serves p f → IsSourceOf f (source p) };
 }

@@ -37,8 +37,8 @@ fn trial_of(alloc: Global, flat: &Flat, source: Source, room: &Room) -> Result<T
     Ok(Trial { room, ships, pairs })
 }
 
-/// Quiet exactly where the source is quiet in the room, else a clause of it, by trying in the
-/// room that is lent. A quiet answer takes no memory.
+/// Returns Quiet exactly where the source is quiet in the room, else a clause of it. It tries in the
+/// borrowed trial room. A quiet answer takes no memory.
 fn shaved_in(
     alloc: Global,
     test: &BySource<'_>,

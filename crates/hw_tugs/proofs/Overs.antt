@@ -1,4 +1,4 @@
--- What a room's reductions do to the tugs held for sure, and where a rule on tugs is quiet.
+-- What a room's reductions do to the tugs certainly held, and where a rule on tugs is quiet.
 use Rattle.std.proofs.Common.{◌≡◌, ◌≢◌, ℕ, zero, suc, ◌+◌, ◌<◌, ◌≤◌, List, [], ◌∷◌, Some, slice_get, length, get_or, sum_by, refl, sym, ap, subst, ◌∙◌, arith, inl, inr}
 use Rattle.std.specs.Prelude.{◌⊎◌, All, AllPairs}
 use Rattle.std.proofs.lemmas.Bool.{cases_eq, cases_lt}

@@ -1,66 +1,40 @@
 -- What the source of a rule on tugs says, by its fleet and its jobs.
-use Rattle.std.proofs.Common.{◌≡◌, ℕ, ◌<◌, List, [], ◌∷◌, Option, Some, None, slice_get, sum_by, map, refl, sym, ap, subst, arith, inl, inr}
-use Rattle.std.specs.Prelude.{IfSome, IsSomeAnd}
+use Rattle.std.proofs.Common.{◌≡◌, ℕ, ◌<◌, List, [], ◌∷◌, Option, Some, sum_by, map, refl, sym, ap, subst, arith, inl, inr}
 use Rattle.std.proofs.lemmas.List.Sums.{sum_by-cons}
 use Rattle.hw_model.specs.declared.lit.Lit.{Lit}
 use Rattle.hw_model.specs.declared.rule.Job.{Job}
-use Rattle.hw_model.specs.declared.rule.Rule.{Rule}
 use Rattle.hw_model.specs.declared.rule.Rule.TheVariants.{Tugs}
 use Rattle.hw_model.specs.declared.source.Source.{Source}
-use Rattle.hw_model.specs.declared.source.Source.TheVariants as sources
 use Rattle.hw_model.specs.Problem.{Problem, horizon, shape_of}
-use Rattle.hw_model.specs.Limits.{IsFlat, RuleFits}
+use Rattle.hw_model.specs.Limits.{IsFlat}
 use Rattle.hw_model.specs.Rooms.{RoomModel, RoomFits}
-use Rattle.hw_model.specs.Refuting.{Refutes, RuleRefutes, IsSourceOf, forced_by}
+use Rattle.hw_model.specs.Refuting.{Refutes, IsSourceOf, forced_by}
 use Rattle.hw_model.specs.Quiet.{QuietSource}
-use Rattle.hw_laws.proofs.Counting.{at_place}
 use Rattle.hw_prop.specs.Finds.{Explanation}
 use Rattle.hw_prop.specs.Plain.{range_of, In}
 use Rattle.hw_prop.specs.Reductions.{IsQuiet}
-use Rattle.hw_prop.specs.Scope.{rule_ships, rule_pairs}
+use Rattle.hw_prop.specs.Ruled.{rule_of}
 use Rattle.hw_prop.specs.Speaks.{SpokenOf, IsLocal, IsExplanation}
 use Rattle.hw_prop.proofs.Laws.{of_source, quiet_of}
-use Rattle.hw_prop.proofs.Scopes.{spoken_of}
-use Rattle.hw_tugs.specs.Kinds.{rule_of}
+use Rattle.hw_prop.proofs.Ruled.{rule_spoken, rule_refutes}
 use Rattle.hw_tugs.specs.Held.{held_for}
 use Rattle.hw_tugs.specs.Over.{OverAt, Exceeding}
 
-none_some : {X : Type 0} {Z : Type 0} (x : X) → None ≡ Some x → Z
-none_some x e = absurd cc
-
-if_some : (P : Rule → Type 0) (o : Option Rule) (rule : Rule) → o ≡ Some rule → IfSome o P → P rule
-if_some P o rule e h = subst (λ o. IfSome o P) e h
-
-pub rule_fits : (f : Problem) (source : Source) (rule : Rule) → IsFlat f → rule_of f source ≡ Some rule → RuleFits f.ships rule
-rule_fits f (sources.Window v) rule flat e = none_some rule e
-rule_fits f (sources.Rule place) rule flat e = if_some (RuleFits f.ships) (slice_get f.rules place) rule e (at_place (RuleFits f.ships) f.rules place flat.each_rule)
-rule_fits f (sources.Order v w x) rule flat e = none_some rule e
-rule_fits f sources.Goal rule flat e = none_some rule e
-
 -- the ships of the jobs, and no pair, are what the source speaks of
 pub jobs_spoken : (f : Problem) (source : Source) (fleet : ℕ) (jobs : List Job) → IsFlat f → IsSourceOf f source → rule_of f source ≡ Some (Tugs fleet jobs) → SpokenOf f source (map (λ job. job.ship) jobs) []
-jobs_spoken f (sources.Window v) fleet jobs flat of e = none_some (Tugs fleet jobs) e
-jobs_spoken f (sources.Rule place) fleet jobs flat of e = subst (λ o. SpokenOf f (sources.Rule place) (rule_ships o) (rule_pairs o)) e (spoken_of f (sources.Rule place) flat of)
-jobs_spoken f (sources.Order v w x) fleet jobs flat of e = none_some (Tugs fleet jobs) e
-jobs_spoken f sources.Goal fleet jobs flat of e = none_some (Tugs fleet jobs) e
+jobs_spoken f source fleet jobs flat of e = rule_spoken f source (Tugs fleet jobs) flat of e
 
 -- the source refutes exactly where the fleet is exceeded in a slot of the horizon
 pub to_refutes : (f : Problem) (source : Source) (best : Option ℕ) (fleet : ℕ) (jobs : List Job) (room : RoomModel) → rule_of f source ≡ Some (Tugs fleet jobs) → Exceeding fleet jobs (horizon f) room → Refutes f source best room
-to_refutes f (sources.Window v) best fleet jobs room e over = none_some (Tugs fleet jobs) e
-to_refutes f (sources.Rule place) best fleet jobs room e over = subst (λ o. IsSomeAnd o (RuleRefutes f room)) (sym e) over
-to_refutes f (sources.Order v w x) best fleet jobs room e over = none_some (Tugs fleet jobs) e
-to_refutes f sources.Goal best fleet jobs room e over = none_some (Tugs fleet jobs) e
+to_refutes f source best fleet jobs room e over = (rule_refutes f source best room (Tugs fleet jobs) e).0 over
 
 pub from_refutes : (f : Problem) (source : Source) (best : Option ℕ) (fleet : ℕ) (jobs : List Job) (room : RoomModel) → rule_of f source ≡ Some (Tugs fleet jobs) → Refutes f source best room → Exceeding fleet jobs (horizon f) room
-from_refutes f (sources.Window v) best fleet jobs room e h = none_some (Tugs fleet jobs) e
-from_refutes f (sources.Rule place) best fleet jobs room e h = subst (λ o. IsSomeAnd o (RuleRefutes f room)) e h
-from_refutes f (sources.Order v w x) best fleet jobs room e h = none_some (Tugs fleet jobs) e
-from_refutes f sources.Goal best fleet jobs room e h = none_some (Tugs fleet jobs) e
+from_refutes f source best fleet jobs room e h = (rule_refutes f source best room (Tugs fleet jobs) e).1 h
 
 pub quiet_source : (f : Problem) (source : Source) (best : Option ℕ) (fleet : ℕ) (jobs : List Job) (room : RoomModel) → RoomFits f room → rule_of f source ≡ Some (Tugs fleet jobs) → IsQuiet (Exceeding fleet jobs (horizon f)) room → QuietSource f source best room
 quiet_source f source best fleet jobs room fits e quiet = quiet_of f source best room fits.same_ships (λ c i h. quiet c i (from_refutes f source best fleet jobs _ e h))
 
--- what is held for sure in a slot is told by the ranges of the jobs' ships
+-- the ranges of the jobs' ships tell what is certainly held in a slot
 same_sum : (jobs : List Job) (slot : ℕ) (d e : RoomModel) → ((u : ℕ) → In u (map (λ job. job.ship) jobs) → range_of e u ≡ range_of d u) → sum_by (forced_by e slot) jobs ≡ sum_by (forced_by d slot) jobs
 same_sum [] slot d e same = refl
 same_sum (job ∷ jobs) slot d e same =

@@ -1,21 +1,15 @@
 -- The sources of rules on tugs.
-use Rattle.std.specs.Prelude.{ℕ, List, [], Option, Some, None, slice_get, sum_by, ⊤}
+use Rattle.std.specs.Prelude.{◌≡◌, ℕ, List, [], Option, Some, None, sum_by, ⊤}
 use Rattle.hw_model.specs.declared.rule.Job.{Job}
 use Rattle.hw_model.specs.declared.rule.Rule.{Rule}
 use Rattle.hw_model.specs.declared.rule.Rule.TheVariants.{Pair, After, Tugs}
 use Rattle.hw_model.specs.declared.source.Source.{Source}
-use Rattle.hw_model.specs.declared.source.Source.TheVariants as sources
 use Rattle.hw_model.specs.Problem.{Problem}
 use Rattle.hw_model.specs.Rooms.{RoomModel}
 use Rattle.hw_model.specs.Refuting.{IsSourceOf, forced_by}
+use Rattle.hw_prop.specs.Ruled.{rule_of}
 
--- the rule of a source
-abbrev pub rule_of : Problem → Source → Option Rule
-rule_of f (sources.Window v) = None
-rule_of f (sources.Rule place) = slice_get f.rules place
-rule_of f (sources.Order v w x) = None
-rule_of f sources.Goal = None
-
+-- a rule on tugs
 abbrev pub IsTugs : Option Rule → Type 0
 IsTugs None = ⊥
 IsTugs (Some (Pair v w holes)) = ⊥
@@ -33,9 +27,14 @@ jobs_in (Some (Pair v w holes)) = []
 jobs_in (Some (After v w gap)) = []
 jobs_in (Some (Tugs fleet jobs)) = jobs
 
+-- the jobs of a source, none of one that is no rule on tugs
 abbrev pub jobs_of : Problem → Source → List Job
 jobs_of f source = jobs_in (rule_of f source)
 
 -- the tugs that the jobs of a source hold in a slot wherever their ships sail in their ranges
 abbrev pub tugs_held : Problem → Source → RoomModel → ℕ → ℕ
 tugs_held f source room slot = sum_by (forced_by room slot) (jobs_of f source)
+
+-- this many tugs are held so in a slot, in any room for which something is ready
+abbrev pub HeldWhere : (Problem → RoomModel → Type 0) → Source → ℕ → ℕ → Type 0
+HeldWhere ready source slot held = (f : Problem) (room : RoomModel) → ready f room → held ≡ tugs_held f source room slot

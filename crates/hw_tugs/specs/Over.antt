@@ -8,14 +8,14 @@ use Rattle.hw_prop.specs.declared.reduction.Reduction.{Reduction}
 use Rattle.hw_prop.specs.declared.reduction.Reduction.TheVariants.{Here, Lowest, Highest, First, NotFirst}
 use Rattle.hw_tugs.specs.declared.cutting.Cut.{Cut}
 
--- so many tugs more exceed the fleet in a slot of a part of the horizon
+-- with `more` more tugs the load exceeds the fleet in a slot of this part of the horizon
 pub record IsOver (load : List ℕ) (fleet more from to slot : ℕ) : Type 0 where
   pub from_in : from ≤ slot
   pub to_in : slot < to
   pub inside : slot < length load
   pub over : fleet < slice_index load slot + more
 
--- the jobs hold more tugs for sure in a slot than the fleet has
+-- the jobs certainly hold more tugs in a slot than the fleet has
 abbrev pub OverAt : ℕ → List Job → ℕ → RoomModel → Type 0
 OverAt fleet jobs slot room = fleet < sum_by (forced_by room slot) jobs
 

@@ -7,7 +7,7 @@ use Rattle.hw_tugs.specs.Kinds.{OfTugs, jobs_of}
 use Rattle.hw_tugs.specs.Held.{IsLoad, Sees}
 use Rattle.hw_tugs.specs.declared.figures.Figures.{Figures}
 
--- for each slot of the horizon the tugs held for sure, by the ranges last seen; the ships of the jobs; and a room to try in
+-- for each slot of the horizon the tugs certainly held, by the ranges last seen; the ships of the jobs; and a room to try in
 pub record Keeps (f : Problem) (source : Source) (ships : List ℕ) (trial : RoomModel) (figures : Figures) : Type 0 where
   pub of_tugs : OfTugs f source
   pub each_slot : length figures.load.items ≡ horizon f

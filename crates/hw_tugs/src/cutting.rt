@@ -17,8 +17,8 @@ pub struct Cut {
     pub slot: Slot,
 }
 
-/// The first slot from `from` on, before `to`, in which so many tugs more exceed the fleet, or
-/// none. It takes a step for each slot up to it.
+/// The first slot from `from` on, before `to`, in which `more` more tugs exceed the fleet, or none.
+/// It takes a step for each slot up to it.
 fn first_over(load: &[u64], fleet: u32, more: u32, from: usize, to: usize) -> Option<usize>
     requires small { (slot : ℕ) → slot < length load.now → slice_index load.now slot ≤ 10_000 }
     ensures found { MatchOption result ((slot : ℕ) → IsOver load.now fleet more from to slot → ⊥) (IsOver load.now fleet more from to) }
@@ -49,8 +49,8 @@ fn last_over(load: &[u64], fleet: u32, more: u32, from: usize, to: usize) -> Opt
 
 /// Where a job exceeds the fleet: as it is, or at an end of its ship's range; or none.
 ///
-/// At the low end it is the last slot of those, at the high end the first: so the ship is cut as
-/// far as may be. It takes at most a step for each slot in which the job may hold its tugs.
+/// At the low end it is the last such slot, at the high end the first, so that the ship is cut as
+/// far as possible. It takes at most a step for each slot in which the job may hold its tugs.
 fn job_cut(job: Job, fleet: u32, room: &Room, load: &[u64]) -> Option<Cut>
     requires ship_in { job.ship < room.now.ships }
     requires short { length load.now ≤ 512 }

@@ -1,4 +1,4 @@
-//! The tugs that the jobs of a rule hold for sure in each slot, and the ranges that say so.
+//! The tugs that the jobs of a rule certainly hold in each slot, and the ranges that say so.
 ghost use Rattle.std.specs.Prelude.{◌≡◌, ◌≢◌, ℕ, ◌<◌, ◌≤◌, All, AllPairs, IfOk, MatchOption, length, slice_set, slice_index_or};
 ghost use Rattle.hw_model.specs.Limits.{JobFits};
 ghost use Rattle.hw_model.specs.Lits.{IsLitOf};
@@ -33,7 +33,7 @@ fn ranges_of(alloc: Global, jobs: &[Job], room: &Room) -> Result<Vec<(Slot, Slot
     Ok(seen)
 }
 
-/// The tugs that the jobs hold for sure in each slot of the horizon.
+/// The tugs that the jobs certainly hold in each slot of the horizon.
 fn loads(alloc: Global, jobs: &[Job], room: &Room, horizon: u32) -> Result<Vec<u64>, NoMemory>
     requires few { length jobs.now ≤ 40 }
     requires fit { All (JobFits room.now.ships) jobs.now }
@@ -59,8 +59,8 @@ fn place_of(jobs: &[Job], ship: ShipId) -> Option<usize>
     None
 }
 
-/// The load where the job at a place has another range than the one that was seen: a step for each
-/// slot that the job holds for sure in the two.
+/// Updates the load where the job at a place has another range than the one seen: a step for each
+/// slot that the job certainly holds in either of the two.
 fn mend(load: &mut [u64], jobs: &[Job], seen: &[(Slot, Slot)], place: usize, range: (Slot, Slot))
     requires few { length jobs.now ≤ 40 }
     requires few_tugs { All (λ job. job.tugs ≤ 64) jobs.now }
@@ -95,8 +95,8 @@ impl Figures {
         Ok(Figures { seen, load })
     }
 
-    /// The ship of the job at a place has another range: a step for each slot that the job holds
-    /// for sure in the two ranges, and none where they are the same.
+    /// The ship of the job at a place has another range: a step for each slot that the job certainly
+    /// holds in either range, and none where the two are the same.
     fn set(&mut self, jobs: &[Job], place: usize, range: (Slot, Slot))
         requires few { length jobs.now ≤ 40 }
         requires few_tugs { All (λ job. job.tugs ≤ 64) jobs.now }
@@ -115,7 +115,7 @@ impl Figures {
     }
 
     /// Makes them the figures of a room: a comparison for each job, and for each range that differs
-    /// a step for each slot that its job holds for sure.
+    /// a step for each slot that its job certainly holds.
     pub(crate) fn follow(&mut self, jobs: &[Job], room: &Room)
         requires few { length jobs.now ≤ 40 }
         requires fit { All (JobFits room.now.ships) jobs.now }

@@ -1,4 +1,4 @@
-//! The propagator of a rule on tugs: it keeps the tugs that are held for sure in each slot, and they
+//! The propagator of a rule on tugs: it keeps the tugs that are certainly held in each slot, and they
 //! follow the room.
 #![tactic(auto)]
 

@@ -2,7 +2,7 @@
 ghost use Rattle.std.specs.Prelude.{◌≡◌, ℕ, ◌+◌, ◌<◌, ◌≤◌, length, slice_index};
 ghost use Rattle.hw_tugs.specs.Held.{part};
 
-/// Adds tugs to each slot from `from` on, before `to`. Slots behind the load's last are left out.
+/// Adds tugs to each slot from `from` on, before `to`. Slots after the load's last are left out.
 ///
 /// It takes a step for each slot of the part.
 pub(crate) fn add(load: &mut [u64], from: usize, to: usize, tugs: u32)

@@ -1,26 +1,26 @@
-//! The propagator of a rule on tugs, by the tugs that are held for sure in each slot.
+//! The propagator of a rule on tugs, by the tugs that are certainly held in each slot.
 
 ghost use Rattle.std.specs.Prelude.{◌≡◌, ◌<◌, ℕ, IfOk, map};
 ghost use Rattle.hw_model.specs.Problem.{Problem, horizon, shape_of};
 ghost use Rattle.hw_model.specs.Rooms.{RoomModel, whole_room};
-ghost use Rattle.hw_tugs.specs.Kinds.{OfTugs, tugs_held};
+ghost use Rattle.hw_tugs.specs.Kinds.{OfTugs, HeldWhere};
 
 use crate::explaining::tugs_step;
 use crate::figures::Figures;
-use crate::rule::tugs_rule;
+use crate::rule::{TugsTest, tugs_rule};
 use hw_flat::{Flat, Job, Room, ShipId, Slot, Source};
 use hw_lits::Found;
 use hw_model::{Lit, NoMemory};
 use hw_prop::{BySource, Propagator};
 use std::alloc::Global;
 
-/// The propagator of a rule on tugs. It keeps the tugs that are held for sure in each slot of the
-/// horizon: by each job in the slots from its ship's highest on, before its lowest and the hold. A
-/// ship that may still stay holds none for sure.
+/// The propagator of a rule on tugs. It keeps the tugs that are certainly held in each slot of the
+/// horizon. A job certainly holds its tugs from its ship's highest slot on, until the hold after its
+/// lowest slot is over. A ship that may still stay holds none.
 ///
-/// A quiet step takes no memory, and at most a step for each slot in which a job may hold its tugs.
-/// `undone` takes a comparison for each job, and where a range differs a step for each slot that
-/// its job holds for sure; `changed` looks for the one job.
+/// A quiet step takes no memory, and at most one step for each slot in which a job may hold its tugs.
+/// `undone` compares one range for each job, and takes a step for each slot that a job certainly
+/// holds where its range differs. `changed` looks for the one job.
 #[derive(Debug, Drop)]
 pub struct TugProfile {
     source: Source,
@@ -40,7 +40,7 @@ fn ships_of(alloc: Global, jobs: &[Job]) -> Result<Vec<ShipId>, NoMemory>
 }
 
 impl TugProfile {
-    /// The one of the source of a rule on tugs, ready for the whole room.
+    /// The propagator of a rule on tugs, ready for the whole room.
     pub fn new(alloc: Global, flat: &Flat, source: Source) -> Result<TugProfile, NoMemory>
         requires kind { OfTugs flat.now source }
         ensures source { IfOk result (λ p. ⟦<TugProfile as Propagator>⟧.source p ≡ source) }
@@ -58,11 +58,11 @@ impl TugProfile {
         })
     }
 
-    /// The tugs that the rule's jobs hold for sure in a slot of the horizon, in the room for which
-    /// the profile is ready.
+    /// The tugs that the rule's jobs certainly hold in a slot of the horizon, in the room for which the
+    /// profile is ready.
     pub fn load(&self, slot: Slot) -> u64
         requires ready { (f : Problem) × (room : RoomModel) × ⟦<TugProfile as Propagator>⟧.ready self.now f room × (slot < horizon f) }
-        ensures value { (f : Problem) (room : RoomModel) → ⟦<TugProfile as Propagator>⟧.ready self.now f room → result ≡ tugs_held f (⟦<TugProfile as Propagator>⟧.source self.now) room slot }
+        ensures value { HeldWhere (⟦<TugProfile as Propagator>⟧.ready self.now) (⟦<TugProfile as Propagator>⟧.source self.now) slot result }
     {
         self.figures.load[slot as usize]
     }
@@ -93,15 +93,15 @@ impl Propagator for TugProfile {
         room: &Room,
     ) -> Result<Found, NoMemory> {
         let rule = tugs_rule(flat, self.source);
-        let test = BySource {
+        let by = BySource {
             flat,
             source: self.source,
             best,
         };
+        let test = TugsTest { by, rule };
         tugs_step(
             alloc,
             &test,
-            &rule,
             room,
             &self.figures.load,
             &mut self.trial,

@@ -2,15 +2,24 @@
 
 ghost use Rattle.std.specs.Prelude.{◌≡◌, Some};
 ghost use Rattle.hw_model.specs.Limits.{TugsFit};
-ghost use Rattle.hw_tugs.specs.Kinds.{OfTugs, rule_of};
+ghost use Rattle.hw_prop.specs.Ruled.{rule_of};
+ghost use Rattle.hw_tugs.specs.Kinds.{OfTugs};
 
 use hw_flat::{Flat, Job, Rule, Source};
+use hw_prop::BySource;
 
-/// A rule on tugs: its fleet, and its jobs.
+/// A rule on tugs: its fleet and its jobs.
 #[derive(Clone, Copy)]
 pub(crate) struct TugsRule<'f> {
     pub fleet: u32,
     pub jobs: &'f [Job],
+}
+
+/// A source under a best, and the rule on tugs that it is of.
+#[derive(Clone, Copy)]
+pub(crate) struct TugsTest<'f> {
+    pub by: BySource<'f>,
+    pub rule: TugsRule<'f>,
 }
 
 /// The rule of a source.

@@ -12,29 +12,29 @@ use Rattle.hw_tugs.proofs.explaining.cut_clause.Goals as goal
 
 pub clause_of-requires-clause-all_ships : goal.clause_of-requires-clause-all_ships
 clause_of-requires-clause-all_ships c =
-    let f = c.args.test.now.flat.now in
-    let spoken = spoken_by f c.args.test.now.source c.args.rule.now.fleet c.args.rule.now.jobs.now c.args.ships.now c.shape-shape.ensures.limits c.requires.source_in c.requires.rule c.requires.ships in
+    let f = c.args.test.now.by.flat.now in
+    let spoken = spoken_by f c.args.test.now.by.source c.args.test.now.rule.fleet c.args.test.now.rule.jobs.now c.args.ships.now c.shape-shape.ensures.limits c.requires.source_in c.requires.rule c.requires.ships in
     let P : Shape → Type 0 = λ s. All (λ v. v < s.ships) c.args.ships.now in
     subst P (sym c.shape-shape.ensures.value) (climb_all 0 f.ships c.args.ships.now spoken.climb)
 
 pub clause_of-requires-clause-ships : goal.clause_of-requires-clause-ships
 clause_of-requires-clause-ships c =
-    let f = c.args.test.now.flat.now in
-    let spoken = spoken_by f c.args.test.now.source c.args.rule.now.fleet c.args.rule.now.jobs.now c.args.ships.now c.shape-shape.ensures.limits c.requires.source_in c.requires.rule c.requires.ships in
+    let f = c.args.test.now.by.flat.now in
+    let spoken = spoken_by f c.args.test.now.by.source c.args.test.now.rule.fleet c.args.test.now.rule.jobs.now c.args.ships.now c.shape-shape.ensures.limits c.requires.source_in c.requires.rule c.requires.ships in
     let P : Shape → Type 0 = λ s. Climb 0 s.ships c.args.ships.now in
     subst P (sym c.shape-shape.ensures.value) spoken.climb
 
 pub clause_of-requires-clause-local : goal.clause_of-requires-clause-local
-clause_of-requires-clause-local c = slot_local_by c.args.rule.now.fleet c.args.rule.now.jobs.now c.args.cut.slot c.args.ships.now c.requires.ships
+clause_of-requires-clause-local c = slot_local_by c.args.test.now.rule.fleet c.args.test.now.rule.jobs.now c.args.cut.slot c.args.ships.now c.requires.ships
 
 pub returns-clause-worth : goal.returns-clause-worth
 returns-clause-worth c =
-    let f = c.args.test.now.flat.now in
-    let source = c.args.test.now.source in
-    let fleet = c.args.rule.now.fleet in
-    let jobs = c.args.rule.now.jobs.now in
+    let f = c.args.test.now.by.flat.now in
+    let source = c.args.test.now.by.source in
+    let fleet = c.args.test.now.rule.fleet in
+    let jobs = c.args.test.now.rule.jobs.now in
     let spoken = spoken_by f source fleet jobs c.args.ships.now c.shape-shape.ensures.limits c.requires.source_in c.requires.rule c.requires.ships in
     let Q : List Lit → Shape → Type 0 = λ clause s. IsExplanation (OverAt fleet jobs c.args.cut.slot) s c.args.ships.now [] c.args.room.now clause in
     IfOk-weaker c.clause_of.result _ _
-    (λ clause x. slot_explains f source c.args.test.now.best fleet jobs c.args.cut.slot c.args.ships.now c.args.room.now clause c.shape-shape.ensures.limits c.requires.source_in c.requires.room c.requires.rule c.requires.cut.inside spoken (subst (Q clause) c.shape-shape.ensures.value x))
+    (λ clause x. slot_explains f source c.args.test.now.by.best fleet jobs c.args.cut.slot c.args.ships.now c.args.room.now clause c.shape-shape.ensures.limits c.requires.source_in c.requires.room c.requires.rule c.requires.cut.inside spoken (subst (Q clause) c.shape-shape.ensures.value x))
     c.clause_of.ensures.worth
