@@ -58,12 +58,6 @@ count_stay (w ∷ ws) (v ∷ vs) e f = by (is_one w) (is_one v) (f zero) (count_
 
 -- ---- those that stay
 
-pub stay_all : (ws : List Watch) → OnesStay ws ws
-stay_all ws = record { each = λ i e. e }
-
-pub stay_twice : (a b c : List Watch) → OnesStay a b → OnesStay b c → OnesStay a c
-stay_twice a b c f g = record { each = λ i e. g.each i (f.each i e) }
-
 pub stay_due : (ws : List Watch) (place : ℕ) → is_one (get_or ws place Due) ≡ false → OnesStay ws (set ws place Due)
 stay_due ws place none = record {
   each = λ i e. elim (cases_eq i place) [

@@ -1,11 +1,11 @@
 -- A list of places gone through after a cut, and what stays in it.
-use Rattle.std.proofs.Common.{◌≡◌, ◌≢◌, ℕ, ◌+◌, ◌<◌, ◌≤◌, true, false, List, [], length, take, get_or, set, refl, sym, ap, ◌∙◌, subst, arith, All, Contains, inl, inr, length-set, get_or-set_same, get_or-set_other, get_or-take, length-take-le}
+use Rattle.std.proofs.Common.{◌≡◌, ◌≢◌, ℕ, ◌+◌, ◌<◌, ◌≤◌, true, false, List, [], length, take, get_or, set, refl, sym, ap, ◌∙◌, subst, arith, Contains, inl, inr, length-set, get_or-set_same, get_or-set_other, get_or-take, length-take-le}
 use Rattle.std.proofs.lemmas.List.{get_or_default}
 use Rattle.std.proofs.lemmas.Bool.{cases_eq}
 use Rattle.hw_model.specs.declared.lit.Lit.{Lit}
 use Rattle.hw_store.specs.declared.watching.Watch.{Watch}
 use Rattle.hw_store.specs.declared.watching.Watch.TheVariants.{Due}
-use Rattle.hw_store.specs.Watches.{is_hit, is_on, DropsSome, Sifted, SiftsOne, SiftsRun}
+use Rattle.hw_store.specs.Watches.{is_hit, is_on, DropsSome, Sifted, SiftsOne, MissedRun}
 use Rattle.hw_store.proofs.Drops.{dropped}
 
 false_true : false ≡ true → ⊥
@@ -23,23 +23,23 @@ drops_twice a b c g h = record {
   ];
 }
 
-still_on : (ships slots side : ℕ) (w v : List Watch) (p : ℕ) → DropsSome w v → is_on ships slots side (get_or v p Due) ≡ true → is_on ships slots side (get_or w p Due) ≡ true
-still_on ships slots side w v p d on = elim (d.each p) [
-  | inl same ↦ sym (ap (is_on ships slots side) same) ∙ on
-  | inr due ↦ absurd (false_true (sym (ap (is_on ships slots side) due) ∙ on))
+still_on : (ships slots bucket : ℕ) (w v : List Watch) (p : ℕ) → DropsSome w v → is_on ships slots bucket (get_or v p Due) ≡ true → is_on ships slots bucket (get_or w p Due) ≡ true
+still_on ships slots bucket w v p d on = elim (d.each p) [
+  | inl same ↦ sym (ap (is_on ships slots bucket) same) ∙ on
+  | inr due ↦ absurd (false_true (sym (ap (is_on ships slots bucket) due) ∙ on))
 ]
 
--- up to a place of the old list no watch is hit, and what watches the side is among the first `kept` of the new one
-pub record Sifting (ships slots side : ℕ) (cutting : Lit) (ws : List Watch) (old now : List ℕ) (at kept : ℕ) : Type 0 where
+-- up to a place of the old list no watch is hit, and what watches the bucket is among the first `kept` of the new one
+pub record Sifting (ships slots bucket : ℕ) (cutting : Lit) (ws : List Watch) (old now : List ℕ) (at kept : ℕ) : Type 0 where
   pub same_length : length now ≡ length old
   pub few : kept ≤ at
   pub behind : (i : ℕ) → at ≤ i → get_or now i 0 ≡ get_or old i 0
   pub missed : (i : ℕ) → i < at → is_hit cutting (get_or ws (get_or old i 0) Due) ≡ false
-  pub stays : (i : ℕ) → i < at → is_on ships slots side (get_or ws (get_or old i 0) Due) ≡ true → (j : ℕ) × (j < kept) × (get_or now j 0 ≡ get_or old i 0)
+  pub stays : (i : ℕ) → i < at → is_on ships slots bucket (get_or ws (get_or old i 0) Due) ≡ true → (j : ℕ) × (j < kept) × (get_or now j 0 ≡ get_or old i 0)
   pub only : (j : ℕ) → j < kept → (i : ℕ) × (i < at) × (get_or old i 0 ≡ get_or now j 0)
 
-pub sift_starts : (ships slots side : ℕ) (cutting : Lit) (ws : List Watch) (old : List ℕ) → Sifting ships slots side cutting ws old old 0 0
-sift_starts ships slots side cutting ws old = record {
+pub sift_starts : (ships slots bucket : ℕ) (cutting : Lit) (ws : List Watch) (old : List ℕ) → Sifting ships slots bucket cutting ws old old 0 0
+sift_starts ships slots bucket cutting ws old = record {
   same_length = refl;
   few = omega arith;
   behind = λ i le. refl;
@@ -55,22 +55,22 @@ missed_more cutting w v old at d here before i lt = elim (cases_eq i at) [
 ]
 
 -- the place doesn't stay
-pub sift_passes : (ships slots side : ℕ) (cutting : Lit) (w v : List Watch) (old now : List ℕ) (at kept : ℕ) → Sifting ships slots side cutting w old now at kept → DropsSome w v → is_hit cutting (get_or v (get_or old at 0) Due) ≡ false → is_on ships slots side (get_or v (get_or old at 0) Due) ≡ false → Sifting ships slots side cutting v old now (at + 1) kept
-sift_passes ships slots side cutting w v old now at kept s d miss off = record {
+pub sift_passes : (ships slots bucket : ℕ) (cutting : Lit) (w v : List Watch) (old now : List ℕ) (at kept : ℕ) → Sifting ships slots bucket cutting w old now at kept → DropsSome w v → is_hit cutting (get_or v (get_or old at 0) Due) ≡ false → is_on ships slots bucket (get_or v (get_or old at 0) Due) ≡ false → Sifting ships slots bucket cutting v old now (at + 1) kept
+sift_passes ships slots bucket cutting w v old now at kept s d miss off = record {
   same_length = s.same_length;
   few = omega (arith, s.few);
   behind = λ i le. s.behind i (omega (arith, le));
   missed = missed_more cutting w v old at d miss s.missed;
   stays = λ i lt on. elim (cases_eq i at) [
-    | inl e ↦ absurd (false_true (sym off ∙ subst (λ n. is_on ships slots side (get_or v (get_or old n 0) Due) ≡ true) e on))
-    | inr n ↦ s.stays i (omega (arith, lt, n)) (still_on ships slots side w v (get_or old i 0) d on)
+    | inl e ↦ absurd (false_true (sym off ∙ subst (λ n. is_on ships slots bucket (get_or v (get_or old n 0) Due) ≡ true) e on))
+    | inr n ↦ s.stays i (omega (arith, lt, n)) (still_on ships slots bucket w v (get_or old i 0) d on)
   ];
   only = λ j lt. let o = s.only j lt in (o.0, omega (arith, o.1), o.2);
 }
 
 -- the place stays
-pub sift_keeps : (ships slots side : ℕ) (cutting : Lit) (w v : List Watch) (old now : List ℕ) (at kept : ℕ) → Sifting ships slots side cutting w old now at kept → at < length old → DropsSome w v → is_hit cutting (get_or v (get_or old at 0) Due) ≡ false → Sifting ships slots side cutting v old (set now kept (get_or old at 0)) (at + 1) (kept + 1)
-sift_keeps ships slots side cutting w v old now at kept s inside d miss =
+pub sift_keeps : (ships slots bucket : ℕ) (cutting : Lit) (w v : List Watch) (old now : List ℕ) (at kept : ℕ) → Sifting ships slots bucket cutting w old now at kept → at < length old → DropsSome w v → is_hit cutting (get_or v (get_or old at 0) Due) ≡ false → Sifting ships slots bucket cutting v old (set now kept (get_or old at 0)) (at + 1) (kept + 1)
+sift_keeps ships slots bucket cutting w v old now at kept s inside d miss =
     let place : ℕ = get_or old at 0 in
     let within : kept < length now = omega (arith, s.few, inside, s.same_length) in
     record {
@@ -81,7 +81,7 @@ sift_keeps ships slots side cutting w v old now at kept s inside d miss =
       stays = λ i lt on. elim (cases_eq i at) [
         | inl e ↦ (kept, omega arith, get_or-set_same now kept place 0 within ∙ ap (λ n. get_or old n 0) (sym e))
         | inr n ↦ (
-            let o = s.stays i (omega (arith, lt, n)) (still_on ships slots side w v (get_or old i 0) d on) in
+            let o = s.stays i (omega (arith, lt, n)) (still_on ships slots bucket w v (get_or old i 0) d on) in
             let ne : o.0 ≢ kept = omega (arith, o.1) in
             (o.0, omega (arith, o.1), get_or-set_other now kept o.0 place 0 ne ∙ o.2))
       ];
@@ -93,11 +93,11 @@ sift_keeps ships slots side cutting w v old now at kept s inside d miss =
       ];
     }
 
-pub sift_ends : (ships slots side : ℕ) (cutting : Lit) (ws : List Watch) (old now : List ℕ) (at kept : ℕ) → Sifting ships slots side cutting ws old now at kept → at ≡ length old → Sifted ships slots side cutting ws old (take kept now)
-sift_ends ships slots side cutting ws old now at kept s end = record {
+pub sift_ends : (ships slots bucket : ℕ) (cutting : Lit) (ws : List Watch) (old now : List ℕ) (at kept : ℕ) → Sifting ships slots bucket cutting ws old now at kept → at ≡ length old → Sifted ships slots bucket cutting ws old (take kept now)
+sift_ends ships slots bucket cutting ws old now at kept s end = record {
   missed = λ p c. subst (λ n. is_hit cutting (get_or ws n Due) ≡ false) (held old p c) (s.missed c.0 (omega (arith, c.1, end)));
   stays = λ p c on. (
-      let o = s.stays c.0 (omega (arith, c.1, end)) (subst (λ n. is_on ships slots side (get_or ws n Due) ≡ true) (sym (held old p c)) on) in
+      let o = s.stays c.0 (omega (arith, c.1, end)) (subst (λ n. is_on ships slots bucket (get_or ws n Due) ≡ true) (sym (held old p c)) on) in
       (o.0, omega (arith, o.1, short), get_or-take kept now o.0 p o.1 ∙ get_or_default now o.0 p 0 (omega (arith, o.1, few)) ∙ o.2 ∙ held old p c));
   only = λ p c. (
       let lt : c.0 < kept = omega (arith, c.1, short) in
@@ -115,24 +115,16 @@ sift_ends ships slots side cutting ws old now at kept s end = record {
     held xs p c = get_or_default xs c.0 0 p c.1 ∙ c.2
 
 -- one list of all
-pub sifts_one : (ships slots side : ℕ) (cutting : Lit) (ws : List Watch) (lists : List (List ℕ)) (new : List ℕ) → side < length lists → Sifted ships slots side cutting ws (get_or lists side []) new → SiftsOne ships slots side cutting ws lists (set lists side new)
-sifts_one ships slots side cutting ws lists new lt s = record {
-  same_length = length-set lists side new;
-  others = λ n ne. get_or-set_other lists side n new [] ne;
-  one = subst (Sifted ships slots side cutting ws (get_or lists side [])) (sym (get_or-set_same lists side new [] lt)) s;
+pub sifts_one : (ships slots bucket : ℕ) (cutting : Lit) (ws : List Watch) (lists : List (List ℕ)) (new : List ℕ) → bucket < length lists → Sifted ships slots bucket cutting ws (get_or lists bucket []) new → SiftsOne ships slots bucket cutting ws lists (set lists bucket new)
+sifts_one ships slots bucket cutting ws lists new lt s = record {
+  same_length = length-set lists bucket new;
+  others = λ n ne. get_or-set_other lists bucket n new [] ne;
+  one = subst (Sifted ships slots bucket cutting ws (get_or lists bucket [])) (sym (get_or-set_same lists bucket new [] lt)) s;
 }
 
 -- ---- one list after another
 
-pub run_starts : (ships slots first end : ℕ) (cutting : Lit) (ws : List Watch) (lists : List (List ℕ)) → end ≤ first → SiftsRun ships slots first end cutting ws lists lists
-run_starts ships slots first end cutting ws lists none = record {
-  same_length = refl;
-  missed = λ n p le lt h. absurd (omega (arith, none, le, lt));
-  stays = λ n p h on. h;
-  only = λ n p h. h;
-}
-
--- the lists from a side on weren't gone through
+-- the lists from a bucket on weren't gone through
 abbrev pub Ahead : ℕ → List (List ℕ) → List (List ℕ) → Type 0
 Ahead at old new = (n : ℕ) → at ≤ n → get_or new n [] ≡ get_or old n []
 
@@ -141,34 +133,8 @@ ahead_more ships slots at cutting ws a b c s h n le =
     let ne : n ≢ at = omega (arith, le) in
     s.others n ne ∙ h n (omega (arith, le))
 
-pub run_more : (ships slots first at : ℕ) (cutting : Lit) (w v : List Watch) (a b c : List (List ℕ)) → SiftsRun ships slots first at cutting w a b → Ahead at a b → DropsSome w v → SiftsOne ships slots at cutting v b c → SiftsRun ships slots first (at + 1) cutting v a c
-run_more ships slots first at cutting w v a b c r ahead d s = record {
-  same_length = s.same_length ∙ r.same_length;
-  missed = λ n p le lt h. elim (cases_eq n at) [
-    | inl e ↦ s.one.missed p (subst (λ l. Contains l p) (ap (λ m. get_or a m []) e ∙ sym (ahead at (omega arith))) h)
-    | inr ne ↦ dropped (λ x. is_hit cutting x ≡ false) w v p d refl (r.missed n p le (omega (arith, lt, ne)) h)
-  ];
-  stays = λ n p h on. (
-      let mid : Contains (get_or b n []) p = r.stays n p h (still_on ships slots n w v p d on) in
-      elim (cases_eq n at) [
-        | inl e ↦ subst (λ m. Contains (get_or c m []) p) (sym e) (s.one.stays p (subst (λ m. Contains (get_or b m []) p) e mid) (subst (λ m. is_on ships slots m (get_or v p Due) ≡ true) e on))
-        | inr ne ↦ subst (λ l. Contains l p) (sym (s.others n ne)) mid
-      ]);
-  only = λ n p h. elim (cases_eq n at) [
-    | inl e ↦ r.only n p (subst (λ m. Contains (get_or b m []) p) (sym e) (s.one.only p (subst (λ m. Contains (get_or c m []) p) e h)))
-    | inr ne ↦ r.only n p (subst (λ l. Contains l p) (s.others n ne) h)
-  ];
-}
-
-pub run_ends : (ships slots first at end : ℕ) (cutting : Lit) (ws : List Watch) (old new : List (List ℕ)) → end ≤ at → SiftsRun ships slots first at cutting ws old new → SiftsRun ships slots first end cutting ws old new
-run_ends ships slots first at end cutting ws old new le r = record {
-  same_length = r.same_length;
-  missed = λ n p from to h. r.missed n p from (omega (arith, le, to)) h;
-  stays = r.stays;
-  only = r.only;
-}
-
-pub run_inside : (ships slots first at : ℕ) (cutting : Lit) (w v : List Watch) (old new : List (List ℕ)) → DropsSome w v → SiftsRun ships slots first at cutting v old new → ((n p : ℕ) → Contains (get_or old n []) p → p < length w) → (n : ℕ) → All (λ p. p < length v) (get_or new n [])
-run_inside ships slots first at cutting w v old new d r h n i e lt =
-    let p : ℕ = get_or (get_or new n []) i e in
-    subst (λ m. p < m) (sym d.same_length) (h n p (r.only n p (i, lt, get_or_default (get_or new n []) i p e lt)))
+pub run_more : (ships slots first at : ℕ) (cutting : Lit) (w v : List Watch) (a b c : List (List ℕ)) → MissedRun first at cutting w a → Ahead at a b → DropsSome w v → SiftsOne ships slots at cutting v b c → MissedRun first (at + 1) cutting v a
+run_more ships slots first at cutting w v a b c r ahead d s n p le lt h = elim (cases_eq n at) [
+  | inl e ↦ s.one.missed p (subst (λ l. Contains l p) (ap (λ m. get_or a m []) e ∙ sym (ahead at (omega arith))) h)
+  | inr ne ↦ dropped (λ x. is_hit cutting x ≡ false) w v p d refl (r n p le (omega (arith, lt, ne)) h)
+]

@@ -1,58 +1,36 @@
--- Two watched literals of each clause, the lists of watched sides, and the clauses to look at.
-use Rattle.std.specs.Prelude.{◌≡◌, ◌≢◌, ◌⊎◌, ℕ, ◌+◌, ◌-◌, ◌*◌, ◌^◌, min, ◌<◌, ◌≤◌, Bool, true, false, ◌&&◌, ◌||◌, ◌==◌, nat_le, List, [], All, Contains, length, get_or, cond, ◌∷◌, ⊤, Option, Some, None}
+-- Two watched literals of each clause, the lists of watched buckets, and the clauses that are due.
+use Rattle.std.specs.Prelude.{◌≡◌, ◌≢◌, ◌⊎◌, ℕ, ◌+◌, ◌-◌, ◌^◌, ◌<◌, ◌≤◌, Bool, true, false, ◌||◌, ◌==◌, List, [], All, Contains, length, get_or, slice_set, cond, ◌∷◌, ◌++◌, ⊤, Option, Some, None}
 use Rattle.hw_model.specs.declared.lit.Lit.{Lit}
-use Rattle.hw_model.specs.declared.lit.Lit.TheVariants as lits
 use Rattle.hw_model.specs.declared.lit.LitTruth.TheVariants.{True, False}
 use Rattle.hw_model.specs.Rooms.{RoomModel}
 use Rattle.hw_model.specs.Narrowing.{truth}
 use Rattle.hw_model.specs.Lits.{IsLitOf}
 use Rattle.hw_store.specs.declared.store.Stored.{Stored}
-use Rattle.hw_store.specs.declared.watching.Sides.{Sides}
+use Rattle.hw_store.specs.declared.watching.Buckets.{Buckets}
 use Rattle.hw_store.specs.declared.watching.Watch.{Watch}
 use Rattle.hw_store.specs.declared.watching.Watch.TheVariants.{Due, One, Two}
 use Rattle.hw_store.specs.Looks.{StandsBefore}
 use Rattle.hw_store.specs.declared.watch.Next.{Next}
 use Rattle.hw_store.specs.declared.watch.Next.TheVariants as nexts
 use Rattle.hw_store.specs.Stores.{KeepsClauses, Finds}
+use Rattle.hw_store.specs.Numbering.{bucket, bucket_count, hits}
 
--- `watches` and `held` go side by side; `lists` has for each side the places of the clauses that watch it, and maybe others; `due` has the places of the clauses to look at; `seen` is the room of the last step, at first the whole room
-pub record WatchModel : Type 0 where
+-- what is watched of each clause: `watches` and `stands` have an entry for each clause, `due` has the places of the due clauses, the next one last
+pub record WatchedModel : Type 0 where
   pub ships : ℕ
   pub slots : ℕ
-  pub held : List Stored
   pub watches : List Watch
+  pub stands : List Buckets
   pub due : List ℕ
+
+-- `held` and the watches go in step; `lists` has for each bucket the places of the clauses that watch it, and maybe others; `seen` is the room of the last step, at first the whole room
+pub record WatchModel : Type 0 where
+  pub held : List Stored
+  pub watched : WatchedModel
   pub lists : List (List ℕ)
   pub seen : RoomModel
 
--- ---- sides
-
--- the number of a slot in a row of so many: a slot past the last one has the last one's
-abbrev pub in_row : ℕ → ℕ → ℕ → ℕ
-in_row slots row slot = row * slots + min slot (slots - 1)
-
--- the number of two ships, past the rows of the bounds
-abbrev pub pair_side : ℕ → ℕ → ℕ → ℕ → ℕ
-pair_side ships slots v w = 2 * ships * slots + (v * ships + w)
-
--- the bound or the pair that a literal names, as a number: a row of lower bounds for each ship, then rows of upper ones, then pairs
-abbrev pub side : ℕ → ℕ → Lit → ℕ
-side ships slots (lits.AtOrAfter v k) = in_row slots v k
-side ships slots (lits.Before v k) = in_row slots (ships + v) k
-side ships slots (lits.First v w) = pair_side ships slots v w
-side ships slots (lits.NotFirst v w) = pair_side ships slots v w
-
--- how many sides there are
-abbrev pub side_count : ℕ → ℕ → ℕ
-side_count ships slots = 2 * ships * slots + ships * ships
-
--- a cut by the first literal makes the second False
-abbrev pub hits : Lit → Lit → Bool
-hits (lits.Before v j) (lits.AtOrAfter w k) = v == w && nat_le j k
-hits (lits.AtOrAfter v j) (lits.Before w k) = v == w && nat_le k j
-hits (lits.First v w) (lits.NotFirst a b) = v == a && w == b
-hits (lits.NotFirst v w) (lits.First a b) = v == a && w == b
-hits cutting lit = false
+-- ---- watched literals and a cut
 
 -- one of two watched literals becomes False
 abbrev pub is_hit : Lit → Watch → Bool
@@ -60,11 +38,11 @@ is_hit cutting Due = false
 is_hit cutting (One lit) = false
 is_hit cutting (Two first second) = hits cutting first || hits cutting second
 
--- one of two watched literals is on the side
+-- one of two watched literals is in the bucket
 abbrev pub is_on : ℕ → ℕ → ℕ → Watch → Bool
 is_on ships slots place Due = false
 is_on ships slots place (One lit) = false
-is_on ships slots place (Two first second) = side ships slots first == place || side ships slots second == place
+is_on ships slots place (Two first second) = bucket ships slots first == place || bucket ships slots second == place
 
 -- ---- watches
 
@@ -88,7 +66,7 @@ abbrev pub count_one : List Watch → ℕ
 count_one [] = 0
 count_one (watch ∷ more) = cond (is_one watch) 1 0 + count_one more
 
--- the watched literals are of so many ships
+-- the watched literals are of this many ships
 abbrev pub IsWatchOf : ℕ → Watch → Type 0
 IsWatchOf ships Due = ⊤
 IsWatchOf ships (One lit) = IsLitOf ships lit
@@ -104,7 +82,7 @@ Watches clause (Two first second) = StandsBefore first second clause
 abbrev pub Listed : ℕ → ℕ → List (List ℕ) → ℕ → Watch → Type 0
 Listed ships slots lists place Due = ⊤
 Listed ships slots lists place (One lit) = ⊤
-Listed ships slots lists place (Two first second) = Contains (get_or lists (side ships slots first) []) place × Contains (get_or lists (side ships slots second) []) place
+Listed ships slots lists place (Two first second) = Contains (get_or lists (bucket ships slots first) []) place × Contains (get_or lists (bucket ships slots second) []) place
 
 -- the watched literals show that the clause is quiet: one is True, or two aren't False
 abbrev pub Shows : RoomModel → Watch → Type 0
@@ -115,11 +93,15 @@ Shows room (Two first second) = (truth room first ≢ False) × (truth room seco
 abbrev pub ShowsAll : RoomModel → List Watch → Type 0
 ShowsAll room watches = All (Shows room) watches
 
--- so of each clause with one watched literal
+-- the same for each clause with one watched literal
 abbrev pub ShowsOnes : RoomModel → List Watch → Type 0
 ShowsOnes room watches = (i : ℕ) → is_one (get_or watches i Due) ≡ true → Shows room (get_or watches i Due)
 
--- of two watched literals none is False
+-- a watch that shows its clause to be quiet stays
+abbrev pub StayShown : RoomModel → List Watch → List Watch → Type 0
+StayShown room old new = (i : ℕ) → Shows room (get_or old i Due) → get_or new i Due ≡ get_or old i Due
+
+-- neither of two watched literals is False
 abbrev pub IsOpen : RoomModel → Watch → Type 0
 IsOpen room Due = ⊤
 IsOpen room (One lit) = ⊤
@@ -127,7 +109,7 @@ IsOpen room (Two first second) = (truth room first ≢ False) × (truth room sec
 
 -- ---- what is kept
 
--- the clauses to look at are in `due`, which has room for all clauses
+-- the due clauses are in `due`, which has room for all clauses
 pub record KeepsDue (watches : List Watch) (due : List ℕ) (capacity : ℕ) : Type 0 where
   pub has : (i : ℕ) → i < length watches → get_or watches i Due ≡ Due → Contains due i
   pub among : All (λ i. i < length watches) due
@@ -141,7 +123,7 @@ pub record KeepsOnes (watches : List Watch) (ones : List ℕ) : Type 0 where
   pub among : All (λ i. i < length watches) ones
   pub few : length ones ≤ count_one watches
 
--- in the room that was seen no literal is False that is one of two watched ones
+-- in the room that was seen neither of two watched literals is False
 pub record KeepsSeen (ships : ℕ) (seen : RoomModel) (watches : List Watch) : Type 0 where
   pub same_ships : seen.ships ≡ ships
   pub open_all : (i : ℕ) → IsOpen seen (get_or watches i Due)
@@ -155,30 +137,23 @@ pub record DropsSome (old new : List Watch) : Type 0 where
 pub record OnesStay (old new : List Watch) : Type 0 where
   pub each : (i : ℕ) → is_one (get_or old i Due) ≡ true → is_one (get_or new i Due) ≡ true
 
--- of the places of a side's list after a cut: no watch of theirs is hit, those that still watch the side stay, and none is new
+-- a bucket's list after a cut: no clause in it has a watch that is hit, the places of those that still watch the bucket stay, and none is new
 pub record Sifted (ships slots place : ℕ) (cutting : Lit) (ws : List Watch) (old new : List ℕ) : Type 0 where
   pub missed : (p : ℕ) → Contains old p → is_hit cutting (get_or ws p Due) ≡ false
   pub stays : (p : ℕ) → Contains old p → is_on ships slots place (get_or ws p Due) ≡ true → Contains new p
   pub only : (p : ℕ) → Contains new p → Contains old p
 
--- so of one side's list, and the others stay
+-- one bucket's list is sifted, and the others stay
 pub record SiftsOne (ships slots place : ℕ) (cutting : Lit) (ws : List Watch) (old new : List (List ℕ)) : Type 0 where
   pub same_length : length new ≡ length old
   pub others : (n : ℕ) → n ≢ place → get_or new n [] ≡ get_or old n []
   pub one : Sifted ships slots place cutting ws (get_or old place []) (get_or new place [])
 
--- of the lists of the sides from the first one to before the end: no watch of a place of theirs is hit. In every list those stay that still watch its side, and none is new
-pub record SiftsRun (ships slots first end : ℕ) (cutting : Lit) (ws : List Watch) (old new : List (List ℕ)) : Type 0 where
-  pub same_length : length new ≡ length old
-  pub missed : (n p : ℕ) → first ≤ n → n < end → Contains (get_or old n []) p → is_hit cutting (get_or ws p Due) ≡ false
-  pub stays : (n p : ℕ) → Contains (get_or old n []) p → is_on ships slots n (get_or ws p Due) ≡ true → Contains (get_or new n []) p
-  pub only : (n p : ℕ) → Contains (get_or new n []) p → Contains (get_or old n []) p
+-- no clause in the lists of these buckets, without the end, has a watch that the cut hits
+abbrev pub MissedRun : ℕ → ℕ → Lit → List Watch → List (List ℕ) → Type 0
+MissedRun first end cutting ws lists = (n p : ℕ) → first ≤ n → n < end → Contains (get_or lists n []) p → is_hit cutting (get_or ws p Due) ≡ false
 
--- every literal that a cut of the room makes False, and that wasn't so before, has its side from the first one to before the end
-abbrev pub HitsWithin : ℕ → ℕ → RoomModel → Lit → ℕ × ℕ → Type 0
-HitsWithin ships slots room cutting run = (lit : Lit) → hits cutting lit ≡ true → truth room lit ≢ False → (run.0 ≤ side ships slots lit) × (side ships slots lit < run.1)
-
--- the lists gain nothing but this place, and lose nothing
+-- the lists gain this place alone, and lose nothing
 pub record Grows (place : ℕ) (old new : List (List ℕ)) : Type 0 where
   pub same_length : length new ≡ length old
   pub kept : (s p : ℕ) → Contains (get_or old s []) p → Contains (get_or new s []) p
@@ -186,68 +161,119 @@ pub record Grows (place : ℕ) (old new : List (List ℕ)) : Type 0 where
 
 -- ---- where a clause's place is known to stand
 
-abbrev pub is_side : Option ℕ → ℕ → Bool
-is_side None n = false
-is_side (Some side) n = side == n
+abbrev pub is_bucket : Option ℕ → ℕ → Bool
+is_bucket None n = false
+is_bucket (Some bucket) n = bucket == n
 
-abbrev pub is_among : Sides → ℕ → Bool
-is_among sides n = is_side sides.first n || is_side sides.second n
+abbrev pub is_among : Buckets → ℕ → Bool
+is_among buckets n = is_bucket buckets.first n || is_bucket buckets.second n
 
-abbrev pub other_side : Option ℕ → ℕ → Option ℕ
-other_side None n = None
-other_side (Some side) n = cond (side == n) None (Some side)
+abbrev pub other_bucket : Option ℕ → ℕ → Option ℕ
+other_bucket None n = None
+other_bucket (Some bucket) n = cond (bucket == n) None (Some bucket)
 
-abbrev pub without : Sides → ℕ → Sides
-without sides n = record { first = other_side sides.first n; second = other_side sides.second n }
+abbrev pub without : Buckets → ℕ → Buckets
+without buckets n = record { first = other_bucket buckets.first n; second = other_bucket buckets.second n }
 
-abbrev pub nowhere : Sides
+abbrev pub nowhere : Buckets
 nowhere = record { first = None; second = None }
 
--- the place is in the lists of these sides
-abbrev pub StandsAt : List (List ℕ) → ℕ → Sides → Type 0
-StandsAt lists place sides = (n : ℕ) → is_among sides n ≡ true → Contains (get_or lists n []) place
+-- the place is in the lists of these buckets
+abbrev pub StandsAt : List (List ℕ) → ℕ → Buckets → Type 0
+StandsAt lists place buckets = (n : ℕ) → is_among buckets n ≡ true → Contains (get_or lists n []) place
 
--- so for each clause
-abbrev pub KeepsSides : List (List ℕ) → List Sides → Type 0
-KeepsSides lists stands = (i : ℕ) → StandsAt lists i (get_or stands i nowhere)
+-- the same for each clause
+abbrev pub KeepsBuckets : List (List ℕ) → List Buckets → Type 0
+KeepsBuckets lists stands = (i : ℕ) → StandsAt lists i (get_or stands i nowhere)
 
--- no side is new
-pub record Forgets (old new : List Sides) : Type 0 where
+-- no bucket is added
+pub record Forgets (old new : List Buckets) : Type 0 where
   pub same_length : length new ≡ length old
   pub only : (i n : ℕ) → is_among (get_or new i nowhere) n ≡ true → is_among (get_or old i nowhere) n ≡ true
 
--- a place that left the side's list isn't known to stand there
-pub record Leaves (side : ℕ) (stands : List Sides) (old new : List ℕ) : Type 0 where
-  pub each : (p : ℕ) → Contains old p → Contains new p ⊎ (is_among (get_or stands p nowhere) side ≡ false)
+-- a place that left the bucket's list isn't known to stand there
+pub record Leaves (bucket : ℕ) (stands : List Buckets) (old new : List ℕ) : Type 0 where
+  pub each : (p : ℕ) → Contains old p → Contains new p ⊎ (is_among (get_or stands p nowhere) bucket ≡ false)
 
--- what the store keeps for every room
-pub record KeepsWatches (s : WatchModel) (capacity : ℕ) : Type 0 where
-  pub clauses : KeepsClauses s.ships s.held
-  pub few_ships : s.ships ≤ 40
-  pub some_slots : 1 ≤ s.slots
-  pub few_slots : s.slots ≤ 513
-  pub each_clause : length s.watches ≡ length s.held
-  pub each_side : length s.lists ≡ side_count s.ships s.slots
-  pub among : (side place : ℕ) → Contains (get_or s.lists side []) place → place < length s.watches
-  pub watched : (i : ℕ) (d : Stored) → i < length s.held → Watches (get_or s.held i d).clause (get_or s.watches i Due)
-  pub listed : (i : ℕ) → i < length s.watches → Listed s.ships s.slots s.lists i (get_or s.watches i Due)
-  pub due : KeepsDue s.watches s.due capacity
+-- ---- what is watched of each clause
+
+-- its invariant; `places` are those of the clauses with one watched literal
+pub record KeepsWatched (s : WatchedModel) (places : List ℕ) (due_capacity ones_capacity : ℕ) : Type 0 where
+  pub fits : All (IsWatchOf s.ships) s.watches
+  pub beside : length s.stands ≡ length s.watches
+  pub due : KeepsDue s.watches s.due due_capacity
+  pub ones : KeepsOnes s.watches places
+  pub reserved : length s.watches ≤ ones_capacity
+
+-- nothing is watched yet
+abbrev pub IsUnwatched : ℕ → ℕ → WatchedModel → Type 0
+IsUnwatched ships slots s = s ≡ record { ships = ships; slots = slots; watches = []; stands = []; due = [] }
+
+-- one more clause, which is due
+pub record IsOneMore (old new : WatchedModel) : Type 0 where
+  pub same_ships : new.ships ≡ old.ships
+  pub same_slots : new.slots ≡ old.slots
+  pub watches : new.watches ≡ old.watches ++ Due ∷ []
+  pub stands : new.stands ≡ old.stands ++ nowhere ∷ []
+
+-- some watches became Due, and some places are no longer known to stand where they stood
+pub record Marks (old new : WatchedModel) : Type 0 where
+  pub same_ships : new.ships ≡ old.ships
+  pub same_slots : new.slots ≡ old.slots
+  pub drops : DropsSome old.watches new.watches
+  pub forgets : Forgets old.stands new.stands
+
+-- this is the place of the next due clause
+pub record IsLast (s : WatchedModel) (place : ℕ) : Type 0 where
+  pub inside : place < length s.watches
+  pub beside : place < length s.stands
+  pub some : 0 < length s.due
+  pub last : place ≡ get_or s.due (length s.due - 1) place
+
+-- the place of the next due clause, or none if no clause is due
+abbrev pub IsNextDue : WatchedModel → Option ℕ → Type 0
+IsNextDue s None = (i : ℕ) → i < length s.watches → get_or s.watches i Due ≢ Due
+IsNextDue s (Some place) = IsLast s place
+
+-- the next due clause got this watch
+pub record GetsWatch (place : ℕ) (watch : Watch) (old new : WatchedModel) : Type 0 where
+  pub same_ships : new.ships ≡ old.ships
+  pub same_slots : new.slots ≡ old.slots
+  pub watches : new.watches ≡ slice_set old.watches place watch
+  pub fewer : length new.due < length old.due
+
+-- ---- what the store keeps for every room
+
+pub record KeepsWatches (s : WatchModel) : Type 0 where
+  pub clauses : KeepsClauses s.watched.ships s.held
+  pub each_clause : length s.watched.watches ≡ length s.held
+  pub each_bucket : length s.lists ≡ bucket_count s.watched.ships s.watched.slots
+  pub among : (bucket place : ℕ) → Contains (get_or s.lists bucket []) place → place < length s.watched.watches
+  pub watched : (i : ℕ) (d : Stored) → i < length s.held → Watches (get_or s.held i d).clause (get_or s.watched.watches i Due)
+  pub listed : (i : ℕ) → i < length s.watched.watches → Listed s.watched.ships s.watched.slots s.lists i (get_or s.watched.watches i Due)
+  pub known : KeepsBuckets s.lists s.watched.stands
+  pub seen : KeepsSeen s.watched.ships s.seen s.watched.watches
+
+-- the clauses and the room that was seen are the same
+pub record SameClauses (old new : WatchModel) : Type 0 where
+  pub held : new.held ≡ old.held
+  pub seen : new.seen ≡ old.seen
 
 abbrev pub watch_ships : WatchModel → ℕ
-watch_ships s = s.ships
+watch_ships s = s.watched.ships
 
 abbrev pub watch_clauses : WatchModel → List Stored
 watch_clauses s = s.held
 
--- every clause that isn't in `due` is shown to be quiet in the room
+-- every clause that isn't due is shown to be quiet in the room
 abbrev pub WatchReady : WatchModel → RoomModel → Type 0
-WatchReady s room = (room.ships ≡ s.ships) × ShowsAll room s.watches
+WatchReady s room = (room.ships ≡ s.watched.ships) × ShowsAll room s.watched.watches
 
--- a step is done, or there is one clause less to look at
+-- a step is done, or fewer clauses are due
 abbrev pub NextIs : WatchModel → WatchModel → RoomModel → Next → Type 0
 NextIs old new room (nexts.Found found) = Finds old.held room found
-NextIs old new room nexts.Went = length new.due < length old.due
+NextIs old new room nexts.Went = length new.watched.due < length old.watched.due
 
 -- without clauses, and ready for every room
 abbrev pub IsNew : ℕ → WatchModel → Type 0
-IsNew ships s = (s.ships ≡ ships) × (s.held ≡ []) × ((room : RoomModel) → room.ships ≡ ships → WatchReady s room)
+IsNew ships s = (s.watched.ships ≡ ships) × (s.held ≡ []) × ((room : RoomModel) → room.ships ≡ ships → WatchReady s room)

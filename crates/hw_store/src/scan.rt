@@ -92,7 +92,7 @@ fn first_active(held: &[Stored], room: &Room) -> Held
     Held::Quiet
 }
 
-/// The clause of a number, by halves.
+/// The clause of a number, by binary search.
 pub fn find(held: &[Stored], id: u32) -> Option<&Clause>
     requires ascends { Ascends held.now }
     ensures tells { MatchOption result (IsNotHeld held.now id) (λ clause. IsClauseOf held.now id clause.now) }

@@ -1,11 +1,15 @@
-//! The watched literals of clauses, and the lists of the sides that they watch.
+//! The watched literals of clauses, the clauses that are due, and the lists of the watched buckets.
 
-ghost use Rattle.std.specs.Prelude.{◌≡◌, ◌≢◌, ◌⊎◌, ◌+◌, ◌-◌, ◌<◌, ◌≤◌, false, true, [], All, Contains, OnOk, length, take, slice_set, slice_index_or, vec_capacity, MatchBool};
+ghost use Rattle.std.specs.Prelude.{◌≡◌, ◌≢◌, ◌⊎◌, ◌-◌, ◌^◌, ◌<◌, false, [], All, Contains, Some, OnErr, OnOk, length, take, slice_set, slice_index_or, vec_capacity, MatchBool};
 ghost use Rattle.hw_model.specs.Narrowing.{truth};
 ghost use Rattle.hw_model.specs.Lits.{IsLitOf};
-ghost use Rattle.hw_store.specs.Watches.{hits, is_hit, IsWatchOf, Shows, ShowsAll, KeepsDue, KeepsOnes, KeepsSeen, ShowsOnes, DropsSome, OnesStay, Sifted, is_due, is_on, is_side, is_among, other_side, without, nowhere, Forgets, Leaves};
+ghost use Rattle.hw_store.specs.Numbering.{hits};
+ghost use Rattle.hw_store.specs.Watches.{is_hit, is_due, is_on, is_bucket, is_among, other_bucket, nowhere};
+ghost use Rattle.hw_store.specs.Watches.{IsWatchOf, Shows, ShowsAll, ShowsOnes, StayShown, KeepsDue, KeepsOnes, KeepsSeen};
+ghost use Rattle.hw_store.specs.Watches.{DropsSome, Sifted, Leaves, Marks, IsUnwatched, IsNextDue, IsLast, IsOneMore, GetsWatch};
 
-use crate::sides::side_of;
+use crate::buckets::BucketMap;
+use crate::places::Places;
 use crate::within::is_within;
 use hw_flat::Room;
 use hw_lits::truth;
@@ -16,7 +20,7 @@ use std::marker::Model;
 /// What is watched of a clause.
 #[derive(Clone, Copy, Debug, PartialEq, Eq)]
 pub enum Watch {
-    /// Nothing: the clause is to be looked at.
+    /// Nothing: the clause is due, which means that a step has to look at it.
     Due,
     /// A literal that is True.
     One { lit: Lit },
@@ -24,38 +28,15 @@ pub enum Watch {
     Two { first: Lit, second: Lit },
 }
 
-/// The sides in whose lists a clause's place is known to stand.
+/// The buckets in whose lists a clause's place is known to stand.
 #[derive(Clone, Copy, Debug, PartialEq, Eq)]
-pub struct Sides {
+pub struct Buckets {
     pub first: Option<usize>,
     pub second: Option<usize>,
 }
 
-/// Places of clauses, seen as their list.
-#[derive(Debug, Drop)]
-pub struct Places {
-    items: Vec<u32>,
-}
-
-impl Model for Places {
-    ghost use Rattle.std.specs.Prelude.{List, ℕ};
-
-    ghost Value = { List ℕ };
-
-    ghost view = { λ s. s.items.items };
-}
-
 impl Places {
-    /// No places.
-    pub fn new(alloc: Global) -> Places
-        ensures none { result ≡ [] }
-    {
-        Places {
-            items: Vec::new(alloc),
-        }
-    }
-
-    /// Takes in a place, without looking whether it is there.
+    /// Adds a place, even if it is there already.
     pub fn take_in(&mut self, place: u32) -> Result<(), NoMemory>
         ensures kept { (p : ℕ) → Contains self.old p → Contains self.new p }
         ensures only { (p : ℕ) → Contains self.new p → Contains self.old p ⊎ (p ≡ place) }
@@ -65,44 +46,197 @@ impl Places {
         Ok(())
     }
 
-    /// Goes once through the places after a cut: only those stay whose clause still watches the side.
-    /// It takes no memory.
-    pub fn mark(
-        &mut self,
-        ships: u32,
-        slots: u32,
-        side: usize,
-        cutting: Lit,
-        watches: &mut [Watch],
-        stands: &mut [Sides],
-        due: &mut Vec<u32>,
-    )
-        requires few { ships ≤ 40 }
-        requires some_slots { 1 ≤ slots }
-        requires few_slots { slots ≤ 513 }
-        requires beside { length stands.old ≡ length watches.old }
-        requires fits { All (IsWatchOf ships) watches.old }
-        requires inside { All (λ place. place < length watches.old) self.old }
-        requires keeps { KeepsDue watches.old due.old.items (vec_capacity due.old) }
-        ensures keeps { KeepsDue watches.new due.new.items (vec_capacity due.new) }
-        ensures drops { DropsSome watches.old watches.new }
-        ensures ones { OnesStay watches.old watches.new }
-        ensures sifted { Sifted ships slots side cutting watches.new self.old self.new }
-        ensures forgets { Forgets stands.old stands.new }
-        ensures leaves { Leaves side stands.new self.old self.new }
+    /// Marks as due each listed clause whose watched literal the cut made False, and drops the places of
+    /// the clauses that no longer watch the bucket. One pass over the list, without an allocation.
+    pub fn mark(&mut self, watched: &mut Watched, bucket: usize, cutting: Lit)
+        requires inside { All (λ place. place < length watched.old.watches) self.old }
+        ensures marks { Marks watched.old watched.new }
+        ensures sifted { Sifted watched.old.ships watched.old.slots bucket cutting watched.new.watches self.old self.new }
+        ensures leaves { Leaves bucket watched.new.stands self.old self.new }
     {
-        let kept = sift(
-            ships,
-            slots,
-            side,
-            cutting,
-            &mut self.items,
-            watches,
-            stands,
-            due,
-        );
+        let kept = sift(&mut self.items, watched, bucket, cutting);
         self.items.truncate(kept);
     }
+}
+
+/// What is watched of each clause, by the clauses' places.
+#[derive(Debug, Drop)]
+pub struct Watched {
+    buckets: BucketMap,
+    watches: Vec<Watch>,
+    // beside each watch the buckets in whose lists the place is known to stand, so that no list is
+    // searched for it
+    stands: Vec<Buckets>,
+    // the places of the due clauses, the next one last
+    due: Vec<u32>,
+    // the places of the clauses with one watched literal
+    ones: Vec<u32>,
+}
+
+impl Model for Watched {
+    ghost use Rattle.std.specs.Prelude.{vec_capacity};
+    ghost use Rattle.hw_store.specs.Watches.{WatchedModel, KeepsWatched};
+
+    ghost Value = { WatchedModel };
+
+    ghost view = { λ s. record { ships = s.buckets.ships; slots = s.buckets.slots; watches = s.watches.items; stands = s.stands.items; due = s.due.items } };
+
+    ghost invariant = { λ s. KeepsWatched (record { ships = s.buckets.ships; slots = s.buckets.slots; watches = s.watches.items; stands = s.stands.items; due = s.due.items }) s.ones.items (vec_capacity s.due) (vec_capacity s.ones) };
+}
+
+impl Watched {
+    /// No clauses yet.
+    pub fn new(alloc: Global, buckets: BucketMap) -> Watched
+        ensures value { IsUnwatched buckets.ships buckets.slots result }
+    {
+        Watched {
+            buckets,
+            watches: Vec::new(alloc),
+            stands: Vec::new(alloc),
+            due: Vec::new(alloc),
+            ones: Vec::new(alloc),
+        }
+    }
+
+    /// The numbers of the buckets.
+    pub fn buckets(&self) -> BucketMap
+        ensures ships { result.ships ≡ self.now.ships }
+        ensures slots { result.slots ≡ self.now.slots }
+    {
+        self.buckets
+    }
+
+    /// Whether a clause's place is known to stand in a bucket's list.
+    pub fn stands_at(&self, place: u32, bucket: usize) -> bool
+        requires inside { place < length self.now.watches }
+        ensures value { result ≡ is_among (slice_index_or self.now.stands place nowhere) bucket }
+    {
+        is_among(self.stands[place as usize], bucket)
+    }
+
+    /// The place of the next due clause, none where no clause is due.
+    pub fn next(&self) -> Option<u32>
+        ensures next { IsNextDue self.now result }
+    {
+        if self.due.is_empty() {
+            return None;
+        }
+        Some(self.due[self.due.len() - 1])
+    }
+
+    /// Adds a due clause at the end. It reserves all the memory that the clause will need in `due` and
+    /// `ones`, so that no other call allocates. If memory runs out, nothing has changed.
+    pub fn add(&mut self) -> Result<(), NoMemory>
+        requires few { length self.old.watches < 2 ^ 32 }
+        ensures added { OnOk result (IsOneMore self.old self.new) }
+        ensures same { OnErr result (self.new ≡ self.old) }
+    {
+        self.watches.reserve(1)?;
+        self.stands.reserve(1)?;
+        let place = self.watches.len();
+        self.ones.reserve(place + 1)?;
+        self.due.reserve(place + 1)?;
+        self.watches.push_reserved(Watch::Due);
+        self.stands.push_reserved(Buckets {
+            first: None,
+            second: None,
+        });
+        self.due.push_reserved(place as u32);
+        Ok(())
+    }
+
+    /// Watches one literal of the next due clause, which is due no longer.
+    pub fn watch_one(&mut self, place: u32, lit: Lit)
+        requires last { IsLast self.old place }
+        requires fits { IsLitOf self.old.ships lit }
+        ensures watch { GetsWatch place (Watch.One lit) self.old self.new }
+        ensures stands { self.new.stands ≡ self.old.stands }
+    {
+        self.ones.push_reserved(place);
+        resolve(place, Watch::One { lit }, &mut self.watches, &mut self.due);
+    }
+
+    /// Watches two literals of the next due clause, which is due no longer and whose place stands in the
+    /// lists of their buckets.
+    pub fn watch_two(&mut self, place: u32, lits: (Lit, Lit), buckets: (usize, usize))
+        requires last { IsLast self.old place }
+        requires fits { IsLitOf self.old.ships lits.0 × IsLitOf self.old.ships lits.1 }
+        ensures watch { GetsWatch place (Watch.Two lits.0 lits.1) self.old self.new }
+        ensures stands { self.new.stands ≡ slice_set self.old.stands place (record { first = Some buckets.0; second = Some buckets.1 }) }
+    {
+        self.stands[place as usize] = Buckets {
+            first: Some(buckets.0),
+            second: Some(buckets.1),
+        };
+        let watch = Watch::Two {
+            first: lits.0,
+            second: lits.1,
+        };
+        resolve(place, watch, &mut self.watches, &mut self.due);
+    }
+
+    /// Marks as due each clause whose watch doesn't show that it is quiet. It looks at the clauses with
+    /// one watched literal, and at the others only if the room doesn't hold the one that was seen. It
+    /// allocates nothing.
+    pub fn recheck(&mut self, room: &Room, seen: &Room)
+        requires fits { room.now.ships ≡ self.old.ships }
+        requires seen { KeepsSeen self.old.ships seen.now self.old.watches }
+        ensures marks { Marks self.old self.new }
+        ensures shown { ShowsAll room.now self.new.watches }
+    {
+        recheck(room, seen, &mut self.ones, &mut self.watches, &mut self.due);
+    }
+
+    // Marks a clause as due if the cut made its watch False. Returns whether it still watches the bucket.
+    fn stays(&mut self, bucket: usize, cutting: Lit, place: u32) -> bool
+        requires inside { place < length self.old.watches }
+        ensures marks { Marks self.old self.new }
+        ensures missed { is_hit cutting (slice_index_or self.new.watches place Watch.Due) ≡ false }
+        ensures value { result ≡ is_on self.old.ships self.old.slots bucket (slice_index_or self.new.watches place Watch.Due) }
+    {
+        let watch = self.watches[place as usize];
+        if is_hit(cutting, watch) {
+            make_due(place, &mut self.watches, &mut self.due);
+            return false;
+        }
+        is_on(&self.buckets, bucket, watch)
+    }
+
+    // Forgets that a clause's place stands in the list of a bucket.
+    fn leave(&mut self, place: u32, bucket: usize)
+        requires inside { place < length self.old.watches }
+        ensures marks { Marks self.old self.new }
+        ensures watches { self.new.watches ≡ self.old.watches }
+        ensures gone { is_among (slice_index_or self.new.stands place nowhere) bucket ≡ false }
+    {
+        let buckets = self.stands[place as usize];
+        self.stands[place as usize] = Buckets {
+            first: other_bucket(buckets.first, bucket),
+            second: other_bucket(buckets.second, bucket),
+        };
+    }
+}
+
+// Marks as due each clause at these places whose watch the cut made False, and moves the places that
+// stay to the front. Returns how many stay.
+fn sift(places: &mut [u32], watched: &mut Watched, bucket: usize, cutting: Lit) -> usize
+    requires inside { All (λ place. place < length watched.old.watches) places.old }
+    ensures marks { Marks watched.old watched.new }
+    ensures same { length places.new ≡ length places.old }
+    ensures sifted { Sifted watched.old.ships watched.old.slots bucket cutting watched.new.watches places.old (take result places.new) }
+    ensures leaves { Leaves bucket watched.new.stands places.old (take result places.new) }
+{
+    let mut kept = 0;
+    for at in 0..places.len() {
+        let place = places[at];
+        if watched.stays(bucket, cutting, place) {
+            places[kept] = place;
+            kept += 1;
+        } else {
+            watched.leave(place, bucket);
+        }
+    }
+    kept
 }
 
 ghost use Rattle.std.specs.Prelude.{ℕ};
@@ -155,7 +289,7 @@ fn shows(watch: Watch, room: &Room) -> bool
     }
 }
 
-// Puts a clause among those to look at.
+// Marks a clause as due, unless it is.
 fn make_due(place: u32, watches: &mut [Watch], due: &mut Vec<u32>)
     requires inside { place < length watches.old }
     requires keeps { KeepsDue watches.old due.old.items (vec_capacity due.old) }
@@ -181,8 +315,8 @@ fn is_due(watch: Watch) -> bool
     }
 }
 
-/// Takes the last clause off those to look at, and watches what was found.
-pub fn resolve(place: u32, watch: Watch, watches: &mut [Watch], due: &mut Vec<u32>)
+// Takes the next clause off the due ones, and gives it the watch that was found.
+fn resolve(place: u32, watch: Watch, watches: &mut [Watch], due: &mut Vec<u32>)
     requires some { 0 < length due.old.items }
     requires last { place ≡ slice_index_or due.old.items (length due.old.items - 1) place }
     requires found { is_due watch ≡ false }
@@ -197,133 +331,45 @@ pub fn resolve(place: u32, watch: Watch, watches: &mut [Watch], due: &mut Vec<u3
     due.truncate(last);
 }
 
-// Whether one of two watched literals is on a side.
-fn is_on(ships: u32, slots: u32, side: usize, watch: Watch) -> bool
-    requires few { ships ≤ 40 }
-    requires some_slots { 1 ≤ slots }
-    requires few_slots { slots ≤ 513 }
-    requires fits { IsWatchOf ships watch }
-    ensures value { result ≡ is_on ships slots side watch }
+// Whether one of two watched literals is in a bucket.
+fn is_on(buckets: &BucketMap, bucket: usize, watch: Watch) -> bool
+    requires fits { IsWatchOf buckets.now.ships watch }
+    ensures value { result ≡ is_on buckets.now.ships buckets.now.slots bucket watch }
 {
     match watch {
         Watch::Due => false,
         Watch::One { lit: _lit } => false,
-        Watch::Two { first, second } => side_of(ships, slots, first) == side
-            || side_of(ships, slots, second) == side,
+        Watch::Two { first, second } => buckets.bucket_of(first) == bucket
+            || buckets.bucket_of(second) == bucket,
     }
 }
 
-// Puts a clause among those to look at where a cut makes its watch False: whether it still watches
-// the side.
-fn stays(
-    ships: u32,
-    slots: u32,
-    side: usize,
-    cutting: Lit,
-    place: u32,
-    watches: &mut [Watch],
-    due: &mut Vec<u32>,
-) -> bool
-    requires few { ships ≤ 40 }
-    requires some_slots { 1 ≤ slots }
-    requires few_slots { slots ≤ 513 }
-    requires fits { IsWatchOf ships (slice_index_or watches.old place Watch.Due) }
-    requires inside { place < length watches.old }
-    requires keeps { KeepsDue watches.old due.old.items (vec_capacity due.old) }
-    ensures keeps { KeepsDue watches.new due.new.items (vec_capacity due.new) }
-    ensures drops { DropsSome watches.old watches.new }
-    ensures ones { OnesStay watches.old watches.new }
-    ensures missed { is_hit cutting (slice_index_or watches.new place Watch.Due) ≡ false }
-    ensures value { result ≡ is_on ships slots side (slice_index_or watches.new place Watch.Due) }
-{
-    let watch = watches[place as usize];
-    if is_hit(cutting, watch) {
-        make_due(place, watches, due);
-        return false;
-    }
-    is_on(ships, slots, side, watch)
-}
-
-fn is_side(one: Option<usize>, side: usize) -> bool
-    ensures value { result ≡ is_side one side }
+fn is_bucket(one: Option<usize>, bucket: usize) -> bool
+    ensures value { result ≡ is_bucket one bucket }
 {
     match one {
         None => false,
-        Some(at) => at == side,
+        Some(at) => at == bucket,
     }
 }
 
-/// Whether a clause's place is known to stand in a side's list.
-pub fn is_among(sides: Sides, side: usize) -> bool
-    ensures value { result ≡ is_among sides side }
+fn is_among(buckets: Buckets, bucket: usize) -> bool
+    ensures value { result ≡ is_among buckets bucket }
 {
-    is_side(sides.first, side) || is_side(sides.second, side)
+    is_bucket(buckets.first, bucket) || is_bucket(buckets.second, bucket)
 }
 
-fn other_side(one: Option<usize>, side: usize) -> Option<usize>
-    ensures value { result ≡ other_side one side }
+fn other_bucket(one: Option<usize>, bucket: usize) -> Option<usize>
+    ensures value { result ≡ other_bucket one bucket }
 {
     match one {
         None => None,
-        Some(at) => { if at == side { None } else { Some(at) } }
+        Some(at) => { if at == bucket { None } else { Some(at) } }
     }
 }
 
-// A clause's place leaves the list of a side.
-fn leave(place: u32, side: usize, stands: &mut [Sides])
-    requires inside { place < length stands.old }
-    ensures forgets { Forgets stands.old stands.new }
-    ensures gone { is_among (slice_index_or stands.new place nowhere) side ≡ false }
-{
-    let sides = stands[place as usize];
-    stands[place as usize] = Sides {
-        first: other_side(sides.first, side),
-        second: other_side(sides.second, side),
-    };
-}
-
-// Puts those of the clauses at these places among the ones to look at whose watch a cut makes
-// False, and moves the places that stay to the front: how many they are.
-fn sift(
-    ships: u32,
-    slots: u32,
-    side: usize,
-    cutting: Lit,
-    places: &mut [u32],
-    watches: &mut [Watch],
-    stands: &mut [Sides],
-    due: &mut Vec<u32>,
-) -> usize
-    requires few { ships ≤ 40 }
-    requires some_slots { 1 ≤ slots }
-    requires few_slots { slots ≤ 513 }
-    requires beside { length stands.old ≡ length watches.old }
-    requires fits { All (IsWatchOf ships) watches.old }
-    requires inside { All (λ place. place < length watches.old) places.old }
-    requires keeps { KeepsDue watches.old due.old.items (vec_capacity due.old) }
-    ensures keeps { KeepsDue watches.new due.new.items (vec_capacity due.new) }
-    ensures drops { DropsSome watches.old watches.new }
-    ensures ones { OnesStay watches.old watches.new }
-    ensures same { length places.new ≡ length places.old }
-    ensures sifted { Sifted ships slots side cutting watches.new places.old (take result places.new) }
-    ensures forgets { Forgets stands.old stands.new }
-    ensures leaves { Leaves side stands.new places.old (take result places.new) }
-{
-    let mut kept = 0;
-    for at in 0..places.len() {
-        let place = places[at];
-        if stays(ships, slots, side, cutting, place, watches, due) {
-            places[kept] = place;
-            kept += 1;
-        } else {
-            leave(place, side, stands);
-        }
-    }
-    kept
-}
-
-// Puts those of the clauses at these places among the ones to look at whose watch doesn't show that
-// they are quiet, and moves the places of the others to the front: how many they are.
+// Marks as due each clause at these places whose watch doesn't show that it is quiet, and moves the
+// other places to the front. Returns how many these are.
 fn pass(room: &Room, ones: &mut [u32], watches: &mut [Watch], due: &mut Vec<u32>) -> usize
     requires fits { All (IsWatchOf room.now.ships) watches.old }
     requires keeps { KeepsDue watches.old due.old.items (vec_capacity due.old) }
@@ -346,14 +392,13 @@ fn pass(room: &Room, ones: &mut [u32], watches: &mut [Watch], due: &mut Vec<u32>
     kept
 }
 
-// Puts those of the clauses among the ones to look at whose watch doesn't show that they are
-// quiet. It looks at each watch once.
+// Marks as due each clause whose watch doesn't show that it is quiet. It looks at each watch once.
 fn review(room: &Room, watches: &mut [Watch], due: &mut Vec<u32>)
     requires fits { All (IsWatchOf room.now.ships) watches.old }
     requires keeps { KeepsDue watches.old due.old.items (vec_capacity due.old) }
     ensures keeps { KeepsDue watches.new due.new.items (vec_capacity due.new) }
     ensures drops { DropsSome watches.old watches.new }
-    ensures stay { (i : ℕ) → Shows room.now (slice_index_or watches.old i Watch.Due) → slice_index_or watches.new i Watch.Due ≡ slice_index_or watches.old i Watch.Due }
+    ensures stay { StayShown room.now watches.old watches.new }
     ensures shown { ShowsAll room.now watches.new }
 {
     for place in 0..watches.len() {
@@ -363,16 +408,8 @@ fn review(room: &Room, watches: &mut [Watch], due: &mut Vec<u32>)
     }
 }
 
-/// Puts those of the clauses among the ones to look at whose watch doesn't show that they are
-/// quiet. It takes no memory, and looks at the clauses with one watched literal, at others only if
-/// the room doesn't hold the one that was seen.
-pub fn recheck(
-    room: &Room,
-    seen: &Room,
-    ones: &mut Vec<u32>,
-    watches: &mut [Watch],
-    due: &mut Vec<u32>,
-)
+// `Watched::recheck` over the fields, since their invariant is broken in between.
+fn recheck(room: &Room, seen: &Room, ones: &mut Vec<u32>, watches: &mut [Watch], due: &mut Vec<u32>)
     requires fits { All (IsWatchOf room.now.ships) watches.old }
     requires keeps { KeepsDue watches.old due.old.items (vec_capacity due.old) }
     requires ones { KeepsOnes watches.old ones.old.items }

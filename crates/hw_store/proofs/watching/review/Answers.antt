@@ -1,8 +1,8 @@
 use Rattle.std.proofs.Common.{arith, sym, length, ◌<◌, ◌≤◌, get_or, subst, ◌+◌}
 use Rattle.std.proofs.Common.{MatchBool}
 use Rattle.hw_store.specs.declared.watching.Watch.TheVariants.{Due}
-use Rattle.hw_store.specs.Watches.{Shows, DropsSome}
-use Rattle.hw_store.proofs.Drops.{drops_more, shows_drop, shows_keep, shows_ends, watch_fits, ShowsUpto, StayShown, stay_shown_more}
+use Rattle.hw_store.specs.Watches.{Shows, DropsSome, StayShown}
+use Rattle.hw_store.proofs.Drops.{drops_more, shows_drop, shows_keep, shows_ends, watch_fits, ShowsUpto, stay_shown_more}
 use Rattle.hw_store.proofs.watching.review.Goals.{then-not-shows, else-not-shows}
 use Rattle.hw_store.proofs.watching.review.Goals as goal
 
