@@ -47,7 +47,7 @@ err_same stop fault e = let same : stop ≡ fault = inner stop fault e in ap (λ
 at_header : (r : ReaderModel) (rest : List ℕ) → r.at.version ≡ None → next_line r rest ≡ header_next r.shape r.at.number r.at.taken (cut_of r.at.taken (parts_of 10 rest))
 at_header r rest e = ap (λ (v : Option Version). next_by r.shape r.at.number r.at.taken v (parts_of 10 rest)) e
 
--- behind it
+-- after it
 at_line : (r : ReaderModel) (version : Version) (rest : List ℕ) → r.at.version ≡ Some version → next_line r rest ≡ line_next r.shape version r.at.number r.at.taken (cut_of r.at.taken (parts_of 10 rest))
 at_line r version rest e = ap (λ (v : Option Version). next_by r.shape r.at.number r.at.taken v (parts_of 10 rest)) e
 
@@ -95,7 +95,7 @@ header_wrong {line = line} {pending = pending} {x = x} {y = y} r none le unnamed
     wrong rest None c = absurd c
     wrong rest (Some more) c = ap (header_next r.shape r.at.number r.at.taken) c ∙ ap (header_by r.shape r.at.number r.at.taken line (parts_of 10 more)) unnamed
 
--- behind a header
+-- after a header
 abbrev pub past_header : ReaderModel → Version → List ℕ → List ℕ → ReaderModel
 past_header r version line pending = record { shape = r.shape; feed = r.feed; at = behind version r.at.number r.at.taken line; pending = pending }
 
@@ -137,7 +137,7 @@ found_both (Some x) p q = (x, p, q)
 rose_after : {a b c : ℕ} → a ≤ b → Rose b c → Rose a c
 rose_after h k = omega arith
 
--- the line behind the header
+-- the line after the header
 pub header_then_line : {x y z : DeskState} (r reader : ReaderModel) (result : Result Next LineStop) → r.at.version ≡ None → TakesHeader r x y (Ok reader) → Takes reader y z result → Takes r x z result
 header_then_line {x = x} {y = y} {z = z} r reader result none h t =
     let b = h.moved.3 in
@@ -204,7 +204,7 @@ line_unended {line = line} {pending = pending} {x = x} {y = y} r version named l
   kept = λ none. h.kept (λ e. absurd (cc));
 }
 
--- what the bytes of a line read as, and what is left behind it
+-- what the bytes of a line read as, and what is left after it
 read_as : (line : List ℕ) (r : ReaderModel) (version : Version) (rest : List ℕ) (left : Option (List ℕ)) → r.at.version ≡ Some version → IsSomeAnd left (λ more. cut_of r.at.taken (parts_of 10 rest) ≡ whole line (parts_of 10 more))
     → IsSomeAnd left (λ more. next_line r rest ≡ line_by r.at.number (behind version r.at.number r.at.taken line) (parts_of 10 more) (line_read r.shape version line))
 read_as line r version rest left named c = some_map left (λ more cut. at_line r version rest named ∙ ap (line_next r.shape version r.at.number r.at.taken) cut) c
@@ -222,7 +222,7 @@ line_bad {line = line} {pending = pending} {x = x} {y = y} r version word named 
     is_bad rest None c = absurd c
     is_bad rest (Some more) c = c ∙ ap (line_by r.at.number (behind version r.at.number r.at.taken line) (parts_of 10 more)) wrong
 
--- memory was wanting for the line
+-- memory ran out for the line
 pub line_unread : {line pending : List ℕ} {x y : DeskState} (r : ReaderModel) → TakesLine r.feed r.at.taken r.pending pending line x y (Ok Whole) → Takes r x y (Err stops.NoMemory)
 line_unread {line = line} {pending = pending} {x = x} {y = y} r h = record {
   moved = (h.moved.0, h.moved.1, h.moved.2);
@@ -264,7 +264,7 @@ line_taken {line = line} {pending = pending} {x = x} {y = y} r version l named l
   kept = λ none. h.kept (λ e. absurd (cc));
 }
 
--- what every reader keeps, behind a whole line
+-- what every reader keeps, after a whole line
 pub keeps_on : {line pending : List ℕ} {x y : DeskState} (r : ReaderModel) (version : Version) → ReaderKeeps r → TakesLine r.feed r.at.taken r.pending pending line x y (Ok Whole) → ReaderKeeps (past_header r version line pending)
 keeps_on {line = line} {pending = pending} r version k h = record {
   few_ships = k.few_ships;

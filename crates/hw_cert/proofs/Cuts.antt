@@ -69,7 +69,7 @@ cut_past taken line more l le p =
     by_more first [] lt = tail_is taken first true (omega (arith, some_size taken (length line) le p, lt)) (passes_more taken (length line) (length first) 0 lt p)
     by_more first (z ∷ zs) lt = ap (λ (q : Bool). cond q long (whole first (z ∷ zs))) (passes_more taken (length line) (length first) 1 lt p)
 
--- what the bytes begin with, by what was taken; behind it these bytes are left
+-- what the bytes begin with, by what was taken; after it these bytes are left
 abbrev pub CutIs : ℕ → List ℕ → List ℕ → Option (List ℕ) → Result TakenLine LineStop → Type 0
 CutIs taken rest line behind (Ok Whole) = IsSomeAnd behind (λ more. cut_of taken (parts_of 10 rest) ≡ whole line (parts_of 10 more))
 CutIs taken rest line behind (Ok Unended) = cut_of taken (parts_of 10 rest) ≡ unended

@@ -9,7 +9,7 @@ ended_more : (all : List Line) (line : Line) → ended_lines (map line_text (all
 ended_more [] line = refl
 ended_more (first ∷ more) line = ap (λ (rest : List ℕ). line_text first ++ 10 ∷ rest) (ended_more more line) ∙ sym (append_assoc (line_text first) (10 ∷ ended_lines (map line_text more)) (line_text line ++ 10 ∷ []))
 
--- the text of one line more
+-- the text of one more line
 pub ended_next : (all : List Line) (i : ℕ) (line : Line) → i < length all → line ≡ get_or all i line → ended_lines (map line_text (take (i + 1) all)) ≡ ended_lines (map line_text (take i all)) ++ (line_text line ++ 10 ∷ [])
 ended_next all i line lt is =
     ap (λ (lines : List Line). ended_lines (map line_text lines)) (take_more all i line lt)

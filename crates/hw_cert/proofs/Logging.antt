@@ -4,7 +4,7 @@ use Rattle.std.specs.Prelude.{IfSome, IsSomeAnd}
 use Rattle.hw_lines.specs.declared.line.Line.{Line}
 use Rattle.hw_cert.specs.Logs.{LogTold, LogModel, IsWhole, TellsLine, TakesLine}
 
--- nothing is behind a line that was taken
+-- nothing follows a line that was taken
 pub whole_after : {line : Line} {x y : LogModel} {u : Unit {0}} → TakesLine line x y (Ok u) → IsWhole y
 whole_after {line = line} {x = x} {y = y} h = told y.told x.told h.lines
   where

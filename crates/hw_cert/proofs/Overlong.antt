@@ -29,7 +29,7 @@ which taken size end e = by (either (nat_lt (2 ^ 20) size) (nat_lt (2 ^ 40) (tak
 at : (before : List (List ℕ)) (line : List ℕ) (more : List (List ℕ)) (taken : ℕ) → taken ≡ sum_by ended_size before → passes taken (length line) (length (take 1 more)) ≡ true → IsOverLimit (before ++ line ∷ more)
 at before line more taken e p = record { before = before; line = line; more = more; parts = refl; over = which _ _ _ (subst (λ n. passes n (length line) (length (take 1 more)) ≡ true) e p) }
 
--- the bytes behind the last line feed
+-- the bytes after the last line feed
 tail_over : (taken number : ℕ) (shape : Shape) (version : Version) (tail : List ℕ) (later : CertLines) → (onward (line_next shape version number taken (tail_cut taken tail)) later).stop ≡ overlong → passes taken (length tail) 0 ≡ true
 tail_over taken number shape version [] later h = absurd cc
 tail_over taken number shape version (b ∷ bs) later h = by (passes taken (length (b ∷ bs)) 0) h

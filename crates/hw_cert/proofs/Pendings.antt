@@ -19,7 +19,7 @@ none_found k (x ∷ xs) e =
       | false ↦ λ h. none_found (k + 1) xs h
     ] e
 
--- the bytes before a place, the line feed there, and those behind it
+-- the bytes before a place, the line feed there, and those after it
 abbrev pub Found : List ℕ → ℕ → Type 0
 Found xs j = (xs ≡ take j xs ++ 10 ∷ drop (suc j) xs) × (lacks 10 (take j xs) ≡ true)
 
@@ -45,7 +45,7 @@ scanned_to bytes old new place e h =
     let same : place ≡ r.0 = omega (arith, r.1) in
     rw (add-one, same) (take r.0 bytes, r.2.0, r.2.1, (rw same at h))
 
--- what is left behind the used bytes
+-- what is left after the used bytes
 pub rest_used : (block : List ℕ) (at used end : ℕ) → at + used ≤ end → drop used (take (end - at) (drop at block)) ≡ take (end - (at + used)) (drop (at + used) block)
 rest_used block at used end le =
     let e : end - at ≡ used + (end - (at + used)) = omega arith in

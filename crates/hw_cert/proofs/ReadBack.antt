@@ -101,12 +101,12 @@ lit_back (letter ∷ rest) lit h =
     let text : rest ≡ pair_text p.0.0 p.0.1 = sym (join_with_byte-slice_split 46 rest) ∙ ap (join_with_byte 46) q.0 in
     (ap (λ (bs : List ℕ). letter ∷ bs) text ∙ l.0, ap (list_all is_small) l.1 ∙ q.1)
 
--- the words behind literals
+-- the words after literals
 abbrev pub behind_words : Option (List (List ℕ)) → List (List ℕ)
 behind_words None = []
 behind_words (Some ws) = codes ";" ∷ ws
 
--- words that are literals and what is behind them
+-- words that are literals, and what follows them
 pub record AreLits (ws : List (List ℕ)) (found : Lits) : Type 0 where
   pub words : ws ≡ map lit_text found.lits ++ behind_words found.behind
   pub small : list_all is_small (flat_map lit_numbers found.lits) ≡ true

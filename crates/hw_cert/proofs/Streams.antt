@@ -22,7 +22,7 @@ read_steps : (shape : Shape) (version : Version) (number taken : ℕ) (line next
 read_steps shape version number taken line next more (Ok l) = refl
 read_steps shape version number taken line next more (Err word) = refl
 
--- behind the header
+-- after the header
 pub line_steps : (shape : Shape) (version : Version) (number taken : ℕ) (parts : List (List ℕ)) → lines_from shape version number taken parts ≡ following shape (line_next shape version number taken (cut_of taken parts))
 line_steps shape version number taken [] = refl
 line_steps shape version number taken (tail ∷ []) = tail_steps shape version number taken tail (lines_from shape version (number + 1) (taken + length tail + 1) [])

@@ -1,4 +1,4 @@
--- What bytes tell when more bytes are put behind them.
+-- What bytes tell when more bytes are put after them.
 use Rattle.std.proofs.lemmas.Bool.{and_parts}
 use Rattle.std.proofs.Common.{zero, suc, not, ◌≡◌, ◌==◌, ◌≤◌, ◌<◌, cond, ℕ, Bool, true, false, List, [], ◌∷◌, ◌++◌, length, take, Option, Some, None, Result, Ok, Err, refl, sym, ap, ◌∙◌, subst, arith, append-nil, length-append}
 use Rattle.std.proofs.lemmas.List.{take-append-le}
@@ -24,9 +24,9 @@ use Rattle.hw_cert.proofs.ReadBack.{chained}
 use Rattle.hw_cert.proofs.Written.{line_again}
 use Rattle.hw_cert.proofs.WordBytes.{both_on, words_lack, joined_lacks}
 
--- ---- the parts of bytes with more behind them
+-- ---- the parts of bytes with more after them
 
--- the last part joined with the first of those behind it
+-- the last part joined with the first of those after it
 abbrev seam : List (List ℕ) → List (List ℕ) → List (List ℕ)
 seam [] qs = qs
 seam (p ∷ []) [] = p ∷ []
@@ -92,7 +92,7 @@ after_one : (line : Line) (all : List Line) (o : Option LogTold) → with_line (
 after_one line all None = refl
 after_one line all (Some t) = refl
 
--- behind whole lines stands what the bytes behind them tell
+-- whole lines are followed by what the bytes after them tell
 told_after : (ps qs : List (List ℕ)) (was : LogTold) → Nonempty qs → parts_told ps ≡ Some was → was.behind ≡ [] → parts_told (seam ps qs) ≡ after_lines was.lines (parts_told qs)
 told_after [] qs was h e none = absurd (cc)
 told_after (p ∷ []) [] was h e none = absurd (nothing h.is)
@@ -155,12 +155,12 @@ prefix_told line n small lt =
     part_lacks (suc n) [] h = refl
     part_lacks (suc n) (b ∷ bs) h = let p = and_parts (not (b == 10)) (lacks 10 bs) h in both_on (not (b == 10)) (lacks 10 (take n bs)) p.0 (part_lacks n bs p.1)
 
--- ---- one line behind whole lines
+-- ---- one line after whole lines
 
 all_told : (rest more : List ℕ) (was : LogTold) → lines_told rest ≡ Some was → was.behind ≡ [] → lines_told (rest ++ more) ≡ after_lines was.lines (lines_told more)
 all_told rest more was e none = ap parts_told (parts_more rest more) ∙ told_after (parts_of 10 rest) (parts_of 10 more) was (some_parts more) e none
 
--- what more bytes behind whole lines tell
+-- what more bytes after whole lines tell
 abbrev Steps : (LogTold → LogTold → Type 0) → List ℕ → Type 0
 Steps P more = (rest : List ℕ) (was : LogTold) → lines_told rest ≡ Some was → was.behind ≡ [] → (now : LogTold) × (lines_told (rest ++ more) ≡ Some now) × P was now
 
@@ -174,7 +174,7 @@ one_begun line n small lt rest was e none = (
   (append-nil was.lines, (n, lt, refl)),
 )
 
--- ---- behind the header
+-- ---- after the header
 
 by_first : (b : Bool) (o q : Option (List ℕ)) (rest new : List ℕ) → (o ≡ Some rest → q ≡ Some new) → cond b o None ≡ Some rest → cond b q None ≡ Some new
 by_first true o q rest new f e = f e
@@ -216,14 +216,14 @@ whole_grown {x = x} {y = y} line small told whole h = grown (TellsLine line (Ok 
 pub logged : {E : Type 0} {x y : DeskState} {u : Unit {0}} (line : Line) → list_all is_small (line_numbers line) ≡ true → is_told (x.trays Proof).sent ≡ true → IsWhole (tray_log x) → SendsText {E = E} Proof (ended_text line) x y (Ok u) → TakesLine line (tray_log x) (tray_log y) (Ok tt)
 logged line small told whole h = record { later = h.only.later; lines = (whole_grown line small told whole h.ok).grows; cause = h.kept }
 
--- a line that was sent in part stands behind the lines
+-- a line that was sent in part follows the lines
 part_grown : {x y : DeskState} (line : Line) (n : ℕ) → n < length (ended_text line) → list_all is_small (line_numbers line) ≡ true → is_told (x.trays Proof).sent ≡ true → IsWhole (tray_log x) → Sends Proof (take n (ended_text line)) x y → Grown (TellsLine line (Err Failed)) (x.trays Proof).sent (y.trays Proof).sent
 part_grown {x = x} {y = y} line n lt small told whole h = grown (TellsLine line (Err Failed)) (x.trays Proof).sent (y.trays Proof).sent (take n (ended_text line)) (one_begun line n small lt) told whole h.sent
 
 pub log_failed : {E : Type 0} {x y : DeskState} {e : E} (line : Line) → list_all is_small (line_numbers line) ≡ true → is_told (x.trays Proof).sent ≡ true → IsWhole (tray_log x) → SendsText {E = E} Proof (ended_text line) x y (Err e) → TakesLine line (tray_log x) (tray_log y) (Err Failed)
 log_failed line small told whole h = record { later = h.only.later; lines = (part_grown line h.err.0 h.err.1 small told whole h.err.2).grows; cause = h.cause }
 
--- whatever of a line was sent, what was sent is still the header, whole lines and bytes behind them
+-- whatever of a line was sent, what was sent is still the header, whole lines and bytes after them
 pub still_told : {E : Type 0} {x y : DeskState} (line : Line) (r : Result Unit E) → list_all is_small (line_numbers line) ≡ true → IsWhole (tray_log x) → SendsText Proof (ended_text line) x y r → is_told (x.trays Proof).sent ≡ true → is_told (y.trays Proof).sent ≡ true
 still_told line (Ok u) small whole h told = (whole_grown line small told whole h.ok).told
 still_told line (Err e) small whole h told = (part_grown line h.err.0 h.err.1 small told whole h.err.2).told

@@ -31,7 +31,7 @@ told_back part line h = elim (chosen (bytes_eq part (codes "t")) (Some (Table []
 last_inner : {a b : LogTold} → Some a ≡ Some b → a ≡ b
 last_inner e = cc
 
--- parts that tell lines are these lines' texts, and what is behind them
+-- parts that tell lines are these lines' texts, and what follows them
 joined_told : (parts : List (List ℕ)) (told : LogTold) → parts_told parts ≡ Some told → join_with_byte 10 parts ≡ ended_lines (map line_text told.lines) ++ told.behind
 joined_told [] told e = absurd (cc)
 joined_told (tail ∷ []) told e = ap (λ (t : LogTold). ended_lines (map line_text t.lines) ++ t.behind) (last_inner e)
@@ -43,7 +43,7 @@ joined_told (part ∷ next ∷ parts) told e =
     ∙ sym (append_assoc (line_text w.0) (10 ∷ ended_lines (map line_text w.1.lines)) w.1.behind)
     ∙ ap (λ (t : LogTold). ended_lines (map line_text t.lines) ++ t.behind) w.4
 
--- what is behind them has no line feed
+-- what follows them has no line feed
 last_lacks : (parts : List (List ℕ)) (told : LogTold) → list_all (lacks 10) parts ≡ true → parts_told parts ≡ Some told → lacks 10 told.behind ≡ true
 last_lacks [] told all e = absurd (cc)
 last_lacks (tail ∷ []) told all e = subst (λ (t : LogTold). lacks 10 t.behind ≡ true) (last_inner e) (and_parts (lacks 10 tail) true all).0
@@ -51,7 +51,7 @@ last_lacks (part ∷ next ∷ parts) told all e =
     let w = with_both (line_told part) (parts_told (next ∷ parts)) told e in
     subst (λ (t : LogTold). lacks 10 t.behind ≡ true) w.4 (last_lacks (next ∷ parts) w.1 (and_parts (lacks 10 part) (list_all (lacks 10) (next ∷ parts)) all).1 w.3)
 
--- what stands behind a beginning
+-- what follows a beginning
 behind_is : (ps bs rest : List ℕ) → behind_text ps bs ≡ Some rest → bs ≡ ps ++ rest
 behind_is [] bs rest e = let same : bs ≡ rest = cc in same
 behind_is (p ∷ ps) [] rest e = absurd (cc)

@@ -127,7 +127,7 @@ ascending before (n ∷ ns) first up = both_on (nat_lt before n) (ascends n ns) 
     shifted : (k : ℕ) → suc k + 1 < length (n ∷ ns) → slice_index ns k < slice_index ns (k + 1)
     shifted k lt = let e : suc k + 1 ≡ suc (k + 1) = omega arith in subst (λ m. slice_index ns k < slice_index (n ∷ ns) m) e (up (suc k) lt)
 
--- a valid line of a problem, behind valid ones, is a line of a certificate with deletions
+-- a valid line of a problem, after valid ones, is a line of a certificate with deletions
 pub is_line : (f : Problem) (before : List Line) (line : Line) → IsFlat f → clause_count before < 2 ^ 32 → LineFits f line → ValidAfter f before line → IsLine (shape_of f) Two line
 is_line f before (lines.Table table) flat few fits valid = record {
   fits = holds Range _ (both_on (list_all (λ slot. nat_lt slot f.slots) table) (length table == f.ships) (all_on (λ slot. nat_lt slot f.slots) table (weaker (λ slot. slot < f.slots) (λ slot. nat_lt slot f.slots ≡ true) table (λ slot lt. lt-ltb slot f.slots lt) fits.each_slot)) (eq-eqb (length table) f.ships fits.each_ship));

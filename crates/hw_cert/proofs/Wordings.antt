@@ -1,4 +1,4 @@
--- The text of a line is its words, each but the first behind a space.
+-- The text of a line is its words, each but the first after a space.
 use Rattle.std.proofs.Common.{◌≡◌, ℕ, List, [], ◌∷◌, ◌++◌, map, decimal, refl, sym, ap, ◌∙◌, append_assoc, append-nil}
 use Rattle.std.specs.Prelude.{codes}
 use Rattle.std.specs.List.{flat_map, join_with_byte}

@@ -19,7 +19,7 @@ pub record BadLine : Type 0 where
   pub number : ℕ
   pub word : FormWord
 
--- the bytes behind the last line feed
+-- the bytes after the last line feed
 abbrev pub last_read : ℕ → List ℕ → Result (List Line) BadLine
 last_read number [] = Ok []
 last_read number (b ∷ bs) = Err (record { number = number; word = Form })

@@ -33,6 +33,8 @@ pub record SpellsForm (version : Version) (bytes : List ℕ) (line : Line) : Typ
   pub read : spelled version bytes ≡ Some line → (bytes ≡ line_text line) × IsOfForm version line
   pub written : bytes ≡ line_text line → IsOfForm version line → spelled version bytes ≡ Some line
 
+-- the words of bytes spell a line of a version exactly where the bytes are the text of that line and it is one of the forms
+-- of the version
 abbrev pub FormSpelled : Type 0
 FormSpelled = (version : Version) (bytes : List ℕ) (line : Line) → SpellsForm version bytes line
 

@@ -56,6 +56,7 @@ pub record SpellsLine (shape : Shape) (version : Version) (bytes : List ℕ) (li
   pub read : line_read shape version bytes ≡ Ok line → (bytes ≡ line_text line) × IsLine shape version line
   pub written : bytes ≡ line_text line → IsLine shape version line → line_read shape version bytes ≡ Ok line
 
+-- bytes read as a line exactly where they are its one text and it is a line of the version and shape
 abbrev pub LineSpelled : Type 0
 LineSpelled = (shape : Shape) (version : Version) (bytes : List ℕ) (line : Line) → 1 ≤ shape.ships → SpellsLine shape version bytes line
 
@@ -64,6 +65,7 @@ pub record SpellsHeader (bytes : List ℕ) (version : Version) : Type 0 where
   pub read : version_of bytes ≡ Some version → bytes ≡ header_text version
   pub written : bytes ≡ header_text version → version_of bytes ≡ Some version
 
+-- bytes are read as the header of a version exactly where they are its one text
 abbrev pub HeaderSpelled : Type 0
 HeaderSpelled = (bytes : List ℕ) (version : Version) → SpellsHeader bytes version
 
@@ -72,10 +74,11 @@ pub record SpellsCert (shape : Shape) (bytes : List ℕ) (version : Version) (al
   pub read : cert_read shape bytes ≡ Ok (record { version = version; lines = all }) → (bytes ≡ cert_text version all) × AllByRecursion (IsLine shape version) all
   pub written : bytes ≡ cert_text version all → AllByRecursion (IsLine shape version) all → cert_read shape bytes ≡ Ok (record { version = version; lines = all })
 
+-- bytes read as a whole certificate exactly where they are its one text and each line is one of the version and shape
 abbrev pub CertSpelled : Type 0
 CertSpelled = (shape : Shape) (bytes : List ℕ) (version : Version) (all : List Line) → 1 ≤ shape.ships → SpellsCert shape bytes version all
 
--- the lines behind what comes next
+-- the lines after what comes next
 abbrev pub following : Shape → NextLine → CertLines
 following shape ends = stopped complete
 following shape (comes line after more) = record { lines = line ∷ (stream_of shape after more).lines; stop = (stream_of shape after more).stop }
@@ -96,16 +99,16 @@ Agrees overlong all read = ⊤
 abbrev pub StreamReads : Type 0
 StreamReads = (shape : Shape) (bytes : List ℕ) → Agrees (cert_stream shape bytes).stop (cert_stream shape bytes).lines (cert_read shape bytes)
 
--- the bytes of a line that has its end
+-- how many bytes a line has with its end
 abbrev pub ended_size : List ℕ → ℕ
 ended_size line = length line + 1
 
--- a line of so many bytes, whose end has so many, behind so many bytes: it is longer than a line may be, or ends behind
+-- a line of `size` bytes with an end of `end` bytes, after `taken` bytes: it is longer than a line may be, or ends after
 -- the last byte that a certificate may have
 abbrev pub OverLimit : ℕ → ℕ → ℕ → Type 0
 OverLimit taken size end = (2 ^ 20 < size) ⊎ (2 ^ 40 < taken + size + end)
 
--- one of these parts round line feeds is such a line
+-- one of these parts between line feeds is such a line
 pub record IsOverLimit (all : List (List ℕ)) : Type 0 where
   pub before : List (List ℕ)
   pub line : List ℕ

@@ -9,12 +9,12 @@ use Rattle.hw_desk.specs.declared.desk.Tray.TheVariants.{Report, Proof}
 use Rattle.hw_cert.specs.declared.log.LogStop.{LogStop}
 use Rattle.hw_cert.specs.declared.log.LogStop.TheVariants.{Failed, NoMemory}
 
--- the lines so far, and the bytes behind them
+-- the lines so far, and the bytes after them
 pub record LogTold : Type 0 where
   pub lines : List Line
   pub behind : List ℕ
 
--- these are told together, or untold; how often the log has failed
+-- what contracts see of a log: lines and the bytes after them, told together or untold; how often the log has failed
 pub record LogModel : Type 0 where
   pub told : Option LogTold
   pub faults : ℕ
@@ -44,11 +44,11 @@ unanchored = record { borrow = 0; outside = None }
 abbrev pub WhereTold : LogModel → (LogTold → Type 0) → Type 0
 WhereTold log P = IfSome log.told P
 
--- nothing is behind the lines
+-- nothing follows the lines
 abbrev pub IsWhole : LogModel → Type 0
 IsWhole log = WhereTold log (λ told. told.behind ≡ [])
 
--- a log without lines, and nothing behind them
+-- a log without lines, and nothing after them
 abbrev pub IsEmpty : LogModel → Type 0
 IsEmpty log = WhereTold log (λ told. (told.lines ≡ []) × (told.behind ≡ []))
 
@@ -60,7 +60,7 @@ Grows old new P = WhereTold new (λ now. IsSomeAnd old.told (λ was. P was now))
 abbrev pub ended_text : Line → List ℕ
 ended_text line = line_text line ++ 10 ∷ []
 
--- a line that failed: a proper prefix of its text stands behind the lines, its line feed counted
+-- a line that failed: a proper prefix of its text follows the lines, its line feed counted
 abbrev pub IsBegunLine : Line → List ℕ → Type 0
 IsBegunLine line bytes = (n : ℕ) × (n < length (ended_text line)) × (bytes ≡ take n (ended_text line))
 
@@ -70,7 +70,7 @@ TellsLine line (Ok done) was now = (now.lines ≡ was.lines ++ line ∷ []) × (
 TellsLine line (Err Failed) was now = (now.lines ≡ was.lines) × IsBegunLine line now.behind
 TellsLine line (Err NoMemory) was now = now ≡ was
 
--- it fails only where the count of faults rose, and else leaves it as it was
+-- a line fails only where the count of faults rose; else the count is as before
 abbrev pub LineCause : LogModel → LogModel → Result Unit LogStop → Type 0
 LineCause old new (Ok done) = new.faults ≡ old.faults
 LineCause old new (Err Failed) = Rose old.faults new.faults

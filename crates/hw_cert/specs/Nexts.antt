@@ -29,17 +29,17 @@ StopsAs next stops.Fault = ⊤
 StopsAs next stops.TooLong = next ≡ too_long
 StopsAs next stops.NoMemory = ⊤
 
--- the line that comes next, and the reader stands behind it; or the end
+-- the line that comes next, and the reader stands after it; or the end
 abbrev pub ComesAs : NextLine → DeskState → Next → Type 0
 ComesAs next new (nexts.Line reader line) = IsSomeAnd (rest_of reader new) (λ more. next ≡ comes line reader.at (parts_of 10 more))
 ComesAs next new nexts.End = next ≡ ends
 
--- the answer is what comes next, but for faults and want of memory
+-- the answer is what comes next, unless a call fails or memory runs out
 abbrev pub Answers : NextLine → DeskState → Result Next LineStop → Type 0
 Answers next new (Ok n) = ComesAs next new n
 Answers next new (Err stop) = StopsAs next stop
 
--- the reader of the same certificate stands one line further, or two, behind the header
+-- the reader of the same certificate stands one line further, or two, after the header
 pub record Behind (r reader : ReaderModel) (line : Line) : Type 0 where
   pub shape : reader.shape ≡ r.shape
   pub feed : reader.feed ≡ r.feed
@@ -64,7 +64,7 @@ pub record Takes (r : ReaderModel) (old new : DeskState) (result : Result Next L
   -- no read failed, unless the answer says so
   pub kept : (IsErrOf result stops.Fault → ⊥) → new.read_faults ≡ old.read_faults
 
--- the reader stands behind the header, and what comes next is the same there
+-- the reader stands after the header, and what comes next is the same there
 pub record BehindHeader (r reader : ReaderModel) (bytes : List ℕ) (old new : DeskState) : Type 0 where
   pub shape : reader.shape ≡ r.shape
   pub feed : reader.feed ≡ r.feed

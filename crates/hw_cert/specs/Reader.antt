@@ -9,7 +9,7 @@ use Rattle.hw_text.specs.Parts.{lacks}
 use Rattle.hw_cert.specs.Stream.{Position}
 
 -- a reader: the problem's shape, the feed, where the reading stands, and the bytes that were read
--- behind that place
+-- after that place
 pub record ReaderModel : Type 0 where
   pub shape : Shape
   pub feed : Feed
@@ -21,7 +21,7 @@ abbrev pub Scans : List ℕ → List ℕ → List ℕ → List ℕ → Bool → 
 Scans bytes rest old new false = (lacks 10 bytes ≡ true) × (new ≡ old ++ bytes) × (rest ≡ [])
 Scans bytes rest old new true = (front : List ℕ) × (bytes ≡ front ++ 10 ∷ rest) × (lacks 10 front ≡ true) × (new ≡ old ++ front)
 
--- the next bytes of the feed are pending, at most so many, and none only where none is left
+-- the next bytes of the feed are pending, at most `most` of them, and none only where none is left
 pub record Fills {E : Type 0} (feed : Feed) (most : ℕ) (pending : List ℕ) (old new : DeskState) (result : Result ℕ E) : Type 0 where
   pub moved : Moves feed pending old new
   pub bound : length pending ≤ most

@@ -5,12 +5,12 @@ use Rattle.hw_cert.specs.declared.stop.FormWord.{FormWord}
 use Rattle.hw_cert.specs.declared.fitting.LineFault.{LineFault}
 use Rattle.hw_cert.specs.declared.fitting.LineFault.TheVariants.{Bad, NoMemory}
 
--- a word that is the answer, or want of memory, which is free
+-- a word that is the answer, or out of memory, which may come at any time
 abbrev pub Fails : {A : Type 0} → LineFault → Result A FormWord → Type 0
 Fails (Bad word) read = read ≡ Err word
 Fails NoMemory read = Unit {0}
 
--- what reads as this, unless memory is wanting
+-- what a call that reads one line gives is this, unless memory runs out
 abbrev pub Gives : {A : Type 0} → Result A LineFault → Result A FormWord → Type 0
 Gives (Ok x) read = read ≡ Ok x
 Gives (Err e) read = Fails e read
@@ -20,7 +20,7 @@ abbrev pub FailsBy : LineFault → Option FormWord → Type 0
 FailsBy (Bad word) fault = fault ≡ Some word
 FailsBy NoMemory fault = Unit {0}
 
--- a clause of these literals, exactly where no literal is bad, unless memory is wanting
+-- a clause of these literals, exactly where no literal is bad, unless memory runs out
 abbrev pub GivesClause : Result (List Lit) LineFault → List Lit → Option FormWord → Type 0
 GivesClause (Ok clause) lits fault = (clause ≡ lits) × (fault ≡ None)
 GivesClause (Err e) lits fault = FailsBy e fault

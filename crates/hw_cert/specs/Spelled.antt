@@ -52,12 +52,12 @@ lettered letter p =
     else if letter == 110 then Some (NotFirst p.0 p.1)
     else None
 
--- the literal that a word spells: a letter, and two numbers parted by a point
+-- the literal that a word spells: a letter, and two numbers with a point between them
 abbrev pub lit_word : List ℕ → Option Lit
 lit_word [] = None
 lit_word (letter ∷ rest) = option_and_then (lettered letter) (number_pair (parts_of 46 rest))
 
--- literals, and the words behind the `;` that ends them, if one does
+-- literals, and the words after the `;` that ends them, if one does
 pub record Lits : Type 0 where
   pub lits : List Lit
   pub behind : Option (List (List ℕ))
@@ -100,7 +100,7 @@ order_form _ = None
 abbrev pub goal_form : List (List ℕ) → Option Line
 goal_form words = option_map lines.Goal (only_lits words)
 
--- the hints behind the `;`
+-- the hints after the `;`
 abbrev pub hinted_form : List Lit → Option (List (List ℕ)) → Option Line
 hinted_form lits None = None
 hinted_form lits (Some words) = option_map (lines.Lemma lits) (all_numbers words)
@@ -114,7 +114,7 @@ abbrev pub delete_form : Version → List (List ℕ) → Option Line
 delete_form One words = None
 delete_form Two words = option_map lines.Delete (some_numbers words)
 
--- the line of this form and these words behind its first
+-- the line of this form, with these words after its first
 abbrev pub form_of : Version → List ℕ → List (List ℕ) → Option Line
 form_of version kind words =
     if bytes_eq (codes "t") kind then table_form words

@@ -15,7 +15,7 @@ numbers_view o = option_map (λ v. v.items) o
 abbrev pub lits_view : Option (Vec Lit Global) → Option (List Lit)
 lits_view o = option_map (λ v. v.items) o
 
--- literals, and the words behind the `;`, if there is one
+-- literals, and the words after the `;`, if there is one
 abbrev pub lits_found : FoundLits → Lits
 lits_found found = record { lits = found.lits.items; behind = found.behind }
 

@@ -16,25 +16,25 @@ pub record Position : Type 0 where
   pub number : ℕ
   pub taken : ℕ
 
--- before the header
+-- where reading starts: before the header
 abbrev pub start : Position
 start = record { version = None; number = 1; taken = 0 }
 
--- a line of so many bytes, whose end has so many, passes a limit behind so many bytes
+-- a line of `size` bytes with an end of `end` bytes, after `taken` bytes, passes a limit
 abbrev pub passes : ℕ → ℕ → ℕ → Bool
 passes taken size end = nat_lt (2 ^ 20) size || nat_lt (2 ^ 40) (taken + size + end)
 
--- what the parts that are left round line feeds begin with
+-- what the parts that are left between line feeds begin with
 pub data Cut : Type 0 where
   nothing : Cut
-  -- a line that passes no limit, with the parts behind it
+  -- a line that passes no limit, with the parts after it
   whole : List ℕ → List (List ℕ) → Cut
   -- bytes without an end, which pass no limit
   unended : Cut
   -- a line that passes a limit
   long : Cut
 
--- the bytes behind the last line feed
+-- the bytes after the last line feed
 abbrev pub tail_cut : ℕ → List ℕ → Cut
 tail_cut taken [] = nothing
 tail_cut taken (b ∷ bs) = if passes taken (length (b ∷ bs)) 0 then long else unended
@@ -48,14 +48,14 @@ cut_of taken (line ∷ next ∷ more) = if passes taken (length line) 1 then lon
 pub data NextLine : Type 0 where
   -- nothing, after a whole line
   ends : NextLine
-  -- this line; behind it stand these parts, and the reading stands there
+  -- this line; these parts follow it, and the reading stands there
   comes : Line → Position → List (List ℕ) → NextLine
   -- the line of this number is no spelling of a line
   bad : ℕ → FormWord → NextLine
   -- a line that passes a limit
   too_long : NextLine
 
--- the position behind a line, which has the header's version
+-- the position after a line, which has the header's version
 abbrev pub behind : Version → ℕ → ℕ → List ℕ → Position
 behind version number taken line = record { version = Some version; number = number + 1; taken = taken + length line + 1 }
 
@@ -64,19 +64,19 @@ abbrev pub line_by : ℕ → Position → List (List ℕ) → Result Line FormWo
 line_by number after more (Ok line) = comes line after more
 line_by number after more (Err word) = bad number word
 
--- the line behind the header or another line
+-- the line after the header or another line
 abbrev pub line_next : Shape → Version → ℕ → ℕ → Cut → NextLine
 line_next shape version number taken nothing = ends
 line_next shape version number taken (whole line more) = line_by number (behind version number taken line) more (line_read shape version line)
 line_next shape version number taken unended = bad number Form
 line_next shape version number taken long = too_long
 
--- the line behind a header that names this version, if it names one
+-- the line after a header that names this version, if it names one
 abbrev pub header_by : Shape → ℕ → ℕ → List ℕ → List (List ℕ) → Option Version → NextLine
 header_by shape number taken line more None = bad number Header
 header_by shape number taken line more (Some version) = line_next shape version (number + 1) (taken + length line + 1) (cut_of (taken + length line + 1) more)
 
--- the header, and the line behind it
+-- the header, and the line after it
 abbrev pub header_next : Shape → ℕ → ℕ → Cut → NextLine
 header_next shape number taken nothing = bad number Header
 header_next shape number taken (whole line more) = header_by shape number taken line more (version_of line)
@@ -87,7 +87,7 @@ abbrev pub next_by : Shape → ℕ → ℕ → Option Version → List (List ℕ
 next_by shape number taken None parts = header_next shape number taken (cut_of taken parts)
 next_by shape number taken (Some version) parts = line_next shape version number taken (cut_of taken parts)
 
--- what comes next, of a certificate whose bytes left have these parts round line feeds
+-- what comes next, of a certificate whose bytes left have these parts between line feeds
 abbrev pub next_of : Shape → Position → List (List ℕ) → NextLine
 next_of shape at parts = next_by shape at.number at.taken at.version parts
 
@@ -100,7 +100,7 @@ pub data CertEnd : Type 0 where
   -- before a line that passes a limit
   overlong : CertEnd
 
--- the lines of a certificate up to its end, or up to the first line that can't be had
+-- the lines of a certificate up to its end, or up to the first line that can't be read
 pub record CertLines : Type 0 where
   pub lines : List Line
   pub stop : CertEnd
@@ -108,7 +108,7 @@ pub record CertLines : Type 0 where
 abbrev pub stopped : CertEnd → CertLines
 stopped stop = record { lines = []; stop = stop }
 
--- the lines from one on, by what comes next and the lines behind it
+-- the lines from one on, by what comes next and the lines after it
 abbrev pub onward : NextLine → CertLines → CertLines
 onward ends later = stopped complete
 onward (comes line after more) later = record { lines = line ∷ later.lines; stop = later.stop }
@@ -120,7 +120,7 @@ abbrev pub lines_from : Shape → Version → ℕ → ℕ → List (List ℕ) �
 lines_from shape version number taken [] = stopped complete
 lines_from shape version number taken (line ∷ more) = onward (line_next shape version number taken (cut_of taken (line ∷ more))) (lines_from shape version (number + 1) (taken + length line + 1) more)
 
--- the lines behind a header
+-- the lines after a header
 abbrev pub lines_by : Shape → ℕ → ℕ → List ℕ → List (List ℕ) → Option Version → CertLines
 lines_by shape number taken line more None = stopped (broken number Header)
 lines_by shape number taken line more (Some version) = lines_from shape version (number + 1) (taken + length line + 1) more

@@ -23,7 +23,7 @@ pub record Unparted (taken : ℕ) (all line : List ℕ) (long : Bool) : Type 0 w
   pub lacking : lacks 10 line ≡ true
   pub limit : passes taken (length line) 0 ≡ long
 
--- what stands where the line is to stand, of the bytes that were pending or moved
+-- what stands at the place of the line, of the bytes that were pending or moved
 abbrev pub Stands : ℕ → List ℕ → List ℕ → List ℕ → Option (List ℕ) → Result TakenLine LineStop → Type 0
 Stands taken all line pending left (Ok Whole) = WholeLine taken all line pending false
 Stands taken all line pending left (Ok Unended) = Unparted taken all line false × (0 < length line) × IsAtEnd left

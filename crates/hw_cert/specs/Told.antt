@@ -1,4 +1,4 @@
--- What bytes tell of a certificate with deletions, whatever the problem: its lines, and the bytes behind them.
+-- What bytes tell of a certificate with deletions, whatever the problem: its lines, and the bytes after them.
 use Rattle.std.specs.Prelude.{◌≡◌, ◌<◌, ℕ, ◌==◌, List, [], ◌∷◌, ◌++◌, Bool, true, Option, Some, None, length, take, option_and_then, is_some, bytes_eq, codes, if◌then◌else◌}
 use Rattle.std.specs.Borrow.{GName}
 use Rattle.hw_text.specs.Parts.{parts_of, lacks}
@@ -20,7 +20,7 @@ header_line = header_text Two ++ 10 ∷ []
 abbrev pub FailsHeader : DeskState → DeskState → Type 0
 FailsHeader old new = ((n : ℕ) × (n < length header_line) × Sends Proof (take n header_line) old new) × Rose old.write_faults new.write_faults
 
--- the bytes behind others, if they begin with those
+-- the bytes after others, if they begin with those
 abbrev pub behind_text : List ℕ → List ℕ → Option (List ℕ)
 behind_text [] bytes = Some bytes
 behind_text (p ∷ ps) [] = None
@@ -39,13 +39,13 @@ with_line None more = None
 with_line (Some line) None = None
 with_line (Some line) (Some told) = Some (record { lines = line ∷ told.lines; behind = told.behind })
 
--- the parts round line feeds: each is the text of a line, and the last one is behind them
+-- the parts between line feeds: each is the text of a line, and the last one follows them
 abbrev pub parts_told : List (List ℕ) → Option LogTold
 parts_told [] = None
 parts_told (tail ∷ []) = Some (record { lines = []; behind = tail })
 parts_told (part ∷ next ∷ parts) = with_line (line_told part) (parts_told (next ∷ parts))
 
--- what bytes behind a header tell
+-- what bytes after a header tell
 abbrev pub lines_told : List ℕ → Option LogTold
 lines_told bytes = parts_told (parts_of 10 bytes)
 
@@ -53,12 +53,12 @@ lines_told bytes = parts_told (parts_of 10 bytes)
 abbrev pub bytes_told : List ℕ → Option LogTold
 bytes_told bytes = option_and_then lines_told (behind_text header_line bytes)
 
--- what was sent is the header, whole lines and bytes behind them, where it is told
+-- what was sent is the header, whole lines and bytes after them, where it is told
 abbrev pub is_told : Option (List ℕ) → Bool
 is_told None = true
 is_told (Some bytes) = is_some (bytes_told bytes)
 
--- bytes that are the text of these lines, and behind it bytes without a line feed
+-- bytes that are the text of these lines, and after it bytes without a line feed
 pub record IsTextOf (told : LogTold) (bytes : List ℕ) : Type 0 where
   pub text : bytes ≡ cert_text Two told.lines ++ told.behind
   pub no_end : lacks 10 told.behind ≡ true

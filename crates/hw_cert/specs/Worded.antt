@@ -6,14 +6,14 @@ use Rattle.hw_lines.specs.declared.line.Line.{Line}
 use Rattle.hw_lines.specs.declared.line.Line.TheVariants as lines
 use Rattle.hw_cert.specs.Texts.{lit_text}
 
--- a number behind a space
+-- a number after a space
 abbrev pub number_text : ℕ → List ℕ
 number_text n = 32 ∷ decimal n
 
 abbrev pub numbers_text : List ℕ → List ℕ
 numbers_text = flat_map number_text
 
--- literals, each behind a space
+-- literals, each after a space
 abbrev pub lits_text : List Lit → List ℕ
 lits_text = flat_map (λ lit. 32 ∷ lit_text lit)
 

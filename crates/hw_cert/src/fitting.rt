@@ -16,7 +16,7 @@ use hw_lits::{Clause, ClauseFault};
 use hw_model::{Lit, NoMemory, Shape};
 use std::alloc::{AllocError, Global};
 
-/// Why a line can't be had.
+/// Why a line can't be read.
 #[derive(Clone, Copy, Debug, PartialEq, Eq)]
 pub enum LineFault {
     Bad(FormWord),

@@ -44,7 +44,7 @@ pub fn valid_reads()
     ensures { ValidReads }
 {}
 
-/// Bytes that tell lines are the text of these lines, and behind it bytes without a line feed.
+/// Bytes that tell lines are the text of these lines, and after it bytes without a line feed.
 pub fn text_told()
     ensures { TextTold }
 {}

@@ -7,7 +7,7 @@ use hw_lines::Line;
 use std::alloc::Global;
 use std::marker::Model;
 
-/// A log that keeps the lines in memory. It never fails but for want of memory.
+/// A log that keeps the lines in memory. It fails only if memory runs out.
 #[derive(Drop)]
 pub struct MemoryLog {
     alloc: Global,

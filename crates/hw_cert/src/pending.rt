@@ -36,8 +36,8 @@ fn find_end(bytes: &[u8]) -> Option<usize>
     bytes.iter().position(|b| *b == b'\n')
 }
 
-/// Appends the bytes before the first line feed, and says how many were used, that one included.
-/// Where there is none, it appends all.
+/// Appends the bytes before the first line feed, or all where there is none. Returns how many were
+/// used, the line feed among them, or none where there is no line feed.
 fn scan_bytes(bytes: &[u8], line: &mut Vec<u8>) -> Result<Option<usize>, AllocError>
     ensures used { IfOk result (λ used. IfSome used (λ n. n ≤ length bytes.now)) }
     ensures scans { IfOk result (λ used. MatchOption used (Scans bytes.now [] line.old.items line.new.items false) (λ n. Scans bytes.now (drop n bytes.now) line.old.items line.new.items true)) }
@@ -54,7 +54,7 @@ fn scan_bytes(bytes: &[u8], line: &mut Vec<u8>) -> Result<Option<usize>, AllocEr
     }
 }
 
-/// One read into the first so many bytes of the block.
+/// One read into the first `room` bytes of the block.
 fn read_block<D: Desk>(
     desk: &mut D,
     feed: Feed,
@@ -83,7 +83,7 @@ impl Pending {
     }
 
     /// Takes the bytes up to the first line feed, which is taken too, or all where there is none.
-    /// Says whether there was one.
+    /// Returns whether there was one.
     pub fn scan(&mut self, line: &mut Vec<u8>) -> Result<bool, AllocError>
         ensures { IfOk result (λ found. Scans self.old self.new line.old.items line.new.items found) }
     {
@@ -100,7 +100,7 @@ impl Pending {
         }
     }
 
-    /// Lets the bytes go and reads the next ones, at most so many.
+    /// Lets the bytes go and reads the next ones, at most `most`.
     pub fn fill<D: Desk>(
         &mut self,
         desk: &mut D,

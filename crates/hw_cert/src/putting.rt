@@ -11,7 +11,7 @@ use hw_desk::Writer;
 use hw_lines::{Hints, Line};
 use hw_lits::{Clause, Lit};
 
-/// Puts a number behind a space.
+/// Puts a number after a space.
 #[tactic(auto, using(hw_desk::proofs::Written::puts_on))]
 fn put_number<W: Writer>(out: &mut W, number: u32)
     ensures puts { Puts (number_text number) (W.state out.old) (W.state out.new) }
@@ -21,7 +21,7 @@ fn put_number<W: Writer>(out: &mut W, number: u32)
     out.put_number(u64::from(number));
 }
 
-/// Puts numbers, each behind a space.
+/// Puts numbers, each after a space.
 #[tactic(auto, using(hw_desk::proofs::Written::puts_on))]
 fn put_numbers<W: Writer>(out: &mut W, numbers: &[u32])
     ensures puts { Puts (numbers_text numbers.now) (W.state out.old) (W.state out.new) }
@@ -44,7 +44,7 @@ fn put_pair<W: Writer>(out: &mut W, letter: &[u8], x: u32, y: u32)
     out.put_number(u64::from(y));
 }
 
-/// Puts a literal behind a space.
+/// Puts a literal after a space.
 fn put_lit<W: Writer>(out: &mut W, lit: Lit)
     ensures puts { Puts (32 ∷ lit_text lit) (W.state out.old) (W.state out.new) }
     ensures small { list_all is_small (lit_numbers lit) ≡ true }
@@ -57,7 +57,7 @@ fn put_lit<W: Writer>(out: &mut W, lit: Lit)
     }
 }
 
-/// Puts literals, each behind a space.
+/// Puts literals, each after a space.
 #[tactic(auto, using(hw_desk::proofs::Written::puts_on))]
 fn put_lits<W: Writer>(out: &mut W, lits: &[Lit])
     ensures puts { Puts (lits_text lits.now) (W.state out.old) (W.state out.new) }

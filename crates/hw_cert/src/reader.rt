@@ -19,7 +19,7 @@ use std::marker::Model;
 /// and gives the same lines however the reads are cut.
 ///
 /// Contracts see it as the problem's shape, the feed, where the reading stands, and the bytes that
-/// were read behind that place.
+/// were read after that place.
 #[derive(Drop)]
 pub struct LineReader {
     alloc: Global,
@@ -31,7 +31,7 @@ pub struct LineReader {
     number: u64,
     // how many bytes the lines before it have with their ends
     taken: u64,
-    // bytes that were read behind these and that no line has taken yet
+    // bytes that were read after these and that no line has taken yet
     pending: Pending,
     // the bytes of the line taken last, without its end
     line: Vec<u8>,
@@ -50,7 +50,7 @@ impl Model for LineReader {
 /// What comes next of a certificate.
 #[derive(Drop)]
 pub enum Next {
-    /// A line, and the reader of those behind it.
+    /// A line, and the reader of those after it.
     Line { reader: LineReader, line: Line },
     /// Nothing, after a whole line.
     End,
@@ -120,7 +120,7 @@ impl LineReader {
         Ok(self)
     }
 
-    /// Takes a line behind the header.
+    /// Takes a line after the header.
     fn next_line<D: Desk>(mut self, desk: &mut D) -> Result<Next, LineStop>
         requires begun { ((D.state desk.old).feeds self.feed).begun ≡ true }
         requires header { IsSome self.at.version }

@@ -39,7 +39,7 @@ pub enum Spelling {
     },
 }
 
-/// Literals, and the words behind the `;` that ends them, if one does.
+/// Literals, and the words after the `;` that ends them, if one does.
 #[derive(Drop)]
 struct FoundLits<'l> {
     lits: Vec<Lit>,
@@ -103,7 +103,7 @@ fn lettered_lit(letter: u8, first: u32, second: u32) -> Option<Lit>
     }
 }
 
-/// The literal that a word spells: a letter, and two numbers parted by a point.
+/// The literal that a word spells: a letter, and two numbers with a point between them.
 fn lit_of(word: &[u8]) -> Option<Lit>
     ensures { result ≡ lit_word word.now }
 {
@@ -232,7 +232,7 @@ fn delete_of(
 }
 
 #[tactic(auto, using(crate::proofs::Chosen::form_chosen))]
-/// The line of this form, with the words behind the first.
+/// The line of this form, with the words after the first.
 fn form_of(
     alloc: Global,
     version: Version,

@@ -1,4 +1,4 @@
-//! Why a line of a certificate can't be read, and why no line was had.
+//! Why a line of a certificate can't be read, and why no line came.
 
 ghost use Rattle.std.specs.Prelude.{◌≡◌};
 ghost use Rattle.hw_cert.specs.declared.stop.LineStop.TheVariants.{NoMemory};
@@ -18,7 +18,7 @@ pub enum FormWord {
     Normal,
 }
 
-/// Why no line was had. Each uses the reader up.
+/// Why no line came. Each uses the reader up.
 #[derive(Clone, Copy, Debug, PartialEq, Eq)]
 pub enum LineStop {
     /// The line of this number, counted from 1 with the header, is no spelling of a line.

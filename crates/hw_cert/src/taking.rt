@@ -14,8 +14,7 @@ pub const MOST_OF_LINE: u64 = 1 << 20;
 /// How many bytes a certificate may have.
 const MOST_OF_ALL: u64 = 1 << 40;
 
-/// What stands where the next line is to stand: a line that ends, bytes without an end, or
-/// nothing.
+/// What stands at the place of the next line: a line that ends, bytes without an end, or nothing.
 #[derive(Clone, Copy, Debug, PartialEq, Eq)]
 pub enum TakenLine {
     Whole,
@@ -23,7 +22,7 @@ pub enum TakenLine {
     Nothing,
 }
 
-/// Whether a line of so many bytes, whose end has so many, passes a limit behind so many bytes.
+/// Whether a line of `size` bytes with an end of `end` bytes, after `taken` bytes, passes a limit.
 fn passes_limit(taken: u64, size: u64, end: u64) -> bool
     requires { taken + size + end < 2 ^ 64 }
     ensures { result ≡ passes taken size end }

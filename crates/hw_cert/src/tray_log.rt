@@ -15,10 +15,10 @@ use crate::{Log, LogStop};
 use hw_desk::{Desk, DeskFailed, Tray, TrayWriter, Writer, write_all};
 use hw_lines::Line;
 
-/// A log whose text goes to the proof of a lent desk. It takes no memory.
+/// A log whose text goes to the proof of a borrowed desk. It takes no memory.
 ///
 /// Each line is one write where it fits the writer's buffer, and so is the header. Where the desk tells
-/// what was sent, that is the header, the text of whole lines and bytes behind them.
+/// what was sent, that is the header, the text of whole lines and bytes after them.
 #[derive(Drop)]
 pub struct TrayLog<'d, D: Desk> {
     pub desk: &'d mut D,
@@ -26,7 +26,7 @@ pub struct TrayLog<'d, D: Desk> {
     ghost told: { is_told ((D.state desk.now).trays Proof).sent ≡ true },
 }
 
-/// The header of a log was not sent whole. The desk that was lent comes back.
+/// The header of a log was not sent whole. The borrowed desk comes back.
 #[derive(Drop)]
 pub struct HeaderFailed<'d, D: Desk> {
     pub desk: &'d mut D,
@@ -100,7 +100,7 @@ impl<D: Desk> Log for TrayLog<'_, D> {
 
     ghost anchor = { λ log. tray_anchor log.desk.ghost_name (D.state log.desk.now) };
 
-    /// As the trait says; it takes no memory, and so never answers want of it.
+    /// As the trait says. It takes no memory, so it never answers `NoMemory`.
     fn line(&mut self, line: &Line) -> Result<(), LogStop>
         requires whole { IsWhole (tray_log (D.state self.old.desk.now)) }
         ensures takes { TakesLine line.now (tray_log (D.state self.old.desk.now)) (tray_log (D.state self.new.desk.now)) result }

@@ -130,7 +130,7 @@ next_job place i jobs d a b c lt up first second =
 
 -- ---- source after source
 
--- what was listed of the first so many sources
+-- what was listed of the first n sources
 abbrev pub ListedUpto : Problem → List Source → ℕ → SpeakersModel → Type 0
 ListedUpto f sources n s = (lit : Lit) → IsLitOf f.ships lit → speakers_of s lit ≡ filter (λ place. names_at f lit (slice_get sources place)) (range_with_len 0 n)
 

@@ -40,8 +40,8 @@ found_here f source worth best room here found asked w r e h = subst (λ x. Find
 
 -- ---- what an engine keeps
 
-pub kept_asked : (e : EngineModel) (table : SpeakersModel) (goal : ℕ) (best : List ℕ) (worth : Option ℕ) (capacity : ℕ) (sources : List Source) → KeepsEngine e table goal best worth capacity → sources ≡ e.sources → KeepsEngine (record e { sources = sources }) table goal best worth capacity
-kept_asked e table goal best worth capacity sources k same = subst (λ xs. KeepsEngine (record e { sources = xs }) table goal best worth capacity) (sym same) k
+pub kept_asked : (e : EngineModel) (table : SpeakersModel) (goal : ℕ) (worth : Option ℕ) (capacity : ℕ) (sources : List Source) → KeepsEngine e table goal worth capacity → sources ≡ e.sources → KeepsEngine (record e { sources = sources }) table goal worth capacity
+kept_asked e table goal worth capacity sources k same = subst (λ xs. KeepsEngine (record e { sources = xs }) table goal worth capacity) (sym same) k
 
 one_of : (s u : Source) → Some s ≡ Some u → s ≡ u
 one_of s u e = cc
@@ -52,8 +52,8 @@ quiet_cleared f best room sources marks place asked at calm quiet other source t
   | inr ne ↦ quiet other source there (sym (get_or-set_other marks place other false true ne) ∙ clear)
 ]
 
-pub kept_cleared : (e : EngineModel) (table : SpeakersModel) (goal : ℕ) (best : List ℕ) (worth : Option ℕ) (capacity : ℕ) (place : ℕ) (asked : Source) (marks : List Bool) → KeepsEngine e table goal best worth capacity → slice_get e.sources place ≡ Some asked → QuietSource e.search.problem asked (best_cargo e.search) (room_in e.search) → marks ≡ slice_set e.marks place false → KeepsEngine (record e { marks = marks }) table goal best worth capacity
-kept_cleared e table goal best worth capacity place asked marks k at calm m = subst (λ xs. KeepsEngine (record e { marks = xs }) table goal best worth capacity) (sym m) (record {
+pub kept_cleared : (e : EngineModel) (table : SpeakersModel) (goal : ℕ) (worth : Option ℕ) (capacity : ℕ) (place : ℕ) (asked : Source) (marks : List Bool) → KeepsEngine e table goal worth capacity → slice_get e.sources place ≡ Some asked → QuietSource e.search.problem asked (best_cargo e.search) (room_in e.search) → marks ≡ slice_set e.marks place false → KeepsEngine (record e { marks = marks }) table goal worth capacity
+kept_cleared e table goal worth capacity place asked marks k at calm m = subst (λ xs. KeepsEngine (record e { marks = xs }) table goal worth capacity) (sym m) (record {
   search = k.search;
   once = k.once;
   of_problem = k.of_problem;
@@ -62,9 +62,8 @@ kept_cleared e table goal best worth capacity place asked marks k at calm m = su
   quiet_below = k.quiet_below;
   speakers = k.speakers;
   goal_at = k.goal_at;
-  best_ready = k.best_ready;
   worth_is = k.worth_is;
-  reserved = k.reserved;
+  room = k.room;
 })
 
 -- a clause that a source gave may be a reason

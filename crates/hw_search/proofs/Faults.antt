@@ -17,7 +17,7 @@ by_stop : (stop : LogStop) (old mid new : LogModel) → mid.faults ≡ old.fault
 by_stop stops.Failed old mid new e cause = tt
 by_stop stops.NoMemory old mid new e cause = cause ∙ e
 
--- a line wasn't taken, behind lines that were
+-- a line wasn't taken, after lines that were
 pub stop_keeps : (stop : LogStop) (turn : Turn) (old mid new : LogModel) → turn ≡ turn_of stop → mid.faults ≡ old.faults → StopCause stop mid new → TurnKeepsFaults turn old new
 stop_keeps stop turn old mid new is e cause = subst (λ t. TurnKeepsFaults t old new) (sym is) (by_stop stop old mid new e cause)
 

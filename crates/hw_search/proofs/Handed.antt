@@ -148,7 +148,7 @@ stop_more stop p least most old new le a = record {
   told = grows_by old new (λ was now. (count : ℕ) × (count ≤ least) × StopsAfter stop p count was now) (λ was now. (count : ℕ) × (count ≤ most) × StopsAfter stop p count was now) (λ was now k. (k.0, omega (arith, k.1, le), k.2)) a.told;
 }
 
--- for want of memory, after all of a plan
+-- memory ran out after all of a plan
 pub memory_after : (p : List Line) (old new : LogModel) → TakesAll p old new → StopsWithin stops.NoMemory p (length p) old new
 memory_after p old new a = record {
   later = omega (arith, a.faults);
@@ -185,7 +185,7 @@ pub one_line : (line : Line) (old new : LogModel) (result : Result Unit LogStop)
 one_line line old new (Ok done) whole t = one_taken line old new done t
 one_line line old new (Err stop) whole t = stop_more stop (line ∷ []) 0 1 old new (omega arith) (one_stopped line stop old new whole t)
 
--- nothing was handed for want of memory
+-- nothing was handed, since memory ran out
 pub no_memory : (plan : List Line) (log : LogModel) → IsWhole log → StopsWithin stops.NoMemory plan 0 log log
 no_memory plan log whole = record {
   later = omega arith;

@@ -28,6 +28,7 @@ use Rattle.hw_progress.specs.Settling.{with_events}
 use Rattle.hw_progress.proofs.Holds.{room_fits}
 use Rattle.hw_progress.proofs.Keeps.{new_kept, implied_search}
 use Rattle.hw_search.specs.Engines.{EngineModel, KeepsEngine, QuietUnmarked}
+use Rattle.hw_search.specs.Ledgers.{LedgerModel}
 use Rattle.hw_search.specs.Marks.{is_marked, MarksPlaces}
 use Rattle.hw_search.specs.Speaking.{SpeakersModel, speakers_of, TellsSpeakers}
 use Rattle.hw_search.proofs.Levels.{levels_implied}
@@ -50,22 +51,22 @@ pub few_in : (s : SearchModel) → IsSearch s → length s.trail.events ≤ most
 few_in s is = subst (λ n. length s.trail.events ≤ most_events n s.problem.slots) is.same_ships (subst (λ n. length s.trail.events ≤ most_events s.trail.ships n) is.same_slots (few_events s.trail is.trail))
 
 -- there is room for the number of one more event
-pub one_more : (e : EngineModel) (table : SpeakersModel) (goal : ℕ) (best : List ℕ) (worth : Option ℕ) (capacity : ℕ) (lit : Lit) (why : Why) → KeepsEngine e table goal best worth capacity → lit_fits (trail_shape e.search.trail) lit ≡ true → IsClause (trail_shape e.search.trail) (clause_of why) → truth (room_in e.search) lit ≡ Free → narrowing (clause_of why) (room_in e.search) ≡ Cut lit → IsReason e.search why
+pub one_more : (e : EngineModel) (table : SpeakersModel) (goal : ℕ) (worth : Option ℕ) (capacity : ℕ) (lit : Lit) (why : Why) → KeepsEngine e table goal worth capacity → lit_fits (trail_shape e.search.trail) lit ≡ true → IsClause (trail_shape e.search.trail) (clause_of why) → truth (room_in e.search) lit ≡ Free → narrowing (clause_of why) (room_in e.search) ≡ Cut lit → IsReason e.search why
     → length e.search.written < capacity
-one_more e table goal best worth capacity lit why k fits clause free only reason =
+one_more e table goal worth capacity lit why k fits clause free only reason =
     let event : Event = record { lit = lit; level = e.search.trail.level; why = Some why } in
     let more = few_in (with_events e.search (event ∷ [])) (implied_search e.search lit why k.search fits clause free only reason) in
-    omega (arith, more, length-append e.search.trail.events (event ∷ []), k.search.each_event, k.reserved)
+    omega (arith, more, length-append e.search.trail.events (event ∷ []), k.search.each_event, k.room)
 
 -- one more event
-pub kept_implied : (e : EngineModel) (table : SpeakersModel) (goal : ℕ) (best : List ℕ) (worth : Option ℕ) (capacity capacity' : ℕ) (lit : Lit) (why : Why) (trail : TrailModel) (stored : List Stored) (written : List (Option ℕ)) (marks : List Bool) → KeepsEngine e table goal best worth capacity → lit_fits (trail_shape e.search.trail) lit ≡ true → IsClause (trail_shape e.search.trail) (clause_of why) → truth (room_in e.search) lit ≡ Free → narrowing (clause_of why) (room_in e.search) ≡ Cut lit → IsReason e.search why
-    → trail ≡ implied e.search.trail lit why → stored ≡ e.search.stored → written ≡ e.search.written ++ None ∷ [] → MarksPlaces (speakers_of table lit) e.marks marks → capacity' ≡ capacity → KeepsEngine (record { search = record e.search { trail = trail; stored = stored; written = written }; sources = e.sources; marks = marks }) table goal best worth capacity'
-kept_implied e table goal best worth capacity capacity' lit why trail stored written marks k fits clause free only reason t st w m c =
+pub kept_implied : (e : EngineModel) (table : SpeakersModel) (goal : ℕ) (worth : Option ℕ) (capacity : ℕ) (lit : Lit) (why : Why) (trail : TrailModel) (stored : List Stored) (l : LedgerModel) (marks : List Bool) → KeepsEngine e table goal worth capacity → lit_fits (trail_shape e.search.trail) lit ≡ true → IsClause (trail_shape e.search.trail) (clause_of why) → truth (room_in e.search) lit ≡ Free → narrowing (clause_of why) (room_in e.search) ≡ Cut lit → IsReason e.search why
+    → trail ≡ implied e.search.trail lit why → stored ≡ e.search.stored → l ≡ record { written = e.search.written ++ None ∷ []; clause_lines = e.search.clause_lines; reserved = capacity } → MarksPlaces (speakers_of table lit) e.marks marks → KeepsEngine (record { search = record e.search { trail = trail; stored = stored; written = l.written; clause_lines = l.clause_lines }; sources = e.sources; marks = marks }) table goal worth l.reserved
+kept_implied e table goal worth capacity lit why trail stored l marks k fits clause free only reason t st w m =
     let event : Event = record { lit = lit; level = e.search.trail.level; why = Some why } in
     let s = e.search in
     let after : SearchModel = with_events s (event ∷ []) in
     let room : RoomModel = room_in s in
-    let kept : KeepsEngine (record { search = after; sources = e.sources; marks = marks }) table goal best worth capacity' = record {
+    let kept : KeepsEngine (record { search = after; sources = e.sources; marks = marks }) table goal worth capacity = record {
       search = implied_search s lit why k.search fits clause free only reason;
       once = k.once;
       of_problem = k.of_problem;
@@ -74,13 +75,12 @@ kept_implied e table goal best worth capacity capacity' lit why trail stored wri
       quiet_below = levels_implied s.problem (best_cargo s) s.trail lit why k.quiet_below;
       speakers = k.speakers;
       goal_at = k.goal_at;
-      best_ready = k.best_ready;
       worth_is = k.worth_is;
-      reserved = omega (arith, k.reserved, c);
+      room = k.room;
     } in
-    subst (λ x. KeepsEngine (record { search = record s { trail = x; stored = stored; written = written }; sources = e.sources; marks = marks }) table goal best worth capacity') (sym t)
-    (subst (λ x. KeepsEngine (record { search = record s { trail = implied s.trail lit why; stored = x; written = written }; sources = e.sources; marks = marks }) table goal best worth capacity') (sym st)
-    (subst (λ x. KeepsEngine (record { search = record s { trail = implied s.trail lit why; stored = s.stored; written = x }; sources = e.sources; marks = marks }) table goal best worth capacity') (sym w) kept))
+    subst (λ x. KeepsEngine (record { search = record s { trail = x; stored = stored; written = l.written; clause_lines = l.clause_lines }; sources = e.sources; marks = marks }) table goal worth l.reserved) (sym t)
+    (subst (λ x. KeepsEngine (record { search = record s { trail = implied s.trail lit why; stored = x; written = l.written; clause_lines = l.clause_lines }; sources = e.sources; marks = marks }) table goal worth l.reserved) (sym st)
+    (subst (λ (x : LedgerModel). KeepsEngine (record { search = record s { trail = implied s.trail lit why; stored = s.stored; written = x.written; clause_lines = x.clause_lines }; sources = e.sources; marks = marks }) table goal worth x.reserved) (sym w) kept))
 
 -- ---- a new search
 
@@ -92,11 +92,11 @@ all_marked marks n e place = subst (λ xs. is_marked xs place ≡ true) (sym e) 
     each (suc n) zero = refl
     each (suc n) (suc place) = each n place
 
-pub kept_new : (f : Problem) (branching : Branching) (sources : List Source) (table : SpeakersModel) (goal : ℕ) (best : List ℕ) (capacity : ℕ) (trail : TrailModel) (stored : List Stored) (written : List (Option ℕ)) (marks : List Bool) → IsFlat f → EachSourceOnce f sources → All (IsSourceOf f) sources → TellsSpeakers f sources table → slice_get sources goal ≡ Some Goal → length best ≡ f.ships → most_events f.ships f.slots ≤ capacity → trail ≡ no_events (shape_of f) → stored ≡ [] → written ≡ [] → marks ≡ replicate (length sources) true
-    → KeepsEngine (record { search = record (new_search f branching) { trail = trail; stored = stored; written = written }; sources = sources; marks = marks }) table goal best None capacity
-kept_new f branching sources table goal best capacity trail stored written marks flat once of tells at long room t st w m =
+pub kept_new : (f : Problem) (branching : Branching) (sources : List Source) (table : SpeakersModel) (goal : ℕ) (trail : TrailModel) (stored : List Stored) (l : LedgerModel) (marks : List Bool) → IsFlat f → EachSourceOnce f sources → All (IsSourceOf f) sources → TellsSpeakers f sources table → slice_get sources goal ≡ Some Goal → most_events f.ships f.slots ≤ l.reserved → trail ≡ no_events (shape_of f) → stored ≡ [] → l.written ≡ [] → l.clause_lines ≡ 0 → marks ≡ replicate (length sources) true
+    → KeepsEngine (record { search = record (new_search f branching) { trail = trail; stored = stored; written = l.written; clause_lines = l.clause_lines }; sources = sources; marks = marks }) table goal None l.reserved
+kept_new f branching sources table goal trail stored l marks flat once of tells at room t st w n m =
     let s = new_search f branching in
-    let kept : KeepsEngine (record { search = s; sources = sources; marks = marks }) table goal best None capacity = record {
+    let kept : KeepsEngine (record { search = s; sources = sources; marks = marks }) table goal None l.reserved = record {
       search = new_kept f branching flat;
       once = once;
       of_problem = of;
@@ -105,10 +105,10 @@ kept_new f branching sources table goal best capacity trail stored written marks
       quiet_below = λ level lt. absurd (omega (arith, lt));
       speakers = tells;
       goal_at = at;
-      best_ready = long;
       worth_is = refl;
-      reserved = room;
+      room = room;
     } in
-    subst (λ x. KeepsEngine (record { search = record s { trail = x; stored = stored; written = written }; sources = sources; marks = marks }) table goal best None capacity) (sym t)
-    (subst (λ x. KeepsEngine (record { search = record s { stored = x; written = written }; sources = sources; marks = marks }) table goal best None capacity) (sym st)
-    (subst (λ x. KeepsEngine (record { search = record s { written = x }; sources = sources; marks = marks }) table goal best None capacity) (sym w) kept))
+    subst (λ x. KeepsEngine (record { search = record s { trail = x; stored = stored; written = l.written; clause_lines = l.clause_lines }; sources = sources; marks = marks }) table goal None l.reserved) (sym t)
+    (subst (λ x. KeepsEngine (record { search = record s { stored = x; written = l.written; clause_lines = l.clause_lines }; sources = sources; marks = marks }) table goal None l.reserved) (sym st)
+    (subst (λ x. KeepsEngine (record { search = record s { written = x; clause_lines = l.clause_lines }; sources = sources; marks = marks }) table goal None l.reserved) (sym w)
+    (subst (λ x. KeepsEngine (record { search = record s { clause_lines = x }; sources = sources; marks = marks }) table goal None l.reserved) (sym n) kept)))

@@ -9,7 +9,8 @@ use Rattle.hw_model.specs.Replay.{QuietClause}
 use Rattle.hw_model.specs.Rooms.{RoomModel}
 use Rattle.hw_store.specs.declared.store.Held.TheVariants as helds
 use Rattle.hw_store.specs.declared.store.Stored.{Stored}
-use Rattle.hw_store.specs.Stores.{Finds, IsNotHeld, IsActive}
+use Rattle.hw_lits.specs.Active.{IsActive}
+use Rattle.hw_store.specs.Stores.{Finds, IsNotHeld}
 use Rattle.hw_story.specs.declared.event.Why.{Why}
 use Rattle.hw_story.specs.declared.event.Why.TheVariants as whys
 use Rattle.hw_story.specs.Trails.{clause_of}

@@ -29,7 +29,7 @@ use Rattle.hw_search.specs.Speaking.{SpeakersModel, TellsSpeakers}
 use Rattle.hw_search.specs.Naming.{taught, Taught}
 use Rattle.hw_search.specs.GoingBack.{due, NextLevel}
 use Rattle.hw_search.proofs.Levels.{levels_back, quiet_gone, at_get}
-use Rattle.hw_search.proofs.Taught.{Teaches}
+use Rattle.hw_search.specs.Turning.{Teaches}
 
 -- ---- what was learnt
 
@@ -79,9 +79,9 @@ numbers_below mid why lemma back places ws lines t n =
 pub goal_marked : (goal : ℕ) (sources : List Source) (new old : List Bool) → length old ≡ length sources → slice_get sources goal ≡ Some Goal → ((other : ℕ) → other < length old → is_marked new other ≡ (other == goal)) → is_marked new goal ≡ true
 goal_marked goal sources new old long at h = h goal (omega (arith, (at_get sources goal Goal at).0, long)) ∙ eq-eqb goal goal refl
 
-pub kept_back : (e : EngineModel) (table : SpeakersModel) (goal : ℕ) (best : List ℕ) (worth : Option ℕ) (capacity capacity' level : ℕ) (u : SearchModel) (marks : List Bool) → KeepsEngine e table goal best worth capacity → IsSearch u → u.problem ≡ e.search.problem → u.best ≡ e.search.best → u.trail ≡ back_to e.search.trail level → level < e.search.trail.level → length marks ≡ length e.marks → is_marked marks goal ≡ true → capacity' ≡ capacity
-    → KeepsEngine (record { search = u; sources = e.sources; marks = marks }) table goal best worth capacity'
-kept_back e table goal best worth capacity capacity' level u marks k is p b t lt m marked c =
+pub kept_back : (e : EngineModel) (table : SpeakersModel) (goal : ℕ) (worth : Option ℕ) (capacity capacity' level : ℕ) (u : SearchModel) (marks : List Bool) → KeepsEngine e table goal worth capacity → IsSearch u → u.problem ≡ e.search.problem → u.best ≡ e.search.best → u.trail ≡ back_to e.search.trail level → level < e.search.trail.level → length marks ≡ length e.marks → is_marked marks goal ≡ true → capacity' ≡ capacity
+    → KeepsEngine (record { search = u; sources = e.sources; marks = marks }) table goal worth capacity'
+kept_back e table goal worth capacity capacity' level u marks k is p b t lt m marked c =
     let s = e.search in
     let worth_same : best_cargo s ≡ best_cargo u = sym (ap (λ f. option_and_then (cargo f) u.best) p ∙ ap (λ o. option_and_then (cargo s.problem) o) b) in
     let quiet : QuietUnmarked s.problem (best_cargo s) (room_of (back_to s.trail level)) e.sources marks = quiet_gone s.problem (best_cargo s) s.trail level e.sources marks goal k.once.once k.of_problem k.goal_at marked lt k.quiet_below in
@@ -95,9 +95,8 @@ kept_back e table goal best worth capacity capacity' level u marks k is p b t lt
       quiet_below = subst (λ f. QuietLevels f (best_cargo u) u.trail) (sym p) (subst (λ w. QuietLevels s.problem w u.trail) worth_same (subst (QuietLevels s.problem (best_cargo s)) (sym t) below));
       speakers = subst (λ f. TellsSpeakers f e.sources table) (sym p) k.speakers;
       goal_at = k.goal_at;
-      best_ready = k.best_ready ∙ ap (λ (f : Problem). f.ships) (sym p);
       worth_is = k.worth_is ∙ worth_same;
-      reserved = omega (arith, subst (λ (f : Problem). most_events f.ships f.slots ≤ capacity) (sym p) k.reserved, c);
+      room = omega (arith, subst (λ (f : Problem). most_events f.ships f.slots ≤ capacity) (sym p) k.room, c);
     }
 
 pub no_lits : (xs : List Lit) → length xs ≡ 0 → xs ≡ []

@@ -181,6 +181,10 @@ step_stops s f t ws now n lines old hints qs i d stop begun log new lt m a b =
 
 -- ---- the conflict
 
+pub conflict_lines : (s : SearchModel) (f : Problem) (hints : List ℕ) (why : Why) → s.problem ≡ f → (cite_conflict (naming s hints) why).lines ≡ lines_of f why
+conflict_lines s f hints (whys.Lemma number clause) e = refl
+conflict_lines s f hints (whys.Source source clause) e = ap (λ p. source_line p source clause ∷ []) e
+
 pub conflict_from : (c : Cited) (why : Why) → cite_conflict c why ≡ record { search = (cite_conflict (naming c.search c.hints) why).search; lines = c.lines ++ (cite_conflict (naming c.search c.hints) why).lines; hints = (cite_conflict (naming c.search c.hints) why).hints }
 conflict_from c (whys.Lemma number clause) = ap (λ xs. record c { lines = xs; hints = c.hints ++ number ∷ [] }) (sym (append-nil c.lines))
 conflict_from c (whys.Source source clause) = refl
@@ -239,7 +243,7 @@ numbers_from s f t ws now n lines none hints qs e m = subst (λ xs. Numbers (fol
 pub taken_from : (s : SearchModel) (f : Problem) (t : TrailModel) (ws : List (Option ℕ)) (n : ℕ) (none qs : List ℕ) (old new : LogModel) → none ≡ [] → TakesAll (fold cite (naming (search_on s f t ws n) none) qs).lines old new → TakesAll (cited (search_on s f t ws n) qs).lines old new
 taken_from s f t ws n none qs old new e m = subst (λ xs. TakesAll (fold cite (naming (search_on s f t ws n) xs) qs).lines old new) e m
 
--- ---- the lemma behind them
+-- ---- the lemma after them
 
 pub lemma_taken : (c : Cited) (lemma : List Lit) (hints : List ℕ) (old mid new : LogModel) (done : Unit {0}) → hints ≡ c.hints → TakesAll c.lines old mid → TakesLine (lines.Lemma lemma hints) mid new (Ok done) → TakesAll (lemma_lines c lemma) old new
 lemma_taken c lemma hints old mid new done e a t = all_on c.lines (lines.Lemma lemma c.hints ∷ []) old mid new a (subst (λ xs. TakesAll (lines.Lemma lemma xs ∷ []) mid new) e (one_taken (lines.Lemma lemma hints) mid new done t))

@@ -19,15 +19,15 @@ clear_joined marks from upto a b place low lt = elim (cases_lt place from) [
 ]
 
 -- where no source is marked, each is quiet
-pub sources_quiet : (e : EngineModel) (table : SpeakersModel) (goal : ℕ) (best : List ℕ) (worth : _) (capacity : ℕ) → KeepsEngine e table goal best worth capacity → ClearWithin e.marks 0 (length e.marks) → SourcesQuiet e.search
-sources_quiet e table goal best worth capacity k clear source of =
+pub sources_quiet : (e : EngineModel) (table : SpeakersModel) (goal : ℕ) (worth : _) (capacity : ℕ) → KeepsEngine e table goal worth capacity → ClearWithin e.marks 0 (length e.marks) → SourcesQuiet e.search
+sources_quiet e table goal worth capacity k clear source of =
     let there : Contains e.sources source = k.once.each source of in
     let at : slice_get e.sources there.0 ≡ Some source = slice_get-get_or e.sources there.0 source there.1 ∙ ap (λ x. Some x) there.2 in
     k.quiet there.0 source at (clear there.0 (omega arith) (omega (arith, there.1, k.each_mark)))
 
 -- the same marks, as they were given back
-pub kept_same : (e : EngineModel) (table : SpeakersModel) (goal : ℕ) (best : List ℕ) (worth : _) (capacity : ℕ) (marks : List Bool) → KeepsEngine e table goal best worth capacity → marks ≡ e.marks → KeepsEngine (record e { marks = marks }) table goal best worth capacity
-kept_same e table goal best worth capacity marks k same = subst (λ xs. KeepsEngine (record e { marks = xs }) table goal best worth capacity) (sym same) k
+pub kept_same : (e : EngineModel) (table : SpeakersModel) (goal : ℕ) (worth : _) (capacity : ℕ) (marks : List Bool) → KeepsEngine e table goal worth capacity → marks ≡ e.marks → KeepsEngine (record e { marks = marks }) table goal worth capacity
+kept_same e table goal worth capacity marks k same = subst (λ xs. KeepsEngine (record e { marks = xs }) table goal worth capacity) (sym same) k
 
 -- an event less may come, or a source less is to be asked
 pub less_left : (s after : SearchModel) (sources given : List Source) (from place : ℕ) → Gains s after → sources ≡ given → from ≤ place

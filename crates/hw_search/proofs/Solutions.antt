@@ -28,7 +28,7 @@ use Rattle.hw_progress.proofs.Turned.{starts}
 use Rattle.hw_search.specs.Going.{WellWritten, SoFar, Going, Closing, EndsSolved}
 use Rattle.hw_search.proofs.Counting.{few_lemmas}
 
--- ---- lines behind lines
+-- ---- lines after lines
 
 valid_append : (f : Problem) (before a b : List Line) → ValidFrom f before a → ValidFrom f (before ++ a) b → ValidFrom f before (a ++ b)
 valid_append f before [] b v w = subst (λ xs. ValidFrom f xs b) (append-nil before) w
@@ -162,7 +162,7 @@ solve_writes f budget answer before now all w closed tells few spent = record {
   spent = spent;
 }
 
--- want of memory before the first turn
+-- memory ran out before the first turn
 pub no_search : (f : Problem) (budget : ℕ) (log : LogModel) → IsEmpty log → SolveMeets f budget log (answers.NoMemory None) log
 no_search f budget log empty = record {
   later = omega arith;
@@ -174,7 +174,7 @@ no_search f budget log empty = record {
   ends = where_and log (λ told. (told.lines ≡ []) × (told.behind ≡ [])) (λ told. (told.lines ≡ []) × (told.behind ≡ [])) (λ told. told.behind ≡ []) empty empty (λ told a b. a.1);
 }
 
--- want of memory in a turn
+-- memory ran out in a turn
 pub stopped : (f : Problem) (budget : ℕ) (s u : SearchModel) (old here now : LogModel) → IsSearch s → Going f budget s old here → s.lemmas < budget → TurnMeets s here turns.NoMemory u now → SolveMeets f budget old (answers.NoMemory u.best) now
 stopped f budget s u old here now is g lt t =
     let few = few_lemmas turns.NoMemory s u here now t.does in

@@ -1,4 +1,4 @@
--- A turn that stopped: for want of memory, or since the log failed.
+-- A turn that stopped because memory ran out or the log failed.
 use Rattle.std.proofs.Common.{◌≡◌, ℕ, zero, suc, ◌+◌, ◌≤◌, ◌||◌, Bool, true, false, List, [], ◌∷◌, ◌++◌, Option, Some, None, IsSomeAnd, All, length, take, drop, fold, slice_get, refl, sym, ap, ◌∙◌, subst, arith, append-nil, append_assoc}
 use Rattle.std.specs.List.{list_any}
 use Rattle.std.proofs.lemmas.List.{length-map, take-append-drop}
@@ -144,7 +144,7 @@ pub record Stopped (s after : SearchModel) : Type 0 where
   pub over : after.over ≡ true
   pub best : after.best ≡ s.best
 
--- so many of the first lines were written
+-- the first `count` lines were written
 abbrev Came : LogStop → List Line → (ℕ → Type 0) → LogTold → LogTold → Type 0
 Came stop p P was now = (count : ℕ) × P count × StopsAfter stop p count was now
 

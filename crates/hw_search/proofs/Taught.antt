@@ -5,7 +5,6 @@ use Rattle.hw_model.specs.declared.lit.Lit.{Lit}
 use Rattle.hw_lines.specs.declared.line.Line.{Line}
 use Rattle.hw_story.specs.declared.event.Why.{Why}
 use Rattle.hw_story.specs.Trails.{TrailModel, clause_of, back_to}
-use Rattle.hw_story.specs.Learning.{Learns}
 use Rattle.hw_cert.specs.declared.log.LogStop.{LogStop}
 use Rattle.hw_cert.specs.declared.log.LogStop.TheVariants as stops
 use Rattle.hw_cert.specs.Logs.{LogTold, LogModel, Grows}
@@ -13,27 +12,20 @@ use Rattle.hw_store.specs.declared.store.Stored.{Stored}
 use Rattle.hw_progress.specs.declared.outcome.Settled.TheVariants.{Conflict}
 use Rattle.hw_progress.specs.declared.outcome.Turn.TheVariants as turns
 use Rattle.hw_progress.specs.Searches.{SearchModel, IsSearch, LogFits}
-use Rattle.hw_progress.specs.Settling.{IsConflict, Settles}
+use Rattle.hw_progress.specs.Settling.{Settles}
 use Rattle.hw_progress.specs.Laws.{lemma_lines}
 use Rattle.hw_progress.specs.Turns.{cited, with_lemma, to_level, gone_back, unkept, deletion, Analysed, IsAdded, TurnMeets}
 use Rattle.hw_progress.proofs.Stops.{numbers_kept, past as gone_keeps}
 use Rattle.hw_search.specs.Handing.{TakesAll, StopBehind, StopsAfter, StopsWithin}
 use Rattle.hw_search.specs.Naming.{own_number, taught, Taught}
-use Rattle.hw_search.specs.Dropped.{kept}
-use Rattle.hw_search.specs.GoingBack.{due, NextLevel, IsLeftOver, Adds}
-use Rattle.hw_search.specs.Turning.{Begins, turn_of}
+use Rattle.hw_search.specs.Dropped.{kept, IsLeftOver}
+use Rattle.hw_search.specs.GoingBack.{due, NextLevel, Adds}
+use Rattle.hw_search.specs.Turning.{Begins, Teaches, turn_of}
 use Rattle.hw_search.proofs.Handed.{grows_on, all_on, take_past, get_past, cause_on}
 use Rattle.hw_search.proofs.Teaching.{gone, past, Known, known, lemma_turned, past_meets}
 use Rattle.hw_search.proofs.Unkept.{DropsRest, drops_unkept}
 
 -- ---- what was analysed
-
-pub record Teaches (mid : SearchModel) (why : Why) (lemma : List Lit) (back : ℕ) (places : List ℕ) : Type 0 where
-  pub kept : IsSearch mid
-  pub going : mid.over ≡ false
-  pub conflict : IsConflict mid why
-  pub some : 1 ≤ length (clause_of why)
-  pub learns : Learns mid.trail (clause_of why) lemma back places
 
 pub analysed : (s mid : SearchModel) (why : Why) (lemma : List Lit) (back : ℕ) (places : List ℕ) → Settles s mid (Conflict why) → Teaches mid why lemma back places → Analysed s mid why lemma back places
 analysed s mid why lemma back places settles t = record { settles = settles; learns = t.learns }

@@ -197,7 +197,7 @@ same_gone u back = by (is_due u)
 same_taught : (s mid : SearchModel) (told : LogTold) (why : Why) (lemma : List Lit) (back : ℕ) (places : List ℕ) → Known s mid told why lemma back places → (taught mid why places).search ≡ record mid { written = (taught mid why places).search.written; clause_lines = (taught mid why places).search.clause_lines }
 same_taught s mid told why lemma back places k = k.prepared.same
 
--- the deletion that comes behind the lemma, where lines are told
+-- the deletion that comes after the lemma, where lines are told
 abbrev pub Deletes : SearchModel → SearchModel → Why → List Lit → ℕ → List ℕ → List ℕ → LogTold → Type 0
 Deletes s mid why lemma back places ids was = ids ≡ unkept (was.lines ++ lemma_lines (taught mid why places) lemma) (gone mid why lemma back places)
 
@@ -277,7 +277,7 @@ past_left s mid told why lemma back places stored is going k a literal =
 past_written : (c : Cited) (lemma : List Lit) (more : List Line) (stop : LogStop) (was now : LogTold) (count : ℕ) → count ≡ length (lemma_lines c lemma) → StopsAfter stop (lemma_lines c lemma ++ more) count was now → now.lines ≡ was.lines ++ lemma_lines c lemma
 past_written c lemma more stop was now count e t = t.lines ∙ ap (λ xs. was.lines ++ xs) (ap (λ k. take k (lemma_lines c lemma ++ more)) e ∙ take_front (lemma_lines c lemma) more (length (lemma_lines c lemma)) (omega arith) ∙ take_all (length (lemma_lines c lemma)) (lemma_lines c lemma) (omega arith))
 
--- where the lines behind the lemma begin the deletion
+-- where the lines after the lemma begin the deletion
 pub past_meets : (s mid : SearchModel) (why : Why) (lemma : List Lit) (back : ℕ) (places : List ℕ) (stored : List Stored) (more : List Line) (stop : LogStop) (old new : LogModel) → Begins s old → Analysed s mid why lemma back places → 1 ≤ length (clause_of why) → 1 ≤ length lemma
     → (taught mid why places).search ≡ record mid { written = (taught mid why places).search.written; clause_lines = (taught mid why places).search.clause_lines }
     → IsAdded (turn_of stop) s (gone mid why lemma back places) (past (gone mid why lemma back places) stored)

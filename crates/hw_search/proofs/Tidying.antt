@@ -1,4 +1,4 @@
--- What is left behind a lemma.
+-- What is left after a lemma.
 use Rattle.std.proofs.Common.{◌≡◌, ◌⊎◌, ℕ, suc, ◌≤◌, Bool, true, false, cond, List, [], ◌∷◌, ◌++◌, Option, length, filter, refl, subst, arith, inl, inr}
 use Rattle.std.specs.Prelude.{Result, Ok, Err, OnOk, OnErr, IfErr, nat_le}
 use Rattle.std.specs.Result.{is_err}
@@ -12,7 +12,8 @@ use Rattle.hw_cert.specs.Logs.{LogModel, IsWhole}
 use Rattle.hw_store.specs.declared.store.Stored.{Stored}
 use Rattle.hw_progress.specs.Turns.{deletion}
 use Rattle.hw_search.specs.Handing.{TakesAll, StopsWithin}
-use Rattle.hw_search.specs.GoingBack.{IsLeftOver, Tidies}
+use Rattle.hw_search.specs.GoingBack.{Tidies}
+use Rattle.hw_search.specs.Dropped.{IsLeftOver}
 use Rattle.hw_search.proofs.Handed.{no_memory}
 
 pub at_err : {A E : Type 0} (r : Result A E) (P : Type 0) → is_err r ≡ true → OnErr r P → P
@@ -23,7 +24,7 @@ pub at_ok : {A E : Type 0} (r : Result A E) (P : Type 0) → is_err r ≡ false 
 at_ok (Ok x) P e h = h
 at_ok (Err x) P e h = absurd cc
 
--- nothing was deleted for want of memory
+-- nothing was deleted, since memory ran out
 pub tidies_none : (A : Type 0) (stored stored' : List Stored) (one : Stored) (written : List (Option ℕ)) (keep : ℕ) (conflict : Option ℕ) (log : LogModel) → (stored' ≡ stored ++ one ∷ []) ⊎ (stored' ≡ stored) → IsWhole log → Tidies {A = A} stored one written keep conflict (Err stops.NoMemory) stored' log log
 tidies_none A stored stored' one written keep conflict log added whole = (added, ([], inl refl, no_memory [] log whole))
 

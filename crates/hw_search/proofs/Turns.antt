@@ -23,6 +23,7 @@ use Rattle.hw_progress.proofs.Keeps.{decided_search, better_search}
 use Rattle.hw_laws.proofs.Quiets.{best_quiet}
 use Rattle.hw_search.proofs.Levels.{levels_decided, levels_best, at_get, one_place}
 use Rattle.hw_search.specs.Engines.{EngineModel, KeepsEngine, QuietUnmarked}
+use Rattle.hw_search.specs.Ledgers.{LedgerModel}
 use Rattle.hw_search.specs.Marks.{is_marked, MarksPlaces}
 use Rattle.hw_search.specs.Speaking.{SpeakersModel, speakers_of}
 use Rattle.hw_search.proofs.Kept.{lit_here, room_here, few_in}
@@ -56,20 +57,20 @@ abbrev decides : SearchModel → Lit → SearchModel
 decides s lit = record s { trail = decided s.trail lit; written = s.written ++ None ∷ [] }
 
 -- there is room for the number of a decision
-pub room_to_decide : (e : EngineModel) (table : SpeakersModel) (goal : ℕ) (best : List ℕ) (worth : Option ℕ) (capacity : ℕ) (lit : Lit) → KeepsEngine e table goal best worth capacity → AllQuiet e.search → IsOpenIn e.search lit → length e.search.written < capacity
-room_to_decide e table goal best worth capacity lit k quiet o =
+pub room_to_decide : (e : EngineModel) (table : SpeakersModel) (goal : ℕ) (worth : Option ℕ) (capacity : ℕ) (lit : Lit) → KeepsEngine e table goal worth capacity → AllQuiet e.search → IsOpenIn e.search lit → length e.search.written < capacity
+room_to_decide e table goal worth capacity lit k quiet o =
     let event : Event = record { lit = lit; level = e.search.trail.level + 1; why = None } in
     let more = few_in (decides e.search lit) (decided_search e.search lit k.search quiet o.fits o.free) in
-    omega (arith, more, length-append e.search.trail.events (event ∷ []), k.search.each_event, k.reserved)
+    omega (arith, more, length-append e.search.trail.events (event ∷ []), k.search.each_event, k.room)
 
-pub kept_decided : (e : EngineModel) (table : SpeakersModel) (goal : ℕ) (best : List ℕ) (worth : Option ℕ) (capacity capacity' : ℕ) (lit : Lit) (trail : TrailModel) (stored : List Stored) (written : List (Option ℕ)) (marks : List Bool) → KeepsEngine e table goal best worth capacity → AllQuiet e.search → IsOpenIn e.search lit
-    → trail ≡ decided e.search.trail lit → stored ≡ e.search.stored → written ≡ e.search.written ++ None ∷ [] → MarksPlaces (speakers_of table lit) e.marks marks → capacity' ≡ capacity → KeepsEngine (record { search = record e.search { trail = trail; stored = stored; written = written }; sources = e.sources; marks = marks }) table goal best worth capacity'
-kept_decided e table goal best worth capacity capacity' lit trail stored written marks k quiet o t st w m c =
+pub kept_decided : (e : EngineModel) (table : SpeakersModel) (goal : ℕ) (worth : Option ℕ) (capacity : ℕ) (lit : Lit) (trail : TrailModel) (stored : List Stored) (l : LedgerModel) (marks : List Bool) → KeepsEngine e table goal worth capacity → AllQuiet e.search → IsOpenIn e.search lit
+    → trail ≡ decided e.search.trail lit → stored ≡ e.search.stored → l ≡ record { written = e.search.written ++ None ∷ []; clause_lines = e.search.clause_lines; reserved = capacity } → MarksPlaces (speakers_of table lit) e.marks marks → KeepsEngine (record { search = record e.search { trail = trail; stored = stored; written = l.written; clause_lines = l.clause_lines }; sources = e.sources; marks = marks }) table goal worth l.reserved
+kept_decided e table goal worth capacity lit trail stored l marks k quiet o t st w m =
     let s = e.search in
     let event : Event = record { lit = lit; level = s.trail.level + 1; why = None } in
     let after : SearchModel = decides s lit in
     let room : RoomModel = room_in s in
-    let kept : KeepsEngine (record { search = after; sources = e.sources; marks = marks }) table goal best worth capacity' = record {
+    let kept : KeepsEngine (record { search = after; sources = e.sources; marks = marks }) table goal worth capacity = record {
       search = decided_search s lit k.search quiet o.fits o.free;
       once = k.once;
       of_problem = k.of_problem;
@@ -78,13 +79,12 @@ kept_decided e table goal best worth capacity capacity' lit trail stored written
       quiet_below = levels_decided s.problem (best_cargo s) s.trail lit k.search.trail quiet.sources k.quiet_below;
       speakers = k.speakers;
       goal_at = k.goal_at;
-      best_ready = k.best_ready;
       worth_is = k.worth_is;
-      reserved = omega (arith, k.reserved, c);
+      room = k.room;
     } in
-    subst (λ x. KeepsEngine (record { search = record s { trail = x; stored = stored; written = written }; sources = e.sources; marks = marks }) table goal best worth capacity') (sym t)
-    (subst (λ x. KeepsEngine (record { search = record s { trail = decided s.trail lit; stored = x; written = written }; sources = e.sources; marks = marks }) table goal best worth capacity') (sym st)
-    (subst (λ x. KeepsEngine (record { search = record s { trail = decided s.trail lit; stored = s.stored; written = x }; sources = e.sources; marks = marks }) table goal best worth capacity') (sym w) kept))
+    subst (λ x. KeepsEngine (record { search = record s { trail = x; stored = stored; written = l.written; clause_lines = l.clause_lines }; sources = e.sources; marks = marks }) table goal worth l.reserved) (sym t)
+    (subst (λ x. KeepsEngine (record { search = record s { trail = decided s.trail lit; stored = x; written = l.written; clause_lines = l.clause_lines }; sources = e.sources; marks = marks }) table goal worth l.reserved) (sym st)
+    (subst (λ (x : LedgerModel). KeepsEngine (record { search = record s { trail = decided s.trail lit; stored = s.stored; written = x.written; clause_lines = x.clause_lines }; sources = e.sources; marks = marks }) table goal worth x.reserved) (sym w) kept))
 
 -- ---- a better timetable
 
@@ -104,12 +104,12 @@ marked_else (m ∷ marks) (suc k) (suc j) ne = marked_else marks k j (λ e. ne (
 not_marked : (marks : List Bool) (k j : ℕ) → k < length marks → is_marked (slice_set marks k true) j ≡ false → j ≡ k → ⊥
 not_marked marks k j lt clear e = let two : true ≡ false = sym (marked_here marks k lt) ∙ ap (is_marked (slice_set marks k true)) (sym e) ∙ clear in cc
 
-pub kept_better : (e : EngineModel) (table : SpeakersModel) (goal : ℕ) (best : List ℕ) (worth : Option ℕ) (capacity : ℕ) (row : List ℕ) (worth' : Option ℕ) (marks : List Bool) → KeepsEngine e table goal best worth capacity → Permits e.search.problem row → (c : ℕ) → cargo e.search.problem row ≡ Some c → IsTrue (beats c (best_cargo e.search)) → length row ≡ e.search.problem.ships → worth' ≡ cargo e.search.problem row → marks ≡ slice_set e.marks goal true
-    → KeepsEngine (record { search = record e.search { best = Some row }; sources = e.sources; marks = marks }) table goal row worth' capacity
-kept_better e table goal best worth capacity row worth' marks k permits c value above ships w m =
+pub kept_better : (e : EngineModel) (table : SpeakersModel) (goal : ℕ) (worth : Option ℕ) (capacity : ℕ) (row : List ℕ) (worth' : Option ℕ) (marks : List Bool) → KeepsEngine e table goal worth capacity → Permits e.search.problem row → (c : ℕ) → cargo e.search.problem row ≡ Some c → IsTrue (beats c (best_cargo e.search)) → worth' ≡ cargo e.search.problem row → marks ≡ slice_set e.marks goal true
+    → KeepsEngine (record { search = record e.search { best = Some row }; sources = e.sources; marks = marks }) table goal worth' capacity
+kept_better e table goal worth capacity row worth' marks k permits c value above w m =
     let s = e.search in
     let inside : goal < length e.marks = omega (arith, (at_get e.sources goal sources.Goal k.goal_at).0, k.each_mark) in
-    let kept : KeepsEngine (record { search = record s { best = Some row }; sources = e.sources; marks = slice_set e.marks goal true }) table goal row worth' capacity = record {
+    let kept : KeepsEngine (record { search = record s { best = Some row }; sources = e.sources; marks = slice_set e.marks goal true }) table goal worth' capacity = record {
       search = better_search s row c k.search permits value above;
       once = k.once;
       of_problem = k.of_problem;
@@ -120,8 +120,7 @@ kept_better e table goal best worth capacity row worth' marks k permits c value 
       quiet_below = levels_best s.problem (best_cargo s) (cargo s.problem row) s.trail k.quiet_below;
       speakers = k.speakers;
       goal_at = k.goal_at;
-      best_ready = ships;
       worth_is = w;
-      reserved = k.reserved;
+      room = k.room;
     } in
-    subst (λ x. KeepsEngine (record { search = record s { best = Some row }; sources = e.sources; marks = x }) table goal row worth' capacity) (sym m) kept
+    subst (λ x. KeepsEngine (record { search = record s { best = Some row }; sources = e.sources; marks = x }) table goal worth' capacity) (sym m) kept

@@ -26,8 +26,8 @@ QuietUnmarked f best room sources marks = (place : ℕ) (source : Source) → sl
 abbrev pub QuietLevels : Problem → Option ℕ → TrailModel → Type 0
 QuietLevels f best t = (level : ℕ) → level < t.level → (source : Source) → IsSourceOf f source → (source ≡ Goal → ⊥) → QuietSource f source best (room_of (back_to t level))
 
--- what the type keeps besides what the store and the propagators keep: `goal` is the place of the goal among the sources, `worth` the cargo of the best, and `best` and `written` have their memory
-pub record KeepsEngine (e : EngineModel) (table : SpeakersModel) (goal : ℕ) (best : List ℕ) (worth : Option ℕ) (capacity : ℕ) : Type 0 where
+-- what the type keeps besides what the store and the propagators keep: `goal` is the place of the goal among the sources, `worth` the cargo of the best, and there is memory for the numbers of `reserved` events
+pub record KeepsEngine (e : EngineModel) (table : SpeakersModel) (goal : ℕ) (worth : Option ℕ) (reserved : ℕ) : Type 0 where
   pub search : IsSearch e.search
   pub once : EachSourceOnce e.search.problem e.sources
   pub of_problem : All (IsSourceOf e.search.problem) e.sources
@@ -36,6 +36,5 @@ pub record KeepsEngine (e : EngineModel) (table : SpeakersModel) (goal : ℕ) (b
   pub quiet_below : QuietLevels e.search.problem (best_cargo e.search) e.search.trail
   pub speakers : TellsSpeakers e.search.problem e.sources table
   pub goal_at : slice_get e.sources goal ≡ Some Goal
-  pub best_ready : length best ≡ e.search.problem.ships
   pub worth_is : worth ≡ best_cargo e.search
-  pub reserved : most_events e.search.problem.ships e.search.problem.slots ≤ capacity
+  pub room : most_events e.search.problem.ships e.search.problem.slots ≤ reserved

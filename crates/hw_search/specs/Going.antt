@@ -52,7 +52,7 @@ rank (Some c) = c + 1
 abbrev pub most_cargo : Problem → ℕ
 most_cargo f = greatest_sum f (whole_room (shape_of f))
 
--- at most so many turns are to come: each finds a better timetable, a lemma, or an event
+-- at most this many turns are to come: each finds a better timetable, a lemma, or an event
 abbrev pub turns_left : ℕ → SearchModel → ℕ
 turns_left budget s = (most_cargo s.problem + 1 - rank (best_cargo s)) + ((budget - s.lemmas) * (most_events s.problem.ships s.problem.slots + 1) + (most_events s.problem.ships s.problem.slots - length s.trail.events))
 

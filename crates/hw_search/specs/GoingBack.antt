@@ -1,6 +1,5 @@
--- What a turn does behind its lemma.
-use Rattle.std.specs.Prelude.{◌≡◌, ◌⊎◌, ℕ, ◌+◌, ◌*◌, Bool, ◌==◌, if◌then◌else◌, List, [], ◌∷◌, ◌++◌, Option, Result, Ok, Err, Contains, take}
-use Rattle.std.specs.List.Sorted.{IsStrictlyIncreasing}
+-- What a turn does after its lemma.
+use Rattle.std.specs.Prelude.{◌≡◌, ◌⊎◌, ℕ, ◌+◌, ◌*◌, Bool, ◌==◌, if◌then◌else◌, List, [], ◌∷◌, ◌++◌, Option, Result, Ok, Err}
 use Rattle.hw_lines.specs.declared.line.Line.{Line}
 use Rattle.hw_cert.specs.declared.log.LogStop.{LogStop}
 use Rattle.hw_cert.specs.declared.log.LogStop.TheVariants.{Failed, NoMemory}
@@ -8,27 +7,22 @@ use Rattle.hw_cert.specs.Logs.{LogModel}
 use Rattle.hw_store.specs.declared.store.Stored.{Stored}
 use Rattle.hw_progress.specs.Luby.{luby}
 use Rattle.hw_progress.specs.Turns.{deletion}
-use Rattle.hw_search.specs.Dropped.{dropped, kept}
+use Rattle.hw_search.specs.Dropped.{IsLeftOver}
 use Rattle.hw_search.specs.Handing.{TakesAll, StopsWithin}
+use Rattle.hw_search.specs.Ledgers.{LedgerModel}
+use Rattle.hw_search.specs.declared.writing.WrittenLemma.{WrittenLemma}
 
--- one more lemma is the one behind which a restart comes
+-- a restart comes after one more lemma
 abbrev pub due : ℕ → ℕ → Bool
 due restarts since = since + 1 == 32 * luby (restarts + 1)
 
--- the level to go back to, and the counts behind it
+-- the level to go back to, and the counts after it
 pub record NextLevel (restarts since back : ℕ) (restarts' since' level : ℕ) : Type 0 where
   pub to : level ≡ (if due restarts since then 0 else back)
   pub restarted : restarts' ≡ (if due restarts since then restarts + 1 else restarts)
   pub counted : since' ≡ (if due restarts since then 0 else since + 1)
 
--- the numbers of dropped events and of the conflict, ascending, but for those that are kept
-pub record IsLeftOver (stored : List Stored) (written : List (Option ℕ)) (keep : ℕ) (conflict : Option ℕ) (ids : List ℕ) : Type 0 where
-  pub ascends : IsStrictlyIncreasing ids
-  pub holds : (n : ℕ) → Contains ids n → Contains (dropped written keep conflict) n
-  pub apart : (n : ℕ) → Contains ids n → Contains (kept stored (take keep written)) n → ⊥
-  pub all : (n : ℕ) → Contains (dropped written keep conflict) n → (Contains (kept stored (take keep written)) n → ⊥) → Contains ids n
-
--- the lemma was added; for want of memory it may be missing
+-- the lemma was added; if memory ran out it may be missing
 abbrev pub Adds : LogStop → List Stored → Stored → List Stored → Type 0
 Adds Failed old one new = new ≡ old ++ one ∷ []
 Adds NoMemory old one new = (new ≡ old ++ one ∷ []) ⊎ (new ≡ old)
@@ -41,3 +35,7 @@ Deleting stored written keep conflict more = (more ≡ []) ⊎ ((ids : List ℕ)
 abbrev pub Tidies : {A : Type 0} → List Stored → Stored → List (Option ℕ) → ℕ → Option ℕ → Result A LogStop → List Stored → LogModel → LogModel → Type 0
 Tidies stored one written keep conflict (Ok done) stored' old new = (stored' ≡ stored ++ one ∷ []) × ((ids : List ℕ) × IsLeftOver (stored ++ one ∷ []) written keep conflict ids × TakesAll (deletion ids) old new)
 Tidies stored one written keep conflict (Err stop) stored' old new = Adds stop stored one stored' × ((more : List Line) × Deleting (stored ++ one ∷ []) written keep conflict more × StopsWithin stop more 0 old new)
+
+-- the same of a lemma that was written: its number is that of the last clause line
+abbrev pub TidiesBy : {A : Type 0} → LedgerModel → ℕ → WrittenLemma → List Stored → Result A LogStop → List Stored → LogModel → LogModel → Type 0
+TidiesBy l keep one stored result stored' old new = Tidies stored (record { number = l.clause_lines; clause = one.lemma }) l.written keep one.conflict result stored' old new

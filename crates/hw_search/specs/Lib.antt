@@ -5,6 +5,7 @@ pub mod Askings
 pub mod Dropped
 pub mod Powers
 pub mod Handing
+pub mod Ledgers
 pub mod Naming
 pub mod Turning
 pub mod Branching

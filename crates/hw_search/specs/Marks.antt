@@ -1,11 +1,11 @@
 -- Marks of sources: one that has none is known to be quiet.
 use Rattle.std.specs.Prelude.{◌≡◌, ℕ, ◌+◌, ◌*◌, ◌<◌, ◌≤◌, Bool, true, false, List, Option, Some, None, Contains, length, slice_index_or}
 
--- the mark at a place; there is one behind the last place
+-- the mark at a place; there is one after the last place
 abbrev pub is_marked : List Bool → ℕ → Bool
 is_marked marks place = slice_index_or marks place true
 
--- the places are marked, as far as there are so many, no other one is, and no mark is taken away
+-- the places are marked, as far as there are marks for them, no other one is, and no mark is taken away
 pub record MarksPlaces (places : List ℕ) (old new : List Bool) : Type 0 where
   pub same_length : length new ≡ length old
   pub marked : (place : ℕ) → Contains places place → is_marked new place ≡ true

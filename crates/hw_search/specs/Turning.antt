@@ -1,14 +1,19 @@
 -- What a turn begins with, and how it answers where a line wasn't taken.
-use Rattle.std.specs.Prelude.{◌≡◌, ℕ, ◌<◌, ◌++◌, ◌∷◌, [], true, false, List, Option, None}
+use Rattle.std.specs.Prelude.{◌≡◌, ℕ, ◌<◌, ◌≤◌, ◌++◌, ◌∷◌, [], true, false, List, Option, None, length}
 use Rattle.hw_model.specs.declared.lit.Lit.{Lit}
-use Rattle.hw_story.specs.Trails.{decided}
+use Rattle.hw_story.specs.declared.event.Why.{Why}
+use Rattle.hw_story.specs.Learning.{Learns}
+use Rattle.hw_story.specs.Trails.{clause_of, decided}
 use Rattle.hw_cert.specs.declared.log.LogStop.{LogStop}
 use Rattle.hw_cert.specs.declared.log.LogStop.TheVariants.{Failed, NoMemory}
 use Rattle.hw_cert.specs.Logs.{LogModel, WhereTold}
 use Rattle.hw_progress.specs.declared.outcome.Turn.{Turn}
 use Rattle.hw_progress.specs.declared.outcome.Turn.TheVariants as turns
 use Rattle.hw_progress.specs.Searches.{SearchModel, IsSearch, LogFits}
+use Rattle.hw_progress.specs.declared.outcome.Settled.{Settled}
+use Rattle.hw_progress.specs.Settling.{IsConflict, Settles}
 use Rattle.hw_progress.specs.Starting.{Branches}
+use Rattle.hw_progress.specs.Turns.{TurnMeets}
 
 -- a search that isn't over and has lemmas left, and a log that fits it
 pub record Begins (s : SearchModel) (old : LogModel) : Type 0 where
@@ -16,6 +21,18 @@ pub record Begins (s : SearchModel) (old : LogModel) : Type 0 where
   pub going : s.over ≡ false
   pub few : s.lemmas < 100000
   pub fits : WhereTold old (λ told. LogFits told s)
+
+-- a turn that has settled at this answer, whatever search it began with
+abbrev pub TurnsFrom : Settled → SearchModel → LogModel → Turn → SearchModel → LogModel → Type 0
+TurnsFrom settled mid old turn after new = (s : SearchModel) → Begins s old → Settles s mid settled → TurnMeets s old turn after new
+
+-- a search that isn't over learnt this from a conflict that has literals
+pub record Teaches (mid : SearchModel) (why : Why) (lemma : List Lit) (back : ℕ) (places : List ℕ) : Type 0 where
+  pub kept : IsSearch mid
+  pub going : mid.over ≡ false
+  pub conflict : IsConflict mid why
+  pub some : 1 ≤ length (clause_of why)
+  pub learns : Learns mid.trail (clause_of why) lemma back places
 
 -- the answer where a line wasn't taken
 abbrev pub turn_of : LogStop → Turn

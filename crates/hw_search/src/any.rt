@@ -3,7 +3,7 @@ ghost use Rattle.std.specs.Prelude.{◌≡◌, ◌<◌, IfOk, Some, length, slic
 ghost use Rattle.hw_model.specs.Problem.{shape_of};
 ghost use Rattle.hw_model.specs.Refuting.{IsSourceOf};
 ghost use Rattle.hw_model.specs.Rooms.{whole_room};
-ghost use Rattle.hw_pairs.specs.Kinds.{rule_of};
+ghost use Rattle.hw_prop.specs.Ruled.{rule_of};
 ghost use Rattle.hw_search.specs.MadeFor.{IsMadeFor, IsMadeForRule};
 
 use hw_flat::{Flat, Room, Rule, Source};
@@ -41,18 +41,38 @@ macro_rules! of_each {
     };
 }
 
+// What the kinds of propagators mean.
+trait Meant {
+    ghost use Rattle.hw_search.specs.Any.{Kinds};
+
+    ghost kinds: { Kinds };
+}
+
+// Each kind in a row: its members, that what is ready serves, and that what serves has the source.
+impl Meant for AnyPropagator {
+    ghost kinds = { record {
+      shaver = record { says = ⟦<Shaver as Propagator>⟧; ready_serves = λ p f room h. h.0; serves_source = λ p f h. h.0 };
+      channel = record { says = ⟦<Channel as Propagator>⟧; ready_serves = λ p f room h. h.0; serves_source = λ p f h. h.0 };
+      separation = record { says = ⟦<Separation as Propagator>⟧; ready_serves = λ p f room h. h.0; serves_source = λ p f h. h.0 };
+      berth = record { says = ⟦<Berth as Propagator>⟧; ready_serves = λ p f room h. h.0; serves_source = λ p f h. h.0 };
+      order_triple = record { says = ⟦<OrderTriple as Propagator>⟧; ready_serves = λ p f room h. h.0; serves_source = λ p f h. h.0 };
+      tug_profile = record { says = ⟦<TugProfile as Propagator>⟧; ready_serves = λ p f room h. h.keeps; serves_source = λ p f h. h.of_tugs.0 };
+      goal_bound = record { says = ⟦<GoalBound as Propagator>⟧; ready_serves = λ p f room h. h.0; serves_source = λ p f h. tt };
+    } };
+}
+
 impl Propagator for AnyPropagator {
-    ghost use Rattle.hw_search.specs.Any.{source_by, serves_by, ready_by, ready_serves_by, serves_source_by};
+    ghost use Rattle.hw_search.specs.Any.{meaning_by};
 
-    ghost source = { source_by ⟦<Shaver as Propagator>⟧.source ⟦<Channel as Propagator>⟧.source ⟦<Separation as Propagator>⟧.source ⟦<Berth as Propagator>⟧.source ⟦<OrderTriple as Propagator>⟧.source ⟦<TugProfile as Propagator>⟧.source ⟦<GoalBound as Propagator>⟧.source };
+    ghost source = { λ one. (meaning_by ⟦<AnyPropagator as Meant>⟧.kinds one).source };
 
-    ghost serves = { serves_by ⟦<Shaver as Propagator>⟧.serves ⟦<Channel as Propagator>⟧.serves ⟦<Separation as Propagator>⟧.serves ⟦<Berth as Propagator>⟧.serves ⟦<OrderTriple as Propagator>⟧.serves ⟦<TugProfile as Propagator>⟧.serves ⟦<GoalBound as Propagator>⟧.serves };
+    ghost serves = { λ one. (meaning_by ⟦<AnyPropagator as Meant>⟧.kinds one).serves };
 
-    ghost ready = { ready_by ⟦<Shaver as Propagator>⟧.ready ⟦<Channel as Propagator>⟧.ready ⟦<Separation as Propagator>⟧.ready ⟦<Berth as Propagator>⟧.ready ⟦<OrderTriple as Propagator>⟧.ready ⟦<TugProfile as Propagator>⟧.ready ⟦<GoalBound as Propagator>⟧.ready };
+    ghost ready = { λ one. (meaning_by ⟦<AnyPropagator as Meant>⟧.kinds one).ready };
 
-    ghost ready_serves = { ready_serves_by ⟦<Shaver as Propagator>⟧.serves ⟦<Channel as Propagator>⟧.serves ⟦<Separation as Propagator>⟧.serves ⟦<Berth as Propagator>⟧.serves ⟦<OrderTriple as Propagator>⟧.serves ⟦<TugProfile as Propagator>⟧.serves ⟦<GoalBound as Propagator>⟧.serves ⟦<Shaver as Propagator>⟧.ready ⟦<Channel as Propagator>⟧.ready ⟦<Separation as Propagator>⟧.ready ⟦<Berth as Propagator>⟧.ready ⟦<OrderTriple as Propagator>⟧.ready ⟦<TugProfile as Propagator>⟧.ready ⟦<GoalBound as Propagator>⟧.ready (λ p f room h. h.0) (λ p f room h. h.0) (λ p f room h. h.0) (λ p f room h. h.0) (λ p f room h. h.0) (λ p f room h. h.keeps) (λ p f room h. h.0) };
+    ghost ready_serves = { λ one. (meaning_by ⟦<AnyPropagator as Meant>⟧.kinds one).ready_serves };
 
-    ghost serves_source = { serves_source_by ⟦<Shaver as Propagator>⟧.serves ⟦<Channel as Propagator>⟧.serves ⟦<Separation as Propagator>⟧.serves ⟦<Berth as Propagator>⟧.serves ⟦<OrderTriple as Propagator>⟧.serves ⟦<TugProfile as Propagator>⟧.serves ⟦<GoalBound as Propagator>⟧.serves ⟦<Shaver as Propagator>⟧.source ⟦<Channel as Propagator>⟧.source ⟦<Separation as Propagator>⟧.source ⟦<Berth as Propagator>⟧.source ⟦<OrderTriple as Propagator>⟧.source ⟦<TugProfile as Propagator>⟧.source ⟦<GoalBound as Propagator>⟧.source (λ p f h. h.0) (λ p f h. h.0) (λ p f h. h.0) (λ p f h. h.0) (λ p f h. h.0) (λ p f h. h.of_tugs.0) (λ p f h. tt) };
+    ghost serves_source = { λ one. (meaning_by ⟦<AnyPropagator as Meant>⟧.kinds one).serves_source };
 
     fn source(&self) -> Source {
         of_each!(self, one => one.source())
@@ -77,7 +97,7 @@ impl Propagator for AnyPropagator {
     }
 }
 
-// The one of a rule's source.
+// The propagator of a rule's source.
 fn for_rule(
     alloc: Global,
     flat: &Flat,
@@ -107,7 +127,8 @@ fn for_rule(
     }
 }
 
-/// The propagator of a source of the problem, of the kind that is made for it, ready for the whole room.
+/// The propagator of a source of the problem, of the kind that is made for such sources, ready for the
+/// whole room. An error says that memory ran out.
 pub fn for_source(alloc: Global, flat: &Flat, source: Source) -> Result<AnyPropagator, NoMemory>
     requires source_in { IsSourceOf flat.now source }
     ensures source { IfOk result (λ one. ⟦<AnyPropagator as Propagator>⟧.source one ≡ source) }

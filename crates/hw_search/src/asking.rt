@@ -16,8 +16,8 @@ use hw_store::Store;
 use hw_story::Why;
 use std::alloc::Global;
 
-// Asks a propagator in a room, whatever it was asked in before: figures that are stale are mended
-// first.
+// Asks a propagator in a room, whatever room it was asked in before. It brings stale figures up to
+// date first.
 fn ask_one<P: Propagator>(
     alloc: Global,
     one: &mut P,

@@ -3,7 +3,7 @@ ghost use Rattle.std.specs.Prelude.{◌≡◌, ◌++◌, ◌+◌, ◌<◌, ◌�
 ghost use Rattle.std.specs.List.{range_with_len};
 ghost use Rattle.hw_model.specs.Rooms.{RoomFits, IsPoint, low_of, high_of};
 ghost use Rattle.hw_progress.specs.Branches as rules;
-ghost use Rattle.hw_search.specs.Branching.{first_wide, BestAmong};
+ghost use Rattle.hw_search.specs.Branching.{first_wide, with_wide, BestAmong};
 
 use hw_flat::{Flat, Room, ShipId, Slot};
 use hw_model::Lit;
@@ -23,8 +23,8 @@ fn first_wide(room: &Room) -> Option<ShipId>
     None
 }
 
-// The best ship so far and its greatest value, or the next one, where that has several slots and
-// more.
+// The best ship so far and its greatest value, or the next ship and its own, if that has several
+// slots and a greater value.
 fn better(
     flat: &Flat,
     room: &Room,
@@ -33,7 +33,7 @@ fn better(
 ) -> Option<(ShipId, u64)>
     requires room { RoomFits flat.now room.now }
     requires ship_in { ship < flat.now.ships }
-    ensures best { (ships : List ℕ) → BestAmong flat.now room.now ships best → BestAmong flat.now room.now (ships ++ cond (nat_lt (low_of room.now ship) (high_of room.now ship)) (ship ∷ []) []) result }
+    ensures best { (ships : List ℕ) → BestAmong flat.now room.now ships best → BestAmong flat.now room.now (with_wide room.now ships ship) result }
 {
     let low = room.low(ship);
     let high = room.high(ship);
@@ -53,7 +53,7 @@ fn better(
     }
 }
 
-// The least of the ships with several slots none of which has a greater value, and this value.
+// The first ship of greatest value among those with several slots, and that value.
 fn greatest_ship(flat: &Flat, room: &Room) -> Option<(ShipId, u64)>
     requires room { RoomFits flat.now room.now }
     ensures best { BestAmong flat.now room.now (rules.wide_ships room.now) result }

@@ -3,7 +3,7 @@
 ghost use Rattle.std.specs.Prelude.{◌≡◌, ◌≤◌, ◌++◌, ◌==◌, ℕ, ⊤, Contains, IfOk, OnOk, MatchBool, filter, filter_map, length, map, not, take};
 ghost use Rattle.std.specs.List.{list_any};
 ghost use Rattle.std.specs.List.Sorted.{IsStrictlyIncreasing};
-ghost use Rattle.hw_search.specs.Dropped.{dropped, kept, number_list};
+ghost use Rattle.hw_search.specs.Dropped.{dropped, is_kept, unkept_of, number_list, IsLeftOver};
 
 use hw_model::NoMemory;
 use hw_store::Store;
@@ -89,7 +89,7 @@ fn is_among(numbers: &[u32], number: u32) -> bool
 // Whether a number is kept; `met` is false where it is no earlier one.
 fn is_kept<S: Store>(store: &S, earlier: &[u32], met: bool, number: u32) -> bool
     requires apart { MatchBool met ⊤ (Contains earlier.now number → ⊥) }
-    ensures value { result ≡ list_any (λ one. one == number) (map (λ one. one.number) (S.clauses store.now) ++ earlier.now) }
+    ensures value { result ≡ is_kept (S.clauses store.now) earlier.now number }
 {
     if is_stored(store, number) {
         return true;
@@ -105,7 +105,7 @@ fn unkept_of<S: Store>(
     store: &S,
 ) -> Result<Vec<u32>, NoMemory>
     requires ascends { IsStrictlyIncreasing numbers.now }
-    ensures value { IfOk result (λ ids. ids.items ≡ filter (λ number. not (list_any (λ one. one == number) (map (λ one. one.number) (S.clauses store.now) ++ earlier.now))) numbers.now) }
+    ensures value { IfOk result (λ ids. ids.items ≡ unkept_of (S.clauses store.now) earlier.now numbers.now) }
 {
     let met = meet(numbers, earlier);
     let mut ids = Vec::new(alloc);
@@ -118,8 +118,8 @@ fn unkept_of<S: Store>(
 }
 
 /// The numbers of the lines that were written for reasons of events from a place on, and the
-/// conflict's own, each once, ascending, but for those of stored lemmas and of reasons before the
-/// place.
+/// conflict's own, each once, ascending. Those of stored lemmas and of reasons before the place are
+/// left out.
 ///
 /// It goes through the written numbers once, and asks the store for each that is dropped.
 pub fn dropped_numbers<S: Store>(
@@ -130,10 +130,7 @@ pub fn dropped_numbers<S: Store>(
     store: &S,
 ) -> Result<Vec<u32>, NoMemory>
     requires upto { keep ≤ length written.now }
-    ensures ascends { IfOk result (λ ids. IsStrictlyIncreasing ids.items) }
-    ensures holds { IfOk result (λ ids. (number : ℕ) → Contains ids.items number → Contains (dropped written.now keep conflict) number) }
-    ensures unkept { IfOk result (λ ids. (number : ℕ) → Contains ids.items number → Contains (kept (S.clauses store.now) (take keep written.now)) number → ⊥) }
-    ensures all { IfOk result (λ ids. (number : ℕ) → Contains (dropped written.now keep conflict) number → (Contains (kept (S.clauses store.now) (take keep written.now)) number → ⊥) → Contains ids.items number) }
+    ensures left { IfOk result (λ ids. IsLeftOver (S.clauses store.now) written.now keep conflict ids.items) }
 {
     let numbers = ascending(alloc, written, keep, conflict)?;
     let earlier = numbers_of(alloc, &written[..keep])?;

@@ -8,6 +8,7 @@ ghost use Rattle.hw_model.specs.Rooms.{whole_room};
 ghost use Rattle.hw_progress.specs.Searches.{new_search, room_in, IsSearch};
 ghost use Rattle.hw_progress.specs.Starting.{EachSourceOnce};
 
+use crate::ledger::Ledger;
 use crate::marking::Marks;
 use crate::speakers::Speakers;
 use hw_flat::{Flat, Room, Source, Timetable};
@@ -19,11 +20,18 @@ use hw_trail::Trail;
 use std::alloc::Global;
 use std::marker::Model;
 
+/// The best permitted timetable found so far, with its cargo.
+#[derive(Drop)]
+pub struct Best {
+    pub table: Option<Timetable>,
+    /// Its cargo, in tenths of a tonne.
+    pub worth: Option<u64>,
+}
+
 /// What a search works on. Besides the search, the calls of this crate see its sources in order,
 /// and which of them are marked: one without a mark is known to be quiet in the room.
 ///
-/// It keeps the allocator by which it grows. The best timetable has its memory from the start;
-/// before one is found its slots mean nothing.
+/// It keeps the allocator by which it grows.
 #[derive(Drop)]
 pub struct Engine<'f, S: Store + Drop, P: Propagator + Drop> {
     pub alloc: Global,
@@ -39,16 +47,9 @@ pub struct Engine<'f, S: Store + Drop, P: Propagator + Drop> {
     pub speakers: Speakers,
     /// The place of the goal among the sources.
     pub goal: usize,
-    /// Beside each event of the trail the number of the line that was written for its reason, if
-    /// one was.
-    pub written: Vec<Option<u32>>,
-    /// Whether a permitted timetable was found.
-    pub found: bool,
-    pub best: Timetable,
-    /// The cargo of the best timetable found, in tenths of a tonne.
-    pub worth: Option<u64>,
-    /// How many clause lines were written.
-    pub clause_lines: u32,
+    /// The numbers of the clause lines that were written.
+    pub ledger: Ledger,
+    pub best: Best,
     /// How many lemmas were written.
     pub lemmas: u32,
     /// How many restarts there were.
@@ -60,17 +61,17 @@ pub struct Engine<'f, S: Store + Drop, P: Propagator + Drop> {
 }
 
 impl<'f, S: Store + Drop, P: Propagator + Drop> Model for Engine<'f, S, P> {
-    ghost use Rattle.std.specs.Prelude.{◌≡◌, Some, None, if◌then◌else◌, All, map, vec_capacity};
+    ghost use Rattle.std.specs.Prelude.{◌≡◌, All, map};
     ghost use Rattle.hw_progress.specs.Searches.{SearchModel};
     ghost use Rattle.hw_search.specs.Engines.{EngineModel, KeepsEngine};
     ghost use Rattle.hw_story.specs.Trails.{room_of};
 
     ghost Value = { EngineModel };
 
-    ghost view = { λ s. record { search = record { problem = s.flat.now; branching = s.branching; trail = s.trail; stored = S.clauses s.store; written = s.written.items; best = if s.found then Some s.best else None; clause_lines = s.clause_lines; lemmas = s.lemmas; restarts = s.restarts; since = s.since; over = s.over }; sources = map P.source s.props.items; marks = s.marks } };
+    ghost view = { λ s. record { search = record { problem = s.flat.now; branching = s.branching; trail = s.trail; stored = S.clauses s.store; written = s.ledger.written; best = s.best.table; clause_lines = s.ledger.clause_lines; lemmas = s.lemmas; restarts = s.restarts; since = s.since; over = s.over }; sources = map P.source s.props.items; marks = s.marks } };
 
     ghost invariant = { λ s.
-        KeepsEngine (record { search = record { problem = s.flat.now; branching = s.branching; trail = s.trail; stored = S.clauses s.store; written = s.written.items; best = if s.found then Some s.best else None; clause_lines = s.clause_lines; lemmas = s.lemmas; restarts = s.restarts; since = s.since; over = s.over }; sources = map P.source s.props.items; marks = s.marks }) s.speakers s.goal s.best s.worth (vec_capacity s.written)
+        KeepsEngine (record { search = record { problem = s.flat.now; branching = s.branching; trail = s.trail; stored = S.clauses s.store; written = s.ledger.written; best = s.best.table; clause_lines = s.ledger.clause_lines; lemmas = s.lemmas; restarts = s.restarts; since = s.since; over = s.over }; sources = map P.source s.props.items; marks = s.marks }) s.speakers s.goal s.best.worth s.ledger.reserved
         × (S.ships s.store ≡ s.flat.now.ships)
         × S.ready s.store (room_of s.trail)
         × All (λ one. P.serves one s.flat.now) s.props.items };
@@ -100,8 +101,8 @@ fn goal_of(sources: &[Source]) -> usize
 }
 
 impl<'f, S: Store + Drop, P: Propagator + Drop> Engine<'f, S, P> {
-    /// A search that has done nothing, with every source marked. The best timetable, the numbers
-    /// of lines and the marks have their memory from then on.
+    /// A search that has done nothing, with every source marked. The memory for the numbers of lines
+    /// and for the marks is taken here.
     pub fn new(
         alloc: Global,
         flat: &'f Flat,
@@ -120,9 +121,7 @@ impl<'f, S: Store + Drop, P: Propagator + Drop> Engine<'f, S, P> {
         let shape = flat.shape();
         let narrowings = shape.ships * (shape.slots - 1);
         let most = narrowings + shape.ships * (shape.ships - 1) / 2;
-        let written = Vec::with_capacity(alloc, most as usize)?;
-        let slots = vec![in alloc; 0; shape.ships as usize]?;
-        let best = Timetable::from_slots(alloc, &slots)?;
+        let ledger = Ledger::new(alloc, most as usize)?;
         let sources = sources_of(alloc, &props)?;
         let goal = goal_of(&sources);
         let speakers = Speakers::new(alloc, flat, &sources)?;
@@ -137,11 +136,11 @@ impl<'f, S: Store + Drop, P: Propagator + Drop> Engine<'f, S, P> {
             marks,
             speakers,
             goal,
-            written,
-            found: false,
-            best,
-            worth: None,
-            clause_lines: 0,
+            ledger,
+            best: Best {
+                table: None,
+                worth: None,
+            },
             lemmas: 0,
             restarts: 0,
             since: 0,
@@ -153,7 +152,7 @@ impl<'f, S: Store + Drop, P: Propagator + Drop> Engine<'f, S, P> {
     pub fn best(&self) -> Option<&Timetable>
         ensures value { option_copied result ≡ self.now.search.best }
     {
-        if self.found { Some(&self.best) } else { None }
+        self.best.table.as_ref()
     }
 
     /// The best timetable so far, out of the search.
@@ -161,7 +160,7 @@ impl<'f, S: Store + Drop, P: Propagator + Drop> Engine<'f, S, P> {
         ensures value { result ≡ self.entry.search.best }
         ensures search { IsSearch self.entry.search }
     {
-        if self.found { Some(self.best) } else { None }
+        self.best.table
     }
 
     /// The number of lemmas.

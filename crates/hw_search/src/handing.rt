@@ -72,9 +72,7 @@ fn hand_source<L: Log>(
     ensures stops { IfErr result (λ stop. StopsWithin stop (source_line flat.now source clause.now ∷ []) 0 (L.state log.old) (L.state log.new)) }
     ensures same_reference { L.anchor log.new ≡ L.anchor log.old }
 {
-    let Ok(copied) = clause.copy(alloc) else {
-        return Err(LogStop::NoMemory);
-    };
+    let copied = clause.copy(alloc)?;
     let line = source_line(flat, source, copied);
     log.line(&line)
 }

@@ -10,6 +10,7 @@ mod dropped;
 mod engine;
 mod going_back;
 mod handing;
+mod ledger;
 mod marking;
 mod naming;
 mod restarts;

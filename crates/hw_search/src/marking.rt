@@ -29,7 +29,7 @@ impl Model for Marks {
     ghost invariant = { λ m. KeepsBlocks m.marks.items m.blocks.items };
 }
 
-// Takes all marks away. It costs a step for each.
+// Clears all marks. It costs a step for each.
 fn clear_each(marks: &mut [bool])
     ensures same_length { length marks.new ≡ length marks.old }
     ensures clear { AllClear marks.new }
@@ -54,7 +54,7 @@ fn next_within(marks: &[bool], from: usize, upto: usize) -> Option<usize>
 }
 
 impl Marks {
-    /// So many marks, all set. They have their memory from then on.
+    /// `count` marks, all set. Their memory is taken here.
     pub fn all(alloc: Global, count: usize) -> Result<Marks, NoMemory>
         ensures value { IfOk result (λ marks. marks ≡ replicate count true) }
     {
@@ -79,7 +79,7 @@ impl Marks {
         self.blocks[place / 64] = true;
     }
 
-    /// Takes the mark of the source at a place away. One step: its block stays set.
+    /// Clears the mark of the source at a place. One step: its block stays set.
     pub fn clear(&mut self, place: usize)
         requires inside { place < length self.old }
         ensures value { self.new ≡ slice_set self.old place false }
@@ -99,7 +99,7 @@ impl Marks {
         }
     }
 
-    // Takes all marks away. It goes over all marks and all blocks.
+    // Clears all marks. It goes over all marks and all blocks.
     fn clear_all(&mut self)
         ensures same_length { length self.new ≡ length self.old }
         ensures clear { AllClear self.new }

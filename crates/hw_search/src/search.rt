@@ -38,8 +38,8 @@ impl<'f, S: Store + Drop, P: Propagator + Drop> Model for Search<'f, S, P> {
 }
 
 impl<'f, S: Store + Drop, P: Propagator + Drop> Search<'f, S, P> {
-    /// A search that has done nothing. It keeps the allocator by which it grows; all that it will
-    /// need but copies of clauses has its memory from then on.
+    /// A search that has done nothing. It keeps the allocator by which it grows. All the memory that it
+    /// will need is taken here, but for timetables and copies of clauses.
     pub fn new(
         alloc: Global,
         flat: &'f Flat,
@@ -60,7 +60,7 @@ impl<'f, S: Store + Drop, P: Propagator + Drop> Search<'f, S, P> {
 
     /// Asks the store and the marked sources until all are quiet or a clause has no literal left.
     ///
-    /// After want of memory literals that were Free may have been implied; the lemmas, the best and
+    /// If memory runs out, literals that were Free may have been implied; the lemmas, the best and
     /// the level are as before.
     pub fn settle(&mut self) -> Result<Settled, NoMemory>
         requires going { self.old.over ≡ false }

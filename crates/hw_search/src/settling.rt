@@ -8,7 +8,7 @@ ghost use Rattle.hw_model.specs.Lits.{lit_fits, IsClause};
 ghost use Rattle.hw_model.specs.Narrowing.{truth};
 ghost use Rattle.hw_model.specs.Problem.{shape_of};
 ghost use Rattle.hw_model.specs.Replay.{narrowing};
-ghost use Rattle.hw_prop.specs.Finds.{IsActive};
+ghost use Rattle.hw_lits.specs.Active.{IsActive};
 ghost use Rattle.hw_story.specs.Trails.{trail_shape, clause_of};
 ghost use Rattle.hw_progress.specs.Searches.{room_in, IsReason, IsSearch};
 ghost use Rattle.hw_progress.specs.Settling.{SettleMeets, with_events};
@@ -46,7 +46,7 @@ impl<'f, S: Store + Drop, P: Propagator + Drop> Engine<'f, S, P> {
     {
         self.store.changed(self.trail.room(), lit);
         self.trail.imply(lit, why);
-        self.written.push_reserved(None);
+        self.ledger.add_event();
         self.marks.mark(self.speakers.of(lit));
     }
 
@@ -108,7 +108,7 @@ impl<'f, S: Store + Drop, P: Propagator + Drop> Engine<'f, S, P> {
             &mut self.props,
             place,
             self.flat,
-            self.worth,
+            self.best.worth,
             self.trail.room(),
         )?;
         match found {

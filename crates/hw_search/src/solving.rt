@@ -100,7 +100,7 @@ fn run<'f, L: Log>(
 /// Finds a best timetable, or shows that none is permitted, or finds as many lemmas as the budget
 /// says. All lines go to the log, whose lines alone prove the answer.
 ///
-/// For want of memory, also before the first turn, it answers `NoMemory` with the best timetable
+/// If memory runs out, even before the first turn, it answers `NoMemory` with the best timetable
 /// so far; then the lines that were written stay.
 pub fn solve<L: Log>(alloc: Global, flat: &Flat, budget: u32, log: &mut L) -> Solved
     requires least { 1 ≤ budget }

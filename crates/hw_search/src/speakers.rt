@@ -11,57 +11,9 @@ ghost use Rattle.hw_search.specs.Speaking.{TellsSpeakers, Adds, speakers_of, spe
 
 use hw_flat::{Flat, Job, Rule, ShipId, Source};
 use hw_model::{Lit, NoMemory};
+use hw_store::{Places, no_places};
 use std::alloc::Global;
 use std::marker::Model;
-
-/// Places in a list of sources, seen as their list.
-#[derive(Debug, Drop)]
-pub struct Places {
-    items: Vec<u32>,
-}
-
-impl Model for Places {
-    ghost use Rattle.std.specs.Prelude.{List, ℕ};
-
-    ghost Value = { List ℕ };
-
-    ghost view = { λ s. s.items.items };
-}
-
-impl Places {
-    fn new(alloc: Global) -> Places
-        ensures none { result ≡ [] }
-    {
-        Places {
-            items: Vec::new(alloc),
-        }
-    }
-
-    fn push(&mut self, place: u32) -> Result<(), NoMemory>
-        ensures push { OnOk result (self.new ≡ self.old ++ place ∷ []) }
-    {
-        self.items.push(place)?;
-        Ok(())
-    }
-
-    fn as_slice(&self) -> &[u32]
-        ensures value { result.now ≡ self.now }
-    {
-        &self.items
-    }
-}
-
-// So many empty lists.
-fn no_places(alloc: Global, lists: u32) -> Result<Vec<Places>, NoMemory>
-    ensures length { IfOk result (λ all. length all.items ≡ lists) }
-    ensures empty { IfOk result (λ all. All (λ places. places ≡ []) all.items) }
-{
-    let mut all = Vec::with_capacity(alloc, lists as usize)?;
-    for _count in 0..lists {
-        all.push(Places::new(alloc))?;
-    }
-    Ok(all)
-}
 
 /// Which sources speak of a ship or of a pair: their places, in lists that are made once.
 ///

@@ -12,14 +12,14 @@ ghost use Rattle.hw_progress.specs.Starting.{Branches};
 ghost use Rattle.hw_progress.specs.Turns.{TurnMeets};
 ghost use Rattle.hw_progress.specs.Offers.{IsBetter, OfferMeets};
 ghost use Rattle.hw_search.specs.Faults.{TurnKeepsFaults};
-ghost use Rattle.hw_search.specs.Turning.{Begins, Decides, turn_of};
+ghost use Rattle.hw_search.specs.Turning.{Decides, Teaches, TurnsFrom, turn_of};
 
 use crate::asking::clause_of;
 use crate::branching::branch;
-use crate::engine::Engine;
-use crate::going_back::{go_back, next_level};
+use crate::engine::{Best, Engine};
+use crate::going_back::next_level;
 use crate::handing::hand_why;
-use crate::writing::{Written, hand_copy, hand_table, write_lemma};
+use crate::writing::{hand_copy, hand_table};
 use hw_cert::{Log, LogStop};
 use hw_flat::Timetable;
 use hw_learn::{Learnt, learn};
@@ -74,19 +74,21 @@ impl<'f, S: Store + Drop, P: Propagator + Drop> Engine<'f, S, P> {
         let lit = self.branch();
         self.store.changed(self.trail.room(), lit);
         self.trail.decide(lit);
-        self.written.push_reserved(None);
+        self.ledger.add_event();
         self.marks.mark(self.speakers.of(lit));
     }
 
     // Takes a better timetable, and marks the goal.
     fn take_best(&mut self, table: Timetable)
         requires permitted { Permits self.old.search.problem table }
-        requires better { (c : ℕ) × (cargo self.old.search.problem table ≡ Some c) × IsTrue (beats c (best_cargo self.old.search)) }
+        requires better { IsBetter self.old.search table }
         ensures search { self.new.search ≡ record self.old.search { best = Some table } }
     {
-        self.worth = cargo(self.flat, &table);
-        self.best = table;
-        self.found = true;
+        let worth = cargo(self.flat, &table);
+        self.best = Best {
+            table: Some(table),
+            worth,
+        };
         self.marks.set(self.goal);
     }
 
@@ -95,7 +97,7 @@ impl<'f, S: Store + Drop, P: Propagator + Drop> Engine<'f, S, P> {
         requires quiet { AllQuiet self.old.search }
         requires point { IsPoint (room_in self.old.search) }
         requires whole { IsWhole (L.state log.old) }
-        ensures turns { (s : SearchModel) → Begins s (L.state log.old) → Settles s self.old.search Quiet → TurnMeets s (L.state log.old) result self.new.search (L.state log.new) }
+        ensures turns { TurnsFrom Quiet self.old.search (L.state log.old) result self.new.search (L.state log.new) }
         ensures kept { TurnKeepsFaults result (L.state log.old) (L.state log.new) }
         ensures same_reference { L.anchor log.new ≡ L.anchor log.old }
     {
@@ -133,7 +135,7 @@ impl<'f, S: Store + Drop, P: Propagator + Drop> Engine<'f, S, P> {
         requires conflict { IsConflict self.old.search why.now }
         requires none { clause_of why.now ≡ [] }
         requires whole { IsWhole (L.state log.old) }
-        ensures turns { (s : SearchModel) → Begins s (L.state log.old) → Settles s self.old.search (Conflict why.now) → TurnMeets s (L.state log.old) result self.new.search (L.state log.new) }
+        ensures turns { TurnsFrom (Conflict why.now) self.old.search (L.state log.old) result self.new.search (L.state log.new) }
         ensures kept { TurnKeepsFaults result (L.state log.old) (L.state log.new) }
         ensures same_reference { L.anchor log.new ≡ L.anchor log.old }
     {
@@ -146,56 +148,31 @@ impl<'f, S: Store + Drop, P: Propagator + Drop> Engine<'f, S, P> {
         }
     }
 
-    // Learns from a conflict that has literals, and goes back.
-    fn teach<L: Log>(&mut self, why: &Why, log: &mut L) -> Turn
-        requires conflict { IsConflict self.old.search why.now }
-        requires some { 1 ≤ length (clause_of why.now) }
-        requires going { self.old.search.over ≡ false }
+    // Writes the lemma that a conflict taught, and goes back. One without literals is the last line.
+    fn write_learnt<L: Log>(&mut self, why: &Why, learnt: Learnt, log: &mut L) -> Turn
+        requires teaches { Teaches self.old.search why.now learnt.lemma learnt.back learnt.places.items }
         requires few { self.old.search.lemmas < 100000 }
         requires whole { IsWhole (L.state log.old) }
-        ensures turns { (s : SearchModel) → Begins s (L.state log.old) → Settles s self.old.search (Conflict why.now) → TurnMeets s (L.state log.old) result self.new.search (L.state log.new) }
+        ensures turns { TurnsFrom (Conflict why.now) self.old.search (L.state log.old) result self.new.search (L.state log.new) }
         ensures kept { TurnKeepsFaults result (L.state log.old) (L.state log.new) }
         ensures same_reference { L.anchor log.new ≡ L.anchor log.old }
     {
-        let Ok(learnt) = learn(self.alloc, &self.trail, clause_of(why)) else {
-            return self.halt(LogStop::NoMemory);
-        };
-        let Learnt {
-            lemma,
-            back,
-            places,
-        } = learnt;
-        let written = write_lemma(
-            self.alloc,
-            self.flat,
-            &self.trail,
-            why,
-            lemma,
-            &places,
-            &mut self.written,
-            &mut self.clause_lines,
-            log,
-        );
-        match written {
-            Ok(Written { lemma, conflict }) => {
+        let back = learnt.back;
+        let wrote = self
+            .ledger
+            .write_lemma(self.flat, &self.trail, why, learnt, log);
+        match wrote {
+            Ok(written) => {
                 self.lemmas += 1;
-                if lemma.len() == 0 {
+                if written.lemma.len() == 0 {
                     self.over = true;
                     return Turn::Ended;
                 }
                 self.marks.mark_only(self.goal);
                 let level = next_level(&mut self.restarts, &mut self.since, back);
-                let gone = go_back(
-                    self.alloc,
-                    &mut self.trail,
-                    &mut self.written,
-                    &mut self.store,
-                    level,
-                    self.clause_lines,
-                    lemma,
-                    conflict,
-                    log,
-                );
+                let gone = self
+                    .ledger
+                    .go_back(&mut self.trail, &mut self.store, level, written, log);
                 match gone {
                     Ok(()) => Turn::Lemma,
                     Err(stop) => {
@@ -208,6 +185,23 @@ impl<'f, S: Store + Drop, P: Propagator + Drop> Engine<'f, S, P> {
                 self.over = true;
                 turn_of(stop)
             }
+        }
+    }
+
+    // Learns from a conflict that has literals, and goes back.
+    fn teach<L: Log>(&mut self, why: &Why, log: &mut L) -> Turn
+        requires conflict { IsConflict self.old.search why.now }
+        requires some { 1 ≤ length (clause_of why.now) }
+        requires going { self.old.search.over ≡ false }
+        requires few { self.old.search.lemmas < 100000 }
+        requires whole { IsWhole (L.state log.old) }
+        ensures turns { TurnsFrom (Conflict why.now) self.old.search (L.state log.old) result self.new.search (L.state log.new) }
+        ensures kept { TurnKeepsFaults result (L.state log.old) (L.state log.new) }
+        ensures same_reference { L.anchor log.new ≡ L.anchor log.old }
+    {
+        match learn(self.alloc, &self.trail, clause_of(why)) {
+            Ok(learnt) => self.write_learnt(why, learnt, log),
+            Err(_stop) => self.halt(LogStop::NoMemory),
         }
     }
 

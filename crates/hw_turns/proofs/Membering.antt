@@ -30,7 +30,7 @@ use Rattle.hw_turns.specs.Members.{Working, Caught, TurnsOwn, UnlessStopped}
 abbrev pub own_told : List Line → LogTold
 own_told own = record { lines = own; behind = [] }
 
--- ---- lines behind lines
+-- ---- lines after lines
 
 pub take_here : (xs ys : List Line) → take (length xs) (xs ++ ys) ≡ xs
 take_here [] [] = refl

@@ -14,7 +14,7 @@ use Rattle.hw_crew.specs.Pages.{Page}
 use Rattle.hw_crew.specs.Crews.{Shared}
 use Rattle.hw_turns.specs.declared.board.Board.{Board}
 
--- where a log is told, these are its lines, and nothing is behind them
+-- where a log is told, these are its lines, and nothing follows them
 abbrev pub IsSaid : List Line → LogModel → Type 0
 IsSaid all log = WhereTold log (λ told. (told.lines ≡ all) × (told.behind ≡ []))
 
@@ -62,3 +62,11 @@ pub record HandsFrom (f : Problem) (own : List Line) (count : ℕ) (numbers : Li
   pub crewing : Crewing f pages board all
   pub closed : is_closed all ≡ is_closed (take count own)
   pub said : IsSaid all old
+
+-- whatever pages there are, the own lines from a place on were handed on
+abbrev pub HandsOn : Problem → List Line → ℕ → List ℕ → Board → LogModel → List ℕ → Board → LogModel → Type 0
+HandsOn f own from numbers board old numbers' board' new = (pages : List Page) (place : ℕ) (all : List Line) → HandsFrom f own from numbers board pages place all old → HandsAll f own numbers' board' pages place new
+
+-- whatever pages there are, some first ones of them were
+abbrev pub StopsOn : Problem → List Line → ℕ → List ℕ → Board → LogModel → List ℕ → Board → LogModel → LogStop → Type 0
+StopsOn f own from numbers board old numbers' board' new stop = (pages : List Page) (place : ℕ) (all : List Line) → HandsFrom f own from numbers board pages place all old → HandsSome f stop own numbers' board' pages place old new

@@ -1,5 +1,5 @@
 -- What holds of a crew that goes on, and what a turn of one of it leaves.
-use Rattle.std.specs.Prelude.{Contains, filter, ◌≡◌, ℕ, ◌≤◌, true, List, Option, Some, None, All, length, map, sum_by, []}
+use Rattle.std.specs.Prelude.{Contains, filter, ◌≡◌, ℕ, ◌<◌, ◌≤◌, true, false, List, ◌∷◌, ◌++◌, Option, Some, None, All, length, map, sum_by, []}
 use Rattle.std.specs.List.{list_any}
 use Rattle.hw_model.specs.Problem.{Problem}
 use Rattle.hw_model.specs.Limits.{IsFlat}
@@ -58,6 +58,14 @@ StepLeaves f turns.Ended members board new = Written f members board turns.Ended
 StepLeaves f turns.NoMemory members board new = Halts f stops.NoMemory board (pages_of members) new
 StepLeaves f turns.LogFailed members board new = Halts f stops.Failed board (pages_of members) new
 
+-- from what was handed on before a turn to what it leaves
+abbrev pub StepFrom : Problem → List Member → Board → LogModel → Turn → List Member → Board → LogModel → Type 0
+StepFrom f members board old turn members' board' new = Written f members board turns.Decided old → StepLeaves f turn members' board' new
+
+-- a turn that isn't the last one brings the crew nearer to the budget's lemmas
+abbrev pub CrewNearer : ℕ → Turn → List Member → List Member → Type 0
+CrewNearer budget turn members members' = is_last turn ≡ false → All (λ (m : Member). m.search.lemmas < budget) members → crew_left budget members' < crew_left budget members
+
 -- a crew that goes on: the log was `old` as it began
 pub record CrewGoes (f : Problem) (order : List Branching) (budget : ℕ) (members : List Member) (board : Board) (old now : LogModel) : Type 0 where
   pub flat : IsFlat f
@@ -75,6 +83,10 @@ pub record NewSoFar (f : Problem) (order had : List Branching) (members : List M
   pub blank : All (λ (m : Member). (m.search.lemmas ≡ 0) × (m.log ≡ []) × (m.numbers.items ≡ [])) members
   pub as_many : length members ≡ length (filter (λ rule. list_any (same_rule rule) order) had)
   pub seats : (rule : Branching) → Contains had rule → list_any (same_rule rule) order ≡ true → HasRule members rule
+
+-- a rule was added to those that came in the order
+abbrev pub AddsRule : Problem → List Branching → Branching → List Member → List Member → Type 0
+AddsRule f order rule members members' = (had : List Branching) → NewSoFar f order had members → NewSoFar f order (had ++ rule ∷ []) members'
 
 -- a searcher for each rule of the order, none of which has done anything
 pub record CrewNew (f : Problem) (order : List Branching) (members : List Member) : Type 0 where

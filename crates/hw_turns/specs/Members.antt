@@ -1,5 +1,6 @@
 -- A searcher of a crew: its search and its own lines, and what its turn leaves.
-use Rattle.std.specs.Prelude.{◌≡◌, ℕ, ◌+◌, ◌<◌, ◌≤◌, false, List, [], Some, length, take, slice_get, slice_set, ⊤}
+use Rattle.std.specs.Prelude.{◌≡◌, ℕ, ◌+◌, ◌<◌, ◌≤◌, false, List, [], Option, Some, IsTrue, length, option_and_then, take, slice_get, slice_set, ⊤}
+use Rattle.hw_model.specs.Timetables.{cargo, beats}
 use Rattle.hw_model.specs.Problem.{Problem}
 use Rattle.hw_desk.specs.State.{Rose}
 use Rattle.hw_lines.specs.declared.line.Line.{Line}
@@ -97,3 +98,15 @@ TurnCause turns.LogFailed old new = Rose old.faults new.faults × (old.faults �
 -- what is told was told before
 abbrev pub StaysTold : LogModel → LogModel → Type 0
 StaysTold old new = Grows old new (λ was now. ⊤)
+
+-- whatever pages there are: from a searcher's page to the one that its turn leaves
+abbrev pub TurnsOn : Problem → Page → Board → LogModel → Turn → Page → Board → LogModel → Type 0
+TurnsOn f page board old turn page' board' new = (pages : List Page) (place : ℕ) (all : List Line) → TurnFrom f page.lines page.numbers board pages place all old → TurnLeaves f turn page'.lines page'.numbers board' pages place new
+
+-- a turn that isn't the last one brings a search nearer to the budget's lemma
+abbrev pub ComesNearer : ℕ → Turn → SearchModel → SearchModel → Type 0
+ComesNearer budget turn s u = is_last turn ≡ false → s.lemmas < budget → turns_left budget u < turns_left budget s
+
+-- the timetable's cargo is above that of the other one, or there is no other
+abbrev pub IsAbove : Problem → List ℕ → Option (List ℕ) → Type 0
+IsAbove f table other = (c : ℕ) × (cargo f table ≡ Some c) × IsTrue (beats c (option_and_then (cargo f) other))

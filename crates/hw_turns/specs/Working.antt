@@ -32,7 +32,7 @@ AnswerTells f budget (Spent table) all = (last_table all ≡ table) × (length (
 AnswerTells f budget (NoMemory table) all = last_table all ≡ table
 AnswerTells f budget LogFailed all = ⊤
 
--- Spent, or out of memory, which is free
+-- Spent, or out of memory, which may come at any time
 abbrev pub may_be_spent : Crewed → Bool
 may_be_spent (Optimal table c) = false
 may_be_spent Infeasible = false
@@ -59,7 +59,7 @@ table_of (Spent table) = table
 table_of (NoMemory table) = table
 table_of LogFailed = None
 
--- a failure has its cause, and leaves a first part of a line that is valid there; else nothing is behind the lines
+-- a failure has its cause, and leaves a first part of a line that is valid there; else nothing follows the lines
 abbrev pub CrewEnds : Problem → LogModel → LogModel → Crewed → Type 0
 CrewEnds f old new (Optimal table c) = IsWhole new
 CrewEnds f old new Infeasible = IsWhole new

@@ -1,17 +1,15 @@
 //! A searcher of a crew, with its own lines.
 
-ghost use Rattle.std.specs.Prelude.{◌≡◌, ℕ, ◌+◌, ◌^◌, ◌<◌, ◌≤◌, [], false, true, List, IfOk, IfSome, IsTrue, OnOk, option_and_then};
+ghost use Rattle.std.specs.Prelude.{◌≡◌, ℕ, ◌+◌, ◌^◌, ◌<◌, ◌≤◌, [], false, true, IfOk, IfSome, IsTrue, OnOk};
 ghost use Rattle.std.specs.Option.{option_copied};
 ghost use Rattle.hw_model.specs.Problem.{IsTimetable};
-ghost use Rattle.hw_model.specs.Timetables.{Permits, cargo, beats};
-ghost use Rattle.hw_lines.specs.declared.line.Line.{Line as LineOf};
+ghost use Rattle.hw_model.specs.Timetables.{Permits};
 ghost use Rattle.hw_cert.specs.Logs.{IsWhole};
 ghost use Rattle.hw_progress.specs.Searches.{new_search};
 ghost use Rattle.hw_progress.specs.Turns.{is_last};
-ghost use Rattle.hw_search.specs.Going.{turns_left};
 ghost use Rattle.hw_search.specs.Turning.{turn_of};
-ghost use Rattle.hw_crew.specs.Pages.{Page};
-ghost use Rattle.hw_turns.specs.Members.{Working, Caught, TurnsOwn, UnlessStopped, TurnFrom, TurnLeaves, TurnCause, StaysTold};
+ghost use Rattle.hw_turns.specs.Going.{page_of};
+ghost use Rattle.hw_turns.specs.Members.{Working, Caught, ComesNearer, IsAbove, TurnsOn, TurnsOwn, UnlessStopped, TurnCause, StaysTold};
 
 use crate::board::Board;
 use crate::handing::hand_on;
@@ -58,7 +56,7 @@ pub fn new_member<'f>(
 fn is_above(flat: &Flat, table: &Timetable, other: Option<&Timetable>) -> bool
     requires table { IsTimetable flat.now table.now }
     requires other { IfSome (option_copied other) (IsTimetable flat.now) }
-    ensures better { IsTrue result → (c : ℕ) × (cargo flat.now table.now ≡ Some c) × IsTrue (beats c (option_and_then (cargo flat.now) (option_copied other.entry))) }
+    ensures better { IsTrue result → IsAbove flat.now table.now (option_copied other.entry) }
 {
     let Some(worth) = cargo(flat, table) else {
         return false;
@@ -83,8 +81,8 @@ fn turn_of(stop: LogStop) -> Turn
 }
 
 impl<'f> Member<'f> {
-    // Offers the best of all to the search, where it is above its own. Its line is an own one, and
-    // isn't handed on.
+    // Offers the best of all to the search, where it is above its own. The line is the searcher's own,
+    // and isn't handed on.
     fn catch_up(&mut self, flat: &Flat, best: &Option<Timetable>) -> Result<(), NoMemory>
         requires working { Working flat.now self.old.search self.old.log }
         requires permitted { IfSome best.now (Permits flat.now) }
@@ -149,9 +147,9 @@ impl<'f> Member<'f> {
         requires few_lemmas { board.old.lemmas + 2 < 2 ^ 32 }
         requires permitted { IfSome board.old.best (Permits flat.now) }
         requires whole { IsWhole (L.state log.old) }
-        ensures leaves { (pages : List Page) (place : ℕ) (all : List LineOf) → TurnFrom flat.now self.old.log self.old.numbers.items board.old pages place all (L.state log.old) → TurnLeaves flat.now result self.new.log self.new.numbers.items board.new pages place (L.state log.new) }
+        ensures leaves { TurnsOn flat.now (page_of self.old) board.old (L.state log.old) result (page_of self.new) board.new (L.state log.new) }
         ensures working { is_last result ≡ false → Working flat.now self.new.search self.new.log }
-        ensures nearer { (budget : ℕ) → is_last result ≡ false → self.old.search.lemmas < budget → turns_left budget self.new.search < turns_left budget self.old.search }
+        ensures nearer { (budget : ℕ) → ComesNearer budget result self.old.search self.new.search }
         ensures cause { TurnCause result (L.state log.old) (L.state log.new) }
         ensures lemmas { board.new.lemmas ≤ board.old.lemmas + 1 }
         ensures rule { self.new.rule ≡ self.old.rule }

@@ -128,7 +128,7 @@ fn table_in(line: Line) -> Option<Timetable>
     }
 }
 
-// Keeps what a line changes that was handed on.
+// Keeps what a line that was handed on changes.
 fn keep(next: Line, numbers: &mut Vec<u32>, board: &mut Board)
     requires room { vec_len numbers.old < vec_capacity numbers.old }
     requires few { board.old.clause_lines + 1 < 2 ^ 32 }

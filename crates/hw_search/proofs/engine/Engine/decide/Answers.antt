@@ -1,4 +1,4 @@
-use Rattle.std.proofs.Common.{◌≡◌, ◌+◌, None, subst, sym, ◌∙◌, ap, arith, refl}
+use Rattle.std.proofs.Common.{◌≡◌, ◌+◌, None, subst, sym, ◌∙◌, ap, refl}
 use Rattle.hw_model.specs.declared.lit.LitTruth.TheVariants.{Free}
 use Rattle.hw_model.specs.Lits.{IsLitOf}
 use Rattle.hw_model.specs.Narrowing.{truth, cut}
@@ -33,11 +33,11 @@ pub decide-requires-clause-free : goal.decide-requires-clause-free
 decide-requires-clause-free g c =
     (open_in _ _ c.branch-lit.result c.self.invariant.0.search (of_view _ _ (λ (e : EngineModel). IsPoint (room_in e.search) → ⊥) c.self.view_is c.requires.wide) refl (of_view _ _ (λ (e : EngineModel). Branches e.search c.branch-lit.result) c.self.view_is c.branch-lit.ensures.value)).free
 
-pub push_reserved-requires : goal.push_reserved-requires
-push_reserved-requires g c =
+pub add_event-requires : goal.add_event-requires
+add_event-requires g c =
     let o = open_in _ _ c.branch-lit.result c.self.invariant.0.search (of_view _ _ (λ (e : EngineModel). IsPoint (room_in e.search) → ⊥) c.self.view_is c.requires.wide) refl (of_view _ _ (λ (e : EngineModel). Branches e.search c.branch-lit.result) c.self.view_is c.branch-lit.ensures.value) in
-    let h = room_to_decide _ _ _ _ _ _ c.branch-lit.result c.self.invariant.0 (of_view _ _ (λ (e : EngineModel). AllQuiet e.search) c.self.view_is c.requires.quiet) o in
-    omega (arith, h, c.self.inside.written.ok.0)
+    let h = room_to_decide _ _ _ _ _ c.branch-lit.result c.self.invariant.0 (of_view _ _ (λ (e : EngineModel). AllQuiet e.search) c.self.view_is c.requires.quiet) o in
+    record { room = h }
 
 pub of-requires : goal.of-requires
 of-requires g c =
@@ -49,10 +49,9 @@ invariant_of-self g c =
     let lit = c.branch-lit.result in
     let o = open_in _ _ c.branch-lit.result c.self.invariant.0.search (of_view _ _ (λ (e : EngineModel). IsPoint (room_in e.search) → ⊥) c.self.view_is c.requires.wide) refl (of_view _ _ (λ (e : EngineModel). Branches e.search c.branch-lit.result) c.self.view_is c.branch-lit.ensures.value) in
     let event : Event = record { lit = lit; level = c.self.inside.trail.level + 1; why = None } in (
-      kept_decided _ _ _ _ _ _ _ lit _ _ _ _ c.self.invariant.0 (of_view _ _ (λ (e : EngineModel). AllQuiet e.search) c.self.view_is c.requires.quiet) o
-          c.decide.ensures.value c.changed.ensures.same c.push_reserved.ensures.items
-          (subst (λ xs. MarksPlaces xs c.self.inside.marks c.mark.new.self) c.of.ensures.value c.mark.ensures.marks)
-          c.push_reserved.ensures.capacity,
+      kept_decided _ _ _ _ _ lit _ _ _ _ c.self.invariant.0 (of_view _ _ (λ (e : EngineModel). AllQuiet e.search) c.self.view_is c.requires.quiet) o
+          c.decide.ensures.value c.changed.ensures.same c.add_event.ensures.value
+          (subst (λ xs. MarksPlaces xs c.self.inside.marks c.mark.new.self) c.of.ensures.value c.mark.ensures.marks),
       c.changed.ensures.ships ∙ c.self.invariant.1,
       subst (g.S.Store.ready c.changed.new.self) (ap (cut lit) c.room.ensures.value ∙ sym (more_room c.self.inside.trail event) ∙ ap room_of (sym c.decide.ensures.value)) c.changed.ensures.ready,
       c.self.invariant.3,

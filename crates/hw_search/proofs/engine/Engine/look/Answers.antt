@@ -1,7 +1,8 @@
 use Rattle.std.proofs.Common.{sym, subst}
 use Rattle.hw_model.specs.Rooms.{RoomModel}
 use Rattle.hw_store.specs.declared.store.Stored.{Stored}
-use Rattle.hw_store.specs.Stores.{Finds, IsNotHeld, IsActive}
+use Rattle.hw_lits.specs.Active.{IsActive}
+use Rattle.hw_store.specs.Stores.{Finds, IsNotHeld}
 use Rattle.hw_story.specs.Trails.{clause_of}
 use Rattle.hw_progress.specs.Searches.{IsSearch}
 use Rattle.hw_search.specs.Engines.{EngineModel}

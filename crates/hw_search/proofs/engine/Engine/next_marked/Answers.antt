@@ -9,11 +9,11 @@ next-requires g c = record { within = omega (arith, c.requires.within, c.self.in
 
 pub invariant_of-self : goal.invariant_of-self
 invariant_of-self g c = (
-  kept_same _ _ _ _ _ _ c.next.new.self c.self.invariant.0 c.next.ensures.same,
+  kept_same _ _ _ _ _ c.next.new.self c.self.invariant.0 c.next.ensures.same,
   c.self.invariant.1,
   c.self.invariant.2,
   c.self.invariant.3,
 )
 
 pub returns-clause-quiet : goal.returns-clause-quiet
-returns-clause-quiet g c = λ clear. sources_quiet _ _ _ _ _ _ c.self.invariant.0 (subst AllClear c.next.ensures.same clear)
+returns-clause-quiet g c = λ clear. sources_quiet _ _ _ _ _ c.self.invariant.0 (subst AllClear c.next.ensures.same clear)

@@ -10,7 +10,7 @@ pub invariant_of-self : goal.invariant_of-self
 invariant_of-self g c =
     let p = of_view _ _ (λ (e : EngineModel). Permits e.search.problem c.args.table) c.self.view_is c.requires.permitted in
     let b = of_view _ _ (λ (e : EngineModel). (n : ℕ) × (cargo e.search.problem c.args.table ≡ Some n) × IsTrue (beats n (best_cargo e.search))) c.self.view_is c.requires.better in (
-      kept_better _ _ _ _ _ _ c.args.table _ _ c.self.invariant.0 p b.0 b.1 b.2 p.listed.each_ship c.cargo-self-inside.ensures.value (search rules),
+      kept_better _ _ _ _ _ c.args.table _ _ c.self.invariant.0 p b.0 b.1 b.2 c.cargo-worth.ensures.value (search rules),
       c.self.invariant.1,
       c.self.invariant.2,
       c.self.invariant.3,
