@@ -3,12 +3,14 @@ use Rattle.std.proofs.Common.{◌≡◌, ◌==◌, ℕ, ◌+◌, true, false, Li
 use Rattle.std.proofs.lemmas.List.{append-nil, length_push}
 use Rattle.hw_text.specs.Parts.{parts_of, first_part}
 use Rattle.hw_text.proofs.Splits.{has_part}
+use Rattle.hw_audit.specs.declared.fault.AuditWord.{AuditWord}
 use Rattle.hw_audit.specs.declared.event.PortEvent.{PortEvent}
 use Rattle.hw_audit.specs.declared.fault.AuditWord.TheVariants as words
-use Rattle.hw_audit.specs.Text.{Fault, fault, ◌>>=◌, event_form, event_before, events_at}
+use Rattle.hw_derived.specs.Reading.{Fault, fault, ◌>>=◌}
+use Rattle.hw_audit.specs.Text.{event_form, event_before, events_at}
 
 abbrev Read : Type 0
-Read = Result (List PortEvent × List (List ℕ)) Fault
+Read = Result (List PortEvent × List (List ℕ)) (Fault AuditWord)
 
 -- what was read before, and what is still read
 abbrev pub behind : List PortEvent → Read → Read

@@ -33,17 +33,17 @@ abbrev pub BrokenExactly : Type 0
 BrokenExactly = (f : Problem) (s : Watched)
     → IsStrictlyIncreasing (broken_now f s) × ((n : ℕ) → (Contains (broken_now f s) n ↔ ((n < restriction_count f) × (restriction_holds (lessened s.withdrawn f) s.table n ≡ false))))
 
--- nothing is broken just where the timetable is permitted with the tugs that are left
+-- nothing is broken exactly where the timetable is permitted with the tugs that are left
 abbrev pub NoneBroken : Type 0
 NoneBroken = (f : Problem) (s : Watched) → IsTimetable f s.table → ((broken_now f s ≡ []) ↔ Permits (lessened s.withdrawn f) s.table)
 
--- before any event that is: just where it is permitted
+-- before any event that is: exactly where it is permitted
 abbrev pub NoneBrokenFirst : Type 0
 NoneBrokenFirst = (f : Problem) (table : List ℕ) → IsTimetable f table → ((broken_now f (watched table) ≡ []) ↔ Permits f table)
 
 -- ---- the port
 
--- a list of slots is a timetable of a port just where it is one of its flat problem
+-- a list of slots is a timetable of a port exactly where it is one of its flat problem
 abbrev pub SameTimetables : Type 0
 SameTimetables = (p : Parts) (h : TideParts) (table : List ℕ) → (IsPortTimetable p table ↔ IsTimetable (flattened p h) table)
 
@@ -51,7 +51,7 @@ SameTimetables = (p : Parts) (h : TideParts) (table : List ℕ) → (IsPortTimet
 abbrev pub fewer_tugs : ℕ → Parts → Parts
 fewer_tugs withdrawn p = record p { fleet = pos (whole p.fleet - withdrawn) }
 
--- nothing is broken just where the port, its fleet lessened by the tugs withdrawn, permits the timetable
+-- nothing is broken exactly where the port, its fleet lessened by the tugs withdrawn, permits the timetable
 abbrev pub NonePortBroken : Type 0
 NonePortBroken = (p : Parts) (h : TideParts) (s : Watched) → PortKept p → IsPortTimetable p s.table → ((broken_now (flattened p h) s ≡ []) ↔ PortPermits (fewer_tugs s.withdrawn p) h s.table)
 

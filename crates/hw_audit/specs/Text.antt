@@ -1,15 +1,14 @@
 -- The texts of a timetable that is watched and of events, each over the list of its lines.
-use Rattle.std.specs.Prelude.{◌≡◌, ℕ, ◌+◌, List, [], ◌∷◌, Option, Some, None, Result, Ok, Err, codes, bytes_eq, option_map, length, if◌then◌else◌}
+use Rattle.std.specs.Prelude.{ℕ, ◌+◌, List, [], ◌∷◌, Option, Some, None, Result, Ok, codes, bytes_eq, option_map, length, if◌then◌else◌}
 use Rattle.hw_model.specs.declared.shape.Shape.{Shape}
+use Rattle.hw_derived.specs.Reading.{Fault, ◌>>=◌, fault, formed, line_at, only_at, ended_at}
 use Rattle.hw_derived.specs.Slots.{slots_form}
 use Rattle.hw_text.specs.Numbers.{number_up_to, number_from_to}
-use Rattle.hw_text.specs.Parts.{parts_of, words_of, first_part, at_end}
+use Rattle.hw_text.specs.Parts.{parts_of, words_of}
 use Rattle.hw_audit.specs.declared.event.PortEvent.{PortEvent}
 use Rattle.hw_audit.specs.declared.event.PortEvent.TheVariants.{Sailed, Delayed, Withdrawn, Back}
 use Rattle.hw_audit.specs.declared.fault.AuditWord.{AuditWord}
 use Rattle.hw_audit.specs.declared.fault.AuditWord.TheVariants as words
-use Rattle.hw_audit.specs.declared.fault.TextFault.{TextFault}
-use Rattle.hw_audit.specs.declared.fault.TextFault.TheVariants as faults
 
 -- ---- the lines' forms
 
@@ -63,39 +62,10 @@ event_words (key ∷ words) =
 abbrev pub event_form : List ℕ → Option PortEvent
 event_form line = event_words (words_of line)
 
--- ---- the first line that isn't of the form demanded at its place
-
-pub record Fault : Type 0 where
-  pub number : ℕ
-  pub word : AuditWord
-
-infixl 10 ◌>>=◌
-abbrev pub ◌>>=◌ : {A B : Type 0} → Result A Fault → (A → Result B Fault) → Result B Fault
-(Ok x) >>= f = f x
-(Err e) >>= f = Err e
-
-abbrev pub fault : {A : Type 0} → ℕ → AuditWord → Result A Fault
-fault number word = Err (record { number = number; word = word })
-
--- what a line says by its form, or that it isn't of the form
-abbrev pub formed : {A : Type 0} → ℕ → AuditWord → Option A → Result A Fault
-formed number word None = fault number word
-formed number word (Some x) = Ok x
-
--- the next line and the parts after it
-abbrev pub line_at : ℕ → AuditWord → List (List ℕ) → Result (List ℕ × List (List ℕ)) Fault
-line_at number word parts = formed number word (first_part parts)
-
--- the parts after a line that is just this text
-abbrev pub only_at : ℕ → AuditWord → List ℕ → List (List ℕ) → Result (List (List ℕ)) Fault
-only_at number word text parts = line_at number word parts >>= λ line. if bytes_eq line.0 text then Ok line.1 else fault number word
-
--- what was read, if no byte is left
-abbrev pub ended_at : {A : Type 0} → ℕ → AuditWord → A → List (List ℕ) → Result A Fault
-ended_at number word read parts = if at_end parts then Ok read else fault number word
+-- ---- the lines of the text
 
 -- the timetable of the lines, or the first bad line
-unfoldable pub table_of : Shape → List (List ℕ) → Result (List ℕ) Fault
+unfoldable pub table_of : Shape → List (List ℕ) → Result (List ℕ) (Fault AuditWord)
 table_of shape parts = do
   first ← only_at 1 words.Header (codes "table 1") parts
   line ← line_at 2 words.Table first
@@ -103,16 +73,16 @@ table_of shape parts = do
   ended_at 3 words.Tail table line.1
 
 -- what a text says: a timetable of this shape, or the first line that isn't of the form demanded at its place
-abbrev pub table_text : Shape → List ℕ → Result (List ℕ) Fault
+abbrev pub table_text : Shape → List ℕ → Result (List ℕ) (Fault AuditWord)
 table_text shape bytes = table_of shape (parts_of 10 bytes)
 
 -- an event on a line and those after it
-abbrev pub event_before : ℕ → Option PortEvent → Result (List PortEvent × List (List ℕ)) Fault → Result (List PortEvent × List (List ℕ)) Fault
+abbrev pub event_before : ℕ → Option PortEvent → Result (List PortEvent × List (List ℕ)) (Fault AuditWord) → Result (List PortEvent × List (List ℕ)) (Fault AuditWord)
 event_before number None read = fault number words.Form
 event_before number (Some event) read = read >>= λ x. Ok (event ∷ x.0, x.1)
 
 -- the events up to the line `end`, and the parts after that line
-unfoldable pub events_at : ℕ → List (List ℕ) → Result (List PortEvent × List (List ℕ)) Fault
+unfoldable pub events_at : ℕ → List (List ℕ) → Result (List PortEvent × List (List ℕ)) (Fault AuditWord)
 events_at number [] = fault number words.Form
 events_at number (line ∷ []) = fault number words.Form
 events_at number (line ∷ next ∷ parts) =
@@ -120,22 +90,12 @@ events_at number (line ∷ next ∷ parts) =
     else event_before number (event_form line) (events_at (number + 1) (next ∷ parts))
 
 -- the events of the lines, or the first bad line
-unfoldable pub events_of : List (List ℕ) → Result (List PortEvent) Fault
+unfoldable pub events_of : List (List ℕ) → Result (List PortEvent) (Fault AuditWord)
 events_of parts = do
   first ← only_at 1 words.Header (codes "events 1") parts
   read ← events_at 2 first
   ended_at (3 + length read.0) words.Tail read.0 read.1
 
 -- what a text says: events, or the first line that isn't of the form demanded at its place
-abbrev pub events_text : List ℕ → Result (List PortEvent) Fault
+abbrev pub events_text : List ℕ → Result (List PortEvent) (Fault AuditWord)
 events_text bytes = events_of (parts_of 10 bytes)
-
--- the fault names the line and the word that reading gives. Running out of memory is free
-abbrev pub Fails : {A : Type 0} → TextFault → Result A Fault → Type 0
-Fails faults.NoMemory read = Unit {0}
-Fails (faults.Line number word) read = read ≡ Err (record { number = number; word = word })
-
--- what a function returned, seen by view, is what reading gives, unless memory ran out
-abbrev pub Gives : {A B : Type 0} → (A → B) → Result A TextFault → Result B Fault → Type 0
-Gives view (Ok x) read = read ≡ Ok (view x)
-Gives view (Err e) read = Fails e read

@@ -1,11 +1,9 @@
 //! Why a text holds no timetable or no events, and why an event is refused.
 
 ghost use Rattle.std.specs.Prelude.{◌≡◌, codes};
-ghost use Rattle.hw_audit.specs.declared.fault.TextFault.TheVariants.{NoMemory};
 ghost use Rattle.hw_audit.specs.Words.{word_text};
 
-use hw_model::NoMemory;
-use std::alloc::{AllocError, AllocFailed};
+use hw_derived::LineFault;
 
 /// What the first bad line should have been, or why an event is refused.
 #[derive(Clone, Copy, Debug, PartialEq, Eq)]
@@ -46,33 +44,6 @@ impl AuditWord {
     }
 }
 
-/// Why `read_table` returned no timetable, or `read_events` no events. Lines are numbered from 1.
-#[derive(Clone, Copy, Debug, PartialEq, Eq)]
-pub enum TextFault {
-    Line { number: u64, word: AuditWord },
-    NoMemory,
-}
-
-impl From<AllocError> for TextFault {
-    ghost from_gives = { λ _ e. e ≡ NoMemory };
-
-    fn from(_e: AllocError) -> TextFault {
-        TextFault::NoMemory
-    }
-}
-
-impl<T: Drop> From<AllocFailed<T>> for TextFault {
-    ghost from_gives = { λ _ e. e ≡ NoMemory };
-
-    fn from(_e: AllocFailed<T>) -> TextFault {
-        TextFault::NoMemory
-    }
-}
-
-impl From<NoMemory> for TextFault {
-    ghost from_gives = { λ _ e. e ≡ NoMemory };
-
-    fn from(_e: NoMemory) -> TextFault {
-        TextFault::NoMemory
-    }
-}
+/// Why `read_table` returned no timetable, or `read_events` no events: the first bad line, numbered
+/// from 1, or memory ran out.
+pub type TextFault = LineFault<AuditWord>;

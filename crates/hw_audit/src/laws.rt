@@ -13,12 +13,12 @@ pub fn all_taken_keep()
     ensures { AllTakenKeep }
 {}
 
-/// Nothing is broken just where the timetable is permitted with the tugs that are left.
+/// Nothing is broken exactly where the timetable is permitted with the tugs that are left.
 pub fn none_broken()
     ensures { NoneBroken }
 {}
 
-/// Before any event nothing is broken just where the timetable is permitted.
+/// Before any event nothing is broken exactly where the timetable is permitted.
 pub fn none_broken_first()
     ensures { NoneBrokenFirst }
 {}
@@ -34,12 +34,12 @@ pub fn broken_exactly()
     ensures { BrokenExactly }
 {}
 
-/// A list of slots is a timetable of a port just where it is one of its flat problem.
+/// A list of slots is a timetable of a port exactly where it is one of its flat problem.
 pub fn same_timetables()
     ensures { SameTimetables }
 {}
 
-/// Nothing is broken just where the port, its fleet lessened by the tugs withdrawn, permits the
+/// Nothing is broken exactly where the port, its fleet lessened by the tugs withdrawn, permits the
 /// timetable.
 pub fn none_port_broken()
     ensures { NonePortBroken }

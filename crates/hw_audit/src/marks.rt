@@ -10,7 +10,7 @@ use hw_flat::Flat;
 use hw_model::{Rule, ShipId, Slot};
 use hw_rules::allowed_pair;
 
-/// Which rules may hold otherwise than before.
+/// The rules that may have begun or ceased to hold.
 #[derive(Clone, Copy, Debug)]
 pub(crate) enum Concern {
     /// Every rule: none was tested yet.

@@ -3,41 +3,17 @@
 ghost use Rattle.std.specs.Prelude.{◌≡◌, ◌<◌, ◌≤◌, ◌+◌, IfOk, All, length};
 ghost use Rattle.hw_text.specs.Parts.{parts_of};
 ghost use Rattle.hw_model.specs.Limits.{ShapeFits};
-ghost use Rattle.hw_audit.specs.Text.{Gives, line_at, only_at, table_of, table_text, events_at, events_of, events_text};
+ghost use Rattle.hw_derived.specs.Reading.{Gives};
+ghost use Rattle.hw_audit.specs.Text.{table_of, table_text, events_at, events_of, events_text};
 
 use crate::event::{Events, PortEvent};
 use crate::fault::{AuditWord, TextFault};
 use crate::forms::{event_of, table_of};
+use hw_derived::{LineFault, line_of, only};
 use hw_flat::Timetable;
 use hw_model::Shape;
 use hw_text::{cut_line, is_end, is_text};
 use std::alloc::Global;
-
-/// The next line, and the bytes after it.
-fn line_of(bytes: &[u8], number: u64, word: AuditWord) -> Result<(&[u8], &[u8]), TextFault>
-    ensures { Gives (λ x. (x.0.now, parts_of 10 x.1.now)) result (line_at number word (parts_of 10 bytes.now)) }
-{
-    match cut_line(bytes) {
-        Some((line, rest)) => Ok((line, rest)),
-        None => Err(TextFault::Line { number, word }),
-    }
-}
-
-/// The bytes after a line that must be just this text.
-fn only<'b>(
-    bytes: &'b [u8],
-    number: u64,
-    word: AuditWord,
-    text: &[u8],
-) -> Result<&'b [u8], TextFault>
-    ensures { Gives (λ rest. parts_of 10 rest.now) result (only_at number word text.now (parts_of 10 bytes.now)) }
-{
-    let (line, rest) = line_of(bytes, number, word)?;
-    if !is_text(line, text) {
-        return Err(TextFault::Line { number, word });
-    }
-    Ok(rest)
-}
 
 /// Reads a timetable with these numbers of ships and slots.
 ///
@@ -53,13 +29,13 @@ pub fn read_table(alloc: Global, bytes: &[u8], shape: Shape) -> Result<Timetable
     let rest = only(bytes, 1, AuditWord::Header, b"table 1")?;
     let (line, rest) = line_of(rest, 2, AuditWord::Table)?;
     let Some(slots) = table_of(alloc, line, shape)? else {
-        return Err(TextFault::Line {
+        return Err(LineFault::Line {
             number: 2,
             word: AuditWord::Table,
         });
     };
     if !is_end(rest) {
-        return Err(TextFault::Line {
+        return Err(LineFault::Line {
             number: 3,
             word: AuditWord::Tail,
         });
@@ -79,7 +55,7 @@ fn events_of(alloc: Global, bytes: &[u8]) -> Result<(Vec<PortEvent>, &[u8]), Tex
             return Ok((events, after));
         }
         let Some(event) = event_of(line) else {
-            return Err(TextFault::Line {
+            return Err(LineFault::Line {
                 number: 2 + events.len() as u64,
                 word: AuditWord::Form,
             });
@@ -87,7 +63,7 @@ fn events_of(alloc: Global, bytes: &[u8]) -> Result<(Vec<PortEvent>, &[u8]), Tex
         events.push(event)?;
         rest = after;
     }
-    Err(TextFault::Line {
+    Err(LineFault::Line {
         number: 2 + events.len() as u64,
         word: AuditWord::Form,
     })
@@ -105,7 +81,7 @@ pub fn read_events(alloc: Global, bytes: &[u8]) -> Result<Events, TextFault>
     let rest = only(bytes, 1, AuditWord::Header, b"events 1")?;
     let (items, rest) = events_of(alloc, rest)?;
     if !is_end(rest) {
-        return Err(TextFault::Line {
+        return Err(LineFault::Line {
             number: 3 + items.len() as u64,
             word: AuditWord::Tail,
         });

@@ -72,7 +72,7 @@ fn add(held: &mut Vec<u64>, job: &Job, slot: Slot)
     }
 }
 
-/// Takes the tugs of a job away that it held from `slot` on.
+/// Takes away the tugs that a job held from `slot` on.
 fn take_away(held: &mut Vec<u64>, job: &Job, slot: Slot)
     requires there { (k : ℕ) → k < length held.old.items → held_from slot k job.now ≤ slice_index held.old.items k }
     ensures each_slot { length held.new.items ≡ length held.old.items }
@@ -85,8 +85,8 @@ fn take_away(held: &mut Vec<u64>, job: &Job, slot: Slot)
     }
 }
 
-/// The tugs held where a ship has another slot: only its own job's are mended, a step for each slot
-/// in which it held them or holds them now.
+/// Updates the tugs held for a ship with another slot. Only its own job's tugs change: a step for
+/// each slot in which it held them or holds them now.
 pub(crate) fn move_job(flat: &Flat, table: &[Slot], held: &mut Vec<u64>, ship: ShipId, slot: Slot)
     requires listed { IsTimetable flat.now table.now }
     requires ship_in { ship < flat.now.ships }

@@ -16,83 +16,24 @@ use Rattle.hw_tide.proofs.OneList.{one_list_law}
 use Rattle.hw_port_rules.specs.Flattened.{flattened}
 use Rattle.hw_port_rules.specs.Numbers.{whole}
 use Rattle.hw_report.specs.Reports.{Report, too_long, bad_json, bad_field, bad_tides, bad_text}
-use Rattle.hw_audit.specs.Text.{Fault, table_text, events_text}
+use Rattle.hw_derived.specs.Reading.{Fault}
+use Rattle.hw_audit.specs.Text.{table_text, events_text}
 use Rattle.hw_audit.specs.Watching.{Watched, watched, first_refused}
 use Rattle.hw_audit.specs.Words.{word_text}
 use Rattle.hw_audit.specs.declared.event.PortEvent.{PortEvent}
 use Rattle.hw_audit.specs.declared.fault.AuditWord.{AuditWord}
 use Rattle.hw_command.specs.PortInputs.{NoPort, IsBadTable}
 use Rattle.hw_command.specs.Values.{most_bytes, IsLong, IsPortOf, GivesPort}
+use Rattle.hw_command.proofs.OneReading.{Limited, one_instance, one_limited, one_table}
 use Rattle.hw_audit_command.specs.AuditPort.{audit_reports, Audits, EventsFail, by_form, by_event, NoAudit, AuditsTexts}
 use Rattle.hw_audit_command.specs.Laws.{OneAudit}
 use Rattle.hw_audit_command.specs.Values.{IsPlanOf}
 
--- ---- one thing that bytes are read as
-
--- what a value is read as
-abbrev as_read : Result Parts PortFault → Result Parts ReadFault
-as_read (Ok p) = Ok p
-as_read (Err fault) = Err (read.Field fault)
-
--- one value gives one thing
-one_value : {A : Type 0} {given : Option A} {a b : A} {x y : Result Parts PortFault} (f : A → Result Parts PortFault) → given ≡ Some a → given ≡ Some b → f a ≡ x → f b ≡ y → as_read x ≡ as_read y
-one_value {a = a} {b = b} f is also h g =
-    let same : a ≡ b = cc in
-    ap as_read (sym h ∙ ap f same ∙ g)
-
--- an instance's bytes are read as one thing
-one_instance : (bytes : List ℕ) (what other : Result Parts ReadFault) → what ≢ Err read.NoMemory → other ≢ Err read.NoMemory → ReadsPort bytes what → ReadsPort bytes other → what ≡ other
-one_instance bytes (Ok p) (Ok q) told too h g = one_value instance_of h.1.1 g.1.1 h.2 g.2
-one_instance bytes (Ok p) (Err (read.Field fault)) told too h g = one_value instance_of h.1.1 g.1.1 h.2 g.2
-one_instance bytes (Ok p) (Err read.NotJson) told too h g = absurd (g h.0 h.1)
-one_instance bytes (Err (read.Field fault)) (Ok p) told too h g = one_value instance_of h.1.1 g.1.1 h.2 g.2
-one_instance bytes (Err (read.Field fault)) (Err (read.Field other)) told too h g = one_value instance_of h.1.1 g.1.1 h.2 g.2
-one_instance bytes (Err (read.Field fault)) (Err read.NotJson) told too h g = absurd (g h.0 h.1)
-one_instance bytes (Err read.NotJson) (Ok p) told too h g = absurd (h g.0 g.1)
-one_instance bytes (Err read.NotJson) (Err (read.Field fault)) told too h g = absurd (h g.0 g.1)
-one_instance bytes (Err read.NotJson) (Err read.NotJson) told too h g = refl
-one_instance bytes (Err read.NoMemory) other told too h g = absurd (told refl)
-one_instance bytes what (Err read.NoMemory) told too h g = absurd (too refl)
-
--- the records that a table is read from
-record FromRecords (bytes : List ℕ) (by : List (List (List ℕ)) → Result TideParts TideFault) (what : Result TideParts TideFault) : Type 0 where
-  records : List (List (List ℕ))
-  has : HasRecords bytes records
-  gives : by records ≡ what
-
-from_records : (bytes : List ℕ) (by : List (List (List ℕ)) → Result TideParts TideFault) (what : Result TideParts TideFault) → what ≢ Err tide.NoMemory → ReadsHeights bytes by what → FromRecords bytes by what
-from_records bytes by (Ok h) told g = record { records = g.0; has = g.1; gives = g.2 }
-from_records bytes by (Err (tide.Header column)) told g = record { records = g.0; has = g.1; gives = g.2 }
-from_records bytes by (Err (tide.Length row)) told g = record { records = g.0; has = g.1; gives = g.2 }
-from_records bytes by (Err (tide.Field row column)) told g = record { records = g.0; has = g.1; gives = g.2 }
-from_records bytes by (Err tide.Few) told g = record { records = g.0; has = g.1; gives = g.2 }
-from_records bytes by (Err tide.NoMemory) told g = absurd (told refl)
-
--- a table's bytes are read as one thing
-one_table : (bytes : List ℕ) (by : List (List (List ℕ)) → Result TideParts TideFault) (what other : Result TideParts TideFault) → what ≢ Err tide.NoMemory → other ≢ Err tide.NoMemory → ReadsHeights bytes by what → ReadsHeights bytes by other → what ≡ other
-one_table bytes by what other told too h g =
-    let a = from_records bytes by what told h in
-    let b = from_records bytes by other too g in
-    sym a.gives ∙ ap by (one_list_law bytes a.records b.records a.has b.has) ∙ b.gives
-
 -- ---- one list of reports
-
--- these reports of bytes that pass the limit, and those of others
-abbrev Limited : List ℕ → Report → (List Report → Type 0) → List Report → Type 0
-Limited bytes long Within rs = (IsLong bytes × (rs ≡ long ∷ [])) ⊎ ((length bytes ≤ most_bytes) × Within rs)
-
-not_both : {m n : ℕ} → m < n → n ≤ m → ⊥
-not_both less least = omega arith
 
 -- no two lists of reports are said
 abbrev One : (List Report → Type 0) → Type 0
 One Says = (rs others : List Report) → Says rs → Says others → rs ≡ others
-
-one_limited : (bytes : List ℕ) (long : Report) (Within : List Report → Type 0) → One Within → One (Limited bytes long Within)
-one_limited bytes long Within one rs others (inl h) (inl g) = h.1 ∙ sym g.1
-one_limited bytes long Within one rs others (inl h) (inr g) = absurd (not_both h.0 g.0)
-one_limited bytes long Within one rs others (inr h) (inl g) = absurd (not_both g.0 h.0)
-one_limited bytes long Within one rs others (inr h) (inr g) = one rs others h.1 g.1
 
 -- ---- the events, and before them the plan
 
@@ -100,31 +41,31 @@ abbrev of_trial : Problem → Watched → List PortEvent → Option (ℕ × Audi
 of_trial f s happened None = audit_reports f s happened
 of_trial f s happened (Some refusal) = bad_text Events refusal.0 (word_text refusal.1) ∷ []
 
-abbrev of_events : Problem → ℕ → Watched → Result (List PortEvent) Fault → List Report
+abbrev of_events : Problem → ℕ → Watched → Result (List PortEvent) (Fault AuditWord) → List Report
 of_events f fleet s (Ok happened) = of_trial f s happened (first_refused f fleet 2 s happened)
 of_events f fleet s (Err bad) = bad_text Events bad.number (word_text bad.word) ∷ []
 
 abbrev EventsSay : Parts → TideParts → List ℕ → List ℕ → List Report → Type 0
-EventsSay p h events table rs = Limited events (too_long Events) (λ rs. rs ≡ of_events (flattened p h) (whole p.fleet) (watched table) (events_text events)) rs
+EventsSay p h events table rs = Limited events (too_long Events ∷ []) (λ rs. rs ≡ of_events (flattened p h) (whole p.fleet) (watched table) (events_text events)) rs
 
-abbrev PlanSays : Parts → TideParts → List ℕ → Result (List ℕ) Fault → List Report → Type 0
+abbrev PlanSays : Parts → TideParts → List ℕ → Result (List ℕ) (Fault AuditWord) → List Report → Type 0
 PlanSays p h events (Ok table) rs = EventsSay p h events table rs
 PlanSays p h events (Err bad) rs = rs ≡ bad_text Plan bad.number (word_text bad.word) ∷ []
 
 abbrev LastSays : List ℕ → List ℕ → Parts → TideParts → List Report → Type 0
-LastSays plan events p h rs = Limited plan (too_long Plan) (PlanSays p h events (table_text (shape_of (flattened p h)) plan)) rs
+LastSays plan events p h rs = Limited plan (too_long Plan ∷ []) (PlanSays p h events (table_text (shape_of (flattened p h)) plan)) rs
 
 one_equal : (these : List Report) → One (λ rs. rs ≡ these)
 one_equal these rs others h g = h ∙ sym g
 
-one_plan : (p : Parts) (h : TideParts) (events : List ℕ) (what : Result (List ℕ) Fault) → One (PlanSays p h events what)
+one_plan : (p : Parts) (h : TideParts) (events : List ℕ) (what : Result (List ℕ) (Fault AuditWord)) → One (PlanSays p h events what)
 one_plan p h events (Ok table) rs others says says_too =
-    one_limited events (too_long Events) (λ rs. rs ≡ of_events (flattened p h) (whole p.fleet) (watched table) (events_text events)) (one_equal (of_events (flattened p h) (whole p.fleet) (watched table) (events_text events))) rs others says says_too
+    one_limited events (too_long Events ∷ []) (λ rs. rs ≡ of_events (flattened p h) (whole p.fleet) (watched table) (events_text events)) (one_equal (of_events (flattened p h) (whole p.fleet) (watched table) (events_text events))) rs others says says_too
 one_plan p h events (Err bad) rs others says says_too = says ∙ sym says_too
 
 one_last : (plan events : List ℕ) (p : Parts) (h : TideParts) → One (LastSays plan events p h)
 one_last plan events p h rs others says says_too =
-    one_limited plan (too_long Plan) (PlanSays p h events (table_text (shape_of (flattened p h)) plan)) (one_plan p h events (table_text (shape_of (flattened p h)) plan)) rs others says says_too
+    one_limited plan (too_long Plan ∷ []) (PlanSays p h events (table_text (shape_of (flattened p h)) plan)) (one_plan p h events (table_text (shape_of (flattened p h)) plan)) rs others says says_too
 
 -- ---- the tide table, and before it the instance
 
@@ -141,7 +82,7 @@ record OfTable (table : List ℕ) (Last : TideParts → List Report → Type 0) 
 
 -- what is said of an instance that is read as this
 abbrev Follows : List ℕ → (Parts → TideParts → List Report → Type 0) → Result Parts ReadFault → List Report → Type 0
-Follows table Last (Ok p) rs = Limited table (too_long Tides) (OfTable table (Last p) p) rs
+Follows table Last (Ok p) rs = Limited table (too_long Tides ∷ []) (OfTable table (Last p) p) rs
 Follows table Last (Err read.NotJson) rs = rs ≡ bad_json ∷ []
 Follows table Last (Err (read.Field fault)) rs = rs ≡ bad_field fault ∷ []
 Follows table Last (Err read.NoMemory) rs = ⊥
@@ -153,7 +94,7 @@ record OfInstance (instance table : List ℕ) (Last : Parts → TideParts → Li
   follows : Follows table Last what rs
 
 abbrev OfFiles : List ℕ → List ℕ → (Parts → TideParts → List Report → Type 0) → List Report → Type 0
-OfFiles instance table Last rs = Limited instance (too_long Instance) (OfInstance instance table Last) rs
+OfFiles instance table Last rs = Limited instance (too_long Instance ∷ []) (OfInstance instance table Last) rs
 
 one_said : (Last : TideParts → List Report → Type 0) → ((h : TideParts) → One (Last h)) → (what : Result TideParts TideFault) → One (TableSays Last what)
 one_said Last one (Ok h) rs others says says_too = one h rs others says says_too
@@ -165,7 +106,7 @@ one_of_table table Last p one rs others a b =
     one_said Last one a.what rs others a.says (subst (λ (what : Result TideParts TideFault). TableSays Last what others) same b.says)
 
 one_follows : (table : List ℕ) (Last : Parts → TideParts → List Report → Type 0) → ((p : Parts) (h : TideParts) → One (Last p h)) → (what : Result Parts ReadFault) → One (Follows table Last what)
-one_follows table Last one (Ok p) rs others a b = one_limited table (too_long Tides) (OfTable table (Last p) p) (one_of_table table (Last p) p (one p)) rs others a b
+one_follows table Last one (Ok p) rs others a b = one_limited table (too_long Tides ∷ []) (OfTable table (Last p) p) (one_of_table table (Last p) p (one p)) rs others a b
 one_follows table Last one (Err read.NotJson) rs others a b = a ∙ sym b
 one_follows table Last one (Err (read.Field fault)) rs others a b = a ∙ sym b
 one_follows table Last one (Err read.NoMemory) rs others a b = absurd a
@@ -176,7 +117,7 @@ one_of_instance instance table Last one rs others a b =
     one_follows table Last one a.what rs others a.follows (subst (λ (what : Result Parts ReadFault). Follows table Last what others) same b.follows)
 
 one_of_files : (instance table : List ℕ) (Last : Parts → TideParts → List Report → Type 0) → ((p : Parts) (h : TideParts) → One (Last p h)) → One (OfFiles instance table Last)
-one_of_files instance table Last one rs others a b = one_limited instance (too_long Instance) (OfInstance instance table Last) (one_of_instance instance table Last one) rs others a b
+one_of_files instance table Last one rs others a b = one_limited instance (too_long Instance ∷ []) (OfInstance instance table Last) (one_of_instance instance table Last one) rs others a b
 
 -- ---- what an audit says is said of its files
 
@@ -218,13 +159,13 @@ no_port_files instance table Last (too_long Tides) says = of_long_table Last say
 no_port_files instance table Last r says = absurd says
 
 -- a plan that is read as this
-by_plan : (plan : List ℕ) (p : Parts) (h : TideParts) (events : List ℕ) (what : Result (List ℕ) Fault) (rs : List Report) → length plan ≤ most_bytes → table_text (shape_of (flattened p h)) plan ≡ what → PlanSays p h events what rs → LastSays plan events p h rs
-by_plan plan p h events what rs short reads says = inr (short, subst (λ (read_as : Result (List ℕ) Fault). PlanSays p h events read_as rs) (sym reads) says)
+by_plan : (plan : List ℕ) (p : Parts) (h : TideParts) (events : List ℕ) (what : Result (List ℕ) (Fault AuditWord)) (rs : List Report) → length plan ≤ most_bytes → table_text (shape_of (flattened p h)) plan ≡ what → PlanSays p h events what rs → LastSays plan events p h rs
+by_plan plan p h events what rs short reads says = inr (short, subst (λ (read_as : Result (List ℕ) (Fault AuditWord)). PlanSays p h events read_as rs) (sym reads) says)
 
 -- a timetable, and events that are read as this
-by_events : (plan events : List ℕ) (p : Parts) (h : TideParts) (table : List ℕ) (what : Result (List PortEvent) Fault) (rs : List Report) → IsPlanOf (Some plan) p h table → length events ≤ most_bytes → events_text events ≡ what → rs ≡ of_events (flattened p h) (whole p.fleet) (watched table) what → LastSays plan events p h rs
+by_events : (plan events : List ℕ) (p : Parts) (h : TideParts) (table : List ℕ) (what : Result (List PortEvent) (Fault AuditWord)) (rs : List Report) → IsPlanOf (Some plan) p h table → length events ≤ most_bytes → events_text events ≡ what → rs ≡ of_events (flattened p h) (whole p.fleet) (watched table) what → LastSays plan events p h rs
 by_events plan events p h table what rs planned short reads says =
-    by_plan plan p h events (Ok table) rs planned.reads.0 planned.reads.1 (inr (short, subst (λ (read_as : Result (List PortEvent) Fault). rs ≡ of_events (flattened p h) (whole p.fleet) (watched table) read_as) (sym reads) says))
+    by_plan plan p h events (Ok table) rs planned.reads.0 planned.reads.1 (inr (short, subst (λ (read_as : Result (List PortEvent) (Fault AuditWord)). rs ≡ of_events (flattened p h) (whole p.fleet) (watched table) read_as) (sym reads) says))
 
 by_failure : (plan events : List ℕ) (p : Parts) (h : TideParts) (table : List ℕ) (number : ℕ) (cause : AuditWord) → IsPlanOf (Some plan) p h table → EventsFail (flattened p h) (whole p.fleet) (watched table) (Some events) number cause → LastSays plan events p h (bad_text Events number (word_text cause) ∷ [])
 by_failure plan events p h table number cause planned (by_form form) = by_events plan events p h table (Err (record { number = number; word = cause })) (bad_text Events number (word_text cause) ∷ []) planned form.0 form.1 refl

@@ -47,7 +47,7 @@ from_here f fleet s events k = first_refused f fleet (k + 2) (after_all s (take 
 pub next_here : (a now : Audited) (events : List PortEvent) (k : ℕ) (d : PortEvent) → now ≡ in_state a (after_all a.state (take k events)) → k < length events → first_refused a.problem a.fleet 2 a.state events ≡ None → refused now.problem now.fleet now.state (get_or events k d) ≡ None
 next_here a now events k d stands lt none = subst (λ (v : Audited). refused v.problem v.fleet v.state (get_or events k d) ≡ None) (sym stands) (next_taken a.problem a.fleet 2 a.state events k d lt none)
 
--- the state after one event more
+-- the state after one more event
 after_more : (s : Watched) (events : List PortEvent) (k : ℕ) (d : PortEvent) → k < length events → after_all s (take (k + 1) events) ≡ after (after_all s (take k events)) (get_or events k d)
 after_more s events k d lt = fold_more after s events k d lt
 

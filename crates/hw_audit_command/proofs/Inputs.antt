@@ -9,7 +9,8 @@ use Rattle.hw_tide.specs.Levels.{TideParts}
 use Rattle.hw_port_rules.specs.Flattened.{flattened}
 use Rattle.hw_port_rules.specs.Timetables.{IsPortTimetable}
 use Rattle.hw_report.specs.Reports.{bad_text}
-use Rattle.hw_audit.specs.Text.{fault, table_text, events_text}
+use Rattle.hw_derived.specs.Reading.{fault}
+use Rattle.hw_audit.specs.Text.{table_text, events_text}
 use Rattle.hw_audit.specs.Words.{word_text}
 use Rattle.hw_audit.specs.declared.event.PortEvent.{PortEvent}
 use Rattle.hw_audit.proofs.Begun.{to_port}

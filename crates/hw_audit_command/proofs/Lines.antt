@@ -33,11 +33,11 @@ range_parts a b n (suc m) i e g =
     let next : a + 1 + m ≡ b = omega arith in
     ap (range_with_len a) more ∙ ap (λ (xs : List ℕ). a ∷ xs) (range_parts (a + 1) b (m + i) m i next refl)
 
--- the lines of so many events
+-- the lines of the first k events
 abbrev pub first_lines : Problem → Watched → List PortEvent → ℕ → List Report
 first_lines f s events k = map (line_after f s events) (range_with_len 0 k)
 
--- the lines of so many events from one number on, and the end
+-- the lines of `more` events from the number k on, and the end
 abbrev pub later_lines : Problem → Watched → List PortEvent → ℕ → ℕ → List Report
 later_lines f s events k more = map (line_after f s events) (range_with_len k more) ++ audit_end ∷ []
 

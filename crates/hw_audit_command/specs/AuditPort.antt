@@ -11,7 +11,8 @@ use Rattle.hw_port_rules.specs.Numbers.{whole}
 use Rattle.hw_port_rules.specs.Permitted.{PortPermits}
 use Rattle.hw_report.specs.Reports.{Report, after, audit_end, bad_text, too_long}
 use Rattle.hw_audit.specs.Laws.{fewer_tugs}
-use Rattle.hw_audit.specs.Text.{fault, table_text, events_text}
+use Rattle.hw_derived.specs.Reading.{fault}
+use Rattle.hw_audit.specs.Text.{table_text, events_text}
 use Rattle.hw_audit.specs.Watching.{Watched, watched, after_all, first_refused, broken_now}
 use Rattle.hw_audit.specs.Words.{word_text}
 use Rattle.hw_audit.specs.declared.event.PortEvent.{PortEvent}
@@ -25,11 +26,11 @@ use Rattle.hw_audit_command.specs.Values.{IsPlanOf, AreEventsOf, GivesPlan, Audi
 
 -- ---- the whole report
 
--- the state after so many of the events
+-- the state after the first n events
 abbrev pub state_after : Watched → List PortEvent → ℕ → Watched
 state_after s events n = after_all s (take n events)
 
--- the restrictions broken after so many of the events
+-- the restrictions broken after the first n events
 abbrev pub line_after : Problem → Watched → List PortEvent → ℕ → Report
 line_after f s events n = after n (broken_now f (state_after s events n))
 
@@ -37,7 +38,7 @@ line_after f s events n = after n (broken_now f (state_after s events n))
 abbrev pub audit_reports : Problem → Watched → List PortEvent → List Report
 audit_reports f s events = map (line_after f s events) (range_with_len 0 (length events + 1)) ++ audit_end ∷ []
 
--- where nothing is broken after so many of the events, and only there, the port with the tugs that are left permits the timetable that then stands
+-- where nothing is broken after the first n events, and only there, the port with the tugs that are left permits the timetable that then stands
 abbrev pub TellsOfPort : Parts → TideParts → List ℕ → List PortEvent → Type 0
 TellsOfPort p h table events = (n : ℕ) → n ≤ length events
     → let s = state_after (watched table) events n in ((broken_now (flattened p h) s ≡ []) ↔ PortPermits (fewer_tugs s.withdrawn p) h s.table)
@@ -89,7 +90,7 @@ NoAudit instance tides plan events (too_long Plan) = GivesTide instance tides ×
 NoAudit instance tides plan events (too_long Events) = GivesPlan instance tides plan × IfSome events IsLong
 NoAudit instance tides plan events r = NoPort instance tides r
 
--- what the reports say of the four texts, each where it is told. Where these are told, and but for want of memory, no two lists of reports hold together
+-- what the reports say of the four texts, each where it is told. Apart from out of memory, no two lists of reports hold together where these are told
 abbrev pub AuditsTexts : Option (List ℕ) → Option (List ℕ) → Option (List ℕ) → Option (List ℕ) → List Report → Type 0
 AuditsTexts instance tides plan events [] = ⊥
 AuditsTexts instance tides plan events (r ∷ []) = NoAudit instance tides plan events r

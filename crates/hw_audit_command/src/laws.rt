@@ -2,7 +2,7 @@
 
 ghost use Rattle.hw_audit_command.specs.Laws.{OneAudit};
 
-/// The bytes of the four files decide what is reported, but for a failed call and want of memory.
+/// The bytes of the four files decide what is reported, unless a call fails or memory runs out.
 pub fn one_audit()
     ensures { OneAudit }
 {}

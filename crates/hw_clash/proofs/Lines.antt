@@ -5,9 +5,11 @@ use Rattle.hw_derived.proofs.Listed.{with_front, regroup}
 use Rattle.hw_text.specs.Numbers.{number_from_to}
 use Rattle.hw_model.specs.Problem.{Problem}
 use Rattle.hw_model.specs.Timetables.{breach, first_broken}
-use Rattle.hw_clash.specs.declared.fault.ClashFault.{ClashFault}
-use Rattle.hw_clash.specs.declared.fault.ClashFault.TheVariants as faults
-use Rattle.hw_clash.specs.Text.{Fault, ◌>>=◌, Fails, ids_from, drop_at, drops_at}
+use Rattle.hw_derived.specs.declared.fault.LineFault.{LineFault}
+use Rattle.hw_derived.specs.declared.fault.LineFault.TheVariants as faults
+use Rattle.hw_derived.specs.Reading.{Fault, ◌>>=◌, Fails}
+use Rattle.hw_clash.specs.declared.fault.ClashWord.{ClashWord}
+use Rattle.hw_clash.specs.Text.{ids_from, drop_at, drops_at}
 
 -- ---- ids
 
@@ -28,7 +30,7 @@ ids_done front least many words total e so_far =
 -- ---- timetables
 
 abbrev Read : Type 0
-Read = Result (List (List ℕ) × List (List ℕ)) Fault
+Read = Result (List (List ℕ) × List (List ℕ)) (Fault ClashWord)
 
 -- what was read before, and what is still read
 abbrev pub with_read : List (List ℕ) → Read → Read
@@ -52,7 +54,7 @@ drops_go_on f kept front table i parts after total lt h so_far =
     rw (later kept i lt, h, n) (regroup_tables front table (drops_at f kept (3 + (i + 1)) (drop (i + 1) kept) after)) in
     sym one ∙ so_far
 
-pub drops_fail : (e : ClashFault) (f : Problem) (kept : List ℕ) (front : List (List ℕ)) (i : ℕ) (parts : List (List ℕ)) (total : Read) → i < length kept → Fails e (drop_at f kept (3 + i) (get_or kept i 0) parts)
+pub drops_fail : (e : LineFault ClashWord) (f : Problem) (kept : List ℕ) (front : List (List ℕ)) (i : ℕ) (parts : List (List ℕ)) (total : Read) → i < length kept → Fails e (drop_at f kept (3 + i) (get_or kept i 0) parts)
     → with_read front (drops_at f kept (3 + i) (drop i kept) parts) ≡ total → Fails e total
 unfolding drops_at
 drops_fail faults.NoMemory f kept front i parts total lt h so_far = tt

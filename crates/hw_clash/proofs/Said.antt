@@ -1,5 +1,5 @@
 -- What a clash text says where it reads.
-use Rattle.std.proofs.Common.{◌≡◌, ℕ, zero, suc, ◌+◌, ◌-◌, ◌<◌, ◌≤◌, Bool, true, false, cond, nat_le, ◌&&◌, is_some, List, [], ◌∷◌, Option, Some, None, Result, Ok, Err, slice_get, All, length, get_or, bytes_eq, codes, refl, sym, ap, subst, ◌∙◌, arith}
+use Rattle.std.proofs.Common.{◌≡◌, ℕ, zero, suc, ◌+◌, ◌-◌, ◌<◌, ◌≤◌, Bool, true, false, cond, nat_le, ◌&&◌, is_some, List, [], ◌∷◌, Option, Some, None, Result, Ok, slice_get, All, length, get_or, bytes_eq, codes, refl, sym, ap, subst, ◌∙◌, arith}
 use Rattle.std.proofs.lemmas.Bool.{leb-true, and_parts}
 use Rattle.std.proofs.lemmas.Option.{cond_some, same_Some, option_and_then_some}
 use Rattle.std.proofs.lemmas.List.Elements.{All-nil, All-cons, All-head, All-weaker}
@@ -15,22 +15,11 @@ use Rattle.hw_clash.specs.declared.fault.ClashWord.{ClashWord}
 use Rattle.hw_clash.specs.declared.fault.ClashWord.TheVariants as words
 use Rattle.hw_clash.specs.Parts.{part}
 use Rattle.hw_clash.specs.Clashing.{without, AreDrops}
-use Rattle.hw_clash.specs.Text.{Fault, ◌>>=◌, fault, formed, line_at, ids_from, some_ids, keep_words, keep_form, drop_words, drop_form, keep_at, drop_at, drops_at}
+use Rattle.hw_derived.proofs.Reading.{bind_ok, formed_ok, slot_below}
+use Rattle.hw_derived.specs.Reading.{Fault, ◌>>=◌, fault, formed, line_at}
+use Rattle.hw_clash.specs.Text.{ids_from, some_ids, keep_words, keep_form, drop_words, drop_form, keep_at, drop_at, drops_at}
 
 -- ---- reading
-
-pub record Binds {A B : Type 0} (r : Result A Fault) (g : A → Result B Fault) (b : B) : Type 0 where
-  pub value : A
-  pub is : r ≡ Ok value
-  pub then' : g value ≡ Ok b
-
-pub bind_ok : {A B : Type 0} (r : Result A Fault) (g : A → Result B Fault) (b : B) → (r >>= g) ≡ Ok b → Binds r g b
-bind_ok (Ok a) g b e = record { value = a; is = refl; then' = e }
-bind_ok (Err f) g b e = absurd cc
-
-pub formed_ok : {A : Type 0} (number : ℕ) (word : ClashWord) (o : Option A) (x : A) → formed number word o ≡ Ok x → o ≡ Some x
-formed_ok number word None x e = absurd cc
-formed_ok {A} number word (Some y) x e = let p : y ≡ x = cc in ap (λ (z : A). Some z) p
 
 -- ---- ids
 
@@ -97,13 +86,13 @@ keep_words_read : (f : Problem) (words : List (List ℕ)) (kept : List ℕ) → 
 keep_words_read f [] kept some e = absurd cc
 keep_words_read f (key ∷ words) kept some e = some_read f words kept some (by_key (bytes_eq key (codes "keep")) (some_ids (restriction_count f) words) kept e)
 
-abbrev pub kept_and : List (List ℕ) → List ℕ → Result (List ℕ × List (List ℕ)) Fault
+abbrev pub kept_and : List (List ℕ) → List ℕ → Result (List ℕ × List (List ℕ)) (Fault ClashWord)
 kept_and rest kept = Ok (kept, rest)
 
-abbrev pub after_keep : Problem → List ℕ × List (List ℕ) → Result (List ℕ × List (List ℕ)) Fault
+abbrev pub after_keep : Problem → List ℕ × List (List ℕ) → Result (List ℕ × List (List ℕ)) (Fault ClashWord)
 after_keep f line = formed 2 words.Keep (keep_form f line.0) >>= kept_and line.1
 
-first_same : (a b : List ℕ × List (List ℕ)) → ◌≡◌ {A = Result (List ℕ × List (List ℕ)) Fault} (Ok a) (Ok b) → a.0 ≡ b.0
+first_same : (a b : List ℕ × List (List ℕ)) → ◌≡◌ {A = Result (List ℕ × List (List ℕ)) (Fault ClashWord)} (Ok a) (Ok b) → a.0 ≡ b.0
 first_same a b e = let p : a ≡ b = cc in ap (λ (x : List ℕ × List (List ℕ)). x.0) p
 
 pub keep_read : (f : Problem) (parts : List (List ℕ)) (read : List ℕ × List (List ℕ)) → 0 < f.ships → keep_at f parts ≡ Ok read → KeepRead f read.0
@@ -115,12 +104,6 @@ keep_read f parts read some e =
     subst (KeepRead f) (first_same (kept.value, line.value.1) read kept.then') (keep_words_read f (words_of line.value.0) kept.value (omega (arith, some)) form)
 
 -- ---- timetables
-
-slot_below : (slots : ℕ) (word : List ℕ) (n : ℕ) → 0 < slots → slot_form slots word ≡ Some n → n < slots
-slot_below slots word n some e =
-    let r = cond_some (is_number word && nat_le (digits_value 10 word) (slots - 1)) (digits_value 10 word) n e in
-    let le : digits_value 10 word ≤ slots - 1 = leb-true _ _ (and_parts (is_number word) _ r.0).1 in
-    omega (arith, some, le, r.1)
 
 pub put_parts : (o : Option ℕ) (more : Option (List ℕ)) (list : List ℕ) → put_first o more ≡ Some list → (n : ℕ) × (rest : List ℕ) × (o ≡ Some n) × (more ≡ Some rest) × (n ∷ rest ≡ list)
 put_parts None more list e = absurd cc
@@ -146,10 +129,10 @@ drop_words_read f id (key ∷ word ∷ words) table some e =
     let r = slots_read f.slots f.ships words table some form in
     record { each_ship = r.0; each_slot = r.1 }
 
-abbrev pub after_form : Problem → List ℕ → ℕ → ℕ → List (List ℕ) → List ℕ → Result (List ℕ × List (List ℕ)) Fault
+abbrev pub after_form : Problem → List ℕ → ℕ → ℕ → List (List ℕ) → List ℕ → Result (List ℕ × List (List ℕ)) (Fault ClashWord)
 after_form f kept number id rest table = cond (is_some (first_broken (part f (without id kept)) table)) (fault number words.Table) (Ok (table, rest))
 
-abbrev pub after_line : Problem → List ℕ → ℕ → ℕ → List ℕ × List (List ℕ) → Result (List ℕ × List (List ℕ)) Fault
+abbrev pub after_line : Problem → List ℕ → ℕ → ℕ → List ℕ × List (List ℕ) → Result (List ℕ × List (List ℕ)) (Fault ClashWord)
 after_line f kept number id line = formed number words.Drop (drop_form f id line.0) >>= after_form f kept number id line.1
 
 pub unbroken : (o : Option ℕ) (number : ℕ) (x y : List ℕ × List (List ℕ)) → cond (is_some o) (fault number words.Table) (Ok x) ≡ Ok y → (o ≡ None) × (x ≡ y)
@@ -176,13 +159,13 @@ met_more f kept ids drops id first permits more zero n table p q =
     subst (Permits (part f (without n kept))) (same_Some first table q) (subst (λ m. Permits (part f (without m kept)) first) (same_Some id n p) permits)
 met_more f kept ids drops id first permits more (suc place) n table p q = more.1 place n table p q
 
-abbrev pub after_more : List ℕ → List (List ℕ) × List (List ℕ) → Result (List (List ℕ) × List (List ℕ)) Fault
+abbrev pub after_more : List ℕ → List (List ℕ) × List (List ℕ) → Result (List (List ℕ) × List (List ℕ)) (Fault ClashWord)
 after_more table more = Ok (table ∷ more.0, more.1)
 
-abbrev pub after_first : Problem → List ℕ → ℕ → List ℕ → List ℕ × List (List ℕ) → Result (List (List ℕ) × List (List ℕ)) Fault
+abbrev pub after_first : Problem → List ℕ → ℕ → List ℕ → List ℕ × List (List ℕ) → Result (List (List ℕ) × List (List ℕ)) (Fault ClashWord)
 after_first f kept number ids table = drops_at f kept (number + 1) ids table.1 >>= after_more table.0
 
-lists_same : (a b : List (List ℕ) × List (List ℕ)) → ◌≡◌ {A = Result (List (List ℕ) × List (List ℕ)) Fault} (Ok a) (Ok b) → a.0 ≡ b.0
+lists_same : (a b : List (List ℕ) × List (List ℕ)) → ◌≡◌ {A = Result (List (List ℕ) × List (List ℕ)) (Fault ClashWord)} (Ok a) (Ok b) → a.0 ≡ b.0
 lists_same a b e = let p : a ≡ b = cc in ap (λ (x : List (List ℕ) × List (List ℕ)). x.0) p
 
 pub drops_read : (f : Problem) (kept : List ℕ) (number : ℕ) (ids : List ℕ) (parts : List (List ℕ)) (read : List (List ℕ) × List (List ℕ)) → 0 < f.slots → drops_at f kept number ids parts ≡ Ok read → MetBy f kept ids read.0

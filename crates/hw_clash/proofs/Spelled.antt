@@ -16,10 +16,12 @@ use Rattle.hw_model.specs.Timetables.{restriction_count}
 use Rattle.hw_clash.specs.declared.fault.ClashWord.{ClashWord}
 use Rattle.hw_clash.specs.declared.fault.ClashWord.TheVariants as words
 use Rattle.hw_clash.specs.Clashes.{Clash}
-use Rattle.hw_clash.specs.Text.{Fault, ◌>>=◌, fault, formed, line_at, only_at, ended_at, ids_from, some_ids, keep_words, keep_form, drop_words, drop_form, keep_at, drop_at, drops_at, clash_by, clash_of}
+use Rattle.hw_derived.proofs.Reading.{bind_ok, formed_ok}
+use Rattle.hw_derived.specs.Reading.{Fault, ◌>>=◌, fault, formed, line_at, only_at, ended_at}
+use Rattle.hw_clash.specs.Text.{ids_from, some_ids, keep_words, keep_form, drop_words, drop_form, keep_at, drop_at, drops_at, clash_by, clash_of}
 use Rattle.hw_clash.specs.Written.{keep_line, drop_line, drop_lines, clash_lines}
 use Rattle.hw_clash.specs.Laws.{OneClashText}
-use Rattle.hw_clash.proofs.Said.{keep_read, bind_ok, formed_ok, put_some, put_parts, by_key, kept_and, after_keep, after_form, after_line, after_more, after_first, unbroken}
+use Rattle.hw_clash.proofs.Said.{keep_read, put_some, put_parts, by_key, kept_and, after_keep, after_form, after_line, after_more, after_first, unbroken}
 use Rattle.hw_clash.proofs.Written.{few_restrictions, few_slots}
 
 abbrev Parts : Type 0
@@ -101,7 +103,7 @@ by_test : (b : Bool) (number : ℕ) (word : ClashWord) (x y : Parts) → cond b 
 by_test true number word x y e = (refl, cc)
 by_test false number word x y e = absurd cc
 
-abbrev after_only : ℕ → ClashWord → List ℕ → List ℕ × Parts → Result Parts Fault
+abbrev after_only : ℕ → ClashWord → List ℕ → List ℕ × Parts → Result Parts (Fault ClashWord)
 after_only number word text line = cond (bytes_eq line.0 text) (Ok line.1) (fault number word)
 
 only_is : (number : ℕ) (word : ClashWord) (text : List ℕ) (parts rest : Parts) → only_at number word text parts ≡ Ok rest → parts ≡ text ∷ rest
@@ -110,7 +112,7 @@ only_is number word text parts rest e =
     let t = by_test (bytes_eq line.value.0 text) number word line.value.1 rest line.then' in
     line_is number word parts line.value line.is ∙ ap₂ ◌∷◌ (same_text line.value.0 text t.0) t.1
 
-pair_same : {A : Type 0} (a b : A × Parts) → ◌≡◌ {A = Result (A × Parts) Fault} (Ok a) (Ok b) → a ≡ b
+pair_same : {A : Type 0} (a b : A × Parts) → ◌≡◌ {A = Result (A × Parts) (Fault ClashWord)} (Ok a) (Ok b) → a ≡ b
 pair_same a b e = cc
 
 keep_is : (f : Problem) (parts : Parts) (read : List ℕ × Parts) → IsFlat f → keep_at f parts ≡ Ok read → parts ≡ keep_line read.0 ∷ read.1
@@ -163,16 +165,16 @@ ended_is number word read clash parts e = by_end (at_end parts) refl e
     by_end true t h = (cc, empty_is parts t)
     by_end false t h = absurd cc
 
-abbrev after_end : List ℕ → List (List ℕ) → Parts → Result Clash Fault
+abbrev after_end : List ℕ → List (List ℕ) → Parts → Result Clash (Fault ClashWord)
 after_end kept drops rest = ended_at (4 + length kept) words.Tail (clash_by kept drops) rest
 
-abbrev after_drops : List ℕ → List (List ℕ) × Parts → Result Clash Fault
+abbrev after_drops : List ℕ → List (List ℕ) × Parts → Result Clash (Fault ClashWord)
 after_drops kept drops = only_at (3 + length kept) words.Tail (codes "end") drops.1 >>= after_end kept drops.0
 
-abbrev after_kept : Problem → List ℕ × Parts → Result Clash Fault
+abbrev after_kept : Problem → List ℕ × Parts → Result Clash (Fault ClashWord)
 after_kept f keep = drops_at f keep.0 3 keep.0 keep.1 >>= after_drops keep.0
 
-abbrev after_header : Problem → Parts → Result Clash Fault
+abbrev after_header : Problem → Parts → Result Clash (Fault ClashWord)
 after_header f first = keep_at f first >>= after_kept f
 
 lines_are : (f : Problem) (parts : Parts) (clash : Clash) → IsFlat f → clash_of f parts ≡ Ok clash → parts ≡ clash_lines clash ++ [] ∷ []

@@ -16,7 +16,7 @@ abbrev pub PartValue : Type 0
 PartValue = (f : Problem) (kept : List ℕ) (ship slot : ℕ) → ship < f.ships → slot < f.slots
     → value_at (part f kept) ship slot ≡ part_value f kept ship slot
 
--- a part permits just the timetables of which its restrictions hold
+-- a part permits exactly the timetables of which its restrictions hold
 abbrev pub PartPermits : Type 0
 PartPermits = (f : Problem) (kept table : List ℕ) → (Permits (part f kept) table ↔ Meets f kept table)
 

@@ -1,12 +1,11 @@
 -- The text of a clash, over the list of its lines.
-use Rattle.std.specs.Prelude.{◌≡◌, ℕ, ◌+◌, ◌-◌, List, [], ◌∷◌, Option, Some, None, Result, Ok, Err, codes, bytes_eq, is_some, option_and_then, if◌then◌else◌, length}
+use Rattle.std.specs.Prelude.{ℕ, ◌+◌, ◌-◌, List, [], ◌∷◌, Option, Some, None, Result, Ok, codes, bytes_eq, is_some, option_and_then, if◌then◌else◌, length}
 use Rattle.hw_model.specs.Problem.{Problem}
 use Rattle.hw_model.specs.Timetables.{restriction_count, first_broken}
+use Rattle.hw_derived.specs.Reading.{Fault, ◌>>=◌, fault, formed, line_at, only_at, ended_at}
 use Rattle.hw_derived.specs.Slots.{slots_form, put_first}
 use Rattle.hw_text.specs.Numbers.{number_from_to}
-use Rattle.hw_text.specs.Parts.{parts_of, words_of, first_part, at_end}
-use Rattle.hw_clash.specs.declared.fault.ClashFault.{ClashFault}
-use Rattle.hw_clash.specs.declared.fault.ClashFault.TheVariants as faults
+use Rattle.hw_text.specs.Parts.{parts_of, words_of}
 use Rattle.hw_clash.specs.declared.fault.ClashWord.{ClashWord}
 use Rattle.hw_clash.specs.declared.fault.ClashWord.TheVariants as words
 use Rattle.hw_clash.specs.Clashes.{Clash}
@@ -41,53 +40,24 @@ drop_words f id _ = None
 abbrev pub drop_form : Problem → ℕ → List ℕ → Option (List ℕ)
 drop_form f id line = drop_words f id (words_of line)
 
--- ---- the first line that isn't of the form demanded at its place
-
-pub record Fault : Type 0 where
-  pub number : ℕ
-  pub word : ClashWord
-
-infixl 10 ◌>>=◌
-abbrev pub ◌>>=◌ : {A B : Type 0} → Result A Fault → (A → Result B Fault) → Result B Fault
-(Ok x) >>= f = f x
-(Err e) >>= f = Err e
-
-abbrev pub fault : {A : Type 0} → ℕ → ClashWord → Result A Fault
-fault number word = Err (record { number = number; word = word })
-
--- what a line has by its form, or that the line isn't of the form
-abbrev pub formed : {A : Type 0} → ℕ → ClashWord → Option A → Result A Fault
-formed number word None = fault number word
-formed number word (Some x) = Ok x
-
--- the next line and the parts after it
-abbrev pub line_at : ℕ → ClashWord → List (List ℕ) → Result (List ℕ × List (List ℕ)) Fault
-line_at number word parts = formed number word (first_part parts)
-
--- the parts after a line that is just this text
-abbrev pub only_at : ℕ → ClashWord → List ℕ → List (List ℕ) → Result (List (List ℕ)) Fault
-only_at number word text parts = line_at number word parts >>= λ line. if bytes_eq line.0 text then Ok line.1 else fault number word
-
--- what was read, where no byte is left
-abbrev pub ended_at : {A : Type 0} → ℕ → ClashWord → A → List (List ℕ) → Result A Fault
-ended_at number word read parts = if at_end parts then Ok read else fault number word
+-- ---- the lines of the text
 
 -- the kept restrictions on the next line
-unfoldable pub keep_at : Problem → List (List ℕ) → Result (List ℕ × List (List ℕ)) Fault
+unfoldable pub keep_at : Problem → List (List ℕ) → Result (List ℕ × List (List ℕ)) (Fault ClashWord)
 keep_at f parts = do
   line ← line_at 2 words.Keep parts
   kept ← formed 2 words.Keep (keep_form f line.0)
   Ok (kept, line.1)
 
 -- the timetable of a kept restriction on the next line: the part of the other kept ones permits it
-unfoldable pub drop_at : Problem → List ℕ → ℕ → ℕ → List (List ℕ) → Result (List ℕ × List (List ℕ)) Fault
+unfoldable pub drop_at : Problem → List ℕ → ℕ → ℕ → List (List ℕ) → Result (List ℕ × List (List ℕ)) (Fault ClashWord)
 drop_at f kept number id parts = do
   line ← line_at number words.Drop parts
   table ← formed number words.Drop (drop_form f id line.0)
   if is_some (first_broken (part f (without id kept)) table) then fault number words.Table else Ok (table, line.1)
 
 -- the timetables of these restrictions, the first on the line of this number
-unfoldable pub drops_at : Problem → List ℕ → ℕ → List ℕ → List (List ℕ) → Result (List (List ℕ) × List (List ℕ)) Fault
+unfoldable pub drops_at : Problem → List ℕ → ℕ → List ℕ → List (List ℕ) → Result (List (List ℕ) × List (List ℕ)) (Fault ClashWord)
 drops_at f kept number [] parts = Ok ([], parts)
 drops_at f kept number (id ∷ ids) parts = do
   table ← drop_at f kept number id parts
@@ -98,7 +68,7 @@ abbrev pub clash_by : List ℕ → List (List ℕ) → Clash
 clash_by kept drops = record { kept = kept; drops = drops }
 
 -- the clash of the lines, or the first bad line
-unfoldable pub clash_of : Problem → List (List ℕ) → Result Clash Fault
+unfoldable pub clash_of : Problem → List (List ℕ) → Result Clash (Fault ClashWord)
 clash_of f parts = do
   first ← only_at 1 words.Header (codes "clash 1") parts
   keep ← keep_at f first
@@ -107,15 +77,5 @@ clash_of f parts = do
   ended_at (4 + length keep.0) words.Tail (clash_by keep.0 drops.0) rest
 
 -- what a text says: kept restrictions, each with a timetable that meets the others, or the first line that isn't of the form demanded at its place
-abbrev pub clash_text : Problem → List ℕ → Result Clash Fault
+abbrev pub clash_text : Problem → List ℕ → Result Clash (Fault ClashWord)
 clash_text f bytes = clash_of f (parts_of 10 bytes)
-
--- the fault names the line and the word that reading gives. Running out of memory is free
-abbrev pub Fails : {A : Type 0} → ClashFault → Result A Fault → Type 0
-Fails faults.NoMemory read = Unit {0}
-Fails (faults.Line number word) read = read ≡ Err (record { number = number; word = word })
-
--- what a function returned, seen by view, is what reading gives, unless memory ran out
-abbrev pub Gives : {A B : Type 0} → (A → B) → Result A ClashFault → Result B Fault → Type 0
-Gives view (Ok x) read = read ≡ Ok (view x)
-Gives view (Err e) read = Fails e read

@@ -60,7 +60,7 @@ fn with_table(mut drops: Vec<Timetable>, table: Timetable) -> Option<Vec<Timetab
     }
 }
 
-/// Tries each restriction in order: it is taken away where the others can't be met together.
+/// Tries each restriction in order, and takes it away where the others can't be met together.
 fn reduce(alloc: Global, flat: &Flat, budget: u32, all: Vec<u32>, first: MemoryLog) -> Clashed
     requires least { 1 ≤ budget }
     requires most { budget ≤ 100_000 }

@@ -1,11 +1,9 @@
 //! Why a text is no clash.
 
 ghost use Rattle.std.specs.Prelude.{◌≡◌, codes};
-ghost use Rattle.hw_clash.specs.declared.fault.ClashFault.TheVariants.{NoMemory};
 ghost use Rattle.hw_clash.specs.Words.{word_text};
 
-use hw_model::NoMemory;
-use std::alloc::{AllocError, AllocFailed};
+use hw_derived::LineFault;
 
 /// What was demanded at the first bad line.
 #[derive(Clone, Copy, Debug, PartialEq, Eq)]
@@ -37,33 +35,5 @@ impl ClashWord {
     }
 }
 
-/// Why `read_clash` gave no clash. Lines are numbered from 1.
-#[derive(Clone, Copy, Debug, PartialEq, Eq)]
-pub enum ClashFault {
-    Line { number: u64, word: ClashWord },
-    NoMemory,
-}
-
-impl From<AllocError> for ClashFault {
-    ghost from_gives = { λ _ e. e ≡ NoMemory };
-
-    fn from(_e: AllocError) -> ClashFault {
-        ClashFault::NoMemory
-    }
-}
-
-impl<T: Drop> From<AllocFailed<T>> for ClashFault {
-    ghost from_gives = { λ _ e. e ≡ NoMemory };
-
-    fn from(_e: AllocFailed<T>) -> ClashFault {
-        ClashFault::NoMemory
-    }
-}
-
-impl From<NoMemory> for ClashFault {
-    ghost from_gives = { λ _ e. e ≡ NoMemory };
-
-    fn from(_e: NoMemory) -> ClashFault {
-        ClashFault::NoMemory
-    }
-}
+/// Why `read_clash` gave no clash: its first bad line, numbered from 1, or memory ran out.
+pub type ClashFault = LineFault<ClashWord>;

@@ -8,7 +8,7 @@ pub fn part_value()
     ensures { PartValue }
 {}
 
-/// A part permits just the timetables of which its restrictions hold.
+/// A part permits exactly the timetables of which its restrictions hold.
 pub fn part_permits()
     ensures { PartPermits }
 {}

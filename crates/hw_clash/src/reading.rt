@@ -5,41 +5,17 @@ ghost use Rattle.std.specs.List.Sorted.{IsStrictlyIncreasing};
 ghost use Rattle.hw_text.specs.Parts.{parts_of};
 ghost use Rattle.hw_model.specs.Timetables.{restriction_count};
 ghost use Rattle.hw_clash.specs.Read.{SaysClash};
-ghost use Rattle.hw_clash.specs.Text.{Gives, line_at, only_at, keep_at, drop_at, drops_at, clash_of, clash_text};
+ghost use Rattle.hw_derived.specs.Reading.{Gives};
+ghost use Rattle.hw_clash.specs.Text.{keep_at, drop_at, drops_at, clash_of, clash_text};
 
 use crate::fault::{ClashFault, ClashWord};
 use crate::forms::{drop_of, keep_of};
 use crate::text::ClashText;
 use crate::trying::is_met;
+use hw_derived::{LineFault, line_of, only};
 use hw_flat::{Flat, Timetable};
-use hw_text::{cut_line, is_end, is_text};
+use hw_text::is_end;
 use std::alloc::Global;
-
-/// The next line and the bytes after it.
-fn line_of(bytes: &[u8], number: u64, word: ClashWord) -> Result<(&[u8], &[u8]), ClashFault>
-    ensures { Gives (λ x. (x.0.now, parts_of 10 x.1.now)) result (line_at number word (parts_of 10 bytes.now)) }
-{
-    match cut_line(bytes) {
-        Some((line, rest)) => Ok((line, rest)),
-        None => Err(ClashFault::Line { number, word }),
-    }
-}
-
-/// The bytes after a line that is just this text.
-fn only<'b>(
-    bytes: &'b [u8],
-    number: u64,
-    word: ClashWord,
-    text: &[u8],
-) -> Result<&'b [u8], ClashFault>
-    ensures { Gives (λ rest. parts_of 10 rest.now) result (only_at number word text.now (parts_of 10 bytes.now)) }
-{
-    let (line, rest) = line_of(bytes, number, word)?;
-    if !is_text(line, text) {
-        return Err(ClashFault::Line { number, word });
-    }
-    Ok(rest)
-}
 
 /// The kept restrictions on the next line.
 #[tactic(auto, unfolding(crate::specs::Text::keep_at))]
@@ -52,7 +28,7 @@ fn keep_line<'b>(
 {
     let (line, rest) = line_of(bytes, 2, ClashWord::Keep)?;
     let Some(kept) = keep_of(alloc, line, flat)? else {
-        return Err(ClashFault::Line {
+        return Err(LineFault::Line {
             number: 2,
             word: ClashWord::Keep,
         });
@@ -77,7 +53,7 @@ fn drop_line<'b>(
     let _limits = flat.shape();
     let (line, rest) = line_of(bytes, number, ClashWord::Drop)?;
     let Some(slots) = drop_of(alloc, line, flat, id)? else {
-        return Err(ClashFault::Line {
+        return Err(LineFault::Line {
             number,
             word: ClashWord::Drop,
         });
@@ -85,7 +61,7 @@ fn drop_line<'b>(
     let table = Timetable::from_slots(alloc, &slots)?;
     let met = is_met(alloc, flat, kept, id, &table)?;
     if !met {
-        return Err(ClashFault::Line {
+        return Err(LineFault::Line {
             number,
             word: ClashWord::Table,
         });
@@ -132,7 +108,7 @@ pub fn read_clash(alloc: Global, bytes: &[u8], flat: &Flat) -> Result<ClashText,
     let many = kept.len() as u64;
     let rest = only(rest, 3 + many, ClashWord::Tail, b"end")?;
     if !is_end(rest) {
-        return Err(ClashFault::Line {
+        return Err(LineFault::Line {
             number: 4 + many,
             word: ClashWord::Tail,
         });

@@ -9,12 +9,14 @@ use Rattle.hw_desk.specs.declared.desk.Feed.{Feed}
 use Rattle.hw_desk.specs.declared.desk.Feed.TheVariants.{Plan}
 use Rattle.hw_desk.specs.declared.whole.ReadStop.{ReadStop}
 use Rattle.hw_desk.specs.declared.whole.ReadStop.TheVariants as stops
-use Rattle.hw_clash.specs.declared.fault.ClashFault.{ClashFault}
-use Rattle.hw_clash.specs.declared.fault.ClashFault.TheVariants as faults
+use Rattle.hw_derived.specs.declared.fault.LineFault.{LineFault}
+use Rattle.hw_derived.specs.declared.fault.LineFault.TheVariants as faults
+use Rattle.hw_clash.specs.declared.fault.ClashWord.{ClashWord}
 use Rattle.hw_clash.specs.Clashes.{Clash}
 use Rattle.hw_clash.specs.Parts.{part}
 use Rattle.hw_clash.specs.Read.{SaysClash}
-use Rattle.hw_clash.specs.Text.{clash_text, Fails}
+use Rattle.hw_derived.specs.Reading.{Fails}
+use Rattle.hw_clash.specs.Text.{clash_text}
 use Rattle.hw_report.specs.Reports.{Report, bad_text, read_fault, too_long, no_memory}
 use Rattle.hw_command.specs.Inputs.{ReadsInput, report_of_stop}
 use Rattle.hw_command.specs.Scope.{Named, named, is_among, GiveBefore, Entered}
@@ -26,14 +28,14 @@ use Rattle.hw_clash_command.specs.Plans.{IsBadClash, ReadsPart, PlanStop, StopsA
 
 -- ---- the call
 
--- the text isn't had
+-- the text couldn't be read to its end
 pub no_text : {f : Problem} {plan : List ℕ} {x y : DeskState} (stop : ReadStop) → ReadsInput Plan plan x y (Err stop) → StopsAtPlan f plan x y (report_of_stop Plan stop)
 no_text stops.Fault h = record { enters = h.enters; stop = h.answer }
 no_text stops.TooLong h = record { enters = h.enters; stop = h.answer }
 no_text stops.NoMemory h = record { enters = h.enters; stop = h.answer }
 
 -- it has a bad line
-pub bad_line : {f : Problem} {plan : List ℕ} {x y : DeskState} {v : Vec ℕ Global} (fault : ClashFault) → ReadsInput Plan plan x y (Ok v) → Fails fault (clash_text f v.items) → StopsAtPlan f plan x y (report_of_fault fault)
+pub bad_line : {f : Problem} {plan : List ℕ} {x y : DeskState} {v : Vec ℕ Global} (fault : LineFault ClashWord) → ReadsInput Plan plan x y (Ok v) → Fails fault (clash_text f v.items) → StopsAtPlan f plan x y (report_of_fault fault)
 bad_line {f = f} {plan = plan} {x = x} {v = v} (faults.Line number word) h fails = record {
   enters = h.enters;
   stop = (
@@ -47,7 +49,7 @@ bad_line {f = f} {plan = plan} {x = x} {v = v} (faults.Line number word) h fails
 }
 bad_line faults.NoMemory h fails = record { enters = h.enters; stop = h.answer.1 }
 
--- memory was wanting for the part
+-- memory ran out for the part
 pub no_room : {f : Problem} {plan : List ℕ} {x y : DeskState} {v : Vec ℕ Global} → ReadsInput Plan plan x y (Ok v) → StopsAtPlan f plan x y no_memory
 no_room h = record { enters = h.enters; stop = h.answer.1 }
 

@@ -19,14 +19,14 @@ spaced_is word (n ∷ ns) =
     let rest : spaced (decimal n ∷ map decimal ns) ≡ decimal n ++ numbers_text ns = spaced_is (decimal n) ns in
     ap (λ (text : List ℕ). word ++ 32 ∷ text) (rest ∙ ap (λ (text : List ℕ). text ++ numbers_text ns) (sym (append-nil (decimal n))))
 
--- a line feed behind two texts
+-- a line feed after two texts
 ended : (a b rest : List ℕ) → (a ++ b) ++ 10 ∷ rest ≡ (a ++ (b ++ 10 ∷ [])) ++ rest
 ended a b rest =
     append_assoc a b (10 ∷ rest)
     ∙ ap (λ (text : List ℕ). a ++ text) (sym (append_assoc b (10 ∷ []) rest))
     ∙ sym (append_assoc a (b ++ 10 ∷ []) rest)
 
--- a line with its end, and what comes behind it
+-- a line with its end, and what comes after it
 line_is : (id : ℕ) (table rest : List ℕ) → drop_line id table ++ 10 ∷ rest ≡ printed_line id table ++ rest
 line_is id table rest =
     ap (λ (text : List ℕ). (codes "drop" ++ 32 ∷ text) ++ 10 ∷ rest) (spaced_is (decimal id) table)

@@ -27,7 +27,7 @@ pub sends_none : {x y : DeskState} {s : Status} (proof : List ℕ) (lines : Opti
 sends_none {x = x} {y = y} {s = s} proof lines r told none same ends =
     subst (λ (o : Option (List Line)). SendsFound o r proof x y s) none (subst (λ (t : Report). Ends (t ∷ []) x y s) same ends)
 
--- it was sent, and the report behind it
+-- it was sent, and the report after it
 pub sends_whole : {x y z : DeskState} {s : Status} {u : Unit {0}} (proof : List ℕ) (lines : Option (List Line)) (all : List Line) (r told : Report) → Some all ≡ lines → told ≡ r → SendsTo {E = DeskFailed} proof (cert_text Two all) x y (Ok u) → Ends (told ∷ []) y z s → SendsFound lines r proof x z s
 sends_whole {x = x} {y = y} {z = z} {s = s} {u = u} proof lines all r told some same k ends =
     subst (λ (o : Option (List Line)). SendsFound o r proof x z s) some (record {
@@ -68,7 +68,7 @@ sent_carries {proof = proof} {x = x} {y = y} {end = end} {s = s} inputs Gives Sa
       ends = ends;
     }
 
--- memory was wanting, after the inputs were read
+-- memory ran out, after the inputs were read
 pub memory_carries : {x y end : DeskState} {s : Status} (inputs : List Named) (Gives : (List ℕ → Option (List ℕ)) → Feed → Type 0) (Says : DeskState → DeskState → Option Report → Type 0) (proof : Option (List ℕ)) → Entered inputs x y → GiveBefore (Gives x.held) inputs → y.read_faults ≡ x.read_faults → Ends (no_memory ∷ []) y end s → Carries (record { inputs = inputs; Gives = Gives; proof = proof; Says = one_report Says }) x end s
 memory_carries {y = y} inputs Gives Says proof h give read ends = record {
   mid = y;

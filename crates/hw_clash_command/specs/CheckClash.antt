@@ -16,10 +16,12 @@ use Rattle.hw_command.specs.Values.{most_bytes, IsLong, IsTextOf, GivesProblem}
 use Rattle.hw_command.specs.Verdicts.{ShownBy}
 use Rattle.hw_command.specs.declared.outcome.CertOutcome.{CertOutcome}
 use Rattle.hw_command.specs.declared.outcome.CertOutcome.TheVariants.{Shows, Wrong, TooLong}
+use Rattle.hw_clash.specs.declared.fault.ClashWord.{ClashWord}
 use Rattle.hw_clash.specs.Clashes.{Clash}
 use Rattle.hw_clash.specs.Clashing.{IsIrreducible}
 use Rattle.hw_clash.specs.Parts.{part}
-use Rattle.hw_clash.specs.Text.{Fault as ClashBad, clash_text}
+use Rattle.hw_derived.specs.Reading.{Fault as ClashBad}
+use Rattle.hw_clash.specs.Text.{clash_text}
 use Rattle.hw_clash.specs.Words.{word_text}
 use Rattle.hw_clash_command.specs.PartReports.{report_of_part}
 use Rattle.hw_clash_command.specs.Plans.{IsClashOf, IsBadClash}
@@ -27,7 +29,7 @@ use Rattle.hw_clash_command.specs.Plans.{IsClashOf, IsBadClash}
 -- ---- the report by the bytes
 
 -- a certificate of what a clash text of the problem reads as
-abbrev pub clash_report : Problem → Result Clash ClashBad → List ℕ → Report
+abbrev pub clash_report : Problem → Result Clash (ClashBad ClashWord) → List ℕ → Report
 clash_report f (Err bad) bytes = bad_text Plan bad.number (word_text bad.word)
 clash_report f (Ok clash) bytes = report_of_part (cert_outcome (part f clash.kept) bytes)
 
@@ -47,7 +49,7 @@ abbrev pub HoldsWhere : Problem → Clash → CertOutcome → Type 0
 HoldsWhere f clash (Shows verdicts.Infeasible) = IsIrreducible f clash.kept
 HoldsWhere f clash outcome = ⊤
 
--- a problem and a clash text of it, those of the texts where they are told, and what the certificate of the part of the kept restrictions comes to, where that is told
+-- a problem and a clash text of it, those of the texts where they are told, and the outcome of the certificate of the part of the kept restrictions, where that is told
 pub record ChecksClash (text plan bytes : Option (List ℕ)) (o : CertOutcome) : Type 0 where
   pub problem : Problem
   pub limits : IsFlat problem
@@ -65,7 +67,7 @@ pub record FlatBadClash (text plan : Option (List ℕ)) (number : ℕ) (word : L
   pub reads : IfSome text (IsTextOf problem)
   pub bad : IsBadClash plan problem number word
 
--- what a report says of the flat text, of the clash text and of the certificate, each as far as it is told. Where these are told, and but for want of memory, no two reports hold together; no other is given
+-- what a report says of the flat text, of the clash text and of the certificate, each as far as it is told. Apart from out of memory, no two reports hold together where these are told; no other is given
 abbrev pub ChecksClashTexts : Option (List ℕ) → Option (List ℕ) → Option (List ℕ) → Report → Type 0
 ChecksClashTexts text plan bytes clash_holds = ChecksClash text plan bytes (Shows verdicts.Infeasible)
 ChecksClashTexts text plan bytes (checked v names) = (names ≡ by_number) × (v ≢ verdicts.Infeasible) × ChecksClash text plan bytes (Shows v)

@@ -28,7 +28,7 @@ abbrev pub HoldsOfPort : Parts → TideParts → Clash → CertOutcome → Type 
 HoldsOfPort p h clash (Shows verdicts.Infeasible) = IsIrreducible (flattened p h) clash.kept × IsPortClash p h clash.kept clash.drops
 HoldsOfPort p h clash outcome = ⊤
 
--- a port with its tide and a clash text of its restrictions, those of the inputs where they are told, and what the certificate of the part of the kept restrictions comes to, where that is told
+-- a port with its tide and a clash text of its restrictions, those of the inputs where they are told, and the outcome of the certificate of the part of the kept restrictions, where that is told
 pub record ChecksPortClash (instance table plan bytes : Option (List ℕ)) (o : CertOutcome) : Type 0 where
   pub port : Parts
   pub tide : TideParts
@@ -47,7 +47,7 @@ pub record PortBadClash (instance table plan : Option (List ℕ)) (number : ℕ)
   pub reads : IsPortOf instance table port tide
   pub bad : IsBadClash plan (flattened port tide) number word
 
--- what a report says of the instance, of the table, of the clash text and of the certificate, each where it is told. Where these are told, and but for want of memory, no two reports hold together; no other is given
+-- what a report says of the instance, of the table, of the clash text and of the certificate, each where it is told. Apart from out of memory, no two reports hold together where these are told; no other is given
 abbrev pub ChecksPortClashTexts : Option (List ℕ) → Option (List ℕ) → Option (List ℕ) → Option (List ℕ) → Option Report → Type 0
 ChecksPortClashTexts instance table plan bytes None = ⊥
 ChecksPortClashTexts instance table plan bytes (Some clash_holds) = ChecksPortClash instance table plan bytes (Shows verdicts.Infeasible)

@@ -25,7 +25,7 @@ pub record ClashFlatBreaks (text : Option (List ℕ)) (budget : ℕ) (new : Desk
   pub reads : IfSome text (IsTextOf problem)
   pub shows : ShowsPart problem budget new
 
--- what a report says of the text, where it is told, and of Proof; none is a write fault on Proof. Where these are told, and but for want of memory, no two kinds of report hold together; no other is given
+-- what a report says of the text, where it is told, and of Proof; none is a write fault on Proof. Apart from out of memory, no two kinds of report hold together where these are told; no other is given
 abbrev pub ClashesText : Option (List ℕ) → ℕ → List ℕ → DeskState → DeskState → Option Report → Type 0
 ClashesText text budget proof old new None = ClashFlatBreaks text budget new
 ClashesText text budget proof old new (Some (clashed kept drops)) = ClashesFlat text budget proof old new (a_clash kept drops)

@@ -42,7 +42,7 @@ pub record ClashPortBreaks (instance table : Option (List ℕ)) (budget : ℕ) (
   pub reads : IsPortOf instance table port tide
   pub shows : ShowsPart (flattened port tide) budget new
 
--- what a report says of the instance and of the table, each where it is told, and of Proof; none is a write fault on Proof. Where these are told, and but for want of memory, no two kinds of report hold together; no other is given
+-- what a report says of the instance and of the table, each where it is told, and of Proof; none is a write fault on Proof. Apart from out of memory, no two kinds of report hold together where these are told; no other is given
 abbrev pub ClashesPortTexts : Option (List ℕ) → Option (List ℕ) → ℕ → List ℕ → DeskState → DeskState → Option Report → Type 0
 ClashesPortTexts instance table budget proof old new None = ClashPortBreaks instance table budget new
 ClashesPortTexts instance table budget proof old new (Some (clashed kept drops)) = ClashesPort instance table budget proof old new (a_clash kept drops)

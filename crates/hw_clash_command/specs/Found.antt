@@ -51,7 +51,7 @@ pub record ShowsPart (f : Problem) (budget : ℕ) (new : DeskState) : Type 0 whe
 
 -- ---- the calls
 
--- the certificate of an answer, and none where memory was wanting
+-- the certificate of an answer, and none where memory ran out
 abbrev pub lines_found : Clashed → Option (List Line)
 lines_found (answers.Clash kept drops proof) = Some proof
 lines_found (answers.Met table proof) = Some proof
@@ -65,7 +65,7 @@ report_found budget (answers.Met table proof) = met table
 report_found budget (answers.Spent step proof) = spent_step budget step
 report_found budget answers.NoMemory = no_memory
 
--- the report, but where a make or a write of Proof failed
+-- the report, unless a make or a write of Proof failed
 abbrev pub report_after : Report → Result Unit DeskFailed → Option Report
 report_after r (Ok done) = Some r
 report_after r (Err failed) = None

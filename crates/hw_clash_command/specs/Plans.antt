@@ -4,8 +4,8 @@ use Rattle.hw_model.specs.Limits.{IsFlat}
 use Rattle.hw_model.specs.Problem.{Problem}
 use Rattle.hw_desk.specs.State.{DeskState, Rose}
 use Rattle.hw_desk.specs.declared.desk.Feed.TheVariants.{Plan}
-use Rattle.hw_clash.specs.declared.fault.ClashFault.{ClashFault}
-use Rattle.hw_clash.specs.declared.fault.ClashFault.TheVariants as faults
+use Rattle.hw_derived.specs.declared.fault.LineFault.{LineFault}
+use Rattle.hw_derived.specs.declared.fault.LineFault.TheVariants as faults
 use Rattle.hw_clash.specs.declared.fault.ClashWord.{ClashWord}
 use Rattle.hw_clash.specs.Clashes.{Clash}
 use Rattle.hw_clash.specs.Parts.{part}
@@ -60,6 +60,6 @@ pub record StopsAtPlan (f : Problem) (plan : List ℕ) (old new : DeskState) (r 
   pub stop : PlanStop f (old.held plan) old new r
 
 -- the report of bytes that are no clash of the problem
-abbrev pub report_of_fault : ClashFault → Report
+abbrev pub report_of_fault : LineFault ClashWord → Report
 report_of_fault (faults.Line number word) = bad_text Plan number (word_text word)
 report_of_fault faults.NoMemory = no_memory

@@ -14,7 +14,7 @@ use std::alloc::Global;
 
 /// Reads the flat text, searches in memory for restrictions that can't be met together, sends the
 /// certificate of what was found to Proof, and reports. The budget, in lemmas, is for each step of
-/// the search. Proof isn't made where memory was wanting.
+/// the search. Proof isn't made if memory runs out.
 pub fn clash_flat<D: Desk>(
     alloc: Global,
     desk: &mut D,

@@ -15,7 +15,7 @@ use std::alloc::Global;
 /// Reads the instance and then its tide table, searches in memory for restrictions of the port that
 /// can't be met together, sends the certificate of what was found to Proof, and reports. Restrictions
 /// have their numbers in the port's flat problem, and ships their places. The budget, in lemmas, is
-/// for each step of the search. Proof isn't made where memory was wanting.
+/// for each step of the search. Proof isn't made if memory runs out.
 pub fn clash_port<D: Desk>(
     alloc: Global,
     desk: &mut D,

@@ -1,4 +1,4 @@
-//! What a search for a clash found is sent: its certificate, and then its report.
+//! Sends what a search for a clash found: its certificate, and then its report.
 
 ghost use Rattle.std.specs.Prelude.{◌≡◌, false};
 ghost use Rattle.std.specs.Option.{option_map};
@@ -12,7 +12,7 @@ use hw_command::{Status, finish, send_lines};
 use hw_desk::{Desk, Tray};
 use hw_report::Report;
 
-/// The lines of the certificate of what was found, and none where memory was wanting.
+/// The lines of the certificate of what was found, and none where memory ran out.
 fn certificate(clashed: &Clashed) -> Option<&[Line]>
     ensures { option_map (λ lines. lines.now) result ≡ lines_found clashed.now }
 {
@@ -40,7 +40,7 @@ fn found_report(clashed: &Clashed, budget: u32) -> Report
 }
 
 /// Makes Proof under its name, sends the certificate of what was found there, and then the report.
-/// After a failed make or write nothing more is sent, and where memory was wanting Proof isn't made.
+/// After a failed make or write nothing more is sent, and where memory ran out Proof isn't made.
 /// It takes no memory.
 pub fn send_found<D: Desk>(desk: &mut D, clashed: &Clashed, budget: u32, proof: &str) -> Status
     requires unmade { ((D.state desk.old).trays Tray.Proof).made ≡ false }

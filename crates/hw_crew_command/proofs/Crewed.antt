@@ -78,7 +78,7 @@ leaves {f = f} {order = order} {budget = budget} LogFailed x y z before told m =
     rose : Rose y.write_faults z.write_faults → Rose x.write_faults z.write_faults
     rose h = omega (arith, before)
 
--- ---- the crew was had
+-- ---- the crew has run
 
 ends_well : {x y z w : DeskState} {name : List ℕ} {f : Problem} {order : List Branching} {budget : ℕ} {E F : Type 0} {u v : Unit {0}} (answer : Crewed) → Makes {E = E} Proof name x y (Ok u) → SendsText {E = F} Proof header_line y z (Ok v) → outside_of w ≡ outside_of z → is_told (w.trays Proof).sent ≡ true → CrewMeets f order budget (tray_log z) answer (tray_log w) → CrewsTo f order budget name x w answer
 ends_well {x = x} {z = z} {w = w} {name = name} answer h k same told m = record {

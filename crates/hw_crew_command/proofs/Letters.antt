@@ -16,7 +16,7 @@ regroup front rule (Some rules) = ap Some (sym (append_assoc front (rule ∷ [])
 pub some_letter : (letters : List ℕ) → (length letters == 0) ≡ false → 1 ≤ length letters
 some_letter letters e = grind arith
 
--- one letter more has a rule
+-- one more letter has a rule
 pub letter_read : (rules : List Branching) (letters : List ℕ) (i : ℕ) (rule : Branching) (total : Option (List Branching)) → i < length letters → i < length rules → rule_of (get_or letters i 0) ≡ Some rule
     → with_front (take i rules) (rules_read (drop i letters)) ≡ total → with_front (take (i + 1) (set rules i rule)) (rules_read (drop (i + 1) letters)) ≡ total
 letter_read rules letters i rule total inside room is so_far =
@@ -26,7 +26,7 @@ letter_read rules letters i rule total inside room is so_far =
 
 -- ---- places
 
--- behind one rule more there is one place less
+-- after one more rule there is one place less
 pub one_place_less : (rules : List Branching) (i : ℕ) (rule : Branching) → i < length rules → drop i rules ≡ replicate (64 - i) Greatest → drop (i + 1) (set rules i rule) ≡ replicate (64 - (i + 1)) Greatest
 one_place_less rules i rule inside rest =
     let kept : drop (i + 1) (set rules i rule) ≡ drop (i + 1) rules = drop-set-lt (i + 1) rules i rule (omega arith) in

@@ -43,7 +43,7 @@ pub record CrewsTo (f : Problem) (order : List Branching) (budget : ℕ) (name :
   pub named : IfSome (new.trays tray.Proof).name (λ n. n ≡ name)
   pub leaves : CrewLeaves f order budget old new answer
 
--- the report of an answer, but where the log failed
+-- the report of an answer, unless the log failed
 abbrev pub report_of_crew : ℕ → Problem → Naming → Crewed → Option Report
 report_of_crew budget f names (Optimal table c) = Some (solved (heads.Optimal c) f names (Some table))
 report_of_crew budget f names Infeasible = Some (solved heads.Infeasible f names None)

@@ -30,7 +30,7 @@ order_in word = unwrap_or (order_read word) (Greatest ∷ [])
 abbrev pub filled : List Branching → List Branching
 filled turns = turns ++ replicate (64 - length turns) Greatest
 
--- the first 1 to 64 of 64 rules are those of turns, and Greatest stands in all places behind them
+-- the first 1 to 64 of 64 rules are those of turns, and all later places hold Greatest
 pub record IsOrder (rules : List Branching) (count : ℕ) : Type 0 where
   pub some : 1 ≤ count
   pub few : count ≤ 64

@@ -57,8 +57,8 @@ fn crew_on<D: Desk>(alloc: Global, desk: &mut D, flat: &Flat, order: &Order, bud
     crew(alloc, flat, rules, budget, &mut log)
 }
 
-/// The report of what a crew found, and none where its log failed: nothing more is sent then. Once
-/// memory ran out it has the best timetable that was found.
+/// The report of what a crew found, or none where its log failed: then nothing more is sent. If memory
+/// ran out, the report has the best timetable that was found.
 pub fn crew_report<'a>(
     flat: &'a Flat,
     names: Names<'a>,

@@ -9,7 +9,7 @@ use std::marker::Model;
 /// The most turns of an order.
 pub const MOST_TURNS: usize = 64;
 
-/// The branching rules of 1 to 64 turns, after the last of which the first one comes again. It takes no
+/// The branching rules of 1 to 64 turns. After the last turn the first one comes again. It takes no
 /// memory.
 #[derive(Clone, Copy, Debug)]
 pub struct Order {
@@ -68,7 +68,7 @@ impl Order {
         })
     }
 
-    /// The order of one searcher, whose turn is each one.
+    /// The order of one searcher, which has every turn.
     pub fn one(rule: Branching) -> Order
         ensures { result ≡ rule ∷ [] }
     {

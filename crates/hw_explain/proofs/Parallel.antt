@@ -85,7 +85,7 @@ none_past k before (b ∷ others) le up =
     let rest = none_past k b.section others (up_to before b.section k le up.0) up.1 in
     (rw (none, rest.0) refl, rw (none, rest.1) refl)
 
--- a channel has one stretch at most in a section
+-- a channel has at most one stretch in a section
 one_there : (k before : ℤ) (others : List Stretch) → Ascends before others → length (filter (λ b. int_eq b.section k) others) ≡ cond (uses others k) 1 0
 one_there k before [] up = refl
 one_there k before (b ∷ others) up = elim (cases_Bool (int_eq b.section k)) [

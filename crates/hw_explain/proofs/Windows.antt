@@ -64,7 +64,7 @@ sails_in p table v s many e lt =
 one_ship : (p : Parts) (table : List ℕ) (v x : ℕ) (s r : ShipParts) → slice_get p.ships v ≡ Some s → SailsIn p table v r x → s ≡ r
 one_ship p table v x s r e sails = same_Some s r (sym e ∙ sails.ship)
 
--- of ships that sail the holes of their pair say as much as its rule
+-- for ships that sail, the holes of their pair say as much as its rule
 pub missed : (p : Parts) (h : TideParts) (table : List ℕ) (v w : ℕ) (s r : ShipParts) (x y : ℕ) (holes : List Hole) → rule_holds (flattened p h) table (rules.Pair v w holes) ≡ true → SailsIn p table v s x → SailsIn p table w r y → list_all (misses (pos y -ℤ pos x)) holes ≡ true
 missed p h table v w s r x y holes holds sv sw =
     let ex : slice_index table v ≡ x = given_is table v x sv.given in

@@ -19,7 +19,7 @@ abbrev pub NamedByRule : Type 0
 NamedByRule = (p : Parts) (h : TideParts) (number : ℕ) (named : Named) → PortKept p
     → slice_get (named_restrictions p) number ≡ Some named → IsNamed (flattened p h) number named
 
--- of a timetable of the port it holds just where that restriction does
+-- of a timetable of the port it holds exactly where that restriction does
 abbrev pub NamedMeans : Type 0
 NamedMeans = (p : Parts) (h : TideParts) (table : List ℕ) (number : ℕ) (named : Named) → PortKept p → IsPortTimetable p table
     → slice_get (named_restrictions p) number ≡ Some named

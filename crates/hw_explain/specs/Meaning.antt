@@ -22,18 +22,18 @@ abbrev pub WindowHolds : Parts → TideParts → List ℕ → ℕ → Type 0
 WindowHolds p h table v =
     (s : ShipParts) (at : ℕ) → IsGiven p table v s at → IsSome (ship_value p h s at) ⊎ (Stays p at × IsTrue s.may_stay)
 
--- where both sail, the second does so many slots after the first, or the first after the second
+-- where both sail, the second sails at least `after` slots after the first, or the first at least `before` slots after the second
 abbrev pub SailApart : Parts → List ℕ → ℕ → ℕ → ℕ → ℕ → Type 0
 SailApart p table v w after before =
     (s r : ShipParts) (x y : ℕ) → SailsIn p table v s x → SailsIn p table w r y → (x + after ≤ y) ⊎ (y + before ≤ x)
 
--- where both sail, they are in no slot both in one of the sections
+-- where both sail, they are in no slot both in the same one of the sections
 abbrev pub NeverMeet : Parts → List ℕ → ℕ → ℕ → List ℕ → Type 0
 NeverMeet p table v w sections =
     (s r : ShipParts) (x y : ℕ) → SailsIn p table v s x → SailsIn p table w r y
     → (section slot : ℕ) → Contains sections section → Occupies s x (pos section) slot → Occupies r y (pos section) slot → ⊥
 
--- the incoming ship stays; or neither stays, and the outgoing one sails so many slots before it
+-- the incoming ship stays; or neither stays, and the outgoing one sails at least `clear` slots before it
 abbrev pub IsCleared : Parts → ℕ → ℕ → ℕ → Type 0
 IsCleared p x y clear = Stays p y ⊎ ((x < horizon_of p) × (y < horizon_of p) × (x + clear ≤ y))
 

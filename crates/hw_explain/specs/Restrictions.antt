@@ -56,7 +56,7 @@ has_tugs s = nat_lt 0 (whole s.tugs)
 abbrev pub tugs_named : Parts → List Named
 tugs_named p = if list_any has_tugs p.ships then Tugs (whole p.fleet) ∷ [] else []
 
--- the restrictions behind the windows: pairs of ships, berths, tugs
+-- the restrictions after the windows: pairs of ships, berths, tugs
 abbrev pub rules_named : Parts → List Named
 rules_named p = named_from p 0 p.ships ++ (map berth_named p.berths ++ tugs_named p)
 

@@ -12,7 +12,7 @@ pub fn named_by_rule()
     ensures { NamedByRule }
 {}
 
-/// What is named for a number holds of a timetable of the port just where the flat problem's
+/// What is named for a number holds of a timetable of the port exactly where the flat problem's
 /// restriction of that number does.
 pub fn named_means()
     ensures { NamedMeans }

@@ -2,7 +2,7 @@
 //!
 //! Each number has one line: the window of a ship, the separation of two ships of the same
 //! direction, the sections that two ships of opposite direction share, a berth, or the tugs of the
-//! fleet. The restriction of that number holds of a timetable just where what the line names does.
+//! fleet. The restriction of that number holds of a timetable exactly where what the line names does.
 #![tactic(auto)]
 
 mod laws;

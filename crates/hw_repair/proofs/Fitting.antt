@@ -1,13 +1,11 @@
 -- A plan that is read fits its problem.
-use Rattle.std.proofs.Common.{◌≡◌, inl, inr, ℕ, zero, suc, ◌+◌, ◌-◌, ◌*◌, ◌/◌, ◌%◌, ◌<◌, ◌≤◌, Bool, true, false, cond, ◌&&◌, nat_lt, nat_le, List, [], ◌∷◌, Option, Some, None, Result, Ok, Err, slice_get, unwrap_or, option_and_then, All, length, get_or, bytes_eq, codes, refl, sym, ap, subst, ◌∙◌, arith}
-use Rattle.std.proofs.lemmas.Bool.{leb-true, ltb-false, and_parts, or_parts, cases_eq}
-use Rattle.std.proofs.lemmas.Option.{cond_some, same_Some, slice_get-get_or}
+use Rattle.std.proofs.Common.{◌≡◌, inl, inr, ℕ, zero, suc, ◌+◌, ◌-◌, ◌*◌, ◌/◌, ◌%◌, ◌<◌, ◌≤◌, Bool, true, false, cond, nat_lt, List, [], ◌∷◌, Option, Some, None, Result, Ok, slice_get, unwrap_or, option_and_then, All, length, get_or, bytes_eq, codes, refl, sym, ap, subst, ◌∙◌, arith}
+use Rattle.std.proofs.lemmas.Bool.{ltb-false, or_parts, cases_eq}
+use Rattle.std.proofs.lemmas.Option.{same_Some, slice_get-get_or}
 use Rattle.std.proofs.lemmas.Nat.{div-add-mod', div_below, mod_below}
 use Rattle.std.proofs.lemmas.List.Elements.{All-nil, All-cons, All-from_get_or}
 use Rattle.std.specs.List.{list_any, range_with_len}
-use Rattle.std.specs.Str.Parse.{digits_value}
 use Rattle.hw_derived.specs.Slots.{slot_form}
-use Rattle.hw_text.specs.Numbers.{is_number}
 use Rattle.hw_text.specs.Parts.{words_of}
 use Rattle.hw_model.specs.Problem.{Problem, value_at}
 use Rattle.hw_model.specs.Limits.{IsFlat}
@@ -16,15 +14,11 @@ use Rattle.hw_repair.specs.declared.fault.PlanWord.TheVariants as words
 use Rattle.hw_repair.specs.declared.plan.Wish.{Wish}
 use Rattle.hw_repair.specs.declared.plan.Wish.TheVariants.{Kept, Planned}
 use Rattle.hw_repair.specs.Wishes.{WishFits, IsRepairable, PlanFits}
-use Rattle.hw_repair.specs.Text.{Fault, ◌>>=◌, fault, formed, line_at, kept_by, planned_by, kept_words, planned_words, wish_words, wish_form, is_large, wish_at, wishes_at}
+use Rattle.hw_derived.proofs.Reading.{bind_ok, formed_ok, slot_below}
+use Rattle.hw_derived.specs.Reading.{Fault, ◌>>=◌, fault, formed, line_at}
+use Rattle.hw_repair.specs.Text.{kept_by, planned_by, kept_words, planned_words, wish_words, wish_form, is_large, wish_at, wishes_at}
 
 -- ---- a wish
-
-slot_below : (slots : ℕ) (word : List ℕ) (n : ℕ) → 0 < slots → slot_form slots word ≡ Some n → n < slots
-slot_below slots word n some e =
-    let r = cond_some (is_number word && nat_le (digits_value 10 word) (slots - 1)) (digits_value 10 word) n e in
-    let le : digits_value 10 word ≤ slots - 1 = leb-true _ _ (and_parts (is_number word) _ r.0).1 in
-    omega (arith, some, le, r.1)
 
 kept_fits : (slots : ℕ) (o : Option ℕ) (wish : Wish) → ((n : ℕ) → o ≡ Some n → n < slots) → kept_by o ≡ Some wish → WishFits slots wish
 kept_fits slots None wish below e = absurd cc
@@ -57,19 +51,6 @@ words_fit slots (key ∷ words) wish some e = by_key (bytes_eq key (codes "k")) 
 
 -- ---- reading
 
-pub record Binds {A B : Type 0} (r : Result A Fault) (g : A → Result B Fault) (b : B) : Type 0 where
-  pub value : A
-  pub is : r ≡ Ok value
-  pub then' : g value ≡ Ok b
-
-bind_ok : {A B : Type 0} (r : Result A Fault) (g : A → Result B Fault) (b : B) → (r >>= g) ≡ Ok b → Binds r g b
-bind_ok (Ok a) g b e = record { value = a; is = refl; then' = e }
-bind_ok (Err f) g b e = absurd cc
-
-formed_ok : {A : Type 0} (number : ℕ) (word : PlanWord) (o : Option A) (x : A) → formed number word o ≡ Ok x → o ≡ Some x
-formed_ok number word None x e = absurd cc
-formed_ok {A} number word (Some y) x e = let p : y ≡ x = cc in ap (λ (z : A). Some z) p
-
 not_faulty : {A : Type 0} (b : Bool) (number : ℕ) (word : PlanWord) (x y : A) → cond b (fault number word) (Ok x) ≡ Ok y → (b ≡ false) × (x ≡ y)
 not_faulty true number word x y e = absurd cc
 not_faulty false number word x y e = (refl, cc)
@@ -81,10 +62,10 @@ pub record WishRead (f : Problem) (ship : ℕ) (wish : Wish) : Type 0 where
 first_of : (a b : Wish × List (List ℕ)) → a ≡ b → a.0 ≡ b.0
 first_of a b e = ap (λ (x : Wish × List (List ℕ)). x.0) e
 
-abbrev after_wish : Problem → ℕ → List (List ℕ) → Wish → Result (Wish × List (List ℕ)) Fault
+abbrev after_wish : Problem → ℕ → List (List ℕ) → Wish → Result (Wish × List (List ℕ)) (Fault PlanWord)
 after_wish f ship rest wish = cond (is_large f ship) (fault (2 + ship) words.Large) (Ok (wish, rest))
 
-abbrev after_line : Problem → ℕ → List ℕ × List (List ℕ) → Result (Wish × List (List ℕ)) Fault
+abbrev after_line : Problem → ℕ → List ℕ × List (List ℕ) → Result (Wish × List (List ℕ)) (Fault PlanWord)
 after_line f ship line = formed (2 + ship) words.Ship (wish_form f.slots line.0) >>= after_wish f ship line.1
 
 wish_read : (f : Problem) (ship : ℕ) (parts : List (List ℕ)) (read : Wish × List (List ℕ)) → 0 < f.slots → wish_at f ship parts ≡ Ok read → WishRead f ship read.0
@@ -104,7 +85,7 @@ pub record WishesRead (f : Problem) (ship many : ℕ) (wishes : List Wish) : Typ
   pub each_wish : All (WishFits f.slots) wishes
   pub small : (s : ℕ) → ship ≤ s → s < ship + many → is_large f s ≡ false
 
-parts_equal : (a b : List Wish × List (List ℕ)) → ◌≡◌ {A = Result (List Wish × List (List ℕ)) Fault} (Ok a) (Ok b) → a.0 ≡ b.0
+parts_equal : (a b : List Wish × List (List ℕ)) → ◌≡◌ {A = Result (List Wish × List (List ℕ)) (Fault PlanWord)} (Ok a) (Ok b) → a.0 ≡ b.0
 parts_equal a b e = let p : a ≡ b = cc in ap (λ (x : List Wish × List (List ℕ)). x.0) p
 
 small_more : (f : Problem) (ship many : ℕ) → is_large f ship ≡ false → ((s : ℕ) → ship + 1 ≤ s → s < ship + 1 + many → is_large f s ≡ false) → (s : ℕ) → ship ≤ s → s < ship + suc many → is_large f s ≡ false
@@ -113,10 +94,10 @@ small_more f ship many here more s low high = elim (cases_eq ship s) [
   | inr ne ↦ more s (omega (arith, low, ne)) (omega (arith, high))
 ]
 
-abbrev after_more : Wish → List Wish × List (List ℕ) → Result (List Wish × List (List ℕ)) Fault
+abbrev after_more : Wish → List Wish × List (List ℕ) → Result (List Wish × List (List ℕ)) (Fault PlanWord)
 after_more wish more = Ok (wish ∷ more.0, more.1)
 
-abbrev after_first : Problem → ℕ → ℕ → Wish × List (List ℕ) → Result (List Wish × List (List ℕ)) Fault
+abbrev after_first : Problem → ℕ → ℕ → Wish × List (List ℕ) → Result (List Wish × List (List ℕ)) (Fault PlanWord)
 after_first f ship many wish = wishes_at f (ship + 1) many wish.1 >>= after_more wish.0
 
 pub wishes_read : (f : Problem) (ship many : ℕ) (parts : List (List ℕ)) (read : List Wish × List (List ℕ)) → 0 < f.slots → wishes_at f ship many parts ≡ Ok read → WishesRead f ship many read.0

@@ -35,7 +35,7 @@ granted_value f plan ship slot wish same e lt g =
     value_is f plan ship slot wish same e lt
     ∙ ap (λ (b : Bool). cond b (option_map (repaired_worth f.ships wish slot) (value_at f ship slot)) None) (of_grants wish slot g)
 
--- a value is there just where the wish grants the slot and the problem has one
+-- a value is there exactly where the wish grants the slot and the problem has one
 some_parts : (b : Bool) (g : ℕ → ℕ) (o : Option ℕ) → IsSome (cond b (option_map g o) None) → (b ≡ true) × IsSome o
 some_parts true g None h = absurd cc
 some_parts true g (Some x) h = (refl, refl)

@@ -16,7 +16,7 @@ RepairedValue = (f : Problem) (plan : List Wish) (ship slot : ℕ) (wish : Wish)
 abbrev pub RepairedFits : Type 0
 RepairedFits = (f : Problem) (plan : List Wish) → IsFlat f → IsWritable f → PlanFits f plan → IsFlat (repaired f plan)
 
--- the problem of a repair permits just the timetables that meet the plan
+-- the problem of a repair permits exactly the timetables that meet the plan
 abbrev pub RepairedPermits : Type 0
 RepairedPermits = (f : Problem) (plan : List Wish) (table : List ℕ) → PlanFits f plan → (Permits (repaired f plan) table ↔ PermitsPlan f plan table)
 
@@ -41,6 +41,6 @@ pub record BestBoth (f : Problem) (plan : List Wish) (table : List ℕ) : Type 0
 abbrev pub BestRepair : Type 0
 BestRepair = (f : Problem) (plan : List Wish) (table : List ℕ) → PlanFits f plan → BestBoth f plan table
 
--- none is permitted by the repair's problem just where none meets the plan
+-- none is permitted by the repair's problem exactly where none meets the plan
 abbrev pub NoneRepair : Type 0
 NoneRepair = (f : Problem) (plan : List Wish) → PlanFits f plan → (NonePermitted (repaired f plan) ↔ NoRepair f plan)

@@ -1,11 +1,10 @@
 -- The text of a plan, over the list of its lines.
-use Rattle.std.specs.Prelude.{◌≡◌, ℕ, zero, suc, ◌+◌, ◌*◌, Bool, List, [], ◌∷◌, Option, Some, None, Result, Ok, Err, codes, bytes_eq, nat_lt, unwrap_or, if◌then◌else◌}
+use Rattle.std.specs.Prelude.{ℕ, zero, suc, ◌+◌, ◌*◌, Bool, List, [], ◌∷◌, Option, Some, None, Result, Ok, codes, bytes_eq, nat_lt, unwrap_or, if◌then◌else◌}
 use Rattle.std.specs.List.{list_any, range_with_len}
 use Rattle.hw_model.specs.Problem.{Problem, value_at}
+use Rattle.hw_derived.specs.Reading.{Fault, ◌>>=◌, fault, formed, line_at, only_at, ended_at}
 use Rattle.hw_derived.specs.Slots.{slot_form}
-use Rattle.hw_text.specs.Parts.{parts_of, words_of, first_part, at_end}
-use Rattle.hw_repair.specs.declared.fault.PlanFault.{PlanFault}
-use Rattle.hw_repair.specs.declared.fault.PlanFault.TheVariants as faults
+use Rattle.hw_text.specs.Parts.{parts_of, words_of}
 use Rattle.hw_repair.specs.declared.fault.PlanWord.{PlanWord}
 use Rattle.hw_repair.specs.declared.fault.PlanWord.TheVariants as words
 use Rattle.hw_repair.specs.declared.plan.Wish.{Wish}
@@ -45,46 +44,17 @@ wish_form slots line = wish_words slots (words_of line)
 abbrev pub is_large : Problem → ℕ → Bool
 is_large f ship = list_any (λ slot. nat_lt 1_000_000_000_000 (unwrap_or (value_at f ship slot) 0 * (f.ships + 1) + 1)) (range_with_len 0 f.slots)
 
--- ---- the first line that isn't of the form demanded at its place
-
-pub record Fault : Type 0 where
-  pub number : ℕ
-  pub word : PlanWord
-
-infixl 10 ◌>>=◌
-abbrev pub ◌>>=◌ : {A B : Type 0} → Result A Fault → (A → Result B Fault) → Result B Fault
-(Ok x) >>= f = f x
-(Err e) >>= f = Err e
-
-abbrev pub fault : {A : Type 0} → ℕ → PlanWord → Result A Fault
-fault number word = Err (record { number = number; word = word })
-
--- what a line has by its form, or that the line isn't of the form
-abbrev pub formed : {A : Type 0} → ℕ → PlanWord → Option A → Result A Fault
-formed number word None = fault number word
-formed number word (Some x) = Ok x
-
--- the next line and the parts after it
-abbrev pub line_at : ℕ → PlanWord → List (List ℕ) → Result (List ℕ × List (List ℕ)) Fault
-line_at number word parts = formed number word (first_part parts)
-
--- the parts after a line that is this text and nothing more
-abbrev pub only_at : ℕ → PlanWord → List ℕ → List (List ℕ) → Result (List (List ℕ)) Fault
-only_at number word text parts = line_at number word parts >>= λ line. if bytes_eq line.0 text then Ok line.1 else fault number word
-
--- what was read, where no byte is left
-abbrev pub ended_at : {A : Type 0} → ℕ → PlanWord → A → List (List ℕ) → Result A Fault
-ended_at number word read parts = if at_end parts then Ok read else fault number word
+-- ---- the lines of the text
 
 -- the wish of a ship on the next line, where the ship's values can be repaired
-unfoldable pub wish_at : Problem → ℕ → List (List ℕ) → Result (Wish × List (List ℕ)) Fault
+unfoldable pub wish_at : Problem → ℕ → List (List ℕ) → Result (Wish × List (List ℕ)) (Fault PlanWord)
 wish_at f ship parts = do
   line ← line_at (2 + ship) words.Ship parts
   wish ← formed (2 + ship) words.Ship (wish_form f.slots line.0)
   if is_large f ship then fault (2 + ship) words.Large else Ok (wish, line.1)
 
 -- the wishes of this many ships, from this ship on
-unfoldable pub wishes_at : Problem → ℕ → ℕ → List (List ℕ) → Result (List Wish × List (List ℕ)) Fault
+unfoldable pub wishes_at : Problem → ℕ → ℕ → List (List ℕ) → Result (List Wish × List (List ℕ)) (Fault PlanWord)
 wishes_at f ship zero parts = Ok ([], parts)
 wishes_at f ship (suc many) parts = do
   wish ← wish_at f ship parts
@@ -92,7 +62,7 @@ wishes_at f ship (suc many) parts = do
   Ok (wish.0 ∷ more.0, more.1)
 
 -- the plan of the lines, or the first bad line
-unfoldable pub plan_of : Problem → List (List ℕ) → Result (List Wish) Fault
+unfoldable pub plan_of : Problem → List (List ℕ) → Result (List Wish) (Fault PlanWord)
 plan_of f parts = do
   ships ← only_at 1 words.Header (codes "plan 1") parts
   read ← wishes_at f 0 f.ships ships
@@ -100,15 +70,5 @@ plan_of f parts = do
   ended_at (3 + f.ships) words.Tail read.0 rest
 
 -- what a text says: a plan of the problem, or the first line that isn't of the form demanded at its place
-abbrev pub plan_text : Problem → List ℕ → Result (List Wish) Fault
+abbrev pub plan_text : Problem → List ℕ → Result (List Wish) (Fault PlanWord)
 plan_text f bytes = plan_of f (parts_of 10 bytes)
-
--- the fault names the line and the word that reading gives. Running out of memory is free
-abbrev pub Fails : {A : Type 0} → PlanFault → Result A Fault → Type 0
-Fails faults.NoMemory read = Unit {0}
-Fails (faults.Line number word) read = read ≡ Err (record { number = number; word = word })
-
--- what a function returned, seen by view, is what reading gives, unless memory ran out
-abbrev pub Gives : {A B : Type 0} → (A → B) → Result A PlanFault → Result B Fault → Type 0
-Gives view (Ok x) read = read ≡ Ok (view x)
-Gives view (Err e) read = Fails e read

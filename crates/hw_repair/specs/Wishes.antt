@@ -25,7 +25,7 @@ abbrev pub WishFits : ℕ → Wish → Type 0
 WishFits slots (Kept kept) = kept < slots
 WishFits slots (Planned planned from) = (planned < slots) × (from < slots)
 
--- the value can be repaired: what becomes of it at most is within the limit of a value
+-- the value can be repaired: the most that it can become is within the limit of a value
 abbrev pub IsRepairable : ℕ → ℕ → Type 0
 IsRepairable ships value = value * (ships + 1) + 1 ≤ 1_000_000_000_000
 

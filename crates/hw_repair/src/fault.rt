@@ -1,10 +1,9 @@
 //! Why a text isn't a plan.
 
 ghost use Rattle.std.specs.Prelude.{◌≡◌, codes};
-ghost use Rattle.hw_repair.specs.declared.fault.PlanFault.TheVariants.{NoMemory};
 ghost use Rattle.hw_repair.specs.Words.{word_text};
 
-use std::alloc::{AllocError, AllocFailed};
+use hw_derived::LineFault;
 
 /// What was demanded at the first bad line.
 #[derive(Clone, Copy, Debug, PartialEq, Eq)]
@@ -35,24 +34,4 @@ impl PlanWord {
 }
 
 /// Why `read_plan` gave no plan: its first wrong line, numbered from 1, or memory ran out.
-#[derive(Clone, Copy, Debug, PartialEq, Eq)]
-pub enum PlanFault {
-    Line { number: u64, word: PlanWord },
-    NoMemory,
-}
-
-impl From<AllocError> for PlanFault {
-    ghost from_gives = { λ _ e. e ≡ NoMemory };
-
-    fn from(_e: AllocError) -> PlanFault {
-        PlanFault::NoMemory
-    }
-}
-
-impl<T: Drop> From<AllocFailed<T>> for PlanFault {
-    ghost from_gives = { λ _ e. e ≡ NoMemory };
-
-    fn from(_e: AllocFailed<T>) -> PlanFault {
-        PlanFault::NoMemory
-    }
-}
+pub type PlanFault = LineFault<PlanWord>;

@@ -2,42 +2,18 @@
 
 ghost use Rattle.std.specs.Prelude.{◌≡◌, ◌≤◌, ◌<◌, ◌+◌, IfOk};
 ghost use Rattle.hw_text.specs.Parts.{parts_of};
-ghost use Rattle.hw_repair.specs.Text.{Gives, line_at, only_at, wish_at, wishes_at, plan_of, plan_text};
+ghost use Rattle.hw_derived.specs.Reading.{Gives};
+ghost use Rattle.hw_repair.specs.Text.{wish_at, wishes_at, plan_of, plan_text};
 ghost use Rattle.hw_repair.specs.Wishes.{PlanFits};
 
 use crate::fault::{PlanFault, PlanWord};
 use crate::forms::{is_large, wish_of};
 use crate::plan::{Plan, Wish};
+use hw_derived::{LineFault, line_of, only};
 use hw_flat::Flat;
 use hw_model::ShipId;
-use hw_text::{cut_line, is_end, is_text};
+use hw_text::is_end;
 use std::alloc::Global;
-
-/// The next line and the bytes after it.
-fn line_of(bytes: &[u8], number: u64, word: PlanWord) -> Result<(&[u8], &[u8]), PlanFault>
-    ensures { Gives (λ x. (x.0.now, parts_of 10 x.1.now)) result (line_at number word (parts_of 10 bytes.now)) }
-{
-    match cut_line(bytes) {
-        Some((line, rest)) => Ok((line, rest)),
-        None => Err(PlanFault::Line { number, word }),
-    }
-}
-
-/// The bytes after a line that is this text and nothing more.
-fn only<'b>(
-    bytes: &'b [u8],
-    number: u64,
-    word: PlanWord,
-    text: &[u8],
-) -> Result<&'b [u8], PlanFault>
-    ensures { Gives (λ rest. parts_of 10 rest.now) result (only_at number word text.now (parts_of 10 bytes.now)) }
-{
-    let (line, rest) = line_of(bytes, number, word)?;
-    if !is_text(line, text) {
-        return Err(PlanFault::Line { number, word });
-    }
-    Ok(rest)
-}
 
 /// The wish of a ship on the next line.
 #[tactic(auto, unfolding(crate::specs::Text::wish_at))]
@@ -48,13 +24,13 @@ fn wish_line<'b>(bytes: &'b [u8], flat: &Flat, ship: ShipId) -> Result<(Wish, &'
     let number = 2 + u64::from(ship);
     let (line, rest) = line_of(bytes, number, PlanWord::Ship)?;
     let Some(wish) = wish_of(line, flat.shape().slots) else {
-        return Err(PlanFault::Line {
+        return Err(LineFault::Line {
             number,
             word: PlanWord::Ship,
         });
     };
     if is_large(flat, ship) {
-        return Err(PlanFault::Line {
+        return Err(LineFault::Line {
             number,
             word: PlanWord::Large,
         });
@@ -82,7 +58,7 @@ fn wishes_of<'b>(
 
 /// The plan that the text spells, or else its first line that isn't of the form demanded at its
 /// place, with what was demanded there. Lines are numbered from 1; where the bytes end before a line
-/// that is demanded, that line is named. Each byte is looked at a few times at most, and each value
+/// that is demanded, that line is named. It looks at each byte a few times at most, and at each value
 /// of the problem once.
 ///
 /// A plan that was read fits the problem, so that `repaired` takes it.
@@ -96,7 +72,7 @@ pub fn read_plan(alloc: Global, bytes: &[u8], flat: &Flat) -> Result<Plan, PlanF
     let (items, rest) = wishes_of(alloc, rest, flat)?;
     let rest = only(rest, 2 + ships, PlanWord::Tail, b"end")?;
     if !is_end(rest) {
-        return Err(PlanFault::Line {
+        return Err(LineFault::Line {
             number: 3 + ships,
             word: PlanWord::Tail,
         });

@@ -25,7 +25,7 @@ told_all (Some x) h = h x
 within : (names : Naming) (f : Problem) (plan bytes : List ℕ) → length plan ≤ most_bytes → plan_report names f plan bytes ≡ planned_report names f (plan_text f plan) bytes
 within names f plan bytes h = ap (λ b. cond b (too_long feeds.Plan) (planned_report names f (plan_text f plan) bytes)) (le-ltb _ _ h)
 
--- a plan, by what its certificate comes to
+-- a plan, by the outcome of its certificate
 pub outcome_is : (names : Naming) (f : Problem) (plan bytes : List ℕ) (wishes : List Wish) (o : CertOutcome) → IsPlanText f (Ok wishes) plan → o ≡ cert_outcome (repaired f wishes) bytes → recheck_of names f.ships o ≡ plan_report names f plan bytes
 outcome_is names f plan bytes wishes o h e = ap (recheck_of names f.ships) e ∙ sym (within names f plan bytes h.0 ∙ ap (λ q. planned_report names f q bytes) h.1)
 

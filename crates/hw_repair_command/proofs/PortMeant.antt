@@ -20,7 +20,7 @@ use Rattle.hw_repair.specs.declared.plan.Wish.{Wish}
 use Rattle.hw_repair_command.specs.PortRepairs.{PortPermitsPlan, IsBestPortRepair, NoPortRepair, IsPortRepair, PortRepairMeans, PortVerdictMeans, PortOutcomeMeans}
 use Rattle.hw_repair_command.specs.Repairs.{RepairMeans, VerdictMeans, OutcomeMeans}
 
--- a timetable meets the plan by the flat problem just where it does by the port
+-- a timetable meets the plan by the flat problem exactly where it does by the port
 to_port : (p : Parts) (h : TideParts) (wishes : List Wish) (table : List ℕ) → PortKept p → PermitsPlan (flattened p h) wishes table → PortPermitsPlan p h wishes table
 to_port p h wishes table kept m = record { permitted = (same_permitted_law p h table kept).1 m.permitted; granted = m.granted }
 

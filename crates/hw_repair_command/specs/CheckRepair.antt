@@ -14,8 +14,10 @@ use Rattle.hw_command.specs.Values.{most_bytes, IsTextOf}
 use Rattle.hw_command.specs.Verdicts.{ShownBy}
 use Rattle.hw_command.specs.declared.outcome.CertOutcome.{CertOutcome}
 use Rattle.hw_command.specs.declared.outcome.CertOutcome.TheVariants.{Shows, Wrong, TooLong}
+use Rattle.hw_repair.specs.declared.fault.PlanWord.{PlanWord}
 use Rattle.hw_repair.specs.Repaired.{repaired}
-use Rattle.hw_repair.specs.Text.{Fault, plan_text}
+use Rattle.hw_derived.specs.Reading.{Fault}
+use Rattle.hw_repair.specs.Text.{plan_text}
 use Rattle.hw_repair.specs.Words.{word_text}
 use Rattle.hw_repair.specs.declared.plan.Wish.{Wish}
 use Rattle.hw_repair_command.specs.Plans.{IsPlanOf, PlanGives, NoPlan}
@@ -25,7 +27,7 @@ use Rattle.hw_repair_command.specs.Reports.{recheck_of}
 -- ---- the report of the bytes
 
 -- a certificate of what a plan of the problem reads as, in these names
-abbrev pub planned_report : Naming → Problem → Result (List Wish) Fault → List ℕ → Report
+abbrev pub planned_report : Naming → Problem → Result (List Wish) (Fault PlanWord) → List ℕ → Report
 planned_report names f (Err bad) bytes = bad_text Plan bad.number (word_text bad.word)
 planned_report names f (Ok wishes) bytes = recheck_of names f.ships (cert_outcome (repaired f wishes) bytes)
 
@@ -44,7 +46,7 @@ texts_report text plan bytes = if nat_lt most_bytes (length text) then too_long 
 
 -- ---- what it says
 
--- a problem within the limits and a plan of it, those of the texts where they are told, what the certificate of the repair comes to, where that is told, and what this says of the plan
+-- a problem within the limits and a plan of it, those of the texts where they are told, the outcome of the certificate of the repair, where that is told, and what this says of the plan
 pub record ChecksPlan (text plan bytes : Option (List ℕ)) (f : Problem) (o : CertOutcome) : Type 0 where
   pub limits : IsFlat f
   pub text_reads : IfSome text (IsTextOf f)
@@ -59,14 +61,14 @@ pub record ChecksSomePlan (text plan bytes : Option (List ℕ)) (o : CertOutcome
   pub problem : Problem
   pub checks : ChecksPlan text plan bytes problem o
 
--- the same of some problem of so many ships, which is told by numbers
+-- the same of some problem of this many ships, which is told by numbers
 pub record ShowsPlan (text plan bytes : Option (List ℕ)) (v : Verdict) (ships : ℕ) (names : Naming) : Type 0 where
   pub problem : Problem
   pub counted : ships ≡ problem.ships
   pub by_numbers : names ≡ by_number
   pub checks : ChecksPlan text plan bytes problem (Shows v)
 
--- what a report says of the text, of the plan and of the certificate, each as far as it is told. Where these are told, and but for want of memory, no two reports hold together; no other is given
+-- what a report says of the text, of the plan and of the certificate, each as far as it is told. Apart from out of memory, no two reports hold together where these are told; no other is given
 abbrev pub RechecksTexts : Option (List ℕ) → Option (List ℕ) → Option (List ℕ) → Report → Type 0
 RechecksTexts text plan bytes (rechecked v ships names) = ShowsPlan text plan bytes v ships names
 RechecksTexts text plan bytes (refused number word hint) = ChecksSomePlan text plan bytes (Wrong number word hint)

@@ -21,7 +21,7 @@ use Rattle.hw_repair_command.specs.PortPlans.{PortPlanGives, NoPortPlan}
 use Rattle.hw_repair_command.specs.PortRepairs.{PortOutcomeMeans}
 use Rattle.hw_repair_command.specs.RepairPort.{port_repaired}
 
--- a port with its tide and a plan of it, those of the texts where they are told, what the certificate of the repair comes to, where that is told, and what this says of the plan by the port's rules
+-- a port with its tide and a plan of it, those of the texts where they are told, the outcome of the certificate of the repair, where that is told, and what this says of the plan by the port's rules
 pub record ChecksPortPlan (instance table plan bytes : Option (List ℕ)) (p : Parts) (h : TideParts) (o : CertOutcome) : Type 0 where
   pub reads : IsPortOf instance table p h
   pub wishes : List Wish

@@ -6,17 +6,18 @@ use Rattle.hw_desk.specs.declared.desk.Feed.TheVariants as feeds
 use Rattle.hw_desk.specs.declared.whole.ReadStop.TheVariants as reads
 use Rattle.hw_report.specs.Reports.{Report, bad_text}
 use Rattle.hw_command.specs.Inputs.{Enters, StopsFor, report_of_stop}
+use Rattle.hw_repair.specs.declared.fault.PlanWord.{PlanWord}
 use Rattle.hw_repair.specs.Repaired.{repaired}
 use Rattle.hw_repair.specs.Words.{word_text}
-use Rattle.hw_repair.specs.declared.fault.PlanFault.{PlanFault}
-use Rattle.hw_repair.specs.declared.fault.PlanFault.TheVariants as faults
+use Rattle.hw_derived.specs.declared.fault.LineFault.{LineFault}
+use Rattle.hw_derived.specs.declared.fault.LineFault.TheVariants as faults
 use Rattle.hw_repair_command.specs.Plans.{IsPlanOf, IsPlanText}
 use Rattle.hw_repair_command.specs.declared.plan_input.PlanStop.{PlanStop}
 use Rattle.hw_repair_command.specs.declared.plan_input.PlanStop.TheVariants as stops
 use Rattle.hw_repair_command.specs.declared.plan_input.Repair.{Repair}
 
 -- why bytes are no plan
-abbrev pub stop_of_plan : PlanFault → PlanStop
+abbrev pub stop_of_plan : LineFault PlanWord → PlanStop
 stop_of_plan (faults.Line number word) = stops.Line number word
 stop_of_plan faults.NoMemory = stops.Input reads.NoMemory
 

@@ -7,14 +7,15 @@ use Rattle.hw_desk.specs.declared.desk.Feed.TheVariants as feeds
 use Rattle.hw_report.specs.Reports.{Report, bad_text, too_long}
 use Rattle.hw_command.specs.Inputs.{NoFlat}
 use Rattle.hw_command.specs.Values.{most_bytes, IsLong, IsTextOf, GivesProblem}
-use Rattle.hw_repair.specs.Text.{Fault, plan_text}
+use Rattle.hw_derived.specs.Reading.{Fault}
+use Rattle.hw_repair.specs.Text.{plan_text}
 use Rattle.hw_repair.specs.Wishes.{PlanFits}
 use Rattle.hw_repair.specs.Words.{word_text}
 use Rattle.hw_repair.specs.declared.fault.PlanWord.{PlanWord}
 use Rattle.hw_repair.specs.declared.plan.Wish.{Wish}
 
 -- the bytes keep the limit, and as a plan of the problem they are read as this
-abbrev pub IsPlanText : Problem → Result (List Wish) Fault → List ℕ → Type 0
+abbrev pub IsPlanText : Problem → Result (List Wish) (Fault PlanWord) → List ℕ → Type 0
 IsPlanText f what bytes = (length bytes ≤ most_bytes) × (plan_text f bytes ≡ what)
 
 -- a plan that fits the problem, that of the bytes where they are told

@@ -11,14 +11,14 @@ use Rattle.hw_repair.specs.Repaired.{own_cargo, own_moved, MeetsPlan, IsBestRepa
 use Rattle.hw_repair.specs.Wishes.{moved}
 use Rattle.hw_repair.specs.declared.plan.Wish.{Wish}
 
--- the head of the repair's problem for which a printed head stands, where so many ships are moved: any more cargo outweighs all ships that keep their slots
+-- the head of the repair's problem for which a printed head stands, where `count` ships are moved: any more cargo outweighs all ships that keep their slots
 abbrev pub searched_head : ℕ → ℕ → Head → Head
 searched_head ships count (Optimal c) = Optimal ((ships + 1) * c + ships - count)
 searched_head ships count Infeasible = Infeasible
 searched_head ships count (Unfinished budget) = Unfinished budget
 searched_head ships count Memory = Memory
 
--- what a printed head says of the plan, whether Proof is told or not: the timetable is a best repair; none meets the plan; the whole budget was spent, which is no more than the most lemmas that there are to find. Want of memory says nothing
+-- what a printed head says of the plan, whether Proof is told or not: the timetable is a best repair; none meets the plan; the whole budget was spent, which is no more than the most lemmas that there are to find. Out of memory says nothing
 abbrev pub RepairMeans : Problem → List Wish → ℕ → ℕ → Head → Option (List ℕ) → Type 0
 RepairMeans f wishes budget most (Optimal c) None = ⊥
 RepairMeans f wishes budget most (Optimal c) (Some table) = IsBestRepair f wishes table c

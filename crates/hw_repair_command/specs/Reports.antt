@@ -40,13 +40,13 @@ printed_head ships budget (Unfinished table) = Some (heads.Unfinished budget)
 printed_head ships budget (NoMemory table) = Some heads.Memory
 printed_head ships budget LogFailed = None
 
--- the report of an answer, but where the log failed
+-- the report of an answer, unless the log failed
 abbrev pub report_of_repair : ℕ → Problem → Naming → List Wish → Solved → Option Report
 report_of_repair budget f names wishes answer = option_map (λ head. repaired head f names (table_in answer) (moved_of wishes (table_in answer))) (printed_head f.ships budget answer)
 
 -- ---- of a certificate
 
--- the report of what a certificate of a repair comes to, for so many ships
+-- the report of the outcome of a repair's certificate, for this many ships
 abbrev pub recheck_of : Naming → ℕ → CertOutcome → Report
 recheck_of names ships (Shows v) = rechecked v ships names
 recheck_of names ships (Wrong number word hint) = report_of names (Wrong number word hint)

@@ -23,7 +23,7 @@ pub struct Repair {
 /// Why there is no plan.
 #[derive(Clone, Copy, Debug, PartialEq, Eq)]
 pub enum PlanStop {
-    /// The plan isn't had.
+    /// The plan couldn't be read to its end.
     Input(ReadStop),
     /// Its first wrong line, numbered from 1, and what was demanded there.
     Line { number: u64, word: PlanWord },

@@ -51,8 +51,8 @@ fn moved_by(plan: &Plan, table: Option<&Timetable>) -> u32
     }
 }
 
-/// The report of what a search of the repair's problem found, and none where its log failed:
-/// nothing more is sent then. After want of memory it has the best timetable that was found.
+/// The report of what a search of the repair's problem found, or none where its log failed:
+/// then nothing more is sent. If memory ran out, it has the best timetable that was found.
 pub fn repair_report<'a>(
     flat: &'a Flat,
     names: Names<'a>,
@@ -77,7 +77,7 @@ pub fn repair_report<'a>(
     }
 }
 
-/// The report of what a check of a repair's certificate gives, for so many ships, in these names.
+/// The report of what a check of a repair's certificate gives, for this many ships, in these names.
 pub fn recheck_report(checked: Result<CertOutcome, CertStop>, ships: u32, names: Names) -> Report
     ensures value { report_seen result ≡ report_of_recheck (names_seen names.entry) ships checked }
     ensures printed { CanPrint (report_seen result) }
