@@ -3,7 +3,7 @@ use Rattle.std.specs.Prelude.{⊤, ◌<◌, ℕ, Option, Some, None, nat_lt, if�
 use Rattle.hw_chart.specs.declared.course.Course.{Course}
 use Rattle.hw_chart.specs.declared.course.Course.TheVariants.{Unplanned, Stays, Sails}
 
--- a ship with this slot, where ships sail in so many slots
+-- a ship with this slot, where ships sail in this many slots
 abbrev pub course_of : Option ℕ → ℕ → Course
 course_of None slots = Unplanned
 course_of (Some slot) slots = if nat_lt slot slots then Sails slot else Stays

@@ -11,7 +11,7 @@ use Rattle.hw_chart.specs.declared.grid.Scale.{Scale}
 use Rattle.hw_chart.specs.declared.grid.Scale.TheVariants.{Minutes, Slots}
 use Rattle.hw_chart.specs.Layout.{place_of}
 
--- how much an axis over so many slots counts
+-- how much an axis over this many slots counts
 abbrev pub total_of : Scale → ℕ → ℕ
 total_of (Minutes minutes) span = span * minutes
 total_of Slots span = span
@@ -30,7 +30,7 @@ axis_of scale span bottom = record { scale = scale; total = total_of scale span;
 abbrev pub line_path : Axis → ℕ → List ℕ
 line_path a at = joined (codes "M" ∷ decimal (place_of at a.total) ∷ codes " 120V" ∷ decimal (a.bottom + 4) ∷ [])
 
--- the lines at so many marks from this one on
+-- the lines at this many marks from this one on
 abbrev pub line_paths : Axis → ℕ → ℕ → List ℕ
 line_paths a i zero = []
 line_paths a i (suc more) = line_path a (i * a.step) ++ line_paths a (i + 1) more
@@ -70,6 +70,6 @@ axis_text a = joined (line (codes "m") 16 116 (caption_text a.scale) ∷ axis_li
 abbrev pub grid : Scale → ℕ → ℕ → List ℕ
 grid scale span bottom = axis_text (axis_of scale span bottom)
 
--- a line at the end of the slots in which ships sail, where the picture goes on behind it
+-- a line at the end of the slots in which ships sail, where the picture goes on beyond it
 abbrev pub span_end : ℕ → ℕ → ℕ → List ℕ
 span_end slots span bottom = if nat_lt slots span then shape (codes "hz") (joined (codes "M" ∷ decimal (place_of slots span) ∷ codes " 120V" ∷ decimal (bottom + 4) ∷ [])) else []

@@ -5,7 +5,7 @@ use Rattle.hw_svg.specs.Joined.{joined}
 use Rattle.hw_svg.specs.Shapes.{block, shape}
 use Rattle.hw_svg.specs.declared.sheet.Window.{Window}
 
--- a window over the slots that a picture shows, with so many units of its own down
+-- a window over the slots that a picture shows, `tall` units of its own down
 abbrev pub plot : ℕ → ℕ → ℕ → ℕ → Window
 plot y height span tall = record { x = 172; y = y; width = 720; height = height; across = span; down = tall }
 

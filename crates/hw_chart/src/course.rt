@@ -13,7 +13,7 @@ pub enum Course {
     Sails(Slot),
 }
 
-/// The course of a ship by its slot, if there is one, where ships sail in so many slots.
+/// The course of a ship by its slot, if there is one, where ships sail in this many slots.
 pub fn course_at(slot: Option<Slot>, slots: u32) -> Course
     ensures value { result ≡ course_of slot slots }
     ensures before { SailsBefore slots result }

@@ -11,7 +11,7 @@ use crate::layout::place;
 use hw_desk::Writer;
 use hw_svg::{Piece, put_line, put_pieces, put_shape, put_shape_begin};
 
-/// What the axis counts: minutes, so many to a slot, or slots.
+/// What the axis counts: minutes, this many to a slot, or slots.
 #[derive(Clone, Copy, Debug, PartialEq, Eq)]
 pub enum Scale {
     Minutes(u32),
@@ -65,7 +65,7 @@ fn step(scale: Scale, total: u32) -> u32
     }
 }
 
-/// How much an axis over so many slots counts.
+/// How much an axis over this many slots counts.
 fn total(scale: Scale, span: u32) -> u32
     requires { total_of scale span < 2 ^ 32 }
     ensures { result ≡ total_of scale span }
@@ -76,7 +76,7 @@ fn total(scale: Scale, span: u32) -> u32
     }
 }
 
-/// The axis over so many slots.
+/// The axis over this many slots.
 fn axis_over(scale: Scale, span: u32, bottom: u32) -> Axis
     requires { total_of scale span < 2 ^ 32 }
     ensures value { result ≡ axis_of scale span bottom }
@@ -197,7 +197,7 @@ fn caption(scale: Scale) -> &'static [u8]
     }
 }
 
-/// Puts the grid over so many slots: what its axis counts, lines down the picture to below `bottom`, and their marks.
+/// Puts the grid over this many slots: what its axis counts, lines down the picture to below `bottom`, and their marks.
 pub fn put_grid<W: Writer>(out: &mut W, scale: Scale, span: u32, bottom: u32)
     requires { total_of scale span < 2 ^ 32 }
     ensures { Puts (grid scale span bottom) (W.state out.old) (W.state out.new) }
@@ -208,7 +208,7 @@ pub fn put_grid<W: Writer>(out: &mut W, scale: Scale, span: u32, bottom: u32)
     put_marks(out, axis);
 }
 
-/// Puts the line at the end of the slots in which ships sail, where the picture goes on behind it.
+/// Puts the line at the end of the slots in which ships sail, where the picture goes on beyond it.
 pub fn put_span_end<W: Writer>(out: &mut W, slots: u32, span: u32, bottom: u32)
     ensures { Puts (span_end slots span bottom) (W.state out.old) (W.state out.new) }
 {

@@ -8,7 +8,7 @@ use hw_desk::Writer;
 use hw_model::{ShipId, Slot};
 use hw_svg::{Area, Piece, Window, put_block, put_shape};
 
-/// A window over the slots that a picture shows, with so many units of its own down.
+/// A window over the slots that a picture shows, `tall` units of its own down.
 pub fn plot(y: u64, height: u64, span: u32, tall: u64) -> Window
     ensures { result ≡ plot y height span tall }
 {

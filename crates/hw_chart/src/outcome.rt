@@ -26,7 +26,7 @@ pub fn cargo_piece(unit: CargoUnit, cargo: u64) -> Piece<'static>
     }
 }
 
-/// The unit's sign behind a cargo.
+/// The unit's sign after a cargo.
 fn unit_piece(unit: CargoUnit) -> Piece<'static>
     ensures { piece_text result ≡ unit_text unit }
 {

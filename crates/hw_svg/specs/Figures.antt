@@ -7,7 +7,7 @@ use Rattle.hw_svg.specs.Shapes.{shape}
 abbrev pub move : ℕ → ℕ → List ℕ
 move slot level = joined (codes "V" ∷ decimal level ∷ codes "H" ∷ decimal (slot + 1) ∷ [])
 
--- so many slots from this one on, each at its level
+-- `count` slots from this one on, each at its level
 abbrev pub moves : (ℕ → ℕ) → ℕ → ℕ → List ℕ
 moves level slot zero = []
 moves level slot (suc more) = move slot (level slot) ++ moves level (slot + 1) more
@@ -20,10 +20,10 @@ steps_begin first base = joined (codes "M" ∷ decimal first ∷ codes " " ∷ d
 unfoldable pub steps_end : ℕ → List ℕ
 steps_end base = joined (codes "V" ∷ decimal base ∷ codes "z" ∷ [])
 
--- the path over so many slots from the first one on: in each its level, and below it down to the base
+-- the path over `count` slots from the first one on: in each its level, and below it down to the base
 abbrev pub steps_path : (ℕ → ℕ) → ℕ → ℕ → ℕ → List ℕ
 steps_path level first count base = joined (steps_begin first base ∷ moves level first count ∷ steps_end base ∷ [])
 
--- a filled figure over so many slots from the first one on
+-- a filled figure over `count` slots from the first one on
 abbrev pub steps : List ℕ → (ℕ → ℕ) → ℕ → ℕ → ℕ → List ℕ
 steps class level first count base = shape class (steps_path level first count base)

@@ -18,7 +18,7 @@ NamesAreWords = (name : List ℕ) → list_all is_word (escaped name) ≡ true
 abbrev pub NamesReadBack : Type 0
 NamesReadBack = (name other : List ℕ) → escaped name ≡ escaped other → name ≡ other
 
--- no mark stands in the path round an area
+-- no mark stands in the path around an area
 abbrev pub AreasHaveNoMarks : Type 0
 AreasHaveNoMarks = (a : Area) → a.left < 2 ^ 64 → a.right < 2 ^ 64 → a.top < 2 ^ 64 → a.bottom < 2 ^ 64 → list_all is_word (area_path a) ≡ true
 

@@ -10,7 +10,7 @@ shape_begin class = joined (codes "<path class=\"" ∷ class ∷ codes "\" d=\""
 abbrev pub shape : List ℕ → List ℕ → List ℕ
 shape class path = joined (shape_begin class ∷ path ∷ codes "\"/>\n" ∷ [])
 
--- the path round an area
+-- the path around an area
 unfoldable pub area_path : Area → List ℕ
 area_path a = joined (codes "M" ∷ decimal a.left ∷ codes " " ∷ decimal a.top ∷ codes "H" ∷ decimal a.right ∷ codes "V" ∷ decimal a.bottom ∷ codes "H" ∷ decimal a.left ∷ codes "z" ∷ [])
 

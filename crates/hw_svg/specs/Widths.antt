@@ -1,4 +1,4 @@
--- How wide a name is, about and hardly ever less.
+-- An estimate of how wide a name is, hardly ever too small.
 use Rattle.std.specs.Prelude.{ℕ, Bool, List, codes, if◌then◌else◌, nat_eq, sum_by}
 use Rattle.std.specs.List.{list_any}
 

@@ -1,6 +1,7 @@
 //! Areas on a picture.
 
-/// A part of a picture or of a window, in its own units: from `left` to before `right`, and from `top` down to `bottom`.
+/// A part of a picture or of a window, in its own units: from `left` to before `right`, and from `top`
+/// down to `bottom`.
 #[derive(Clone, Copy, Debug, PartialEq, Eq)]
 pub struct Area {
     pub left: u64,

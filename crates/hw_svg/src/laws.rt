@@ -68,7 +68,7 @@ pub fn names_read_back()
     ensures { NamesReadBack }
 {}
 
-/// No mark stands in the path round an area.
+/// No mark stands in the path around an area.
 #[tactic(auto, using(crate::proofs::Paths::area_is_word))]
 pub fn areas_have_no_marks()
     ensures { AreasHaveNoMarks }

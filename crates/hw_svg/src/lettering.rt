@@ -37,7 +37,7 @@ pub fn put_line<W: Writer>(out: &mut W, class: &[u8], x: u64, y: u64, text: &[Pi
     out.put(b"</text>\n");
 }
 
-/// Puts that a text is squeezed to the width of its place.
+/// Puts the attributes that squeeze a text to the width of its place.
 #[tactic(auto, unfolding(crate::specs::Lettering::squeezed))]
 fn put_squeezed<W: Writer>(out: &mut W, place: u64)
     ensures { Puts (squeezed place) (W.state out.old) (W.state out.new) }
@@ -52,7 +52,7 @@ fn put_squeezed<W: Writer>(out: &mut W, place: u64)
     );
 }
 
-/// Puts that a name is squeezed, where it may be wider than its place.
+/// Puts the attributes that squeeze a name, if it may be wider than its place.
 fn put_squeeze<W: Writer>(out: &mut W, name: &[u8], place: u64)
     ensures { Puts (squeeze name.now place) (W.state out.old) (W.state out.new) }
 {
@@ -63,7 +63,7 @@ fn put_squeeze<W: Writer>(out: &mut W, name: &[u8], place: u64)
     }
 }
 
-/// Puts a name of a class at a place so many units wide.
+/// Puts a name of a class into a place of `place` units of width.
 pub fn put_name_line<W: Writer>(out: &mut W, class: &[u8], x: u64, y: u64, name: &[u8], place: u64)
     ensures { Puts (name_line class.now x y name.now place) (W.state out.old) (W.state out.new) }
 {

@@ -31,7 +31,7 @@ pub fn put_name<W: Writer>(out: &mut W, name: &[u8])
     }
 }
 
-/// About how wide a byte is in the type of a name, hardly ever less.
+/// An estimate of how wide a byte is in the type of a name, hardly ever too small.
 #[tactic(auto, unfolding(crate::specs::Widths::advance))]
 fn advance(byte: u8) -> u64
     ensures { result ≡ advance byte }

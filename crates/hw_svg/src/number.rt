@@ -5,7 +5,7 @@ ghost use Rattle.hw_svg.specs.Numbers.{clock, days, height_text, metres, sign, t
 
 use hw_desk::Writer;
 
-/// Puts tenths of a tonne as tonnes, with one digit behind the point.
+/// Puts tenths of a tonne as tonnes, with one digit after the point.
 #[tactic(auto, unfolding(crate::specs::Numbers::tenths))]
 pub fn put_tenths<W: Writer>(out: &mut W, amount: u64)
     ensures { Puts (tenths amount) (W.state out.old) (W.state out.new) }
@@ -15,7 +15,7 @@ pub fn put_tenths<W: Writer>(out: &mut W, amount: u64)
     out.put_number(amount % 10);
 }
 
-/// Puts centimetres as metres, with two digits behind the point.
+/// Puts centimetres as metres, with two digits after the point.
 #[tactic(auto, unfolding(crate::specs::Numbers::metres))]
 pub fn put_metres<W: Writer>(out: &mut W, length: u64)
     ensures { Puts (metres length) (W.state out.old) (W.state out.new) }

@@ -27,7 +27,7 @@ pub fn put_shape<W: Writer>(out: &mut W, class: &[u8], path: &[Piece])
     out.put(b"\"/>\n");
 }
 
-/// Puts the path round an area.
+/// Puts the path around an area.
 #[tactic(auto, unfolding(crate::specs::Shapes::area_path))]
 fn put_area_path<W: Writer>(out: &mut W, area: Area)
     ensures { Puts (area_path area) (W.state out.old) (W.state out.new) }

@@ -7,7 +7,8 @@ ghost use Rattle.hw_svg.specs.Sheets.{group_end, item_begin, list_begin, picture
 use crate::piece::{Piece, put_pieces};
 use hw_desk::Writer;
 
-/// A window on a picture: where it stands and how large it is there, and how many units of its own it has across and down.
+/// A window on a picture: where it stands and how large it is there, and how many units of its own it
+/// has across and down.
 #[derive(Clone, Copy, Debug, PartialEq, Eq)]
 pub struct Window {
     pub x: u64,

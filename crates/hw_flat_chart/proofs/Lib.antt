@@ -1,0 +1,4 @@
+pub mod Fits
+pub mod Tested
+pub mod Onward
+pub mod Flags

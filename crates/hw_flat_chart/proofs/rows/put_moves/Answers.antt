@@ -1,0 +1,13 @@
+use Rattle.std.proofs.Common.{◌<◌, arith}
+use Rattle.hw_laws.proofs.Horizon.{horizon_le}
+use Rattle.hw_flat_chart.proofs.Tested.{same_open}
+use Rattle.hw_flat_chart.proofs.rows.put_moves.Goals as goal
+
+pub invariant_of-openings-clause-flagged : goal.invariant_of-openings-clause-flagged
+invariant_of-openings-clause-flagged g c = λ slot lt.
+    let plan = c.args.plan.now in
+    let within : slot < c.args.flat.now.slots = omega (arith, lt, horizon_le c.args.flat.now) in
+    same_open c.args.flat.now plan.table c.args.row.ship slot _ c.requires.planned.listed within (c.requires.planned.flagged c.args.row.ship slot c.requires.ship_in lt)
+
+pub returns : goal.returns
+returns g c = rw (c.row_y.ensures.value, c.horizon.ensures.value) at c.put_moves_window.ensures

@@ -1,0 +1,5 @@
+pub mod Moves
+pub mod Values
+pub mod Fleets
+pub mod Rows
+pub mod Pictures

@@ -1,0 +1,35 @@
+-- The slots to which a ship alone could move.
+use Rattle.std.specs.Prelude.{◌≡◌, ◌↔◌, ◌<◌, ◌+◌, ◌*◌, ℕ, Bool, true, false, is_none, if◌then◌else◌, List, length, slice_index_or, slice_set}
+use Rattle.hw_model.specs.Problem.{Problem, IsTimetable, horizon}
+use Rattle.hw_model.specs.Timetables.{Permits, first_broken}
+
+-- the timetable with another slot for one ship; all other ships stay where they are
+abbrev pub moved : List ℕ → ℕ → ℕ → List ℕ
+moved table ship slot = slice_set table ship slot
+
+-- no restriction is broken with this slot for the ship
+abbrev pub is_open : Problem → List ℕ → ℕ → ℕ → Bool
+is_open f table ship slot = is_none (first_broken f (moved table ship slot))
+
+-- the top of a window one unit tall where the slot is open, and otherwise its foot
+abbrev pub open_level : Problem → List ℕ → ℕ → ℕ → ℕ
+open_level f table ship slot = if is_open f table ship slot then 0 else 1
+
+-- where the flag of a ship and a slot stands among all flags
+abbrev pub flag_place : ℕ → ℕ → ℕ
+flag_place ship slot = ship * 512 + slot
+
+-- a timetable, and a flag for each ship and slot
+pub record PlanModel : Type 0 where
+  pub table : List ℕ
+  pub flags : List Bool
+
+-- a flag is set exactly where the problem permits the timetable with that slot for the ship
+pub record IsPlan (f : Problem) (plan : PlanModel) : Type 0 where
+  pub listed : IsTimetable f plan.table
+  pub each_flag : length plan.flags ≡ 20_480
+  pub flagged : (ship slot : ℕ) → ship < f.ships → slot < horizon f → (slice_index_or plan.flags (flag_place ship slot) false ≡ true) ↔ Permits f (moved plan.table ship slot)
+
+-- a level is 0 exactly where the problem permits the timetable with that slot for the ship
+abbrev pub MovesArePermitted : Type 0
+MovesArePermitted = (f : Problem) (table : List ℕ) (ship slot : ℕ) → IsTimetable f table → slot < f.slots → (open_level f table ship slot ≡ 0) ↔ Permits f (moved table ship slot)

@@ -1,0 +1,80 @@
+-- The picture of a flat problem, with a timetable or without one.
+use Rattle.std.specs.Prelude.{ℕ, ◌+◌, ◌*◌, List, [], ◌∷◌, ◌++◌, codes, decimal, length, Option, Some, None}
+use Rattle.hw_model.specs.declared.rule.Rule.{Rule}
+use Rattle.hw_model.specs.Problem.{Problem, horizon}
+use Rattle.hw_model.specs.Rules.{busy}
+use Rattle.hw_lines.specs.declared.check.Verdict.{Verdict}
+use Rattle.hw_svg.specs.Joined.{joined}
+use Rattle.hw_svg.specs.Lettering.{line}
+use Rattle.hw_svg.specs.Shapes.{block}
+use Rattle.hw_svg.specs.Sheets.{list_of, svg_end}
+use Rattle.hw_chart.specs.declared.grid.Scale.TheVariants.{Slots}
+use Rattle.hw_chart.specs.declared.outcome.CargoUnit.TheVariants.{Plain}
+use Rattle.hw_chart.specs.declared.panel.Panel.{Panel}
+use Rattle.hw_chart.specs.Grids.{grid, span_end}
+use Rattle.hw_chart.specs.Headings.{heading}
+use Rattle.hw_chart.specs.Panels.{planned_panel, unplanned_panel}
+use Rattle.hw_flat_chart.specs.Fleets.{fleet_of, fleets, span_of}
+use Rattle.hw_flat_chart.specs.Rows.{planned_rows, unplanned_rows}
+
+-- where the first panel stands, below the rows
+abbrev pub panels_y : Problem → ℕ
+panels_y f = 156 + 42 * f.ships
+
+-- where the plot ends
+abbrev pub bottom : Problem → ℕ
+bottom f = panels_y f + 66 * length (fleets f)
+
+unfoldable pub sizes : Problem → List ℕ
+sizes f = joined (codes "ships " ∷ decimal f.ships ∷ codes ", slots " ∷ decimal (horizon f) ∷ codes ", rules " ∷ decimal (length f.rules) ∷ [])
+
+-- an entry of the legend: a patch of a class, and what it says
+abbrev pub entry : List ℕ → ℕ → List ℕ → List ℕ
+entry class x says = block class (record { left = x; right = x + 10; top = 77; bottom = 87 }) ++ line (codes "m") (x + 14) 86 says
+
+unfoldable pub sailing_entries : List ℕ
+sailing_entries = joined (entry (codes "dr") 16 (codes "may sail: the higher, the more cargo") ∷ entry (codes "fl") 234 (codes "with its most cargo") ∷ entry (codes "pl") 362 (codes "could move there alone") ∷ entry (codes "ou") 506 (codes "sails") ∷ [])
+
+unfoldable pub other_entries : List ℕ
+other_entries = joined (entry (codes "tu") 560 (codes "holds tugs") ∷ entry (codes "be") 642 (codes "must wait for another") ∷ entry (codes "fu") 778 (codes "whole fleet held") ∷ [])
+
+-- what the colours say
+abbrev pub legend : List ℕ
+legend = sailing_entries ++ other_entries
+
+unfoldable pub head : Problem → Verdict → List ℕ
+head f verdict = heading Plain verdict (bottom f + 28) (sizes f) ++ legend
+
+-- what the figures right of the rows are
+unfoldable pub columns : List ℕ
+columns = line (codes "m r") 956 138 (codes "slot") ++ line (codes "m r") 1268 138 (codes "value")
+
+-- a panel for the fleet of a rule
+abbrev pub panel_of : Problem → ℕ → ℕ → Rule → Panel
+panel_of f span y rule = record { y = y; fleet = fleet_of rule; slots = horizon f; span = span }
+
+abbrev pub unplanned_panels : Problem → ℕ → ℕ → List Rule → List ℕ
+unplanned_panels f span y [] = []
+unplanned_panels f span y (rule ∷ rules) = unplanned_panel (panel_of f span y rule) ++ unplanned_panels f span (y + 66) rules
+
+-- the tugs that each fleet holds in each slot
+abbrev pub planned_panels : Problem → List ℕ → ℕ → ℕ → List Rule → List ℕ
+planned_panels f table span y [] = []
+planned_panels f table span y (rule ∷ rules) = planned_panel (panel_of f span y rule) (busy rule table) ++ planned_panels f table span (y + 66) rules
+
+unfoldable pub foot : Problem → ℕ → List ℕ
+foot f span = joined (grid Slots span (bottom f) ∷ span_end (horizon f) span (bottom f) ∷ svg_end ∷ [])
+
+unfoldable pub unplanned_body : Problem → List ℕ
+unplanned_body f = joined (list_of (unplanned_rows f 0 f.ships) ∷ unplanned_panels f (horizon f) (panels_y f) (fleets f) ∷ [])
+
+unfoldable pub planned_body : Problem → List ℕ → List ℕ
+planned_body f table = joined (columns ∷ list_of (planned_rows f table 0 f.ships) ∷ planned_panels f table (span_of f (Some table)) (panels_y f) (fleets f) ∷ [])
+
+unfoldable pub body : Problem → Option (List ℕ) → List ℕ
+body f None = unplanned_body f
+body f (Some table) = planned_body f table
+
+-- the whole text: what a certificate shows, and the timetable, if there is one
+unfoldable pub flat_picture : Problem → Option (List ℕ) → Verdict → List ℕ
+flat_picture f table verdict = joined (head f verdict ∷ body f table ∷ foot f (span_of f table) ∷ [])

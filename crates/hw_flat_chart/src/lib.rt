@@ -1,0 +1,25 @@
+//! The picture of a flat problem: what each ship may carry in each slot, where it sails in a timetable, to which slots it
+//! alone could move, and how many tugs are held.
+//!
+//! The text is a function of the problem, the timetable, if there is one, and what a certificate shows. Only the moves take
+//! memory. They are found first, so the writer takes none.
+#![tactic(auto)]
+
+mod bars;
+mod fleets;
+mod labels;
+mod laws;
+mod moves;
+mod panels;
+mod picture;
+mod plan;
+mod row;
+mod rows;
+mod span;
+mod values;
+
+pub use fleets::{Fleets, Found};
+pub use laws::{bars_are_values, moves_are_permitted};
+pub use picture::put_flat_picture;
+pub use plan::Plan;
+pub use row::Row;

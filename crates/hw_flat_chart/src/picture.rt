@@ -1,0 +1,199 @@
+//! The picture of a flat problem.
+
+ghost use Rattle.std.specs.Prelude.{◌≡◌, ◌≤◌, ◌<◌, IfSome, None, Some, option_map};
+ghost use Rattle.hw_desk.specs.Writers.{Puts};
+ghost use Rattle.hw_flat_chart.specs.Fleets.{span_of};
+ghost use Rattle.hw_flat_chart.specs.Moves.{IsPlan};
+ghost use Rattle.hw_flat_chart.specs.Pictures.{body, bottom, columns, flat_picture, foot, head, legend, other_entries, panels_y, planned_body, sailing_entries, sizes, unplanned_body};
+ghost use Rattle.hw_svg.specs.Pieces.{pieces_text};
+
+use crate::fleets::{count, fleets_of};
+use crate::panels::{put_planned_panels, put_unplanned_panels};
+use crate::plan::Plan;
+use crate::rows::{put_planned_rows, put_unplanned_rows};
+use crate::span::span;
+use hw_chart::{CargoUnit, Entry, Scale, put_grid, put_heading, put_legend, put_span_end};
+use hw_desk::Writer;
+use hw_flat::Flat;
+use hw_lines::Verdict;
+use hw_svg::{Piece, put_group_end, put_line, put_list_begin, put_svg_end};
+
+/// Puts what the colours of sailings say.
+#[tactic(auto, unfolding(crate::specs::Pictures::sailing_entries))]
+fn put_sailing_entries<W: Writer>(out: &mut W)
+    ensures { Puts sailing_entries (W.state out.old) (W.state out.new) }
+{
+    put_legend(
+        out,
+        &[
+            Entry {
+                class: b"dr",
+                x: 16,
+                says: b"may sail: the higher, the more cargo",
+            },
+            Entry {
+                class: b"fl",
+                x: 234,
+                says: b"with its most cargo",
+            },
+            Entry {
+                class: b"pl",
+                x: 362,
+                says: b"could move there alone",
+            },
+            Entry {
+                class: b"ou",
+                x: 506,
+                says: b"sails",
+            },
+        ],
+    );
+}
+
+/// Puts what the other colours say.
+#[tactic(auto, unfolding(crate::specs::Pictures::other_entries))]
+fn put_other_entries<W: Writer>(out: &mut W)
+    ensures { Puts other_entries (W.state out.old) (W.state out.new) }
+{
+    put_legend(
+        out,
+        &[
+            Entry {
+                class: b"tu",
+                x: 560,
+                says: b"holds tugs",
+            },
+            Entry {
+                class: b"be",
+                x: 642,
+                says: b"must wait for another",
+            },
+            Entry {
+                class: b"fu",
+                x: 778,
+                says: b"whole fleet held",
+            },
+        ],
+    );
+}
+
+/// Puts what the colours say.
+fn put_colours<W: Writer>(out: &mut W)
+    ensures { Puts legend (W.state out.old) (W.state out.new) }
+{
+    put_sailing_entries(out);
+    put_other_entries(out);
+}
+
+/// Where the first panel stands.
+fn panels_y(flat: &Flat) -> u32
+    ensures value { result ≡ panels_y flat.now }
+    ensures small { result ≤ 2_000 }
+{
+    156 + 42 * flat.shape().ships
+}
+
+/// Where the plot ends.
+fn bottom(flat: &Flat) -> u32
+    ensures value { result ≡ bottom flat.now }
+    ensures small { result ≤ 3_000 }
+{
+    panels_y(flat) + 66 * count(fleets_of(flat))
+}
+
+/// Puts the head of the picture: what a certificate shows, the sizes of the problem, and what the colours say.
+#[tactic(auto, unfolding(crate::specs::Pictures::head, crate::specs::Pictures::sizes))]
+fn put_head<W: Writer>(out: &mut W, flat: &Flat, verdict: Verdict)
+    ensures { Puts (head flat.now verdict) (W.state out.old) (W.state out.new) }
+{
+    let shape = flat.shape();
+    let sizes = [
+        Piece::Word(b"ships "),
+        Piece::Number(u64::from(shape.ships)),
+        Piece::Word(b", slots "),
+        Piece::Number(u64::from(flat.horizon())),
+        Piece::Word(b", rules "),
+        Piece::Number(u64::from(shape.rules)),
+    ];
+    let height = u64::from(bottom(flat)) + 28;
+    put_heading(out, CargoUnit::Plain, verdict, height, &sizes);
+    put_colours(out);
+}
+
+/// Puts what the figures right of the rows are.
+#[tactic(auto, unfolding(crate::specs::Pictures::columns))]
+fn put_columns<W: Writer>(out: &mut W)
+    ensures { Puts columns (W.state out.old) (W.state out.new) }
+{
+    put_line(out, b"m r", 956, 138, &[Piece::Word(b"slot")]);
+    put_line(out, b"m r", 1268, 138, &[Piece::Word(b"value")]);
+}
+
+/// Puts the rows and panels of a timetable.
+#[tactic(auto, unfolding(crate::specs::Pictures::planned_body))]
+fn put_planned_body<W: Writer>(out: &mut W, flat: &Flat, plan: &Plan, span: u32)
+    requires planned { IsPlan flat.now plan.now }
+    requires span { span ≡ span_of flat.now (Some plan.now.table) }
+    requires some { 0 < span }
+    ensures { Puts (planned_body flat.now plan.now.table) (W.state out.old) (W.state out.new) }
+{
+    put_columns(out);
+    put_list_begin(out);
+    put_planned_rows(out, flat, plan, span);
+    put_group_end(out);
+    put_planned_panels(
+        out,
+        flat,
+        plan.table(),
+        span,
+        panels_y(flat),
+        fleets_of(flat),
+    );
+}
+
+/// Puts the rows and panels where there is no timetable.
+#[tactic(auto, unfolding(crate::specs::Pictures::unplanned_body))]
+fn put_unplanned_body<W: Writer>(out: &mut W, flat: &Flat)
+    ensures { Puts (unplanned_body flat.now) (W.state out.old) (W.state out.new) }
+{
+    put_list_begin(out);
+    put_unplanned_rows(out, flat);
+    put_group_end(out);
+    put_unplanned_panels(out, flat, flat.horizon(), panels_y(flat), fleets_of(flat));
+}
+
+/// Puts the grid over this many slots, and the end of the picture.
+#[tactic(auto, unfolding(crate::specs::Pictures::foot))]
+fn put_foot<W: Writer>(out: &mut W, flat: &Flat, span: u32)
+    requires { span ≤ 1_535 }
+    ensures { Puts (foot flat.now span) (W.state out.old) (W.state out.new) }
+{
+    let bottom = bottom(flat);
+    put_grid(out, Scale::Slots, span, bottom);
+    put_span_end(out, flat.horizon(), span, bottom);
+    put_svg_end(out);
+}
+
+/// Puts the picture of a flat problem, about 900,000 bytes at most: what a certificate shows, and the timetable that it
+/// shows, if there is one.
+///
+/// It takes no memory. The timetable need not be permitted; where a ship has no value in its slot, the ship carries 0
+/// there and has no mark above the foot of its window.
+#[tactic(auto, unfolding(crate::specs::Pictures::flat_picture, crate::specs::Pictures::body, crate::specs::Fleets::span_of))]
+pub fn put_flat_picture<W: Writer>(out: &mut W, flat: &Flat, plan: Option<&Plan>, verdict: Verdict)
+    requires { IfSome plan (λ p. IsPlan flat.now p.now) }
+    ensures { Puts (flat_picture flat.now (option_map (λ p. p.now.table) plan.entry) verdict) (W.state out.old) (W.state out.new) }
+{
+    put_head(out, flat, verdict);
+    match plan {
+        None => {
+            put_unplanned_body(out, flat);
+            put_foot(out, flat, flat.horizon());
+        }
+        Some(plan) => {
+            let span = span(flat, plan.table());
+            put_planned_body(out, flat, plan, span);
+            put_foot(out, flat, span);
+        }
+    }
+}

@@ -1,0 +1,109 @@
+//! The parts that every row of a picture begins with.
+
+ghost use Rattle.std.specs.Prelude.{◌≡◌, ◌≤◌, ◌<◌};
+ghost use Rattle.hw_model.specs.Problem.{horizon, value_at};
+ghost use Rattle.hw_desk.specs.Writers.{Puts};
+ghost use Rattle.hw_chart.specs.Courses.{SailsBefore};
+ghost use Rattle.hw_chart.specs.declared.row.Sailings.{Sailings};
+ghost use Rattle.hw_flat_chart.specs.Rows.{row_begin, row_y, value_mark, value_steps, value_window, values_text};
+ghost use Rattle.hw_flat_chart.specs.Values.{most, tall_of};
+
+use crate::labels::{put_row_label, put_row_title};
+use crate::values::{Mosts, Values, most, tall, value, value_level};
+use hw_chart::{
+    Course, Sailings, put_sailing_mark, put_sailing_steps, put_sailings_begin, put_stripe,
+};
+use hw_desk::Writer;
+use hw_flat::Flat;
+use hw_model::ShipId;
+use hw_svg::put_svg_end;
+
+/// A row: its ship, its place among the rows, how many slots the picture shows, and what the timetable says of the ship.
+#[derive(Clone, Copy, Debug, PartialEq, Eq)]
+pub struct Row {
+    pub ship: ShipId,
+    pub rank: u32,
+    pub span: u32,
+    pub course: Course,
+}
+
+/// Where a row stands.
+pub(crate) fn row_y(row: Row) -> u32
+    requires { row.rank ≤ 40 }
+    ensures value { result ≡ row_y row }
+    ensures small { result ≤ 2_000 }
+{
+    146 + 42 * row.rank
+}
+
+/// The window of a ship's values.
+fn value_window(flat: &Flat, row: Row) -> Sailings
+    requires ship_in { row.ship < flat.now.ships }
+    requires few { row.rank ≤ 40 }
+    ensures { result ≡ value_window flat.now row }
+{
+    Sailings {
+        y: row_y(row),
+        span: row.span,
+        tall: tall(most(flat, row.ship)),
+        first: 0,
+        end: flat.horizon(),
+    }
+}
+
+/// Puts what the ship may carry in each slot, and where that is the most.
+fn put_value_steps<W: Writer>(out: &mut W, flat: &Flat, row: Row)
+    requires ship_in { row.ship < flat.now.ships }
+    requires few { row.rank ≤ 40 }
+    ensures { Puts (value_steps flat.now row) (W.state out.old) (W.state out.new) }
+{
+    let window = value_window(flat, row);
+    let ship = row.ship;
+    let top = most(flat, ship);
+    put_sailing_steps(out, b"dr", window, &Values { flat, ship, top });
+    put_sailing_steps(out, b"fl", window, &Mosts { flat, ship, top });
+}
+
+/// Puts the mark of the slot in which the ship sails.
+fn put_value_mark<W: Writer>(out: &mut W, flat: &Flat, row: Row)
+    requires ship_in { row.ship < flat.now.ships }
+    requires few { row.rank ≤ 40 }
+    requires before { SailsBefore (horizon flat.now) row.course }
+    ensures { Puts (value_mark flat.now row row.course) (W.state out.old) (W.state out.new) }
+{
+    match row.course {
+        Course::Unplanned | Course::Stays => out.put(b""),
+        Course::Sails(slot) => {
+            let level = value_level(most(flat, row.ship), value(flat, row.ship, slot));
+            put_sailing_mark(out, b"ou mk", value_window(flat, row), slot, level);
+        }
+    }
+}
+
+/// Puts the window of a ship's values.
+#[tactic(auto, unfolding(crate::specs::Rows::values_text))]
+fn put_values<W: Writer>(out: &mut W, flat: &Flat, row: Row)
+    requires ship_in { row.ship < flat.now.ships }
+    requires few { row.rank ≤ 40 }
+    requires before { SailsBefore (horizon flat.now) row.course }
+    ensures { Puts (values_text flat.now row) (W.state out.old) (W.state out.new) }
+{
+    put_sailings_begin(out, value_window(flat, row));
+    put_value_steps(out, flat, row);
+    put_value_mark(out, flat, row);
+    put_svg_end(out);
+}
+
+/// Puts what every row begins with: its title, stripe and label, and the window of the ship's values.
+#[tactic(auto, unfolding(crate::specs::Rows::row_begin))]
+pub(crate) fn put_row_begin<W: Writer>(out: &mut W, flat: &Flat, row: Row)
+    requires ship_in { row.ship < flat.now.ships }
+    requires few { row.rank ≤ 40 }
+    requires before { SailsBefore (horizon flat.now) row.course }
+    ensures { Puts (row_begin flat.now row) (W.state out.old) (W.state out.new) }
+{
+    put_row_title(out, flat, row);
+    put_stripe(out, row.rank, row_y(row));
+    put_row_label(out, flat, row);
+    put_values(out, flat, row);
+}

@@ -1,0 +1,16 @@
+pub mod Charts
+pub mod Moves
+pub mod Spans
+pub mod Heads
+pub mod Passings
+pub mod Strips
+pub mod Sailings
+pub mod Titles
+pub mod Drafts
+pub mod Bars
+pub mod Figures
+pub mod Rows
+pub mod Lanes
+pub mod Fleets
+pub mod Pictures
+pub mod Laws

@@ -1,0 +1,46 @@
+//! Where the parts of a picture stand.
+
+ghost use Rattle.std.specs.Prelude.{◌≡◌, ◌≤◌};
+ghost use Rattle.hw_port.specs.Kept.{PortKept};
+ghost use Rattle.hw_port_chart.specs.Heads.{places as places_of_port, places_of};
+
+use hw_port::PortParts;
+
+/// How far down the rows of ships begin, the lanes of sections and the panel of tugs, and where the panels end.
+#[derive(Clone, Copy, Debug, PartialEq, Eq)]
+pub struct Places {
+    pub rows: u32,
+    pub lanes: u32,
+    pub tugs: u32,
+    pub bottom: u32,
+}
+
+/// The places of so many waypoints, ships and sections.
+fn places_for(waypoints: u32, ships: u32, sections: u32) -> Places
+    requires waypoints { waypoints ≤ 16 }
+    requires ships { ships ≤ 40 }
+    requires sections { sections ≤ 8 }
+    ensures { result ≡ places_of waypoints ships sections }
+{
+    Places {
+        rows: 50 * waypoints + 146,
+        lanes: 50 * waypoints + 42 * ships + 156,
+        tugs: 50 * waypoints + 42 * ships + 28 * sections + 156,
+        bottom: 50 * waypoints + 42 * ships + 28 * sections + 212,
+    }
+}
+
+/// The places of the parts of a port.
+pub fn places_of(parts: &PortParts) -> Places
+    requires { PortKept parts.now }
+    ensures value { result ≡ places_of_port parts.now }
+    ensures rows { result.rows ≤ 946 }
+    ensures lanes { result.lanes ≤ 2_636 }
+    ensures bottom { result.bottom ≤ 2_916 }
+{
+    places_for(
+        parts.waypoints.len() as u32,
+        parts.ships.len() as u32,
+        parts.sections.len() as u32,
+    )
+}

@@ -1,0 +1,128 @@
+//! A sailing in numbers.
+
+ghost use Rattle.std.specs.Prelude.{◌≡◌, ◌≤◌, ◌<◌, ◌≤ℤ◌, ◌+ℤ◌, ◌-ℤ◌, pos, length, All};
+ghost use Rattle.std.specs.Ordering.{int_eq};
+ghost use Rattle.hw_port.specs.Kept.{PassKept, ShipKept, Within};
+ghost use Rattle.hw_port_rules.specs.Numbers.{horizon_of};
+ghost use Rattle.hw_port_rules.specs.Drafts.{draft_at as draft_left};
+ghost use Rattle.hw_port_chart.specs.Sailings.{control_among, control_by, deciding, sailing_of};
+
+use crate::chart::Chart;
+use crate::passing::{clearance, place_of, slot_of_pass};
+use hw_model::{ShipId, Slot};
+use hw_port::{Pass, Ship};
+
+/// A sailing: its slot and how many minutes after slot 0 that begins, its draft and the draft that the slot allows, in
+/// centimetres, the waypoint that decides this and the clearance there, and the cargo in tenths of a tonne.
+#[derive(Clone, Copy, Debug, PartialEq, Eq)]
+pub struct Sailing {
+    pub slot: Slot,
+    pub time: u64,
+    pub draft: u32,
+    pub allowed: u64,
+    pub by: u32,
+    pub clearance: u32,
+    pub cargo: u64,
+}
+
+/// The waypoint that decides a draft, and the clearance there.
+#[derive(Clone, Copy, Debug, PartialEq, Eq)]
+pub struct Control {
+    pub by: u32,
+    pub clearance: u32,
+}
+
+/// Depth and height less the clearance.
+fn left(depth: i64, height: i32, clearance: i64) -> i64
+    requires low { pos 0 ≤ℤ depth }
+    requires high { depth ≤ℤ pos 10_000 }
+    requires clearance { Within (pos 0) (pos 1_000) clearance }
+    ensures { result ≡ depth +ℤ height -ℤ clearance }
+{
+    depth + i64::from(height) - clearance
+}
+
+/// The draft that a pass leaves.
+fn draft_at(chart: &Chart, slot: Slot, pass: &Pass) -> i64
+    requires slot { slot < 512 }
+    requires pass { PassKept (pos (length chart.now.port.waypoints)) pass.now }
+    ensures { result ≡ draft_left chart.now.port.waypoints chart.now.tide slot pass.now }
+{
+    let place = place_of(chart, pass);
+    let row = slot_of_pass(chart.parts().waypoints.len(), slot, pass);
+    let height = chart.height(row, place);
+    left(chart.depth(place), height, pass.clearance)
+}
+
+/// Whether a pass leaves just this draft.
+fn leaves(chart: &Chart, slot: Slot, draft: i64, pass: &Pass) -> bool
+    requires slot { slot < 512 }
+    requires pass { PassKept (pos (length chart.now.port.waypoints)) pass.now }
+    ensures { result ≡ int_eq (draft_left chart.now.port.waypoints chart.now.tide slot pass.now) draft }
+{
+    draft_at(chart, slot, pass) == draft
+}
+
+/// The waypoint and the clearance of a pass.
+fn control_of(chart: &Chart, pass: &Pass) -> Control
+    requires { PassKept (pos (length chart.now.port.waypoints)) pass.now }
+    ensures { result ≡ control_by pass.now }
+{
+    let clearance = clearance(chart.parts().waypoints.len(), pass);
+    Control {
+        by: place_of(chart, pass),
+        clearance,
+    }
+}
+
+/// The first pass of a route that leaves just this draft.
+fn control_among(chart: &Chart, slot: Slot, draft: i64, route: &[Pass]) -> Control
+    requires slot { slot < 512 }
+    requires route { All (PassKept (pos (length chart.now.port.waypoints))) route.now }
+    ensures { result ≡ control_among chart.now slot draft route.now }
+{
+    match route {
+        [] => Control {
+            by: 0,
+            clearance: 0,
+        },
+        [pass, more @ ..] => {
+            if leaves(chart, slot, draft, pass) {
+                control_of(chart, pass)
+            } else {
+                control_among(chart, slot, draft, more)
+            }
+        }
+    }
+}
+
+/// What decides the allowed draft.
+fn deciding(chart: &Chart, number: ShipId, ship: &Ship, slot: Slot) -> Control
+    requires ship_in { number < length chart.now.port.ships }
+    requires ship { ShipKept chart.now.port ship.now }
+    requires slot_in { slot < horizon_of chart.now.port }
+    ensures { result ≡ deciding chart.now number ship.now slot }
+{
+    let _few = chart.horizon();
+    control_among(chart, slot, chart.allowed(number, slot), &ship.route)
+}
+
+/// A ship's sailing in a slot.
+pub fn sailing_of(chart: &Chart, number: ShipId, ship: &Ship, slot: Slot) -> Sailing
+    requires ship_in { number < length chart.now.port.ships }
+    requires ship { ShipKept chart.now.port ship.now }
+    requires slot_in { slot < horizon_of chart.now.port }
+    ensures value { result ≡ sailing_of chart.now number ship.now slot }
+    ensures fits { result.allowed ≤ 9_223_372_036_854_775_808 }
+{
+    let control = deciding(chart, number, ship, slot);
+    Sailing {
+        slot,
+        time: chart.minutes_to(slot),
+        draft: chart.draft(number, slot),
+        allowed: chart.allowed(number, slot).unsigned_abs(),
+        by: control.by,
+        clearance: control.clearance,
+        cargo: chart.cargo(number, slot),
+    }
+}
