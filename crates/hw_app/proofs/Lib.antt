@@ -12,4 +12,5 @@ mod Demonstrated
 mod Answered
 mod OwnStatus
 mod OneClash
+mod OneChart
 mod OwnedClash

@@ -1,6 +1,5 @@
 -- A clash that was found, checked.
-use Rattle.std.proofs.Common.{◌≡◌, ◌⊎◌, ◌∙◌, List, ℕ, inl, inr, ap}
-use Rattle.hw_model.specs.Problem.{Problem}
+use Rattle.std.proofs.Common.{◌≡◌, ◌⊎◌, ◌∙◌, inl, inr, ap}
 use Rattle.hw_cert.specs.declared.version.Version.TheVariants.{Two}
 use Rattle.hw_cert.specs.Texts.{cert_text}
 use Rattle.hw_clash.specs.Parts.{part}

@@ -12,3 +12,4 @@ pub mod Commands
 pub mod Run
 pub mod Laws
 pub mod LawsOfClashes
+pub mod LawsOfCharts

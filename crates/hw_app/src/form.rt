@@ -17,6 +17,10 @@ pub enum Form {
     CheckFlat,
     /// `check port INSTANCE TIDES CERT` checks a certificate of a port.
     CheckPort,
+    /// `chart flat NAME CERT` draws the plan that a certificate of a flat text shows.
+    ChartFlat,
+    /// `chart port INSTANCE TIDES CERT` draws the plan that a certificate of a port shows.
+    ChartPort,
     /// `renew flat NAME CERT PROOF` checks a certificate of a flat text and writes it again, with deletions.
     RenewFlat,
     /// `renew port INSTANCE TIDES CERT PROOF` checks a certificate of a port and writes it again, with deletions.
@@ -56,6 +60,7 @@ pub enum Form {
 pub enum Keyword {
     Solve,
     Check,
+    Chart,
     Renew,
     Crew,
     Repair,
@@ -96,11 +101,13 @@ pub enum Wanted {
 }
 
 /// The forms that there are.
-pub const FORMS: [Form; 20] = [
+pub const FORMS: [Form; 22] = [
     Form::SolveFlat,
     Form::SolvePort,
     Form::CheckFlat,
     Form::CheckPort,
+    Form::ChartFlat,
+    Form::ChartPort,
     Form::RenewFlat,
     Form::RenewPort,
     Form::CrewFlat,
@@ -128,6 +135,8 @@ const MOST_SLOTS: u32 = 512;
 const SOLVE: Wanted = Wanted::Keyword(Keyword::Solve);
 
 const CHECK: Wanted = Wanted::Keyword(Keyword::Check);
+
+const CHART: Wanted = Wanted::Keyword(Keyword::Chart);
 
 const RENEW: Wanted = Wanted::Keyword(Keyword::Renew);
 
@@ -182,6 +191,8 @@ pub fn words_of(form: Form) -> &'static [Wanted]
         Form::SolvePort => &[SOLVE, PORT, INSTANCE, TIDES, BUDGET, PROOF],
         Form::CheckFlat => &[CHECK, FLAT, NAME, CERT],
         Form::CheckPort => &[CHECK, PORT, INSTANCE, TIDES, CERT],
+        Form::ChartFlat => &[CHART, FLAT, NAME, CERT],
+        Form::ChartPort => &[CHART, PORT, INSTANCE, TIDES, CERT],
         Form::RenewFlat => &[RENEW, FLAT, NAME, CERT, PROOF],
         Form::RenewPort => &[RENEW, PORT, INSTANCE, TIDES, CERT, PROOF],
         Form::CrewFlat => &[CREW, FLAT, NAME, ORDER, BUDGET, PROOF],
@@ -208,6 +219,7 @@ pub fn keyword_text(keyword: Keyword) -> &'static str
     match keyword {
         Keyword::Solve => "solve",
         Keyword::Check => "check",
+        Keyword::Chart => "chart",
         Keyword::Renew => "renew",
         Keyword::Crew => "crew",
         Keyword::Repair => "repair",

@@ -5,6 +5,7 @@
 #![tactic(auto)]
 
 mod calm;
+mod chart_laws;
 mod check_flat;
 mod check_port;
 mod clash_laws;
@@ -22,6 +23,7 @@ mod usage;
 mod words;
 
 pub use calm::run_calm;
+pub use chart_laws::{charts_as_checked, one_chart};
 pub use clash_laws::{one_clash_report, own_clash};
 pub use form::{FORMS, Form};
 pub use hw_command::Status;

@@ -16,6 +16,7 @@ use crate::solve_flat::solve_flat;
 use crate::solve_port::solve_port;
 use crate::words::read_command;
 use hw_audit_command::audit_port;
+use hw_chart_command::{chart_flat, chart_port};
 use hw_clash_command::{check_clash, check_clash_port, clash_flat, clash_port, explain_port};
 use hw_command::{Status, finish};
 use hw_crew_command::{crew_flat, crew_port};
@@ -48,6 +49,8 @@ pub fn run<D: Desk>(alloc: Global, words: &[String], desk: &mut D) -> Status
         } => solve_port(alloc, desk, port, budget, proof),
         Command::CheckFlat { name, cert } => check_flat(alloc, desk, name, cert),
         Command::CheckPort { port, cert } => check_port(alloc, desk, port, cert),
+        Command::ChartFlat { name, cert } => chart_flat(alloc, desk, name, cert),
+        Command::ChartPort { port, cert } => chart_port(alloc, desk, port, cert),
         Command::RenewFlat { name, cert, proof } => renew_flat(alloc, desk, name, cert, proof),
         Command::RenewPort { port, cert, proof } => renew_port(alloc, desk, port, cert, proof),
         Command::CrewFlat {

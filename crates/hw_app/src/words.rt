@@ -122,6 +122,14 @@ fn command_in(form: Form, words: &[String]) -> Command<'_>
             port: port_at(words, 2),
             cert: name_at(words, 4),
         },
+        Form::ChartFlat => Command::ChartFlat {
+            name: name_at(words, 2),
+            cert: name_at(words, 3),
+        },
+        Form::ChartPort => Command::ChartPort {
+            port: port_at(words, 2),
+            cert: name_at(words, 4),
+        },
         Form::RenewFlat => Command::RenewFlat {
             name: name_at(words, 2),
             cert: name_at(words, 3),

@@ -104,7 +104,7 @@ keeps_from f told outcome is_read x y z (Err Fault) before h = rose_on before h
 keeps_from f told outcome is_read x y z (Err NoMemory) before h = h ∙ before
 
 -- a certificate that was begun, and of which bytes were read
-enters_on : {cert bytes : List ℕ} {x y z : DeskState} → Enters Certificate cert x y → Moves Certificate bytes y z → Enters Certificate cert x z
+pub enters_on : {cert bytes : List ℕ} {x y z : DeskState} → Enters Certificate cert x y → Moves Certificate bytes y z → Enters Certificate cert x z
 enters_on {cert = cert} h m = record {
   only = only_feed_on h.only m.only;
   begun = m.begun ∙ h.begun;

@@ -6,6 +6,7 @@ pub mod FlatForms
 pub mod Checked
 pub mod Chained
 pub mod Kept
+pub mod Tabled
 pub mod Sendings
 pub mod SentWorks
 pub mod Renewals
@@ -16,3 +17,4 @@ pub mod PortForms
 pub mod Meanings
 pub mod Endings
 pub mod Faults
+pub mod OneReading

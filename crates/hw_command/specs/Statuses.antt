@@ -2,7 +2,7 @@
 use Rattle.std.specs.Prelude.{ℕ}
 use Rattle.hw_lines.specs.declared.check.Verdict.{Verdict}
 use Rattle.hw_lines.specs.declared.check.Verdict.TheVariants as verdicts
-use Rattle.hw_report.specs.Reports.{Report, solved, checked, demo, bad_words, bad_flat, bad_json, bad_field, bad_tides, refused, read_fault, too_long, no_memory, repaired, rechecked, bad_text, clashed, met, spent_step, clash_holds, after, audit_end, whole_text}
+use Rattle.hw_report.specs.Reports.{Report, solved, checked, demo, bad_words, bad_flat, bad_json, bad_field, bad_tides, refused, read_fault, too_long, no_memory, repaired, rechecked, bad_text, clashed, met, spent_step, clash_holds, after, audit_end, whole_text, picture}
 use Rattle.hw_report.specs.declared.report.Head.{Head}
 use Rattle.hw_report.specs.declared.report.Head.TheVariants.{Optimal, Infeasible, Unfinished, Memory}
 use Rattle.hw_command.specs.declared.status.Status.{Status}
@@ -55,3 +55,4 @@ status_of clash_holds = status.Infeasible
 status_of (after number broken) = status.Optimal
 status_of audit_end = status.Optimal
 status_of (whole_text text) = status.Optimal
+status_of (picture verdict text) = status_of_verdict verdict

@@ -16,6 +16,7 @@ mod renewing;
 mod searching;
 mod sending;
 mod status;
+mod tabling;
 
 pub use budget::MOST_BUDGET;
 pub use cert::{CertStep, OpenCert, check_cert, check_line, check_report, open_cert};
@@ -27,4 +28,5 @@ pub use port_input::{PortNames, PortProblem, read_port_problem};
 pub use renewing::{Renewal, renew_to, renewal_report};
 pub use searching::{search_report, search_to};
 pub use sending::send_lines;
-pub use status::{Status, status_of};
+pub use status::{Status, status_of, status_of_verdict};
+pub use tabling::{TabledCert, check_cert_table};

@@ -63,7 +63,8 @@ fn status_of_head(head: Head) -> Status
     }
 }
 
-fn status_of_verdict(verdict: Verdict) -> Status
+/// How a run ends that says what a certificate shows.
+pub fn status_of_verdict(verdict: Verdict) -> Status
     ensures { result ≡ status_of_verdict verdict }
 {
     match verdict {

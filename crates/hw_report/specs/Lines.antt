@@ -18,6 +18,7 @@ use Rattle.hw_report.specs.Reports.{Naming, by_number, by_name}
 abbrev pub numbered : List ℕ → ℕ → List ℕ
 numbered label n = joined (label ∷ decimal n ∷ codes "\n" ∷ [])
 
+-- a cargo in tenths of a tonne, or of a port in tonnes with one decimal
 abbrev pub cargo_text : Naming → ℕ → List ℕ
 cargo_text by_number c = decimal c
 cargo_text (by_name p h) c = tenths c
@@ -56,6 +57,7 @@ number_line f ship slot =
     if stays f slot then numbered (codes "stay ") ship
     else joined (codes "sail " ∷ decimal slot ∷ codes " " ∷ decimal (unwrap_or (value_at f ship slot) 0) ∷ codes " " ∷ decimal ship ∷ codes "\n" ∷ [])
 
+-- the name of a ship, nothing where there is no such ship
 abbrev pub name_in : List ShipParts → ℕ → List ℕ
 name_in ships ship = option_map_or (λ s. s.name) (slice_get ships ship) []
 
@@ -73,6 +75,7 @@ name_line p h ship slot =
     if nat_le (horizon_of p) slot then joined (codes "stay " ∷ name_in p.ships ship ∷ codes "\n" ∷ [])
     else sailing_line p h ship slot
 
+-- a ship's line, by number or by a port's names
 abbrev pub ship_line : Problem → Naming → ℕ → ℕ → List ℕ
 ship_line f by_number ship slot = number_line f ship slot
 ship_line f (by_name p h) ship slot = name_line p h ship slot
@@ -118,6 +121,7 @@ drop_lines [] drops = []
 drop_lines (id ∷ ids) [] = []
 drop_lines (id ∷ ids) (table ∷ drops) = drop_line id table ++ drop_lines ids drops
 
+-- the numbers of broken restrictions, or `none`
 abbrev pub broken_text : List ℕ → List ℕ
 broken_text [] = codes " none"
 broken_text (n ∷ ns) = numbers_text (n ∷ ns)

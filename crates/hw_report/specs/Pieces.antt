@@ -12,11 +12,13 @@ joined (text ∷ texts) = text ++ joined texts
 abbrev pub tenths : ℕ → List ℕ
 tenths c = joined (decimal (c / 10) ∷ codes "." ∷ decimal (c % 10) ∷ [])
 
+-- the text of a word, a number or a cargo in tonnes
 abbrev pub piece_text : Piece → List ℕ
 piece_text (Word word) = word.now
 piece_text (Number n) = decimal n
 piece_text (Tonnes c) = tenths c
 
+-- the texts of pieces, one after another
 abbrev pub pieces_text : List Piece → List ℕ
 pieces_text [] = []
 pieces_text (piece ∷ pieces) = piece_text piece ++ pieces_text pieces

@@ -16,6 +16,7 @@ pub data Naming : Type 0 where
   by_number : Naming
   by_name : Parts → TideParts → Naming
 
+-- what is reported: the outcome of a command, or why it has none
 pub data Report : Type 0 where
   -- a problem that was solved, with its timetable or none
   solved : Head → Problem → Naming → Option (List ℕ) → Report
@@ -50,3 +51,5 @@ pub data Report : Type 0 where
   audit_end : Report
   -- a text as it is
   whole_text : List ℕ → Report
+  -- what a certificate shows, drawn as this text. It is sent piece by piece, and never held whole
+  picture : Verdict → List ℕ → Report

@@ -9,7 +9,7 @@ use Rattle.hw_report.specs.declared.report.Head.{Head}
 use Rattle.hw_report.specs.declared.report.Head.TheVariants.{Memory}
 use Rattle.hw_report.specs.declared.report.RefusedWord.{RefusedWord}
 use Rattle.hw_report.specs.declared.report.RefusedWord.TheVariants.{Check}
-use Rattle.hw_report.specs.Reports.{Report, by_number, solved, checked, demo, bad_words, bad_flat, bad_json, bad_field, bad_tides, refused, read_fault, too_long, no_memory, repaired, rechecked, bad_text, clashed, met, spent_step, clash_holds, after, audit_end, whole_text}
+use Rattle.hw_report.specs.Reports.{Report, by_number, solved, checked, demo, bad_words, bad_flat, bad_json, bad_field, bad_tides, refused, read_fault, too_long, no_memory, repaired, rechecked, bad_text, clashed, met, spent_step, clash_holds, after, audit_end, whole_text, picture}
 use Rattle.hw_report.specs.Words.{feed_text, flat_word_text, refused_word_text}
 use Rattle.hw_report.specs.Pieces.{joined}
 use Rattle.hw_port.specs.Places.{path_text, word_text}
@@ -44,6 +44,7 @@ abbrev pub demo_text : Head → Option ℕ → Verdict → ℕ → List ℕ
 demo_text Memory best verdict lemmas = codes "memory\n"
 demo_text head best verdict lemmas = summary_text head best verdict lemmas
 
+-- the whole text of a report, by its kind
 abbrev pub report_text : Report → List ℕ
 report_text (solved head f names table) = joined (head_text names head (option_and_then (cargo f) table) ∷ table_text f names table ∷ [])
 report_text (checked verdict names) = verdict_text names verdict
@@ -67,3 +68,4 @@ report_text clash_holds = codes "clash holds\n"
 report_text (after number broken) = joined (codes "after " ∷ decimal number ∷ broken_text broken ∷ codes "\n" ∷ [])
 report_text audit_end = codes "end\n"
 report_text (whole_text text) = text
+report_text (picture verdict text) = text

@@ -11,6 +11,7 @@ use Rattle.hw_cert.specs.declared.stop.FormWord.TheVariants as forms
 use Rattle.hw_report.specs.declared.report.RefusedWord.{RefusedWord}
 use Rattle.hw_report.specs.declared.report.RefusedWord.TheVariants.{Form, Check}
 
+-- the word of a feed
 abbrev pub feed_text : Feed → List ℕ
 feed_text Flat = codes "flat"
 feed_text Instance = codes "instance"
@@ -19,6 +20,7 @@ feed_text Certificate = codes "certificate"
 feed_text Plan = codes "plan"
 feed_text Events = codes "events"
 
+-- the word of a bad line of a flat text
 abbrev pub flat_word_text : FlatWord → List ℕ
 flat_word_text words.Header = codes "header"
 flat_word_text words.Size = codes "size"
@@ -27,12 +29,14 @@ flat_word_text words.Rule = codes "rule"
 flat_word_text words.Many = codes "many"
 flat_word_text words.Tail = codes "tail"
 
+-- the word of a line of a certificate that is wrong as text
 abbrev pub form_word_text : FormWord → List ℕ
 form_word_text forms.Header = codes "header"
 form_word_text forms.Form = codes "form"
 form_word_text forms.Range = codes "range"
 form_word_text forms.Normal = codes "normal"
 
+-- the word of a line that is wrong as a step
 abbrev pub check_word_text : CheckWord → List ℕ
 check_word_text checks.Ended = codes "ended"
 check_word_text checks.Table = codes "table"

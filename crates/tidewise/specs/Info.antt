@@ -3,7 +3,7 @@ use Rattle.std.specs.Prelude.{ℕ, List, [], ◌∷◌, ◌++◌, ◌||◌, Opti
 use Rattle.hw_app.specs.Forms.{forms}
 use Rattle.hw_app.specs.Usage.{usage}
 use Rattle.hw_app.specs.declared.form.Form.{Form}
-use Rattle.hw_app.specs.declared.form.Form.TheVariants.{SolveFlat, SolvePort, CheckFlat, CheckPort, RenewFlat, RenewPort, CrewFlat, CrewPort, RepairFlat, RepairPort, CheckRepair, CheckRepairPort, ClashFlat, ClashPort, CheckClash, CheckClashPort, ExplainPort, AuditPort, Flatten, Demo}
+use Rattle.hw_app.specs.declared.form.Form.TheVariants.{SolveFlat, SolvePort, CheckFlat, CheckPort, ChartFlat, ChartPort, RenewFlat, RenewPort, CrewFlat, CrewPort, RepairFlat, RepairPort, CheckRepair, CheckRepairPort, ClashFlat, ClashPort, CheckClash, CheckClashPort, ExplainPort, AuditPort, Flatten, Demo}
 use Rattle.tidewise.specs.declared.info.Info.{Info}
 use Rattle.tidewise.specs.declared.info.Info.TheVariants.{Help, Version}
 use Rattle.tidewise.specs.declared.help.TheConstants.{HEAD, TAIL}
@@ -28,6 +28,8 @@ purpose_of SolveFlat = codes "looks for a best timetable of a flat text, and wri
 purpose_of SolvePort = codes "looks for a best timetable of a port, and writes a certificate to PROOF"
 purpose_of CheckFlat = codes "says what a certificate shows of a flat text, or its first bad line"
 purpose_of CheckPort = codes "says what a certificate shows of a port, or its first bad line"
+purpose_of ChartFlat = codes "prints the plan that a certificate of a flat text shows, as an SVG picture"
+purpose_of ChartPort = codes "prints the plan that a certificate of a port shows, as an SVG picture"
 purpose_of RenewFlat = codes "checks a certificate of a flat text, and writes a leaner one to PROOF"
 purpose_of RenewPort = codes "checks a certificate of a port, and writes a leaner one to PROOF"
 purpose_of CrewFlat = codes "lets searchers take turns on a flat text, and writes a certificate to PROOF"

@@ -43,6 +43,9 @@ pub fn purpose_of(form: Form) -> &'static str
             "looks for a best timetable of a port, and writes a certificate to PROOF",
         Form::CheckFlat => "says what a certificate shows of a flat text, or its first bad line",
         Form::CheckPort => "says what a certificate shows of a port, or its first bad line",
+        Form::ChartFlat =>
+            "prints the plan that a certificate of a flat text shows, as an SVG picture",
+        Form::ChartPort => "prints the plan that a certificate of a port shows, as an SVG picture",
         Form::RenewFlat => "checks a certificate of a flat text, and writes a leaner one to PROOF",
         Form::RenewPort => "checks a certificate of a port, and writes a leaner one to PROOF",
         Form::CrewFlat =>

@@ -183,11 +183,13 @@ fn printed(rt: &HostRuntime, line: &str) -> Result<(ExitCode, String), Fail> {
 }
 
 /// The commands, as the help lists them.
-const COMMANDS: [&str; 22] = [
+const COMMANDS: [&str; 24] = [
     "solve flat NAME BUDGET PROOF",
     "solve port INSTANCE TIDES BUDGET PROOF",
     "check flat NAME CERT",
     "check port INSTANCE TIDES CERT",
+    "chart flat NAME CERT",
+    "chart port INSTANCE TIDES CERT",
     "renew flat NAME CERT PROOF",
     "renew port INSTANCE TIDES CERT PROOF",
     "crew flat NAME ORDER BUDGET PROOF",

@@ -1,0 +1,3 @@
+pub mod LastShown
+pub mod Charted
+pub mod PortCharted

@@ -1,0 +1,4 @@
+pub mod Shown
+pub mod Reading
+pub mod ChartFlat
+pub mod ChartPort

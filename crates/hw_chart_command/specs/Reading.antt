@@ -1,0 +1,38 @@
+-- A certificate that is read for what it shows.
+use Rattle.std.specs.Prelude.{◌≡◌, ℕ, List, Result, Ok, Err, ⊤}
+use Rattle.hw_model.specs.Problem.{Problem}
+use Rattle.hw_desk.specs.State.{DeskState}
+use Rattle.hw_desk.specs.declared.desk.Feed.TheVariants.{Certificate}
+use Rattle.hw_report.specs.Reports.{Report, by_number}
+use Rattle.hw_report.specs.Seen.{report_seen}
+use Rattle.hw_report.specs.declared.report.Report.{Report as Told}
+use Rattle.hw_command.specs.Certificates.{report_of_check}
+use Rattle.hw_command.specs.Checking.{ChecksCert}
+use Rattle.hw_command.specs.Inputs.{Enters}
+use Rattle.hw_command.specs.declared.outcome.CertOutcome.{CertOutcome}
+use Rattle.hw_command.specs.declared.outcome.CertOutcome.TheVariants.{Shows}
+use Rattle.hw_command.specs.declared.outcome.CertStop.{CertStop}
+use Rattle.hw_chart_command.specs.Shown.{IsLastShown}
+use Rattle.hw_chart_command.specs.declared.shown.Shown.{Shown}
+
+-- a check finds nothing that is shown
+abbrev pub ShowsNothing : Result CertOutcome CertStop → Type 0
+ShowsNothing (Ok (Shows v)) = ⊥
+ShowsNothing found = ⊤
+
+-- the certificate was checked, and all its lines are valid
+pub record ReadsLast (f : Problem) (cert : List ℕ) (old new : DeskState) (shown : Shown) : Type 0 where
+  pub enters : Enters Certificate cert old new
+  pub read_faults : new.read_faults ≡ old.read_faults
+  pub last : IsLastShown f (old.held cert) shown.verdict shown.table
+
+-- the certificate was checked, and nothing is shown: the report is that of the check
+pub record ReadsNothing (f : Problem) (cert : List ℕ) (old new : DeskState) (r : Report) : Type 0 where
+  pub found : Result CertOutcome CertStop
+  pub nothing : ShowsNothing found
+  pub checks : ChecksCert f cert old new found
+  pub reported : r ≡ report_of_check by_number found
+
+abbrev pub ReadsShown : Problem → List ℕ → DeskState → DeskState → Result Shown Told → Type 0
+ReadsShown f cert old new (Ok shown) = ReadsLast f cert old new shown
+ReadsShown f cert old new (Err report) = ReadsNothing f cert old new (report_seen report)
