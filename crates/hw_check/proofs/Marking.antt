@@ -85,7 +85,7 @@ count_at_most all i =
 
 -- ---- from the last line back
 
--- the lines that are left, the next number, the marks, and what was made of the lines behind, the last one first
+-- the lines left, the next number, the marks, and what was made of the later lines, the last one first
 pub record Renews (all left : List Line) (number : ℕ) (marked : List Bool) (made : List Line) : Type 0 where
   pub later : List Line
   pub whole : all ≡ left ++ later
@@ -122,7 +122,7 @@ written len new old is =
     let all : length new ≤ len = omega (arith, is) in
     take-append-le len new (drop (length new) old) le ∙ take_all len new all
 
--- the same with marks that are lent and written back
+-- the same with marks that are borrowed and written back
 pub one_written : (all old new : List Line) (line : Line) (number next len : ℕ) (marked lent after : List Bool) (made made' : List Line) → Renews all old number marked made → old ≡ new ++ line ∷ [] → number ≡ next + numbers_of (clause_of line) → lent ≡ marked → len ≡ length lent → length after ≡ length lent → ((later : List Line) → Marks lent later → Marks after (line ∷ later)) → ((later : List Line) → Marks lent later → made' ≡ made ++ reverse (undeleting line ++ deletions number line later (clause_of line))) → Renews all new next (take len (after ++ drop (length after) marked)) made'
 one_written all old new line number next len marked lent after made made' r split at is len_is long marks put =
     let known : Marks lent r.later = subst (λ marked. Marks marked r.later) (sym is) r.marks in

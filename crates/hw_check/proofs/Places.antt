@@ -31,7 +31,7 @@ skipped false one rest id e = refl
 pub ascends_tail : (p : Place) (ps : List Place) → Ascends (p ∷ ps) → Ascends ps
 ascends_tail p ps up = λ i j d lt within. up (suc i) (suc j) d (omega (arith, lt)) (omega (arith, within))
 
--- the numbers behind the first one are greater
+-- the numbers after the first one are greater
 none_behind : (p : Place) (ps : List Place) (id : ℕ) → Ascends (p ∷ ps) → p.id ≡ id → NoneHas ps id
 none_behind p ps id up e = λ k d lt same. omega (arith, e, same, up 0 (suc k) d (omega arith) (omega (arith, lt)))
 
@@ -182,13 +182,13 @@ more_lits lits more (p ∷ ps) all =
     ap (λ part. cons_option (cond p.is_live (Some (record { id = p.id; clause = part })) None) (clauses_at (lits ++ more) ps)) (still_there lits more p (All-head (PlaceFits (length lits)) p ps all))
     ∙ ap (cons_option (clause_at lits p)) (more_lits lits more ps (All-tail (PlaceFits (length lits)) p ps all))
 
--- the literals behind a list
+-- the literals after a list
 behind : (lits more : List Lit) → take (length lits + length more - length lits) (drop (length lits) (lits ++ more)) ≡ more
 behind lits more =
     let size : length lits + length more - length lits ≡ length more = omega arith in
     rw (size, drop-append_seam lits more) (ap (take (length more)) (sym (append-nil more)) ∙ take-append_seam more [])
 
--- the place of literals that are added behind a list
+-- the place of literals that are appended to a list
 abbrev pub new_place : ℕ → List Lit → List Lit → Place
 new_place id lits more = record { id = id; start = length lits; len = length more; is_live = true }
 

@@ -113,7 +113,7 @@ gathering_dead lits places new_lits new_places i d lt is_dead is = record {
   no_more = is.no_more;
 }
 
--- a live clause is added behind the others
+-- a live clause is added after the others
 pub gathering_live : (lits : List Lit) (places : List Place) (new_lits : List Lit) (new_places : List Place) (i : ℕ) (d : Place) → i < length places → (get_or places i d).is_live ≡ true → IsGathering lits places new_lits new_places i → IsGathering lits places (new_lits ++ lits_at lits (get_or places i d)) (new_places ++ new_place (get_or places i d).id new_lits (lits_at lits (get_or places i d)) ∷ []) (i + 1)
 gathering_live lits places new_lits new_places i d lt live is =
     let p = get_or places i d in
@@ -156,7 +156,7 @@ bounded_gathered lits places new_lits new_places all = omega (arith, all.no_othe
 
 -- ---- the list of clauses as it is seen
 
--- so many of the numbers that were given are live
+-- the live numbers are no more than the numbers given
 pub held_few : (lits : List Lit) (places : List Place) (count held live_lits : ℕ) → IsStored lits places count held live_lits → held ≤ count
 held_few lits places count held live_lits is = omega (arith, is.counted, clauses_few lits places, is.few)
 

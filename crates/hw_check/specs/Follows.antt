@@ -16,7 +16,7 @@ pub record Follows (c : CheckState) (all : List Line) : Type 0 where
   pub valid : Valid c.problem all
   pub kept : c.kept ≡ kept_of c.problem all
 
--- a refusal is the one that was found; want of memory is free
+-- a refusal is the one that was found; memory may run out at any time
 abbrev pub Stops : CheckStop → Option Refusal → Type 0
 Stops (stops.Refused r) found = found ≡ Some r
 Stops stops.NoMemory found = ⊤

@@ -40,7 +40,7 @@ abbrev pub Finds : List Place → ℕ → Option ℕ → Type 0
 Finds places id (Some index) = StandsAt places id index
 Finds places id None = NoneHas places id
 
--- what the type of the list keeps: so many numbers were given, so many clauses are live, with so many literals
+-- what the type of the list keeps: `count` numbers were given, `held` clauses are live, with `live_lits` literals
 pub record IsStored (lits : List Lit) (places : List Place) (count held live_lits : ℕ) : Type 0 where
   pub fit : All (PlaceFits (length lits)) places
   pub ascend : Ascends places

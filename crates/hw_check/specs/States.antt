@@ -31,7 +31,7 @@ pub record ClauseStore : Type 0 where
   pub kept_lits : ℕ
   pub kept_places : ℕ
 
--- each clause speaks of so many ships
+-- each clause speaks only of this many ships
 abbrev pub LitsFit : ℕ → List NumberedClause → Type 0
 LitsFit ships held = All (λ one. All (IsLitOf ships) one.clause) held
 

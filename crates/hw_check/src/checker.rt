@@ -33,7 +33,7 @@ pub struct Checker<'f> {
     clauses: ClauseList,
     best: Option<u64>,
     is_closed: bool,
-    /// Where clauses are denied. Its ranges and orders mean nothing between two lines.
+    /// The room in which clauses are denied. Its ranges and orders mean nothing between two lines.
     room: Room,
 }
 
@@ -100,7 +100,7 @@ impl<'f> Checker<'f> {
     }
 
     /// Takes one more line of the problem's shape, exactly where it is valid after those before
-    /// it; otherwise it says why not. A checker that refuses a line, or lacks memory for it, is
+    /// it; otherwise it says why not. A checker that refuses a line, or runs out of memory for it, is
     /// used up.
     pub fn line(self, line: Line) -> Result<Checker<'f>, CheckStop>
         requires fits { LineFits self.problem line }
@@ -113,7 +113,7 @@ impl<'f> Checker<'f> {
         self.borrowed_line(&line)
     }
 
-    /// The same by a line that is lent, as one that is sent afterwards.
+    /// Like `line`, with a borrowed line, for callers that send it on.
     ///
     /// It costs the size of a room, the literals of the line and of its hints, the search for each
     /// hint among the live clauses, and what a table or a source costs that is tested. A deletion

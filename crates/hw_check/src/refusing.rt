@@ -156,8 +156,8 @@ fn lemma_refusal(
     }
 }
 
-/// Why the hints' clauses, in order, lead from the room to no conflict: one pass over their
-/// literals up to the conflict.
+/// Why the hints' clauses, in order, lead from the room to no conflict. It takes one pass over their
+/// literals, up to the conflict.
 fn replay_refusal(clauses: &ClauseList, hints: &[u32], room: &mut Room) -> Option<Refusal>
     requires live { refusals.first_dead clauses.now.live hints.now ≡ None }
     requires lits { LitsFit room.old.ships clauses.now.live }

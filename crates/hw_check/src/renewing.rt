@@ -1,7 +1,7 @@
 //! The same lines with each clause deleted as soon as no later line names it.
 //!
-//! They are taken from the last one back. On the way it is marked which numbers the lines behind
-//! name, so that each line knows of which hints it is the last.
+//! The lines are taken from the last one back. On the way, the numbers that later lines name are
+//! marked, so that each line knows which of its hints no later line names.
 ghost use Rattle.std.specs.Prelude.{◌≡◌, ℕ, ◌+◌, ◌^◌, ◌<◌, ◌≤◌, ◌==◌, ◌||◌, not, false, List, ◌∷◌, ◌++◌, [], length, filter, reverse, slice_index_or, is_some, All, IfOk, OnOk};
 ghost use Rattle.std.specs.List.{list_any};
 ghost use Rattle.std.specs.List.Sorted.{IsStrictlyIncreasing};
@@ -19,7 +19,7 @@ use std::alloc::Global;
 /// later line has, and one of its own number where no later line has it. Nothing follows a clause
 /// line without literals.
 ///
-/// The lines are moved, and gone where memory is short. It costs one pass over them and over their
+/// The lines are moved, and lost if memory runs out. It costs one pass over them and over their
 /// hints, the sort of each line's hints that it is the last to have, and a mark for each number.
 pub fn renewed(alloc: Global, lines: Vec<Line>) -> Result<Vec<Line>, NoMemory>
     requires numbered { renewal.IsNumbered lines.items }
@@ -69,8 +69,8 @@ fn has_number(line: &Line) -> bool
     clause_of(line).is_some()
 }
 
-/// Puts the deletions that follow a line, and then the line, and marks its hints. The marks are
-/// those of the lines behind it.
+/// Puts the deletions that follow a line, then the line, and marks its hints. The marks are those
+/// of the later lines.
 fn put_line(
     alloc: Global,
     line: Line,

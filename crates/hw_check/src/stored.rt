@@ -25,7 +25,7 @@ impl Stored {
         }
     }
 
-    /// Adds a live clause behind the others.
+    /// Adds a live clause after the others.
     pub(crate) fn add(&mut self, id: u32, lits: &[Lit]) -> Result<(), NoMemory>
         ensures lits { OnOk result (self.new.lits.items ≡ self.old.lits.items ++ lits.now) }
         ensures places { OnOk result (self.new.places.items ≡ self.old.places.items ++ (record { id = id; start = length self.old.lits.items; len = length lits.now; is_live = true }) ∷ []) }

@@ -17,7 +17,7 @@ use std::alloc::Global;
 
 /// The flat problem of a port: its ships' values, a rule for each two ships of the same direction
 /// or with a common section, one for each berth pair, and one on tugs where ships have some. Where
-/// some ship may stay, it has one slot more, which means that.
+/// some ship may stay, it has one more slot, which means staying.
 ///
 /// What the port permits and what that carries is the same by the flat problem, for every list of
 /// slots, and the problem has a text: staying carries nothing. It computes each ship's value in

@@ -29,7 +29,7 @@ each_within P make least end each first (suc n) g from le =
 each_drawn : {B : Type 0} (P : B → Type 0) (make : ℕ → Lcg → List B × Lcg) (end : ℕ) → ((k : ℕ) (g : Lcg) → k < end → All P (make k g).0) → (g : Lcg) → All P (in_turn make (from_to 0 end) g).0
 each_drawn P make end each g = each_within P make 0 end (λ k h from lt. each k h lt) 0 (end - 0) g (omega arith) (omega arith)
 
--- so many of each item
+-- n draws of exactly `size` items each
 length_drawn : {B : Type 0} (make : ℕ → Lcg → List B × Lcg) (size : ℕ) → ((k : ℕ) (g : Lcg) → length (make k g).0 ≡ size) → (first n : ℕ) (g : Lcg) → length (in_turn make (range_with_len first n) g).0 ≡ n * size
 length_drawn make size each first zero g = omega arith
 length_drawn make size each first (suc n) g =
@@ -38,7 +38,7 @@ length_drawn make size each first (suc n) g =
     let one = each first g in
     omega arith
 
--- at most so many of each item
+-- n draws of at most `size` items each
 few_drawn : {B : Type 0} (make : ℕ → Lcg → List B × Lcg) (size : ℕ) → ((k : ℕ) (g : Lcg) → length (make k g).0 ≤ size) → (first n : ℕ) (g : Lcg) → length (in_turn make (range_with_len first n) g).0 ≤ n * size
 few_drawn make size each first zero g = omega arith
 few_drawn make size each first (suc n) g =

@@ -28,7 +28,7 @@ row_goes_on front stay slots slot word value words rest total lt cut good so_far
     let one : with_front front (row_values stay (slots - slot) words) ≡ with_front (front ++ value ∷ []) (row_values stay (slots - (slot + 1)) rest) = rw (k, cut, good) (regroup front value (row_values stay (slots - (slot + 1)) rest)) in
     sym one ∙ so_far
 
--- the items of a line, at most so many
+-- the items of a line, at most `most` of them
 pub more_fit : {A : Type 0} (front more : List A) (item : A) (most : ℕ) → length front < most → more ≡ front ++ item ∷ [] → length more ≤ most
 more_fit front more item most room grown = omega (arith, ap length grown, length_push front item, room)
 

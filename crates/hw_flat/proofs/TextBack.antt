@@ -273,7 +273,7 @@ parts_back stay ships slots values rules some few some' few' fits each count =
     (line_back 1 words.Header (header_text stay) (size_text ships slots ∷ body) (size_text ships slots, body, refl)) (header_back stay) (line_back 2 words.Size (size_text ships slots) body full_body) (size_back ships slots some few some' few')
     (rows_back stay slots 3 ships values ends full fits) (rules_back ships (3 + ships) 4_000 rules ([] ∷ []) ([], [], refl) few each count) refl
 
--- the numbers of a problem that may have one slot more
+-- the numbers of a problem that may have one more slot
 slots_are : (f : Problem) → 1 ≤ horizon f → f.slots ≡ width f.stay (horizon f)
 slots_are f some = by_stay f.stay some
   where

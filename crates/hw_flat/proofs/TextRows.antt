@@ -30,7 +30,7 @@ Small v = unwrap_or v 0 ≤ 1_000_000_000_000
 abbrev pub last_in : Row → ℕ → ℕ
 last_in row slot = unwrap_or (option_and_then (λ v. v) (slice_get row slot)) 0
 
--- the limits of a row: so many values, small ones, and none or 0 in the last slot
+-- the limits of a row: as many values as its slots ask, small ones, and none or 0 in the last slot
 pub record RowFits (stay : Bool) (slots : ℕ) (row : List (Option ℕ)) : Type 0 where
   pub size : length row ≡ width stay slots
   pub small : All (λ v. unwrap_or v 0 ≤ 1_000_000_000_000) row

@@ -8,7 +8,7 @@ pub on_ok : {A E : Type 0} (r : Result A E) (P Q : Type 0) → (P → Q) → OnO
 on_ok (Ok x) P Q f p = f p
 on_ok (Err e) P Q f p = p
 
--- words behind the first one stand behind a space each
+-- each word but the first follows a space
 pub spaced_led : (word : List ℕ) (words : List (List ℕ)) → word ++ led words ≡ spaced (word ∷ words)
 spaced_led word [] = append-nil word
 spaced_led word (next ∷ words) = ap (λ t. word ++ 32 ∷ t) (spaced_led next words)

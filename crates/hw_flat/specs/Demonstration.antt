@@ -18,7 +18,7 @@ generator number = started 64 multiplier_64 number (increment_of 64 1)
 unfoldable pub draw : ℕ → Lcg → ℕ × Lcg
 draw n g = ((pcg32 g).0 % n, (pcg32 g).1)
 
--- what was drawn, and behind it what is drawn next
+-- what was drawn, and then what is drawn next
 abbrev pub and_then : {B : Type 0} → List B × Lcg → (Lcg → List B × Lcg) → List B × Lcg
 and_then drawn next = (drawn.0 ++ (next drawn.1).0, (next drawn.1).1)
 
@@ -75,7 +75,7 @@ job_drawn ship g =
 abbrev pub jobs_drawn : ℕ → Lcg → List Job × Lcg
 jobs_drawn ships = in_turn job_drawn (from_to 0 ships)
 
--- the rules of two ships, and behind them one on the jobs, which share four tugs
+-- the rules of two ships, and after them one on the jobs, which share four tugs
 abbrev pub rules_drawn : ℕ → Lcg → List Rule
 rules_drawn ships g = (pairs_drawn ships g).0 ++ Tugs 4 (jobs_drawn ships (pairs_drawn ships g).1).0 ∷ []
 
@@ -91,6 +91,7 @@ drawn_from g ships slots = record {
   rules = rules_drawn ships (values_drawn ships slots g).1;
 }
 
--- the demonstration of this number
+-- the problem of a demonstration's number: its values are drawn first, ship by ship and slot by slot, then a rule of each two
+-- ships, then the rule on tugs
 abbrev pub demonstration : ℕ → ℕ → ℕ → Problem
 demonstration number ships slots = drawn_from (generator number) ships slots

@@ -38,7 +38,7 @@ row_at stay slots number parts = do
   row ← formed number words.Values (row_form stay slots line.0)
   Ok (row, line.1)
 
--- the values of so many ships
+-- the values of this many ships
 unfoldable pub rows_at : Bool → ℕ → ℕ → ℕ → List (List ℕ) → Result (List (Option ℕ) × List (List ℕ)) Fault
 rows_at stay slots number zero parts = Ok ([], parts)
 rows_at stay slots number (suc ships) parts = do
@@ -46,13 +46,13 @@ rows_at stay slots number (suc ships) parts = do
   more ← rows_at stay slots (number + 1) ships row.1
   Ok (row.0 ++ more.0, more.1)
 
--- a rule on a line and those after it, where so many more may come
+-- a rule on a line and those after it, where at most `room` more may come
 abbrev pub rule_before : ℕ → ℕ → Option Rule → Result (List Rule × List (List ℕ)) Fault → Result (List Rule × List (List ℕ)) Fault
 rule_before number room None read = fault number words.Rule
 rule_before number zero (Some rule) read = fault number words.Many
 rule_before number (suc room) (Some rule) read = read >>= λ x. Ok (rule ∷ x.0, x.1)
 
--- the rules up to the line `end`, at most so many, and the parts after that line
+-- the rules up to the line `end`, at most `room` of them, and the parts after that line
 unfoldable pub rules_at : ℕ → ℕ → ℕ → List (List ℕ) → Result (List Rule × List (List ℕ)) Fault
 rules_at ships number room [] = fault number words.Rule
 rules_at ships number room (line ∷ []) = fault number words.Rule
@@ -60,7 +60,7 @@ rules_at ships number room (line ∷ next ∷ parts) =
     if bytes_eq line (codes "end") then Ok ([], next ∷ parts)
     else rule_before number room (rule_form ships line) (rules_at ships (number + 1) (room - 1) (next ∷ parts))
 
--- the problem of these numbers and lists. Where ships may stay, it has one slot more
+-- the problem of these numbers and lists. Where ships may stay, it has one more slot
 abbrev pub problem_of : Bool → ℕ × ℕ → List (Option ℕ) → List Rule → Problem
 problem_of stay size values rules = record { ships = size.0; slots = if stay then size.1 + 1 else size.1; stay = stay; values = values; rules = rules }
 
@@ -79,12 +79,12 @@ text_of parts = do
 abbrev pub flat_text : List ℕ → Result Problem Fault
 flat_text bytes = text_of (parts_of 10 bytes)
 
--- the fault names the line and the word that reading gives. Want of memory is free
+-- the fault names the line and the word that reading gives. Memory may run out at any time
 abbrev pub Fails : {A : Type 0} → FlatFault → Result A Fault → Type 0
 Fails faults.NoMemory read = Unit {0}
 Fails (faults.Line number word) read = read ≡ Err (record { number = number; word = word })
 
--- what a function returned, seen by view, is what reading gives, unless memory was wanting
+-- what a call returned is what reading gives; memory may run out at any time
 abbrev pub Gives : {A B : Type 0} → (A → B) → Result A FlatFault → Result B Fault → Type 0
 Gives view (Ok x) read = read ≡ Ok (view x)
 Gives view (Err e) read = Fails e read

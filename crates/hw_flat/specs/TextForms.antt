@@ -37,7 +37,7 @@ put_first None o = None
 put_first (Some x) None = None
 put_first (Some x) (Some xs) = Some (x ∷ xs)
 
--- the items in front and those behind, where there are any
+-- the items in front and those after them, where there are any
 abbrev pub with_front : {A : Type 0} → List A → Option (List A) → Option (List A)
 with_front front None = None
 with_front front (Some xs) = Some (front ++ xs)
@@ -58,7 +58,7 @@ last_values true [] = None
 last_values true (word ∷ []) = option_map (λ v. v ∷ []) (stay_word word)
 last_values true (word ∷ next ∷ words) = None
 
--- so many values, and the word on staying
+-- this many values, and the word on staying
 abbrev pub row_values : Bool → ℕ → List (List ℕ) → Option (List (Option ℕ))
 row_values stay zero words = last_values stay words
 row_values stay (suc n) [] = None
@@ -72,7 +72,7 @@ row_words stay slots (key ∷ words) = if bytes_eq key (codes "v") then row_valu
 abbrev pub row_form : Bool → ℕ → List ℕ → Option (List (Option ℕ))
 row_form stay slots line = row_words stay slots (words_of line)
 
--- each word is an item of the form, and there are at most so many
+-- each word is an item of the form, and there are at most `most`
 abbrev pub items_of : {A : Type 0} → (List ℕ → Option A) → ℕ → List (List ℕ) → Option (List A)
 items_of form most [] = Some []
 items_of form zero (word ∷ words) = None

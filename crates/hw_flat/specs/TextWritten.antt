@@ -29,7 +29,7 @@ abbrev pub stay_text : Option ℕ → List ℕ
 stay_text None = codes "n"
 stay_text (Some value) = codes "y"
 
--- the words of a row: the values of the slots in which ships sail, and the word on staying where there is one slot more
+-- the words of a row: the values of the slots in which ships sail, and the word on staying where there is one more slot
 abbrev pub row_texts : ℕ → List (Option ℕ) → List (List ℕ)
 row_texts slots row = map value_text (take slots row) ++ map stay_text (drop slots row)
 

@@ -171,7 +171,7 @@ fn draw_jobs(alloc: Global, words: &mut Lcg64Xsh32, ships: u32) -> Result<Vec<Jo
     Ok(jobs)
 }
 
-/// The rules of each two ships, and behind them the rule on tugs.
+/// The rules of each two ships, and after them the rule on tugs.
 fn draw_rules(alloc: Global, words: &mut Lcg64Xsh32, ships: u32) -> Result<Vec<Rule>, AllocError>
     requires few { ships ≤ 40 }
     ensures { IfOk result (λ rules. rules.items ≡ rules_drawn ships words.old) }

@@ -10,7 +10,7 @@ use std::marker::Model;
 /// A flat problem: a value or none per ship and slot, row by row, and a list of rules.
 ///
 /// It has 1 to 40 ships and 1 to 512 slots in which ships sail. Where `stay` is true, `slots`
-/// counts one slot more, the last one, which means that a ship stays. Values are in tenths of a
+/// counts one more slot, the last one, which means that a ship stays. Values are in tenths of a
 /// tonne, at most 1,000,000,000,000, and at most 1 in the slot that means staying.
 #[derive(Debug, Drop)]
 pub struct Flat {

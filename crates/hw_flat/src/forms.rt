@@ -73,7 +73,7 @@ fn last_of(mut words: Words<'_>) -> Option<Option<u64>>
     stay_of(word)
 }
 
-/// The values, and behind them the one of a ship that stays, where there is to be one.
+/// Adds the value of staying after the others if the problem has one.
 fn with_last(
     mut values: Vec<Option<u64>>,
     words: Words<'_>,
@@ -94,7 +94,7 @@ fn with_last(
     Ok(Some(values))
 }
 
-/// The values of the words, of which there are to be so many.
+/// The values of the words: one for each of the slots, and one more for staying where it is allowed.
 fn values_of(
     alloc: Global,
     mut words: Words<'_>,

@@ -1,4 +1,4 @@
-//! Reading a flat text, line by line. Each byte is looked at a few times at most.
+//! Reading a flat text, line by line. Each byte is read a few times at most.
 
 ghost use Rattle.std.specs.Prelude.{◌≡◌, ◌≤◌, ◌+◌, ◌*◌, length, IfOk, option_map};
 ghost use Rattle.hw_text.specs.Parts.{parts_of};
@@ -46,7 +46,7 @@ fn row_line(
     }
 }
 
-/// The values of so many ships.
+/// The values of this many ships.
 fn rows_of(
     alloc: Global,
     bytes: &[u8],
@@ -104,7 +104,7 @@ fn rules_of(
     })
 }
 
-/// The problem of these numbers and lists. Where ships may stay, it has one slot more.
+/// The problem of these numbers and lists. Where ships may stay, it has one more slot.
 fn flat_of(ships: u32, slots: u32, stay: bool, values: Vec<Option<u64>>, rules: Vec<Rule>) -> Flat
     requires few { slots ≤ 512 }
     requires limits { IsFlat (problem_of stay (ships, slots) values.items rules.items) }
@@ -124,7 +124,7 @@ impl Flat {
     /// The problem of the text, exactly where the bytes are the text of one; else the first line
     /// that is not of the form demanded at its place, and what was demanded there. Lines are
     /// numbered from 1; where the bytes end before a line that is demanded, that line is named.
-    /// The time is linear in the number of bytes.
+    /// `NoMemory` says nothing of the bytes. The time is linear in their number.
     #[tactic(auto, unfolding(crate::specs::Text::text_of))]
     pub fn read(alloc: Global, bytes: &[u8]) -> Result<Flat, FlatFault>
         ensures { Gives (λ flat. flat) result (flat_text bytes.now) }

@@ -166,7 +166,7 @@ fn tugs_of(alloc: Global, mut words: Words<'_>, ships: u32) -> Result<Option<Rul
     Ok(Some(Rule::Tugs { fleet, jobs }))
 }
 
-/// A pair behind `p`, a precedence behind `s`, or a fleet and its jobs behind `u`.
+/// A pair after `p`, a precedence after `s`, or a fleet and its jobs after `u`.
 pub fn rule_of(alloc: Global, line: &[u8], ships: u32) -> Result<Option<Rule>, AllocError>
     ensures { IfOk result (λ o. o ≡ rule_form ships line.now) }
 {

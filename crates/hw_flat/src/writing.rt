@@ -52,7 +52,7 @@ fn put_stays(out: &mut Vec<u8>, values: &[Option<u64>]) -> Result<(), AllocError
     Ok(())
 }
 
-/// Appends the line of a ship, which sails in so many slots.
+/// Appends the line of a ship with this many sailing slots.
 fn put_row(out: &mut Vec<u8>, row: &[Option<u64>], sailing: usize) -> Result<(), AllocError>
     requires within { sailing ≤ length row.now }
     ensures { OnOk result (out.new.items ≡ out.old.items ++ row_text sailing row.now ++ 10 ∷ []) }
@@ -216,7 +216,7 @@ impl Flat {
         ensures written { OnOk result (out.new.items ≡ out.old.items ++ problem_text self.now) }
         ensures kept { OnErr result (out.new.items ≡ out.old.items) }
     {
-        // Written apart first, so that nothing is left behind where memory ends within the text.
+        // Written to its own buffer first, so that no part of the text stays if memory runs out.
         let mut text = Vec::new(*out.allocator());
         put_lines(&mut text, self)?;
         out.extend_from_slice(&text)?;

@@ -1,4 +1,4 @@
--- A text behind its first two lines, where it is refused.
+-- A text after its first two lines, where it is refused.
 use Rattle.std.proofs.Common.{◌≡◌, ◌≢◌, ◌⊎◌, inl, inr, ℕ, zero, suc, ◌+◌, ◌-◌, ◌≤◌, Bool, true, false, List, [], ◌∷◌, ◌++◌, length, drop, Some, Result, Ok, Err, refl, sym, ap, ◌∙◌, subst, arith, codes, append_assoc}
 use Rattle.std.specs.Prelude.{if◌then◌else◌}
 use Rattle.std.proofs.lemmas.List.{length-append}
@@ -21,15 +21,15 @@ use Rattle.hw_flat_laws.proofs.RuleLines.{Closed, SaysOfRule, end_read, rules_re
 abbrev pub AnyProblem : Problem → Type 0
 AnyProblem f = Unit {0}
 
--- what stands behind `end`
+-- what follows `end`
 abbrev pub tail_at : Bool → ℕ × ℕ → Row → List Rule → Parts → Result Problem Fault
 tail_at stay size values rules parts = if at_end parts then Ok (problem_of stay size values rules) else fault (4 + size.0 + length rules) words.Tail
 
--- the rules and what stands behind them
+-- the rules and what follows them
 abbrev pub closing : Bool → ℕ × ℕ → Row → Parts → Result Problem Fault
 closing stay size values parts = rules_at size.0 (3 + size.0) 4_000 parts >>= λ rules. tail_at stay size values rules.0 rules.1
 
--- the ships' lines and what stands behind them
+-- the ships' lines and what follows them
 abbrev pub body_at : Bool → ℕ × ℕ → Parts → Result Problem Fault
 body_at stay size parts = rows_at stay size.1 3 size.0 parts >>= λ rows. closing stay size rows.0 rows.1
 

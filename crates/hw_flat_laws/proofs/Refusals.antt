@@ -1,4 +1,4 @@
--- A reading of parts that is refused behind so many of them, and what of it depends on which of them.
+-- A reading of parts that is refused after some number of them, and how that depends on the parts.
 use Rattle.std.proofs.Common.{◌≡◌, ◌≢◌, ℕ, suc, ◌+◌, List, [], ◌∷◌, ◌++◌, length, Result, Ok, Err, refl, ap, ◌∙◌, subst, arith}
 use Rattle.hw_flat.specs.declared.fault.FlatWord.TheVariants as words
 use Rattle.hw_flat.specs.Text.{Fault, ◌>>=◌}
@@ -29,7 +29,7 @@ followed Done More read f parts e count goes r =
       cut = λ other n others s m. ap (λ x. x >>= f) (r.cut other n others s m);
     }
 
--- a reading of one line more
+-- a reading of one more line
 pub behind_line : {A : Type 0} (Done : A → Type 0) (read whole : Parts → Result A Fault) (line : List ℕ) (parts : Parts) (e : Fault) (count : ℕ) → ((others : Parts) → Full others → whole (line ∷ others) ≡ read others) → Refused Done read parts e count
     → Refused Done whole (line ∷ parts) e (suc count)
 behind_line {A = A} Done read whole line parts e count step r = record {

@@ -67,7 +67,7 @@ too_many ships number room line next parts rule e other form none h =
     subst (RulesRefused ships number room (line ∷ next ∷ parts)) (is_err (rules_at ships number room (line ∷ next ∷ parts)) d e (bad next parts) h)
     (record { count = 0; place = omega arith; few = omega arith; before = λ i k. absurd (omega (arith, k)); says = (sym none, (rule, form)); refused = refused_line Closed (rules_at ships number room) line next parts d (codes "end") ([] ∷ []) ([], [] ∷ []) refl (end_read ships number room) bad })
 
--- a rule behind which a line is bad
+-- a rule before a bad line
 rule_step : (ships number room less : ℕ) (line : List ℕ) (rule : Rule) (others : Parts) → bytes_eq line (codes "end") ≡ false → rule_form ships line ≡ Some rule → room ≡ suc less → Full others → rules_at ships number room (line ∷ others) ≡ (rules_at ships (number + 1) (room - 1) others >>= λ x. Ok (rule ∷ x.0, x.1))
 unfolding rules_at
 rule_step ships number room less line rule others other form some full = rw (full.2, other, form, some) refl
@@ -114,7 +114,7 @@ rules_refused ships number room (line ∷ next ∷ parts) e some h =
 
 -- ---- none of them is bad
 
--- the lines that were read up to `end`, behind which another rest is read too
+-- the lines that were read up to `end`; with another rest after them they are read too
 pub record RulesRead (ships number room : ℕ) (parts : Parts) (x : List Rule × Parts) : Type 0 where
   pub front : Parts
   pub lines : parts ≡ (front ++ codes "end" ∷ []) ++ x.1
@@ -138,7 +138,7 @@ last_step : (r : Result (List Rule × Parts) Fault) (rule : Rule) (x : List Rule
 last_step (Err d) rule x k = absurd cc
 last_step (Ok y) rule x k = let e : (rule ∷ y.0, y.1) ≡ x = cc in (y, refl, e)
 
--- something is left behind `end`
+-- something is left after `end`
 pub rules_leave : (ships number room : ℕ) (parts : Parts) (x : List Rule × Parts) → rules_at ships number room parts ≡ Ok x → Full x.1
 unfolding rules_at
 rules_leave ships number room [] x h = absurd cc

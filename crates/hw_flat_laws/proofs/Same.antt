@@ -15,7 +15,7 @@ has form line = line >>= form
 abbrev pub Full : Parts → Type 0
 Full parts = (x : List ℕ) × (more : Parts) × (parts ≡ x ∷ more)
 
--- so many lines are the same, and both go on
+-- the first `count` lines are the same, and both texts go on
 abbrev pub Same : ℕ → Parts → Parts → Type 0
 Same count [] others = ⊥
 Same count (x ∷ xs) [] = ⊥

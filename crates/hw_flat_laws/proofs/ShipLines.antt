@@ -116,7 +116,7 @@ ships_refused stay slots number (suc ships) (line ∷ next ∷ parts) e some h =
 
 -- ---- none of them is
 
--- the lines that were read, behind which another rest is read too
+-- the lines that were read; with another rest after them they are read too
 pub record ShipsRead (stay : Bool) (slots number ships : ℕ) (parts : Parts) (x : Row × Parts) : Type 0 where
   pub front : Parts
   pub lines : parts ≡ front ++ x.1
@@ -141,7 +141,7 @@ pub last_step : (r : Result (Row × Parts) Fault) (row : Row) (x : Row × Parts)
 last_step (Err d) row x k = absurd cc
 last_step (Ok y) row x k = let e : (row ++ y.0, y.1) ≡ x = cc in (y, refl, ap (λ z. z.1) e)
 
--- something is left behind them
+-- something is left after them
 pub ships_leave : (stay : Bool) (slots number ships : ℕ) (parts : Parts) (x : Row × Parts) → Full parts → rows_at stay slots number ships parts ≡ Ok x → Full x.1
 unfolding rows_at row_at
 ships_leave stay slots number zero parts x full h = let e : ([], parts) ≡ x = cc in subst (λ (y : Row × Parts). Full y.1) e full

@@ -17,7 +17,7 @@ use Rattle.hw_flat_laws.proofs.Refusals.{Refused, behind_line, refused_line, ref
 use Rattle.hw_flat_laws.proofs.ShipLines.{is_err}
 use Rattle.hw_flat_laws.proofs.Bodies.{AnyProblem, body_at, body_mended, body_refused, text_body}
 
--- the text behind its first line
+-- the text after its first line
 abbrev second_at : Bool → Parts → Result Problem Fault
 second_at stay parts = line_at 2 words.Size parts >>= λ line. formed 2 words.Size (size_form line.0) >>= λ size. body_at stay size line.1
 

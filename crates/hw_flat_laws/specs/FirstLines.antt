@@ -2,11 +2,11 @@
 use Rattle.std.specs.Prelude.{◌≡◌, ℕ, zero, suc, ◌-◌, ◌<◌, List, [], ◌∷◌, length, take, Option, Some, None}
 use Rattle.hw_text.specs.Parts.{parts_of}
 
--- the number of the parts: the lines, and what stands behind the last of them
+-- the number of the parts: the lines, and what follows the last of them
 abbrev pub part_count : List ℕ → ℕ
 part_count bytes = length (parts_of 10 bytes)
 
--- the line behind so many others
+-- the line after `count` others
 abbrev pub line_behind : ℕ → List (List ℕ) → Option (List ℕ)
 line_behind count [] = None
 line_behind count (line ∷ []) = None
@@ -17,7 +17,7 @@ line_behind (suc count) (line ∷ next ∷ parts) = line_behind count (next ∷ 
 abbrev pub line_of : List (List ℕ) → ℕ → Option (List ℕ)
 line_of parts number = line_behind (number - 1) parts
 
--- two texts have so many lines and more, and these lines are the same
+-- both texts have at least `count` lines and more after them, and these lines are the same
 pub record SameLines (count : ℕ) (bytes others : List ℕ) : Type 0 where
   pub ended : count < part_count bytes
   pub others_ended : count < part_count others

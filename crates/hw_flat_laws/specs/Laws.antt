@@ -17,12 +17,12 @@ pub record GoesOn (count : ℕ) (bytes : List ℕ) : Type 0 where
   pub writable : IsWritable problem
   pub begins : SameLines count bytes (problem_text problem)
 
--- the text is refused at this line, for want of this
+-- the text is refused at this line, with this word
 abbrev pub IsRefused : List ℕ → ℕ → FlatWord → Type 0
 IsRefused bytes number word = flat_text bytes ≡ fault number word
 
--- a first bad line: nothing before it is wrong, and nothing goes on behind it. A text that has lines only before it ends too
--- early, whatever stands behind them, unless it has all lines of a problem
+-- nothing before the line is wrong, no text that has it too reads, a text that stops there ends too early, and the place
+-- tells the word
 pub record BadLine (bytes : List ℕ) (number : ℕ) (word : FlatWord) : Type 0 where
   pub counted : 1 ≤ number
   pub begins : GoesOn (number - 1) bytes
@@ -30,9 +30,11 @@ pub record BadLine (bytes : List ℕ) (number : ℕ) (word : FlatWord) : Type 0 
   pub cut_off : word ≢ words.Tail → part_count bytes ≡ number → (others : List ℕ) → SameLines (number - 1) bytes others → part_count others ≡ number → IsRefused others number word
   pub told : IsWanted (parts_of 10 bytes) number word
 
+-- where a text is refused at a line, that is a first bad line
 abbrev pub FirstBadLine : Type 0
 FirstBadLine = (bytes : List ℕ) (number : ℕ) (word : FlatWord) → IsRefused bytes number word → BadLine bytes number word
 
--- the lines before it and what is wanted at it make a line the first bad one
+-- where the lines before begin a text that reads and the line isn't what is wanted, the text is refused there, since that is
+-- missing
 abbrev pub WantedRefuses : Type 0
 WantedRefuses = (bytes : List ℕ) (number : ℕ) (word : FlatWord) → GoesOn (number - 1) bytes → IsWanted (parts_of 10 bytes) number word → IsRefused bytes number word

@@ -21,7 +21,7 @@ pub record WantsSize (parts : List (List ℕ)) (number : ℕ) : Type 0 where
   pub place : number ≡ 2
   pub wrong : (line_of parts number >>= size_form) ≡ None
 
--- one of the lines behind it, as many as there are ships, doesn't give the values of a ship
+-- one of the lines after it, as many as there are ships, doesn't give the values of a ship
 pub record WantsValues (parts : List (List ℕ)) (number : ℕ) : Type 0 where
   pub stay : Bool
   pub ships : ℕ
@@ -31,7 +31,7 @@ pub record WantsValues (parts : List (List ℕ)) (number : ℕ) : Type 0 where
   pub before_rules : number < 3 + ships
   pub wrong : (line_of parts number >>= row_form stay slots) ≡ None
 
--- a line behind the ships' that is neither a rule nor `end`
+-- a line after the ships' lines that is neither a rule nor `end`
 pub record WantsRule (parts : List (List ℕ)) (number : ℕ) : Type 0 where
   pub stay : Bool
   pub ships : ℕ
@@ -54,7 +54,7 @@ pub record WantsEnd (parts : List (List ℕ)) (number : ℕ) : Type 0 where
   pub rule : Rule
   pub one_more : (line_of parts number >>= rule_form ships) ≡ Some rule
 
--- the line before is `end`, and something stands behind it
+-- the line before is `end`, and something follows it
 pub record WantsNoMore (parts : List (List ℕ)) (number : ℕ) : Type 0 where
   pub stay : Bool
   pub ships : ℕ

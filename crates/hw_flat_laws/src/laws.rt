@@ -10,7 +10,7 @@ pub fn first_bad_line()
 {}
 
 /// Where the lines before one begin a text that reads, and the line isn't what is wanted there, the
-/// text is refused at it, for want of that.
+/// text is refused at that line, with the word for what is wanted.
 pub fn wanted_refuses()
     ensures { WantedRefuses }
 {}

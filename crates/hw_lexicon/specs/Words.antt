@@ -8,7 +8,7 @@ abbrev pub words_in : List ℕ → List (List ℕ)
 words_in [] = []
 words_in (b ∷ bs) = words_of (b ∷ bs)
 
--- the place of a word, where the list begins at the place n
+-- the place of the first word equal to this one, where the list begins at a place
 abbrev pub find_from : ℕ → List ℕ → List (List ℕ) → Option ℕ
 find_from n word [] = None
 find_from n word (w ∷ ws) = if bytes_eq w word then Some n else find_from (n + 1) word ws
@@ -18,6 +18,6 @@ abbrev pub all_differ : List (List ℕ) → Bool
 all_differ [] = true
 all_differ (w ∷ ws) = not (is_some (find_from 0 w ws)) && all_differ ws
 
--- nonempty words that differ; two spaces in a row would make an empty one
+-- each word has a byte and all differ: a test that the prover computes at each constant
 abbrev pub is_lexicon : List ℕ → Bool
 is_lexicon text = list_all (λ w. nat_lt 0 (length w)) (words_in text) && all_differ (words_in text)

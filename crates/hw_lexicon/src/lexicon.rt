@@ -60,7 +60,7 @@ impl<'w> Lexicon<'w> {
 
     /// The place of a word, from 0, and none exactly where no word equals it.
     ///
-    /// It goes through the text once at most. The laws `is_word_found`, `finds_its_word` and
+    /// It goes through the text at most once. The laws `is_word_found`, `finds_its_word` and
     /// `misses_absent_words` say what the place is.
     pub fn find(&self, word: &[u8]) -> Option<usize>
         ensures { result ≡ find_from 0 word.now self.now }

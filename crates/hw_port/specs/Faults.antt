@@ -31,8 +31,10 @@ fault_of (Err f) = Some f
 abbrev pub at : Place → Path
 at place = record { field = number_of place; first = None; second = None }
 
+-- the path to a place with one star
 abbrev pub at_item : Place → ℕ → Path
 at_item place i = record { field = number_of place; first = Some i; second = None }
 
+-- the path to a place with two stars
 abbrev pub at_part : Place → ℕ → ℕ → Path
 at_part place i j = record { field = number_of place; first = Some i; second = Some j }

@@ -15,12 +15,12 @@ pub record Within (lowest highest value : ℤ) : Type 0 where
   pub low : lowest ≤ℤ value
   pub high : value ≤ℤ highest
 
--- the place of one of so many
+-- the place of one of `many` items
 pub record IsPlace (many value : ℤ) : Type 0 where
   pub low : pos 0 ≤ℤ value
   pub below : value <ℤ many
 
--- so many items, from the fewest to the most
+-- `many` items, from the fewest to the most
 pub record Counts (fewest most many : ℕ) : Type 0 where
   pub low : fewest ≤ many
   pub high : many ≤ most
@@ -55,7 +55,7 @@ pub record WaypointKept (w : Waypoint) : Type 0 where
 abbrev pub SectionKept : Section → Type 0
 SectionKept s = IsName s.name
 
--- the gaps behind a ship of one of so many classes
+-- the gaps after a ship, one for each class
 pub record RowKept (classes : ℕ) (row : List ℤ) : Type 0 where
   pub size : length row ≡ classes
   pub gaps : All (Within (pos 1) (pos 512)) row
@@ -76,6 +76,7 @@ abbrev pub Ascends : ℤ → List Stretch → Type 0
 Ascends before [] = Unit {0}
 Ascends before (s ∷ ss) = (before <ℤ s.section) × Ascends s.section ss
 
+-- the rules of a ship, field by field, as relations
 pub record ShipKept (p : Parts) (s : ShipParts) : Type 0 where
   pub name : IsName s.name
   pub direction : IsDirection s.direction
@@ -95,6 +96,7 @@ pub record ShipKept (p : Parts) (s : ShipParts) : Type 0 where
   pub tugs : Within (pos 0) (pos 64) s.tugs
   pub job : Within (pos 1) (pos 512) s.job
 
+-- the rules of a berth pair: an outgoing and an incoming ship, and the number of slots to clear
 pub record BerthKept (ships : List ShipParts) (b : BerthPair) : Type 0 where
   pub outgoing_place : IsPlace (pos (length ships)) b.outgoing
   pub outgoing_side : Sails outgoing ships b.outgoing
@@ -102,6 +104,7 @@ pub record BerthKept (ships : List ShipParts) (b : BerthPair) : Type 0 where
   pub incoming_side : Sails incoming ships b.incoming
   pub clear : Within (pos 1) (pos 512) b.clear
 
+-- the rules of a port, field by field, as relations
 pub record PortKept (p : Parts) : Type 0 where
   pub version : Within (pos 1) (pos 2) p.version
   pub slots : Within (pos 1) (pos 512) p.slots

@@ -107,6 +107,7 @@ abbrev pub refused_by : Option PortFault → Parts → Result Parts PortFault
 refused_by None p = Ok p
 refused_by (Some f) p = Err f
 
+-- the parts where there is no fault, else the first one
 abbrev pub port_of : Parts → Result Parts PortFault
 port_of p = refused_by (port_fault p) p
 

@@ -3,6 +3,7 @@ use Rattle.std.specs.Prelude.{ℕ, ℤ, List, Bool}
 use Rattle.hw_port.specs.declared.parts.Pass.{Pass}
 use Rattle.hw_port.specs.declared.parts.Stretch.{Stretch}
 
+-- a ship: its name and direction, and its numbers as whole ones; its route and channel items as lists
 pub record ShipParts : Type 0 where
   pub name : List ℕ
   pub direction : List ℕ

@@ -55,9 +55,11 @@ line_of places.BerthIncoming = (42, codes "berths.*.incoming")
 line_of places.BerthClear = (43, codes "berths.*.clear")
 line_of places.ShipMayStay = (44, codes "ships.*.may_stay")
 
+-- the number of a place
 abbrev pub number_of : Place → ℕ
 number_of place = (line_of place).0
 
+-- the text of a place
 abbrev pub text_of : Place → List ℕ
 text_of place = (line_of place).1
 
@@ -87,7 +89,7 @@ filled (b ∷ bs) first second = if b == 42 then number_text first ++ filled bs 
 unfoldable pub path_text : Path → List ℕ
 path_text path = filled (text_at path.field) path.first path.second
 
--- what is wrong, as it is printed
+-- the word of a fault, as it is printed
 abbrev pub word_text : PortWord → List ℕ
 word_text words.Missing = codes "missing"
 word_text words.Kind = codes "kind"

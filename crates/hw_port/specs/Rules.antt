@@ -10,14 +10,14 @@ use Rattle.hw_port.specs.Faults.{◌or_else◌, unless}
 abbrev pub in_range : ℤ → ℤ → ℤ → Bool
 in_range low high value = int_le low value && int_le value high
 
--- a place of a list of so many items
+-- a place of a list of `many` items
 abbrev pub is_place : ℤ → ℤ → Bool
 is_place many value = int_le (pos 0) value && int_lt value many
 
 abbrev pub is_printable : ℕ → Bool
 is_printable b = nat_le 32 b && nat_le b 126
 
--- 1 to 40 printable bytes and no space at either end
+-- the text is a name: 1 to 40 printable bytes and no space at either end
 abbrev pub is_name : List ℕ → Bool
 is_name text = nat_le 1 (length text) && nat_le (length text) 40 && list_all is_printable text && not (slice_index text 0 == 32) && not (slice_index text (length text - 1) == 32)
 
@@ -27,6 +27,7 @@ outgoing = codes "outgoing"
 abbrev pub incoming : List ℕ
 incoming = codes "incoming"
 
+-- the text is one of the two directions
 abbrev pub is_direction : List ℕ → Bool
 is_direction text = bytes_eq text outgoing || bytes_eq text incoming
 

@@ -10,7 +10,7 @@ use Rattle.hw_port.specs.Whole.{Parts}
 use Rattle.hw_port.specs.Faults.{◌or_else◌, unless, each, at_item, at_part}
 use Rattle.hw_port.specs.Rules.{range, place, count, at_least, above, new_name, among, is_direction}
 
--- its name, not used by an earlier one of these ships, its direction, and its class of so many
+-- its name, not used by an earlier one of these ships, its direction, and its class, one of `classes`
 unfoldable pub sort_fault : List ShipParts → ℤ → ℕ → ShipParts → Option PortFault
 sort_fault all classes i s =
     new_name (at_item places.ShipName i) (among (λ v. v.name) s.name (take i all)) s.name
@@ -49,7 +49,7 @@ stretch_fault i sections j before s =
     or_else range (at_part places.StretchLeave i j) (pos 1) (pos 512) s.leave
     or_else above (at_part places.StretchLeave i j) s.enter s.leave
 
--- the stretches from the j-th on, behind one in the section `before`
+-- the stretches from the j-th on, the first of them after one in the section `before`
 abbrev pub stretches_fault : ℕ → ℤ → ℕ → ℤ → List Stretch → Option PortFault
 stretches_fault i sections j before [] = None
 stretches_fault i sections j before (s ∷ ss) = stretch_fault i sections j before s or_else stretches_fault i sections (j + 1) s.section ss

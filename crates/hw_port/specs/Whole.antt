@@ -6,6 +6,7 @@ use Rattle.hw_port.specs.declared.parts.Section.{Section}
 use Rattle.hw_port.specs.declared.parts.Turnaround.{Turnaround}
 use Rattle.hw_port.specs.declared.parts.BerthPair.{BerthPair}
 
+-- a port: its numbers as whole ones, and its lists
 pub record Parts : Type 0 where
   pub version : ℤ
   pub slots : ℤ

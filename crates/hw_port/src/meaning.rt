@@ -107,7 +107,7 @@ fn each_gap(i: u32, row: &[i64]) -> Result<(), PortFault>
     Ok(())
 }
 
-/// The gaps behind a ship of one of so many classes.
+/// The gaps after a ship, one for each class.
 #[tactic(auto, unfolding(crate::specs::Meaning::row_fault))]
 fn test_row(classes: usize, i: u32, row: &Row) -> Result<(), PortFault>
     requires { classes ≤ 8 }

@@ -54,6 +54,7 @@ pub fn unless(path: Path, word: PortWord, holds: bool) -> Result<(), PortFault>
     }
 }
 
+/// The fault `Range`, unless the value is from `low` to `high`.
 #[tactic(auto, unfolding(crate::specs::Rules::range))]
 pub fn range(path: Path, low: i64, high: i64, value: i64) -> Result<(), PortFault>
     ensures { fault_of result ≡ range_rule path low high value }
@@ -61,7 +62,7 @@ pub fn range(path: Path, low: i64, high: i64, value: i64) -> Result<(), PortFaul
     unless(path, PortWord::Range, low <= value && value <= high)
 }
 
-/// The place of one of so many.
+/// The fault `Range`, unless the value is the place of one of `many` items, counted from 0.
 #[tactic(auto, unfolding(crate::specs::Rules::place))]
 pub fn place(path: Path, many: i64, value: i64) -> Result<(), PortFault>
     ensures { fault_of result ≡ place_rule path many value }
@@ -69,6 +70,7 @@ pub fn place(path: Path, many: i64, value: i64) -> Result<(), PortFault>
     unless(path, PortWord::Range, 0 <= value && value < many)
 }
 
+/// The fault `Count`, unless there are `low` to `high` items.
 #[tactic(auto, unfolding(crate::specs::Rules::count))]
 pub fn count(path: Path, low: usize, high: usize, many: usize) -> Result<(), PortFault>
     ensures fault { fault_of result ≡ count_rule path low high many }
@@ -77,6 +79,7 @@ pub fn count(path: Path, low: usize, high: usize, many: usize) -> Result<(), Por
     unless(path, PortWord::Count, low <= many && many <= high)
 }
 
+/// The fault `Order`, unless the value is at least `low`.
 #[tactic(auto, unfolding(crate::specs::Rules::at_least))]
 pub fn at_least(path: Path, low: i64, value: i64) -> Result<(), PortFault>
     ensures { fault_of result ≡ at_least_rule path low value }
@@ -84,6 +87,7 @@ pub fn at_least(path: Path, low: i64, value: i64) -> Result<(), PortFault>
     unless(path, PortWord::Order, low <= value)
 }
 
+/// The fault `Order`, unless the value is above `low`.
 #[tactic(auto, unfolding(crate::specs::Rules::above))]
 pub fn above(path: Path, low: i64, value: i64) -> Result<(), PortFault>
     ensures { fault_of result ≡ above_rule path low value }
@@ -107,7 +111,7 @@ fn is_name(text: &[u8]) -> bool
         && text[text.len() - 1] != b' '
 }
 
-/// A name that no earlier item has.
+/// The fault `Name`, unless the text is a name, and else `Repeat`, if an earlier item has it.
 #[tactic(auto, unfolding(crate::specs::Rules::new_name))]
 pub fn new_name(path: Path, used: bool, text: &[u8]) -> Result<(), PortFault>
     ensures { fault_of result ≡ new_name_rule path used text.now }

@@ -19,7 +19,7 @@ fn has_name(name: &[u8], earlier: &[Ship]) -> bool
     earlier.iter().any(|s| s.name.items.as_slice() == name)
 }
 
-/// The name, the direction and the class of a ship, where there are so many classes.
+/// The name, the direction and the class of a ship, where there are this many classes.
 #[tactic(auto, unfolding(crate::specs::Ships::sort_fault))]
 fn sort(all: &[Ship], classes: i64, i: u32, s: &Ship) -> Result<(), PortFault>
     requires { i ≤ length all.now }
@@ -83,7 +83,7 @@ fn route(i: u32, waypoints: i64, route: &[Pass]) -> Result<(), PortFault>
     each_pass(i, waypoints, route)
 }
 
-/// A stretch behind one in the section `before`.
+/// A stretch after one in the section `before`.
 #[tactic(auto, unfolding(crate::specs::Ships::stretch_fault))]
 fn test_stretch(i: u32, sections: i64, j: u32, before: i64, s: &Stretch) -> Result<(), PortFault>
     ensures { fault_of result ≡ stretch_fault i sections j before s.now }

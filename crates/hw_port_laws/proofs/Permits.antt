@@ -1,4 +1,4 @@
--- A list of slots is permitted by a port just where its flat problem permits it.
+-- A list of slots is permitted by a port exactly where its flat problem permits it.
 use Rattle.std.proofs.Common.{◌≡◌, ◌≢◌, ◌⊎◌, ℕ, ◌+◌, ◌<◌, ◌≤◌, ℤ, pos, ◌-ℤ◌, true, false, cond, not, nat_le, nat_lt, ◌&&◌, ◌||◌, List, map, Some, slice_get, slice_index, length, sum_by, zip, IsSome, IsTrue, refl, sym, ap, ◌∙◌, subst, inl, inr, arith}
 use Rattle.std.proofs.lemmas.Bool.{cases_Bool, cases_order, and_parts, and_from, lt-ltb}
 use Rattle.std.proofs.lemmas.Bool.Decides.{nat_tests}

@@ -30,7 +30,7 @@ pub record Meet (a b : Stretch) (x y slot : ℕ) : Type 0 where
   pub other_entered : y + whole b.enter ≤ slot
   pub other_not_left : slot < y + whole b.leave
 
--- two ships meet in a section just where the difference of their slots lies in its hole
+-- two ships meet in a section exactly where the difference of their slots lies in its hole
 abbrev pub CommonSlot : Type 0
 CommonSlot = (sections : ℤ) (a b : Stretch) (x y : ℕ) → StretchKept sections a → StretchKept sections b → (((slot : ℕ) × Meet a b x y slot) ↔ IsFalse (misses (pos y -ℤ pos x) (section_hole a b)))
 
@@ -46,7 +46,7 @@ StayingIsNothing = (p : Parts) (h : TideParts) (ship : ℕ) → ship < length p.
 abbrev pub SameValues : Type 0
 SameValues = (p : Parts) (h : TideParts) (v slot : ℕ) (s : ShipParts) → slice_get p.ships v ≡ Some s → slot < horizon_of p → value_at (flattened p h) v slot ≡ ship_value p h s slot
 
--- a list of slots is permitted by a port just where its flat problem permits it
+-- a list of slots is permitted by a port exactly where its flat problem permits it
 abbrev pub SamePermitted : Type 0
 SamePermitted = (p : Parts) (h : TideParts) (table : List ℕ) → PortKept p → (PortPermits p h table ↔ Permits (flattened p h) table)
 
@@ -62,7 +62,7 @@ SameProblem = (p : Parts) (h : TideParts) → PortKept p → IsSameProblem p h (
 abbrev pub SameBest : Type 0
 SameBest = (p : Parts) (h : TideParts) (table : List ℕ) (c : ℕ) → PortKept p → (IsPortBest p h table c ↔ IsBest (flattened p h) table c)
 
--- the port permits no timetable just where the flat problem permits none
+-- the port permits no timetable exactly where the flat problem permits none
 abbrev pub SameNone : Type 0
 SameNone = (p : Parts) (h : TideParts) → PortKept p → (NonePortPermitted p h ↔ NonePermitted (flattened p h))
 

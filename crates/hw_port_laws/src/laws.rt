@@ -7,7 +7,7 @@ pub fn least_draft()
     ensures { LeastDraft }
 {}
 
-/// Two ships have a common slot in a section just where the difference of their slots lies in the
+/// Two ships have a common slot in a section exactly where the difference of their slots lies in the
 /// section's hole, past the horizon too.
 pub fn common_slot()
     ensures { CommonSlot }
@@ -28,7 +28,7 @@ pub fn same_values()
     ensures { SameValues }
 {}
 
-/// A list of slots is permitted by a port just where its flat problem permits it.
+/// A list of slots is permitted by a port exactly where its flat problem permits it.
 pub fn same_permitted()
     ensures { SamePermitted }
 {}
@@ -48,7 +48,7 @@ pub fn same_best()
     ensures { SameBest }
 {}
 
-/// The port permits no timetable just where the flat problem permits none.
+/// The port permits no timetable exactly where the flat problem permits none.
 pub fn same_none()
     ensures { SameNone }
 {}

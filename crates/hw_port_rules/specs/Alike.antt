@@ -6,7 +6,7 @@ use Rattle.hw_port.specs.Whole.{Parts}
 use Rattle.hw_tide.specs.Levels.{TideParts}
 use Rattle.hw_port_rules.specs.Permitted.{PortPermits, port_cargo}
 
--- of every list of slots: the problem permits it just where the port does, and then it carries the same by both
+-- of every list of slots: the problem permits it exactly where the port does, and then it carries the same by both
 pub record IsSameProblem (p : Parts) (h : TideParts) (f : Problem) : Type 0 where
   pub permitted : (table : List ℕ) → (PortPermits p h table ↔ Permits f table)
   pub carries : (table : List ℕ) → PortPermits p h table → (c : ℕ) × (port_cargo p h table ≡ Some c) × (cargo f table ≡ Some c)

@@ -22,15 +22,19 @@ formed path word (Some x) = Ok x
 abbrev pub whole_number : Data → Option ℤ
 whole_number d = option_and_then as_i64 (as_number d)
 
+-- a whole number of 64 bits, or the fault Kind
 abbrev pub number_form : Path → Data → Result ℤ PortFault
 number_form path d = formed path Kind (whole_number d)
 
+-- a text, or the fault Kind
 abbrev pub text_form : Path → Data → Result (List ℕ) PortFault
 text_form path d = formed path Kind (as_str d)
 
+-- a truth value, or the fault Kind
 abbrev pub truth_form : Path → Data → Result Bool PortFault
 truth_form path d = formed path Kind (as_bool d)
 
+-- the items of a list, or the fault Kind
 abbrev pub items_form : Path → Data → Result Items PortFault
 items_form path d = formed path Kind (as_array d)
 
@@ -43,9 +47,10 @@ abbrev pub named_only : Path → Bool → Result Bool PortFault
 named_only path true = Ok true
 named_only path false = Err (record { path = path; word = Other })
 
--- an object with no other members
+-- an object that has no other members than these; else the fault Kind or Other
 abbrev pub object_form : Path → List (List ℕ) → Data → Result Bool PortFault
 object_form path names d = formed path Kind (as_object d) >>= λ ms. named_only path (all_named names ms)
 
+-- the member of this name, or the fault Missing
 abbrev pub member_form : Path → List ℕ → Data → Result Data PortFault
 member_form path name d = formed path Missing (get name d)

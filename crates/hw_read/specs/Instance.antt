@@ -21,7 +21,7 @@ after_form (Some f) p = Err f
 unfoldable pub instance_of : Data → Result Parts PortFault
 instance_of d = after_form (first_of (entry_faults (port (version_of d)) no_stars d)) (port_parts d)
 
--- the port, or the fault; want of memory is free
+-- the port, or the fault; memory may run out at any time
 abbrev pub Gives : Result Parts ReadFault → Result Parts PortFault → Type 0
 Gives (Ok p) read = read ≡ Ok p
 Gives (Err (Field f)) read = read ≡ Err f
@@ -32,7 +32,8 @@ Gives (Err NoMemory) read = Unit {0}
 abbrev pub IsJson : List ℕ → Data → Type 0
 IsJson bytes d = Text.IsUtf8 bytes × (read bytes ≡ Some d)
 
--- a port exactly where the bytes are a value that is one, a fault exactly where they are a value with that first fault, no JSON exactly where they are no value; want of memory is free
+-- what `read_port` answers: a port exactly where the bytes are a value that is one, a fault exactly where they are a value
+-- with that first fault, no JSON exactly where they are no value; memory may run out at any time
 abbrev pub Reads : List ℕ → Result Parts ReadFault → Type 0
 Reads bytes (Ok p) = (d : Data) × IsJson bytes d × (instance_of d ≡ Ok p)
 Reads bytes (Err (Field f)) = (d : Data) × IsJson bytes d × (instance_of d ≡ Err f)

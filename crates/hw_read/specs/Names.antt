@@ -9,6 +9,7 @@ abbrev pub names_at : Entry → List (List ℕ)
 names_at (object n ms) = names_in ms
 names_at _ = []
 
+-- the names of the members that an object of a kind may have, by the table
 abbrev pub names_of : Version → Names → List (List ℕ)
 names_of version objects.Port = names_in (port_members version)
 names_of version objects.Waypoint = names_at waypoint

@@ -1,4 +1,4 @@
--- The parts of a value that has the form; in place of a value of another form 0, false, or nothing.
+-- The parts of a value that has the form. A value of another form gives 0, false, or nothing instead.
 use Rattle.std.specs.Prelude.{ℕ, ℤ, pos, List, [], ◌∷◌, codes, Bool, false, Option, Some, None, option_and_then, unwrap_or}
 use Rattle.hw_port.specs.declared.parts.Waypoint.{Waypoint}
 use Rattle.hw_port.specs.declared.parts.Section.{Section}
@@ -12,6 +12,7 @@ use Rattle.serde_json.specs.Data.{Data, Items, no_items, item}
 use Rattle.serde_json.specs.Find.{get, as_str, as_bool, as_array}
 use Rattle.hw_read.specs.Form.{whole_number}
 
+-- the number that a value is; 0 of another value
 abbrev pub number_of : Data → ℤ
 number_of d = unwrap_or (whole_number d) (pos 0)
 
@@ -37,12 +38,15 @@ abbrev pub each_part : {A : Type 0} → (Data → A) → Items → List A
 each_part part no_items = []
 each_part part (item d ds) = part d ∷ each_part part ds
 
+-- a waypoint of a value
 abbrev pub waypoint_part : Data → Waypoint
 waypoint_part d = record { name = text_in (codes "name") d; depth = number_in (codes "depth") d }
 
+-- a section of a value
 abbrev pub section_part : Data → Section
 section_part d = record { name = text_of d }
 
+-- a row of separations of a value
 abbrev pub row_part : Data → List ℤ
 row_part d = each_part number_of (items_of d)
 
@@ -53,9 +57,11 @@ times_part (Some d) = record { outgoing = number_in (codes "outgoing") d; incomi
 abbrev pub turnaround_part : Data → Turnaround
 turnaround_part d = times_part (get (codes "turnaround") d)
 
+-- a pass of a value
 abbrev pub pass_part : Data → Pass
 pass_part d = record { waypoint = number_in (codes "waypoint") d; offset = number_in (codes "offset") d; clearance = number_in (codes "clearance") d }
 
+-- a channel item of a value
 abbrev pub stretch_part : Data → Stretch
 stretch_part d = record { section = number_in (codes "section") d; enter = number_in (codes "enter") d; leave = number_in (codes "leave") d }
 
@@ -76,6 +82,7 @@ ship_part d = record {
   may_stay = truth_in (codes "may_stay") d;
 }
 
+-- a berth pair of a value
 abbrev pub berth_part : Data → BerthPair
 berth_part d = record { outgoing = number_in (codes "outgoing") d; incoming = number_in (codes "incoming") d; clear = number_in (codes "clear") d }
 

@@ -5,9 +5,11 @@ use Rattle.hw_port.specs.declared.places.Place.{Place}
 use Rattle.hw_port.specs.Places.{number_of}
 use Rattle.hw_read.specs.declared.stars.Stars.{Stars}
 
+-- the numbers at the stars of a place that has none
 abbrev pub no_stars : Stars
 no_stars = record { first = None; second = None }
 
+-- the path to a place by these numbers
 abbrev pub path : Place → Stars → Path
 path place s = record { field = number_of place; first = s.first; second = s.second }
 
@@ -15,6 +17,6 @@ abbrev pub next_star : Option ℕ → ℕ → Stars
 next_star None i = record { first = Some i; second = None }
 next_star (Some k) i = record { first = Some k; second = Some i }
 
--- the stars of the i-th item
+-- the numbers at the stars, one deeper: at the i-th item
 abbrev pub deeper : Stars → ℕ → Stars
 deeper s i = next_star s.first i

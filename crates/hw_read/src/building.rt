@@ -189,8 +189,8 @@ fn turnaround(value: &Value) -> Turnaround
     }
 }
 
-/// The parts of an instance that has the form; in place of a value of another form 0, false, or
-/// nothing.
+/// The parts of an instance that has the form. A value of another form gives 0, false, or nothing
+/// instead.
 #[tactic(auto, unfolding(crate::specs::Parts::port_parts))]
 pub fn build_parts(alloc: Global, value: &Value) -> Result<PortParts, AllocError>
     ensures { IfOk result (λ p. p ≡ port_parts (view value.now)) }

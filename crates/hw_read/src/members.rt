@@ -48,7 +48,7 @@ pub fn truth(path: Path, value: &Value) -> Result<(), PortFault>
     }
 }
 
-/// The items of a list.
+/// The items of a list. A value of another kind gives the fault `Kind`.
 pub fn items(path: Path, value: &Value) -> Result<&[Value], PortFault>
     ensures { result_map_both (λ v. items_view v.now) (λ e. e) result ≡ items_form path (view value.now) }
 {
@@ -58,7 +58,7 @@ pub fn items(path: Path, value: &Value) -> Result<&[Value], PortFault>
     }
 }
 
-/// The member of an object.
+/// The member of an object. Where it isn't there, that is the fault `Missing`.
 pub fn member<'v>(path: Path, name: &str, value: &'v Value) -> Result<&'v Value, PortFault>
     ensures { result_map_both (λ v. view v.now) (λ e. e) result ≡ member_form path name.now (view value.now) }
 {

@@ -25,7 +25,7 @@ fn port_of_value(alloc: Global, value: &Value) -> Result<Port, ReadFault>
 /// Reads an instance. The form of the whole value is tested first, then the meaning of its parts.
 ///
 /// `NotJson` comes exactly where the bytes are no JSON text, `Field` with the first fault in the
-/// order of the table, and `NoMemory` only for want of memory. Numbers are whole numbers of 64
+/// order of the table, and `NoMemory` only where memory ran out. Numbers are whole numbers of 64
 /// bits with a sign. The time grows with the number of bytes.
 pub fn read_port(alloc: Global, bytes: &[u8]) -> Result<Port, ReadFault>
     ensures { Reads bytes.now result }

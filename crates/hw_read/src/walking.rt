@@ -18,7 +18,7 @@ const NO_STARS: Stars = Stars {
     second: None,
 };
 
-/// The first fault of a value that is to have a form. An object's members are tested in the
+/// The first fault of a value that must have a form. An object's members are tested in the
 /// order of the table, each by one look-up. `NoMemory` says that a list has more than 2^32 items.
 fn walk(form: &Form<'_>, version: Version, stars: Stars, value: &Value) -> Result<(), ReadFault>
     ensures { Tells (form_long version form.now (view value.now)) result (form_fault version form.now stars (view value.now)) }
@@ -39,7 +39,7 @@ fn walk(form: &Form<'_>, version: Version, stars: Stars, value: &Value) -> Resul
         Form::List(field, inner) => {
             let items = items(path_of(*field, stars), value)?;
             for (i, item) in items.iter().enumerate() {
-                // A path can't tell the number of an item behind 2^32 others.
+                // A path can't give the number of an item after 2^32 others.
                 let Ok(place) = u32::try_from(i) else {
                     return Err(ReadFault::NoMemory);
                 };

@@ -118,7 +118,7 @@ due_small : (b : Bool) (price units : ℕ) → price ≤ 1_000_000_000_000_000_0
 due_small true price units cheap few = times_small price units cheap few
 due_small false price units cheap few = zero-le
 
--- the costs after one due more: they stay small, and what is left is what is left
+-- the costs after one more due: they stay small, and what is left is what is left
 pub due_charged : (f : Problem) (tolls : List Toll) (dues : List Due) (ship low high i k old new all : ℕ) (d : Due) (toll : Toll) → IsFlat f → All (IsToll f) tolls → All (DueFits (length tolls)) dues → i < length dues → toll ≡ get_or tolls (get_or dues i d).toll toll
     → new ≡ old + cond (lies_in low high k) ((get_or dues i d).price * takes_at f (Some toll) ship k) 0
     → old + cond (lies_in low high k) (pays f tolls (drop i dues) ship k) 0 ≡ all

@@ -155,7 +155,7 @@ fn costed(scale: u32, value: Option<u64>, cost: u128) -> Option<Balance>
     }
 }
 
-/// The number behind a slot.
+/// The number after a slot.
 fn behind(flat: &Flat, slot: Slot) -> Slot
     requires slot_in { slot < flat.now.slots }
     ensures value { result ≡ slot + 1 }
@@ -165,7 +165,7 @@ fn behind(flat: &Flat, slot: Slot) -> Slot
     slot + 1
 }
 
-/// Two balances together, or none where one is wanting.
+/// The sum of two balances, or none where one is missing.
 fn together(sum: Option<Balance>, next: Option<Balance>) -> Option<Balance>
     requires small_sum { IfSome sum (BalanceFits 39) }
     requires small_next { IfSome next (BalanceFits 1) }

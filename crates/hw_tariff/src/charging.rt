@@ -16,7 +16,7 @@ struct Span {
     price: u64,
 }
 
-/// Adds so much to the costs of the slots from `from` on and below `to`.
+/// Adds an amount to the cost of each slot from `from` on and below `to`.
 fn add(costs: &mut [u128], from: usize, to: usize, amount: u128)
     requires inside { to ≤ length costs.old }
     requires small { All (λ c. c ≤ 1_000_000_000_000_000_000_000_000_000) costs.old }

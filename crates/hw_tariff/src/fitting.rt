@@ -4,7 +4,7 @@ ghost use Rattle.hw_tolls.specs.Prices.{DueFits, TariffFits};
 
 use hw_tolls::{Due, Tariff};
 
-/// Whether a tariff on so many tolls fits: its scale, the number of its dues and each price keep
+/// Whether a tariff on this many tolls fits: its scale, the number of its dues and each price keep
 /// their limits, and each due names one of the tolls. It looks once at each due.
 pub fn tariff_fits(tolls: usize, tariff: &Tariff) -> bool
     ensures value { IsTrue result ↔ TariffFits tolls tariff.now }
@@ -13,7 +13,7 @@ pub fn tariff_fits(tolls: usize, tariff: &Tariff) -> bool
     tariff.scale <= 1_000_000 && dues.len() <= 100_000 && each_due_fits(tolls, dues)
 }
 
-/// Whether each due names one of so many tolls, at a price within its limit.
+/// Whether each due names one of this many tolls, at a price within its limit.
 fn each_due_fits(tolls: usize, dues: &[Due]) -> bool
     ensures value { IsTrue result ↔ All (DueFits tolls) dues.now }
 {
@@ -25,7 +25,7 @@ fn each_due_fits(tolls: usize, dues: &[Due]) -> bool
     true
 }
 
-/// Whether a due names one of so many tolls, at a price within its limit.
+/// Whether a due names one of this many tolls, at a price within its limit.
 fn due_fits(tolls: usize, due: Due) -> bool
     ensures value { IsTrue result ↔ DueFits tolls due }
 {

@@ -17,7 +17,7 @@ use std::alloc::Global;
 /// can serve together weigh no more than is said.
 ///
 /// For narrows each rule may be asked about each two blocks, and a room's memory is taken. For tugs
-/// it costs what [`heaviest`] does. An error says that there was no memory.
+/// it costs what [`heaviest`] does. An error says that memory ran out.
 pub fn is_toll(alloc: Global, flat: &Flat, toll: &Toll) -> Result<bool, NoMemory>
     ensures value { IfOk result (λ yes. IsTrue yes ↔ IsToll flat.now toll.now) }
 {
@@ -60,8 +60,8 @@ fn are_small(weights: &[u32]) -> bool
     weights.iter().all(|weight| *weight <= 64)
 }
 
-/// Whether the rule is one on tugs, and the jobs that its fleet can serve together weigh at most so
-/// much.
+/// Whether the rule is one on tugs, and the jobs that its fleet can serve together weigh at most
+/// `most`.
 fn weighs_up_to(alloc: Global, rule: &Rule, weights: &[u32], most: u32) -> Result<bool, NoMemory>
     requires fits { RuleFits 40 rule.now }
     requires small { All (λ weight. weight ≤ 64) weights.now }
@@ -74,7 +74,7 @@ fn weighs_up_to(alloc: Global, rule: &Rule, weights: &[u32], most: u32) -> Resul
 }
 
 /// Whether there is a weight for each job, and jobs that the fleet can serve together weigh at most
-/// so much.
+/// `most`.
 fn jobs_weigh(
     alloc: Global,
     fleet: u32,

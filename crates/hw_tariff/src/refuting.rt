@@ -1,4 +1,4 @@
-//! Whether prices leave a room, or the whole problem, no more than so much cargo.
+//! Whether prices leave a room, or the whole problem, no more than a given cargo.
 ghost use Rattle.std.specs.Prelude.{◌≡◌, ◌↔◌, ◌*◌, ◌≤◌, length, All, IfOk, IfSome, IsTrue};
 ghost use Rattle.hw_model.specs.Rooms.{RoomFits};
 ghost use Rattle.hw_tolls.specs.Tolls.{IsToll};
@@ -68,7 +68,7 @@ pub fn charged_refute(
 /// Whether the prices leave the whole problem no more than the bound, in tenths of a tonne: then no
 /// permitted timetable carries more.
 ///
-/// It takes a room's memory, and an error says that there was none.
+/// It takes the memory of a room. An error says that memory ran out.
 pub fn prices_bound(
     alloc: Global,
     flat: &Flat,

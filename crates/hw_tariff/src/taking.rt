@@ -11,7 +11,7 @@ use hw_flat::{Flat, ShipId, Slot};
 use hw_model::{Job, Rule};
 use hw_tolls::{Block, Due, Toll};
 
-/// What a ship that sails in a slot takes of a toll. At most 40 blocks or jobs are looked at.
+/// What a ship that sails in a slot takes of a toll. It looks at 40 blocks or jobs at most.
 pub fn takes(flat: &Flat, toll: &Toll, ship: ShipId, slot: Slot) -> u64
     requires toll { IsToll flat.now toll.now }
     ensures value { result ≡ computed.takes_at flat.now (Some toll.now) ship slot }
@@ -105,7 +105,7 @@ pub fn capacity_of(toll: &Toll) -> u64
     }
 }
 
-/// The price of so many units, in parts.
+/// The price of this many units, in parts.
 fn priced(price: u64, units: u64) -> u128
     requires small_price { price ≤ 1_000_000_000_000_000_000 }
     requires few_units { units ≤ 2_560 }

@@ -5,10 +5,10 @@ ghost use Rattle.hw_tolls.specs.Tolls as tolls;
 use hw_model::{Job, NoMemory};
 use std::alloc::Global;
 
-/// The greatest weight of jobs that hold no more than so many tugs together.
+/// The greatest weight of jobs that together hold no more than this many tugs.
 ///
 /// It takes a step for each job and each number of tugs, and memory for two numbers of each number
-/// of tugs. An error says that there was none.
+/// of tugs. An error says that memory ran out.
 pub fn heaviest(alloc: Global, weights: &[u32], jobs: &[Job], tugs: u32) -> Result<u32, NoMemory>
     requires few { length jobs.now ≤ 40 }
     requires each_job { length weights.now ≡ length jobs.now }
@@ -43,7 +43,7 @@ fn heaviest_each(
     Ok(most)
 }
 
-/// The greatest weights for each number of tugs with one job more.
+/// The greatest weights for each number of tugs with one more job.
 fn with_job(alloc: Global, weight: u32, tugs: u32, most: &[u32]) -> Result<Vec<u32>, NoMemory>
     requires small_weight { weight ≤ 64 }
     requires small { All (λ m. m ≤ 2_496) most.now }
@@ -57,7 +57,7 @@ fn with_job(alloc: Global, weight: u32, tugs: u32, most: &[u32]) -> Result<Vec<u
     Ok(next)
 }
 
-/// The greater weight with one job more, or without it.
+/// The greater weight with one more job, or without it.
 fn heavier(weight: u32, tugs: usize, most: &[u32], k: usize) -> u32
     requires small_weight { weight ≤ 64 }
     requires small { All (λ m. m ≤ 2_496) most.now }

@@ -38,7 +38,7 @@ mapped f (Some n) z h = (n, refl, cc)
 abbrev Signed : ℕ → List ℕ → ℤ → Type 0
 Signed most word z = (word ≡ signed_decimal z) × (neg_ℤ (pos most) ≤ℤ z) × (z ≤ℤ pos most)
 
--- the text behind a sign is that of a number other than 0
+-- the text after a sign is that of a number other than 0
 signed_below : (most n : ℕ) (word : List ℕ) → get_or word 0 0 ≡ 45 → drop 1 word ≡ decimal n → 1 ≤ n → n ≤ most → Signed most word (neg_ℤ (pos n))
 signed_below most zero word first rest low high = absurd (omega (arith, low))
 signed_below most (suc n) [] first rest low high = absurd (omega (arith, first))

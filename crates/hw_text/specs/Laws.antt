@@ -5,7 +5,7 @@ use Rattle.std.specs.List.{list_all, join_with_byte}
 use Rattle.hw_text.specs.Numbers.{number_up_to, signed_up_to}
 use Rattle.hw_text.specs.Parts.{parts_of, lacks, ended_lines}
 
--- a word and a number up to the limit that it spells
+-- the word reads as the number, within the limit, exactly where it is the one spelling of it
 pub record Spells (most : ℕ) (word : List ℕ) (n : ℕ) : Type 0 where
   pub read : number_up_to most word ≡ Some n → (word ≡ decimal n) × (n ≤ most)
   pub written : word ≡ decimal n → n ≤ most → number_up_to most word ≡ Some n
@@ -21,7 +21,8 @@ pub record SpellsSigned (most : ℕ) (word : List ℕ) (z : ℤ) : Type 0 where
 abbrev pub SignedSpelled : Type 0
 SignedSpelled = (most : ℕ) (word : List ℕ) (z : ℤ) → most < 2 ^ 31 → SpellsSigned most word z
 
--- the parts of a text round a byte, and the text of parts
+-- the parts of a text joined give the text again, and none of them holds the byte between them; parts without it come back
+-- from the text that they make
 pub record Joins (at : ℕ) : Type 0 where
   pub joined : (bytes : List ℕ) → join_with_byte at (parts_of at bytes) ≡ bytes
   pub lacking : (bytes : List ℕ) → list_all (lacks at) (parts_of at bytes) ≡ true
@@ -30,7 +31,7 @@ pub record Joins (at : ℕ) : Type 0 where
 abbrev pub PartsJoined : Type 0
 PartsJoined = (at : ℕ) → Joins at
 
--- lines and the text in which each is ended
+-- lines are the parts of the text in which each of them is ended, and the other way round
 pub record Ends (lines : List (List ℕ)) (bytes : List ℕ) : Type 0 where
   pub ended : parts_of 10 bytes ≡ lines ++ [] ∷ [] → bytes ≡ ended_lines lines
   pub cut : bytes ≡ ended_lines lines → list_all (lacks 10) lines ≡ true → parts_of 10 bytes ≡ lines ++ [] ∷ []

@@ -3,7 +3,7 @@ use Rattle.std.specs.Prelude.{ℕ, ◌==◌, List, [], ◌∷◌, ◌++◌, Opti
 use Rattle.std.specs.List.{slice_split, list_all, join_with_byte}
 use Rattle.std.proofs.Common.{Bor}
 
--- the parts of a text round a byte
+-- the parts of a text with this byte between them
 abbrev pub parts_of : ℕ → List ℕ → List (List ℕ)
 parts_of at bytes = slice_split (λ b. b == at) bytes
 
@@ -13,11 +13,11 @@ first_part [] = None
 first_part (x ∷ []) = None
 first_part (x ∷ y ∷ more) = Some (x, y ∷ more)
 
--- the words of a line: two spaces in a row part an empty word, which is neither a number nor a keyword
+-- the words of a line: between two spaces in a row is an empty word, which is neither a number nor a keyword
 abbrev pub words_of : List ℕ → List (List ℕ)
 words_of line = parts_of 32 line
 
--- the parts that are left, where there are any
+-- the parts of what is left of a text, where anything is
 abbrev pub left_parts : ℕ → Option (Bor (List ℕ)) → List (List ℕ)
 left_parts at None = []
 left_parts at (Some x) = parts_of at x.now

@@ -1,6 +1,6 @@
 //! The parts of a text: lines, words and numbers, each with one spelling.
 //!
-//! A line is a run of bytes other than LF, ended by LF. Words in a line are parted by exactly one
+//! A line is a run of bytes other than LF, ended by LF. Words in a line are separated by exactly one
 //! space. A number is decimal digits without a leading zero, and a signed number may have one `-`
 //! in front of a number other than 0.
 #![tactic(auto)]

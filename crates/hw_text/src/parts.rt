@@ -1,4 +1,4 @@
-//! The parts of a text round a byte: lines round LF, words round a space.
+//! The parts of a text with a byte between them: lines with LF, words with a space.
 
 ghost use Rattle.std.specs.Prelude.{◌≡◌, ◌==◌, ◌<◌, [], ◌∷◌, length, MatchOption, IfSome, position, option_map, bytes_eq};
 ghost use Rattle.hw_text.specs.Parts.{parts_of, first_part, at_end};

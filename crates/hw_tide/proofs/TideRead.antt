@@ -31,7 +31,7 @@ pub bad_record : (kind : TableKind) (columns row : ℕ) (last : Option ℕ) (fro
 bad_record kind columns row last front fields coming whole fault is so_far =
     sym so_far ∙ ap (λ (r : Result LevelsParts TideFault). with_front front (r >>= λ one. levels_from kind columns (row + 1) (Some one.slot) coming >>= λ more. Ok (one ∷ more))) is
 
--- what is told of a fault other than want of memory
+-- what is told of a fault other than out of memory
 pub failed_so : {Y : Type 0} (fault : TideFault) (here : Result Y TideFault) {Z : Type 0} (there : Result Z TideFault) → (here ≡ Err fault → there ≡ Err fault) → Fails fault here → Fails fault there
 failed_so (Header column) here there more fails = more fails
 failed_so (Length row) here there more fails = more fails

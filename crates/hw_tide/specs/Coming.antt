@@ -36,7 +36,7 @@ Takes old (Ok None) new = AreComing old []
 Takes old (Ok (Some row)) new = IsReading new × ((coming : List (List (List ℕ))) → AreComing new coming → AreComing old (fields_of row ∷ coming))
 Takes old (Err fault) new = fault ≡ NoMemory
 
--- an answer that a function gives of the records to come; out of memory is free
+-- an answer that a function gives of the records to come; memory may run out at any time
 abbrev pub ReadsComing : {X Y : Type 0} → (X → Y) → Records → (List (List (List ℕ)) → Result Y TideFault) → Result X TideFault → Type 0
 ReadsComing view records read (Err NoMemory) = Unit {0}
 ReadsComing view records read result = (coming : List (List (List ℕ))) × AreComing records coming × Gives view result (read coming)

@@ -15,7 +15,7 @@ pub record AreFaultless (kind : TableKind) (waypoints : ℕ) (records : List (Li
   pub begins : slot_at levels 0 ≡ 0
   pub rise : Rise kind levels
 
--- a slot that may stand behind these: 0 in the first record, later the next by the kind
+-- a slot that may follow these: 0 in the first record, later the next by the kind
 abbrev pub Follows : TableKind → List LevelsParts → ℕ → Type 0
 Follows kind [] slot = slot ≡ 0
 Follows kind (l ∷ []) slot = Next kind l.slot slot
@@ -49,7 +49,7 @@ pub record IsFirstOther (words others : List (List ℕ)) (place : ℕ) : Type 0 
   pub here : slice_get words place ≡ slice_get others place → ⊥
   pub before : (k : ℕ) → k < place → slice_get words k ≡ slice_get others k
 
--- behind the right header and records without fault, a record with this fault
+-- after the right header and records without fault, a record with this fault
 pub record IsFirstBad (kind : TableKind) (names : List (List ℕ)) (records : List (List (List ℕ))) (fault : TideFault) : Type 0 where
   pub before : List (List (List ℕ))
   pub fields : List (List ℕ)
@@ -64,7 +64,7 @@ abbrev pub header_in : List (List (List ℕ)) → List (List ℕ)
 header_in [] = []
 header_in (first ∷ records) = first
 
--- the first fault: the header's, else that of the first bad record, else that none stands behind the header
+-- the first fault: the header's, else that of the first bad record, else that no record follows the header
 abbrev pub IsFirstFault : TableKind → List (List ℕ) → List (List (List ℕ)) → TideFault → Type 0
 IsFirstFault kind names records (Header column) = IsFirstOther (kind_word kind ∷ names) (header_in records) column
 IsFirstFault kind names records (Length row) = IsFirstBad kind names records (Length row)

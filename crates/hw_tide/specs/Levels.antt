@@ -25,7 +25,7 @@ pub record IsTide (t : TideParts) : Type 0 where
   pub each_height : length t.heights ≡ t.rows * t.columns
   pub small_heights : All InLimits t.heights
 
--- one of the slots, with a height within the limits for each of so many waypoints
+-- one of the slots, with a height within the limits for each of this many waypoints
 pub record IsLevels (columns : ℕ) (l : LevelsParts) : Type 0 where
   pub few_slots : l.slot ≤ 2_047
   pub each_height : length l.heights ≡ columns

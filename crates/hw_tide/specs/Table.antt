@@ -12,11 +12,12 @@ abbrev pub ◌>>=◌ : {A B : Type 0} → Result A TideFault → (A → Result B
 (Ok x) >>= f = f x
 (Err e) >>= f = Err e
 
--- an answer that gives this reading; want of memory is free
+-- an answer that gives this reading; memory may run out at any time
 abbrev pub Fails : {Y : Type 0} → TideFault → Result Y TideFault → Type 0
 Fails NoMemory read = Unit {0}
 Fails e read = read ≡ Err e
 
+-- what a call returned, seen by the view, is what reading gives; memory may run out at any time
 abbrev pub Gives : {X Y : Type 0} → (X → Y) → Result X TideFault → Result Y TideFault → Type 0
 Gives view (Ok x) read = read ≡ Ok (view x)
 Gives view (Err e) read = Fails e read
@@ -63,7 +64,7 @@ unfoldable pub heights_from : ℕ → ℕ → List (List ℕ) → Result (List �
 heights_from row column [] = Ok []
 heights_from row column (f ∷ fs) = formed (Field row column) (signed_up_to 2_000 f) >>= λ h. heights_from row (column + 1) fs >>= λ hs. Ok (h ∷ hs)
 
--- a record of so many columns behind one with the slot `last`, the first field among them
+-- a record of `columns` columns, the first field among them, after one with the slot `last`
 unfoldable pub levels_form : TableKind → ℕ → ℕ → Option ℕ → List (List ℕ) → Result LevelsParts TideFault
 levels_form kind columns row last fields = do
   size ← needed (Length row) (length fields == columns)
@@ -71,7 +72,7 @@ levels_form kind columns row last fields = do
   heights ← heights_from row 1 (drop 1 fields)
   Ok (record { slot = slot; heights = heights })
 
--- the records from one on
+-- the records from one on, or the first fault among them
 abbrev pub levels_from : TableKind → ℕ → ℕ → Option ℕ → List (List (List ℕ)) → Result (List LevelsParts) TideFault
 levels_from kind columns row last [] = Ok []
 levels_from kind columns row last (x ∷ xs) = levels_form kind columns row last x >>= λ one. levels_from kind columns (row + 1) (Some one.slot) xs >>= λ more. Ok (one ∷ more)
@@ -80,7 +81,7 @@ abbrev pub not_empty : {A : Type 0} → List A → Result (List A) TideFault
 not_empty [] = Err Few
 not_empty (x ∷ xs) = Ok (x ∷ xs)
 
--- the table of all records, behind a header of the waypoints' names
+-- the table of all records, after a header of the waypoints' names
 unfoldable pub table_of : TableKind → List (List ℕ) → List (List (List ℕ)) → Result (List LevelsParts) TideFault
 table_of kind names [] = Err (Header 0)
 table_of kind names (first ∷ records) = do

@@ -9,7 +9,7 @@ use Rattle.hw_tide.specs.declared.fault.TideFault.{TideFault}
 use Rattle.hw_tide.specs.declared.kind.TableKind.{TableKind}
 use Rattle.hw_tide.specs.declared.kind.TableKind.TheVariants.{Heights, Waters}
 
--- the heights at `past` slots behind a water whose next is `size` slots away
+-- the heights at `past` slots after a water whose next is `size` slots away
 abbrev pub heights_between : ℕ → ℕ → List ℤ → List ℤ → List ℤ
 heights_between past size [] highs = []
 heights_between past size (low ∷ lows) [] = []
@@ -40,7 +40,7 @@ tide_of kind names records = do
   levels ← table_of kind names records
   Ok (tide_from kind (length names) levels)
 
--- what a table gives: slots from 0 on, each with a height for each of so many waypoints
+-- what a table gives: slots from 0 on, each with a height for each of this many waypoints
 pub record IsTable (kind : TableKind) (columns : ℕ) (levels : List LevelsParts) : Type 0 where
   pub some : 1 ≤ length levels
   pub begins : slot_at levels 0 ≡ 0

@@ -8,7 +8,7 @@ use Rattle.hw_tide.specs.Levels.{LevelsParts, TideParts, height_at}
 use Rattle.hw_tide.specs.Table.{kind_word, first_field, table_of}
 use Rattle.hw_tide.specs.Tides.{slot_at, tide_of}
 
--- a record tells its slot, and a height for each of so many waypoints
+-- a record tells its slot, and a height for each of this many waypoints
 pub record Tells (waypoints : ℕ) (fields : List (List ℕ)) (l : LevelsParts) : Type 0 where
   pub width : length fields ≡ 1 + waypoints
   pub slot : number_up_to 2_047 (first_field fields) ≡ Some l.slot
@@ -26,12 +26,13 @@ abbrev pub Next : TableKind → ℕ → ℕ → Type 0
 Next Heights slot next = next ≡ slot + 1
 Next Waters slot next = slot < next
 
+-- each record stands to the next one as `Next` says
 abbrev pub Rise : TableKind → List LevelsParts → Type 0
 Rise kind [] = Unit {0}
 Rise kind (l ∷ []) = Unit {0}
 Rise kind (l ∷ m ∷ more) = Next kind l.slot m.slot × Rise kind (m ∷ more)
 
--- behind the header with the waypoints' names, records that tell these levels, from slot 0 on
+-- after the header with the waypoints' names, records that tell these levels, from slot 0 on
 pub record IsTableOf (kind : TableKind) (names : List (List ℕ)) (records : List (List (List ℕ))) (levels : List LevelsParts) : Type 0 where
   pub rows : List (List (List ℕ))
   pub header : records ≡ (kind_word kind ∷ names) ∷ rows

@@ -9,15 +9,15 @@ done_before = 0 ∷ 1 ∷ 3 ∷ 6 ∷ 9 ∷ 11 ∷ 12 ∷ []
 abbrev pub done_in : List ℕ
 done_in = 1 ∷ 2 ∷ 3 ∷ 3 ∷ 2 ∷ 1 ∷ []
 
--- of 12 * size, at `past` slots behind a water whose next is `size` slots away
+-- how much of the way is done `past` slots after a water whose next one is `size` slots away, in parts of 12 times `size`
 abbrev pub done : ℕ → ℕ → ℕ
 done past size = slice_index done_before ((6 * past) / size) * size + slice_index done_in ((6 * past) / size) * ((6 * past) % size)
 
--- the height there; the quotient goes down
+-- the height that many slots after a water, rounded down to the whole centimetre
 abbrev pub height_between : ℤ → ℤ → ℕ → ℕ → ℤ
 height_between low high past size = low +ℤ int_div_euclid ((high -ℤ low) *ℤ pos (done past size)) (pos (12 * size))
 
--- a height's limits
+-- the height is within the limits
 abbrev pub InLimits : ℤ → Type 0
 InLimits h = (neg_ℤ (pos 2000) ≤ℤ h) × (h ≤ℤ pos 2000)
 

@@ -11,11 +11,11 @@ use Rattle.hw_tide.specs.Levels.{TideParts}
 use Rattle.hw_tide.specs.Table.{Gives}
 use Rattle.hw_tide.specs.Tides.{tide_of}
 
--- the text has these records, behind a byte order mark
+-- the CSV reader gives these records for the text, a byte order mark skipped
 abbrev pub HasRecords : List ℕ → List (List (List ℕ)) → Type 0
 HasRecords bytes records = AreRecords default_config st.StartRecord (strip_bom bytes) records
 
--- what a function gives of the text's records; want of memory is free
+-- what a call answers for the text's records; memory may run out at any time
 abbrev pub Reads : List ℕ → (List (List (List ℕ)) → Result TideParts TideFault) → Result TideParts TideFault → Type 0
 Reads bytes read (Err NoMemory) = Unit {0}
 Reads bytes read result = (records : List (List (List ℕ))) × HasRecords bytes records × Gives (λ t. t) result (read records)

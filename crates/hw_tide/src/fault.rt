@@ -21,7 +21,7 @@ pub enum TideFault {
     /// No record comes after the header.
     #[error("there is no record after the header")]
     Few,
-    /// Memory was wanting.
+    /// Memory ran out.
     #[error("memory was wanting")]
     NoMemory,
 }

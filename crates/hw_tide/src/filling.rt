@@ -22,7 +22,7 @@ fn push(heights: &mut Vec<i32>, height: i32) -> Result<(), AllocError>
     Ok(())
 }
 
-/// Appends the heights at `past` slots behind a water whose next is `size` slots away, one for
+/// Appends the heights at `past` slots after a water whose next is `size` slots away, one for
 /// each column.
 fn push_between(
     heights: &mut Vec<i32>,
@@ -152,7 +152,7 @@ fn tide_of_heights(alloc: Global, columns: u32, levels: &[Levels]) -> Result<Tid
     })
 }
 
-/// The tide of a table's heights, with a column for each of so many waypoints.
+/// The tide of a table's heights, with a column for each of this many waypoints.
 pub fn tide_of_levels(
     alloc: Global,
     kind: TableKind,

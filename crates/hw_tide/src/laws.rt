@@ -26,7 +26,7 @@ pub fn tide_told()
 {}
 
 /// A table is refused for a fault exactly where that is its first one: the header's, else that
-/// of the first record that is wrong behind records without fault, else that none is there.
+/// of the first bad record after records without fault, else that there is no record.
 pub fn fault_told()
     ensures { FaultTold }
 {}

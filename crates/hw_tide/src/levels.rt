@@ -77,7 +77,7 @@ fn first_of(fields: &ByteRecord) -> &[u8]
     }
 }
 
-/// The slot of a record behind one with the slot `last`.
+/// The slot of a record after one with the slot `last`.
 fn slot_of(kind: TableKind, row: u64, last: Option<u32>, field: &[u8]) -> Option<u32>
     requires { 1 ≤ row }
     ensures { result ≡ option_and_then (fitting kind row last) (number_up_to 2_047 field.now) }
@@ -88,7 +88,7 @@ fn slot_of(kind: TableKind, row: u64, last: Option<u32>, field: &[u8]) -> Option
     }
 }
 
-/// The heights of a record, of so many columns with that of the slot.
+/// The heights of a record of this many columns, counting that of the slot.
 #[tactic(auto, unfolding(crate::specs::Table::levels_form))]
 fn levels_of(
     alloc: Global,

@@ -13,7 +13,7 @@ use csv::ByteRecord;
 use hw_port::Waypoint;
 use std::alloc::Global;
 
-/// The first column behind the first one that is wrong, missing or extra.
+/// The first of the columns after column 0 that is wrong, missing or extra.
 fn wrong_name(waypoints: &[Waypoint], header: &ByteRecord) -> Option<u32>
     requires { length waypoints.now ≤ 16 }
     ensures { result ≡ wrong_column 1 (map (λ w. w.name) waypoints.now) (drop 1 (fields_of header.now)) }

@@ -32,7 +32,7 @@ fn quotient(rise: i32, part: i32, whole: i32) -> i32
     (rise * part).div_euclid(whole)
 }
 
-/// So much of a rise, rounded down.
+/// A part of a rise, `part` of `whole`, rounded down.
 fn step(rise: i32, part: i32, whole: i32) -> i32
     requires low { neg_ℤ (pos 4000) ≤ℤ rise }
     requires high { rise ≤ℤ pos 4000 }

@@ -28,7 +28,7 @@ pays f tolls dues ship slot = sum_by (λ due. due.price * takes_at f (slice_get 
 abbrev pub balance : Problem → List Toll → Tariff → ℕ → ℕ → Option Balance
 balance f tolls tariff ship slot = option_map (λ v. record { gain = tariff.scale * v; cost = pays f tolls tariff.dues ship slot }) (value_at f ship slot)
 
--- the limits of the balance of so many ships
+-- the limits of the balance of this many ships
 pub record BalanceFits (ships : ℕ) (b : Balance) : Type 0 where
   pub small_gain : b.gain ≤ 1_000_000_000_000_000_000 * ships
   pub small_cost : b.cost ≤ 256_000_000_000_000_000_000_000_000 * ships

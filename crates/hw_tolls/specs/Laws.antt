@@ -34,7 +34,7 @@ pub record TollUsage : Type 0 where
   pub tugs : (f : Problem) (place slot most fleet : ℕ) (weights : List ℕ) (jobs : List Job) (table : List ℕ) → slice_get f.rules place ≡ Some (rules.Tugs fleet jobs)
       → usage f (Tugs place slot weights most) table ≡ sum (held_weights table slot weights jobs)
 
--- whole teams of so many tugs, counted for each job, are such weights, and so are the tugs themselves
+-- whole teams of this many tugs, counted for each job, are such weights, and so are the tugs themselves
 abbrev pub TeamsAreTolls : Type 0
 TeamsAreTolls = (f : Problem) (place slot team fleet : ℕ) (jobs : List Job) → IsFlat f → slot < horizon f → 1 ≤ team → slice_get f.rules place ≡ Some (rules.Tugs fleet jobs)
     → IsToll f (Tugs place slot (map (λ job. job.tugs / team) jobs) (fleet / team))
@@ -64,7 +64,7 @@ OnlyRanges = (f : Problem) (tolls : List Toll) (tariff : Tariff) (best : Option 
 abbrev pub PricesWithin : Type 0
 PricesWithin = (f : Problem) (tolls : List Toll) (tariff : Tariff) (best : Option ℕ) (inner outer : RoomModel) → RangesWithin f inner outer → PricesRefute f tolls tariff best outer → PricesRefute f tolls tariff best inner
 
--- more tolls behind change nothing
+-- more tolls at the end change nothing
 abbrev pub MoreTolls : Type 0
 MoreTolls = (f : Problem) (tolls more : List Toll) (tariff : Tariff) (best : Option ℕ) (room : RoomModel) → TariffFits (length tolls) tariff → (PricesRefute f (tolls ++ more) tariff best room ↔ PricesRefute f tolls tariff best room)
 

@@ -8,12 +8,12 @@ use Rattle.hw_tolls.specs.declared.tariff.Tariff.{Tariff}
 use Rattle.hw_tolls.specs.declared.toll.Toll.{Toll}
 use Rattle.hw_tolls.specs.Tolls.{usage, capacity}
 
--- the limits of a due; its toll is one of so many
+-- the limits of a due; its toll is one of this many
 pub record DueFits (tolls : ℕ) (due : Due) : Type 0 where
   pub toll_in : due.toll < tolls
   pub small_price : due.price ≤ 1_000_000_000_000_000_000
 
--- the limits of a tariff on so many tolls. A scale of 0 is allowed: then the tolls alone must refute
+-- the limits of a tariff on this many tolls. A scale of 0 is allowed: then the tolls alone must refute
 pub record TariffFits (tolls : ℕ) (tariff : Tariff) : Type 0 where
   pub small_scale : tariff.scale ≤ 1_000_000
   pub few_dues : length tariff.dues ≤ 100_000

@@ -14,8 +14,8 @@ pub fn toll_usage()
     ensures { TollUsage }
 {}
 
-/// The whole teams of so many tugs that the jobs hold are at most those of the fleet. With teams of
-/// one tug that is the rule itself.
+/// The whole teams of this many tugs that the jobs hold are at most those of the fleet. With teams
+/// of one tug that is the rule itself.
 pub fn teams_are_tolls()
     ensures { TeamsAreTolls }
 {}
@@ -72,7 +72,7 @@ pub fn price_rows()
     ensures { PriceRows }
 {}
 
-/// Tolls that come behind those which a tariff names make no difference to it.
+/// Tolls added after those which a tariff names make no difference to it.
 pub fn more_tolls()
     ensures { MoreTolls }
 {}

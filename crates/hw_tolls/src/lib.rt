@@ -1,4 +1,4 @@
-//! Tolls: what every permitted timetable takes at most so much of, and prices on them.
+//! Tolls: resources of which every permitted timetable takes at most a given amount, and their prices.
 //!
 //! Where prices leave a room no more than the best, no permitted timetable inside carries more. The
 //! laws are public functions without a body whose clause is the statement.

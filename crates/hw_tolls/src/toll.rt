@@ -40,7 +40,7 @@ impl Model for Weights {
     ghost view = { λ s. s.items.items };
 }
 
-/// What every permitted timetable takes at most so much of.
+/// A resource of which every permitted timetable takes at most a given amount.
 #[derive(Debug, Drop)]
 pub enum Toll {
     /// At most one ship lies in its block: of each two blocks some rule of the problem refutes that
@@ -48,7 +48,7 @@ pub enum Toll {
     Narrows {
         blocks: Blocks,
     },
-    /// The jobs of a rule on tugs that hold their tugs in one slot weigh at most so much together,
+    /// The jobs of a rule on tugs that hold their tugs in one slot weigh at most a given sum together,
     /// since any jobs that the fleet can serve together do. The tugs themselves are such weights,
     /// and so are whole teams of tugs.
     Tugs {
@@ -63,7 +63,7 @@ pub enum Toll {
     },
 }
 
-/// So many units, which a ship takes where its slot lies in a range, both ends taken in.
+/// Units that a ship takes where its slot lies in a range, both ends taken in.
 #[derive(Clone, Copy, Debug, PartialEq, Eq)]
 pub struct Charge {
     pub ship: ShipId,
