@@ -1,3 +1,4 @@
 pub mod Steps
 pub mod Judged
 pub mod Charged
+pub mod Stays

@@ -109,7 +109,7 @@ pub fn best_charged(
 }
 
 /// The same by what the ship pays in the slots of the range.
-fn best_by_costs(
+pub(crate) fn best_by_costs(
     flat: &Flat,
     tolls: &[Toll],
     tariff: &Tariff,
@@ -166,7 +166,7 @@ fn behind(flat: &Flat, slot: Slot) -> Slot
 }
 
 /// The sum of two balances, or none where one is missing.
-fn together(sum: Option<Balance>, next: Option<Balance>) -> Option<Balance>
+pub(crate) fn together(sum: Option<Balance>, next: Option<Balance>) -> Option<Balance>
     requires small_sum { IfSome sum (BalanceFits 39) }
     requires small_next { IfSome next (BalanceFits 1) }
     ensures value { result ≡ computed.together sum next }

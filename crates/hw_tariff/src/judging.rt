@@ -1,14 +1,13 @@
 //! Whether a toll is one of a problem.
-ghost use Rattle.std.specs.Prelude.{◌≡◌, ◌↔◌, ℕ, ◌<◌, ◌≤◌, length, All, AllPairs, IfOk, IsTrue, None};
-ghost use Rattle.hw_model.specs.declared.source.Source.TheVariants as sources;
+ghost use Rattle.std.specs.Prelude.{◌≡◌, ◌↔◌, ◌≤◌, length, All, AllPairs, IfOk, IsTrue};
 ghost use Rattle.hw_model.specs.Limits.{RuleFits};
-ghost use Rattle.hw_model.specs.Refuting.{Refutes};
 ghost use Rattle.hw_tolls.specs.Tolls.{IsToll, WeighsUpTo, Weigh, BlockFits, Apart, NarrowsFit, TugsTollFits, two_blocks};
+ghost use Rattle.hw_tolls.specs.Judged as judged;
 
+use crate::by_pair::RulesByPair;
 use crate::weighing::heaviest;
-use hw_flat::{Flat, Room, Slot, Source};
+use hw_flat::{Flat, Room, Slot};
 use hw_model::{Job, NoMemory, Rule};
-use hw_rules::refuted;
 use hw_tolls::{Block, Toll};
 use std::alloc::Global;
 
@@ -19,10 +18,29 @@ use std::alloc::Global;
 /// For narrows each rule may be asked about each two blocks, and a room's memory is taken. For tugs
 /// it costs what [`heaviest`] does. An error says that memory ran out.
 pub fn is_toll(alloc: Global, flat: &Flat, toll: &Toll) -> Result<bool, NoMemory>
+    ensures computed { IfOk result (λ yes. yes ≡ judged.is_toll flat.now toll.now) }
+    ensures value { IfOk result (λ yes. IsTrue yes ↔ IsToll flat.now toll.now) }
+{
+    is_toll_by(alloc, flat, &mut RulesByPair::none(alloc), toll)
+}
+
+/// The same by where the problem's rules stand, for many tolls of one problem.
+///
+/// Where a rule on the very ships of two blocks keeps them apart, none but the rules on these two
+/// ships are asked. Else the rule that was found last by asking all is asked, then those on tugs
+/// with jobs of both ships, and then all: for blocks that aren't apart that happens once. A room's
+/// memory is taken. An error says that memory ran out.
+pub fn is_toll_by(
+    alloc: Global,
+    flat: &Flat,
+    rules: &mut RulesByPair,
+    toll: &Toll,
+) -> Result<bool, NoMemory>
+    ensures computed { IfOk result (λ yes. yes ≡ judged.is_toll flat.now toll.now) }
     ensures value { IfOk result (λ yes. IsTrue yes ↔ IsToll flat.now toll.now) }
 {
     match toll {
-        Toll::Narrows { blocks } => narrows_fit(alloc, flat, &blocks.items),
+        Toll::Narrows { blocks } => narrows_fit(alloc, flat, &blocks.items, rules),
         Toll::Tugs {
             place,
             slot,
@@ -95,15 +113,20 @@ fn jobs_weigh(
 }
 
 /// Whether there are 1 to 40 blocks, each two of them apart.
-fn narrows_fit(alloc: Global, flat: &Flat, blocks: &[Block]) -> Result<bool, NoMemory>
+fn narrows_fit(
+    alloc: Global,
+    flat: &Flat,
+    blocks: &[Block],
+    rules: &mut RulesByPair,
+) -> Result<bool, NoMemory>
     ensures value { IfOk result (λ yes. IsTrue yes ↔ NarrowsFit flat.now blocks.now) }
 {
     let mut room = Room::whole(alloc, flat.shape())?;
-    Ok(blocks_fit(flat, blocks, &mut room))
+    Ok(blocks_fit(flat, blocks, &mut room, rules))
 }
 
 /// The same by a room of the problem's size, which serves to try them.
-fn blocks_fit(flat: &Flat, blocks: &[Block], room: &mut Room) -> bool
+fn blocks_fit(flat: &Flat, blocks: &[Block], room: &mut Room, rules: &mut RulesByPair) -> bool
     requires ships { room.old.ships ≡ flat.now.ships }
     requires slots { room.old.slots ≡ flat.now.slots }
     ensures value { IsTrue result ↔ NarrowsFit flat.now blocks.now }
@@ -117,7 +140,7 @@ fn blocks_fit(flat: &Flat, blocks: &[Block], room: &mut Room) -> bool
     if !each_fits(flat, blocks) {
         return false;
     }
-    all_apart(flat, blocks, room)
+    all_apart(flat, blocks, room, rules)
 }
 
 /// Whether each block is one of the problem.
@@ -141,14 +164,14 @@ fn block_fits(flat: &Flat, block: Block) -> bool
 }
 
 /// Whether each two of these blocks are apart. The room serves to try them.
-fn all_apart(flat: &Flat, blocks: &[Block], room: &mut Room) -> bool
+fn all_apart(flat: &Flat, blocks: &[Block], room: &mut Room, rules: &mut RulesByPair) -> bool
     requires fit { All (BlockFits flat.now) blocks.now }
     requires ships { room.old.ships ≡ flat.now.ships }
     requires slots { room.old.slots ≡ flat.now.slots }
     ensures value { IsTrue result ↔ AllPairs (Apart flat.now) blocks.now }
 {
     for (place, block) in blocks.iter().enumerate() {
-        if !apart_from_earlier(flat, &blocks[..place], *block, room) {
+        if !apart_from_earlier(flat, &blocks[..place], *block, room, rules) {
             return false;
         }
     }
@@ -156,7 +179,13 @@ fn all_apart(flat: &Flat, blocks: &[Block], room: &mut Room) -> bool
 }
 
 /// Whether each of the blocks is apart from a later one.
-fn apart_from_earlier(flat: &Flat, earlier: &[Block], block: Block, room: &mut Room) -> bool
+fn apart_from_earlier(
+    flat: &Flat,
+    earlier: &[Block],
+    block: Block,
+    room: &mut Room,
+    rules: &mut RulesByPair,
+) -> bool
     requires fit { All (BlockFits flat.now) earlier.now }
     requires block_fits { BlockFits flat.now block }
     requires ships { room.old.ships ≡ flat.now.ships }
@@ -166,7 +195,7 @@ fn apart_from_earlier(flat: &Flat, earlier: &[Block], block: Block, room: &mut R
     ensures slots { room.new.slots ≡ flat.now.slots }
 {
     for first in earlier {
-        if !apart(flat, *first, block, room) {
+        if !apart(flat, *first, block, room, rules) {
             return false;
         }
     }
@@ -174,7 +203,7 @@ fn apart_from_earlier(flat: &Flat, earlier: &[Block], block: Block, room: &mut R
 }
 
 /// Whether two blocks are of ascending ships, and some rule refutes that both ships lie in theirs.
-fn apart(flat: &Flat, first: Block, second: Block, room: &mut Room) -> bool
+fn apart(flat: &Flat, first: Block, second: Block, room: &mut Room, rules: &mut RulesByPair) -> bool
     requires first_fits { BlockFits flat.now first }
     requires second_fits { BlockFits flat.now second }
     requires ships { room.old.ships ≡ flat.now.ships }
@@ -184,7 +213,7 @@ fn apart(flat: &Flat, first: Block, second: Block, room: &mut Room) -> bool
     ensures slots { room.new.slots ≡ flat.now.slots }
 {
     set_blocks(flat, first, second, room);
-    first.ship < second.ship && some_rule_refutes(flat, room)
+    first.ship < second.ship && rules.refute(flat, room, first.ship, second.ship)
 }
 
 /// Leaves all open but the two blocks.
@@ -199,19 +228,4 @@ fn set_blocks(flat: &Flat, first: Block, second: Block, room: &mut Room)
     room.reset();
     room.put(first.ship, first.low, first.high);
     room.put(second.ship, second.low, second.high);
-}
-
-/// Whether some rule refutes the room.
-fn some_rule_refutes(flat: &Flat, room: &Room) -> bool
-    requires ships { room.now.ships ≡ flat.now.ships }
-    requires slots { room.now.slots ≡ flat.now.slots }
-    ensures value { IsTrue result ↔ ((place : ℕ) × (place < length flat.now.rules) × Refutes flat.now (sources.Rule place) None room.now) }
-{
-    let _ships = room.ships();
-    for place in 0..flat.shape().rules {
-        if refuted(flat, Source::Rule { place }, None, room) {
-            return true;
-        }
-    }
-    false
 }

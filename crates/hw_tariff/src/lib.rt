@@ -6,17 +6,25 @@
 #![tactic(auto)]
 
 mod balancing;
+mod by_pair;
 mod charging;
 mod fitting;
+mod in_force;
 mod judging;
+mod laws;
+mod price_book;
 mod refuting;
 mod taking;
 mod weighing;
 
 pub use balancing::{balance, best_balance, best_balances, best_charged, better, charged_balances};
+pub use by_pair::RulesByPair;
 pub use charging::charge;
 pub use fitting::tariff_fits;
-pub use judging::is_toll;
+pub use in_force::InForce;
+pub use judging::{is_toll, is_toll_by};
+pub use laws::charged_stays;
+pub use price_book::PriceBook;
 pub use refuting::{charged_refute, prices_bound, prices_refute};
 pub use taking::{allowance_of, capacity_of, pays, takes};
 pub use weighing::heaviest;

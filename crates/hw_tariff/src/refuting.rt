@@ -85,7 +85,7 @@ pub fn prices_bound(
 }
 
 /// The least that a timetable above the best gains, in parts; nothing without a best.
-fn aim(scale: u32, best: Option<u64>) -> u128
+pub(crate) fn aim(scale: u32, best: Option<u64>) -> u128
     requires small_scale { scale ≤ 1_000_000 }
     ensures value { result ≡ prices.aim scale best }
     ensures small { result ≤ 18_446_744_073_709_551_616_000_000 }
@@ -98,7 +98,7 @@ fn aim(scale: u32, best: Option<u64>) -> u128
 
 /// Whether a balance with the allowance added stays below the aim. A room without a balance has no
 /// list of slots that could reach it.
-fn falls_short(allowed: u128, aimed: u128, balance: Option<Balance>) -> bool
+pub(crate) fn falls_short(allowed: u128, aimed: u128, balance: Option<Balance>) -> bool
     requires small_allowance { allowed ≤ 256_000_000_000_000_000_000_000_000 }
     requires small_aim { aimed ≤ 18_446_744_073_709_551_616_000_000 }
     requires small_balance { IfSome balance (BalanceFits 40) }

@@ -19,6 +19,16 @@ pub const TWO_APART: &[u8] =
 pub const STAYING: &[u8] =
     b"flat 2\nsize 2 3\nv 10 20 30 y\nv 10 20 - y\np 0 1 -1:1\nu 3 0:2:2 1:2:2\nend\n";
 
+/// Two ships with two tugs each for two slots, of three tugs, and no rule on the two.
+pub const TUGS_ALONE: &[u8] = b"flat 1\nsize 2 3\nv 10 20 30\nv 10 20 -\nu 3 0:2:2 1:2:2\nend\n";
+
+/// Three ships, of which the first two alone sail two slots apart.
+pub const ONE_RULE: &[u8] =
+    b"flat 1\nsize 3 3\nv 10 20 30\nv 10 20 -\nv 10 20 -\np 0 1 -1:1\nend\n";
+
+/// The same with too few slots for the first two.
+pub const NO_SLOTS: &[u8] = b"flat 1\nsize 3 2\nv 10 20\nv 10 20\nv 10 20\np 0 1 -1:1\nend\n";
+
 /// One of the two ships at most sails in the second or the third slot.
 pub const LATE: &[(u32, u32, u32)] = &[(0, 1, 2), (1, 1, 2)];
 

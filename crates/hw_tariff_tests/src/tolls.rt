@@ -1,9 +1,9 @@
 //! What is a toll of the problem, and how heavy jobs are together.
 
-use crate::problem::{LATE, STAYING, TWO_APART, narrows, tugs};
+use crate::problem::{LATE, NO_SLOTS, ONE_RULE, STAYING, TUGS_ALONE, TWO_APART, narrows, tugs};
 use hw_flat::Flat;
 use hw_model::Job;
-use hw_tariff::{heaviest, is_toll};
+use hw_tariff::{RulesByPair, heaviest, is_toll, is_toll_by};
 use std::alloc::Global;
 use std::test::Fail;
 
@@ -34,10 +34,13 @@ const TUGS: [(&str, u32, u32, &[u32], u32, bool); 8] = [
     ("no rule", 2, 1, &[1, 1], 1, false),
 ];
 
-fn are_narrows(alloc: Global, blocks: &[Row]) -> Result<bool, Fail> {
-    let flat = Flat::read(alloc, TWO_APART)?;
+/// Whether the blocks are narrows, and whether they are by rules that are asked by pair.
+fn are_narrows(alloc: Global, text: &[u8], blocks: &[Row]) -> Result<(bool, bool), Fail> {
+    let flat = Flat::read(alloc, text)?;
     let toll = narrows(alloc, blocks)?;
-    Ok(is_toll(alloc, &flat, &toll)?)
+    let mut rules = RulesByPair::new(alloc, &flat)?;
+    let by_pair = is_toll_by(alloc, &flat, &mut rules, &toll)?;
+    Ok((is_toll(alloc, &flat, &toll)?, by_pair))
 }
 
 fn weigh(
@@ -56,9 +59,18 @@ fn weigh(
 #[test]
 fn knows_narrows(rt: HostRuntime) -> Result<(), Fail> {
     for (name, blocks, wanted) in NARROWS {
-        let found = are_narrows(rt.alloc(), blocks)?;
-        assert!(rt; found == wanted, "{name}");
+        let found = are_narrows(rt.alloc(), TWO_APART, blocks)?;
+        assert!(rt; found == (wanted, wanted), "{name}");
     }
+    let tugs = are_narrows(rt.alloc(), TUGS_ALONE, &[(0, 1, 1), (1, 1, 1)])?;
+    assert!(rt; tugs == (true, true), "two jobs of four tugs at once");
+    let others = are_narrows(rt.alloc(), ONE_RULE, &[(0, 0, 0), (2, 0, 0)])?;
+    assert!(rt; others == (false, false), "a ship that no rule names");
+    let vain = are_narrows(rt.alloc(), NO_SLOTS, &[(0, 0, 0), (2, 0, 0)])?;
+    assert!(rt;
+        vain == (true, true),
+        "a rule on other ships that no slots meet"
+    );
     Ok(())
 }
 

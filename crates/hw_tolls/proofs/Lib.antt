@@ -6,3 +6,4 @@ pub mod Tops
 pub mod Wider
 pub mod Changes
 pub mod More
+pub mod Judging

@@ -17,6 +17,7 @@ use Rattle.hw_tolls.specs.declared.toll.Toll.TheVariants.{Narrows, Tugs}
 use Rattle.hw_tolls.specs.Tolls.{IsToll, usage, capacity, lies_in}
 use Rattle.hw_tolls.specs.Prices.{TariffFits, PricesRefute, PricesBound}
 use Rattle.hw_tolls.specs.Computed.{pays, best_balance, best_balances, prices_refute}
+use Rattle.hw_tolls.specs.Judged.{is_toll}
 
 -- the weights of the jobs that hold their tugs in a slot, 0 of the others
 abbrev pub held_weights : List ℕ → ℕ → List ℕ → List Job → List ℕ
@@ -27,6 +28,10 @@ held_weights table slot (weight ∷ weights) (job ∷ jobs) = (if nat_le (slice_
 -- a permitted timetable takes at most the capacity
 abbrev pub TollKept : Type 0
 TollKept = (f : Problem) (toll : Toll) (table : List ℕ) → IsFlat f → IsToll f toll → Permits f table → usage f toll table ≤ capacity toll
+
+-- the test is true exactly of the tolls of the problem
+abbrev pub TollJudged : Type 0
+TollJudged = (f : Problem) (toll : Toll) → (IsTrue (is_toll f toll) ↔ IsToll f toll)
 
 -- of narrows it takes the blocks that hold their ships' slots, of tugs the weights of the jobs that hold theirs
 pub record TollUsage : Type 0 where

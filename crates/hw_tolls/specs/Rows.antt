@@ -9,6 +9,7 @@ use Rattle.hw_tolls.specs.declared.toll.Toll.TheVariants.{Narrows, Tugs}
 use Rattle.hw_tolls.specs.declared.tariff.Tariff.{Tariff}
 use Rattle.hw_tolls.specs.Tolls.{usage, heaviest}
 use Rattle.hw_tolls.specs.Computed.{prices_refute}
+use Rattle.hw_tolls.specs.Judged.{is_toll}
 
 -- two ships that sail two slots apart, in the first and the last slot, and that hold two tugs of three for two slots
 abbrev pub two_apart : Problem
@@ -57,3 +58,16 @@ pub record PriceRows : Type 0 where
   pub never_without_a_best : prices_refute two_apart (late ∷ []) late_costs None (whole_room (shape_of two_apart)) ≡ false
   pub tolls_alone_without_a_best : prices_refute two_apart (late ∷ []) tolls_alone None both_late ≡ true
   pub no_value_in_a_range : prices_refute two_apart [] no_prices None without_value ≡ true
+
+-- what is a toll of the problem and what isn't
+pub record TollRows : Type 0 where
+  pub late_slots_are_apart : is_toll two_apart late ≡ true
+  pub first_and_last_slot_may_be_both : is_toll two_apart (Narrows (record { ship = 0; low = 0; high = 2 } ∷ record { ship = 1; low = 1; high = 2 } ∷ [])) ≡ false
+  pub ships_ascend : is_toll two_apart (Narrows (record { ship = 1; low = 1; high = 2 } ∷ record { ship = 0; low = 1; high = 2 } ∷ [])) ≡ false
+  pub one_ship_alone : is_toll two_apart (Narrows (record { ship = 1; low = 0; high = 2 } ∷ [])) ≡ true
+  pub no_block : is_toll two_apart (Narrows []) ≡ false
+  pub one_job_is_served : is_toll two_apart one_job ≡ true
+  pub not_none : is_toll two_apart (Tugs 1 1 (1 ∷ 1 ∷ []) 0) ≡ false
+  pub behind_the_horizon : is_toll two_apart (Tugs 1 3 (1 ∷ 1 ∷ []) 1) ≡ false
+  pub a_weight_too_few : is_toll two_apart (Tugs 1 1 (1 ∷ []) 1) ≡ false
+  pub no_rule_on_tugs : is_toll two_apart (Tugs 0 1 (1 ∷ 1 ∷ []) 1) ≡ false

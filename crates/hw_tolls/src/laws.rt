@@ -1,11 +1,16 @@
 //! The laws of tolls and prices, each a function without a body.
 
-ghost use Rattle.hw_tolls.specs.Laws.{TollKept, TollUsage, TeamsAreTolls, SoundPrices, SoundBound, RisingPrices, OnlyRanges, PricesWithin, WiderPrices, WithoutDues, PricesComputed, BalanceChanged, MoreTolls};
-ghost use Rattle.hw_tolls.specs.Rows.{PriceRows};
+ghost use Rattle.hw_tolls.specs.Laws.{TollJudged, TollKept, TollUsage, TeamsAreTolls, SoundPrices, SoundBound, RisingPrices, OnlyRanges, PricesWithin, WiderPrices, WithoutDues, PricesComputed, BalanceChanged, MoreTolls};
+ghost use Rattle.hw_tolls.specs.Rows.{PriceRows, TollRows};
 
 /// A permitted timetable takes of a toll at most its capacity.
 pub fn toll_kept()
     ensures { TollKept }
+{}
+
+/// The test of tolls is true exactly of those of the problem.
+pub fn toll_judged()
+    ensures { TollJudged }
 {}
 
 /// What a timetable takes of a toll: of narrows the blocks that hold their ships' slots, of tugs
@@ -70,6 +75,11 @@ pub fn balance_changed()
 /// Worked rows: what timetables of a small problem take, and what prices refute there.
 pub fn price_rows()
     ensures { PriceRows }
+{}
+
+/// Worked rows: what is a toll of the small problem and what isn't.
+pub fn toll_rows()
+    ensures { TollRows }
 {}
 
 /// Tolls added after those which a tariff names make no difference to it.

@@ -10,8 +10,8 @@ mod toll;
 
 pub use laws::{
     balance_changed, more_tolls, only_ranges, price_rows, prices_computed, prices_within,
-    rising_prices, sound_bound, sound_prices, teams_are_tolls, toll_kept, toll_usage, wider_prices,
-    without_dues,
+    rising_prices, sound_bound, sound_prices, teams_are_tolls, toll_judged, toll_kept, toll_rows,
+    toll_usage, wider_prices, without_dues,
 };
 pub use tariff::{Balance, Due, Dues, Tariff};
 pub use toll::{Block, Blocks, Charge, Toll, Weights};

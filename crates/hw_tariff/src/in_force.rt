@@ -1,0 +1,180 @@
+//! A tariff in force: what it makes each ship pay in each slot, charged once.
+
+ghost use Rattle.std.specs.Prelude.{◌≡◌, ◌↔◌, ◌<◌, ◌≤◌, length, All, IfOk, IfSome, IsTrue};
+ghost use Rattle.hw_model.specs.Limits.{IsFlat};
+ghost use Rattle.hw_model.specs.Rooms.{RoomFits};
+ghost use Rattle.hw_tolls.specs.Tolls.{IsToll};
+ghost use Rattle.hw_tolls.specs.Prices.{DueFits, TariffFits, PricesRefute};
+ghost use Rattle.hw_tolls.specs.Computed as computed;
+ghost use Rattle.hw_tolls.specs.Computed.{BalanceFits};
+ghost use Rattle.hw_tariff.specs.InForce.{IsCharged, AreCosts, ShipCosts};
+
+use crate::balancing::{best_by_costs, together};
+use crate::charging::charge;
+use crate::refuting::{aim, falls_short};
+use crate::taking::allowance_of;
+use hw_flat::{Flat, Room, ShipId};
+use hw_model::NoMemory;
+use hw_tolls::{Balance, Block, Due, Tariff, Toll};
+use std::alloc::Global;
+use std::marker::Model;
+
+/// What a ship pays in each slot, in parts, seen as their list.
+#[derive(Drop)]
+pub(crate) struct Costs {
+    items: Vec<u128>,
+}
+
+impl Model for Costs {
+    ghost use Rattle.std.specs.Prelude.{List, ℕ, ◌≤◌, All};
+
+    ghost Value = { List ℕ };
+
+    ghost view = { λ c. c.items.items };
+
+    ghost invariant = { λ c. All (λ cost. cost ≤ 256_000_000_000_000_000_000_000_000) c.items.items };
+}
+
+/// A tariff with its allowance and what each ship pays in each slot, all in parts.
+#[derive(Drop)]
+pub struct InForce {
+    tariff: Tariff,
+    allowed: u128,
+    /// A row for each ship.
+    costs: Vec<Costs>,
+}
+
+impl Model for InForce {
+    ghost use Rattle.std.specs.Prelude.{◌≤◌};
+    ghost use Rattle.hw_tariff.specs.InForce.{Charged};
+
+    ghost Value = { Charged };
+
+    ghost view = { λ c. record { tariff = c.tariff; allowed = c.allowed; costs = c.costs.items } };
+
+    ghost invariant = { λ c. c.allowed ≤ 256_000_000_000_000_000_000_000_000 };
+}
+
+impl InForce {
+    /// Charges a tariff on tolls of the problem.
+    ///
+    /// It takes the memory of a number for each ship and slot. Each due costs one look at its toll's
+    /// blocks or jobs for each ship, and a step for each slot that they charge. An error says that
+    /// memory ran out.
+    pub fn new(
+        alloc: Global,
+        flat: &Flat,
+        tolls: &[Toll],
+        tariff: Tariff,
+    ) -> Result<InForce, NoMemory>
+        requires tolls { All (IsToll flat.now) tolls.now }
+        requires fits { TariffFits (length tolls.now) tariff }
+        ensures tariff { IfOk result (λ c. c.tariff ≡ tariff) }
+        ensures charged { IfOk result (λ c. IsCharged flat.now tolls.now c) }
+    {
+        let allowed = allowance_of(tolls, &tariff.dues.items);
+        let costs = costs_of(alloc, flat, tolls, &tariff.dues.items)?;
+        Ok(InForce {
+            tariff,
+            allowed,
+            costs,
+        })
+    }
+
+    /// The tariff.
+    pub fn tariff(&self) -> &Tariff
+        ensures value { result.now ≡ self.now.tariff }
+    {
+        &self.tariff
+    }
+
+    /// Whether the prices refute the room under the best, in tenths of a tonne, exactly as
+    /// [`prices_refute`](crate::prices_refute) says. The tolls are those for which the tariff was
+    /// charged, or these and more behind them.
+    ///
+    /// It takes no memory, and a step for each slot of the ranges, however many dues there are.
+    pub fn refutes(&self, flat: &Flat, tolls: &[Toll], best: Option<u64>, room: &Room) -> bool
+        requires tolls { All (IsToll flat.now) tolls.now }
+        requires charged { IsCharged flat.now tolls.now self.now }
+        requires room { RoomFits flat.now room.now }
+        ensures computed { result ≡ computed.prices_refute flat.now tolls.now self.now.tariff best room.now }
+        ensures means { IsTrue result ↔ PricesRefute flat.now tolls.now self.now.tariff best room.now }
+    {
+        let aimed = aim(self.tariff.scale, best);
+        let balance = costed_balances(flat, tolls, &self.tariff, room, &self.costs);
+        falls_short(self.allowed, aimed, balance)
+    }
+}
+
+/// What each ship pays in each slot.
+fn costs_of(
+    alloc: Global,
+    flat: &Flat,
+    tolls: &[Toll],
+    dues: &[Due],
+) -> Result<Vec<Costs>, NoMemory>
+    requires tolls { All (IsToll flat.now) tolls.now }
+    requires few { length dues.now ≤ 100_000 }
+    requires fit { All (DueFits (length tolls.now)) dues.now }
+    ensures value { IfOk result (λ costs. AreCosts flat.now tolls.now dues.now costs.items) }
+{
+    let mut costs = Vec::new(alloc);
+    for ship in 0..flat.shape().ships {
+        let row = ship_costs(alloc, flat, tolls, dues, ship)?;
+        costs.push(row)?;
+    }
+    Ok(costs)
+}
+
+/// What a ship pays in each slot.
+fn ship_costs(
+    alloc: Global,
+    flat: &Flat,
+    tolls: &[Toll],
+    dues: &[Due],
+    ship: ShipId,
+) -> Result<Costs, NoMemory>
+    requires tolls { All (IsToll flat.now) tolls.now }
+    requires few { length dues.now ≤ 100_000 }
+    requires fit { All (DueFits (length tolls.now)) dues.now }
+    ensures value { IfOk result (λ costs. ShipCosts flat.now tolls.now dues.now ship costs) }
+{
+    let slots = flat.shape().slots;
+    let mut items = vec![in alloc; 0; slots as usize]?;
+    let range = Block {
+        ship,
+        low: 0,
+        high: slots - 1,
+    };
+    charge(&mut items, flat, tolls, dues, range);
+    Ok(Costs { items })
+}
+
+/// The ships' best balances in their ranges together by what they pay, or none where a ship has no
+/// value in its range.
+fn costed_balances(
+    flat: &Flat,
+    tolls: &[Toll],
+    tariff: &Tariff,
+    room: &Room,
+    costs: &[Costs],
+) -> Option<Balance>
+    requires fits { TariffFits (length tolls.now) tariff.now }
+    requires room { RoomFits flat.now room.now }
+    requires costs { AreCosts flat.now tolls.now tariff.now.dues costs.now }
+    ensures value { result ≡ computed.best_balances flat.now tolls.now tariff.now room.now }
+    ensures small { IfSome result (BalanceFits 40) }
+    ensures limits { IsFlat flat.now }
+{
+    let mut sum: Option<Balance> = Some(Balance { gain: 0, cost: 0 });
+    for ship in 0..flat.shape().ships {
+        let range = Block {
+            ship,
+            low: room.low(ship),
+            high: room.high(ship),
+        };
+        let row = &costs[ship as usize];
+        sum = together(sum, best_by_costs(flat, tolls, tariff, range, &row.items));
+    }
+    sum
+}

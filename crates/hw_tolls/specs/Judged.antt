@@ -1,0 +1,45 @@
+-- Whether a toll is one of a problem, as a test that computes.
+use Rattle.std.specs.Prelude.{ℕ, Bool, true, false, nat_le, nat_lt, ◌==◌, ◌&&◌, List, [], ◌∷◌, Option, None, Some, length, slice_get}
+use Rattle.std.specs.List.{list_all, list_any, range_with_len}
+use Rattle.hw_model.specs.declared.rule.Rule.{Rule}
+use Rattle.hw_model.specs.declared.rule.Rule.TheVariants as rules
+use Rattle.hw_model.specs.declared.source.Source.TheVariants as sources
+use Rattle.hw_model.specs.Problem.{Problem, horizon}
+use Rattle.hw_model.specs.RefutingComputed.{refutes}
+use Rattle.hw_tolls.specs.declared.toll.Block.{Block}
+use Rattle.hw_tolls.specs.declared.toll.Toll.{Toll}
+use Rattle.hw_tolls.specs.declared.toll.Toll.TheVariants.{Narrows, Tugs}
+use Rattle.hw_tolls.specs.Tolls.{two_blocks, heaviest}
+
+-- the block is of one of the ships, not empty, and of the problem's slots
+abbrev pub block_fits : Problem → Block → Bool
+block_fits f block = nat_lt block.ship f.ships && (nat_le block.low block.high && nat_lt block.high f.slots)
+
+-- two blocks of ascending ships, and a rule refutes that both ships lie in theirs
+abbrev pub are_apart : Problem → Block → Block → Bool
+are_apart f a b = nat_lt a.ship b.ship && list_any (λ place. refutes f (sources.Rule place) None (two_blocks f a b)) (range_with_len 0 (length f.rules))
+
+-- each two of the blocks are apart
+abbrev pub all_apart : Problem → List Block → Bool
+all_apart f [] = true
+all_apart f (block ∷ blocks) = list_all (are_apart f block) blocks && all_apart f blocks
+
+-- 1 to 40 blocks, each two of them apart
+abbrev pub narrows_fit : Problem → List Block → Bool
+narrows_fit f blocks = (nat_le 1 (length blocks) && nat_le (length blocks) 40) && (list_all (block_fits f) blocks && all_apart f blocks)
+
+-- the rule is one on tugs with a weight for each job, and jobs that its fleet can serve together have at most this weight
+abbrev pub weighs_up_to : List ℕ → ℕ → Option Rule → Bool
+weighs_up_to weights most None = false
+weighs_up_to weights most (Some (rules.Pair v w holes)) = false
+weighs_up_to weights most (Some (rules.After v w gap)) = false
+weighs_up_to weights most (Some (rules.Tugs fleet jobs)) = length weights == length jobs && nat_le (heaviest weights jobs fleet) most
+
+-- such a rule, a slot of the horizon, and small numbers
+abbrev pub tugs_fit : Problem → ℕ → ℕ → List ℕ → ℕ → Bool
+tugs_fit f place slot weights most = weighs_up_to weights most (slice_get f.rules place) && (nat_lt slot (horizon f) && (list_all (λ weight. nat_le weight 64) weights && nat_le most 2_560))
+
+-- the toll is one of the problem
+abbrev pub is_toll : Problem → Toll → Bool
+is_toll f (Narrows blocks) = narrows_fit f blocks
+is_toll f (Tugs place slot weights most) = tugs_fit f place slot weights most
