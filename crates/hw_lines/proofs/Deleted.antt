@@ -1,5 +1,5 @@
 -- Valid lines delete only numbers that clause lines have.
-use Rattle.std.proofs.Common.{◌≡◌, ℕ, ◌+◌, ◌<◌, ◌≤◌, ◌==◌, Bool, true, false, ◌||◌, List, [], ◌∷◌, ◌++◌, Option, Some, None, length, All, IsSome, refl, sym, ap, ◌∙◌, subst, inl, inr, arith, length-append, append_assoc, append-nil}
+use Rattle.std.proofs.Common.{◌≡◌, ℕ, ◌<◌, ◌≤◌, ◌==◌, Bool, true, false, ◌||◌, List, [], ◌∷◌, ◌++◌, Option, Some, None, length, All, IsSome, refl, sym, ap, ◌∙◌, subst, inl, inr, arith, length-append, append_assoc, append-nil}
 use Rattle.std.proofs.lemmas.Bool.{cases_lt, ne_eqb}
 use Rattle.std.proofs.lemmas.List.Elements.{All-nil, All-cons, All-head, All-tail}
 use Rattle.std.proofs.lemmas.List.Folds.{list_any-append}
@@ -50,6 +50,11 @@ not_deleted f before (lines.Explain n clause) id valid lt = refl
 not_deleted f before (lines.Order v w x clause) id valid lt = refl
 not_deleted f before (lines.Goal clause) id valid lt = refl
 not_deleted f before (lines.Lemma clause hints) id valid lt = refl
+not_deleted f before (lines.Narrows blocks) id valid lt = refl
+not_deleted f before (lines.Tugs n slot most weights) id valid lt = refl
+not_deleted f before (lines.Tariff scale prices) id valid lt = refl
+not_deleted f before (lines.Priced clause) id valid lt = refl
+not_deleted f before (lines.Bound bound) id valid lt = refl
 not_deleted f before (lines.Delete ids) id valid lt = none_of ids (clause_count before) id lt (all_in before ids valid.claim)
 
 pub earlier_more : (f : Problem) (before : List Line) (line : Line) → ValidAfter f before line → DeletesEarlier before → DeletesEarlier (before ++ line ∷ [])

@@ -1,5 +1,11 @@
+pub mod Counted
 pub mod Pushed
 pub mod Deleted
 pub mod Closed
+pub mod Numbers
+pub mod KeptAfter
 pub mod Keeping
 pub mod Rows
+pub mod Added
+pub mod Priced
+pub mod PriceRows

@@ -1,6 +1,6 @@
 -- What one more line changes.
-use Rattle.std.proofs.Common.{◌≡◌, ℕ, zero, suc, ◌+◌, ◌<◌, ◌≤◌, ◌==◌, Bool, true, false, ◌||◌, cond, List, [], ◌∷◌, ◌++◌, Option, Some, None, length, slice_get, option_and_then, IfSome, refl, sym, ap, ◌∙◌, subst, inl, inr, arith, length-append, append-nil}
-use Rattle.std.proofs.lemmas.Bool.{cases_Bool, cond_both, cases_lt, eq-eqb, ne_eqb, eqb-true}
+use Rattle.std.proofs.Common.{◌≡◌, ℕ, zero, suc, ◌+◌, ◌<◌, ◌≤◌, ◌==◌, Bool, true, false, ◌||◌, cond, List, [], ◌∷◌, ◌++◌, Option, Some, None, length, slice_get, option_and_then, IfSome, refl, sym, ap, ◌∙◌, subst, inl, inr, arith, append-nil}
+use Rattle.std.proofs.lemmas.Bool.{cond_both, cases_lt, eq-eqb, ne_eqb}
 use Rattle.std.proofs.lemmas.List.Elements.{filter_map-append}
 use Rattle.std.proofs.lemmas.List.Folds.{list_any-append}
 use Rattle.std.proofs.lemmas.List.Sums.{fold_push}
@@ -11,7 +11,9 @@ use Rattle.hw_model.specs.Timetables.{cargo}
 use Rattle.hw_lines.specs.declared.line.Line.{Line}
 use Rattle.hw_lines.specs.declared.line.Line.TheVariants as lines
 use Rattle.hw_lines.specs.Lines.{clause_of, clauses_of, clause_count, live, DeletesEarlier, table_after, last_table, is_end, is_closed, clause_at, deletes}
-use Rattle.hw_lines.specs.Laws.{OneMore, ClauseAdded, TableAdded, NumbersDeleted}
+use Rattle.hw_lines.specs.Tolled.{toll_of, tolls_of, tariff_after, tariff_of, bound_after, bound_of}
+use Rattle.hw_lines.specs.Laws.{OneMore, PricesStay, ClauseAdded, TableAdded, NumbersDeleted}
+use Rattle.hw_lines.proofs.Counted.{same_earlier, last_one, counted_by, uncounted_by, added_by}
 
 -- ---- the clauses and the last table
 
@@ -21,44 +23,30 @@ last_push before line = fold_push table_after None before line
 pub clauses_push : (before : List Line) (line : Line) → clauses_of (before ++ line ∷ []) ≡ clauses_of before ++ cons_option (clause_of line) []
 clauses_push before line = filter_map-append clause_of before (line ∷ [])
 
+-- ---- the tolls, the tariff and the bound
+
+pub tolls_push : (f : Problem) (before : List Line) (line : Line) → tolls_of f (before ++ line ∷ []) ≡ tolls_of f before ++ cons_option (toll_of f line) []
+tolls_push f before line = filter_map-append (toll_of f) before (line ∷ [])
+
+pub tariff_push : (before : List Line) (line : Line) → tariff_of (before ++ line ∷ []) ≡ tariff_after (tariff_of before) line
+tariff_push before line = fold_push tariff_after None before line
+
+pub bound_push : (before : List Line) (line : Line) → bound_of (before ++ line ∷ []) ≡ bound_after (bound_of before) line
+bound_push before line = fold_push bound_after None before line
+
+pub same_tolls : (f : Problem) (before : List Line) (line : Line) → toll_of f line ≡ None → tolls_of f (before ++ line ∷ []) ≡ tolls_of f before
+same_tolls f before line none = tolls_push f before line ∙ ap (λ o. tolls_of f before ++ cons_option o []) none ∙ append-nil (tolls_of f before)
+
+-- a line that declares no toll and changes neither tariff nor bound
+pub prices_stay : (f : Problem) (before : List Line) (line : Line) → toll_of f line ≡ None → tariff_after (tariff_of before) line ≡ tariff_of before → bound_after (bound_of before) line ≡ bound_of before → PricesStay f before (before ++ line ∷ [])
+prices_stay f before line toll tariff bound = record { tolls = same_tolls f before line toll; tariff = tariff_push before line ∙ tariff; bound = bound_push before line ∙ bound }
+
 -- ---- any line
 
-or_false : (b : Bool) → (b || false) ≡ b
+pub or_false : (b : Bool) → (b || false) ≡ b
 or_false true = refl
 or_false false = refl
 
-within : {X : Type 0} (xs ys : List X) (i : ℕ) → i < length xs → slice_get (xs ++ ys) i ≡ slice_get xs i
-within [] ys i lt = absurd (omega (arith, lt))
-within (x ∷ xs) ys zero lt = refl
-within (x ∷ xs) ys (suc i) lt = within xs ys i (omega (arith, lt))
-
-at_end : {X : Type 0} (xs : List X) (y : X) (i : ℕ) → i ≡ length xs → slice_get (xs ++ y ∷ []) i ≡ Some y
-at_end [] y zero e = refl
-at_end [] y (suc i) e = absurd (omega (arith, e))
-at_end (x ∷ xs) y zero e = absurd (omega (arith, e))
-at_end (x ∷ xs) y (suc i) e = at_end xs y i (omega (arith, e))
-
-same_earlier : (before after : List Line) (more : List (List Lit)) (id : ℕ) → clauses_of after ≡ clauses_of before ++ more → id ≤ clause_count before → clause_at after id ≡ clause_at before id
-same_earlier before after more zero e le = refl
-same_earlier before after more (suc n) e le = ap (λ clauses. slice_get clauses n) e ∙ within (clauses_of before) more n (omega (arith, le))
-
-last_one : (before after : List Line) (clause : List Lit) (id : ℕ) → clauses_of after ≡ clauses_of before ++ clause ∷ [] → id ≡ clause_count before + 1 → clause_at after id ≡ Some clause
-last_one before after clause zero e at = absurd (omega (arith, at))
-last_one before after clause (suc n) e at = ap (λ clauses. slice_get clauses n) e ∙ at_end (clauses_of before) clause n (omega (arith, at))
-
-counted_by : (before after : List Line) (o : Option (List Lit)) → clauses_of after ≡ clauses_of before ++ cons_option o [] → IfSome o (λ clause. clause_count after ≡ clause_count before + 1)
-counted_by before after None e = tt
-counted_by before after (Some clause) e = ap length e ∙ length-append (clauses_of before) (clause ∷ [])
-
-uncounted_by : (before after : List Line) (o : Option (List Lit)) → clauses_of after ≡ clauses_of before ++ cons_option o [] → o ≡ None → clause_count after ≡ clause_count before
-uncounted_by before after None e none = ap length (e ∙ append-nil (clauses_of before))
-uncounted_by before after (Some clause) e none = absurd cc
-
-added_by : (before after : List Line) (o : Option (List Lit)) → clauses_of after ≡ clauses_of before ++ cons_option o [] → IfSome o (λ clause. clause_at after (clause_count before + 1) ≡ Some clause)
-added_by before after None e = tt
-added_by before after (Some clause) e = last_one before after clause (clause_count before + 1) e refl
-
--- a line that doesn't delete a number leaves it as it is
 still_live : (before : List Line) (line : Line) (id : ℕ) → id ≤ clause_count before → deletes id line ≡ false → live (before ++ line ∷ []) id ≡ live before id
 still_live before line id le e =
     let same : list_any (deletes id) (before ++ line ∷ []) ≡ list_any (deletes id) before = list_any-append (deletes id) before (line ∷ []) ∙ ap (λ b. list_any (deletes id) before || (b || false)) e ∙ or_false _ in
@@ -74,6 +62,9 @@ one_more f before line = record {
   uncounted = uncounted_by before (before ++ line ∷ []) (clause_of line) (clauses_push before line);
   earlier = λ id le e. still_live before line id le e;
   added = added_by before (before ++ line ∷ []) (clause_of line) (clauses_push before line);
+  tolls = tolls_push f before line;
+  tariff = tariff_push before line;
+  bound = bound_push before line;
 }
 
 -- ---- a line of each kind
@@ -92,12 +83,12 @@ pub live_past : (all : List Line) (id : ℕ) → clause_count all < id → live 
 live_past all id lt = cond_both (list_any (deletes id) all) None (clause_at all id) (λ o. o ≡ None) (λ e. refl) (λ e. at_past all id lt)
 
 -- a line without a clause leaves the clauses as they are
-same_at : (before : List Line) (line : Line) (id : ℕ) → clause_of line ≡ None → clause_at (before ++ line ∷ []) id ≡ clause_at before id
+pub same_at : (before : List Line) (line : Line) (id : ℕ) → clause_of line ≡ None → clause_at (before ++ line ∷ []) id ≡ clause_at before id
 same_at before line zero none = refl
 same_at before line (suc n) none = ap (λ clauses. slice_get clauses n) (clauses_push before line ∙ ap (λ o. clauses_of before ++ cons_option o []) none ∙ append-nil (clauses_of before))
 
 -- what is deleted by now: before, or by the line
-deleted_push : (before : List Line) (line : Line) (id : ℕ) (b : Bool) → deletes id line ≡ b → list_any (deletes id) (before ++ line ∷ []) ≡ (list_any (deletes id) before || b)
+pub deleted_push : (before : List Line) (line : Line) (id : ℕ) (b : Bool) → deletes id line ≡ b → list_any (deletes id) (before ++ line ∷ []) ≡ (list_any (deletes id) before || b)
 deleted_push before line id b e = list_any-append (deletes id) before (line ∷ []) ∙ ap (λ c. list_any (deletes id) before || (c || false)) e ∙ ap (λ c. list_any (deletes id) before || c) (or_false b)
 
 both : (a b : Bool) (o : Option (List Lit)) → cond (a || b) None o ≡ cond b None (cond a None o)
@@ -115,6 +106,7 @@ table_added f before table =
       table = last_push before line;
       best = more.best;
       closed = more.closed ∙ or_false (is_closed before);
+      prices = prices_stay f before line refl refl refl;
     }
 
 pub numbers_deleted : (f : Problem) (before : List Line) (ids : List ℕ) → NumbersDeleted f before (before ++ lines.Delete ids ∷ []) ids
@@ -127,6 +119,7 @@ numbers_deleted f before ids =
       table = last_push before line;
       best = more.best;
       closed = more.closed ∙ or_false (is_closed before);
+      prices = prices_stay f before line refl refl refl;
     }
 
 -- a clause line deletes nothing and brings no table
@@ -137,6 +130,11 @@ deletes_none (lines.Order v w x lits) clause id e = refl
 deletes_none (lines.Goal lits) clause id e = refl
 deletes_none (lines.Lemma lits hints) clause id e = refl
 deletes_none (lines.Delete ids) clause id e = absurd cc
+deletes_none (lines.Narrows blocks) clause id e = absurd cc
+deletes_none (lines.Tugs n slot most weights) clause id e = absurd cc
+deletes_none (lines.Tariff scale prices) clause id e = absurd cc
+deletes_none (lines.Priced lits) clause id e = refl
+deletes_none (lines.Bound bound) clause id e = absurd cc
 
 pub no_table : (line : Line) (clause : List Lit) (last : Option (List ℕ)) → clause_of line ≡ Some clause → table_after last line ≡ last
 no_table (lines.Table table) clause last e = absurd cc
@@ -145,6 +143,25 @@ no_table (lines.Order v w x lits) clause last e = refl
 no_table (lines.Goal lits) clause last e = refl
 no_table (lines.Lemma lits hints) clause last e = refl
 no_table (lines.Delete ids) clause last e = absurd cc
+no_table (lines.Narrows blocks) clause last e = absurd cc
+no_table (lines.Tugs n slot most weights) clause last e = absurd cc
+no_table (lines.Tariff scale prices) clause last e = absurd cc
+no_table (lines.Priced lits) clause last e = refl
+no_table (lines.Bound bound) clause last e = absurd cc
+
+-- nor does it change tolls, tariff or bound
+pub clause_prices : (f : Problem) (before : List Line) (line : Line) (clause : List Lit) → clause_of line ≡ Some clause → PricesStay f before (before ++ line ∷ [])
+clause_prices f before (lines.Table table) clause e = absurd cc
+clause_prices f before (lines.Explain n lits) clause e = prices_stay f before (lines.Explain n lits) refl refl refl
+clause_prices f before (lines.Order v w x lits) clause e = prices_stay f before (lines.Order v w x lits) refl refl refl
+clause_prices f before (lines.Goal lits) clause e = prices_stay f before (lines.Goal lits) refl refl refl
+clause_prices f before (lines.Lemma lits hints) clause e = prices_stay f before (lines.Lemma lits hints) refl refl refl
+clause_prices f before (lines.Delete ids) clause e = absurd cc
+clause_prices f before (lines.Narrows blocks) clause e = absurd cc
+clause_prices f before (lines.Tugs n slot most weights) clause e = absurd cc
+clause_prices f before (lines.Tariff scale prices) clause e = absurd cc
+clause_prices f before (lines.Priced lits) clause e = prices_stay f before (lines.Priced lits) refl refl refl
+clause_prices f before (lines.Bound bound) clause e = absurd cc
 
 live_added : (before : List Line) (line : Line) (clause : List Lit) (id : ℕ) → DeletesEarlier before → clause_of line ≡ Some clause → clause_count (before ++ line ∷ []) ≡ clause_count before + 1 → live (before ++ line ∷ []) id ≡ cond (id == clause_count before + 1) (Some clause) (live before id)
 live_added before line clause id earlier of counted = elim (cases_lt (clause_count before) id) [
@@ -167,4 +184,5 @@ clause_added f before line clause earlier of =
       table = last_push before line ∙ no_table line clause (last_table before) of;
       best = more.best ∙ ap (option_and_then (cargo f)) (no_table line clause (last_table before) of);
       closed = more.closed ∙ ap (λ o. is_closed before || is_end o) of;
+      prices = clause_prices f before line clause of;
     }

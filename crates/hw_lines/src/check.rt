@@ -9,7 +9,8 @@ pub enum CheckWord {
     Table,
     /// The timetable's cargo isn't above the best.
     Worse,
-    /// The source doesn't refute the denied room of the clause.
+    /// The source, or the prices in force, don't refute the denied room of the clause, or the prices
+    /// in force don't show the bound.
     Refute,
     /// This is the first hint whose number isn't live.
     Hint,
@@ -17,10 +18,16 @@ pub enum CheckWord {
     Loose,
     /// The hints end without a conflict.
     Conflict,
-    /// The line would have a number above 4,294,967,295.
+    /// The line would have a number above 4,294,967,295, or declare toll 10,001.
     Many,
     /// This is the first number to be deleted that isn't live.
     Dead,
+    /// What the line declares isn't a toll of the problem.
+    Toll,
+    /// This is the first number of a toll that no earlier line declares, or no prices are in force.
+    Due,
+    /// The bound isn't below the one before it.
+    Looser,
 }
 
 /// The word of a line that isn't valid, with the number that it names.

@@ -1,6 +1,7 @@
 //! What one more line changes, and that what is kept of lines says all that later ones need.
 
-ghost use Rattle.hw_lines.specs.Laws.{LinesPushed, ClausePushed, TablePushed, DeletionPushed, ValidDeletes, ClosedEnds, KeptLive, KeptNumbers, KeptPushed, KeptVerdict};
+ghost use Rattle.hw_lines.specs.Laws.{LinesPushed, ClausePushed, TablePushed, DeletionPushed, TollPushed, TariffPushed, BoundPushed, ValidTolls, ValidDeletes, ClosedEnds, KeptLive, KeptNumbers, KeptPushed, KeptVerdict};
+ghost use Rattle.hw_lines.specs.PriceRows.{PriceLineRows};
 ghost use Rattle.hw_lines.specs.Rows.{RefusalRows};
 
 /// What any line changes.
@@ -21,6 +22,26 @@ pub fn table_pushed()
 /// What a deletion changes: its numbers are live no more.
 pub fn deletion_pushed()
     ensures { DeletionPushed }
+{}
+
+/// What a line that declares a toll changes: its toll is the last one.
+pub fn toll_pushed()
+    ensures { TollPushed }
+{}
+
+/// What a tariff changes: its prices are in force.
+pub fn tariff_pushed()
+    ensures { TariffPushed }
+{}
+
+/// What a bound changes: it is the last one.
+pub fn bound_pushed()
+    ensures { BoundPushed }
+{}
+
+/// Valid lines declare tolls of the problem alone, and put prices in force on these alone.
+pub fn valid_tolls()
+    ensures { ValidTolls }
 {}
 
 /// Valid lines delete only numbers of earlier clause lines.
@@ -56,4 +77,9 @@ pub fn kept_verdict()
 /// Worked rows: why lines after a small certificate are refused.
 pub fn refusal_rows()
     ensures { RefusalRows }
+{}
+
+/// Worked rows: why lines about tolls and prices are refused.
+pub fn price_line_rows()
+    ensures { PriceLineRows }
 {}

@@ -8,7 +8,8 @@ mod line;
 
 pub use check::{CheckWord, Refusal, Verdict};
 pub use laws::{
-    clause_pushed, closed_ends, deletion_pushed, kept_live, kept_numbers, kept_pushed,
-    kept_verdict, lines_pushed, refusal_rows, table_pushed, valid_deletes,
+    bound_pushed, clause_pushed, closed_ends, deletion_pushed, kept_live, kept_numbers,
+    kept_pushed, kept_verdict, lines_pushed, price_line_rows, refusal_rows, table_pushed,
+    tariff_pushed, toll_pushed, valid_deletes, valid_tolls,
 };
-pub use line::{Hints, Line};
+pub use line::{Hints, Line, Price, Prices};

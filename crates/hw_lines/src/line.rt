@@ -2,8 +2,9 @@
 
 ghost use Rattle.std.specs.Prelude.{◌≡◌, IfOk};
 
-use hw_flat::{NoMemory, ShipId, Timetable};
+use hw_flat::{NoMemory, ShipId, Slot, Timetable};
 use hw_lits::Clause;
+use hw_tolls::{Blocks, Weights};
 use std::alloc::Global;
 use std::marker::Model;
 
@@ -31,7 +32,42 @@ impl Hints {
     }
 }
 
-/// A line of a certificate. All but a table and a deletion are clause lines, numbered in order.
+/// A price on a toll that an earlier line declares.
+#[derive(Clone, Copy, Debug, PartialEq, Eq)]
+pub struct Price {
+    /// The toll's number, which counts from 1 in the order of the lines that declare tolls.
+    pub toll: u32,
+    /// What one unit costs, at most 1,000,000,000,000,000,000 parts.
+    pub price: u64,
+}
+
+/// Prices on tolls, seen as their list.
+#[derive(Debug, Drop)]
+pub struct Prices {
+    pub items: Vec<Price>,
+}
+
+impl Model for Prices {
+    ghost use Rattle.std.specs.Prelude.{List};
+    ghost use Rattle.hw_lines.specs.declared.line.Price.{Price};
+
+    ghost Value = { List Price };
+
+    ghost view = { λ p. p.items.items };
+}
+
+impl Prices {
+    /// The same prices.
+    pub fn copy(&self, alloc: Global) -> Result<Prices, NoMemory>
+        ensures value { IfOk result (λ prices. prices ≡ self.now) }
+    {
+        let items = Vec::from_slice(alloc, &self.items)?;
+        Ok(Prices { items })
+    }
+}
+
+/// A line of a certificate. Explanations, orders, goals, lemmas and priced lines are clause lines,
+/// numbered in order; the lines that declare tolls have numbers of their own.
 #[derive(Debug, Drop)]
 pub enum Line {
     /// A permitted timetable with more cargo than the one before.
@@ -61,11 +97,38 @@ pub enum Line {
     Delete {
         ids: Hints,
     },
+    /// A toll: at most one of these ships lies in its block.
+    Narrows {
+        blocks: Blocks,
+    },
+    /// A toll: the jobs that hold their tugs in the slot weigh at most this much together.
+    Tugs {
+        /// The number of the rule on tugs, counted as in an explanation.
+        restriction: u32,
+        slot: Slot,
+        /// At most 2,560.
+        most: u32,
+        /// A weight for each job of the rule, at most 64 each.
+        weights: Weights,
+    },
+    /// These prices are in force from here on.
+    Tariff {
+        /// How many parts make a tenth of a tonne, at most 1,000,000.
+        scale: u32,
+        prices: Prices,
+    },
+    /// The prices in force leave the clause's denied room no more cargo than the best one.
+    Priced {
+        clause: Clause,
+    },
+    /// The prices in force leave the whole problem no more cargo than this, in tenths of a tonne.
+    Bound {
+        bound: u64,
+    },
 }
 
 impl Line {
-    /// The same line, as a log that keeps its lines needs it. It copies the line's list of slots,
-    /// literals or numbers once.
+    /// The same line, as a log that keeps its lines needs it. It copies the line's lists once.
     pub fn copy(&self, alloc: Global) -> Result<Line, NoMemory>
         ensures value { IfOk result (λ line. line ≡ self.now) }
     {
@@ -94,6 +157,28 @@ impl Line {
             Line::Delete { ids } => Line::Delete {
                 ids: ids.copy(alloc)?,
             },
+            Line::Narrows { blocks } => Line::Narrows {
+                blocks: copy_blocks(alloc, blocks)?,
+            },
+            Line::Tugs {
+                restriction,
+                slot,
+                most,
+                weights,
+            } => Line::Tugs {
+                restriction: *restriction,
+                slot: *slot,
+                most: *most,
+                weights: copy_weights(alloc, weights)?,
+            },
+            Line::Tariff { scale, prices } => Line::Tariff {
+                scale: *scale,
+                prices: prices.copy(alloc)?,
+            },
+            Line::Priced { clause } => Line::Priced {
+                clause: clause.copy(alloc)?,
+            },
+            Line::Bound { bound } => Line::Bound { bound: *bound },
         })
     }
 }
@@ -103,4 +188,18 @@ fn copy_table(alloc: Global, table: &Timetable) -> Result<Timetable, NoMemory>
 {
     let _few = table.len();
     Timetable::from_slots(alloc, table.as_slice())
+}
+
+fn copy_blocks(alloc: Global, blocks: &Blocks) -> Result<Blocks, NoMemory>
+    ensures value { IfOk result (λ copied. copied ≡ blocks.now) }
+{
+    let items = Vec::from_slice(alloc, &blocks.items)?;
+    Ok(Blocks { items })
+}
+
+fn copy_weights(alloc: Global, weights: &Weights) -> Result<Weights, NoMemory>
+    ensures value { IfOk result (λ copied. copied ≡ weights.now) }
+{
+    let items = Vec::from_slice(alloc, &weights.items)?;
+    Ok(Weights { items })
 }

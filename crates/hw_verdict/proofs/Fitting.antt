@@ -14,7 +14,9 @@ use Rattle.hw_lines.specs.Valid.{LineFits, ValidAfter, ValidFrom, Valid}
 use Rattle.hw_lines.proofs.Closed.{closed_from}
 use Rattle.hw_verdict.specs.Renewing.{hints_of, has_hint, is_hint_of, last_named, never_named, deletion, deletions, undeleting, next_number, renewed_from, renewed, RenewingKeeps}
 use Rattle.hw_verdict.proofs.Naming.{hints_live, live_above}
-use Rattle.hw_verdict.proofs.Renewed.{all_renewed, best_same, last_parts, never_is}
+use Rattle.hw_verdict.proofs.Stays.{best_same}
+use Rattle.hw_verdict.proofs.Staying.{last_parts, never_is}
+use Rattle.hw_verdict.proofs.Renewed.{all_renewed}
 
 -- ---- numbers that ascend
 
@@ -61,6 +63,11 @@ itself_fits f (lines.Order v w x clause) fits = All-cons (LineFits f) (lines.Ord
 itself_fits f (lines.Goal clause) fits = All-cons (LineFits f) (lines.Goal clause) [] fits (All-nil (LineFits f))
 itself_fits f (lines.Lemma clause hints) fits = All-cons (LineFits f) (lines.Lemma clause hints) [] fits (All-nil (LineFits f))
 itself_fits f (lines.Delete ids) fits = All-nil (LineFits f)
+itself_fits f (lines.Narrows blocks) fits = All-cons (LineFits f) (lines.Narrows blocks) [] fits (All-nil (LineFits f))
+itself_fits f (lines.Tugs n slot most weights) fits = All-cons (LineFits f) (lines.Tugs n slot most weights) [] fits (All-nil (LineFits f))
+itself_fits f (lines.Tariff scale prices) fits = All-cons (LineFits f) (lines.Tariff scale prices) [] fits (All-nil (LineFits f))
+itself_fits f (lines.Priced clause) fits = All-cons (LineFits f) (lines.Priced clause) [] fits (All-nil (LineFits f))
+itself_fits f (lines.Bound bound) fits = All-cons (LineFits f) (lines.Bound bound) [] fits (All-nil (LineFits f))
 
 next_above : (n : ℕ) (o : Option (List Lit)) → 0 < n → 0 < next_number n o
 next_above n None lt = lt
@@ -86,5 +93,8 @@ renewing_keeps f all valid =
       same_verdict = rw (best_same f all (renewed all) whole.same, new ∙ whole.same.closed ∙ sym old) refl;
       same_clauses = whole.same.clauses;
       same_table = whole.same.table;
+      same_tolls = whole.same.tolls f;
+      same_tariff = whole.same.tariff;
+      same_bound = whole.same.bound;
       fit = λ fits. fit_from f all [] 1 (omega arith) valid fits;
     }

@@ -57,6 +57,8 @@ pub lean_rows : LeanRows
 lean_rows = record {
   goal_of_ships = speaks two_apart sources.Goal (AtOrAfter 1 1 ∷ []) refl;
   goal_of_an_order = silent two_apart sources.Goal (First 0 1 ∷ []) refl;
+  prices_of_ships = speaks two_apart sources.Goal (AtOrAfter 1 1 ∷ []) refl;
+  prices_of_an_order = silent two_apart sources.Goal (First 0 1 ∷ []) refl;
   rule_of_its_ships_and_order = speaks two_apart (sources.Rule 0) (Before 0 1 ∷ First 0 1 ∷ []) refl;
   window_of_another_ship = silent two_apart (sources.Window 0) (Before 0 1 ∷ Before 1 1 ∷ []) refl;
   orders_of_three = speaks three_ships (sources.Order 0 1 2) (NotFirst 0 1 ∷ First 0 2 ∷ NotFirst 1 2 ∷ []) refl;
@@ -120,5 +122,7 @@ renewed_rows = record {
   other_deletions_go = refl;
   deleted_behind_the_last_hint = refl;
   both_deletions = refl;
+  tolls_and_prices_stay = refl;
+  priced_and_named = refl;
   no_lines = refl;
 }

@@ -1,18 +1,23 @@
 -- What is wrong with a line that is refused, by the word that refuses it.
-use Rattle.std.specs.Prelude.{◌≡◌, ◌^◌, ℕ, ◌+◌, ◌<◌, ◌≤◌, true, List, Option, Some, None, All, IsSome, IfSome, IsSomeAnd, slice_get}
+use Rattle.std.specs.Prelude.{◌≡◌, ◌⊎◌, ◌^◌, ℕ, ◌+◌, ◌<◌, ◌≤◌, true, length, ⊤, List, Option, Some, None, All, IsSome, IfSome, IsSomeAnd, slice_get}
 use Rattle.hw_model.specs.declared.lit.Lit.{Lit}
 use Rattle.hw_model.specs.declared.source.Source.{Source}
 use Rattle.hw_model.specs.declared.source.Source.TheVariants as sources
 use Rattle.hw_model.specs.Problem.{Problem}
+use Rattle.hw_model.specs.Limits.{IsFlat}
 use Rattle.hw_model.specs.Timetables.{Permits, FirstBroken, cargo}
 use Rattle.hw_model.specs.Refuting.{Refutes, source_of}
 use Rattle.hw_model.specs.Replay.{replay, loose, no_conflict}
+use Rattle.hw_tolls.specs.Prices.{PricesRefute}
+use Rattle.hw_tolls.specs.Tolls.{IsToll}
 use Rattle.hw_lines.specs.declared.check.CheckWord.{CheckWord}
 use Rattle.hw_lines.specs.declared.check.CheckWord.TheVariants as words
 use Rattle.hw_lines.specs.declared.line.Line.{Line}
 use Rattle.hw_lines.specs.declared.line.Line.TheVariants as lines
+use Rattle.hw_lines.specs.declared.line.Price.{Price}
 use Rattle.hw_lines.specs.Lines.{clause_of, clause_count, live, best_of, is_closed}
-use Rattle.hw_lines.specs.Valid.{LineFits, denied_room, hinted}
+use Rattle.hw_lines.specs.Tolled.{toll_of, tolls_of, tariff_of, bound_of}
+use Rattle.hw_lines.specs.Valid.{LineFits, denied_room, hinted, Bounds}
 use Rattle.hw_lines.specs.Refusals.{refusal}
 
 -- the line explains a clause by a source
@@ -23,6 +28,11 @@ Explains f (lines.Order v w x own) source clause = (source ≡ sources.Order v w
 Explains f (lines.Goal own) source clause = (source ≡ sources.Goal) × (clause ≡ own)
 Explains f (lines.Lemma own hints) source clause = ⊥
 Explains f (lines.Delete ids) source clause = ⊥
+Explains f (lines.Narrows blocks) source clause = ⊥
+Explains f (lines.Tugs n slot most weights) source clause = ⊥
+Explains f (lines.Tariff scale prices) source clause = ⊥
+Explains f (lines.Priced own) source clause = ⊥
+Explains f (lines.Bound bound) source clause = ⊥
 
 -- some restriction is broken by the timetable, and this is the first
 pub record TableBroken (f : Problem) (line : Line) : Type 0 where
@@ -44,6 +54,57 @@ pub record Unrefuted (f : Problem) (before : List Line) (line : Line) : Type 0 w
   pub clause : List Lit
   pub explains : Explains f line source clause
   pub leaves : Refutes f source (best_of f before) (denied_room f clause) → ⊥
+
+-- what the line shows by a source or by prices isn't so: its source or the prices in force leave something of the denied room,
+-- or the prices don't bound the whole problem
+abbrev pub Unshown : Problem → List Line → Line → Type 0
+Unshown f before (lines.Table table) = Unrefuted f before (lines.Table table)
+Unshown f before (lines.Explain n clause) = Unrefuted f before (lines.Explain n clause)
+Unshown f before (lines.Order v w x clause) = Unrefuted f before (lines.Order v w x clause)
+Unshown f before (lines.Goal clause) = Unrefuted f before (lines.Goal clause)
+Unshown f before (lines.Lemma clause hints) = Unrefuted f before (lines.Lemma clause hints)
+Unshown f before (lines.Delete ids) = Unrefuted f before (lines.Delete ids)
+Unshown f before (lines.Narrows blocks) = ⊥
+Unshown f before (lines.Tugs n slot most weights) = ⊥
+Unshown f before (lines.Tariff scale prices) = ⊥
+Unshown f before (lines.Priced clause) = IsSomeAnd (tariff_of before) (λ tariff. PricesRefute f (tolls_of f before) tariff (best_of f before) (denied_room f clause) → ⊥)
+Unshown f before (lines.Bound bound) = IsSomeAnd (tariff_of before) (λ tariff. Bounds f before bound tariff → ⊥)
+
+-- the line declares what isn't a toll of the problem
+abbrev pub NoToll : Problem → Line → Type 0
+NoToll f line = IsSomeAnd (toll_of f line) (λ toll. IsToll f toll → ⊥)
+
+-- the number is that of the first price on a toll past this many
+pub record FirstUnknown (count : ℕ) (prices : List Price) (toll : ℕ) : Type 0 where
+  pub place : ℕ
+  pub stands : IsSomeAnd (slice_get prices place) (λ one. one.toll ≡ toll)
+  pub unknown : count < toll
+  pub earlier : (i : ℕ) → i < place → IfSome (slice_get prices i) (λ other. other.toll ≤ count)
+
+-- a price is on a toll that isn't declared, and this is the first; or no prices are in force
+abbrev pub DueWrong : Problem → List Line → Line → Option ℕ → Type 0
+DueWrong f before (lines.Table table) named = ⊥
+DueWrong f before (lines.Explain n clause) named = ⊥
+DueWrong f before (lines.Order v w x clause) named = ⊥
+DueWrong f before (lines.Goal clause) named = ⊥
+DueWrong f before (lines.Lemma clause hints) named = ⊥
+DueWrong f before (lines.Delete ids) named = ⊥
+DueWrong f before (lines.Narrows blocks) named = ⊥
+DueWrong f before (lines.Tugs n slot most weights) named = ⊥
+DueWrong f before (lines.Tariff scale prices) named = IsSomeAnd named (FirstUnknown (length (tolls_of f before)) prices)
+DueWrong f before (lines.Priced clause) named = (named ≡ None) × (tariff_of before ≡ None)
+DueWrong f before (lines.Bound bound) named = (named ≡ None) × (tariff_of before ≡ None)
+
+-- the prices show the bound, and it isn't below the last one
+pub record NotLower (f : Problem) (before : List Line) (line : Line) : Type 0 where
+  pub bound : ℕ
+  pub is : line ≡ lines.Bound bound
+  pub shown : IsSomeAnd (tariff_of before) (Bounds f before bound)
+  pub not_lower : IsSomeAnd (bound_of before) (λ last. last ≤ bound)
+
+-- a clause line would have a number past the last one, or 10,000 tolls are declared before a line that declares one
+abbrev pub NoNumber : Problem → List Line → Line → Type 0
+NoNumber f before line = IsSomeAnd (clause_of line) (λ clause. 2 ^ 32 ≤ clause_count before + 1) ⊎ IsSomeAnd (toll_of f line) (λ toll. 10_000 ≤ length (tolls_of f before))
 
 -- the number is the first of these that isn't live
 pub record FirstDead (before : List Line) (ids : List ℕ) (id : ℕ) : Type 0 where
@@ -88,13 +149,30 @@ abbrev pub Wrong : Problem → List Line → Line → CheckWord → Option ℕ �
 Wrong f before line words.Ended named = (named ≡ None) × (is_closed before ≡ true)
 Wrong f before line words.Table named = (named ≡ None) × TableBroken f line
 Wrong f before line words.Worse named = (named ≡ None) × TableWorse f before line
-Wrong f before line words.Refute named = (named ≡ None) × Unrefuted f before line
+Wrong f before line words.Refute named = (named ≡ None) × Unshown f before line
 Wrong f before line words.Hint named = IsSomeAnd named (HintDead before line)
 Wrong f before line words.Loose named = IsSomeAnd named (HintLoose f before line)
 Wrong f before line words.Conflict named = (named ≡ None) × NoConflict f before line
-Wrong f before line words.Many named = (named ≡ None) × IsSomeAnd (clause_of line) (λ clause. 2 ^ 32 ≤ clause_count before + 1)
+Wrong f before line words.Many named = (named ≡ None) × NoNumber f before line
 Wrong f before line words.Dead named = IsSomeAnd named (DeletedDead before line)
+Wrong f before line words.Toll named = (named ≡ None) × NoToll f line
+Wrong f before line words.Due named = DueWrong f before line named
+Wrong f before line words.Looser named = (named ≡ None) × NotLower f before line
+
+-- prices are tested exactly where the problem keeps the limits and the declared tolls are tolls; other lines always are
+abbrev pub CanJudge : Problem → List Line → Line → Type 0
+CanJudge f before (lines.Table table) = ⊤
+CanJudge f before (lines.Explain n clause) = ⊤
+CanJudge f before (lines.Order v w x clause) = ⊤
+CanJudge f before (lines.Goal clause) = ⊤
+CanJudge f before (lines.Lemma clause hints) = ⊤
+CanJudge f before (lines.Delete ids) = ⊤
+CanJudge f before (lines.Narrows blocks) = ⊤
+CanJudge f before (lines.Tugs n slot most weights) = ⊤
+CanJudge f before (lines.Tariff scale prices) = ⊤
+CanJudge f before (lines.Priced clause) = IsFlat f × All (IsToll f) (tolls_of f before)
+CanJudge f before (lines.Bound bound) = IsFlat f × All (IsToll f) (tolls_of f before)
 
 -- a line that is refused is wrong as its word says
 abbrev pub RefusalCauses : Type 0
-RefusalCauses = (f : Problem) (before : List Line) (line : Line) → LineFits f line → IfSome (refusal f before line) (λ why. Wrong f before line why.word why.hint)
+RefusalCauses = (f : Problem) (before : List Line) (line : Line) → LineFits f line → CanJudge f before line → IfSome (refusal f before line) (λ why. Wrong f before line why.word why.hint)

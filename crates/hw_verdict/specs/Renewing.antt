@@ -6,6 +6,7 @@ use Rattle.hw_model.specs.Problem.{Problem}
 use Rattle.hw_lines.specs.declared.line.Line.{Line}
 use Rattle.hw_lines.specs.declared.line.Line.TheVariants as lines
 use Rattle.hw_lines.specs.Lines.{clause_of, clauses_of, clause_count, last_table}
+use Rattle.hw_lines.specs.Tolled.{tolls_of, tariff_of, bound_of}
 use Rattle.hw_lines.specs.Valid.{LineFits, Valid, verdict}
 
 -- the numbers that a line names as hints
@@ -16,6 +17,11 @@ hints_of (lines.Order v w x clause) = []
 hints_of (lines.Goal clause) = []
 hints_of (lines.Lemma clause hints) = hints
 hints_of (lines.Delete ids) = []
+hints_of (lines.Narrows blocks) = []
+hints_of (lines.Tugs n slot most weights) = []
+hints_of (lines.Tariff scale prices) = []
+hints_of (lines.Priced clause) = []
+hints_of (lines.Bound bound) = []
 
 -- the line has this number as a hint
 abbrev pub has_hint : ℕ → Line → Bool
@@ -52,6 +58,11 @@ undeleting (lines.Order v w x clause) = lines.Order v w x clause ∷ []
 undeleting (lines.Goal clause) = lines.Goal clause ∷ []
 undeleting (lines.Lemma clause hints) = lines.Lemma clause hints ∷ []
 undeleting (lines.Delete ids) = []
+undeleting (lines.Narrows blocks) = lines.Narrows blocks ∷ []
+undeleting (lines.Tugs n slot most weights) = lines.Tugs n slot most weights ∷ []
+undeleting (lines.Tariff scale prices) = lines.Tariff scale prices ∷ []
+undeleting (lines.Priced clause) = lines.Priced clause ∷ []
+undeleting (lines.Bound bound) = lines.Bound bound ∷ []
 
 -- the number of the next clause line, by that before a line
 abbrev pub next_number : ℕ → Option (List Lit) → ℕ
@@ -78,9 +89,12 @@ pub record RenewingKeeps (f : Problem) (all : List Line) : Type 0 where
   pub same_verdict : verdict f (renewed all) ≡ verdict f all
   pub same_clauses : clauses_of (renewed all) ≡ clauses_of all
   pub same_table : last_table (renewed all) ≡ last_table all
+  pub same_tolls : tolls_of f (renewed all) ≡ tolls_of f all
+  pub same_tariff : tariff_of (renewed all) ≡ tariff_of all
+  pub same_bound : bound_of (renewed all) ≡ bound_of all
   pub fit : All (LineFits f) all → All (LineFits f) (renewed all)
 
--- valid lines are valid after renewing, with the same clauses, the same last table and the same verdict
+-- valid lines are valid after renewing, with the same clauses, last table, tolls, tariff, bound and verdict
 abbrev pub RenewedValid : Type 0
 RenewedValid = (f : Problem) (all : List Line) → Valid f all → RenewingKeeps f all
 

@@ -6,6 +6,7 @@ use Rattle.hw_laws.specs.Rows.{two_apart, three_ships}
 use Rattle.hw_lines.specs.declared.line.Line.{Line}
 use Rattle.hw_lines.specs.declared.line.Line.TheVariants as lines
 use Rattle.hw_lines.specs.Lemmas.{LeanAfter, IsNew}
+use Rattle.hw_lines.specs.PriceRows.{late, late_costs, last_priced}
 use Rattle.hw_lines.specs.Rows.{best_table, second_late, first_late, apart, whole_lines}
 use Rattle.hw_verdict.specs.Renewing.{renewed}
 
@@ -20,6 +21,8 @@ third_slot = AtOrAfter 0 2 ∷ []
 pub record LeanRows : Type 0 where
   pub goal_of_ships : LeanAfter two_apart [] (lines.Goal (AtOrAfter 1 1 ∷ []))
   pub goal_of_an_order : LeanAfter two_apart [] (lines.Goal (First 0 1 ∷ [])) → ⊥
+  pub prices_of_ships : LeanAfter two_apart [] (lines.Priced (AtOrAfter 1 1 ∷ []))
+  pub prices_of_an_order : LeanAfter two_apart [] (lines.Priced (First 0 1 ∷ [])) → ⊥
   pub rule_of_its_ships_and_order : LeanAfter two_apart [] (lines.Explain 2 (Before 0 1 ∷ First 0 1 ∷ []))
   pub window_of_another_ship : LeanAfter two_apart [] (lines.Explain 0 (Before 0 1 ∷ Before 1 1 ∷ [])) → ⊥
   pub orders_of_three : LeanAfter three_ships [] (lines.Order 0 1 2 (NotFirst 0 1 ∷ First 0 2 ∷ NotFirst 1 2 ∷ []))
@@ -45,4 +48,6 @@ pub record RenewedRows : Type 0 where
   pub other_deletions_go : renewed (second_late ∷ first_late ∷ apart ∷ lines.Delete (2 ∷ []) ∷ lines.Lemma [] (1 ∷ 3 ∷ []) ∷ []) ≡ second_late ∷ first_late ∷ lines.Delete (2 ∷ []) ∷ apart ∷ lines.Lemma [] (1 ∷ 3 ∷ []) ∷ []
   pub deleted_behind_the_last_hint : renewed (second_late ∷ first_late ∷ apart ∷ second_lemma ∷ lines.Delete (1 ∷ []) ∷ lines.Lemma [] (2 ∷ 4 ∷ []) ∷ []) ≡ second_late ∷ first_late ∷ apart ∷ second_lemma ∷ lines.Delete (1 ∷ 3 ∷ []) ∷ lines.Lemma [] (2 ∷ 4 ∷ []) ∷ []
   pub both_deletions : renewed (second_late ∷ second_late ∷ second_late ∷ second_lemma ∷ best_table ∷ []) ≡ second_late ∷ second_late ∷ lines.Delete (2 ∷ []) ∷ second_late ∷ second_lemma ∷ lines.Delete (1 ∷ 3 ∷ []) ∷ lines.Delete (4 ∷ []) ∷ best_table ∷ []
+  pub tolls_and_prices_stay : renewed (best_table ∷ late ∷ late_costs ∷ second_late ∷ lines.Bound 40 ∷ last_priced ∷ []) ≡ best_table ∷ late ∷ late_costs ∷ second_late ∷ lines.Delete (1 ∷ []) ∷ lines.Bound 40 ∷ last_priced ∷ []
+  pub priced_and_named : renewed (late ∷ late_costs ∷ lines.Priced second_slot ∷ lines.Lemma [] (1 ∷ []) ∷ []) ≡ late ∷ late_costs ∷ lines.Priced second_slot ∷ lines.Lemma [] (1 ∷ []) ∷ []
   pub no_lines : renewed [] ≡ []
