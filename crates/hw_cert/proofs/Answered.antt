@@ -10,7 +10,8 @@ use Rattle.hw_desk.proofs.Chain.{moves_on}
 use Rattle.hw_model.specs.Problem.{Problem, shape_of}
 use Rattle.hw_text.specs.Parts.{parts_of}
 use Rattle.hw_cert.specs.Fits.{line_read}
-use Rattle.hw_cert.specs.Spelled.{version_of}
+use Rattle.hw_cert.specs.Spelled.{is_within, version_to}
+use Rattle.hw_cert.specs.Laws.{has_form}
 use Rattle.hw_cert.specs.Stream.{Cut, whole, long, passes, cut_of, NextLine, bad, too_long, line_next, header_next, header_by, next_by, line_by, behind}
 use Rattle.hw_cert.specs.Reader.{ReaderModel, ReaderKeeps}
 use Rattle.hw_cert.specs.Taking.{TakesLine}
@@ -44,12 +45,12 @@ err_same stop fault e = let same : stop ≡ fault = inner stop fault e in ap (λ
     inner a b e = cc
 
 -- before the header
-at_header : (r : ReaderModel) (rest : List ℕ) → r.at.version ≡ None → next_line r rest ≡ header_next r.shape r.at.number r.at.taken (cut_of r.at.taken (parts_of 10 rest))
-at_header r rest e = ap (λ (v : Option Version). next_by r.shape r.at.number r.at.taken v (parts_of 10 rest)) e
+at_header : (r : ReaderModel) (rest : List ℕ) → r.at.version ≡ None → next_line r rest ≡ header_next r.shape r.at.most r.at.number r.at.taken (cut_of r.at.taken (parts_of 10 rest))
+at_header r rest e = ap (λ (v : Option Version). next_by r.shape r.at.most r.at.number r.at.taken v (parts_of 10 rest)) e
 
 -- after it
-at_line : (r : ReaderModel) (version : Version) (rest : List ℕ) → r.at.version ≡ Some version → next_line r rest ≡ line_next r.shape version r.at.number r.at.taken (cut_of r.at.taken (parts_of 10 rest))
-at_line r version rest e = ap (λ (v : Option Version). next_by r.shape r.at.number r.at.taken v (parts_of 10 rest)) e
+at_line : (r : ReaderModel) (version : Version) (rest : List ℕ) → r.at.version ≡ Some version → next_line r rest ≡ line_next r.shape r.at.most version r.at.number r.at.taken (cut_of r.at.taken (parts_of 10 rest))
+at_line r version rest e = ap (λ (v : Option Version). next_by r.shape r.at.most r.at.number r.at.taken v (parts_of 10 rest)) e
 
 -- a stop while a line's bytes were taken, whatever line it was
 stop_as : (next : Cut → NextLine) (cut : Cut) (taken : ℕ) (rest line : List ℕ) (left : Option (List ℕ)) (stop : LineStop) → next long ≡ too_long → cut ≡ cut_of taken (parts_of 10 rest) → CutIs taken rest line left (Err stop) → StopsAs (next cut) stop
@@ -65,7 +66,7 @@ stops_same a b stop e h = subst (λ (n : NextLine). StopsAs n stop) (sym e) h
 
 pub header_stopped : {line pending : List ℕ} {x y : DeskState} (r : ReaderModel) (stop : LineStop) → r.at.version ≡ None → r.at.taken ≤ 2 ^ 40 → TakesLine r.feed r.at.taken r.pending pending line x y (Err stop) → TakesHeader r x y (Err stop)
 header_stopped {line = line} {pending = pending} {x = x} {y = y} r stop none le h = record {
-  moved = (h.moved.0, h.moved.1, h.moved.2, told_map (rest_of r x) (λ rest c. stops_same _ _ stop (at_header r rest none) (stop_as (header_next r.shape r.at.number r.at.taken) (cut_of r.at.taken (parts_of 10 rest)) r.at.taken rest line (prepend_known pending (y.feeds r.feed).left) stop refl refl c)) (told_cut h le));
+  moved = (h.moved.0, h.moved.1, h.moved.2, told_map (rest_of r x) (λ rest c. stops_same _ _ stop (at_header r rest none) (stop_as (header_next r.shape r.at.most r.at.number r.at.taken) (cut_of r.at.taken (parts_of 10 rest)) r.at.taken rest line (prepend_known pending (y.feeds r.feed).left) stop refl refl c)) (told_cut h le));
   fault = λ e. h.fault (err_same stop stops.Fault e);
   kept = λ none. h.kept (λ e. none (err_same stop stops.Fault e));
 }
@@ -78,28 +79,28 @@ header_missing {line = line} {pending = pending} {x = x} {y = y} r t none le oth
   kept = λ none. h.kept (λ e. absurd (cc));
 }
   where
-    by_taken : (u : TakenLine) (rest : List ℕ) → (u ≡ Whole → ⊥) → CutIs r.at.taken rest line (prepend_known pending (y.feeds r.feed).left) (Ok u) → header_next r.shape r.at.number r.at.taken (cut_of r.at.taken (parts_of 10 rest)) ≡ bad r.at.number Header
+    by_taken : (u : TakenLine) (rest : List ℕ) → (u ≡ Whole → ⊥) → CutIs r.at.taken rest line (prepend_known pending (y.feeds r.feed).left) (Ok u) → header_next r.shape r.at.most r.at.number r.at.taken (cut_of r.at.taken (parts_of 10 rest)) ≡ bad r.at.number Header
     by_taken Whole rest other c = absurd (other refl)
-    by_taken Unended rest other c = ap (header_next r.shape r.at.number r.at.taken) c
-    by_taken Nothing rest other c = ap (header_next r.shape r.at.number r.at.taken) c
+    by_taken Unended rest other c = ap (header_next r.shape r.at.most r.at.number r.at.taken) c
+    by_taken Nothing rest other c = ap (header_next r.shape r.at.most r.at.number r.at.taken) c
 
 -- the line names no version
-pub header_wrong : {line pending : List ℕ} {x y : DeskState} (r : ReaderModel) → r.at.version ≡ None → r.at.taken ≤ 2 ^ 40 → version_of line ≡ None → TakesLine r.feed r.at.taken r.pending pending line x y (Ok Whole) → TakesHeader r x y (Err (stops.Form r.at.number Header))
+pub header_wrong : {line pending : List ℕ} {x y : DeskState} (r : ReaderModel) → r.at.version ≡ None → r.at.taken ≤ 2 ^ 40 → version_to r.at.most line ≡ None → TakesLine r.feed r.at.taken r.pending pending line x y (Ok Whole) → TakesHeader r x y (Err (stops.Form r.at.number Header))
 header_wrong {line = line} {pending = pending} {x = x} {y = y} r none le unnamed h = record {
   moved = (h.moved.0, h.moved.1, h.moved.2, told_map (rest_of r x) (λ rest c. at_header r rest none ∙ wrong rest (prepend_known pending (y.feeds r.feed).left) c) (told_cut h le));
   fault = λ e. absurd (cc);
   kept = λ none. h.kept (λ e. absurd (cc));
 }
   where
-    wrong : (rest : List ℕ) (left : Option (List ℕ)) → IsSomeAnd left (λ more. cut_of r.at.taken (parts_of 10 rest) ≡ whole line (parts_of 10 more)) → header_next r.shape r.at.number r.at.taken (cut_of r.at.taken (parts_of 10 rest)) ≡ bad r.at.number Header
+    wrong : (rest : List ℕ) (left : Option (List ℕ)) → IsSomeAnd left (λ more. cut_of r.at.taken (parts_of 10 rest) ≡ whole line (parts_of 10 more)) → header_next r.shape r.at.most r.at.number r.at.taken (cut_of r.at.taken (parts_of 10 rest)) ≡ bad r.at.number Header
     wrong rest None c = absurd c
-    wrong rest (Some more) c = ap (header_next r.shape r.at.number r.at.taken) c ∙ ap (header_by r.shape r.at.number r.at.taken line (parts_of 10 more)) unnamed
+    wrong rest (Some more) c = ap (header_next r.shape r.at.most r.at.number r.at.taken) c ∙ ap (header_by r.shape r.at.most r.at.number r.at.taken line (parts_of 10 more)) unnamed
 
 -- after a header
 abbrev pub past_header : ReaderModel → Version → List ℕ → List ℕ → ReaderModel
-past_header r version line pending = record { shape = r.shape; feed = r.feed; at = behind version r.at.number r.at.taken line; pending = pending }
+past_header r version line pending = record { shape = r.shape; feed = r.feed; at = behind r.at.most version r.at.number r.at.taken line; pending = pending }
 
-pub header_taken : {line pending : List ℕ} {x y : DeskState} (r : ReaderModel) (version : Version) → r.at.version ≡ None → r.at.taken ≤ 2 ^ 40 → version_of line ≡ Some version → TakesLine r.feed r.at.taken r.pending pending line x y (Ok Whole) → TakesHeader r x y (Ok (past_header r version line pending))
+pub header_taken : {line pending : List ℕ} {x y : DeskState} (r : ReaderModel) (version : Version) → r.at.version ≡ None → r.at.taken ≤ 2 ^ 40 → version_to r.at.most line ≡ Some version → TakesLine r.feed r.at.taken r.pending pending line x y (Ok Whole) → TakesHeader r x y (Ok (past_header r version line pending))
 header_taken {line = line} {pending = pending} {x = x} {y = y} r version none le named h = record {
   moved = (
     h.moved.0,
@@ -108,12 +109,13 @@ header_taken {line = line} {pending = pending} {x = x} {y = y} r version none le
     record {
       shape = refl;
       feed = refl;
+      most = refl;
       version = refl;
       number = refl;
       later = omega arith;
       room = whole_sizes h;
       next = told_map (rest_of r x) (λ rest c. some_map (prepend_known pending (y.feeds r.feed).left) (λ more cut.
-          at_header r rest none ∙ (ap (header_next r.shape r.at.number r.at.taken) cut ∙ ap (header_by r.shape r.at.number r.at.taken line (parts_of 10 more)) named)) c) (told_cut h le);
+          at_header r rest none ∙ (ap (header_next r.shape r.at.most r.at.number r.at.taken) cut ∙ ap (header_by r.shape r.at.most r.at.number r.at.taken line (parts_of 10 more)) named)) c) (told_cut h le);
     },
   );
   fault = λ e. absurd (cc);
@@ -160,11 +162,13 @@ header_then_line {x = x} {y = y} {z = z} r reader result none h t =
         record {
           shape = g.shape ∙ b.shape;
           feed = g.feed ∙ b.feed;
+          most = g.most ∙ b.most;
           version = g.version;
           number = g.number ∙ by_version reader.at.version reader.at.number b.version ∙ ap (λ (n : ℕ). n + 1) b.number ∙ two (r.at.number) ∙ ap (λ (v : Option Version). r.at.number + (if is_none v then 2 else 1)) (sym none);
           taken = omega (arith, g.taken, b.later);
           limit = g.limit;
           fits = λ f e. g.fits f (e ∙ sym b.shape);
+          formed = subst (λ (v : Version). has_form v line ≡ true) b.most g.formed;
         }
       where
         two : (n : ℕ) → n + 1 + 1 ≡ n + 2
@@ -180,7 +184,7 @@ header_then_line {x = x} {y = y} {z = z} r reader result none h t =
 pub line_stopped : {line pending : List ℕ} {x y : DeskState} (r : ReaderModel) (version : Version) (stop : LineStop) → r.at.version ≡ Some version → r.at.taken ≤ 2 ^ 40 → TakesLine r.feed r.at.taken r.pending pending line x y (Err stop) → Takes r x y (Err stop)
 line_stopped {line = line} {pending = pending} {x = x} {y = y} r version stop named le h = record {
   moved = (h.moved.0, h.moved.1, h.moved.2);
-  next = told_map (rest_of r x) (λ rest c. stops_same _ _ stop (at_line r version rest named) (stop_as (line_next r.shape version r.at.number r.at.taken) (cut_of r.at.taken (parts_of 10 rest)) r.at.taken rest line (prepend_known pending (y.feeds r.feed).left) stop refl refl c)) (told_cut h le);
+  next = told_map (rest_of r x) (λ rest c. stops_same _ _ stop (at_line r version rest named) (stop_as (line_next r.shape r.at.most version r.at.number r.at.taken) (cut_of r.at.taken (parts_of 10 rest)) r.at.taken rest line (prepend_known pending (y.feeds r.feed).left) stop refl refl c)) (told_cut h le);
   line = tt;
   fault = λ e. h.fault (err_same stop stops.Fault e);
   kept = λ none. h.kept (λ e. none (err_same stop stops.Fault e));
@@ -189,7 +193,7 @@ line_stopped {line = line} {pending = pending} {x = x} {y = y} r version stop na
 pub line_ends : {line pending : List ℕ} {x y : DeskState} (r : ReaderModel) (version : Version) → r.at.version ≡ Some version → r.at.taken ≤ 2 ^ 40 → TakesLine r.feed r.at.taken r.pending pending line x y (Ok Nothing) → Takes r x y (Ok nexts.End)
 line_ends {line = line} {pending = pending} {x = x} {y = y} r version named le h = record {
   moved = (h.moved.0, h.moved.1, h.moved.2);
-  next = told_map (rest_of r x) (λ rest c. at_line r version rest named ∙ ap (line_next r.shape version r.at.number r.at.taken) c) (told_cut h le);
+  next = told_map (rest_of r x) (λ rest c. at_line r version rest named ∙ ap (line_next r.shape r.at.most version r.at.number r.at.taken) c) (told_cut h le);
   line = tt;
   fault = λ e. absurd (cc);
   kept = λ none. h.kept (λ e. absurd (cc));
@@ -198,7 +202,7 @@ line_ends {line = line} {pending = pending} {x = x} {y = y} r version named le h
 pub line_unended : {line pending : List ℕ} {x y : DeskState} (r : ReaderModel) (version : Version) → r.at.version ≡ Some version → r.at.taken ≤ 2 ^ 40 → TakesLine r.feed r.at.taken r.pending pending line x y (Ok Unended) → Takes r x y (Err (stops.Form r.at.number Form))
 line_unended {line = line} {pending = pending} {x = x} {y = y} r version named le h = record {
   moved = (h.moved.0, h.moved.1, h.moved.2);
-  next = told_map (rest_of r x) (λ rest c. at_line r version rest named ∙ ap (line_next r.shape version r.at.number r.at.taken) c) (told_cut h le);
+  next = told_map (rest_of r x) (λ rest c. at_line r version rest named ∙ ap (line_next r.shape r.at.most version r.at.number r.at.taken) c) (told_cut h le);
   line = tt;
   fault = λ e. absurd (cc);
   kept = λ none. h.kept (λ e. absurd (cc));
@@ -206,8 +210,8 @@ line_unended {line = line} {pending = pending} {x = x} {y = y} r version named l
 
 -- what the bytes of a line read as, and what is left after it
 read_as : (line : List ℕ) (r : ReaderModel) (version : Version) (rest : List ℕ) (left : Option (List ℕ)) → r.at.version ≡ Some version → IsSomeAnd left (λ more. cut_of r.at.taken (parts_of 10 rest) ≡ whole line (parts_of 10 more))
-    → IsSomeAnd left (λ more. next_line r rest ≡ line_by r.at.number (behind version r.at.number r.at.taken line) (parts_of 10 more) (line_read r.shape version line))
-read_as line r version rest left named c = some_map left (λ more cut. at_line r version rest named ∙ ap (line_next r.shape version r.at.number r.at.taken) cut) c
+    → IsSomeAnd left (λ more. next_line r rest ≡ line_by r.at.number (behind r.at.most version r.at.number r.at.taken line) (parts_of 10 more) (line_read r.shape version line))
+read_as line r version rest left named c = some_map left (λ more cut. at_line r version rest named ∙ ap (line_next r.shape r.at.most version r.at.number r.at.taken) cut) c
 
 pub line_bad : {line pending : List ℕ} {x y : DeskState} (r : ReaderModel) (version : Version) (word : FormWord) → r.at.version ≡ Some version → r.at.taken ≤ 2 ^ 40 → line_read r.shape version line ≡ Err word → TakesLine r.feed r.at.taken r.pending pending line x y (Ok Whole) → Takes r x y (Err (stops.Form r.at.number word))
 line_bad {line = line} {pending = pending} {x = x} {y = y} r version word named le wrong h = record {
@@ -218,9 +222,9 @@ line_bad {line = line} {pending = pending} {x = x} {y = y} r version word named 
   kept = λ none. h.kept (λ e. absurd (cc));
 }
   where
-    is_bad : (rest : List ℕ) (left : Option (List ℕ)) → IsSomeAnd left (λ more. next_line r rest ≡ line_by r.at.number (behind version r.at.number r.at.taken line) (parts_of 10 more) (line_read r.shape version line)) → next_line r rest ≡ bad r.at.number word
+    is_bad : (rest : List ℕ) (left : Option (List ℕ)) → IsSomeAnd left (λ more. next_line r rest ≡ line_by r.at.number (behind r.at.most version r.at.number r.at.taken line) (parts_of 10 more) (line_read r.shape version line)) → next_line r rest ≡ bad r.at.number word
     is_bad rest None c = absurd c
-    is_bad rest (Some more) c = c ∙ ap (line_by r.at.number (behind version r.at.number r.at.taken line) (parts_of 10 more)) wrong
+    is_bad rest (Some more) c = c ∙ ap (line_by r.at.number (behind r.at.most version r.at.number r.at.taken line) (parts_of 10 more)) wrong
 
 -- memory ran out for the line
 pub line_unread : {line pending : List ℕ} {x y : DeskState} (r : ReaderModel) → TakesLine r.feed r.at.taken r.pending pending line x y (Ok Whole) → Takes r x y (Err stops.NoMemory)
@@ -247,27 +251,30 @@ pub whole_within : {f : Feed} {taken : ℕ} {before pending line : List ℕ} {x 
 whole_within {taken = taken} {line = line} h = within taken (length line) h.moved.3.limit
 
 pub line_taken : {line pending : List ℕ} {x y : DeskState} (r : ReaderModel) (version : Version) (l : Line) → r.at.version ≡ Some version → r.at.taken ≤ 2 ^ 40 → line_read r.shape version line ≡ Ok l
-    → ((f : Problem) → shape_of f ≡ r.shape → LineFits f l) → TakesLine r.feed r.at.taken r.pending pending line x y (Ok Whole) → Takes r x y (Ok (nexts.Line (past_header r version line pending) l))
-line_taken {line = line} {pending = pending} {x = x} {y = y} r version l named le is fits h = record {
+    → ((f : Problem) → shape_of f ≡ r.shape → LineFits f l) → has_form r.at.most l ≡ true → TakesLine r.feed r.at.taken r.pending pending line x y (Ok Whole) → Takes r x y (Ok (nexts.Line (past_header r version line pending) l))
+line_taken {line = line} {pending = pending} {x = x} {y = y} r version l named le is fits formed h = record {
   moved = (h.moved.0, h.moved.1, h.moved.2);
-  next = told_map (rest_of r x) (λ rest c. some_map (prepend_known pending (y.feeds r.feed).left) (λ more e. e ∙ ap (line_by r.at.number (behind version r.at.number r.at.taken line) (parts_of 10 more)) is) (read_as line r version rest _ named c)) (told_cut h le);
+  next = told_map (rest_of r x) (λ rest c. some_map (prepend_known pending (y.feeds r.feed).left) (λ more e. e ∙ ap (line_by r.at.number (behind r.at.most version r.at.number r.at.taken line) (parts_of 10 more)) is) (read_as line r version rest _ named c)) (told_cut h le);
   line = record {
     shape = refl;
     feed = refl;
+    most = refl;
     version = refl;
     number = ap (λ (v : Option Version). r.at.number + (if is_none v then 2 else 1)) (sym named);
     taken = omega arith;
     limit = whole_within h;
     fits = fits;
+    formed = formed;
   };
   fault = λ e. absurd (cc);
   kept = λ none. h.kept (λ e. absurd (cc));
 }
 
 -- what every reader keeps, after a whole line
-pub keeps_on : {line pending : List ℕ} {x y : DeskState} (r : ReaderModel) (version : Version) → ReaderKeeps r → TakesLine r.feed r.at.taken r.pending pending line x y (Ok Whole) → ReaderKeeps (past_header r version line pending)
-keeps_on {line = line} {pending = pending} r version k h = record {
+pub keeps_on : {line pending : List ℕ} {x y : DeskState} (r : ReaderModel) (version : Version) → ReaderKeeps r → is_within r.at.most version ≡ true → TakesLine r.feed r.at.taken r.pending pending line x y (Ok Whole) → ReaderKeeps (past_header r version line pending)
+keeps_on {line = line} {pending = pending} r version k within_most h = record {
   few_ships = k.few_ships;
+  named = within_most;
   few_lines = omega (arith, k.few_lines);
   short = whole_within h;
   read = omega (arith, whole_sizes h, h.moved.2);

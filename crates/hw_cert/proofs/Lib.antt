@@ -6,15 +6,26 @@ pub mod Answered
 pub mod Shapes
 pub mod Streams
 pub mod WordBytes
+pub mod TollBytes
+pub mod LineBytes
 mod LinesSent
 pub mod Written
 pub mod ReadBack
+pub mod NumberText
+pub mod TollWords
+pub mod TollAgain
+pub mod Spells
+pub mod TollBack
 pub mod FormBack
+pub mod Headers
+pub mod Formed
 pub mod WholeCerts
 pub mod Wordings
 pub mod Telling
 pub mod Logging
 pub mod FormText
+pub mod SmallNumbers
+pub mod TollLimits
 pub mod ValidText
 pub mod ToldText
 pub mod Chosen

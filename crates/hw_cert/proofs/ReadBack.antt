@@ -28,7 +28,7 @@ paired None b p h = absurd cc
 paired (Some x) None p h = absurd cc
 paired {A = A} {B = B} (Some x) (Some y) p h = let e : (x, y) ≡ p = cc in (ap (λ (q : A × B). Some q.0) e, ap (λ (q : A × B). Some q.1) e)
 
-put_back : {A : Type 0} (a : Option A) (b : Option (List A)) (all : List A) → put_first a b ≡ Some all → (x : A) × (xs : List A) × (a ≡ Some x) × (b ≡ Some xs) × (all ≡ x ∷ xs)
+pub put_back : {A : Type 0} (a : Option A) (b : Option (List A)) (all : List A) → put_first a b ≡ Some all → (x : A) × (xs : List A) × (a ≡ Some x) × (b ≡ Some xs) × (all ≡ x ∷ xs)
 put_back None b all h = absurd cc
 put_back (Some x) None all h = absurd cc
 put_back (Some x) (Some xs) all h = (x, xs, refl, refl, cc)

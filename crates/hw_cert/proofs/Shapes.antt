@@ -1,20 +1,25 @@
 -- A line without a bad word is one of the problem's shape.
-use Rattle.std.proofs.Common.{◌≡◌, ◌==◌, ◌<◌, ◌+◌, ◌&&◌, nat_lt, ℕ, zero, suc, Bool, true, false, List, [], ◌∷◌, length, Option, Some, None, Ok, refl, sym, ap, subst, arith}
-use Rattle.std.proofs.lemmas.Bool.{ltb-true, eqb-true, and_parts}
+use Rattle.std.proofs.Common.{◌≡◌, ◌==◌, ◌<◌, ◌≤◌, ◌+◌, ◌&&◌, nat_lt, ℕ, zero, suc, Bool, true, false, List, [], ◌∷◌, length, map, Option, Some, None, Ok, refl, sym, ap, subst, arith}
+use Rattle.std.proofs.lemmas.Bool.{ltb-true, leb-true, eqb-true, and_parts, lt-ltb}
 use Rattle.std.proofs.lemmas.List.Elements.{All-nil, All-cons}
-use Rattle.std.specs.Prelude.{All, slice_index}
+use Rattle.std.specs.Prelude.{All, slice_index, nat_le}
 use Rattle.std.specs.List.{list_all}
 use Rattle.hw_model.specs.Problem.{Problem, shape_of}
 use Rattle.hw_model.specs.Lits.{BadLit, out_of_range, not_normal, first_bad}
 use Rattle.hw_model.specs.declared.shape.Shape.{Shape}
-use Rattle.hw_cert.specs.Fits.{unless, ◌or_else◌, lit_fault, clause_fault, ascends, first_fault, refused_by, fitted, line_read}
+use Rattle.hw_cert.specs.Fits.{unless, ◌or_else◌, lit_fault, clause_fault, ascends, rises, block_fits, weights_small, prices_small, first_fault, refused_by, fitted, line_read}
 use Rattle.hw_cert.specs.Spelled.{spelled}
+use Rattle.std.specs.List.Sorted.{IsStrictlyIncreasing}
+use Rattle.hw_tolls.specs.declared.toll.Block.{Block}
+use Rattle.hw_tolls.specs.Tolls.{BlockFits}
 use Rattle.hw_lines.specs.Valid.{LineFits}
+use Rattle.hw_lines.specs.declared.line.Price.{Price}
 use Rattle.hw_lines.specs.declared.line.Line.{Line}
 use Rattle.hw_lines.specs.declared.line.Line.TheVariants as lines
 use Rattle.hw_cert.specs.declared.stop.FormWord.{FormWord}
-use Rattle.hw_cert.specs.declared.stop.FormWord.TheVariants.{Range}
+use Rattle.hw_cert.specs.declared.stop.FormWord.TheVariants.{Form, Range}
 use Rattle.hw_cert.specs.declared.version.Version.{Version}
+use Rattle.hw_cert.proofs.WordBytes.{both_on}
 
 all_below : (k : ℕ) (xs : List ℕ) → list_all (λ slot. nat_lt slot k) xs ≡ true → All (λ slot. slot < k) xs
 all_below k [] h = All-nil (λ slot. slot < k)
@@ -49,6 +54,38 @@ no_bad None h = refl
 no_bad (Some (out_of_range place)) h = absurd cc
 no_bad (Some (not_normal place)) h = absurd cc
 
+-- numbers of which each but the first is above the one before it
+rising : (ns : List ℕ) → rises ns ≡ true → IsStrictlyIncreasing ns
+rising [] h = λ k lt. absurd (omega (arith, lt))
+rising (n ∷ []) h = λ k lt. absurd (omega (arith, lt))
+rising (zero ∷ m ∷ ms) h = λ k lt. first k lt
+  where
+    first : (k : ℕ) → k + 1 < length (zero ∷ m ∷ ms) → slice_index (zero ∷ m ∷ ms) k < slice_index (zero ∷ m ∷ ms) (k + 1)
+    first zero lt = ltb-true zero m (and_parts (nat_lt zero m) (ascends m ms) h).0
+    first (suc j) lt =
+        let e : suc j + 1 ≡ suc (j + 1) = omega arith in
+        rw e (increasing zero (m ∷ ms) h j (omega (arith, lt)))
+rising (suc n ∷ m ∷ ms) h = λ k lt. increasing n (suc n ∷ m ∷ ms) (both_on (nat_lt n (suc n)) (ascends (suc n) (m ∷ ms)) (lt-ltb n (suc n) (omega arith)) h) k lt
+
+-- a test of each element says so of each
+each_passes : {A : Type 0} (p : A → Bool) (P : A → Type 0) → ((x : A) → p x ≡ true → P x) → (xs : List A) → list_all p xs ≡ true → All P xs
+each_passes p P f [] h = All-nil P
+each_passes p P f (x ∷ xs) h = let q = and_parts (p x) (list_all p xs) h in All-cons P x xs (f x q.0) (each_passes p P f xs q.1)
+
+block_in : (f : Problem) (block : Block) → block_fits (shape_of f) block ≡ true → BlockFits f block
+block_in f block h =
+    let p = and_parts (nat_lt block.ship f.ships) (nat_le block.low block.high && nat_lt block.high f.slots) h in
+    let q = and_parts (nat_le block.low block.high) (nat_lt block.high f.slots) p.1 in
+    record { ship_in = ltb-true block.ship f.ships p.0; ordered = leb-true block.low block.high q.0; slot_in = ltb-true block.high f.slots q.1 }
+
+-- numbers from 1 on that ascend
+from_one : (before : ℕ) (prices : List Price) → ascends before (map (λ (due : Price). due.toll) prices) ≡ true → All (λ (due : Price). 0 < due.toll) prices
+from_one before [] h = All-nil (λ (due : Price). 0 < due.toll)
+from_one before (due ∷ prices) h =
+    let p = and_parts (nat_lt before due.toll) (ascends due.toll (map (λ (one : Price). one.toll) prices)) h in
+    let above : before < due.toll = ltb-true before due.toll p.0 in
+    All-cons (λ (one : Price). 0 < one.toll) due prices (omega (arith, above)) (from_one due.toll prices p.1)
+
 pub fits_problem : (f : Problem) (line : Line) → first_fault (shape_of f) line ≡ None → LineFits f line
 fits_problem f (lines.Table table) h =
     let p = and_parts (list_all (λ slot. nat_lt slot f.slots) table) (length table == f.ships) (kept _ Range h) in
@@ -69,6 +106,44 @@ fits_problem f (lines.Delete ids) h =
     let p = and_parts (nat_lt 0 (length ids)) (ascends 0 ids) (kept _ Range h) in
     let some : 0 < length ids = ltb-true 0 (length ids) p.0 in
     (some, first_above ids some p.1, increasing 0 ids p.1)
+fits_problem f (lines.Narrows blocks) h =
+    let ships : List ℕ = map (λ (block : Block). block.ship) blocks in
+    let p = and_parts (nat_lt 0 (length blocks)) (nat_le (length blocks) 40 && (list_all (block_fits (shape_of f)) blocks && rises ships)) (kept _ Range h) in
+    let q = and_parts (nat_le (length blocks) 40) (list_all (block_fits (shape_of f)) blocks && rises ships) p.1 in
+    let r = and_parts (list_all (block_fits (shape_of f)) blocks) (rises ships) q.1 in
+    record {
+      some_block = ltb-true 0 (length blocks) p.0;
+      few_blocks = leb-true (length blocks) 40 q.0;
+      each_block = each_passes (block_fits (shape_of f)) (BlockFits f) (block_in f) blocks r.0;
+      ascend = rising ships r.1;
+    }
+fits_problem f (lines.Tugs n slot most weights) h =
+    let p = neither (unless Form (weights_small most weights)) (unless Range (nat_le f.ships n && (nat_lt n (f.ships + length f.rules) && (nat_lt slot f.slots && nat_le (length weights) 40)))) h in
+    let s = and_parts (nat_le most 2_560) (list_all (λ weight. nat_le weight 64) weights) (kept _ Form p.0) in
+    let a = and_parts (nat_le f.ships n) (nat_lt n (f.ships + length f.rules) && (nat_lt slot f.slots && nat_le (length weights) 40)) (kept _ Range p.1) in
+    let b = and_parts (nat_lt n (f.ships + length f.rules)) (nat_lt slot f.slots && nat_le (length weights) 40) a.1 in
+    let c = and_parts (nat_lt slot f.slots) (nat_le (length weights) 40) b.1 in
+    record {
+      behind_ships = leb-true f.ships n a.0;
+      restriction_in = ltb-true n (f.ships + length f.rules) b.0;
+      slot_in = ltb-true slot f.slots c.0;
+      small_most = leb-true most 2_560 s.0;
+      few_weights = leb-true (length weights) 40 c.1;
+      small_weights = each_passes (λ weight. nat_le weight 64) (λ weight. weight ≤ 64) (λ weight e. leb-true weight 64 e) weights s.1;
+    }
+fits_problem f (lines.Tariff scale prices) h =
+    let tolls : List ℕ = map (λ (due : Price). due.toll) prices in
+    let p = neither (unless Form (prices_small scale prices)) (unless Range (ascends 0 tolls)) h in
+    let s = and_parts (nat_le scale 1_000_000) (list_all (λ (due : Price). nat_le due.price 1_000_000_000_000_000_000) prices) (kept _ Form p.0) in
+    let up = kept _ Range p.1 in
+    record {
+      small_scale = leb-true scale 1_000_000 s.0;
+      from_one = from_one 0 prices up;
+      ascend = increasing 0 tolls up;
+      small_prices = each_passes (λ (due : Price). nat_le due.price 1_000_000_000_000_000_000) (λ (due : Price). due.price ≤ 1_000_000_000_000_000_000) (λ due e. leb-true due.price 1_000_000_000_000_000_000 e) prices s.1;
+    }
+fits_problem f (lines.Priced clause) h = no_bad (first_bad (shape_of f) clause) h
+fits_problem f (lines.Bound bound) h = leb-true bound 40_000_000_000_000 (kept _ Form h)
 
 pub refused_ok : (line : Line) (o : Option FormWord) (l : Line) → refused_by line o ≡ Ok l → (o ≡ None) × (line ≡ l)
 refused_ok line None l h = (refl, cc)

@@ -13,16 +13,17 @@ use Rattle.hw_desk.specs.Whole.{SendsText}
 use Rattle.hw_desk.specs.declared.desk.Tray.TheVariants.{Proof}
 use Rattle.hw_lines.specs.declared.line.Line.{Line}
 use Rattle.hw_lines.specs.declared.line.Line.TheVariants as lines
-use Rattle.hw_cert.specs.declared.version.Version.TheVariants.{Two}
+use Rattle.hw_cert.specs.declared.version.Version.TheVariants.{Three}
 use Rattle.hw_cert.specs.declared.log.LogStop.TheVariants.{Failed}
 use Rattle.hw_cert.specs.Texts.{line_words, line_text}
 use Rattle.hw_cert.specs.Spelled.{spelled, line_of}
-use Rattle.hw_cert.specs.Laws.{line_numbers, is_small}
+use Rattle.hw_cert.specs.Laws.{line_numbers, wide_numbers, is_small, is_wide}
 use Rattle.hw_cert.specs.Logs.{LogTold, ended_text, IsWhole, TellsLine, TakesLine}
 use Rattle.hw_cert.specs.Told.{header_line, behind_text, line_told, with_line, parts_told, lines_told, bytes_told, is_told, tray_log}
 use Rattle.hw_cert.proofs.ReadBack.{chained}
-use Rattle.hw_cert.proofs.Written.{line_again}
-use Rattle.hw_cert.proofs.WordBytes.{both_on, words_lack, joined_lacks}
+use Rattle.hw_cert.proofs.Written.{line_again, word_count}
+use Rattle.hw_cert.proofs.LineBytes.{words_lack}
+use Rattle.hw_cert.proofs.WordBytes.{both_on, joined_lacks}
 
 -- ---- the parts of bytes with more after them
 
@@ -113,42 +114,41 @@ told_after (p ∷ r ∷ ps) qs was h e none =
 
 -- ---- one line
 
-text_lacks : (line : Line) → list_all is_small (line_numbers line) ≡ true → lacks 10 (line_text line) ≡ true
-text_lacks line small = joined_lacks 10 32 (line_words line) refl (words_lack 10 line (omega arith) small)
+text_lacks : (line : Line) → list_all is_small (line_numbers line) ≡ true → list_all is_wide (wide_numbers line) ≡ true → lacks 10 (line_text line) ≡ true
+text_lacks line small wide = joined_lacks 10 32 (line_words line) refl (words_lack 10 line (omega arith) small wide)
 
-some_words : (line : Line) → 1 ≤ length (line_words line)
-some_words (lines.Table table) = omega arith
-some_words (lines.Explain n clause) = omega arith
-some_words (lines.Order v w x clause) = omega arith
-some_words (lines.Goal clause) = omega arith
-some_words (lines.Lemma clause hints) = omega arith
-some_words (lines.Delete ids) = omega arith
-
-by_words : (line : Line) → list_all is_small (line_numbers line) ≡ true → spelled Two (line_text line) ≡ line_of Two (line_words line)
-by_words line small = ap (line_of Two) (cut_joined 32 (line_words line) (some_words line) (words_lack 32 line (omega arith) small))
+by_words : (line : Line) → list_all is_small (line_numbers line) ≡ true → list_all is_wide (wide_numbers line) ≡ true → spelled Three (line_text line) ≡ line_of Three (line_words line)
+by_words line small wide = ap (line_of Three) (cut_joined 32 (line_words line) (word_count line) (words_lack 32 line (omega arith) small wide))
 
 -- the text of a line is told as that line
-told_itself : (line : Line) → list_all is_small (line_numbers line) ≡ true → line_told (line_text line) ≡ Some line
-told_itself (lines.Table []) small = refl
-told_itself (lines.Table (slot ∷ table)) small = by_words (lines.Table (slot ∷ table)) small ∙ line_again Two (lines.Table (slot ∷ table)) small refl (omega arith)
-told_itself (lines.Explain n clause) small = by_words (lines.Explain n clause) small ∙ line_again Two (lines.Explain n clause) small refl tt
-told_itself (lines.Order v w x clause) small = by_words (lines.Order v w x clause) small ∙ line_again Two (lines.Order v w x clause) small refl tt
-told_itself (lines.Goal []) small = refl
-told_itself (lines.Goal (lit ∷ clause)) small = by_words (lines.Goal (lit ∷ clause)) small ∙ line_again Two (lines.Goal (lit ∷ clause)) small refl tt
-told_itself (lines.Lemma [] hints) small = by_words (lines.Lemma [] hints) small ∙ line_again Two (lines.Lemma [] hints) small refl tt
-told_itself (lines.Lemma (lit ∷ clause) hints) small = by_words (lines.Lemma (lit ∷ clause) hints) small ∙ line_again Two (lines.Lemma (lit ∷ clause) hints) small refl tt
-told_itself (lines.Delete []) small = refl
-told_itself (lines.Delete (id ∷ ids)) small = by_words (lines.Delete (id ∷ ids)) small ∙ line_again Two (lines.Delete (id ∷ ids)) small refl (omega arith)
+told_itself : (line : Line) → list_all is_small (line_numbers line) ≡ true → list_all is_wide (wide_numbers line) ≡ true → line_told (line_text line) ≡ Some line
+told_itself (lines.Table []) small wide = refl
+told_itself (lines.Table (slot ∷ table)) small wide = by_words (lines.Table (slot ∷ table)) small wide ∙ line_again Three (lines.Table (slot ∷ table)) small wide refl (omega arith)
+told_itself (lines.Explain n clause) small wide = by_words (lines.Explain n clause) small wide ∙ line_again Three (lines.Explain n clause) small wide refl tt
+told_itself (lines.Order v w x clause) small wide = by_words (lines.Order v w x clause) small wide ∙ line_again Three (lines.Order v w x clause) small wide refl tt
+told_itself (lines.Goal []) small wide = refl
+told_itself (lines.Goal (lit ∷ clause)) small wide = by_words (lines.Goal (lit ∷ clause)) small wide ∙ line_again Three (lines.Goal (lit ∷ clause)) small wide refl tt
+told_itself (lines.Lemma [] hints) small wide = by_words (lines.Lemma [] hints) small wide ∙ line_again Three (lines.Lemma [] hints) small wide refl tt
+told_itself (lines.Lemma (lit ∷ clause) hints) small wide = by_words (lines.Lemma (lit ∷ clause) hints) small wide ∙ line_again Three (lines.Lemma (lit ∷ clause) hints) small wide refl tt
+told_itself (lines.Delete []) small wide = refl
+told_itself (lines.Delete (id ∷ ids)) small wide = by_words (lines.Delete (id ∷ ids)) small wide ∙ line_again Three (lines.Delete (id ∷ ids)) small wide refl (omega arith)
+told_itself (lines.Narrows []) small wide = refl
+told_itself (lines.Narrows (block ∷ blocks)) small wide = by_words (lines.Narrows (block ∷ blocks)) small wide ∙ line_again Three (lines.Narrows (block ∷ blocks)) small wide refl (omega arith)
+told_itself (lines.Tugs n slot most weights) small wide = by_words (lines.Tugs n slot most weights) small wide ∙ line_again Three (lines.Tugs n slot most weights) small wide refl tt
+told_itself (lines.Tariff scale prices) small wide = by_words (lines.Tariff scale prices) small wide ∙ line_again Three (lines.Tariff scale prices) small wide refl tt
+told_itself (lines.Priced []) small wide = refl
+told_itself (lines.Priced (lit ∷ clause)) small wide = by_words (lines.Priced (lit ∷ clause)) small wide ∙ line_again Three (lines.Priced (lit ∷ clause)) small wide refl tt
+told_itself (lines.Bound bound) small wide = by_words (lines.Bound bound) small wide ∙ line_again Three (lines.Bound bound) small wide refl tt
 
-whole_told : (line : Line) → list_all is_small (line_numbers line) ≡ true → lines_told (ended_text line) ≡ Some (record { lines = line ∷ []; behind = [] })
-whole_told line small = ap parts_told (part_before 10 (line_text line) [] (text_lacks line small)) ∙ ap (λ (o : Option Line). with_line o (Some (record { lines = []; behind = [] }))) (told_itself line small)
+whole_told : (line : Line) → list_all is_small (line_numbers line) ≡ true → list_all is_wide (wide_numbers line) ≡ true → lines_told (ended_text line) ≡ Some (record { lines = line ∷ []; behind = [] })
+whole_told line small wide = ap parts_told (part_before 10 (line_text line) [] (text_lacks line small wide)) ∙ ap (λ (o : Option Line). with_line o (Some (record { lines = []; behind = [] }))) (told_itself line small wide)
 
 -- the end of a text is not in a proper prefix of it
-prefix_told : (line : Line) (n : ℕ) → list_all is_small (line_numbers line) ≡ true → n < length (ended_text line) → lines_told (take n (ended_text line)) ≡ Some (record { lines = []; behind = take n (ended_text line) })
-prefix_told line n small lt =
+prefix_told : (line : Line) (n : ℕ) → list_all is_small (line_numbers line) ≡ true → list_all is_wide (wide_numbers line) ≡ true → n < length (ended_text line) → lines_told (take n (ended_text line)) ≡ Some (record { lines = []; behind = take n (ended_text line) })
+prefix_told line n small wide lt =
     let short : n ≤ length (line_text line) = omega (arith, lt, length-append (line_text line) (10 ∷ [])) in
     let same : take n (ended_text line) ≡ take n (line_text line) = take-append-le n (line_text line) (10 ∷ []) short in
-    ap parts_told (one_part 10 (take n (ended_text line)) (subst (λ (t : List ℕ). lacks 10 t ≡ true) (sym same) (part_lacks n (line_text line) (text_lacks line small))))
+    ap parts_told (one_part 10 (take n (ended_text line)) (subst (λ (t : List ℕ). lacks 10 t ≡ true) (sym same) (part_lacks n (line_text line) (text_lacks line small wide))))
   where
     part_lacks : (n : ℕ) (bs : List ℕ) → lacks 10 bs ≡ true → lacks 10 (take n bs) ≡ true
     part_lacks zero bs h = refl
@@ -164,13 +164,13 @@ all_told rest more was e none = ap parts_told (parts_more rest more) ∙ told_af
 abbrev Steps : (LogTold → LogTold → Type 0) → List ℕ → Type 0
 Steps P more = (rest : List ℕ) (was : LogTold) → lines_told rest ≡ Some was → was.behind ≡ [] → (now : LogTold) × (lines_told (rest ++ more) ≡ Some now) × P was now
 
-one_more : (line : Line) → list_all is_small (line_numbers line) ≡ true → Steps (TellsLine line (Ok tt)) (ended_text line)
-one_more line small rest was e none = (record { lines = was.lines ++ line ∷ []; behind = [] }, all_told rest (ended_text line) was e none ∙ ap (after_lines was.lines) (whole_told line small), (refl, refl))
+one_more : (line : Line) → list_all is_small (line_numbers line) ≡ true → list_all is_wide (wide_numbers line) ≡ true → Steps (TellsLine line (Ok tt)) (ended_text line)
+one_more line small wide rest was e none = (record { lines = was.lines ++ line ∷ []; behind = [] }, all_told rest (ended_text line) was e none ∙ ap (after_lines was.lines) (whole_told line small wide), (refl, refl))
 
-one_begun : (line : Line) (n : ℕ) → list_all is_small (line_numbers line) ≡ true → n < length (ended_text line) → Steps (TellsLine line (Err Failed)) (take n (ended_text line))
-one_begun line n small lt rest was e none = (
+one_begun : (line : Line) (n : ℕ) → list_all is_small (line_numbers line) ≡ true → list_all is_wide (wide_numbers line) ≡ true → n < length (ended_text line) → Steps (TellsLine line (Err Failed)) (take n (ended_text line))
+one_begun line n small wide lt rest was e none = (
   record { lines = was.lines ++ []; behind = take n (ended_text line) },
-  all_told rest (take n (ended_text line)) was e none ∙ ap (after_lines was.lines) (prefix_told line n small lt),
+  all_told rest (take n (ended_text line)) was e none ∙ ap (after_lines was.lines) (prefix_told line n small wide lt),
   (append-nil was.lines, (n, lt, refl)),
 )
 
@@ -210,23 +210,23 @@ grown P (Some xs) (Some ys) more f told whole t =
     }
 
 -- a line that was sent is a line more
-whole_grown : {x y : DeskState} (line : Line) → list_all is_small (line_numbers line) ≡ true → is_told (x.trays Proof).sent ≡ true → IsWhole (tray_log x) → Sends Proof (ended_text line) x y → Grown (TellsLine line (Ok tt)) (x.trays Proof).sent (y.trays Proof).sent
-whole_grown {x = x} {y = y} line small told whole h = grown (TellsLine line (Ok tt)) (x.trays Proof).sent (y.trays Proof).sent (ended_text line) (one_more line small) told whole h.sent
+whole_grown : {x y : DeskState} (line : Line) → list_all is_small (line_numbers line) ≡ true → list_all is_wide (wide_numbers line) ≡ true → is_told (x.trays Proof).sent ≡ true → IsWhole (tray_log x) → Sends Proof (ended_text line) x y → Grown (TellsLine line (Ok tt)) (x.trays Proof).sent (y.trays Proof).sent
+whole_grown {x = x} {y = y} line small wide told whole h = grown (TellsLine line (Ok tt)) (x.trays Proof).sent (y.trays Proof).sent (ended_text line) (one_more line small wide) told whole h.sent
 
-pub logged : {E : Type 0} {x y : DeskState} {u : Unit {0}} (line : Line) → list_all is_small (line_numbers line) ≡ true → is_told (x.trays Proof).sent ≡ true → IsWhole (tray_log x) → SendsText {E = E} Proof (ended_text line) x y (Ok u) → TakesLine line (tray_log x) (tray_log y) (Ok tt)
-logged line small told whole h = record { later = h.only.later; lines = (whole_grown line small told whole h.ok).grows; cause = h.kept }
+pub logged : {E : Type 0} {x y : DeskState} {u : Unit {0}} (line : Line) → list_all is_small (line_numbers line) ≡ true → list_all is_wide (wide_numbers line) ≡ true → is_told (x.trays Proof).sent ≡ true → IsWhole (tray_log x) → SendsText {E = E} Proof (ended_text line) x y (Ok u) → TakesLine line (tray_log x) (tray_log y) (Ok tt)
+logged line small wide told whole h = record { later = h.only.later; lines = (whole_grown line small wide told whole h.ok).grows; cause = h.kept }
 
 -- a line that was sent in part follows the lines
-part_grown : {x y : DeskState} (line : Line) (n : ℕ) → n < length (ended_text line) → list_all is_small (line_numbers line) ≡ true → is_told (x.trays Proof).sent ≡ true → IsWhole (tray_log x) → Sends Proof (take n (ended_text line)) x y → Grown (TellsLine line (Err Failed)) (x.trays Proof).sent (y.trays Proof).sent
-part_grown {x = x} {y = y} line n lt small told whole h = grown (TellsLine line (Err Failed)) (x.trays Proof).sent (y.trays Proof).sent (take n (ended_text line)) (one_begun line n small lt) told whole h.sent
+part_grown : {x y : DeskState} (line : Line) (n : ℕ) → n < length (ended_text line) → list_all is_small (line_numbers line) ≡ true → list_all is_wide (wide_numbers line) ≡ true → is_told (x.trays Proof).sent ≡ true → IsWhole (tray_log x) → Sends Proof (take n (ended_text line)) x y → Grown (TellsLine line (Err Failed)) (x.trays Proof).sent (y.trays Proof).sent
+part_grown {x = x} {y = y} line n lt small wide told whole h = grown (TellsLine line (Err Failed)) (x.trays Proof).sent (y.trays Proof).sent (take n (ended_text line)) (one_begun line n small wide lt) told whole h.sent
 
-pub log_failed : {E : Type 0} {x y : DeskState} {e : E} (line : Line) → list_all is_small (line_numbers line) ≡ true → is_told (x.trays Proof).sent ≡ true → IsWhole (tray_log x) → SendsText {E = E} Proof (ended_text line) x y (Err e) → TakesLine line (tray_log x) (tray_log y) (Err Failed)
-log_failed line small told whole h = record { later = h.only.later; lines = (part_grown line h.err.0 h.err.1 small told whole h.err.2).grows; cause = h.cause }
+pub log_failed : {E : Type 0} {x y : DeskState} {e : E} (line : Line) → list_all is_small (line_numbers line) ≡ true → list_all is_wide (wide_numbers line) ≡ true → is_told (x.trays Proof).sent ≡ true → IsWhole (tray_log x) → SendsText {E = E} Proof (ended_text line) x y (Err e) → TakesLine line (tray_log x) (tray_log y) (Err Failed)
+log_failed line small wide told whole h = record { later = h.only.later; lines = (part_grown line h.err.0 h.err.1 small wide told whole h.err.2).grows; cause = h.cause }
 
 -- whatever of a line was sent, what was sent is still the header, whole lines and bytes after them
-pub still_told : {E : Type 0} {x y : DeskState} (line : Line) (r : Result Unit E) → list_all is_small (line_numbers line) ≡ true → IsWhole (tray_log x) → SendsText Proof (ended_text line) x y r → is_told (x.trays Proof).sent ≡ true → is_told (y.trays Proof).sent ≡ true
-still_told line (Ok u) small whole h told = (whole_grown line small told whole h.ok).told
-still_told line (Err e) small whole h told = (part_grown line h.err.0 h.err.1 small told whole h.err.2).told
+pub still_told : {E : Type 0} {x y : DeskState} (line : Line) (r : Result Unit E) → list_all is_small (line_numbers line) ≡ true → list_all is_wide (wide_numbers line) ≡ true → IsWhole (tray_log x) → SendsText Proof (ended_text line) x y r → is_told (x.trays Proof).sent ≡ true → is_told (y.trays Proof).sent ≡ true
+still_told line (Ok u) small wide whole h told = (whole_grown line small wide told whole h.ok).told
+still_told line (Err e) small wide whole h told = (part_grown line h.err.0 h.err.1 small wide told whole h.err.2).told
 
 -- Proof was made before, whatever of a text was sent
 pub made_still : {E : Type 0} {x y : DeskState} {text : List ℕ} (r : Result Unit E) → SendsText Proof text x y r → (x.trays Proof).made ≡ true → (y.trays Proof).made ≡ true

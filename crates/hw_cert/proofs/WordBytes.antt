@@ -1,29 +1,27 @@
--- Which bytes the words of a line lack.
+-- Which bytes numbers and literals lack.
 use Rattle.std.proofs.Common.{◌≡◌, ◌==◌, ◌≤◌, ◌<◌, ◌-◌, ◌^◌, ◌&&◌, not, ℕ, Bool, true, false, List, [], ◌∷◌, ◌++◌, map, decimal, refl, sym, ◌∙◌, arith}
 use Rattle.std.proofs.lemmas.Bool.{and_parts, leb-true}
 use Rattle.std.proofs.lemmas.Bool.Decides.{nat_tests}
 use Rattle.std.proofs.lemmas.Fmt.{digits_decimal}
 use Rattle.std.proofs.lemmas.List.Folds.{list_all-append}
-use Rattle.std.specs.Prelude.{codes, nat_le}
+use Rattle.std.specs.Prelude.{nat_le}
 use Rattle.std.specs.List.{list_all, flat_map, join_with_byte}
 use Rattle.hw_model.specs.declared.lit.Lit.{Lit}
 use Rattle.hw_model.specs.declared.lit.Lit.TheVariants.{AtOrAfter, Before, First, NotFirst}
 use Rattle.hw_text.specs.Numbers.{is_digit}
 use Rattle.hw_text.specs.Parts.{lacks}
 use Rattle.hw_text.proofs.Digits.{own}
-use Rattle.hw_cert.specs.Texts.{pair_text, lit_text, line_words}
-use Rattle.hw_cert.specs.Laws.{lit_numbers, line_numbers, is_small}
-use Rattle.hw_lines.specs.declared.line.Line.{Line}
-use Rattle.hw_lines.specs.declared.line.Line.TheVariants as lines
+use Rattle.hw_cert.specs.Texts.{pair_text, lit_text}
+use Rattle.hw_cert.specs.Laws.{lit_numbers, is_small}
 
 pub both_on : (a b : Bool) → a ≡ true → b ≡ true → (a && b) ≡ true
 both_on true b p q = q
 both_on false b p q = p
 
-differs : (b c : ℕ) → c < b → not (b == c) ≡ true
+pub differs : (b c : ℕ) → c < b → not (b == c) ≡ true
 differs b c lt = grind (arith, nat_tests)
 
-digits_lack : (c : ℕ) (ds : List ℕ) → c < 48 → list_all is_digit ds ≡ true → lacks c ds ≡ true
+pub digits_lack : (c : ℕ) (ds : List ℕ) → c < 48 → list_all is_digit ds ≡ true → lacks c ds ≡ true
 digits_lack c [] lt h = refl
 digits_lack c (d ∷ ds) lt h =
     let p = and_parts (is_digit d) (list_all is_digit ds) h in
@@ -57,42 +55,13 @@ lit_lacks c (NotFirst v w) lt h = let p = two_small v w h in both_on (not (110 =
 pub small_parts : (xs ys : List ℕ) → list_all is_small (xs ++ ys) ≡ true → (list_all is_small xs ≡ true) × (list_all is_small ys ≡ true)
 small_parts xs ys h = and_parts (list_all is_small xs) (list_all is_small ys) (sym (list_all-append is_small xs ys) ∙ h)
 
-numbers_lack : (c : ℕ) (ns : List ℕ) → c < 46 → list_all is_small ns ≡ true → list_all (lacks c) (map decimal ns) ≡ true
+pub numbers_lack : (c : ℕ) (ns : List ℕ) → c < 46 → list_all is_small ns ≡ true → list_all (lacks c) (map decimal ns) ≡ true
 numbers_lack c [] lt h = refl
 numbers_lack c (n ∷ ns) lt h = let p = and_parts (is_small n) (list_all is_small ns) h in both_on (lacks c (decimal n)) (list_all (lacks c) (map decimal ns)) (number_lacks c n (omega arith) p.0) (numbers_lack c ns lt p.1)
 
-lits_lack : (c : ℕ) (ls : List Lit) → c < 46 → list_all is_small (flat_map lit_numbers ls) ≡ true → list_all (lacks c) (map lit_text ls) ≡ true
+pub lits_lack : (c : ℕ) (ls : List Lit) → c < 46 → list_all is_small (flat_map lit_numbers ls) ≡ true → list_all (lacks c) (map lit_text ls) ≡ true
 lits_lack c [] lt h = refl
 lits_lack c (l ∷ ls) lt h = let p = small_parts (lit_numbers l) (flat_map lit_numbers ls) h in both_on (lacks c (lit_text l)) (list_all (lacks c) (map lit_text ls)) (lit_lacks c l lt p.0) (lits_lack c ls lt p.1)
-
-all_append : (c : ℕ) (xs ys : List (List ℕ)) → list_all (lacks c) xs ≡ true → list_all (lacks c) ys ≡ true → list_all (lacks c) (xs ++ ys) ≡ true
-all_append c xs ys p q = list_all-append (lacks c) xs ys ∙ both_on (list_all (lacks c) xs) (list_all (lacks c) ys) p q
-
-letter_lacks : (c b : ℕ) → c < b → lacks c (b ∷ []) ≡ true
-letter_lacks c b lt = both_on (not (b == c)) true (differs b c lt) refl
-
--- the words of a line lack spaces and line feeds
-pub words_lack : (c : ℕ) (line : Line) → c < 46 → list_all is_small (line_numbers line) ≡ true → list_all (lacks c) (line_words line) ≡ true
-words_lack c (lines.Table table) lt h = both_on (lacks c (codes "t")) (list_all (lacks c) (map decimal table)) (letter_lacks c 116 (omega arith)) (numbers_lack c table lt h)
-words_lack c (lines.Explain n clause) lt h =
-    let p = and_parts (is_small n) (list_all is_small (flat_map lit_numbers clause)) h in
-    both_on (lacks c (codes "e")) (list_all (lacks c) (decimal n ∷ map lit_text clause)) (letter_lacks c 101 (omega arith))
-    (both_on (lacks c (decimal n)) (list_all (lacks c) (map lit_text clause)) (number_lacks c n (omega arith) p.0) (lits_lack c clause lt p.1))
-words_lack c (lines.Order v w x clause) lt h =
-    let p = and_parts (is_small v) (list_all is_small (w ∷ x ∷ flat_map lit_numbers clause)) h in
-    let q = and_parts (is_small w) (list_all is_small (x ∷ flat_map lit_numbers clause)) p.1 in
-    let r = and_parts (is_small x) (list_all is_small (flat_map lit_numbers clause)) q.1 in
-    both_on (lacks c (codes "o")) (list_all (lacks c) (decimal v ∷ decimal w ∷ decimal x ∷ map lit_text clause)) (letter_lacks c 111 (omega arith))
-    (both_on (lacks c (decimal v)) (list_all (lacks c) (decimal w ∷ decimal x ∷ map lit_text clause)) (number_lacks c v (omega arith) p.0)
-    (both_on (lacks c (decimal w)) (list_all (lacks c) (decimal x ∷ map lit_text clause)) (number_lacks c w (omega arith) q.0)
-    (both_on (lacks c (decimal x)) (list_all (lacks c) (map lit_text clause)) (number_lacks c x (omega arith) r.0) (lits_lack c clause lt r.1))))
-words_lack c (lines.Goal clause) lt h = both_on (lacks c (codes "g")) (list_all (lacks c) (map lit_text clause)) (letter_lacks c 103 (omega arith)) (lits_lack c clause lt h)
-words_lack c (lines.Lemma clause hints) lt h =
-    let p = small_parts (flat_map lit_numbers clause) hints h in
-    both_on (lacks c (codes "l")) (list_all (lacks c) (map lit_text clause ++ codes ";" ∷ map decimal hints)) (letter_lacks c 108 (omega arith))
-    (all_append c (map lit_text clause) (codes ";" ∷ map decimal hints) (lits_lack c clause lt p.0)
-    (both_on (lacks c (codes ";")) (list_all (lacks c) (map decimal hints)) (letter_lacks c 59 (omega arith)) (numbers_lack c hints lt p.1)))
-words_lack c (lines.Delete ids) lt h = both_on (lacks c (codes "d")) (list_all (lacks c) (map decimal ids)) (letter_lacks c 100 (omega arith)) (numbers_lack c ids lt h)
 
 -- joined words lack what each word and the byte between them lack
 pub joined_lacks : (c at : ℕ) (ws : List (List ℕ)) → not (at == c) ≡ true → list_all (lacks c) ws ≡ true → lacks c (join_with_byte at ws) ≡ true

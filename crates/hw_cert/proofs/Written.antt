@@ -1,6 +1,6 @@
 -- The text of a line reads back as that line.
-use Rattle.std.proofs.Common.{◌≡◌, ◌==◌, ◌≤◌, ◌<◌, ◌-◌, ◌^◌, nat_lt, cond, ℕ, Bool, true, false, List, [], ◌∷◌, ◌++◌, length, map, decimal, Option, Some, None, Ok, refl, sym, ap, ◌∙◌, arith, append-nil}
-use Rattle.std.proofs.lemmas.Bool.{and_parts, eqb-true, lt-ltb, ltb-true}
+use Rattle.std.proofs.Common.{◌≡◌, ◌==◌, ◌≤◌, ◌<◌, nat_lt, cond, ℕ, Bool, true, false, List, [], ◌∷◌, ◌++◌, length, map, decimal, Option, Some, None, Ok, refl, sym, ap, ◌∙◌, arith, append-nil}
+use Rattle.std.proofs.lemmas.Bool.{and_parts, eqb-true, ltb-true}
 use Rattle.std.specs.Prelude.{codes, option_map, option_and_then, bytes_eq}
 use Rattle.std.specs.List.{list_all, flat_map}
 use Rattle.hw_model.specs.declared.lit.Lit.{Lit}
@@ -8,33 +8,21 @@ use Rattle.hw_model.specs.declared.lit.Lit.TheVariants.{AtOrAfter, Before, First
 use Rattle.hw_model.specs.declared.shape.Shape.{Shape}
 use Rattle.hw_text.specs.Parts.{parts_of}
 use Rattle.hw_text.proofs.Joins.{one_part, part_before, cut_joined}
-use Rattle.hw_text.proofs.Spelled.{reads_back}
 use Rattle.hw_cert.specs.Texts.{pair_text, lit_text, line_words, line_text}
-use Rattle.hw_cert.specs.Spelled.{number_word, both, put_first, all_numbers, some_of, some_numbers, number_pair, lettered, lit_word, Lits, put_lit, lits_of, unparted, only_lits, hinted_form, delete_form, line_of, spelled}
+use Rattle.hw_cert.specs.Spelled.{number_word, both, number_pair, lettered, lit_word, Lits, put_lit, lits_of, unparted, only_lits, hinted_form, delete_form, line_of, spelled}
 use Rattle.hw_cert.specs.Fits.{ascends, unless, first_fault, refused_by, fitted, line_read}
-use Rattle.hw_cert.specs.Laws.{lit_numbers, line_numbers, has_form, is_small, IsLine}
+use Rattle.hw_cert.specs.Laws.{lit_numbers, line_numbers, wide_numbers, has_form, is_small, is_wide, IsLine}
 use Rattle.hw_cert.specs.Forms.{HasWords}
 use Rattle.hw_lines.specs.declared.line.Line.{Line}
 use Rattle.hw_lines.specs.declared.line.Line.TheVariants as lines
 use Rattle.hw_cert.specs.declared.stop.FormWord.{FormWord}
 use Rattle.hw_cert.specs.declared.stop.FormWord.TheVariants.{Range}
 use Rattle.hw_cert.specs.declared.version.Version.{Version}
-use Rattle.hw_cert.specs.declared.version.Version.TheVariants.{One, Two}
-use Rattle.hw_cert.proofs.WordBytes.{small_is, number_lacks, two_small, small_parts, words_lack}
-
-number_again : (n : ℕ) → is_small n ≡ true → number_word (decimal n) ≡ Some n
-number_again n s = let le : n ≤ 2 ^ 32 - 1 = small_is n s in reads_back (2 ^ 32 - 1) n (omega arith) le
-
-numbers_again : (ns : List ℕ) → list_all is_small ns ≡ true → all_numbers (map decimal ns) ≡ Some ns
-numbers_again [] h = refl
-numbers_again (n ∷ ns) h =
-    let p = and_parts (is_small n) (list_all is_small ns) h in
-    ap (λ (o : Option ℕ). put_first o (all_numbers (map decimal ns))) (number_again n p.0) ∙ ap (put_first (Some n)) (numbers_again ns p.1)
-
-some_again : (ns : List ℕ) → 0 < length ns → list_all is_small ns ≡ true → some_numbers (map decimal ns) ≡ Some ns
-some_again ns lt h =
-    let some : nat_lt 0 (length ns) ≡ true = lt-ltb 0 (length ns) lt in
-    ap (option_and_then some_of) (numbers_again ns h) ∙ ap (λ (b : Bool). cond b (Some ns) None) some
+use Rattle.hw_cert.specs.declared.version.Version.TheVariants.{One, Two, Three}
+use Rattle.hw_cert.proofs.NumberText.{number_again, numbers_again, some_again}
+use Rattle.hw_cert.proofs.TollAgain.{third_again, priced_third, narrows_again, tugs_again, tariff_again, bound_again}
+use Rattle.hw_cert.proofs.LineBytes.{words_lack}
+use Rattle.hw_cert.proofs.WordBytes.{number_lacks, two_small, small_parts}
 
 pair_again : (x y : ℕ) → is_small x ≡ true → is_small y ≡ true → number_pair (parts_of 46 (pair_text x y)) ≡ Some (x, y)
 pair_again x y p q =
@@ -67,14 +55,15 @@ only_again ls h = ap (option_and_then (λ (found : Lits). unparted found.lits fo
 deletes_again : (version : Version) (ids : List ℕ) → has_form version (lines.Delete ids) ≡ true → 0 < length ids → list_all is_small ids ≡ true → delete_form version (map decimal ids) ≡ Some (lines.Delete ids)
 deletes_again One ids f lt h = absurd cc
 deletes_again Two ids f lt h = ap (option_map lines.Delete) (some_again ids lt h)
+deletes_again Three ids f lt h = ap (option_map lines.Delete) (some_again ids lt h)
 
-pub line_again : (version : Version) (line : Line) → list_all is_small (line_numbers line) ≡ true → has_form version line ≡ true → HasWords line → line_of version (line_words line) ≡ Some line
-line_again version (lines.Table table) h f w = ap (option_map lines.Table) (some_again table w h)
-line_again version (lines.Explain n clause) h f w =
+pub line_again : (version : Version) (line : Line) → list_all is_small (line_numbers line) ≡ true → list_all is_wide (wide_numbers line) ≡ true → has_form version line ≡ true → HasWords line → line_of version (line_words line) ≡ Some line
+line_again version (lines.Table table) h l f w = ap (option_map lines.Table) (some_again table w h)
+line_again version (lines.Explain n clause) h l f w =
     let p = and_parts (is_small n) (list_all is_small (flat_map lit_numbers clause)) h in
     ap (λ (o : Option ℕ). option_map (λ (q : ℕ × List Lit). lines.Explain q.0 q.1) (both o (only_lits (map lit_text clause)))) (number_again n p.0)
     ∙ ap (λ (o : Option (List Lit)). option_map (λ (q : ℕ × List Lit). lines.Explain q.0 q.1) (both (Some n) o)) (only_again clause p.1)
-line_again version (lines.Order v w x clause) h f t =
+line_again version (lines.Order v w x clause) h l f t =
     let p = and_parts (is_small v) (list_all is_small (w ∷ x ∷ flat_map lit_numbers clause)) h in
     let q = and_parts (is_small w) (list_all is_small (x ∷ flat_map lit_numbers clause)) p.1 in
     let r = and_parts (is_small x) (list_all is_small (flat_map lit_numbers clause)) q.1 in
@@ -83,12 +72,17 @@ line_again version (lines.Order v w x clause) h f t =
     ∙ ap (λ (o : Option ℕ). made (both (Some v) (both o (both (number_word (decimal x)) (only_lits (map lit_text clause)))))) (number_again w q.0)
     ∙ ap (λ (o : Option ℕ). made (both (Some v) (both (Some w) (both o (only_lits (map lit_text clause)))))) (number_again x r.0)
     ∙ ap (λ (o : Option (List Lit)). made (both (Some v) (both (Some w) (both (Some x) o)))) (only_again clause r.1)
-line_again version (lines.Goal clause) h f w = ap (option_map lines.Goal) (only_again clause h)
-line_again version (lines.Lemma clause hints) h f w =
+line_again version (lines.Goal clause) h l f w = ap (option_map lines.Goal) (only_again clause h)
+line_again version (lines.Lemma clause hints) h l f w =
     let p = small_parts (flat_map lit_numbers clause) hints h in
     ap (option_and_then (λ (found : Lits). hinted_form found.lits found.behind)) (lits_again clause (codes ";" ∷ map decimal hints) (Some (map decimal hints)) p.0 refl)
     ∙ ap (option_map (lines.Lemma clause)) (numbers_again hints p.1)
-line_again version (lines.Delete ids) h f w = deletes_again version ids f w h
+line_again version (lines.Delete ids) h l f w = deletes_again version ids f w h
+line_again version (lines.Narrows blocks) h l f w = narrows_again version blocks h f w
+line_again version (lines.Tugs n slot most weights) h l f w = tugs_again version n slot most weights h f
+line_again version (lines.Tariff scale prices) h l f w = tariff_again version scale prices h l f
+line_again version (lines.Priced clause) h l f w = third_again version _ (lines.Priced clause) (ap (option_map lines.Priced) (only_again clause h)) (priced_third version clause f)
+line_again version (lines.Bound bound) h l f w = bound_again version bound l f
 
 kept : (b : Bool) (word : FormWord) → unless word b ≡ None → b ≡ true
 kept true word h = refl
@@ -104,19 +98,29 @@ has_words shape (lines.Order v w x clause) some h = tt
 has_words shape (lines.Goal clause) some h = tt
 has_words shape (lines.Lemma clause hints) some h = tt
 has_words shape (lines.Delete ids) some h = ltb-true 0 (length ids) (and_parts (nat_lt 0 (length ids)) (ascends 0 ids) (kept _ Range h)).0
+has_words shape (lines.Narrows blocks) some h = ltb-true 0 (length blocks) (and_parts (nat_lt 0 (length blocks)) _ (kept _ Range h)).0
+has_words shape (lines.Tugs n slot most weights) some h = tt
+has_words shape (lines.Tariff scale prices) some h = tt
+has_words shape (lines.Priced clause) some h = tt
+has_words shape (lines.Bound bound) some h = tt
 
-word_count : (line : Line) → 1 ≤ length (line_words line)
+pub word_count : (line : Line) → 1 ≤ length (line_words line)
 word_count (lines.Table table) = omega arith
 word_count (lines.Explain n clause) = omega arith
 word_count (lines.Order v w x clause) = omega arith
 word_count (lines.Goal clause) = omega arith
 word_count (lines.Lemma clause hints) = omega arith
 word_count (lines.Delete ids) = omega arith
+word_count (lines.Narrows blocks) = omega arith
+word_count (lines.Tugs n slot most weights) = omega arith
+word_count (lines.Tariff scale prices) = omega arith
+word_count (lines.Priced clause) = omega arith
+word_count (lines.Bound bound) = omega arith
 
-pub text_spelled : (version : Version) (line : Line) → list_all is_small (line_numbers line) ≡ true → has_form version line ≡ true → HasWords line → spelled version (line_text line) ≡ Some line
-text_spelled version line small formed words = ap (line_of version) (cut_joined 32 (line_words line) (word_count line) (words_lack 32 line (omega arith) small)) ∙ line_again version line small formed words
+pub text_spelled : (version : Version) (line : Line) → list_all is_small (line_numbers line) ≡ true → list_all is_wide (wide_numbers line) ≡ true → has_form version line ≡ true → HasWords line → spelled version (line_text line) ≡ Some line
+text_spelled version line small wide formed words = ap (line_of version) (cut_joined 32 (line_words line) (word_count line) (words_lack 32 line (omega arith) small wide)) ∙ line_again version line small wide formed words
 
 pub text_read : (shape : Shape) (version : Version) (line : Line) → 1 ≤ shape.ships → IsLine shape version line → line_read shape version (line_text line) ≡ Ok line
 text_read shape version line some is =
-    ap (fitted shape) (text_spelled version line is.small is.formed (has_words shape line some is.fits))
+    ap (fitted shape) (text_spelled version line is.small is.wide is.formed (has_words shape line some is.fits))
     ∙ ap (refused_by line) is.fits

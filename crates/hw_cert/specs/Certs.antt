@@ -6,7 +6,8 @@ use Rattle.hw_lines.specs.declared.line.Line.{Line}
 use Rattle.hw_cert.specs.declared.stop.FormWord.{FormWord}
 use Rattle.hw_cert.specs.declared.stop.FormWord.TheVariants.{Header, Form}
 use Rattle.hw_cert.specs.declared.version.Version.{Version}
-use Rattle.hw_cert.specs.Spelled.{version_of}
+use Rattle.hw_cert.specs.declared.version.Version.TheVariants.{Two}
+use Rattle.hw_cert.specs.Spelled.{version_to}
 use Rattle.hw_cert.specs.Fits.{line_read}
 
 -- a certificate: its version and its lines
@@ -49,11 +50,15 @@ abbrev pub headed : Shape → List (List ℕ) → Option Version → Result Cert
 headed shape parts None = Err (record { number = 1; word = Header })
 headed shape parts (Some version) = with_version version (lines_read shape version 2 parts)
 
-abbrev pub parts_read : Shape → List (List ℕ) → Result Cert BadLine
-parts_read shape [] = Err (record { number = 1; word = Header })
-parts_read shape (tail ∷ []) = Err (record { number = 1; word = Header })
-parts_read shape (header ∷ next ∷ parts) = headed shape (next ∷ parts) (version_of header)
+abbrev pub parts_read : Version → Shape → List (List ℕ) → Result Cert BadLine
+parts_read most shape [] = Err (record { number = 1; word = Header })
+parts_read most shape (tail ∷ []) = Err (record { number = 1; word = Header })
+parts_read most shape (header ∷ next ∷ parts) = headed shape (next ∷ parts) (version_to most header)
 
--- the version and the lines whose text the bytes are, or the first line that is no spelling of one
+-- the version, up to this one, and the lines whose text the bytes are, or the first line that is no spelling of one
+abbrev pub cert_read_to : Version → Shape → List ℕ → Result Cert BadLine
+cert_read_to most shape bytes = parts_read most shape (parts_of 10 bytes)
+
+-- the same up to the second version
 abbrev pub cert_read : Shape → List ℕ → Result Cert BadLine
-cert_read shape bytes = parts_read shape (parts_of 10 bytes)
+cert_read shape bytes = cert_read_to Two shape bytes

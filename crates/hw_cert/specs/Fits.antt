@@ -1,11 +1,13 @@
 -- The first bad word of a line that has its form, and what a line's bytes read as.
-use Rattle.std.specs.Prelude.{ℕ, ◌+◌, ◌==◌, Bool, true, ◌&&◌, nat_lt, List, [], ◌∷◌, Option, Some, None, Result, Ok, Err, length, if◌then◌else◌}
+use Rattle.std.specs.Prelude.{ℕ, ◌+◌, ◌==◌, Bool, true, ◌&&◌, nat_lt, nat_le, List, [], ◌∷◌, Option, Some, None, Result, Ok, Err, length, map, if◌then◌else◌}
 use Rattle.std.specs.List.{list_all}
 use Rattle.hw_model.specs.declared.lit.Lit.{Lit}
 use Rattle.hw_model.specs.declared.shape.Shape.{Shape}
 use Rattle.hw_model.specs.Lits.{BadLit, out_of_range, not_normal, first_bad}
+use Rattle.hw_tolls.specs.declared.toll.Block.{Block}
 use Rattle.hw_lines.specs.declared.line.Line.{Line}
 use Rattle.hw_lines.specs.declared.line.Line.TheVariants as lines
+use Rattle.hw_lines.specs.declared.line.Price.{Price}
 use Rattle.hw_cert.specs.declared.stop.FormWord.{FormWord}
 use Rattle.hw_cert.specs.declared.stop.FormWord.TheVariants.{Form, Range, Normal}
 use Rattle.hw_cert.specs.declared.version.Version.{Version}
@@ -36,7 +38,32 @@ abbrev pub ascends : ℕ → List ℕ → Bool
 ascends before [] = true
 ascends before (n ∷ ns) = nat_lt before n && ascends n ns
 
--- the first bad word from the left, the count of slots last
+-- each number but the first is above the one before it
+abbrev pub rises : List ℕ → Bool
+rises [] = true
+rises (n ∷ ns) = ascends n ns
+
+-- a ship of the problem, and slots of it that don't fall
+abbrev pub block_fits : Shape → Block → Bool
+block_fits shape block = nat_lt block.ship shape.ships && (nat_le block.low block.high && nat_lt block.high shape.slots)
+
+-- 1 to 40 such blocks, of ascending ships
+abbrev pub blocks_fit : Shape → List Block → Bool
+blocks_fit shape blocks = nat_lt 0 (length blocks) && (nat_le (length blocks) 40 && (list_all (block_fits shape) blocks && rises (map (λ block. block.ship) blocks)))
+
+-- a sum of at most 2,560, and weights of at most 64
+abbrev pub weights_small : ℕ → List ℕ → Bool
+weights_small most weights = nat_le most 2_560 && list_all (λ weight. nat_le weight 64) weights
+
+-- the number of a rule, a slot of the problem, and at most 40 weights
+abbrev pub weights_fit : Shape → ℕ → ℕ → List ℕ → Bool
+weights_fit shape n slot weights = nat_le shape.ships n && (nat_lt n (shape.ships + shape.rules) && (nat_lt slot shape.slots && nat_le (length weights) 40))
+
+-- a scale of at most 1,000,000, and prices of at most 1,000,000,000,000,000,000
+abbrev pub prices_small : ℕ → List Price → Bool
+prices_small scale prices = nat_le scale 1_000_000 && list_all (λ due. nat_le due.price 1_000_000_000_000_000_000) prices
+
+-- a number above its limit, which is no form, or else the first bad word from the left, the count of slots last
 abbrev pub first_fault : Shape → Line → Option FormWord
 first_fault shape (lines.Table table) = unless Range (list_all (λ slot. nat_lt slot shape.slots) table && length table == shape.ships)
 first_fault shape (lines.Explain n clause) = unless Range (nat_lt n (shape.ships + shape.rules)) or_else clause_fault shape clause
@@ -44,6 +71,11 @@ first_fault shape (lines.Order v w x clause) = unless Range (nat_lt v w && (nat_
 first_fault shape (lines.Goal clause) = clause_fault shape clause
 first_fault shape (lines.Lemma clause hints) = clause_fault shape clause or_else unless Range (list_all (λ id. nat_lt 0 id) hints)
 first_fault shape (lines.Delete ids) = unless Range (nat_lt 0 (length ids) && ascends 0 ids)
+first_fault shape (lines.Narrows blocks) = unless Range (blocks_fit shape blocks)
+first_fault shape (lines.Tugs n slot most weights) = unless Form (weights_small most weights) or_else unless Range (weights_fit shape n slot weights)
+first_fault shape (lines.Tariff scale prices) = unless Form (prices_small scale prices) or_else unless Range (ascends 0 (map (λ due. due.toll) prices))
+first_fault shape (lines.Priced clause) = clause_fault shape clause
+first_fault shape (lines.Bound bound) = unless Form (nat_le bound 40_000_000_000_000)
 
 -- a line, unless a word is bad
 abbrev pub refused_by : Line → Option FormWord → Result Line FormWord

@@ -7,13 +7,12 @@ use Rattle.hw_lines.specs.declared.line.Line.{Line}
 use Rattle.hw_lines.specs.declared.line.Line.TheVariants as lines
 use Rattle.hw_lines.specs.Valid.{LineFits, Valid}
 use Rattle.hw_cert.specs.declared.version.Version.{Version}
-use Rattle.hw_cert.specs.declared.version.Version.TheVariants.{Two}
 use Rattle.hw_cert.specs.Texts.{line_text, cert_text}
-use Rattle.hw_cert.specs.Spelled.{spelled}
-use Rattle.hw_cert.specs.Certs.{cert_read}
-use Rattle.hw_cert.specs.Laws.{line_numbers, has_form, is_small}
+use Rattle.hw_cert.specs.Spelled.{is_within, spelled}
+use Rattle.hw_cert.specs.Certs.{cert_read_to}
+use Rattle.hw_cert.specs.Laws.{line_numbers, wide_numbers, has_form, is_small, is_wide}
 
--- a table has a slot, and a deletion a number
+-- a table has a slot, a deletion a number, and a narrows a block
 abbrev pub HasWords : Line → Type 0
 HasWords (lines.Table table) = 0 < length table
 HasWords (lines.Explain n clause) = ⊤
@@ -21,11 +20,18 @@ HasWords (lines.Order v w x clause) = ⊤
 HasWords (lines.Goal clause) = ⊤
 HasWords (lines.Lemma clause hints) = ⊤
 HasWords (lines.Delete ids) = 0 < length ids
+HasWords (lines.Narrows blocks) = 0 < length blocks
+HasWords (lines.Tugs n slot most weights) = ⊤
+HasWords (lines.Tariff scale prices) = ⊤
+HasWords (lines.Priced clause) = ⊤
+HasWords (lines.Bound bound) = ⊤
 
--- a line of one of the forms of the version, with numbers up to 4,294,967,295, whatever the problem
+-- a line of one of the forms of the version, with numbers up to 4,294,967,295, prices and a bound up to 18,446,744,073,709,551,615,
+-- whatever the problem
 pub record IsOfForm (version : Version) (line : Line) : Type 0 where
   pub formed : has_form version line ≡ true
   pub small : list_all is_small (line_numbers line) ≡ true
+  pub wide : list_all is_wide (wide_numbers line) ≡ true
   pub some_word : HasWords line
 
 -- bytes have the form exactly where they are the text of such a line, and then of that one
@@ -38,6 +44,7 @@ pub record SpellsForm (version : Version) (bytes : List ℕ) (line : Line) : Typ
 abbrev pub FormSpelled : Type 0
 FormSpelled = (version : Version) (bytes : List ℕ) (line : Line) → SpellsForm version bytes line
 
--- the text of valid lines of a problem, with deletions, reads back as these lines
+-- the text of valid lines of a problem, of forms of a version, reads back as these lines, where the version is within the greatest one
 abbrev pub ValidReads : Type 0
-ValidReads = (f : Problem) (all : List Line) → IsFlat f → All (LineFits f) all → Valid f all → cert_read (shape_of f) (cert_text Two all) ≡ Ok (record { version = Two; lines = all })
+ValidReads = (most version : Version) (f : Problem) (all : List Line) → is_within most version ≡ true → IsFlat f → All (LineFits f) all → Valid f all → list_all (has_form version) all ≡ true
+    → cert_read_to most (shape_of f) (cert_text version all) ≡ Ok (record { version = version; lines = all })

@@ -1,5 +1,5 @@
 -- What taking the next line does.
-use Rattle.std.specs.Prelude.{◌≡◌, ◌≤◌, ◌<◌, ◌+◌, ◌^◌, ℕ, List, Option, Result, Ok, Err, IfSome, IsSome, IsSomeAnd, IfOk, IsErrOf, ⊤, length, is_none, if◌then◌else◌}
+use Rattle.std.specs.Prelude.{◌≡◌, ◌≤◌, ◌<◌, ◌+◌, ◌^◌, ℕ, List, Option, true, Result, Ok, Err, IfSome, IsSome, IsSomeAnd, IfOk, IsErrOf, ⊤, length, is_none, if◌then◌else◌}
 use Rattle.std.specs.Io.KnownBytes.{prepend_known}
 use Rattle.hw_desk.specs.State.{DeskState, Rose}
 use Rattle.hw_desk.specs.Calls.{Moves}
@@ -10,6 +10,7 @@ use Rattle.hw_cert.specs.declared.reader.Next.{Next}
 use Rattle.hw_cert.specs.declared.reader.Next.TheVariants as nexts
 use Rattle.hw_cert.specs.declared.stop.LineStop.{LineStop}
 use Rattle.hw_cert.specs.declared.stop.LineStop.TheVariants as stops
+use Rattle.hw_cert.specs.Laws.{has_form}
 use Rattle.hw_cert.specs.Reader.{ReaderModel}
 use Rattle.hw_cert.specs.Stream.{NextLine, ends, comes, bad, too_long, next_of}
 use Rattle.hw_lines.specs.Valid.{LineFits}
@@ -43,11 +44,13 @@ Answers next new (Err stop) = StopsAs next stop
 pub record Behind (r reader : ReaderModel) (line : Line) : Type 0 where
   pub shape : reader.shape ≡ r.shape
   pub feed : reader.feed ≡ r.feed
+  pub most : reader.at.most ≡ r.at.most
   pub version : IsSome reader.at.version
   pub number : reader.at.number ≡ r.at.number + (if is_none r.at.version then 2 else 1)
   pub taken : r.at.taken < reader.at.taken
   pub limit : reader.at.taken ≤ 2 ^ 40
   pub fits : (f : Problem) → shape_of f ≡ r.shape → LineFits f line
+  pub formed : has_form r.at.most line ≡ true
 
 abbrev pub GoesOn : ReaderModel → Next → Type 0
 GoesOn r (nexts.Line reader line) = Behind r reader line
@@ -68,6 +71,7 @@ pub record Takes (r : ReaderModel) (old new : DeskState) (result : Result Next L
 pub record BehindHeader (r reader : ReaderModel) (bytes : List ℕ) (old new : DeskState) : Type 0 where
   pub shape : reader.shape ≡ r.shape
   pub feed : reader.feed ≡ r.feed
+  pub most : reader.at.most ≡ r.at.most
   pub version : IsSome reader.at.version
   pub number : reader.at.number ≡ r.at.number + 1
   pub later : r.at.taken ≤ reader.at.taken

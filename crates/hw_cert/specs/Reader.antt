@@ -1,11 +1,12 @@
 -- What a line reader is seen as, and what its calls on pending bytes do.
-use Rattle.std.specs.Prelude.{◌≡◌, ℕ, ◌+◌, ◌^◌, ◌≤◌, List, [], ◌∷◌, ◌++◌, Result, length, Bool, true, false, IfOk}
+use Rattle.std.specs.Prelude.{◌≡◌, ℕ, ◌+◌, ◌^◌, ◌≤◌, List, [], ◌∷◌, ◌++◌, Result, length, Bool, true, false, IfOk, IfSome}
 use Rattle.std.specs.Io.KnownBytes.{IsAtEnd}
 use Rattle.hw_desk.specs.State.{DeskState}
 use Rattle.hw_desk.specs.Calls.{Moves, ReadCause, ReadKept}
 use Rattle.hw_desk.specs.declared.desk.Feed.{Feed}
 use Rattle.hw_model.specs.declared.shape.Shape.{Shape}
 use Rattle.hw_text.specs.Parts.{lacks}
+use Rattle.hw_cert.specs.Spelled.{is_within}
 use Rattle.hw_cert.specs.Stream.{Position}
 
 -- a reader: the problem's shape, the feed, where the reading stands, and the bytes that were read
@@ -33,6 +34,7 @@ pub record Fills {E : Type 0} (feed : Feed) (most : ℕ) (pending : List ℕ) (o
 -- what every reader keeps
 pub record ReaderKeeps (r : ReaderModel) : Type 0 where
   pub few_ships : r.shape.ships ≤ 40
+  pub named : IfSome r.at.version (λ version. is_within r.at.most version ≡ true)
   pub few_lines : r.at.number ≤ r.at.taken + 1
   pub short : r.at.taken ≤ 2 ^ 40
   pub read : r.at.taken + length r.pending ≤ 2 ^ 40 + 1

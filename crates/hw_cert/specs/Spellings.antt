@@ -2,8 +2,10 @@
 use Rattle.std.specs.Prelude.{ℕ, List, Option, option_map, Vec}
 use Rattle.std.specs.declared.alloc.Global.{Global}
 use Rattle.hw_model.specs.declared.lit.Lit.{Lit}
+use Rattle.hw_tolls.specs.declared.toll.Block.{Block}
 use Rattle.hw_lines.specs.declared.line.Line.{Line}
 use Rattle.hw_lines.specs.declared.line.Line.TheVariants as lines
+use Rattle.hw_lines.specs.declared.line.Price.{Price}
 use Rattle.hw_cert.specs.declared.spelling.Spelling.{Spelling}
 use Rattle.hw_cert.specs.declared.spelling.Spelling.TheVariants as spellings
 use Rattle.hw_cert.specs.declared.spelling.FoundLits.{FoundLits}
@@ -14,6 +16,12 @@ numbers_view o = option_map (λ v. v.items) o
 
 abbrev pub lits_view : Option (Vec Lit Global) → Option (List Lit)
 lits_view o = option_map (λ v. v.items) o
+
+abbrev pub blocks_view : Option (Vec Block Global) → Option (List Block)
+blocks_view o = option_map (λ v. v.items) o
+
+abbrev pub prices_view : Option (Vec Price Global) → Option (List Price)
+prices_view o = option_map (λ v. v.items) o
 
 -- literals, and the words after the `;`, if there is one
 abbrev pub lits_found : FoundLits → Lits
@@ -30,3 +38,8 @@ spelling_view (spellings.Order v w x lits) = lines.Order v w x lits.items
 spelling_view (spellings.Goal lits) = lines.Goal lits.items
 spelling_view (spellings.Lemma lits hints) = lines.Lemma lits.items hints.items
 spelling_view (spellings.Delete ids) = lines.Delete ids.items
+spelling_view (spellings.Narrows blocks) = lines.Narrows blocks.items
+spelling_view (spellings.Tugs n slot most weights) = lines.Tugs n slot most weights.items
+spelling_view (spellings.Tariff scale prices) = lines.Tariff scale prices.items
+spelling_view (spellings.Priced lits) = lines.Priced lits.items
+spelling_view (spellings.Bound bound) = lines.Bound bound

@@ -6,19 +6,25 @@ use Rattle.hw_lines.specs.declared.line.Line.{Line}
 use Rattle.hw_cert.specs.declared.stop.FormWord.{FormWord}
 use Rattle.hw_cert.specs.declared.stop.FormWord.TheVariants.{Header, Form}
 use Rattle.hw_cert.specs.declared.version.Version.{Version}
-use Rattle.hw_cert.specs.Spelled.{version_of}
+use Rattle.hw_cert.specs.declared.version.Version.TheVariants.{Two}
+use Rattle.hw_cert.specs.Spelled.{version_to}
 use Rattle.hw_cert.specs.Fits.{line_read}
 
--- where the reading of a certificate stands: its version, or none before the header; the number of the
--- line that comes next; and how many bytes the lines before it have with their ends
+-- where the reading of a certificate stands: the greatest version that its header may name; its version, or none before the
+-- header; the number of the line that comes next; and how many bytes the lines before it have with their ends
 pub record Position : Type 0 where
+  pub most : Version
   pub version : Option Version
   pub number : ℕ
   pub taken : ℕ
 
--- where reading starts: before the header
+-- where reading up to this version starts: before the header
+abbrev pub start_to : Version → Position
+start_to most = record { most = most; version = None; number = 1; taken = 0 }
+
+-- the same up to the second version
 abbrev pub start : Position
-start = record { version = None; number = 1; taken = 0 }
+start = start_to Two
 
 -- a line of `size` bytes with an end of `end` bytes, after `taken` bytes, passes a limit
 abbrev pub passes : ℕ → ℕ → ℕ → Bool
@@ -56,8 +62,8 @@ pub data NextLine : Type 0 where
   too_long : NextLine
 
 -- the position after a line, which has the header's version
-abbrev pub behind : Version → ℕ → ℕ → List ℕ → Position
-behind version number taken line = record { version = Some version; number = number + 1; taken = taken + length line + 1 }
+abbrev pub behind : Version → Version → ℕ → ℕ → List ℕ → Position
+behind most version number taken line = record { most = most; version = Some version; number = number + 1; taken = taken + length line + 1 }
 
 -- a line by what it reads as
 abbrev pub line_by : ℕ → Position → List (List ℕ) → Result Line FormWord → NextLine
@@ -65,31 +71,31 @@ line_by number after more (Ok line) = comes line after more
 line_by number after more (Err word) = bad number word
 
 -- the line after the header or another line
-abbrev pub line_next : Shape → Version → ℕ → ℕ → Cut → NextLine
-line_next shape version number taken nothing = ends
-line_next shape version number taken (whole line more) = line_by number (behind version number taken line) more (line_read shape version line)
-line_next shape version number taken unended = bad number Form
-line_next shape version number taken long = too_long
+abbrev pub line_next : Shape → Version → Version → ℕ → ℕ → Cut → NextLine
+line_next shape most version number taken nothing = ends
+line_next shape most version number taken (whole line more) = line_by number (behind most version number taken line) more (line_read shape version line)
+line_next shape most version number taken unended = bad number Form
+line_next shape most version number taken long = too_long
 
 -- the line after a header that names this version, if it names one
-abbrev pub header_by : Shape → ℕ → ℕ → List ℕ → List (List ℕ) → Option Version → NextLine
-header_by shape number taken line more None = bad number Header
-header_by shape number taken line more (Some version) = line_next shape version (number + 1) (taken + length line + 1) (cut_of (taken + length line + 1) more)
+abbrev pub header_by : Shape → Version → ℕ → ℕ → List ℕ → List (List ℕ) → Option Version → NextLine
+header_by shape most number taken line more None = bad number Header
+header_by shape most number taken line more (Some version) = line_next shape most version (number + 1) (taken + length line + 1) (cut_of (taken + length line + 1) more)
 
 -- the header, and the line after it
-abbrev pub header_next : Shape → ℕ → ℕ → Cut → NextLine
-header_next shape number taken nothing = bad number Header
-header_next shape number taken (whole line more) = header_by shape number taken line more (version_of line)
-header_next shape number taken unended = bad number Header
-header_next shape number taken long = too_long
+abbrev pub header_next : Shape → Version → ℕ → ℕ → Cut → NextLine
+header_next shape most number taken nothing = bad number Header
+header_next shape most number taken (whole line more) = header_by shape most number taken line more (version_to most line)
+header_next shape most number taken unended = bad number Header
+header_next shape most number taken long = too_long
 
-abbrev pub next_by : Shape → ℕ → ℕ → Option Version → List (List ℕ) → NextLine
-next_by shape number taken None parts = header_next shape number taken (cut_of taken parts)
-next_by shape number taken (Some version) parts = line_next shape version number taken (cut_of taken parts)
+abbrev pub next_by : Shape → Version → ℕ → ℕ → Option Version → List (List ℕ) → NextLine
+next_by shape most number taken None parts = header_next shape most number taken (cut_of taken parts)
+next_by shape most number taken (Some version) parts = line_next shape most version number taken (cut_of taken parts)
 
 -- what comes next, of a certificate whose bytes left have these parts between line feeds
 abbrev pub next_of : Shape → Position → List (List ℕ) → NextLine
-next_of shape at parts = next_by shape at.number at.taken at.version parts
+next_of shape at parts = next_by shape at.most at.number at.taken at.version parts
 
 -- how the lines end
 pub data CertEnd : Type 0 where
@@ -116,29 +122,34 @@ onward (bad number word) later = stopped (broken number word)
 onward too_long later = stopped overlong
 
 -- the lines of these parts, where the header stands before them
-abbrev pub lines_from : Shape → Version → ℕ → ℕ → List (List ℕ) → CertLines
-lines_from shape version number taken [] = stopped complete
-lines_from shape version number taken (line ∷ more) = onward (line_next shape version number taken (cut_of taken (line ∷ more))) (lines_from shape version (number + 1) (taken + length line + 1) more)
+abbrev pub lines_from : Shape → Version → Version → ℕ → ℕ → List (List ℕ) → CertLines
+lines_from shape most version number taken [] = stopped complete
+lines_from shape most version number taken (line ∷ more) =
+    onward (line_next shape most version number taken (cut_of taken (line ∷ more))) (lines_from shape most version (number + 1) (taken + length line + 1) more)
 
 -- the lines after a header
-abbrev pub lines_by : Shape → ℕ → ℕ → List ℕ → List (List ℕ) → Option Version → CertLines
-lines_by shape number taken line more None = stopped (broken number Header)
-lines_by shape number taken line more (Some version) = lines_from shape version (number + 1) (taken + length line + 1) more
+abbrev pub lines_by : Shape → Version → ℕ → ℕ → List ℕ → List (List ℕ) → Option Version → CertLines
+lines_by shape most number taken line more None = stopped (broken number Header)
+lines_by shape most number taken line more (Some version) = lines_from shape most version (number + 1) (taken + length line + 1) more
 
-abbrev pub lines_after : Shape → ℕ → ℕ → Cut → CertLines
-lines_after shape number taken nothing = stopped (broken number Header)
-lines_after shape number taken (whole line more) = lines_by shape number taken line more (version_of line)
-lines_after shape number taken unended = stopped (broken number Header)
-lines_after shape number taken long = stopped overlong
+abbrev pub lines_after : Shape → Version → ℕ → ℕ → Cut → CertLines
+lines_after shape most number taken nothing = stopped (broken number Header)
+lines_after shape most number taken (whole line more) = lines_by shape most number taken line more (version_to most line)
+lines_after shape most number taken unended = stopped (broken number Header)
+lines_after shape most number taken long = stopped overlong
 
-abbrev pub stream_by : Shape → ℕ → ℕ → Option Version → List (List ℕ) → CertLines
-stream_by shape number taken None parts = lines_after shape number taken (cut_of taken parts)
-stream_by shape number taken (Some version) parts = lines_from shape version number taken parts
+abbrev pub stream_by : Shape → Version → ℕ → ℕ → Option Version → List (List ℕ) → CertLines
+stream_by shape most number taken None parts = lines_after shape most number taken (cut_of taken parts)
+stream_by shape most number taken (Some version) parts = lines_from shape most version number taken parts
 
 -- the lines from a position on
 abbrev pub stream_of : Shape → Position → List (List ℕ) → CertLines
-stream_of shape at parts = stream_by shape at.number at.taken at.version parts
+stream_of shape at parts = stream_by shape at.most at.number at.taken at.version parts
 
--- what a certificate's bytes read as, line by line and within the limits
+-- what the bytes of a certificate of this version or an earlier one read as, line by line and within the limits
+abbrev pub cert_stream_to : Version → Shape → List ℕ → CertLines
+cert_stream_to most shape bytes = stream_of shape (start_to most) (parts_of 10 bytes)
+
+-- the same up to the second version
 abbrev pub cert_stream : Shape → List ℕ → CertLines
-cert_stream shape bytes = stream_of shape start (parts_of 10 bytes)
+cert_stream shape bytes = cert_stream_to Two shape bytes

@@ -1,4 +1,4 @@
--- What bytes tell of a certificate with deletions, whatever the problem: its lines, and the bytes after them.
+-- What bytes tell of a log, whatever the problem: its lines, and the bytes after them.
 use Rattle.std.specs.Prelude.{◌≡◌, ◌<◌, ℕ, ◌==◌, List, [], ◌∷◌, ◌++◌, Bool, true, Option, Some, None, length, take, option_and_then, is_some, bytes_eq, codes, if◌then◌else◌}
 use Rattle.std.specs.Borrow.{GName}
 use Rattle.hw_text.specs.Parts.{parts_of, lacks}
@@ -6,8 +6,8 @@ use Rattle.hw_desk.specs.State.{DeskState, Rose}
 use Rattle.hw_desk.specs.Calls.{Sends}
 use Rattle.hw_desk.specs.declared.desk.Tray.TheVariants.{Proof}
 use Rattle.hw_lines.specs.declared.line.Line.{Line}
-use Rattle.hw_lines.specs.declared.line.Line.TheVariants.{Table, Delete}
-use Rattle.hw_cert.specs.declared.version.Version.TheVariants.{Two}
+use Rattle.hw_lines.specs.declared.line.Line.TheVariants.{Table, Delete, Narrows}
+use Rattle.hw_cert.specs.declared.version.Version.TheVariants.{Two, Three}
 use Rattle.hw_cert.specs.Texts.{header_text, cert_text}
 use Rattle.hw_cert.specs.Spelled.{spelled}
 use Rattle.hw_cert.specs.Logs.{LogAnchor, LogTold, LogModel, outside_of}
@@ -26,12 +26,14 @@ behind_text [] bytes = Some bytes
 behind_text (p ∷ ps) [] = None
 behind_text (p ∷ ps) (b ∷ bs) = if b == p then behind_text ps bs else None
 
--- the line whose text a part is, whatever the problem: one that a certificate may have, or a table or a deletion without numbers
+-- the line whose text a part is, whatever the problem: one that a certificate of some version may have, or a table or a deletion
+-- without numbers, or a narrows without blocks
 abbrev pub line_told : List ℕ → Option Line
 line_told part =
     if bytes_eq part (codes "t") then Some (Table [])
     else if bytes_eq part (codes "d") then Some (Delete [])
-    else spelled Two part
+    else if bytes_eq part (codes "n") then Some (Narrows [])
+    else spelled Three part
 
 -- a line put before others, where all are told
 abbrev pub with_line : Option Line → Option LogTold → Option LogTold

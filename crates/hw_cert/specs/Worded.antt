@@ -2,9 +2,11 @@
 use Rattle.std.specs.Prelude.{ℕ, List, ◌∷◌, ◌++◌, codes, decimal}
 use Rattle.std.specs.List.{flat_map}
 use Rattle.hw_model.specs.declared.lit.Lit.{Lit}
+use Rattle.hw_tolls.specs.declared.toll.Block.{Block}
 use Rattle.hw_lines.specs.declared.line.Line.{Line}
 use Rattle.hw_lines.specs.declared.line.Line.TheVariants as lines
-use Rattle.hw_cert.specs.Texts.{lit_text}
+use Rattle.hw_lines.specs.declared.line.Price.{Price}
+use Rattle.hw_cert.specs.Texts.{lit_text, block_text, price_text}
 
 -- a number after a space
 abbrev pub number_text : ℕ → List ℕ
@@ -17,6 +19,14 @@ numbers_text = flat_map number_text
 abbrev pub lits_text : List Lit → List ℕ
 lits_text = flat_map (λ lit. 32 ∷ lit_text lit)
 
+-- blocks, each after a space
+abbrev pub blocks_text : List Block → List ℕ
+blocks_text = flat_map (λ block. 32 ∷ block_text block)
+
+-- prices, each after a space
+abbrev pub prices_text : List Price → List ℕ
+prices_text = flat_map (λ due. 32 ∷ price_text due)
+
 -- the text of a line
 abbrev pub worded : Line → List ℕ
 worded (lines.Table table) = codes "t" ++ numbers_text table
@@ -25,3 +35,8 @@ worded (lines.Order v w x clause) = codes "o" ++ (number_text v ++ (number_text 
 worded (lines.Goal clause) = codes "g" ++ lits_text clause
 worded (lines.Lemma clause hints) = codes "l" ++ (lits_text clause ++ (codes " ;" ++ numbers_text hints))
 worded (lines.Delete ids) = codes "d" ++ numbers_text ids
+worded (lines.Narrows blocks) = codes "n" ++ blocks_text blocks
+worded (lines.Tugs n slot most weights) = codes "u" ++ (number_text n ++ (number_text slot ++ (number_text most ++ numbers_text weights)))
+worded (lines.Tariff scale prices) = codes "y" ++ (number_text scale ++ prices_text prices)
+worded (lines.Priced clause) = codes "p" ++ lits_text clause
+worded (lines.Bound bound) = codes "b" ++ number_text bound

@@ -1,9 +1,9 @@
 //! Whether the words of a line fit the problem.
 
-ghost use Rattle.std.specs.Prelude.{◌≡◌, ◌≤◌, ◌&&◌, nat_lt, length};
+ghost use Rattle.std.specs.Prelude.{◌≡◌, ◌≤◌, ◌&&◌, nat_lt, nat_le, length, map};
 ghost use Rattle.std.specs.List.{list_all};
 ghost use Rattle.hw_cert.specs.declared.fitting.LineFault.TheVariants.{NoMemory};
-ghost use Rattle.hw_cert.specs.Fits.{ascends, unless, clause_fault, first_fault, refused_by, fitted, line_read};
+ghost use Rattle.hw_cert.specs.Fits.{ascends, rises, block_fits, blocks_fit, weights_small, weights_fit, prices_small, unless, clause_fault, first_fault, refused_by, fitted, line_read};
 ghost use Rattle.hw_cert.specs.Reads.{GivesClause, Gives};
 ghost use Rattle.hw_cert.specs.Spellings.{spelling_view};
 
@@ -11,9 +11,10 @@ use crate::spelling::{Spelling, spelling_of};
 use crate::stop::FormWord;
 use crate::version::Version;
 use hw_flat::Timetable;
-use hw_lines::{Hints, Line};
+use hw_lines::{Hints, Line, Price, Prices};
 use hw_lits::{Clause, ClauseFault};
 use hw_model::{Lit, NoMemory, Shape};
+use hw_tolls::{Block, Blocks, Weights};
 use std::alloc::{AllocError, Global};
 
 /// Why a line can't be read.
@@ -147,6 +148,157 @@ fn delete_line(ids: Vec<u32>) -> Result<Line, LineFault>
     })
 }
 
+fn is_block(shape: Shape, block: Block) -> bool
+    ensures { result ≡ block_fits shape block }
+{
+    block.ship < shape.ships && block.low <= block.high && block.high < shape.slots
+}
+
+fn each_fits(shape: Shape, blocks: &[Block]) -> bool
+    ensures { result ≡ list_all (block_fits shape) blocks.now }
+{
+    blocks.iter().all(|block| is_block(shape, *block))
+}
+
+/// Whether each ship but the first is above the one before it.
+fn ships_rise(blocks: &[Block]) -> bool
+    ensures { result ≡ rises (map (λ block. block.ship) blocks.now) }
+{
+    let Some((first, more)) = blocks.split_first() else {
+        return true;
+    };
+    let mut before = first.ship;
+    for block in more {
+        if block.ship <= before {
+            return false;
+        }
+        before = block.ship;
+    }
+    true
+}
+
+fn are_blocks(shape: Shape, blocks: &[Block]) -> bool
+    ensures { result ≡ blocks_fit shape blocks.now }
+{
+    !blocks.is_empty() && blocks.len() <= 40 && each_fits(shape, blocks) && ships_rise(blocks)
+}
+
+fn narrows_line(shape: Shape, blocks: Vec<Block>) -> Result<Line, LineFault>
+    ensures { Gives result (refused_by (Line.Narrows blocks.items) (first_fault shape (Line.Narrows blocks.items))) }
+{
+    if !are_blocks(shape, &blocks) {
+        return Err(LineFault::Bad(FormWord::Range));
+    }
+    Ok(Line::Narrows {
+        blocks: Blocks { items: blocks },
+    })
+}
+
+fn each_light(weights: &[u32]) -> bool
+    ensures { result ≡ list_all (λ weight. nat_le weight 64) weights.now }
+{
+    weights.iter().all(|weight| *weight <= 64)
+}
+
+fn are_small(most: u32, weights: &[u32]) -> bool
+    ensures { result ≡ weights_small most weights.now }
+{
+    most <= 2_560 && each_light(weights)
+}
+
+/// Whether the number is that of a rule, the slot one of the problem, and there are at most 40 weights.
+fn is_weighed(shape: Shape, restriction: u32, slot: u32, weights: &[u32]) -> bool
+    ensures { result ≡ weights_fit shape restriction slot weights.now }
+{
+    shape.ships <= restriction
+        && u64::from(restriction) < u64::from(shape.ships) + u64::from(shape.rules)
+        && slot < shape.slots
+        && weights.len() <= 40
+}
+
+fn tugs_line(
+    shape: Shape,
+    restriction: u32,
+    slot: u32,
+    most: u32,
+    weights: Vec<u32>,
+) -> Result<Line, LineFault>
+    ensures { Gives result (refused_by (Line.Tugs restriction slot most weights.items) (first_fault shape (Line.Tugs restriction slot most weights.items))) }
+{
+    if !are_small(most, &weights) {
+        return Err(LineFault::Bad(FormWord::Form));
+    }
+    if !is_weighed(shape, restriction, slot, &weights) {
+        return Err(LineFault::Bad(FormWord::Range));
+    }
+    Ok(Line::Tugs {
+        restriction,
+        slot,
+        most,
+        weights: Weights { items: weights },
+    })
+}
+
+fn each_cheap(prices: &[Price]) -> bool
+    ensures { result ≡ list_all (λ due. nat_le due.price 1_000_000_000_000_000_000) prices.now }
+{
+    prices
+        .iter()
+        .all(|due| due.price <= 1_000_000_000_000_000_000)
+}
+
+fn are_cheap(scale: u32, prices: &[Price]) -> bool
+    ensures { result ≡ prices_small scale prices.now }
+{
+    scale <= 1_000_000 && each_cheap(prices)
+}
+
+/// Whether the number of each toll is above the one before it, the first above 0.
+fn tolls_ascend(prices: &[Price]) -> bool
+    ensures { result ≡ ascends 0 (map (λ due. due.toll) prices.now) }
+{
+    let mut before = 0;
+    for due in prices {
+        if due.toll <= before {
+            return false;
+        }
+        before = due.toll;
+    }
+    true
+}
+
+fn tariff_line(shape: Shape, scale: u32, prices: Vec<Price>) -> Result<Line, LineFault>
+    ensures { Gives result (refused_by (Line.Tariff scale prices.items) (first_fault shape (Line.Tariff scale prices.items))) }
+{
+    if !are_cheap(scale, &prices) {
+        return Err(LineFault::Bad(FormWord::Form));
+    }
+    if !tolls_ascend(&prices) {
+        return Err(LineFault::Bad(FormWord::Range));
+    }
+    Ok(Line::Tariff {
+        scale,
+        prices: Prices { items: prices },
+    })
+}
+
+fn priced_line(shape: Shape, lits: Vec<Lit>) -> Result<Line, LineFault>
+    requires few_ships { shape.ships ≤ 40 }
+    ensures { Gives result (refused_by (Line.Priced lits.items) (first_fault shape (Line.Priced lits.items))) }
+{
+    let clause = clause_of(shape, lits)?;
+    Ok(Line::Priced { clause })
+}
+
+fn bound_line(bound: u64) -> Result<Line, LineFault>
+    ensures { Gives result (refused_by (Line.Bound bound) (unless FormWord.Form (nat_le bound 40_000_000_000_000))) }
+{
+    if bound > 40_000_000_000_000 {
+        return Err(LineFault::Bad(FormWord::Form));
+    }
+    Ok(Line::Bound { bound })
+}
+
 /// The line of this spelling, or its first bad word.
 fn fitted_line(alloc: Global, shape: Shape, spelling: Spelling) -> Result<Line, LineFault>
     requires few_ships { shape.ships ≤ 40 }
@@ -159,6 +311,16 @@ fn fitted_line(alloc: Global, shape: Shape, spelling: Spelling) -> Result<Line, 
         Spelling::Goal { lits } => goal_line(shape, lits),
         Spelling::Lemma { lits, hints } => lemma_line(shape, lits, hints),
         Spelling::Delete { ids } => delete_line(ids),
+        Spelling::Narrows { blocks } => narrows_line(shape, blocks),
+        Spelling::Tugs {
+            restriction,
+            slot,
+            most,
+            weights,
+        } => tugs_line(shape, restriction, slot, most, weights),
+        Spelling::Tariff { scale, prices } => tariff_line(shape, scale, prices),
+        Spelling::Priced { lits } => priced_line(shape, lits),
+        Spelling::Bound { bound } => bound_line(bound),
     }
 }
 

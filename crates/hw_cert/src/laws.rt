@@ -1,8 +1,9 @@
 //! The laws of the text of certificates: what is written reads back, and nothing else reads so.
 
 ghost use Rattle.hw_cert.specs.Forms.{FormSpelled, ValidReads};
+ghost use Rattle.hw_cert.specs.Rows.{TextRows};
 ghost use Rattle.hw_cert.specs.Told.{TextTold};
-ghost use Rattle.hw_cert.specs.Laws.{LineSpelled, HeaderSpelled, CertSpelled, StreamSteps, StreamReads, OverlongPasses};
+ghost use Rattle.hw_cert.specs.Laws.{LineSpelled, HeaderSpelled, CertSpelled, StreamSteps, StreamReads, OverlongPasses, PlainForms, ReadForms, PlainRead};
 
 /// Bytes read as a line exactly where they are the line's one text.
 pub fn line_spelled()
@@ -39,7 +40,7 @@ pub fn form_spelled()
     ensures { FormSpelled }
 {}
 
-/// Valid lines of a problem have a text, with deletions, that reads back as them.
+/// Valid lines of a problem have a text that reads back as them.
 pub fn valid_reads()
     ensures { ValidReads }
 {}
@@ -47,4 +48,24 @@ pub fn valid_reads()
 /// Bytes that tell lines are the text of these lines, and after it bytes without a line feed.
 pub fn text_told()
     ensures { TextTold }
+{}
+
+/// The second version has the forms of plain lines.
+pub fn plain_forms()
+    ensures { PlainForms }
+{}
+
+/// Lines that are read up to a version have its forms.
+pub fn read_forms()
+    ensures { ReadForms }
+{}
+
+/// Lines that are read up to the second version are plain.
+pub fn plain_read()
+    ensures { PlainRead }
+{}
+
+/// What is read of texts of the third version, worked out by hand, and why others aren't read.
+pub fn text_rows()
+    ensures { TextRows }
 {}

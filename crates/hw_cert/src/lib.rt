@@ -12,14 +12,16 @@ mod sending;
 mod spelling;
 mod stop;
 mod taking;
+mod tolling;
 mod tray_log;
 mod version;
 mod words;
 
-pub use hw_lines::{CheckWord, Hints, Line, Refusal, Verdict};
+pub use hw_lines::{CheckWord, Hints, Line, Price, Prices, Refusal, Verdict};
+pub use hw_tolls::{Block, Blocks, Weights};
 pub use laws::{
-    cert_spelled, form_spelled, header_spelled, line_spelled, overlong_passes, stream_reads,
-    stream_steps, text_told, valid_reads,
+    cert_spelled, form_spelled, header_spelled, line_spelled, overlong_passes, plain_forms,
+    plain_read, read_forms, stream_reads, stream_steps, text_rows, text_told, valid_reads,
 };
 pub use log::{Log, LogStop};
 pub use memory_log::MemoryLog;

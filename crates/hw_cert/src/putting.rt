@@ -1,15 +1,16 @@
 //! The text of a line, given to a writer.
 
-ghost use Rattle.std.specs.Prelude.{◌≡◌, ◌++◌, ◌∷◌, [], true, codes, decimal};
+ghost use Rattle.std.specs.Prelude.{◌≡◌, ◌++◌, ◌∷◌, [], true, codes, decimal, map};
 ghost use Rattle.std.specs.List.{list_all, flat_map};
 ghost use Rattle.hw_desk.specs.Writers.{Puts};
-ghost use Rattle.hw_cert.specs.Texts.{lit_text, line_text, pair_text};
-ghost use Rattle.hw_cert.specs.Worded.{number_text, numbers_text, lits_text, worded};
-ghost use Rattle.hw_cert.specs.Laws.{is_small, lit_numbers, line_numbers};
+ghost use Rattle.hw_cert.specs.Texts.{lit_text, block_text, price_text, line_text, pair_text};
+ghost use Rattle.hw_cert.specs.Worded.{number_text, numbers_text, lits_text, blocks_text, prices_text, worded};
+ghost use Rattle.hw_cert.specs.Laws.{is_small, is_wide, lit_numbers, block_numbers, line_numbers, wide_numbers};
 
 use hw_desk::Writer;
-use hw_lines::{Hints, Line};
+use hw_lines::{Hints, Line, Price};
 use hw_lits::{Clause, Lit};
+use hw_tolls::Block;
 
 /// Puts a number after a space.
 #[tactic(auto, using(hw_desk::proofs::Written::puts_on))]
@@ -119,9 +120,117 @@ fn put_lemma<W: Writer>(out: &mut W, clause: &Clause, hints: &Hints)
     put_listed(out, b" ;", &hints.items);
 }
 
+/// Puts the slots of a block with a colon between.
+#[tactic(auto, using(hw_desk::proofs::Written::puts_on))]
+fn put_slots<W: Writer>(out: &mut W, low: u32, high: u32)
+    ensures puts { Puts (decimal low ++ 58 ∷ decimal high) (W.state out.old) (W.state out.new) }
+    ensures small { list_all is_small (low ∷ high ∷ []) ≡ true }
+{
+    out.put_number(u64::from(low));
+    out.put(b":");
+    out.put_number(u64::from(high));
+}
+
+/// Puts a block after a space.
+#[tactic(auto, using(hw_desk::proofs::Written::puts_on))]
+fn put_block<W: Writer>(out: &mut W, block: Block)
+    ensures puts { Puts (32 ∷ block_text block) (W.state out.old) (W.state out.new) }
+    ensures small { list_all is_small (block_numbers block) ≡ true }
+{
+    put_number(out, block.ship);
+    out.put(b":");
+    put_slots(out, block.low, block.high);
+}
+
+/// Puts blocks, each after a space.
+#[tactic(auto, using(hw_desk::proofs::Written::puts_on))]
+fn put_blocks<W: Writer>(out: &mut W, blocks: &[Block])
+    ensures puts { Puts (blocks_text blocks.now) (W.state out.old) (W.state out.new) }
+    ensures small { list_all is_small (flat_map block_numbers blocks.now) ≡ true }
+{
+    for block in blocks {
+        put_block(out, *block);
+    }
+}
+
+#[tactic(auto, using(hw_desk::proofs::Written::puts_on))]
+fn put_narrows<W: Writer>(out: &mut W, blocks: &[Block])
+    ensures puts { Puts (worded (Line.Narrows blocks.now)) (W.state out.old) (W.state out.new) }
+    ensures small { list_all is_small (line_numbers (Line.Narrows blocks.now)) ≡ true }
+{
+    out.put(b"n");
+    put_blocks(out, blocks);
+}
+
+#[tactic(auto, using(hw_desk::proofs::Written::puts_on))]
+fn put_tugs<W: Writer>(out: &mut W, restriction: u32, slot: u32, most: u32, weights: &[u32])
+    ensures puts { Puts (worded (Line.Tugs restriction slot most weights.now)) (W.state out.old) (W.state out.new) }
+    ensures small { list_all is_small (line_numbers (Line.Tugs restriction slot most weights.now)) ≡ true }
+{
+    out.put(b"u");
+    put_number(out, restriction);
+    put_number(out, slot);
+    put_number(out, most);
+    put_numbers(out, weights);
+}
+
+/// Puts a price after a space.
+#[tactic(auto, using(hw_desk::proofs::Written::puts_on))]
+fn put_price<W: Writer>(out: &mut W, due: Price)
+    ensures puts { Puts (32 ∷ price_text due) (W.state out.old) (W.state out.new) }
+    ensures small { is_small due.toll ≡ true }
+    ensures wide { is_wide due.price ≡ true }
+{
+    put_number(out, due.toll);
+    out.put(b":");
+    out.put_number(due.price);
+}
+
+/// Puts prices, each after a space.
+#[tactic(auto, using(hw_desk::proofs::Written::puts_on))]
+fn put_prices<W: Writer>(out: &mut W, prices: &[Price])
+    ensures puts { Puts (prices_text prices.now) (W.state out.old) (W.state out.new) }
+    ensures small { list_all is_small (map (λ due. due.toll) prices.now) ≡ true }
+    ensures wide { list_all is_wide (map (λ due. due.price) prices.now) ≡ true }
+{
+    for due in prices {
+        put_price(out, *due);
+    }
+}
+
+#[tactic(auto, using(hw_desk::proofs::Written::puts_on))]
+fn put_tariff<W: Writer>(out: &mut W, scale: u32, prices: &[Price])
+    ensures puts { Puts (worded (Line.Tariff scale prices.now)) (W.state out.old) (W.state out.new) }
+    ensures small { list_all is_small (line_numbers (Line.Tariff scale prices.now)) ≡ true }
+    ensures wide { list_all is_wide (wide_numbers (Line.Tariff scale prices.now)) ≡ true }
+{
+    out.put(b"y");
+    put_number(out, scale);
+    put_prices(out, prices);
+}
+
+#[tactic(auto, using(hw_desk::proofs::Written::puts_on))]
+fn put_priced<W: Writer>(out: &mut W, clause: &Clause)
+    ensures puts { Puts (worded (Line.Priced clause.now)) (W.state out.old) (W.state out.new) }
+    ensures small { list_all is_small (line_numbers (Line.Priced clause.now)) ≡ true }
+{
+    out.put(b"p");
+    put_lits(out, clause.as_slice());
+}
+
+#[tactic(auto, using(hw_desk::proofs::Written::puts_on))]
+fn put_bound<W: Writer>(out: &mut W, bound: u64)
+    ensures puts { Puts (worded (Line.Bound bound)) (W.state out.old) (W.state out.new) }
+    ensures wide { list_all is_wide (wide_numbers (Line.Bound bound)) ≡ true }
+{
+    out.put(b"b ");
+    out.put_number(bound);
+}
+
 fn put_words<W: Writer>(out: &mut W, line: &Line)
     ensures puts { Puts (worded line.now) (W.state out.old) (W.state out.new) }
     ensures small { list_all is_small (line_numbers line.now) ≡ true }
+    ensures wide { list_all is_wide (wide_numbers line.now) ≡ true }
 {
     match line {
         Line::Table(table) => put_listed(out, b"t", table.as_slice()),
@@ -133,6 +242,16 @@ fn put_words<W: Writer>(out: &mut W, line: &Line)
         Line::Goal { clause } => put_goal(out, clause),
         Line::Lemma { clause, hints } => put_lemma(out, clause, hints),
         Line::Delete { ids } => put_listed(out, b"d", &ids.items),
+        Line::Narrows { blocks } => put_narrows(out, &blocks.items),
+        Line::Tugs {
+            restriction,
+            slot,
+            most,
+            weights,
+        } => put_tugs(out, *restriction, *slot, *most, &weights.items),
+        Line::Tariff { scale, prices } => put_tariff(out, *scale, &prices.items),
+        Line::Priced { clause } => put_priced(out, clause),
+        Line::Bound { bound } => put_bound(out, *bound),
     }
 }
 
@@ -140,6 +259,7 @@ fn put_words<W: Writer>(out: &mut W, line: &Line)
 pub fn put_line<W: Writer>(out: &mut W, line: &Line)
     ensures puts { Puts (line_text line.now) (W.state out.old) (W.state out.new) }
     ensures small { list_all is_small (line_numbers line.now) ≡ true }
+    ensures wide { list_all is_wide (wide_numbers line.now) ≡ true }
 {
     put_words(out, line);
 }

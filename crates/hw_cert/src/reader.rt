@@ -1,7 +1,7 @@
 //! Reading a certificate from a feed, one line at a time.
 
 ghost use Rattle.std.specs.Prelude.{◌≡◌, ◌≤◌, ◌+◌, ◌^◌, [], true, IfOk, IsSome, None};
-ghost use Rattle.hw_cert.specs.Stream.{start};
+ghost use Rattle.hw_cert.specs.Stream.{start, start_to};
 
 use crate::fitting::{LineFault, read_line};
 use crate::pending::{BLOCK, Pending};
@@ -25,6 +25,8 @@ pub struct LineReader {
     alloc: Global,
     shape: Shape,
     feed: Feed,
+    // the greatest one that the header may name
+    most: Version,
     // none before the header
     version: Option<Version>,
     // of the line that comes next, the header being line 1
@@ -42,9 +44,9 @@ impl Model for LineReader {
 
     ghost Value = { ReaderModel };
 
-    ghost view = { λ r. record { shape = r.shape; feed = r.feed; at = record { version = r.version; number = r.number; taken = r.taken }; pending = r.pending } };
+    ghost view = { λ r. record { shape = r.shape; feed = r.feed; at = record { most = r.most; version = r.version; number = r.number; taken = r.taken }; pending = r.pending } };
 
-    ghost invariant = { λ r. ReaderKeeps (record { shape = r.shape; feed = r.feed; at = record { version = r.version; number = r.number; taken = r.taken }; pending = r.pending }) };
+    ghost invariant = { λ r. ReaderKeeps (record { shape = r.shape; feed = r.feed; at = record { most = r.most; version = r.version; number = r.number; taken = r.taken }; pending = r.pending }) };
 }
 
 /// What comes next of a certificate.
@@ -59,11 +61,24 @@ pub enum Next {
 impl LineReader {
     ghost use Rattle.hw_cert.specs.Nexts.{Takes, TakesHeader};
 
-    /// A reader of a certificate for a problem of this shape, before its header. It takes one
-    /// line's buffer and that of one read, which no call of the reader makes greater.
+    /// A reader of a certificate of version 1 or 2 for a problem of this shape, before its header.
+    /// It takes one line's buffer and that of one read, which no call of the reader makes greater.
     pub fn new(alloc: Global, shape: Shape, feed: Feed) -> Result<LineReader, NoMemory>
         requires few_ships { shape.ships ≤ 40 }
         ensures value { IfOk result (λ r. r ≡ record { shape = shape; feed = feed; at = start; pending = [] }) }
+    {
+        LineReader::up_to(alloc, shape, feed, Version::Two)
+    }
+
+    /// The same of a certificate of this version or an earlier one.
+    pub fn up_to(
+        alloc: Global,
+        shape: Shape,
+        feed: Feed,
+        most: Version,
+    ) -> Result<LineReader, NoMemory>
+        requires few_ships { shape.ships ≤ 40 }
+        ensures value { IfOk result (λ r. r ≡ record { shape = shape; feed = feed; at = start_to most; pending = [] }) }
     {
         let pending = Pending::new(alloc)?;
         let line = Vec::with_capacity(alloc, MOST_OF_LINE as usize + BLOCK)?;
@@ -71,6 +86,7 @@ impl LineReader {
             alloc,
             shape,
             feed,
+            most,
             version: None,
             number: 1,
             taken: 0,
@@ -108,7 +124,7 @@ impl LineReader {
                 });
             }
         }
-        let Some(version) = header_version(&self.line) else {
+        let Some(version) = header_version(self.most, &self.line) else {
             return Err(LineStop::Form {
                 number: self.number,
                 word: FormWord::Header,

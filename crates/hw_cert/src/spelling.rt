@@ -1,14 +1,17 @@
 //! What the words of a line spell, whatever the problem.
 
 ghost use Rattle.std.specs.Prelude.{◌≡◌, IfOk, IfSome, MatchOption, option_map};
-ghost use Rattle.hw_cert.specs.Spelled.{number_word, all_numbers, some_numbers, lit_word, lettered, lits_of, only_lits, table_form, explain_form, order_form, goal_form, lemma_form, delete_form, form_of, spelled, version_word, version_of};
+ghost use Rattle.hw_cert.specs.Spelled.{number_word, all_numbers, some_numbers, lit_word, lettered, lits_of, only_lits, table_form, explain_form, order_form, goal_form, lemma_form, delete_form, form_of, spelled, version_word, version_to};
 ghost use Rattle.hw_cert.specs.Spellings.{numbers_view, lits_view, found_view, spelling_view};
 
+use crate::tolling::{bound_of, narrows_of, priced_of, tariff_of, tugs_of};
 use crate::version::Version;
 use crate::words::{is_header_word, keywords};
 use hw_lexicon::each_word;
+use hw_lines::Price;
 use hw_model::Lit;
 use hw_text::{Words, is_text, read_number};
+use hw_tolls::Block;
 use std::alloc::{AllocError, Global};
 
 /// The numbers and literals of a line that has its form. They may not fit the problem.
@@ -37,6 +40,25 @@ pub enum Spelling {
     Delete {
         ids: Vec<u32>,
     },
+    Narrows {
+        blocks: Vec<Block>,
+    },
+    Tugs {
+        restriction: u32,
+        slot: u32,
+        most: u32,
+        weights: Vec<u32>,
+    },
+    Tariff {
+        scale: u32,
+        prices: Vec<Price>,
+    },
+    Priced {
+        lits: Vec<Lit>,
+    },
+    Bound {
+        bound: u64,
+    },
 }
 
 /// Literals, and the words after the `;` that ends them, if one does.
@@ -46,7 +68,7 @@ struct FoundLits<'l> {
     behind: Option<Words<'l>>,
 }
 
-fn number_of(word: &[u8]) -> Option<u32>
+pub fn number_of(word: &[u8]) -> Option<u32>
     ensures { result ≡ number_word word.now }
 {
     match read_number(word, u64::from(u32::MAX)) {
@@ -56,7 +78,7 @@ fn number_of(word: &[u8]) -> Option<u32>
 }
 
 /// The numbers that the words spell, where each spells one.
-fn numbers_of(alloc: Global, mut words: Words<'_>) -> Result<Option<Vec<u32>>, AllocError>
+pub fn numbers_of(alloc: Global, mut words: Words<'_>) -> Result<Option<Vec<u32>>, AllocError>
     ensures { IfOk result (λ o. numbers_view o ≡ all_numbers words.entry) }
 {
     let mut numbers = Vec::new(alloc);
@@ -137,7 +159,7 @@ fn lits_from(alloc: Global, mut words: Words<'_>) -> Result<Option<FoundLits<'_>
 }
 
 /// Words that are literals alone.
-fn only_lits_of(alloc: Global, words: Words<'_>) -> Result<Option<Vec<Lit>>, AllocError>
+pub fn only_lits_of(alloc: Global, words: Words<'_>) -> Result<Option<Vec<Lit>>, AllocError>
     ensures { IfOk result (λ o. lits_view o ≡ only_lits words.entry) }
 {
     match lits_from(alloc, words)? {
@@ -214,7 +236,7 @@ fn lemma_of(alloc: Global, words: Words<'_>) -> Result<Option<Spelling>, AllocEr
     }
 }
 
-/// `ID ..`, in version 2 alone.
+/// `ID ..`, from version 2 on.
 fn delete_of(
     alloc: Global,
     version: Version,
@@ -224,7 +246,7 @@ fn delete_of(
 {
     match version {
         Version::One => Ok(None),
-        Version::Two => match some_numbers_of(alloc, words)? {
+        Version::Two | Version::Three => match some_numbers_of(alloc, words)? {
             Some(ids) => Ok(Some(Spelling::Delete { ids })),
             None => Ok(None),
         },
@@ -248,6 +270,11 @@ fn form_of(
         3 => goal_of(alloc, words),
         4 => lemma_of(alloc, words),
         5 => delete_of(alloc, version, words),
+        6 => narrows_of(alloc, version, words),
+        7 => tugs_of(alloc, version, words),
+        8 => tariff_of(alloc, version, words),
+        9 => priced_of(alloc, version, words),
+        10 => Ok(bound_of(version, words)),
         else Ok(None)
     )
 }
@@ -277,12 +304,15 @@ fn numbered_version(word: &[u8]) -> Option<Version>
     if is_text(word, b"2") {
         return Some(Version::Two);
     }
+    if is_text(word, b"3") {
+        return Some(Version::Three);
+    }
     None
 }
 
-/// The version that a header names.
-pub fn header_version(line: &[u8]) -> Option<Version>
-    ensures { result ≡ version_of line.now }
+/// The version that a header names, where it is this one or an earlier one.
+pub fn header_version(most: Version, line: &[u8]) -> Option<Version>
+    ensures { result ≡ version_to most line.now }
 {
     let mut words = Words::of(line);
     let kind = words.word()?;
@@ -291,5 +321,9 @@ pub fn header_version(line: &[u8]) -> Option<Version>
     if !is_header_word(kind) {
         return None;
     }
-    numbered_version(word)
+    let version = numbered_version(word)?;
+    if !most.allows(version) {
+        return None;
+    }
+    Some(version)
 }

@@ -8,11 +8,14 @@ use std::alloc::AllocError;
 /// Why a line of a certificate can't be read, in the order of the tests.
 #[derive(Clone, Copy, Debug, PartialEq, Eq)]
 pub enum FormWord {
-    /// Line 1 isn't `cert 1` or `cert 2`, or is missing.
+    /// Line 1 isn't the header of a version that the reader takes, `cert 1` or `cert 2` and up to
+    /// version 3 `cert 3`, or is missing.
     Header,
-    /// The line isn't of one of the forms of its version, or has no end.
+    /// The line isn't of one of the forms of its version, a number is above its limit, or the line has
+    /// no end.
     Form,
-    /// The first bad word is out of range, doesn't ascend, or the count of slots is wrong.
+    /// The first bad word is out of range, doesn't ascend, or the count of slots, blocks or weights is
+    /// wrong.
     Range,
     /// The first bad word is a literal in range that breaks the normal form.
     Normal,

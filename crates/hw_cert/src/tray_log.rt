@@ -6,7 +6,7 @@ ghost use Rattle.hw_desk.specs.State.{CanSend};
 ghost use Rattle.hw_desk.specs.Calls.{Sends};
 ghost use Rattle.hw_desk.specs.Whole.{SendsText};
 ghost use Rattle.hw_desk.specs.declared.desk.Tray.TheVariants.{Proof};
-ghost use Rattle.hw_cert.specs.Laws.{is_small, line_numbers};
+ghost use Rattle.hw_cert.specs.Laws.{is_small, is_wide, line_numbers, wide_numbers};
 ghost use Rattle.hw_cert.specs.Logs.{IsEmpty, IsWhole, TakesLine, ended_text};
 ghost use Rattle.hw_cert.specs.Told.{FailsHeader, header_line, is_told, tray_anchor, tray_log};
 
@@ -88,6 +88,7 @@ fn send_line<D: Desk>(desk: &mut D, line: &Line) -> Result<(), DeskFailed>
     requires made { CanSend Tray.Proof (D.state desk.old) }
     ensures sends { SendsText Tray.Proof (ended_text line.now) (D.state desk.old) (D.state desk.new) result }
     ensures small { list_all is_small (line_numbers line.now) ≡ true }
+    ensures wide { list_all is_wide (wide_numbers line.now) ≡ true }
 {
     let mut out = TrayWriter::new(desk, Tray::Proof);
     put_line(&mut out, line);
