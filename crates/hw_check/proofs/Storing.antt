@@ -1,17 +1,17 @@
 -- What the type of a list of clauses keeps, through each change.
-use Rattle.std.proofs.Common.{◌≡◌, ℕ, zero, suc, ◌+◌, ◌-◌, ◌*◌, ◌^◌, ◌<◌, ◌≤◌, ◌==◌, ◌||◌, Bool, true, false, not, cond, List, [], ◌∷◌, ◌++◌, Option, Some, None, length, get_or, set, take, drop, map, filter, All, AllPairs, refl, sym, ap, ◌∙◌, subst, arith, length-append, append_assoc, append-nil}
+use Rattle.std.proofs.Common.{◌≡◌, ℕ, zero, suc, ◌+◌, ◌-◌, ◌*◌, ◌<◌, ◌≤◌, ◌==◌, ◌||◌, Bool, true, false, not, cond, List, [], ◌∷◌, ◌++◌, Some, None, length, get_or, set, take, drop, map, filter, All, refl, sym, ap, ◌∙◌, arith, length-append, append_assoc, append-nil}
 use Rattle.std.specs.List.{cons_option, list_any}
 use Rattle.std.proofs.lemmas.List.Folds.{list_any-append}
 use Rattle.std.proofs.lemmas.List.{drop_more, drop_all, take_all, get_or-map, get_or_default, length-map, length-set, map_push, take_more}
-use Rattle.std.proofs.lemmas.List.Elements.{All-nil, All-cons, All-append, All-set, All-filter, All-weaker, filter_more}
+use Rattle.std.proofs.lemmas.List.Elements.{All-nil, All-cons, All-append, All-set, All-filter, filter_more}
 use Rattle.std.proofs.lemmas.List.Kept.{AllPairs-filter}
 use Rattle.std.proofs.lemmas.List.Quantifiers.{all_pairs_push}
 use Rattle.hw_model.specs.declared.lit.Lit.{Lit}
 use Rattle.hw_lines.specs.Kept.{NumberedClause, without}
 use Rattle.hw_check.specs.declared.place.Place.{Place}
 use Rattle.hw_check.specs.States.{ClauseStore, IsBounded, literals, needed}
-use Rattle.hw_check.specs.Places.{lits_at, clause_at, clauses_at, PlaceFits, Ascends, StandsAt, IsStored, Gathers}
-use Rattle.hw_check.proofs.Places.{clauses_few, more_lits, new_place, pushed_at, literals_push, length-lits_at, one_less, literals_less, removed_at, IsRead}
+use Rattle.hw_check.specs.Places.{lits_at, clauses_at, PlaceFits, Ascends, StandsAt, IsStored, Gathers}
+use Rattle.hw_check.proofs.Places.{clauses_few, new_place, pushed_at, literals_push, one_less, literals_less, removed_at, IsRead}
 
 -- lists of the same numbers
 same_number : (xs ys : List Place) (i : ℕ) (d : Place) → map (λ place. place.id) xs ≡ map (λ place. place.id) ys → i < length xs → i < length ys → (get_or xs i d).id ≡ (get_or ys i d).id

@@ -1,5 +1,5 @@
 -- Clauses that stand in one list of literals, the dead ones among them.
-use Rattle.std.specs.Prelude.{◌≡◌, ℕ, ◌+◌, ◌<◌, ◌≤◌, List, [], ◌∷◌, Option, Some, None, length, map, filter, filter_map, slice_range, All, AllPairs, ◌≢◌, if◌then◌else◌}
+use Rattle.std.specs.Prelude.{◌≡◌, ℕ, ◌+◌, ◌<◌, ◌≤◌, List, Option, Some, None, length, map, filter, filter_map, slice_range, All, AllPairs, ◌≢◌, if◌then◌else◌}
 use Rattle.std.specs.List.{HoldsAt}
 use Rattle.hw_model.specs.declared.lit.Lit.{Lit}
 use Rattle.hw_lines.specs.Kept.{NumberedClause}

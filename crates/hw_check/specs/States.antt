@@ -1,9 +1,10 @@
 -- What a checker keeps.
-use Rattle.std.specs.Prelude.{◌≡◌, ℕ, ◌+◌, ◌*◌, ◌≤◌, List, [], All, length, sum_by}
+use Rattle.std.specs.Prelude.{ℕ, ◌+◌, ◌*◌, ◌≤◌, Bool, List, Option, All, length, sum_by}
 use Rattle.hw_model.specs.Problem.{Problem}
 use Rattle.hw_model.specs.Rooms.{RoomModel, RoomFits}
 use Rattle.hw_model.specs.Lits.{IsLitOf}
 use Rattle.hw_lines.specs.Kept.{NumberedClause, Kept, none_kept}
+use Rattle.hw_tariff.specs.PriceStates.{PriceState, AreGood, tariff_of}
 
 -- what is kept of the lines that were taken, and how many literals and places are kept for it, those of dead clauses among them
 pub record CheckState : Type 0 where
@@ -31,6 +32,10 @@ pub record ClauseStore : Type 0 where
   pub kept_lits : ℕ
   pub kept_places : ℕ
 
+-- what is kept, by the clauses, the tolls and prices, the best cargo, and whether a clause line had no literals
+abbrev pub kept_in : ClauseStore → PriceState → Option ℕ → Bool → Kept
+kept_in store prices best closed = record { live = store.live; next = store.next; best = best; closed = closed; tolls = prices.tolls; tariff = tariff_of prices; bound = prices.bound }
+
 -- each clause speaks only of this many ships
 abbrev pub LitsFit : ℕ → List NumberedClause → Type 0
 LitsFit ships held = All (λ one. All (IsLitOf ships) one.clause) held
@@ -39,8 +44,9 @@ LitsFit ships held = All (λ one. All (IsLitOf ships) one.clause) held
 abbrev pub IsBounded : ClauseStore → Type 0
 IsBounded store = store.kept_lits + store.kept_places ≤ 2 * needed store.live
 
--- what the type of a checker keeps: each clause is one of the problem, and so is the room
-pub record IsKept (f : Problem) (store : ClauseStore) (room : RoomModel) : Type 0 where
+-- what the type of a checker keeps: each clause is one of the problem, so is each toll, the tariff in force is charged, and the room is one of the problem
+pub record IsKept (f : Problem) (store : ClauseStore) (prices : PriceState) (room : RoomModel) : Type 0 where
   pub lits : LitsFit f.ships store.live
   pub bounded : IsBounded store
+  pub good : AreGood f prices
   pub fits : RoomFits f room

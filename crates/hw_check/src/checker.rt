@@ -1,13 +1,16 @@
 //! The checker: one line after another is taken where it is valid after those before it.
 
-ghost use Rattle.std.specs.Prelude.{◌≡◌, ◌+◌, ◌*◌, ◌^◌, ◌<◌, ◌≤◌, List, [], None, length, false, IfOk, IfErr, OnOk};
+ghost use Rattle.std.specs.Prelude.{◌≡◌, ◌+◌, ◌*◌, ◌^◌, ◌<◌, ◌≤◌, List, [], Some, None, length, false, IfOk, IfErr, IfSome, OnOk};
 ghost use Rattle.hw_model.specs.Problem.{shape_of};
 ghost use Rattle.hw_model.specs.Lits.{IsClause};
 ghost use Rattle.hw_lines.specs.declared.line.Line.{Line};
 ghost use Rattle.hw_lines.specs.Lines.{clause_of, live_numbers};
-ghost use Rattle.hw_lines.specs.Valid.{LineFits, verdict, verdict_by};
-ghost use Rattle.hw_lines.specs.Kept.{kept_after, with_clause};
-ghost use Rattle.hw_lines.specs.Refusals.{is_past, kept_refusal};
+ghost use Rattle.hw_lines.specs.Valid.{LineFits, PricesFit, verdict, verdict_by};
+ghost use Rattle.hw_lines.specs.Tolled.{bound_of, priced_by};
+ghost use Rattle.hw_lines.specs.Kept.{kept_after, with_clause, with_toll};
+ghost use Rattle.hw_lines.specs.Refusals.{is_past, first_unknown, kept_refusal};
+ghost use Rattle.hw_tolls.specs.Tolls.{IsToll};
+ghost use Rattle.hw_verdict.specs.Laws.{IsBound};
 ghost use Rattle.hw_check.specs.States.{no_lines, literals};
 ghost use Rattle.hw_check.specs.Follows.{Follows, Answers, Stops};
 
@@ -15,22 +18,27 @@ use crate::clause_list::ClauseList;
 use crate::refusing::{claim, clause_of, refused};
 use crate::space::Space;
 use crate::stop::CheckStop;
+use crate::tolled::{narrows_of, tariff_of, tugs_of};
 use hw_flat::{Flat, Room};
-use hw_lines::{CheckWord, Line, Refusal, Verdict};
+use hw_lines::{CheckWord, Line, Prices, Refusal, Verdict};
 use hw_lits::Clause;
 use hw_model::NoMemory;
 use hw_rules::cargo;
+use hw_tariff::PriceBook;
+use hw_tolls::Toll;
 use std::alloc::Global;
 use std::marker::Model;
 
 /// Takes the lines of a certificate of one problem, one by one.
 ///
 /// Seen as the live clauses with their numbers, the number of the next clause line, the best cargo
-/// so far in tenths of a tonne, and whether a clause line had no literals.
+/// so far in tenths of a tonne, whether a clause line had no literals, the tolls, the tariff in
+/// force, and the last bound in tenths of a tonne.
 #[derive(Drop)]
 pub struct Checker<'f> {
     flat: &'f Flat,
     clauses: ClauseList,
+    prices: PriceBook,
     best: Option<u64>,
     is_closed: bool,
     /// The room in which clauses are denied. Its ranges and orders mean nothing between two lines.
@@ -38,13 +46,13 @@ pub struct Checker<'f> {
 }
 
 impl<'f> Model for Checker<'f> {
-    ghost use Rattle.hw_check.specs.States.{CheckState, IsKept};
+    ghost use Rattle.hw_check.specs.States.{CheckState, IsKept, kept_in};
 
     ghost Value = { CheckState };
 
-    ghost view = { λ c. record { problem = c.flat.now; kept = record { live = c.clauses.live; next = c.clauses.next; best = c.best; closed = c.is_closed }; kept_lits = c.clauses.kept_lits; kept_places = c.clauses.kept_places } };
+    ghost view = { λ c. record { problem = c.flat.now; kept = kept_in c.clauses c.prices c.best c.is_closed; kept_lits = c.clauses.kept_lits; kept_places = c.clauses.kept_places } };
 
-    ghost invariant = { λ c. IsKept c.flat.now c.clauses c.room };
+    ghost invariant = { λ c. IsKept c.flat.now c.clauses c.prices c.room };
 }
 
 impl<'f> Checker<'f> {
@@ -57,6 +65,7 @@ impl<'f> Checker<'f> {
         Ok(Checker {
             flat,
             clauses: ClauseList::new(alloc),
+            prices: PriceBook::new(alloc, flat)?,
             best: None,
             is_closed: false,
             room,
@@ -99,6 +108,17 @@ impl<'f> Checker<'f> {
         }
     }
 
+    /// The last bound that the lines show, in tenths of a tonne: no permitted timetable carries more.
+    /// None where no line shows one.
+    pub fn bound(&self) -> Option<u64>
+        ensures state { result ≡ self.now.kept.bound }
+        ensures followed { (all : List Line) → Follows self.now all → result ≡ bound_of all }
+        ensures sound { (all : List Line) → Follows self.now all → IfSome result (IsBound self.now.problem) }
+    {
+        let _shape = self.flat.shape();
+        self.prices.bound()
+    }
+
     /// Takes one more line of the problem's shape, exactly where it is valid after those before
     /// it; otherwise it says why not. A checker that refuses a line, or runs out of memory for it, is
     /// used up.
@@ -117,7 +137,9 @@ impl<'f> Checker<'f> {
     ///
     /// It costs the size of a room, the literals of the line and of its hints, the search for each
     /// hint among the live clauses, and what a table or a source costs that is tested. A deletion
-    /// costs a search for each of its numbers, and giving back, which is paid for by what died.
+    /// costs a search for each of its numbers, and giving back, which is paid for by what died. A
+    /// toll is tested once, a tariff charges each ship's slots once, and a line judged by prices
+    /// costs a step for each slot of its room's ranges.
     pub fn borrowed_line(mut self, line: &Line) -> Result<Checker<'f>, CheckStop>
         requires fits { LineFits self.problem line.now }
         ensures state { IfOk result (λ c. c.kept ≡ kept_after self.entry.problem self.entry.kept line.now) }
@@ -126,24 +148,32 @@ impl<'f> Checker<'f> {
         ensures refused { IfErr result (λ stop. Stops stop (kept_refusal self.entry.problem self.entry.kept line.now)) }
         ensures followed { (before : List Line) → Follows self.entry before → Answers self.entry.problem before line.now result }
     {
-        if let Some(refusal) = self.refusal(line) {
+        let _shape = self.flat.shape();
+        if let Some(refusal) = self.refusal(line)? {
             return Err(CheckStop::Refused(refusal));
         }
         Ok(self.taken(line)?)
     }
 
-    fn refusal(&mut self, line: &Line) -> Option<Refusal>
+    fn refusal(&mut self, line: &Line) -> Result<Option<Refusal>, NoMemory>
         requires fits { LineFits self.old.problem line.now }
-        ensures value { result ≡ kept_refusal self.old.problem self.old.kept line.now }
+        ensures value { IfOk result (λ refusal. refusal ≡ kept_refusal self.old.problem self.old.kept line.now) }
         ensures same { self.new ≡ self.old }
     {
         if self.is_closed {
-            return refused(CheckWord::Ended);
+            return Ok(refused(CheckWord::Ended));
         }
         if self.is_past(line) {
-            return refused(CheckWord::Many);
+            return Ok(refused(CheckWord::Many));
         }
-        claim(self.flat, &self.clauses, self.best, line, &mut self.room)
+        claim(
+            self.flat,
+            &self.clauses,
+            &mut self.prices,
+            self.best,
+            line,
+            &mut self.room,
+        )
     }
 
     /// Whether the line would have a number past the last one.
@@ -172,6 +202,26 @@ impl<'f> Checker<'f> {
             Line::Goal { clause } => self.with_clause(clause),
             Line::Lemma { clause, .. } => self.with_clause(clause),
             Line::Delete { ids } => self.without(&ids.items),
+            Line::Narrows { blocks } => {
+                let toll = narrows_of(self.clauses.allocator(), blocks)?;
+                self.with_toll(toll)
+            }
+            Line::Tugs {
+                restriction,
+                slot,
+                most,
+                weights,
+            } => {
+                let alloc = self.clauses.allocator();
+                let toll = tugs_of(alloc, self.flat, *restriction, *slot, *most, weights)?;
+                self.with_toll(toll)
+            }
+            Line::Tariff { scale, prices } => self.with_tariff(*scale, prices),
+            Line::Priced { clause } => self.with_clause(clause),
+            Line::Bound { bound } => {
+                self.prices.set_bound(*bound);
+                Ok(self)
+            }
         }
     }
 
@@ -193,6 +243,29 @@ impl<'f> Checker<'f> {
     {
         self.clauses.remove_all(ids);
         self.clauses.give_back()?;
+        Ok(self)
+    }
+
+    fn with_toll(mut self, toll: Toll) -> Result<Checker<'f>, NoMemory>
+        requires few { length self.kept.tolls < 10_000 }
+        requires toll { IsToll self.problem toll }
+        ensures state { IfOk result (λ c. c.kept ≡ with_toll self.entry.kept toll) }
+        ensures problem { IfOk result (λ c. c.problem ≡ self.entry.problem) }
+    {
+        self.prices.declare(toll)?;
+        Ok(self)
+    }
+
+    fn with_tariff(mut self, scale: u32, prices: &Prices) -> Result<Checker<'f>, NoMemory>
+        requires fits { PricesFit scale prices.now }
+        requires known { first_unknown (length self.kept.tolls) prices.now ≡ None }
+        ensures state { IfOk result (λ c. c.kept ≡ record self.entry.kept { tariff = Some (priced_by scale prices.now) }) }
+        ensures problem { IfOk result (λ c. c.problem ≡ self.entry.problem) }
+    {
+        let flat = self.flat;
+        let alloc = self.clauses.allocator();
+        let tariff = tariff_of(alloc, scale, prices)?;
+        self.prices.put_in_force(alloc, flat, tariff)?;
         Ok(self)
     }
 }

@@ -49,6 +49,11 @@ impl ClauseList {
         }
     }
 
+    /// The allocator of the clauses.
+    pub(crate) fn allocator(&self) -> Global {
+        *self.stored.lits.allocator()
+    }
+
     /// Whether there is a number for one more clause.
     pub(crate) fn has_number(&self) -> bool
         ensures value { result ≡ nat_lt self.now.next (2 ^ 32) }

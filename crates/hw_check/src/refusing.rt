@@ -1,5 +1,5 @@
 //! Why a line isn't valid, by what a checker keeps of the lines before it.
-ghost use Rattle.std.specs.Prelude.{◌≡◌, ◌+◌, ◌<◌, ◌≤◌, None, is_none, length, All, IsSome, option_copied};
+ghost use Rattle.std.specs.Prelude.{◌≡◌, None, false, is_none, IfOk, option_copied};
 ghost use Rattle.hw_model.specs.Problem.{shape_of, IsTimetable};
 ghost use Rattle.hw_model.specs.Timetables.{first_broken, cargo};
 ghost use Rattle.hw_model.specs.Lits.{IsClause};
@@ -10,13 +10,18 @@ ghost use Rattle.hw_lines.specs.Lines as lines;
 ghost use Rattle.hw_lines.specs.Valid.{LineFits, denied_room};
 ghost use Rattle.hw_lines.specs.Refusals as refusals;
 ghost use Rattle.hw_lines.specs.Kept.{clause_under};
-ghost use Rattle.hw_check.specs.States.{LitsFit};
+ghost use Rattle.hw_tariff.specs.PriceStates.{AreGood};
+ghost use Rattle.hw_check.specs.States.{LitsFit, kept_in};
 
 use crate::clause_list::ClauseList;
+use crate::pricing::{bound_refusal, priced_refusal, tariff_refusal, toll_refusal};
+use crate::tolled::{narrows_of, tugs_of};
 use hw_flat::{Flat, Room, Source, Timetable};
 use hw_lines::{CheckWord, Line, Refusal};
 use hw_lits::{Clause, Narrowed, deny, narrow_lits};
+use hw_model::NoMemory;
 use hw_rules::{beats, broken, cargo, refuted, source_of};
+use hw_tariff::PriceBook;
 
 /// A word that names no number.
 pub(crate) fn refused(word: CheckWord) -> Option<Refusal>
@@ -25,7 +30,7 @@ pub(crate) fn refused(word: CheckWord) -> Option<Refusal>
     Some(Refusal { word, hint: None })
 }
 
-fn refused_at(word: CheckWord, id: u32) -> Option<Refusal>
+pub(crate) fn refused_at(word: CheckWord, id: u32) -> Option<Refusal>
     ensures { result ≡ refusals.refused_at word id }
 {
     Some(Refusal {
@@ -45,24 +50,32 @@ pub(crate) fn clause_of(line: &Line) -> Option<&Clause>
         Line::Goal { clause } => Some(clause),
         Line::Lemma { clause, .. } => Some(clause),
         Line::Delete { .. } => None,
+        Line::Narrows { .. } | Line::Tugs { .. } => None,
+        Line::Tariff { .. } => None,
+        Line::Priced { clause } => Some(clause),
+        Line::Bound { .. } => None,
     }
 }
 
-/// Why what the line itself claims doesn't hold. The room is overwritten.
+/// Why what the line itself claims doesn't hold. The room is overwritten. An error says that memory
+/// ran out: lines that declare a toll take some.
 pub(crate) fn claim(
     flat: &Flat,
     clauses: &ClauseList,
+    prices: &mut PriceBook,
     best: Option<u64>,
     line: &Line,
     room: &mut Room,
-) -> Option<Refusal>
+) -> Result<Option<Refusal>, NoMemory>
     requires fits { LineFits flat.now line.now }
     requires lits { LitsFit flat.now.ships clauses.now.live }
+    requires good { AreGood flat.now prices.old }
     requires room { RoomFits flat.now room.old }
-    ensures value { result ≡ refusals.claim_refusal flat.now clauses.now.live best line.now }
+    ensures value { IfOk result (λ refusal. refusal ≡ refusals.claim_refusal flat.now (kept_in clauses.now prices.old best false) line.now) }
+    ensures same { prices.new ≡ prices.old }
     ensures room { RoomFits flat.now room.new }
 {
-    match line {
+    Ok(match line {
         Line::Table(table) => table_refusal(flat, table, best),
         Line::Explain {
             restriction,
@@ -79,7 +92,25 @@ pub(crate) fn claim(
         Line::Goal { clause } => source_refusal(flat, Source::Goal, best, clause, room),
         Line::Lemma { clause, hints } => lemma_refusal(flat, clauses, clause, &hints.items, room),
         Line::Delete { ids } => delete_refusal(clauses, &ids.items),
-    }
+        Line::Narrows { blocks } => {
+            let alloc = clauses.allocator();
+            let toll = narrows_of(alloc, blocks)?;
+            toll_refusal(alloc, flat, prices, &toll)?
+        }
+        Line::Tugs {
+            restriction,
+            slot,
+            most,
+            weights,
+        } => {
+            let alloc = clauses.allocator();
+            let toll = tugs_of(alloc, flat, *restriction, *slot, *most, weights)?;
+            toll_refusal(alloc, flat, prices, &toll)?
+        }
+        Line::Tariff { prices: on, .. } => tariff_refusal(prices, &on.items),
+        Line::Priced { clause } => priced_refusal(flat, prices, best, clause, room),
+        Line::Bound { bound } => bound_refusal(flat, prices, *bound, room),
+    })
 }
 
 fn table_refusal(flat: &Flat, table: &Timetable, best: Option<u64>) -> Option<Refusal>
@@ -121,7 +152,7 @@ fn source_refusal(
 }
 
 /// Makes a room of the problem the denied room of a clause.
-fn deny_in(flat: &Flat, clause: &Clause, room: &mut Room)
+pub(crate) fn deny_in(flat: &Flat, clause: &Clause, room: &mut Room)
     requires clause { IsClause (shape_of flat.now) clause.now }
     requires room { RoomFits flat.now room.old }
     ensures room { room.new ≡ denied_room flat.now clause.now }

@@ -1,39 +1,18 @@
 //! Certificates of two ships that sail apart, with lines that are wrong, clauses that die, and
 //! deletions that are due.
 
-ghost use Rattle.std.specs.Prelude.{IfOk, IfSome};
-ghost use Rattle.hw_model.specs.Problem.{shape_of};
-ghost use Rattle.hw_model.specs.Lits.{IsClause};
-ghost use Rattle.hw_lines.specs.Valid.{LineFits};
+ghost use Rattle.std.specs.Prelude.{IfOk};
 ghost use Rattle.hw_verdict.specs.Renewing.{IsNumbered};
 
+use crate::steps::{A01, A11, B01, B11, Step, line_of};
 use hw_check::{CheckStop, Checker, renewed};
-use hw_flat::{Flat, Timetable};
-use hw_lines::{CheckWord, Hints, Line, Refusal, Verdict};
-use hw_lits::{Clause, Lit};
+use hw_flat::Flat;
+use hw_lines::{CheckWord, Line, Refusal, Verdict};
 use std::alloc::Global;
 use std::test::Fail;
 
 /// Two ships of three slots that must sail at least two slots apart.
 const TWO_SHIPS: &[u8] = b"flat 1\nsize 2 3\nv 10 20 30\nv 10 20 30\np 0 1 -1:1\nend\n";
-
-/// A line of a certificate of two ships.
-#[derive(Clone, Copy)]
-enum Step<'a> {
-    Table(u32, u32),
-    Explain(u32, &'a [Lit]),
-    Goal(&'a [Lit]),
-    Lemma(&'a [Lit], &'a [u32]),
-    Delete(u32),
-}
-
-const A01: Lit = Lit::AtOrAfter { ship: 0, slot: 1 };
-
-const A11: Lit = Lit::AtOrAfter { ship: 1, slot: 1 };
-
-const B01: Lit = Lit::Before { ship: 0, slot: 1 };
-
-const B11: Lit = Lit::Before { ship: 1, slot: 1 };
 
 /// The best timetable, and why no other one has more cargo.
 const BEST: Step = Step::Table(2, 0);
@@ -45,61 +24,6 @@ const FIRST_LATE: Step = Step::Goal(&[A01]);
 const APART: Step = Step::Explain(2, &[B01, B11]);
 
 const END: Step = Step::Lemma(&[], &[1, 2, 3]);
-
-fn clause_of(alloc: Global, flat: &Flat, lits: &[Lit]) -> Result<Clause, Fail>
-    ensures fits { IfOk result (λ clause. IsClause (shape_of flat.now) clause) }
-{
-    let shape = flat.shape();
-    let clause = Clause::from_lits(alloc, shape, lits)?;
-    Ok(clause)
-}
-
-fn numbers_of(alloc: Global, numbers: &[u32]) -> Result<Hints, Fail> {
-    let items = Vec::from_slice(alloc, numbers)?;
-    Ok(Hints { items })
-}
-
-fn line_of(alloc: Global, flat: &Flat, step: Step) -> Result<Option<Line>, Fail>
-    ensures fits { IfOk result (λ line. IfSome line (LineFits flat.now)) }
-{
-    let shape = flat.shape();
-    match step {
-        Step::Table(first, second) => {
-            if shape.ships != 2 || shape.slots <= first || shape.slots <= second {
-                return Ok(None);
-            }
-            Ok(Some(Line::Table(Timetable::from_slots(alloc, &[first, second])?)))
-        }
-        Step::Explain(restriction, lits) => {
-            if shape.ships + shape.rules <= restriction {
-                return Ok(None);
-            }
-            let clause = clause_of(alloc, flat, lits)?;
-            Ok(Some(Line::Explain {
-                restriction,
-                clause,
-            }))
-        }
-        Step::Goal(lits) => {
-            let clause = clause_of(alloc, flat, lits)?;
-            Ok(Some(Line::Goal { clause }))
-        }
-        Step::Lemma(lits, hints) => {
-            let clause = clause_of(alloc, flat, lits)?;
-            let hints = numbers_of(alloc, hints)?;
-            Ok(Some(Line::Lemma { clause, hints }))
-        }
-        Step::Delete(id) => {
-            if id == 0 {
-                return Ok(None);
-            }
-            let items = Vec::from_slice(alloc, &[id])?;
-            Ok(Some(Line::Delete {
-                ids: Hints { items },
-            }))
-        }
-    }
-}
 
 /// What a checker says of lines: the verdict and the number of live clauses, or the refusal.
 type Said = Result<(Verdict, u32), CheckStop>;
@@ -295,6 +219,11 @@ fn told(line: &Line) -> (char, &[u32]) {
         Line::Goal { .. } => ('g', &[]),
         Line::Lemma { hints, .. } => ('l', &hints.items),
         Line::Delete { ids } => ('d', &ids.items),
+        Line::Narrows { .. } => ('n', &[]),
+        Line::Tugs { .. } => ('u', &[]),
+        Line::Tariff { .. } => ('y', &[]),
+        Line::Priced { .. } => ('p', &[]),
+        Line::Bound { .. } => ('b', &[]),
     }
 }
 

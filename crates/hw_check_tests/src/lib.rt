@@ -11,3 +11,7 @@ mod desks;
 mod lines;
 #[cfg(test)]
 mod logs;
+#[cfg(test)]
+mod prices;
+#[cfg(test)]
+mod steps;

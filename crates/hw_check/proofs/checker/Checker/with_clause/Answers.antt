@@ -17,5 +17,6 @@ invariant_of-self c =
     record {
       lits = rw (c.in_ok-push.ensures.added, c.as_slice.ensures.value) (All-append P c.self.inside.clauses.live (one ∷ []) c.self.invariant.lits (All-cons P one [] (lits_of (shape_of f) c.args.clause.now 0 None fits) (All-nil P)));
       bounded = rw (c.in_ok-push.ensures.added, c.as_slice.ensures.value) (bounded_push c.self.inside.clauses c.self.inside.clauses.next (c.self.inside.clauses.next + 1) c.args.clause.now c.self.invariant.bounded);
+      good = c.self.invariant.good;
       fits = c.self.invariant.fits;
     }

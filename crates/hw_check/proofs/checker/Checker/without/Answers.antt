@@ -10,5 +10,6 @@ invariant_of-self c =
     record {
       lits = rw (c.in_ok-give_back.ensures.same, c.remove_all.ensures.dead) (All-filter _ P c.self.inside.clauses.live c.self.invariant.lits);
       bounded = c.in_ok-give_back.ensures.bounded;
+      good = c.self.invariant.good;
       fits = c.self.invariant.fits;
     }

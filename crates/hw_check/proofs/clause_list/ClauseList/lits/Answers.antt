@@ -1,4 +1,4 @@
-use Rattle.std.proofs.Common.{◌≡◌, get_or, sym, ap, ◌∙◌, subst, rules}
+use Rattle.std.proofs.Common.{sym, rules}
 use Rattle.hw_check.specs.Places.{NoneHas, StandsAt}
 use Rattle.hw_check.proofs.Places.{none_under, live_under, dead_under, IsRead}
 use Rattle.hw_check.proofs.clause_list.ClauseList.lits.Goals as goal

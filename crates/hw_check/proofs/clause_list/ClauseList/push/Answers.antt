@@ -1,4 +1,4 @@
-use Rattle.std.proofs.Common.{◌+◌, ◌≤◌, ◌<◌, ◌^◌, arith, refl, rules}
+use Rattle.std.proofs.Common.{◌+◌, ◌<◌, ◌^◌, arith, refl, rules}
 use Rattle.hw_check.proofs.Storing.{held_few, stored_push, pushed_store}
 use Rattle.hw_check.proofs.clause_list.ClauseList.push.Goals as goal
 
