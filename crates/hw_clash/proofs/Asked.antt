@@ -19,7 +19,7 @@ writes : (g : Problem) (budget : ℕ) (answer : Solved) (all : List Line) → Me
 writes g budget answer all h = h.writes
 
 proof_of : (g : Problem) (budget : ℕ) (answer : Solved) (all : List Line) → SolveWrites g budget answer 0 0 all → IsProof g all
-proof_of g budget answer all w = record { fit = w.fit; valid = w.valid; lean = w.lean; new = w.new; few_live = w.few_live }
+proof_of g budget answer all w = record { plain = w.plain; fit = w.fit; valid = w.valid; lean = w.lean; new = w.new; few_live = w.few_live }
 
 verdict_is : (g : Problem) (all : List Line) (best : Option ℕ) → true ≡ ends all → best_of g all ≡ best → verdict g all ≡ verdict_by true best
 verdict_is g all best e b = ap (λ (t : Bool). verdict_by t (best_of g all)) (sym e) ∙ ap (verdict_by true) b

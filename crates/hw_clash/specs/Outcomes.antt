@@ -1,11 +1,12 @@
 -- The outcome of the search for a clash.
-use Rattle.std.specs.Prelude.{◌≡◌, ℕ, zero, suc, ◌≤◌, false, List, Some, All, length, ⊤}
+use Rattle.std.specs.Prelude.{◌≡◌, ℕ, zero, suc, ◌≤◌, true, false, List, Some, All, length, ⊤}
 use Rattle.hw_model.specs.Problem.{Problem}
 use Rattle.hw_model.specs.Rooms.{room_count}
 use Rattle.hw_model.specs.Timetables.{Permits, NonePermitted, restriction_count}
 use Rattle.hw_lines.specs.declared.check.Verdict.TheVariants.{Optimal, Infeasible}
 use Rattle.hw_lines.specs.declared.line.Line.{Line}
 use Rattle.hw_lines.specs.Lemmas.{lemmas_of, IsNew, IsLean}
+use Rattle.hw_lines.specs.Tolled.{is_plain}
 use Rattle.hw_lines.specs.Lines.{last_table, is_closed}
 use Rattle.hw_lines.specs.Valid.{LineFits, Valid, verdict}
 use Rattle.hw_progress.specs.Living.{FewLiveThroughout}
@@ -14,8 +15,9 @@ use Rattle.hw_clash.specs.declared.clashing.Clashed.TheVariants.{Clash, Met, Spe
 use Rattle.hw_clash.specs.Parts.{part}
 use Rattle.hw_clash.specs.Clashing.{all_numbers, without, IsLeft, IsClash, IsIrreducible, AreDrops}
 
--- lines of a problem, each valid and lean after those before it, no lemma useless, and few clauses live at any time
+-- plain lines of a problem, each valid and lean after those before it, no lemma useless, and few clauses live at any time
 pub record IsProof (f : Problem) (all : List Line) : Type 0 where
+  pub plain : All (λ line. is_plain line ≡ true) all
   pub fit : All (LineFits f) all
   pub valid : Valid f all
   pub lean : IsLean f all

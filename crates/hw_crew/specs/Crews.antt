@@ -1,11 +1,12 @@
 -- The pages of several searchers and the log that they share.
-use Rattle.std.specs.Prelude.{◌≡◌, ℕ, ◌+◌, ◌^◌, ◌<◌, false, List, [], ◌∷◌, ◌++◌, Some, All, AllPairs, Contains, IsSomeAnd, length, slice_get, slice_set, sum_by}
+use Rattle.std.specs.Prelude.{◌≡◌, ℕ, ◌+◌, ◌^◌, ◌<◌, true, false, List, [], ◌∷◌, ◌++◌, Some, All, AllPairs, Contains, IsSomeAnd, length, slice_get, slice_set, sum_by}
 use Rattle.std.specs.List.{slice_index_or}
 use Rattle.std.specs.List.Sorted.{IsStrictlyIncreasing}
 use Rattle.hw_model.specs.declared.lit.Lit.{Lit}
 use Rattle.hw_model.specs.Problem.{Problem}
 use Rattle.hw_model.specs.Rooms.{RoomWithin}
 use Rattle.hw_lines.specs.declared.line.Line.{Line}
+use Rattle.hw_lines.specs.Tolled.{is_plain}
 use Rattle.hw_lines.specs.Lines.{clause_count, is_closed, best_of}
 use Rattle.hw_lines.specs.Valid.{LineFits, ValidAfter, Valid, denied_room}
 use Rattle.hw_lines.specs.Lemmas.{lemmas_of, IsNew, IsLean, LeanAfter}
@@ -42,8 +43,9 @@ pub record Authored (f : Problem) (pages : List Page) (lemmas : List (List Lit))
 
 -- ---- all pages at once
 
--- the shared lines are of the shape, valid and lean; each page is tied to them, and any two are apart; each clause line and each lemma is one of a page
+-- the shared lines are plain, of the shape, valid and lean; each page is tied to them, and any two are apart; each clause line and each lemma is one of a page
 pub record Shared (f : Problem) (pages : List Page) (shared : List Line) : Type 0 where
+  pub plain : All (λ line. is_plain line ≡ true) shared
   pub fit : All (LineFits f) shared
   pub valid : Valid f shared
   pub lean : IsLean f shared
@@ -57,9 +59,9 @@ pub record Shared (f : Problem) (pages : List Page) (shared : List Line) : Type 
 abbrev pub CrewBegins : Type 0
 CrewBegins = (f : Problem) (pages : List Page) → All (λ page. page ≡ no_lines) pages → Shared f pages []
 
--- after one more line of a page
+-- after one more plain line of a page
 abbrev pub CrewRelays : Type 0
-CrewRelays = (f : Problem) (pages : List Page) (shared : List Line) (place : ℕ) (page : Page) (line : Line) → slice_get pages place ≡ Some page → Shared f pages shared → is_closed shared ≡ false → clause_count shared + 1 < 2 ^ 32 → LineFits f line → ValidAfter f page.lines line → LeanAfter f page.lines line → IsNew f (page.lines ++ line ∷ [])
+CrewRelays = (f : Problem) (pages : List Page) (shared : List Line) (place : ℕ) (page : Page) (line : Line) → slice_get pages place ≡ Some page → Shared f pages shared → is_closed shared ≡ false → clause_count shared + 1 < 2 ^ 32 → is_plain line ≡ true → LineFits f line → ValidAfter f page.lines line → LeanAfter f page.lines line → IsNew f (page.lines ++ line ∷ [])
     → Shared f (slice_set pages place (page_after page (clause_count shared) line)) (with_next shared (handed f (best_of f shared) page.numbers line))
 
 -- so among any more Lemma lines than pages there are two of which the later one is fresh

@@ -1,8 +1,9 @@
 -- The laws of own lines that are handed on: they are valid where they come, and all pages stay tied.
-use Rattle.std.specs.Prelude.{◌≡◌, ◌+◌, ◌^◌, ◌<◌, false, List, [], ◌∷◌, ◌++◌, Option, IfSome}
+use Rattle.std.specs.Prelude.{◌≡◌, ◌+◌, ◌^◌, ◌<◌, true, false, List, [], ◌∷◌, ◌++◌, Option, IfSome}
 use Rattle.std.specs.List.{cons_option}
 use Rattle.hw_model.specs.Problem.{Problem}
 use Rattle.hw_lines.specs.declared.line.Line.{Line}
+use Rattle.hw_lines.specs.Tolled.{is_plain}
 use Rattle.hw_lines.specs.Lines.{clause_of, clause_count, is_end, is_closed, best_of}
 use Rattle.hw_lines.specs.Valid.{LineFits, ValidAfter, Valid}
 use Rattle.hw_lines.specs.Lemmas.{lemma_of, lemmas_of, LeanAfter}
@@ -12,16 +13,17 @@ use Rattle.hw_crew.specs.Pages.{Page, no_lines, handed, with_next, page_after, T
 abbrev pub BlankTied : Type 0
 BlankTied = (f : Problem) (shared : List Line) → Tied f no_lines shared
 
--- what is handed on is of the shape and valid where it comes, lean if the own line is, and the page with the line is tied to the lines with it
+-- what is handed on is plain, of the shape and valid where it comes, lean if the own line is, and the page with the line is tied to the lines with it
 pub record Relayed (f : Problem) (page : Page) (shared : List Line) (line : Line) (next : Option Line) : Type 0 where
+  pub plain : IfSome next (λ line. is_plain line ≡ true)
   pub fits : IfSome next (LineFits f)
   pub valid : IfSome next (ValidAfter f shared)
   pub lean : LeanAfter f page.lines line → IfSome next (LeanAfter f shared)
   pub tied : Tied f (page_after page (clause_count shared) line) (with_next shared next)
 
--- so it is with each line of the shape that is valid after the own ones
+-- so it is with each plain line of the shape that is valid after the own ones
 abbrev pub LineRelayed : Type 0
-LineRelayed = (f : Problem) (page : Page) (shared : List Line) (line : Line) → Tied f page shared → Valid f shared → is_closed shared ≡ false → clause_count shared + 1 < 2 ^ 32 → LineFits f line → ValidAfter f page.lines line
+LineRelayed = (f : Problem) (page : Page) (shared : List Line) (line : Line) → Tied f page shared → Valid f shared → is_closed shared ≡ false → clause_count shared + 1 < 2 ^ 32 → is_plain line ≡ true → LineFits f line → ValidAfter f page.lines line
     → Relayed f page shared line (handed f (best_of f shared) page.numbers line)
 
 -- another page stays tied, and has no number of the first one
@@ -29,9 +31,9 @@ pub record OtherKept (f : Problem) (page other : Page) (shared : List Line) (lin
   pub tied : Tied f other (with_next shared next)
   pub apart : Apart (page_after page (clause_count shared) line) other
 
--- so it is with each other page, where the two are apart before
+-- so it is with each other page where the line is plain and the two are apart before
 abbrev pub OthersKept : Type 0
-OthersKept = (f : Problem) (page other : Page) (shared : List Line) (line : Line) → Tied f page shared → Tied f other shared → Apart page other → Valid f shared → ValidAfter f page.lines line
+OthersKept = (f : Problem) (page other : Page) (shared : List Line) (line : Line) → Tied f page shared → Tied f other shared → Apart page other → Valid f shared → is_plain line ≡ true → ValidAfter f page.lines line
     → OtherKept f page other shared line (handed f (best_of f shared) page.numbers line)
 
 -- what a line that is handed on changes of counts, of lemmas and of the end

@@ -33,6 +33,11 @@ renumbered numbers (lines.Order v w x clause) = lines.Order v w x clause
 renumbered numbers (lines.Goal clause) = lines.Goal clause
 renumbered numbers (lines.Lemma clause hints) = lines.Lemma clause (map (shared_number numbers) hints)
 renumbered numbers (lines.Delete ids) = lines.Delete (map (shared_number numbers) ids)
+renumbered numbers (lines.Narrows blocks) = lines.Narrows blocks
+renumbered numbers (lines.Tugs n slot most weights) = lines.Tugs n slot most weights
+renumbered numbers (lines.Tariff scale prices) = lines.Tariff scale prices
+renumbered numbers (lines.Priced clause) = lines.Priced clause
+renumbered numbers (lines.Bound bound) = lines.Bound bound
 
 -- a table is handed on where its cargo beats the shared best, and each other line is handed on
 abbrev pub is_handed : Problem → Option ℕ → Line → Bool
@@ -42,6 +47,11 @@ is_handed f best (lines.Order v w x clause) = true
 is_handed f best (lines.Goal clause) = true
 is_handed f best (lines.Lemma clause hints) = true
 is_handed f best (lines.Delete ids) = true
+is_handed f best (lines.Narrows blocks) = true
+is_handed f best (lines.Tugs n slot most weights) = true
+is_handed f best (lines.Tariff scale prices) = true
+is_handed f best (lines.Priced clause) = true
+is_handed f best (lines.Bound bound) = true
 
 -- the line that is handed on for an own line, if one is, where the shared best is this
 abbrev pub handed : Problem → Option ℕ → List ℕ → Line → Option Line

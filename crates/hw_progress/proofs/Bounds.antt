@@ -130,6 +130,11 @@ lemma_fits f (line ∷ all) h = by line (All-head (LineFits f) line all h) (lemm
     by (lines.Goal clause) fits rest = rest
     by (lines.Lemma clause hints) fits rest = All-cons (IsClause (shape_of f)) clause (lemmas_of all) fits rest
     by (lines.Delete ids) fits rest = rest
+    by (lines.Narrows blocks) fits rest = rest
+    by (lines.Tugs n slot most weights) fits rest = rest
+    by (lines.Tariff scale prices) fits rest = rest
+    by (lines.Priced clause) fits rest = rest
+    by (lines.Bound bound) fits rest = rest
 
 pub few_new : (f : Problem) (all : List Line) → IsFlat f → All (LineFits f) all → IsNew f all → length (lemmas_of all) ≤ room_count f
 few_new f all flat fits new = clauses_few (shape_of f) (lemmas_of all) (shape_fits f flat) (lemma_fits f all fits) new

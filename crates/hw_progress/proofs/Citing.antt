@@ -1,5 +1,5 @@
 -- The reasons of a lemma and its conflict as they are named and written.
-use Rattle.std.proofs.Common.{◌≡◌, ℕ, zero, suc, ◌+◌, ◌^◌, ◌<◌, ◌≤◌, List, [], ◌∷◌, ◌++◌, Option, Some, None, length, get_or, map, take, fold, filter_map, slice_get, option_and_then, option_map, All, IsSome, refl, sym, ap, ◌∙◌, subst, arith, inl, inr, append-nil, append_assoc, length-append, length-set}
+use Rattle.std.proofs.Common.{◌≡◌, ℕ, zero, suc, ◌+◌, ◌^◌, ◌<◌, ◌≤◌, true, List, [], ◌∷◌, ◌++◌, Option, Some, None, length, get_or, map, take, fold, filter_map, slice_get, option_and_then, option_map, All, IsSome, refl, sym, ap, ◌∙◌, subst, arith, inl, inr, append-nil, append_assoc, length-append, length-set}
 use Rattle.std.specs.Prelude.{Contains, slice_set}
 use Rattle.std.specs.List.{cons_option}
 use Rattle.std.proofs.lemmas.Bool.{cases_lt}
@@ -14,6 +14,7 @@ use Rattle.hw_model.specs.Rooms.{RoomModel}
 use Rattle.hw_model.specs.Refuting.{Refutes}
 use Rattle.hw_model.specs.Replay.{narrowing}
 use Rattle.hw_lines.specs.declared.line.Line.{Line}
+use Rattle.hw_lines.specs.Tolled.{is_plain}
 use Rattle.hw_lines.specs.Lines.{clause_count, clause_at, live, best_of}
 use Rattle.hw_lines.specs.Valid.{LineFits, ValidFrom, denied_room, hinted}
 use Rattle.hw_lines.specs.Lemmas.{LeanFrom}
@@ -103,6 +104,7 @@ pub record Citing (s : SearchModel) (before : List Line) (done : List ℕ) (c : 
   pub long : length c.search.written ≡ length s.written
   pub hints : hinted (before ++ c.lines) c.hints ≡ filter_map (reason_at s.trail) done
   pub alive : All (λ id. IsSome (live (before ++ c.lines) id)) c.hints
+  pub plain : All (λ line. is_plain line ≡ true) c.lines
   pub shaped : All (LineFits s.problem) c.lines
   pub valid : ValidFrom s.problem before c.lines
   pub lean : LeanFrom s.problem before c.lines
@@ -133,6 +135,7 @@ named s before done c q n clause h r e = record {
   long = h.long;
   hints = hint_push (before ++ c.lines) c.hints n clause (filter_map (reason_at s.trail) done) e h.hints ∙ sym (reasons_push s.trail done q clause r);
   alive = All-push (λ id. IsSome (live (before ++ c.lines) id)) c.hints n h.alive (some_is _ clause e);
+  plain = h.plain;
   shaped = h.shaped;
   valid = h.valid;
   lean = h.lean;
@@ -141,12 +144,14 @@ named s before done c q n clause h r e = record {
 
 -- writing a line
 pub record Wrote (f : Problem) (before lines : List Line) (line : Line) : Type 0 where
+  pub plain : All (λ line. is_plain line ≡ true) (lines ++ line ∷ [])
   pub shaped : All (LineFits f) (lines ++ line ∷ [])
   pub valid : ValidFrom f before (lines ++ line ∷ [])
   pub lean : LeanFrom f before (lines ++ line ∷ [])
 
-pub wrote : (f : Problem) (before lines : List Line) (line : Line) → All (LineFits f) lines → ValidFrom f before lines → LeanFrom f before lines → Writes f (before ++ lines) line → Wrote f before lines line
-wrote f before lines line a v l w = record {
+pub wrote : (f : Problem) (before lines : List Line) (line : Line) → All (λ line. is_plain line ≡ true) lines → All (LineFits f) lines → ValidFrom f before lines → LeanFrom f before lines → Writes f (before ++ lines) line → Wrote f before lines line
+wrote f before lines line p a v l w = record {
+  plain = All-push (λ line. is_plain line ≡ true) lines line p w.plain;
   shaped = All-push (LineFits f) lines line a w.fits;
   valid = valid_push f before lines line v w.valid;
   lean = lean_push f before lines line l w.lean;
@@ -185,7 +190,7 @@ written_one s before done c q source clause is h w none few =
     let e : (before ++ c.lines) ++ line ∷ [] ≡ before ++ (c.lines ++ line ∷ []) = append_assoc before c.lines (line ∷ []) in
     let ls = source_is c.search.problem source clause in
     let writes : Writes s.problem (before ++ c.lines) line = subst (λ f. Writes s.problem (before ++ c.lines) (source_line f source clause)) (sym p) (source_wrote s c.search (before ++ c.lines) source clause p (same_best s before done c h) h.fit holds fits (omega (arith, few, h.few))) in
-    let all = wrote s.problem before c.lines line h.shaped h.valid h.lean writes in
+    let all = wrote s.problem before c.lines line h.plain h.shaped h.valid h.lean writes in
     let n : clause_count (before ++ c.lines) + 1 ≡ c.search.clause_lines + 1 = ap (λ k. k + 1) h.fit.count in
     let new : live (before ++ (c.lines ++ line ∷ [])) (c.search.clause_lines + 1) ≡ Some clause = subst (λ xs. live xs (c.search.clause_lines + 1) ≡ Some clause) e (subst (λ k. live ((before ++ c.lines) ++ line ∷ []) k ≡ Some clause) n (new_live c.search.problem (before ++ c.lines) line clause h.fit.deletes_earlier ls)) in
     let old : hinted (before ++ (c.lines ++ line ∷ [])) c.hints ≡ filter_map (reason_at s.trail) done = subst (λ xs. hinted xs c.hints ≡ filter_map (reason_at s.trail) done) e (hinted_stays c.search.problem (before ++ c.lines) line clause ls c.hints h.alive ∙ h.hints) in
@@ -199,6 +204,7 @@ written_one s before done c q source clause is h w none few =
       alive = All-push (λ id. IsSome (live (before ++ (c.lines ++ line ∷ [])) id)) c.hints (c.search.clause_lines + 1)
           (subst (λ xs. All (λ id. IsSome (live xs id)) c.hints) e (All-weaker (λ id. IsSome (live (before ++ c.lines) id)) (λ id. IsSome (live ((before ++ c.lines) ++ line ∷ []) id)) (λ id k. live_stays c.search.problem (before ++ c.lines) line id (ls.no_delete id) k) c.hints h.alive))
           (some_is _ clause new);
+      plain = all.plain;
       shaped = all.shaped;
       valid = all.valid;
       lean = all.lean;
@@ -237,6 +243,7 @@ cites s before places is fit kept some few = cite_all s before [] places (record
   long = refl;
   hints = refl;
   alive = All-nil (λ id. IsSome (live (before ++ []) id));
+  plain = All-nil (λ line. is_plain line ≡ true);
   shaped = All-nil (LineFits s.problem);
   valid = tt;
   lean = tt;
@@ -251,6 +258,7 @@ pub record Prepared (s : SearchModel) (before : List Line) (places : List ℕ) (
   pub long : length c.search.written ≡ length s.written
   pub hints : hinted (before ++ c.lines) c.hints ≡ chain_of s.trail places clause
   pub alive : All (λ id. IsSome (live (before ++ c.lines) id)) c.hints
+  pub plain : All (λ line. is_plain line ≡ true) c.lines
   pub shaped : All (LineFits s.problem) c.lines
   pub valid : ValidFrom s.problem before c.lines
   pub lean : LeanFrom s.problem before c.lines
@@ -265,6 +273,7 @@ prepared s before places c (whys.Lemma number clause) h k some few =
       long = h.long;
       hints = hint_push (before ++ c.lines) c.hints number clause (filter_map (reason_at s.trail) places) e h.hints;
       alive = All-push (λ id. IsSome (live (before ++ c.lines) id)) c.hints number h.alive (some_is _ clause e);
+      plain = h.plain;
       shaped = h.shaped;
       valid = h.valid;
       lean = h.lean;
@@ -276,7 +285,7 @@ prepared s before places c (whys.Source source clause) h k some few =
     let e : (before ++ c.lines) ++ line ∷ [] ≡ before ++ (c.lines ++ line ∷ []) = append_assoc before c.lines (line ∷ []) in
     let ls = source_is c.search.problem source clause in
     let writes : Writes s.problem (before ++ c.lines) line = subst (λ f. Writes s.problem (before ++ c.lines) (source_line f source clause)) (sym p) (source_wrote s c.search (before ++ c.lines) source clause p (same_best s before places c h) h.fit k.holds k.fits (omega (arith, few, h.few))) in
-    let all = wrote s.problem before c.lines line h.shaped h.valid h.lean writes in
+    let all = wrote s.problem before c.lines line h.plain h.shaped h.valid h.lean writes in
     let n : clause_count (before ++ c.lines) + 1 ≡ c.search.clause_lines + 1 = ap (λ m. m + 1) h.fit.count in
     let new : live (before ++ (c.lines ++ line ∷ [])) (c.search.clause_lines + 1) ≡ Some clause = subst (λ xs. live xs (c.search.clause_lines + 1) ≡ Some clause) e (subst (λ m. live ((before ++ c.lines) ++ line ∷ []) m ≡ Some clause) n (new_live c.search.problem (before ++ c.lines) line clause h.fit.deletes_earlier ls)) in
     let old : hinted (before ++ (c.lines ++ line ∷ [])) c.hints ≡ filter_map (reason_at s.trail) places = subst (λ xs. hinted xs c.hints ≡ filter_map (reason_at s.trail) places) e (hinted_stays c.search.problem (before ++ c.lines) line clause ls c.hints h.alive ∙ h.hints) in
@@ -288,6 +297,7 @@ prepared s before places c (whys.Source source clause) h k some few =
       alive = All-push (λ id. IsSome (live (before ++ (c.lines ++ line ∷ [])) id)) c.hints (c.search.clause_lines + 1)
           (subst (λ xs. All (λ id. IsSome (live xs id)) c.hints) e (All-weaker (λ id. IsSome (live (before ++ c.lines) id)) (λ id. IsSome (live ((before ++ c.lines) ++ line ∷ []) id)) (λ id m. live_stays c.search.problem (before ++ c.lines) line id (ls.no_delete id) m) c.hints h.alive))
           (some_is _ clause new);
+      plain = all.plain;
       shaped = all.shaped;
       valid = all.valid;
       lean = all.lean;

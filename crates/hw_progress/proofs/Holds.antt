@@ -1,5 +1,5 @@
 -- The lines that a search writes are valid and lean, and its lemmas are new.
-use Rattle.std.proofs.Common.{◌≡◌, ◌⊎◌, ℕ, zero, suc, ◌+◌, ◌-◌, ◌^◌, ◌<◌, ◌≤◌, false, cond, nat_lt, List, [], ◌∷◌, ◌++◌, Option, Some, None, length, get_or, option_and_then, All, IsSome, IsSomeAnd, IsTrue, refl, sym, ap, ◌∙◌, subst, arith, inl, inr, append-nil, append_assoc}
+use Rattle.std.proofs.Common.{◌≡◌, ◌⊎◌, ℕ, zero, suc, ◌+◌, ◌-◌, ◌^◌, ◌<◌, ◌≤◌, false, cond, nat_lt, true, List, [], ◌∷◌, ◌++◌, Option, Some, None, length, get_or, option_and_then, All, IsSome, IsSomeAnd, IsTrue, refl, sym, ap, ◌∙◌, subst, arith, inl, inr, append-nil, append_assoc}
 use Rattle.std.specs.Prelude.{Contains, Any, AllPairs}
 use Rattle.std.specs.List.{cons_option}
 use Rattle.std.proofs.lemmas.Bool.{lt-ltb, le-ltb, cases_lt}
@@ -19,6 +19,7 @@ use Rattle.hw_model.specs.Replay.{replay, conflict, QuietClause}
 use Rattle.hw_laws.proofs.Rises.{rising}
 use Rattle.hw_lines.specs.declared.line.Line.{Line}
 use Rattle.hw_lines.specs.declared.line.Line.TheVariants as lines
+use Rattle.hw_lines.specs.Tolled.{is_plain}
 use Rattle.hw_lines.specs.Lines.{clause_count, clause_at, live, best_of, is_closed}
 use Rattle.hw_lines.specs.Valid.{LineFits, ValidAfter, ValidFrom, denied_room, hinted}
 use Rattle.hw_lines.specs.Lemmas.{IsHinted, LeanAfter, LeanFrom}
@@ -65,29 +66,34 @@ rule_is f place =
     let back : f.ships + place - f.ships ≡ place = omega arith in
     ap (λ b. cond b (sources.Window (f.ships + place)) (sources.Rule (f.ships + place - f.ships))) past ∙ ap (λ n. sources.Rule n) back
 
--- a line is of the shape, valid and lean
+-- a line is plain, of the shape, valid and lean
 pub record Writes (f : Problem) (before : List Line) (line : Line) : Type 0 where
+  pub plain : is_plain line ≡ true
   pub fits : LineFits f line
   pub valid : ValidAfter f before line
   pub lean : LeanAfter f before line
 
 pub source_writes : (f : Problem) (before : List Line) (source : Source) (clause : List Lit) → IsSourceOf f source → IsClause (shape_of f) clause → Refutes f source (best_of f before) (denied_room f clause) → SpeaksOnlyOf f source clause → is_closed before ≡ false → clause_count before + 1 < 2 ^ 32 → Writes f before (source_line f source clause)
 source_writes f before (sources.Window ship) clause of is refutes speaks goes few = record {
+  plain = refl;
   fits = (omega (arith, of), is);
   valid = record { goes_on = goes; numbered = few; claim = subst (λ x. Refutes f x (best_of f before) (denied_room f clause)) (sym (window_is f ship of)) refutes };
   lean = subst (λ x. SpeaksOnlyOf f x clause) (sym (window_is f ship of)) speaks;
 }
 source_writes f before (sources.Rule place) clause of is refutes speaks goes few = record {
+  plain = refl;
   fits = (omega (arith, of), is);
   valid = record { goes_on = goes; numbered = few; claim = subst (λ x. Refutes f x (best_of f before) (denied_room f clause)) (sym (rule_is f place)) refutes };
   lean = subst (λ x. SpeaksOnlyOf f x clause) (sym (rule_is f place)) speaks;
 }
 source_writes f before (sources.Order v w x) clause of is refutes speaks goes few = record {
+  plain = refl;
   fits = (of.0, of.1, of.2, is);
   valid = record { goes_on = goes; numbered = few; claim = refutes };
   lean = speaks;
 }
 source_writes f before sources.Goal clause of is refutes speaks goes few = record {
+  plain = refl;
   fits = is;
   valid = record { goes_on = goes; numbered = few; claim = refutes };
   lean = speaks;
@@ -110,6 +116,7 @@ nothing_refutes s q = record {
 
 pub table_writes : (s : SearchModel) (before : List Line) (table : List ℕ) (c : ℕ) → FitsOpen before s → Permits s.problem table → cargo s.problem table ≡ Some c → IsTrue (beats c (best_cargo s)) → Writes s.problem before (lines.Table table)
 table_writes s before table c fit permits value above = record {
+  plain = refl;
   fits = permits.listed;
   valid = record {
     goes_on = fit.none_empty;
@@ -166,6 +173,7 @@ trail_denied s e f c = denied_same (trail_shape s.trail) (shape_of s.problem) e 
 pub lemma_writes : (s : SearchModel) (before : List Line) (clause lemma : List Lit) (back : ℕ) (places hints : List ℕ) → s.trail.ships ≡ s.problem.ships → s.trail.slots ≡ s.problem.slots → Learns s.trail clause lemma back places
     → hinted before hints ≡ chain_of s.trail places clause → All (λ id. IsSome (live before id)) hints → is_closed before ≡ false → clause_count before + 1 < 2 ^ 32 → Writes s.problem before (lines.Lemma lemma hints)
 lemma_writes s before clause lemma back places hints ships slots h e live' goes few = record {
+  plain = refl;
   fits = trail_clause s ships slots lemma h.fits;
   valid = record {
     goes_on = goes;

@@ -9,6 +9,7 @@ use Rattle.hw_model.specs.declared.lit.Lit.{Lit}
 use Rattle.hw_model.specs.Rooms.{RoomWithin}
 use Rattle.hw_lines.specs.declared.line.Line.{Line}
 use Rattle.hw_lines.specs.declared.line.Line.TheVariants as lines
+use Rattle.hw_lines.specs.Tolled.{is_plain}
 use Rattle.hw_lines.specs.Lines.{clause_of as clause_in, clauses_of, clause_count}
 use Rattle.hw_lines.specs.Valid.{LineFits, ValidFrom, denied_room}
 use Rattle.hw_lines.specs.Lemmas.{lemmas_of, IsNew, LeanFrom}
@@ -44,6 +45,7 @@ abbrev lemma_lines : Cited → List Lit → List Line
 lemma_lines c lemma = c.lines ++ lines.Lemma lemma c.hints ∷ []
 
 pub record LemmaWritten (s : SearchModel) (before : List Line) (lemma : List Lit) (places : List ℕ) (c : Cited) : Type 0 where
+  pub plain : All (λ line. is_plain line ≡ true) (lemma_lines c lemma)
   pub shaped : All (LineFits s.problem) (lemma_lines c lemma)
   pub valid : ValidFrom s.problem before (lemma_lines c lemma)
   pub lean : LeanFrom s.problem before (lemma_lines c lemma)
@@ -56,11 +58,12 @@ pub lemma_written : (s : SearchModel) (before : List Line) (why : Why) (lemma : 
 lemma_written s before why lemma back places c is fit p learns few =
     let line = lines.Lemma lemma c.hints in
     let w : Writes s.problem (before ++ c.lines) line = lemma_writes s (before ++ c.lines) (clause_of why) lemma back places c.hints is.same_ships is.same_slots learns p.hints p.alive p.fit.none_empty (omega (arith, few, p.few, p.fit.count)) in
-    let all : Wrote s.problem before c.lines line = wrote s.problem before c.lines line p.shaped p.valid p.lean w in
+    let all : Wrote s.problem before c.lines line = wrote s.problem before c.lines line p.plain p.shaped p.valid p.lean w in
     let e : (before ++ c.lines) ++ line ∷ [] ≡ before ++ lemma_lines c lemma = append_assoc before c.lines (line ∷ []) in
     let same : lemmas_in c.search ≡ lemmas_in s = ap lemmas_in p.same in
     let ls : lemmas_of (before ++ lemma_lines c lemma) ≡ lemmas_in s ++ lemma ∷ [] = ap lemmas_of (sym e) ∙ lemmas_push (before ++ c.lines) line ∙ ap (λ xs. xs ++ lemma ∷ []) (p.fit.lemmas ∙ same) in
     record {
+      plain = all.plain;
       shaped = all.shaped;
       valid = all.valid;
       lean = all.lean;
@@ -97,20 +100,21 @@ gone_problem u back = by (is_due u)
     by true = refl
     by false = refl
 
-deleted : (s : SearchModel) (before written : List Line) (after : SearchModel) (ids : List ℕ) → unkept (before ++ written) after ≡ ids → All (LineFits s.problem) written → ValidFrom s.problem before written → LeanFrom s.problem before written → IsNew s.problem (before ++ written) → FitsOpen (before ++ written) after → LemmaDone s before (written ++ deletion ids) after
-deleted s before written after [] e a v l n fit =
+deleted : (s : SearchModel) (before written : List Line) (after : SearchModel) (ids : List ℕ) → unkept (before ++ written) after ≡ ids → All (λ line. is_plain line ≡ true) written → All (LineFits s.problem) written → ValidFrom s.problem before written → LeanFrom s.problem before written → IsNew s.problem (before ++ written) → FitsOpen (before ++ written) after → LemmaDone s before (written ++ deletion ids) after
+deleted s before written after [] e p a v l n fit =
     let same : written ++ [] ≡ written = append-nil written in
     subst (λ xs. LemmaDone s before xs after) (sym same) (record {
-      well = record { fit = a; valid = v; lean = l; new = λ old. n };
+      well = record { plain = p; fit = a; valid = v; lean = l; new = λ old. n };
       fits = fit;
       kept = nothing_kept (before ++ written) after e;
     })
-deleted s before written after (id ∷ ids) e a v l n fit =
+deleted s before written after (id ∷ ids) e p a v l n fit =
     let line = lines.Delete (id ∷ ids) in
     let d = deletion_valid s.problem (before ++ written) after id ids e fit.none_empty in
     let assoc : (before ++ written) ++ line ∷ [] ≡ before ++ (written ++ line ∷ []) = append_assoc before written (line ∷ []) in
     record {
       well = record {
+        plain = All-push (λ line. is_plain line ≡ true) written line p refl;
         fit = All-push (LineFits s.problem) written line a d.0;
         valid = valid_push s.problem before written line v d.1;
         lean = lean_push s.problem before written line l tt;
@@ -130,4 +134,4 @@ lemma_done s before why lemma back places c is fit p learns some few =
     let e : (before ++ c.lines) ++ line ∷ [] ≡ before ++ lemma_lines c lemma = append_assoc before c.lines (line ∷ []) in
     let stands : FitsOpen (before ++ lemma_lines c lemma) u = subst (λ xs. FitsOpen xs u) e (lemma_open c.search (before ++ c.lines) lemma c.hints p.fit some) in
     let trail : IsTrail u.trail = subst IsTrail (sym (ap (λ (x : SearchModel). x.trail) p.same)) is.trail in
-    deleted s before (lemma_lines c lemma) (gone_back u back) (unkept (before ++ lemma_lines c lemma) (gone_back u back)) refl w.shaped w.valid w.lean w.new (gone_open (before ++ lemma_lines c lemma) u back trail stands)
+    deleted s before (lemma_lines c lemma) (gone_back u back) (unkept (before ++ lemma_lines c lemma) (gone_back u back)) refl w.plain w.shaped w.valid w.lean w.new (gone_open (before ++ lemma_lines c lemma) u back trail stands)

@@ -1,11 +1,12 @@
 -- The first lines of what is written well are written well.
-use Rattle.std.proofs.Common.{◌≡◌, ℕ, zero, suc, ◌+◌, ◌<◌, List, [], ◌∷◌, ◌++◌, length, get_or, take, drop, refl, sym, ap, ◌∙◌, subst, arith, append_assoc, length-append}
+use Rattle.std.proofs.Common.{◌≡◌, ℕ, zero, suc, ◌+◌, ◌<◌, true, List, [], ◌∷◌, ◌++◌, length, get_or, take, drop, refl, sym, ap, ◌∙◌, subst, arith, append_assoc, length-append}
 use Rattle.std.specs.Prelude.{AllPairs}
 use Rattle.std.proofs.lemmas.List.{take-append-drop}
 use Rattle.std.proofs.lemmas.List.Elements.{All-take, filter_map-append}
 use Rattle.hw_model.specs.Problem.{Problem}
 use Rattle.hw_model.specs.Rooms.{RoomWithin}
 use Rattle.hw_lines.specs.declared.line.Line.{Line}
+use Rattle.hw_lines.specs.Tolled.{is_plain}
 use Rattle.hw_lines.specs.Lines.{clause_count}
 use Rattle.hw_lines.specs.Valid.{LineFits, ValidFrom, denied_room}
 use Rattle.hw_lines.specs.Lemmas.{lemma_of, lemmas_of, LeanFrom}
@@ -51,6 +52,7 @@ part_well f before more n w l =
     let counts : clause_count more ≡ clause_count (take n more) + clause_count (drop n more) = ap clause_count (sym whole) ∙ count_append (take n more) (drop n more) in
     record {
       well = record {
+        plain = All-take (λ line. is_plain line ≡ true) n more w.plain;
         fit = All-take (LineFits f) n more w.fit;
         valid = valid_part f before more n w.valid;
         lean = lean_part f before more n w.lean;

@@ -35,7 +35,7 @@ use Rattle.hw_progress.proofs.Bounds.{few_numbers}
 use Rattle.hw_progress.proofs.Trues.{lemma_true}
 
 good : (f : Problem) (before : List Line) (line : Line) → Writes f before line → GoodLine f before line
-good f before line w = record { fits = w.fits; valid = w.valid; lean = w.lean }
+good f before line w = record { plain = w.plain; fits = w.fits; valid = w.valid; lean = w.lean }
 
 pub starts : (f : Problem) (branching : Branching) (told : LogTold) → IsFlat f → told.lines ≡ [] → told.behind ≡ [] → IsSearch (new_search f branching) × LogFits told (new_search f branching)
 starts f branching told flat none behind = (
@@ -119,7 +119,7 @@ delete s before fit =
   where
     by : (ids : List ℕ) → unkept before s ≡ ids → 1 ≤ length ids → GoodLine s.problem before (lines.Delete ids)
     by [] e some = absurd (omega (arith, some))
-    by (id ∷ ids) e some = let v = deletion_valid s.problem before s id ids e fit.none_empty in record { fits = v.0; valid = v.1; lean = tt }
+    by (id ∷ ids) e some = let v = deletion_valid s.problem before s id ids e fit.none_empty in record { plain = refl; fits = v.0; valid = v.1; lean = tt }
 
 pub fit_changes : (s : SearchModel) (before : List Line) → IsSearch s → FitsOpen before s → FitChanges s before
 fit_changes s before is fit = record {
@@ -176,7 +176,7 @@ last s before why back places is over few fit kept k some learns =
     let e : (before ++ c.lines) ++ lines.Lemma [] c.hints ∷ [] ≡ before ++ lemma_lines c [] = append_assoc before c.lines (lines.Lemma [] c.hints ∷ []) in
     record {
       hints = p.hints;
-      well = record { fit = w.shaped; valid = w.valid; lean = w.lean; new = λ old. w.new };
+      well = record { plain = w.plain; fit = w.shaped; valid = w.valid; lean = w.lean; new = λ old. w.new };
       closed = subst (λ xs. is_closed xs ≡ true) e ((one_more s.problem (before ++ c.lines) (lines.Lemma [] c.hints)).closed ∙ end (is_closed (before ++ c.lines)));
       few = omega (arith, w.few, m);
     }

@@ -14,6 +14,7 @@ use Rattle.hw_model.specs.Narrowing.{truth}
 use Rattle.hw_model.specs.Replay.{narrowing}
 use Rattle.hw_lines.specs.declared.line.Line.{Line}
 use Rattle.hw_lines.specs.declared.line.Line.TheVariants as lines
+use Rattle.hw_lines.specs.Tolled.{is_plain}
 use Rattle.hw_lines.specs.Lines.{clause_count, live, is_closed}
 use Rattle.hw_lines.specs.Valid.{LineFits, ValidAfter, hinted}
 use Rattle.hw_lines.specs.Lemmas.{LeanAfter, lemmas_of, IsNew}
@@ -41,8 +42,9 @@ NewSearch = (f : Problem) (branching : Branching) (told : LogTold) → IsFlat f 
 
 -- ---- what each line leaves
 
--- a line is of the problem's shape, valid after these lines, and lean
+-- a line says nothing of tolls or prices, is of the problem's shape, valid after these lines, and lean
 pub record GoodLine (f : Problem) (before : List Line) (line : Line) : Type 0 where
+  pub plain : is_plain line ≡ true
   pub fits : LineFits f line
   pub valid : ValidAfter f before line
   pub lean : LeanAfter f before line

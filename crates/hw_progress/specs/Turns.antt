@@ -9,6 +9,7 @@ use Rattle.hw_model.specs.Rooms.{IsPoint, point_of}
 use Rattle.hw_desk.specs.State.{Rose}
 use Rattle.hw_lines.specs.declared.line.Line.{Line}
 use Rattle.hw_lines.specs.declared.line.Line.TheVariants as lines
+use Rattle.hw_lines.specs.Tolled.{is_plain}
 use Rattle.hw_lines.specs.Lines.{clause_count, live, last_table, is_closed}
 use Rattle.hw_lines.specs.Valid.{LineFits, ValidAfter, ValidFrom}
 use Rattle.hw_lines.specs.Lemmas.{lemmas_of, IsNew, LeanAfter, LeanFrom}
@@ -226,9 +227,9 @@ pub record FailsPart (s : SearchModel) (was now : LogTold) : Type 0 where
   pub written : WritesPart s was now
   pub next : IsSomeAnd (slice_get written.plan written.upto) (λ line. IsBegunLine line now.behind)
 
--- the line that failed is of the shape, valid and lean after the lines, and a proper prefix of its text follows them
+-- the line that failed says nothing of tolls or prices, is of the shape, valid and lean after the lines, and a proper prefix of its text follows them
 abbrev pub FailsAt : Problem → LogTold → Type 0
-FailsAt f now = (line : Line) × LineFits f line × ValidAfter f now.lines line × LeanAfter f now.lines line × IsBegunLine line now.behind
+FailsAt f now = (line : Line) × (is_plain line ≡ true) × LineFits f line × ValidAfter f now.lines line × LeanAfter f now.lines line × IsBegunLine line now.behind
 
 -- the log failed: its faults rose, and some first lines of the turn were written
 pub record DoesFail (s after : SearchModel) (old new : LogModel) : Type 0 where
@@ -269,8 +270,9 @@ lines_of_turn f turns.Ended = most_events f.ships f.slots + 2
 lines_of_turn f turns.NoMemory = most_events f.ships f.slots + 2
 lines_of_turn f turns.LogFailed = most_events f.ships f.slots + 2
 
--- lines that are of the problem's shape, valid, lean, and bring no useless lemma
+-- lines that say nothing of tolls or prices, are of the problem's shape, valid, lean, and bring no useless lemma
 pub record WritesWell (f : Problem) (before more : List Line) : Type 0 where
+  pub plain : All (λ line. is_plain line ≡ true) more
   pub fit : All (LineFits f) more
   pub valid : ValidFrom f before more
   pub lean : LeanFrom f before more

@@ -64,7 +64,7 @@ offer_stopped s row stops.Failed old new is permits better fits t =
         failed = grown old new R (λ told. LogFits told s) (FailsAt s.problem) t.told (λ was now fit h.
             let b = begun row h.0 was now h.1 h.2 in
             let good = (table s was.lines row better.0 is fit.fits permits better.1 better.2).0 in
-            (lines.Table row, good.fits, subst (λ xs. ValidAfter s.problem xs (lines.Table row)) (sym b.0) good.valid, subst (λ xs. LeanAfter s.problem xs (lines.Table row)) (sym b.0) good.lean, b.1)) fits;
+            (lines.Table row, refl, good.fits, subst (λ xs. ValidAfter s.problem xs (lines.Table row)) (sym b.0) good.valid, subst (λ xs. LeanAfter s.problem xs (lines.Table row)) (sym b.0) good.lean, b.1)) fits;
         begun = grows_by old new R (λ was now. (now.lines ≡ was.lines) × IsBegunLine (lines.Table row) now.behind) (λ was now h. begun row h.0 was now h.1 h.2) t.told;
       };
     }

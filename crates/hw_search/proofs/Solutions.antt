@@ -7,6 +7,7 @@ use Rattle.hw_model.specs.Timetables.{Permits, cargo}
 use Rattle.hw_model.specs.Rooms.{room_count}
 use Rattle.hw_desk.specs.State.{Rose}
 use Rattle.hw_lines.specs.declared.line.Line.{Line}
+use Rattle.hw_lines.specs.Tolled.{is_plain}
 use Rattle.hw_lines.specs.Lines.{last_table, is_closed, ends}
 use Rattle.hw_lines.specs.Valid.{LineFits, ValidFrom}
 use Rattle.hw_lines.specs.Lemmas.{lemmas_of, LeanFrom}
@@ -40,6 +41,7 @@ lean_append f before (line ∷ a) b v w = (v.0, lean_append f (before ++ line �
 
 well_more : (f : Problem) (a b : List Line) → WellWritten f a → WritesWell f a b → FewLiveFrom f a b → WellWritten f (a ++ b)
 well_more f a b w m few = record {
+  plain = All-append (λ line. is_plain line ≡ true) a b w.plain m.plain;
   fit = All-append (LineFits f) a b w.fit m.fit;
   valid = valid_append f [] a b w.valid m.valid;
   lean = lean_append f [] a b w.lean m.lean;
@@ -48,7 +50,7 @@ well_more f a b w m few = record {
 }
 
 no_line : (f : Problem) → WellWritten f []
-no_line f = record { fit = All-nil (LineFits f); valid = tt; lean = tt; new = λ i j d a b. absurd (omega (arith, b)); few_live = none_live f }
+no_line f = record { plain = All-nil (λ line. is_plain line ≡ true); fit = All-nil (LineFits f); valid = tt; lean = tt; new = λ i j d a b. absurd (omega (arith, b)); few_live = none_live f }
 
 -- ---- what is told
 
@@ -151,6 +153,7 @@ closed_ends f all w = closed_from f all [] w.valid refl
 
 solve_writes : (f : Problem) (budget : ℕ) (answer : Solved) (before now : ℕ) (all : List Line) → WellWritten f all → is_closed all ≡ is_proved answer → AnswerTells f budget answer all → length (lemmas_of all) ≤ budget → ((Rose before now → ⊥) → length (lemmas_of all) ≡ budget → is_closed all ≡ false → may_be_spent answer ≡ true) → SolveWrites f budget answer before now all
 solve_writes f budget answer before now all w closed tells few spent = record {
+  plain = w.plain;
   fit = w.fit;
   valid = w.valid;
   lean = w.lean;

@@ -8,6 +8,7 @@ use Rattle.hw_model.specs.declared.source.Source.{Source}
 use Rattle.hw_model.specs.Problem.{Problem}
 use Rattle.hw_lines.specs.declared.line.Line.{Line}
 use Rattle.hw_lines.specs.Lines.{clause_count, clause_of as clause_in, table_after, last_table, is_closed, is_end}
+use Rattle.hw_lines.specs.Tolled.{is_plain}
 use Rattle.hw_lines.specs.Valid.{LineFits, ValidAfter, ValidFrom}
 use Rattle.hw_lines.specs.Lemmas.{lemma_of, lemmas_of, LeanAfter, LeanFrom}
 use Rattle.hw_lines.proofs.Pushed.{last_push}
@@ -119,10 +120,10 @@ lean_at f before [] n line h e = absurd cc
 lean_at f before (x ∷ xs) zero line h e = subst (LeanAfter f (before ++ [])) (let same : x ≡ line = cc in same) (subst (λ ys. LeanAfter f ys x) (sym (append-nil before)) h.0)
 lean_at f before (x ∷ xs) (suc n) line h e = subst (λ ys. LeanAfter f ys line) (append_assoc before (x ∷ []) (take n xs)) (lean_at f (before ++ x ∷ []) xs n line h.1 e)
 
-fits_at : (f : Problem) (plan : List Line) (n : ℕ) (line : Line) → All (LineFits f) plan → slice_get plan n ≡ Some line → LineFits f line
-fits_at f [] n line h e = absurd cc
-fits_at f (x ∷ xs) zero line h e = subst (LineFits f) (let same : x ≡ line = cc in same) (All-head (LineFits f) x xs h)
-fits_at f (x ∷ xs) (suc n) line h e = fits_at f xs n line (All-tail (LineFits f) x xs h) e
+holds_at : (P : Line → Type 0) (plan : List Line) (n : ℕ) (line : Line) → All P plan → slice_get plan n ≡ Some line → P line
+holds_at P [] n line h e = absurd cc
+holds_at P (x ∷ xs) zero line h e = subst P (let same : x ≡ line = cc in same) (All-head P x xs h)
+holds_at P (x ∷ xs) (suc n) line h e = holds_at P xs n line (All-tail P x xs h) e
 
 some_and : {A : Type 0} (o : Option A) (P : A → Type 0) → IsSomeAnd o P → (x : A) × (o ≡ Some x) × P x
 some_and None P h = absurd h
@@ -170,7 +171,8 @@ failed_at s p count was now le t m =
     let line = some_and (slice_get (p ++ m.rest) count) (λ line. IsBegunLine line now.behind) (get_front p m.rest count (λ line. IsBegunLine line now.behind) t.behind) in
     let e = lines_in stops.Failed s p count was now le t m in (
       line.0,
-      fits_at s.problem (p ++ m.rest) count line.0 m.well.fit line.1,
+      holds_at (λ line. is_plain line ≡ true) (p ++ m.rest) count line.0 m.well.plain line.1,
+      holds_at (LineFits s.problem) (p ++ m.rest) count line.0 m.well.fit line.1,
       subst (λ xs. ValidAfter s.problem xs line.0) (sym e) (valid_at s.problem was.lines (p ++ m.rest) count line.0 m.well.valid line.1),
       subst (λ xs. LeanAfter s.problem xs line.0) (sym e) (lean_at s.problem was.lines (p ++ m.rest) count line.0 m.well.lean line.1),
       line.2,

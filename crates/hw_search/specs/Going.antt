@@ -1,10 +1,11 @@
 -- What holds of a solution that goes on, and what is left of it.
-use Rattle.std.specs.Prelude.{◌≡◌, ℕ, ◌+◌, ◌-◌, ◌*◌, ◌≤◌, false, List, Option, Some, None, All, length}
+use Rattle.std.specs.Prelude.{◌≡◌, ℕ, ◌+◌, ◌-◌, ◌*◌, ◌≤◌, true, false, List, Option, Some, None, All, length}
 use Rattle.hw_model.specs.Problem.{Problem, shape_of}
 use Rattle.hw_model.specs.Timetables.{cargo}
 use Rattle.hw_model.specs.Rooms.{whole_room}
 use Rattle.hw_model.specs.Refuting.{greatest_sum}
 use Rattle.hw_lines.specs.declared.line.Line.{Line}
+use Rattle.hw_lines.specs.Tolled.{is_plain}
 use Rattle.hw_lines.specs.Lines.{last_table}
 use Rattle.hw_lines.specs.Valid.{LineFits, Valid}
 use Rattle.hw_lines.specs.Lemmas.{lemmas_of, IsNew, IsLean}
@@ -15,8 +16,9 @@ use Rattle.hw_progress.specs.declared.outcome.Solved.TheVariants.{Optimal, Infea
 use Rattle.hw_progress.specs.Living.{FewLiveThroughout}
 use Rattle.hw_progress.specs.Searches.{SearchModel, LogFits, best_cargo}
 
--- the lines are of the problem's shape, valid, lean and new, and few are live after each
+-- the lines say nothing of tolls or prices, are of the problem's shape, valid, lean and new, and few are live after each
 pub record WellWritten (f : Problem) (all : List Line) : Type 0 where
+  pub plain : All (λ line. is_plain line ≡ true) all
   pub fit : All (LineFits f) all
   pub valid : Valid f all
   pub lean : IsLean f all

@@ -1,6 +1,7 @@
 //! The certified search: settling, branching, a turn, and a whole solution.
 //!
-//! Every line that a search hands to its log is valid, lean and new after those before it.
+//! Every line that a search hands to its log is valid, lean and new after those before it, and says
+//! nothing of tolls or prices.
 #![tactic(auto)]
 
 mod any;

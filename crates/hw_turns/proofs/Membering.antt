@@ -8,6 +8,7 @@ use Rattle.hw_model.specs.Timetables.{Permits, cargo, beats}
 use Rattle.hw_desk.specs.State.{Rose}
 use Rattle.hw_lines.specs.declared.line.Line.{Line}
 use Rattle.hw_lines.specs.declared.line.Line.TheVariants as lines
+use Rattle.hw_lines.specs.Tolled.{is_plain}
 use Rattle.hw_lines.specs.Lines.{clause_of, clauses_of, clause_count, is_closed}
 use Rattle.hw_lines.specs.Valid.{LineFits, ValidFrom}
 use Rattle.hw_lines.specs.Lemmas.{lemmas_of, LeanFrom}
@@ -47,6 +48,7 @@ lean_append f before (line ∷ a) b v w = (v.0, lean_append f (before ++ line �
 
 own_more : (f : Problem) (own more own' : List Line) → own' ≡ own ++ more → OwnWell f own → WritesWell f own more → OwnWell f own'
 own_more f own more own' e w m = subst (OwnWell f) (sym e) (record {
+  plain = All-append (λ line. is_plain line ≡ true) own more w.plain m.plain;
   fit = All-append (LineFits f) own more w.fit m.fit;
   valid = valid_append f [] own more w.valid m.valid;
   lean = lean_append f [] own more w.lean m.lean;

@@ -1,7 +1,8 @@
 -- What is kept of a crew: the lines that were handed on, told or not, the pages and the board.
-use Rattle.std.specs.Prelude.{◌≡◌, ℕ, ◌<◌, List, [], Some, All, length, take, slice_get, slice_set}
+use Rattle.std.specs.Prelude.{◌≡◌, ℕ, ◌<◌, true, List, [], Some, All, length, take, slice_get, slice_set}
 use Rattle.hw_model.specs.Problem.{Problem}
 use Rattle.hw_lines.specs.declared.line.Line.{Line}
+use Rattle.hw_lines.specs.Tolled.{is_plain}
 use Rattle.hw_lines.specs.Lines.{clause_count, last_table, is_closed}
 use Rattle.hw_lines.specs.Valid.{LineFits, Valid}
 use Rattle.hw_lines.specs.Lemmas.{lemmas_of, IsNew, IsLean}
@@ -25,8 +26,9 @@ pub record Crewing (f : Problem) (pages : List Page) (board : Board) (all : List
   pub lemmas : board.lemmas ≡ length (lemmas_of all)
   pub best : board.best ≡ last_table all
 
--- own lines that a searcher wrote
+-- own lines that a searcher wrote, none of them on tolls or prices
 pub record OwnWell (f : Problem) (own : List Line) : Type 0 where
+  pub plain : All (λ line. is_plain line ≡ true) own
   pub fit : All (LineFits f) own
   pub valid : Valid f own
   pub lean : IsLean f own

@@ -5,6 +5,7 @@ use Rattle.hw_model.specs.Timetables.{Permits, cargo, IsBest, NonePermitted}
 use Rattle.hw_model.specs.Rooms.{room_count}
 use Rattle.hw_desk.specs.State.{Rose}
 use Rattle.hw_lines.specs.declared.line.Line.{Line}
+use Rattle.hw_lines.specs.Tolled.{is_plain}
 use Rattle.hw_lines.specs.Lines.{last_table, is_closed, ends}
 use Rattle.hw_lines.specs.Valid.{LineFits, Valid}
 use Rattle.hw_lines.specs.Lemmas.{lemmas_of, IsLean}
@@ -40,8 +41,9 @@ may_be_spent (Spent table) = true
 may_be_spent (NoMemory table) = true
 may_be_spent LogFailed = false
 
--- the lines that a crew handed on, and the answer by them; the log's faults were `before` and are `now`
+-- the lines that a crew handed on, which say nothing of tolls or prices, and the answer by them; the log's faults were `before` and are `now`
 pub record CrewWrites (f : Problem) (order : List Branching) (budget : ℕ) (answer : Crewed) (before now : ℕ) (all : List Line) : Type 0 where
+  pub plain : All (λ line. is_plain line ≡ true) all
   pub fit : All (LineFits f) all
   pub valid : Valid f all
   pub lean : IsLean f all

@@ -54,9 +54,15 @@ fn renumbered(alloc: Global, numbers: &[u32], line: &Line) -> Result<Line, NoMem
             let ids = shared_numbers(alloc, numbers, ids)?;
             Ok(Line::Delete { ids })
         }
-        Line::Table(_) | Line::Explain { .. } | Line::Order { .. } | Line::Goal { .. } => {
-            line.copy(alloc)
-        }
+        Line::Table(_)
+        | Line::Explain { .. }
+        | Line::Order { .. }
+        | Line::Goal { .. }
+        | Line::Narrows { .. }
+        | Line::Tugs { .. }
+        | Line::Tariff { .. }
+        | Line::Priced { .. }
+        | Line::Bound { .. } => line.copy(alloc),
     }
 }
 
@@ -90,7 +96,12 @@ fn goes_on(flat: &Flat, best: &Option<Timetable>, line: &Line) -> bool
         | Line::Order { .. }
         | Line::Goal { .. }
         | Line::Lemma { .. }
-        | Line::Delete { .. } => true,
+        | Line::Delete { .. }
+        | Line::Narrows { .. }
+        | Line::Tugs { .. }
+        | Line::Tariff { .. }
+        | Line::Priced { .. }
+        | Line::Bound { .. } => true,
     }
 }
 
@@ -99,8 +110,17 @@ fn has_clause(line: &Line) -> bool
     ensures { result ≡ is_some (clause_of line.now) }
 {
     match line {
-        Line::Table(_) | Line::Delete { .. } => false,
-        Line::Explain { .. } | Line::Order { .. } | Line::Goal { .. } | Line::Lemma { .. } => true,
+        Line::Table(_)
+        | Line::Delete { .. }
+        | Line::Narrows { .. }
+        | Line::Tugs { .. }
+        | Line::Tariff { .. }
+        | Line::Bound { .. } => false,
+        Line::Explain { .. }
+        | Line::Order { .. }
+        | Line::Goal { .. }
+        | Line::Lemma { .. }
+        | Line::Priced { .. } => true,
     }
 }
 
@@ -114,7 +134,12 @@ fn is_lemma(line: &Line) -> bool
         | Line::Explain { .. }
         | Line::Order { .. }
         | Line::Goal { .. }
-        | Line::Delete { .. } => false,
+        | Line::Delete { .. }
+        | Line::Narrows { .. }
+        | Line::Tugs { .. }
+        | Line::Tariff { .. }
+        | Line::Priced { .. }
+        | Line::Bound { .. } => false,
     }
 }
 

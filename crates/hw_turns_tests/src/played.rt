@@ -99,10 +99,16 @@ fn is_better(flat: &Flat, table: &Timetable, best: &Option<Timetable>) -> bool {
 /// The clause of a line, if it has one.
 fn clause_text(alloc: Global, line: &Line) -> Result<Option<String>, Fail> {
     match line {
-        Line::Table(_) | Line::Delete { .. } => Ok(None),
-        Line::Explain { clause, .. } | Line::Order { clause, .. } | Line::Goal { clause } => {
-            Ok(Some(format!(in alloc; "{clause:?}\n")?))
-        }
+        Line::Table(_)
+        | Line::Delete { .. }
+        | Line::Narrows { .. }
+        | Line::Tugs { .. }
+        | Line::Tariff { .. }
+        | Line::Bound { .. } => Ok(None),
+        Line::Explain { clause, .. }
+        | Line::Order { clause, .. }
+        | Line::Goal { clause }
+        | Line::Priced { clause } => Ok(Some(format!(in alloc; "{clause:?}\n")?)),
         Line::Lemma { clause, .. } => Ok(Some(format!(in alloc; "lemma {clause:?}\n")?)),
     }
 }
