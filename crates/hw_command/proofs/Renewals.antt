@@ -1,9 +1,10 @@
 -- A certificate whose lines go to Proof renewed.
-use Rattle.std.proofs.Common.{◌≡◌, ◌∙◌, ℕ, List, Option, Result, Ok, Err, sym, subst}
+use Rattle.std.proofs.Common.{◌≡◌, ◌∙◌, ℕ, true, List, Option, Result, Ok, Err, All, sym, subst}
 use Rattle.hw_model.specs.Problem.{Problem, shape_of}
 use Rattle.hw_desk.specs.State.{DeskState}
 use Rattle.hw_lines.specs.declared.check.Verdict.{Verdict}
 use Rattle.hw_lines.specs.declared.line.Line.{Line}
+use Rattle.hw_lines.specs.Tolled.{is_plain}
 use Rattle.hw_verdict.specs.Renewing.{renewed}
 use Rattle.hw_verdict.proofs.Fitting.{renewing_keeps}
 use Rattle.hw_cert.specs.declared.version.Version.TheVariants.{Two}
@@ -18,10 +19,11 @@ use Rattle.hw_command.specs.declared.outcome.CertOutcome.{CertOutcome}
 use Rattle.hw_command.specs.declared.outcome.CertOutcome.TheVariants.{Shows}
 
 -- lines that were kept and show something
-pub can_renew : {f : Problem} {told : Option (List ℕ)} {all : List Line} {v : Verdict} → Keeps f told (cert_outcome f) (cert_stream (shape_of f)) all (Shows v) → CanRenew f told v all
-can_renew {f = f} {all = all} k =
+pub can_renew : {f : Problem} {told : Option (List ℕ)} {all : List Line} {v : Verdict} → All (λ line. is_plain line ≡ true) all → Keeps f told (cert_outcome f) (cert_stream (shape_of f)) all (Shows v) → CanRenew f told v all
+can_renew {f = f} {all = all} plain k =
     let again = renewing_keeps f all k.valid in
     record {
+      plain = plain;
       reads = k.reads;
       outcome = k.comes.1;
       shown = record { fit = k.fit; valid = k.valid; verdict = k.comes.0 };
@@ -35,7 +37,7 @@ went {f = f} {cert = cert} {proof = proof} {x = x} {y = y} {z = z} {r = r} kept 
   enters = k.enters;
   read_faults = k.keeps.0;
   lines = kept.lines.items;
-  renewable = can_renew (subst (λ (o : CertOutcome). Keeps f (x.held cert) (cert_outcome f) (cert_stream (shape_of f)) kept.lines.items o) shows k.keeps.1);
+  renewable = can_renew k.plain (subst (λ (o : CertOutcome). Keeps f (x.held cert) (cert_outcome f) (cert_stream (shape_of f)) kept.lines.items o) shows k.keeps.1);
   sends = same (subst (λ (all : List Line). SendsTo proof (cert_text Two all) y z r) is s);
 }
 

@@ -52,7 +52,7 @@ now_told A (Some was) (Some now) h = h
 -- ---- what is on Proof
 
 pub well : {f : Problem} {budget b n : ℕ} {all : List Line} (answer : Solved) → SolveWrites f budget answer b n all → IsWritten f budget (SolveLines f) all
-well answer w = record { fit = w.fit; valid = w.valid; lean = w.lean; promised = record { new = w.new; few_live = w.few_live }; few = w.lemmas }
+well answer w = record { plain = w.plain; fit = w.fit; valid = w.valid; lean = w.lean; promised = record { new = w.new; few_live = w.few_live }; few = w.lemmas }
 
 -- the text of whole lines
 pub whole_text : {told : LogTold} {bytes : List ℕ} → IsTextOf told bytes → told.behind ≡ [] → bytes ≡ cert_text Two told.lines

@@ -10,6 +10,7 @@ use Rattle.hw_lines.specs.Lines.{last_table, table_after}
 use Rattle.hw_lines.proofs.Pushed.{last_push}
 use Rattle.hw_cert.specs.Nexts.{rest_of}
 use Rattle.hw_cert.specs.Reader.{ReaderModel}
+use Rattle.hw_cert.specs.declared.version.Version.TheVariants.{Two}
 use Rattle.hw_cert.specs.Stream.{Position, CertLines, cert_stream}
 use Rattle.hw_check.specs.States.{CheckState}
 use Rattle.hw_command.specs.Certificates.{cert_outcome}
@@ -64,14 +65,14 @@ tables_from f told outcome is_read x y z (Err Fault) before h = rose_on before h
 tables_from f told outcome is_read x y z (Err NoMemory) before h = h ∙ before
 
 -- what was kept of a certificate that was opened
-tabled_of : {f : Problem} {told : Option (List ℕ)} {r : ReaderModel} {c : CheckState} (x y z : DeskState) (tabled : Result TabledCert CertStop) → IsOpen f told r c y → y.read_faults ≡ x.read_faults → TablesOrStops c.problem (rest_of r y) (rest_outcome c.problem [] r.at) (rest_read c.problem [] r.at) y z tabled → TablesOrStops f told (cert_outcome f) (cert_stream (shape_of f)) x z tabled
+tabled_of : {f : Problem} {told : Option (List ℕ)} {r : ReaderModel} {c : CheckState} (x y z : DeskState) (tabled : Result TabledCert CertStop) → IsOpen Two f told r c y → y.read_faults ≡ x.read_faults → TablesOrStops c.problem (rest_of r y) (rest_outcome c.problem [] r.at) (rest_read c.problem [] r.at) y z tabled → TablesOrStops f told (cert_outcome f) (cert_stream (shape_of f)) x z tabled
 tabled_of {f = f} {told = told} {r = r} x y z tabled h before k =
     let of_problem = subst (λ (p : Problem). TablesOrStops p (rest_of r y) (rest_outcome p [] r.at) (rest_read p [] r.at) y z tabled) h.problem k in
     let at_start = subst (λ (p : Position). TablesOrStops f (rest_of r y) (rest_outcome f [] p) (rest_read f [] p) y z tabled) h.first of_problem in
     tables_from f told (cert_outcome f) (cert_stream (shape_of f)) x y z tabled before (subst (λ (t : Option (List ℕ)). TablesOrStops f t (cert_outcome f) (cert_stream (shape_of f)) y z tabled) h.left at_start)
 
 -- a certificate that was opened and read on
-pub tables_of : {f : Problem} {cert bytes : List ℕ} {open_cert : OpenCert} (x y z : DeskState) (tabled : Result TabledCert CertStop) → OpensCert f cert x y (Ok open_cert) → Moves Certificate bytes y z → TablesOrStops open_cert.checker.problem (rest_of open_cert.reader y) (rest_outcome open_cert.checker.problem [] open_cert.reader.at) (rest_read open_cert.checker.problem [] open_cert.reader.at) y z tabled → TablesCert f cert x z tabled
+pub tables_of : {f : Problem} {cert bytes : List ℕ} {open_cert : OpenCert} (x y z : DeskState) (tabled : Result TabledCert CertStop) → OpensCert Two f cert x y (Ok open_cert) → Moves Certificate bytes y z → TablesOrStops open_cert.checker.problem (rest_of open_cert.reader y) (rest_outcome open_cert.checker.problem [] open_cert.reader.at) (rest_read open_cert.checker.problem [] open_cert.reader.at) y z tabled → TablesCert f cert x z tabled
 tables_of x y z tabled h m k = record { enters = enters_on h.enters m; tables = tabled_of x y z tabled h.answer.0 h.answer.1 k }
 
 -- ---- the outcome is that of a check

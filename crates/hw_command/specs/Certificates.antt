@@ -2,7 +2,9 @@
 use Rattle.std.specs.Prelude.{ℕ, ◌+◌, List, [], ◌∷◌, ◌++◌, Option, Some, None, Result, Ok, Err}
 use Rattle.hw_model.specs.Problem.{Problem, shape_of}
 use Rattle.hw_desk.specs.declared.desk.Feed.TheVariants.{Certificate}
-use Rattle.hw_cert.specs.Stream.{CertEnd, complete, broken, overlong, CertLines, cert_stream}
+use Rattle.hw_cert.specs.declared.version.Version.{Version}
+use Rattle.hw_cert.specs.declared.version.Version.TheVariants.{Two}
+use Rattle.hw_cert.specs.Stream.{CertEnd, complete, broken, overlong, CertLines, cert_stream_to}
 use Rattle.hw_lines.specs.declared.check.Refusal.{Refusal}
 use Rattle.hw_lines.specs.declared.line.Line.{Line}
 use Rattle.hw_lines.specs.Refusals.{refusal}
@@ -34,9 +36,13 @@ lines_outcome f before number (line ∷ more) stop = line_outcome number (refusa
 abbrev pub stream_outcome : Problem → CertLines → CertOutcome
 stream_outcome f read = lines_outcome f [] 2 read.lines read.stop
 
--- a certificate of a problem: the first line that isn't of the form or isn't valid after those before it; else a line that passes a limit; else what the lines show
+-- a certificate of a problem, of a version up to this one: the first line that isn't of the form or isn't valid after those before it; else a line that passes a limit; else what the lines show
+abbrev pub cert_outcome_to : Version → Problem → List ℕ → CertOutcome
+cert_outcome_to most f bytes = stream_outcome f (cert_stream_to most (shape_of f) bytes)
+
+-- the same up to the second version
 abbrev pub cert_outcome : Problem → List ℕ → CertOutcome
-cert_outcome f bytes = stream_outcome f (cert_stream (shape_of f) bytes)
+cert_outcome f bytes = cert_outcome_to Two f bytes
 
 -- the report of an outcome
 abbrev pub report_of : Naming → CertOutcome → Report

@@ -1,5 +1,5 @@
 -- A certified search: what it leaves on Proof, and what its answer says. What a searcher promises of its lines besides, and the most lemmas that it can find, are told by the searcher.
-use Rattle.std.specs.Prelude.{◌≡◌, ◌≤◌, ◌<◌, ◌⊎◌, ℕ, List, Option, Some, None, All, IfSome, ⊤, false, length, take}
+use Rattle.std.specs.Prelude.{◌≡◌, ◌≤◌, ◌<◌, ◌⊎◌, ℕ, List, Option, Some, None, All, IfSome, ⊤, true, false, length, take}
 use Rattle.hw_model.specs.Problem.{Problem}
 use Rattle.hw_model.specs.Timetables.{Permits, IsBest, NonePermitted}
 use Rattle.hw_desk.specs.State.{DeskState}
@@ -9,6 +9,7 @@ use Rattle.hw_lines.specs.declared.check.Verdict.TheVariants as verdicts
 use Rattle.hw_lines.specs.declared.line.Line.{Line}
 use Rattle.hw_lines.specs.Lemmas.{lemmas_of, IsNew, IsLean}
 use Rattle.hw_lines.specs.Lines.{best_of, last_table, is_closed}
+use Rattle.hw_lines.specs.Tolled.{is_plain}
 use Rattle.hw_lines.specs.Valid.{verdict, LineFits, Valid}
 use Rattle.hw_cert.specs.declared.version.Version.TheVariants.{Two}
 use Rattle.hw_cert.specs.Logs.{LogTold}
@@ -27,8 +28,9 @@ HeadMeans f budget most Infeasible table = NonePermitted f × (table ≡ None)
 HeadMeans f budget most (Unfinished spent) table = (spent ≡ budget) × (budget ≤ most)
 HeadMeans f budget most Memory table = ⊤
 
--- lines of the problem, each valid and lean after those before it, with what the searcher promises of them besides, and with no more lemmas than the budget
+-- lines of the problem that say nothing of tolls or prices, each valid and lean after those before it, with what the searcher promises of them besides, and with no more lemmas than the budget
 pub record IsWritten (f : Problem) (budget : ℕ) (Promised : List Line → Type 0) (all : List Line) : Type 0 where
+  pub plain : All (λ line. is_plain line ≡ true) all
   pub fit : All (LineFits f) all
   pub valid : Valid f all
   pub lean : IsLean f all

@@ -4,9 +4,11 @@ use Rattle.hw_model.specs.Problem.{Problem, shape_of}
 use Rattle.hw_text.specs.Parts.{parts_of}
 use Rattle.hw_desk.specs.State.{DeskState, Rose}
 use Rattle.hw_desk.specs.declared.desk.Feed.TheVariants as feeds
+use Rattle.hw_cert.specs.Laws.{has_form}
 use Rattle.hw_cert.specs.Nexts.{rest_of}
 use Rattle.hw_cert.specs.Reader.{ReaderModel}
-use Rattle.hw_cert.specs.Stream.{Position, start, CertLines, stream_of}
+use Rattle.hw_cert.specs.Stream.{Position, start_to, CertLines, stream_of}
+use Rattle.hw_cert.specs.declared.version.Version.{Version}
 use Rattle.hw_cert.specs.declared.stop.LineStop.{LineStop}
 use Rattle.hw_cert.specs.declared.stop.LineStop.TheVariants as lines
 use Rattle.hw_lines.specs.declared.line.Line.{Line}
@@ -62,22 +64,22 @@ abbrev pub NoOutcome : DeskState → DeskState → CertStop → Type 0
 NoOutcome old new Fault = Rose old.read_faults new.read_faults
 NoOutcome old new NoMemory = new.read_faults ≡ old.read_faults
 
--- a reader before a certificate's header, whose bytes left are those told, and a checker of the problem without lines
-pub record IsOpen (f : Problem) (told : Option (List ℕ)) (reader : ReaderModel) (checker : CheckState) (now : DeskState) : Type 0 where
+-- a reader before a certificate's header, of a version up to this one, whose bytes left are those told, and a checker of the problem without lines
+pub record IsOpen (most : Version) (f : Problem) (told : Option (List ℕ)) (reader : ReaderModel) (checker : CheckState) (now : DeskState) : Type 0 where
   pub ready : IsReady reader checker now
   pub follows : Follows checker []
   pub problem : checker.problem ≡ f
-  pub first : reader.at ≡ start
+  pub first : reader.at ≡ start_to most
   pub left : rest_of reader now ≡ told
 
-abbrev pub OpenAnswer : Problem → Option (List ℕ) → DeskState → DeskState → Result OpenCert CertStop → Type 0
-OpenAnswer f told old new (Ok open_cert) = IsOpen f told open_cert.reader open_cert.checker new × (new.read_faults ≡ old.read_faults)
-OpenAnswer f told old new (Err stop) = NoOutcome old new stop
+abbrev pub OpenAnswer : Version → Problem → Option (List ℕ) → DeskState → DeskState → Result OpenCert CertStop → Type 0
+OpenAnswer most f told old new (Ok open_cert) = IsOpen most f told open_cert.reader open_cert.checker new × (new.read_faults ≡ old.read_faults)
+OpenAnswer most f told old new (Err stop) = NoOutcome old new stop
 
--- the certificate is begun under its name, and none of its lines was taken
-pub record OpensCert (f : Problem) (cert : List ℕ) (old new : DeskState) (result : Result OpenCert CertStop) : Type 0 where
+-- a certificate of a version up to this one is begun under its name, and none of its lines was taken
+pub record OpensCert (most : Version) (f : Problem) (cert : List ℕ) (old new : DeskState) (result : Result OpenCert CertStop) : Type 0 where
   pub enters : Enters feeds.Certificate cert old new
-  pub answer : OpenAnswer f (old.held cert) old new result
+  pub answer : OpenAnswer most f (old.held cert) old new result
 
 -- what a certificate comes to after these lines, and no read failed; or why it isn't known
 abbrev pub ComesOrStops : Problem → List Line → Option (List ℕ) → (List ℕ → CertOutcome) → DeskState → DeskState → Result CertOutcome CertStop → Type 0
@@ -97,6 +99,11 @@ StepsOn r c old new step = (before : List Line) → Follows c before → Steps c
 abbrev pub GoesFurther : ReaderModel → DeskState → CertStep → Type 0
 GoesFurther r now (Further reader checker line) = IsReady reader checker now × (r.at.taken < reader.at.taken)
 GoesFurther r now (Ended found) = ⊤
+
+-- a line that was taken has a form of the versions that may be read, and these stay the same
+abbrev pub StaysWithin : ReaderModel → CertStep → Type 0
+StaysWithin r (Further reader checker line) = (reader.at.most ≡ r.at.most) × (has_form r.at.most line ≡ true)
+StaysWithin r (Ended found) = ⊤
 
 -- what a certificate comes to whose line of this number isn't taken
 abbrev pub of_check_stop : ℕ → CheckStop → Result CertOutcome CertStop

@@ -1,11 +1,12 @@
 -- A certificate that is checked with its lines kept, and sent to Proof renewed: without its deletions, and each clause deleted right after the last line that names it.
-use Rattle.std.specs.Prelude.{◌≡◌, ℕ, List, Option, Some, None, Result, Ok, Err, IfSome, All}
+use Rattle.std.specs.Prelude.{◌≡◌, ℕ, List, Option, Some, None, Result, Ok, Err, IfSome, All, true}
 use Rattle.hw_model.specs.Problem.{Problem, shape_of}
 use Rattle.hw_desk.specs.State.{DeskState}
 use Rattle.hw_desk.specs.declared.desk.Feed.TheVariants.{Certificate}
 use Rattle.hw_desk.specs.declared.desk.Tray.TheVariants as tray
 use Rattle.hw_lines.specs.declared.check.Verdict.{Verdict}
 use Rattle.hw_lines.specs.declared.line.Line.{Line}
+use Rattle.hw_lines.specs.Tolled.{is_plain}
 use Rattle.hw_lines.specs.Valid.{verdict, LineFits, Valid}
 use Rattle.hw_verdict.specs.Renewing.{renewed}
 use Rattle.hw_cert.specs.declared.version.Version.TheVariants.{Two}
@@ -28,8 +29,9 @@ pub record HasVerdict (f : Problem) (v : Verdict) (all : List Line) : Type 0 whe
   pub valid : Valid f all
   pub verdict : v ≡ verdict f all
 
--- all lines of a certificate, where its bytes are told. They show this, and so do they renewed
+-- all lines of a certificate, where its bytes are told, and none of them speaks of tolls or prices. They show this, and so do they renewed
 pub record CanRenew (f : Problem) (bytes : Option (List ℕ)) (v : Verdict) (all : List Line) : Type 0 where
+  pub plain : All (λ line. is_plain line ≡ true) all
   pub reads : IfSome bytes (λ bs. cert_stream (shape_of f) bs ≡ whole_lines all)
   pub outcome : IfSome bytes (λ bs. Shows v ≡ cert_outcome f bs)
   pub shown : HasVerdict f v all

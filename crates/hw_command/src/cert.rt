@@ -6,11 +6,11 @@ ghost use Rattle.hw_desk.specs.Calls.{Moves};
 ghost use Rattle.hw_report.specs.Printing.{CanPrint};
 ghost use Rattle.hw_report.specs.Seen.{names_seen, report_seen};
 ghost use Rattle.hw_command.specs.Certificates.{report_of_check};
-ghost use Rattle.hw_command.specs.Checking.{ChecksCert, FindsRest, GoesFurther, IsReady, OpensCert, StepsOn, of_line_stop, of_check_stop};
+ghost use Rattle.hw_command.specs.Checking.{ChecksCert, FindsRest, GoesFurther, IsReady, OpensCert, StaysWithin, StepsOn, of_line_stop, of_check_stop};
 ghost use Rattle.hw_command.specs.Keeping.{ReadsOn};
 
 use crate::outcome::{CertOutcome, CertStop};
-use hw_cert::{Line, LineReader, LineStop, Next};
+use hw_cert::{Line, LineReader, LineStop, Next, Version};
 use hw_check::{CheckStop, Checker};
 use hw_desk::{Desk, Feed};
 use hw_flat::Flat;
@@ -35,7 +35,7 @@ pub enum CertStep<'f> {
     Ended(Result<CertOutcome, CertStop>),
 }
 
-/// Begins the certificate under its name.
+/// Begins the certificate under its name. It may be of version 1 or 2.
 pub fn open_cert<'f, D: Desk>(
     alloc: Global,
     desk: &mut D,
@@ -43,13 +43,27 @@ pub fn open_cert<'f, D: Desk>(
     name: &str,
 ) -> Result<OpenCert<'f>, CertStop>
     requires { ((D.state desk.old).feeds Feed.Certificate).begun ≡ false }
-    ensures { OpensCert flat.now name.now (D.state desk.old) (D.state desk.new) result }
+    ensures { OpensCert Version.Two flat.now name.now (D.state desk.old) (D.state desk.new) result }
+{
+    open_cert_to(alloc, desk, flat, name, Version::Two)
+}
+
+/// Begins a certificate of a version up to this one under its name.
+pub fn open_cert_to<'f, D: Desk>(
+    alloc: Global,
+    desk: &mut D,
+    flat: &'f Flat,
+    name: &str,
+    most: Version,
+) -> Result<OpenCert<'f>, CertStop>
+    requires { ((D.state desk.old).feeds Feed.Certificate).begun ≡ false }
+    ensures { OpensCert most flat.now name.now (D.state desk.old) (D.state desk.new) result }
 {
     let shape = flat.shape();
     if desk.begin(Feed::Certificate, name).is_err() {
         return Err(CertStop::Fault);
     }
-    let Ok(reader) = LineReader::new(alloc, shape, Feed::Certificate) else {
+    let Ok(reader) = LineReader::up_to(alloc, shape, Feed::Certificate, most) else {
         return Err(CertStop::NoMemory);
     };
     let Ok(checker) = Checker::new(alloc, flat) else {
@@ -111,6 +125,7 @@ pub fn check_line<'f, D: Desk>(
     requires ready { IsReady reader checker (D.state desk.old) }
     ensures moved { (bytes : List ℕ) × Moves Feed.Certificate bytes (D.state desk.old) (D.state desk.new) }
     ensures further { GoesFurther reader (D.state desk.new) result }
+    ensures within { StaysWithin reader result }
     ensures reads { ReadsOn reader checker.entry (D.state desk.old) (D.state desk.new) result }
     ensures steps { StepsOn reader checker.entry (D.state desk.old) (D.state desk.new) result }
 {

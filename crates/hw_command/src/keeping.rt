@@ -4,7 +4,7 @@ ghost use Rattle.std.specs.Prelude.{◌≡◌, [], ℕ, List, false};
 ghost use Rattle.hw_check.specs.Follows.{Follows};
 ghost use Rattle.hw_desk.specs.Calls.{Moves};
 ghost use Rattle.hw_command.specs.Checking.{IsReady};
-ghost use Rattle.hw_command.specs.Keeping.{KeepsCert, KeepsRest};
+ghost use Rattle.hw_command.specs.Keeping.{KeepsCert, KeepsRest, KeptWithin};
 
 use crate::cert::{CertStep, OpenCert, check_line, open_cert};
 use crate::outcome::{CertOutcome, CertStop};
@@ -49,6 +49,7 @@ fn keep_lines<D: Desk>(
     requires fresh { Follows checker [] }
     ensures moved { (bytes : List ℕ) × Moves Feed.Certificate bytes (D.state desk.old) (D.state desk.new) }
     ensures keeps { KeepsRest reader checker.entry (D.state desk.old) (D.state desk.new) result }
+    ensures within { KeptWithin reader result }
 {
     let mut lines = Vec::new(alloc);
     'steps: loop {

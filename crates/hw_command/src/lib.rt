@@ -19,7 +19,7 @@ mod status;
 mod tabling;
 
 pub use budget::MOST_BUDGET;
-pub use cert::{CertStep, OpenCert, check_cert, check_line, check_report, open_cert};
+pub use cert::{CertStep, OpenCert, check_cert, check_line, check_report, open_cert, open_cert_to};
 pub use finishing::{finish, finish_with};
 pub use input::{read_flat, read_input, stopped};
 pub use keeping::{KeptCert, keep_cert};

@@ -8,7 +8,7 @@ use hw_report::RefusedWord;
 pub enum CertOutcome {
     /// All its lines are valid and show this.
     Shows(Verdict),
-    /// Its first wrong line, counted from 1 with the header, and the clause number that the word names.
+    /// Its first wrong line, counted from 1 with the header, and the number of a clause or of a toll that the word names.
     Wrong {
         number: u64,
         word: RefusedWord,

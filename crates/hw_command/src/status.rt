@@ -82,9 +82,9 @@ pub fn status_of(report: &Report) -> Status
         Report::Solved { head, .. } | Report::Demo { head, .. } | Report::Repaired { head, .. } => {
             status_of_head(head)
         }
-        Report::Checked { verdict, .. } | Report::Rechecked { verdict, .. } => {
-            status_of_verdict(verdict)
-        }
+        Report::Checked { verdict, .. }
+        | Report::Verified { verdict, .. }
+        | Report::Rechecked { verdict, .. } => status_of_verdict(verdict),
         Report::Words { .. } => Status::Words,
         Report::BadFlat { .. }
         | Report::BadJson

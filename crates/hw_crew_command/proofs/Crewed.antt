@@ -27,7 +27,7 @@ use Rattle.hw_crew_command.specs.Crewing.{CrewLines, CrewLeaves, CrewsTo}
 -- ---- what is on Proof
 
 well : {f : Problem} {order : List Branching} {budget b n : ℕ} {all : List Line} (answer : Crewed) → CrewWrites f order budget answer b n all → IsWritten f budget (CrewLines f order) all
-well answer w = record { fit = w.fit; valid = w.valid; lean = w.lean; promised = w.new; few = w.lemmas }
+well answer w = record { plain = w.plain; fit = w.fit; valid = w.valid; lean = w.lean; promised = w.new; few = w.lemmas }
 
 abbrev Wrote : Problem → List Branching → ℕ → Crewed → ℕ → ℕ → LogTold → Type 0
 Wrote f order budget answer b n told = CrewWrites f order budget answer b n told.lines × (told.behind ≡ [])

@@ -13,7 +13,7 @@ use Rattle.hw_port_rules.specs.Flattened.{flattened}
 use Rattle.hw_tide.specs.declared.fault.TideFault.TheVariants as tide_faults
 use Rattle.hw_report.specs.declared.report.Head.TheVariants.{Optimal, Infeasible, Unfinished, Memory}
 use Rattle.hw_report.specs.declared.report.RefusedWord.TheVariants.{Form, Check}
-use Rattle.hw_report.specs.Reports.{by_number, by_name, solved, checked, demo, bad_words, bad_flat, bad_json, bad_field, bad_tides, refused, read_fault, too_long, no_memory, repaired, rechecked, bad_text, clashed, met, spent_step, clash_holds, after, audit_end}
+use Rattle.hw_report.specs.Reports.{by_number, by_name, solved, checked, verified, demo, bad_words, bad_flat, bad_json, bad_field, bad_tides, refused, read_fault, too_long, no_memory, repaired, rechecked, bad_text, clashed, met, spent_step, clash_holds, after, audit_end}
 use Rattle.hw_report.specs.Lines.{sail_line}
 use Rattle.hw_report.specs.Texts.{report_text}
 
@@ -60,6 +60,30 @@ shown_infeasible = refl
 
 pub shown_nothing : report_text (checked (verdicts.Unfinished None) by_number) ≡ codes "unfinished none\n"
 shown_nothing = refl
+
+pub a_bound_behind : report_text (verified (verdicts.Unfinished (Some 15_471_561)) (Some 15_503_718) by_number) ≡ codes "unfinished 15471561 bound 15503718\n"
+unfolding digits
+a_bound_behind = refl
+
+pub bound_in_tonnes : report_text (verified (verdicts.Unfinished (Some 5)) (Some 4_084_107) (by_name (small true) tides)) ≡ codes "unfinished 0.5 bound 408410.7\n"
+unfolding digits
+bound_in_tonnes = refl
+
+pub bound_alone : report_text (verified (verdicts.Unfinished None) (Some 40) by_number) ≡ codes "unfinished none bound 40\n"
+unfolding digits
+bound_alone = refl
+
+pub without_a_bound : report_text (verified (verdicts.Unfinished (Some 7)) None by_number) ≡ codes "unfinished 7\n"
+unfolding digits
+without_a_bound = refl
+
+-- a best timetable needs no bound
+pub no_bound_behind : report_text (verified (verdicts.Optimal 40) (Some 41) by_number) ≡ codes "optimal 40\n"
+unfolding digits
+no_bound_behind = refl
+
+pub infeasible_without_bound : report_text (verified verdicts.Infeasible (Some 41) by_number) ≡ codes "infeasible\n"
+infeasible_without_bound = refl
 
 pub a_demonstration : report_text (demo (Optimal 7) (Some 7) (verdicts.Optimal 7) 12) ≡ codes "optimal 7\ncheck optimal 7\nlemmas 12\nend\n"
 unfolding digits
@@ -125,6 +149,22 @@ a_loose_hint = refl
 pub a_dead_clause : report_text (refused 5 (Check checks.Dead) (Some 1)) ≡ codes "refused 5 dead 1\n"
 unfolding digits
 a_dead_clause = refl
+
+pub not_a_toll : report_text (refused 2 (Check checks.Toll) None) ≡ codes "refused 2 toll\n"
+unfolding digits
+not_a_toll = refl
+
+pub a_later_toll : report_text (refused 4 (Check checks.Due) (Some 2)) ≡ codes "refused 4 due 2\n"
+unfolding digits
+a_later_toll = refl
+
+pub no_prices_in_force : report_text (refused 4 (Check checks.Due) None) ≡ codes "refused 4 due\n"
+unfolding digits
+no_prices_in_force = refl
+
+pub a_looser_bound : report_text (refused 7 (Check checks.Looser) None) ≡ codes "refused 7 looser\n"
+unfolding digits
+a_looser_bound = refl
 
 -- a word that names no number has none behind it
 pub no_number_behind : report_text (refused 3 (Check checks.Worse) (Some 9)) ≡ codes "refused 3 worse\n"

@@ -34,6 +34,18 @@ verdict_text names verdicts.Infeasible = codes "infeasible\n"
 verdict_text names (verdicts.Unfinished None) = codes "unfinished none\n"
 verdict_text names (verdicts.Unfinished (Some c)) = carried (codes "unfinished ") names c
 
+-- the best cargo so far, or none, and a bound on the cargo of every permitted timetable
+abbrev pub bounded_text : Naming → Option ℕ → ℕ → List ℕ
+bounded_text names None bound = carried (codes "unfinished none bound ") names bound
+bounded_text names (Some c) bound = joined (codes "unfinished " ∷ cargo_text names c ∷ codes " bound " ∷ cargo_text names bound ∷ codes "\n" ∷ [])
+
+-- what valid lines show, and behind an unfinished verdict the last bound among them, if there is one
+abbrev pub verified_text : Naming → Verdict → Option ℕ → List ℕ
+verified_text names (verdicts.Optimal c) bound = verdict_text names (verdicts.Optimal c)
+verified_text names verdicts.Infeasible bound = verdict_text names verdicts.Infeasible
+verified_text names (verdicts.Unfinished best) None = verdict_text names (verdicts.Unfinished best)
+verified_text names (verdicts.Unfinished best) (Some bound) = bounded_text names best bound
+
 -- a head whose timetable isn't known to be best, with the cargo of that, if there is one
 abbrev pub unfinished_text : Naming → ℕ → Option ℕ → List ℕ
 unfinished_text names budget None = joined (codes "unfinished " ∷ decimal budget ∷ codes " none\n" ∷ [])

@@ -22,6 +22,8 @@ pub data Report : Type 0 where
   solved : Head → Problem → Naming → Option (List ℕ) → Report
   -- what a certificate shows
   checked : Verdict → Naming → Report
+  -- what a certificate of any version shows, and the last bound among its lines
+  verified : Verdict → Option ℕ → Naming → Report
   -- a demonstration: how it was solved, its cargo or none, what its certificate shows, and the lemmas of that
   demo : Head → Option ℕ → Verdict → ℕ → Report
   bad_words : ℕ → Report
@@ -29,7 +31,7 @@ pub data Report : Type 0 where
   bad_json : Report
   bad_field : PortFault → Report
   bad_tides : TideFault → Report
-  -- the number of a certificate's line, its word, and the clause number that the word names
+  -- the number of a certificate's line, its word, and the number of a clause or of a toll that the word names
   refused : ℕ → RefusedWord → Option ℕ → Report
   read_fault : Feed → Report
   too_long : Feed → Report

@@ -47,6 +47,9 @@ check_word_text checks.Loose = codes "loose"
 check_word_text checks.Conflict = codes "conflict"
 check_word_text checks.Many = codes "many"
 check_word_text checks.Dead = codes "dead"
+check_word_text checks.Toll = codes "toll"
+check_word_text checks.Due = codes "due"
+check_word_text checks.Looser = codes "looser"
 
 abbrev pub refused_word_text : RefusedWord → List ℕ
 refused_word_text (Form word) = form_word_text word

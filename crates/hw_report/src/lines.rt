@@ -5,7 +5,7 @@ ghost use Rattle.hw_model.specs.Problem.{IsTimetable};
 ghost use Rattle.hw_port.specs.Kept.{Within};
 ghost use Rattle.hw_port_rules.specs.Drafts.{sailing as sailing_draft};
 ghost use Rattle.hw_port_rules.specs.Numbers.{whole, horizon_of};
-ghost use Rattle.hw_report.specs.Lines.{numbered, carried, cargo_text, verdict_text, unfinished_text, memory_text, head_text, number_line, name_in, sail_line, sailing_line, name_line, ship_line, ship_lines, table_text};
+ghost use Rattle.hw_report.specs.Lines.{numbered, carried, cargo_text, verdict_text, bounded_text, verified_text, unfinished_text, memory_text, head_text, number_line, name_in, sail_line, sailing_line, name_line, ship_line, ship_lines, table_text};
 ghost use Rattle.hw_report.specs.Pieces.{piece_text};
 ghost use Rattle.hw_report.specs.Printing.{AreNamesOf};
 ghost use Rattle.hw_desk.specs.Writers.{Puts};
@@ -61,6 +61,42 @@ pub fn put_verdict<W: Writer>(out: &mut W, names: Names, verdict: Verdict)
         Verdict::Infeasible => out.put(b"infeasible\n"),
         Verdict::Unfinished(Some(cargo)) => put_carried(out, b"unfinished ", names, cargo),
         Verdict::Unfinished(None) => out.put(b"unfinished none\n"),
+    }
+}
+
+/// Puts the best cargo so far, or none, with a bound on every timetable's.
+fn put_bounded<W: Writer>(out: &mut W, names: Names, best: Option<u64>, bound: u64)
+    ensures { Puts (bounded_text (names_seen names.entry) best bound) (W.state out.old) (W.state out.new) }
+{
+    match best {
+        None => put_carried(out, b"unfinished none bound ", names, bound),
+        Some(cargo) => {
+            let cargo = cargo_piece(names, cargo);
+            let bound = cargo_piece(names, bound);
+            put_pieces(
+                out,
+                &[
+                    Piece::Word(b"unfinished "),
+                    cargo,
+                    Piece::Word(b" bound "),
+                    bound,
+                    Piece::Word(b"\n"),
+                ],
+            );
+        }
+    }
+}
+
+/// Puts what valid lines show. Behind an unfinished verdict stands the bound, if there is one.
+pub fn put_verified<W: Writer>(out: &mut W, names: Names, verdict: Verdict, bound: Option<u64>)
+    ensures { Puts (verified_text (names_seen names.entry) verdict bound) (W.state out.old) (W.state out.new) }
+{
+    match verdict {
+        Verdict::Optimal(_) | Verdict::Infeasible => put_verdict(out, names, verdict),
+        Verdict::Unfinished(best) => match bound {
+            None => put_verdict(out, names, Verdict::Unfinished(best)),
+            Some(bound) => put_bounded(out, names, best, bound),
+        },
     }
 }
 

@@ -88,12 +88,13 @@ pub fn put_bad_tides<W: Writer>(out: &mut W, fault: TideFault)
     }
 }
 
-/// The clause number that a word names.
+/// The number of a clause or of a toll that a word names.
 fn named_number(word: RefusedWord, hint: Option<u32>) -> Option<u32>
     ensures { result ≡ named_by word hint }
 {
     match word {
-        RefusedWord::Check(CheckWord::Hint | CheckWord::Loose | CheckWord::Dead) => hint,
+        RefusedWord::Check(CheckWord::Hint | CheckWord::Loose | CheckWord::Dead | CheckWord::Due) =>
+            hint,
         _ => None,
     }
 }

@@ -6,7 +6,7 @@ ghost use Rattle.hw_report.specs.Printing.{CanPrint};
 ghost use Rattle.hw_report.specs.Seen.{report_seen};
 ghost use Rattle.hw_report.specs.Texts.{report_text};
 
-use crate::lines::{put_numbered, put_verdict};
+use crate::lines::{put_numbered, put_verdict, put_verified};
 use crate::lists::{put_after, put_clash, put_met};
 use crate::print::{put_demo, put_none, put_rechecked, put_repaired, put_solved, put_step};
 use crate::refusals::{
@@ -45,6 +45,11 @@ fn put_report<W: Writer>(out: &mut W, report: &Report)
             ..
         } => put_none(out, head, names),
         Report::Checked { verdict, names } => put_verdict(out, names, verdict),
+        Report::Verified {
+            verdict,
+            bound,
+            names,
+        } => put_verified(out, names, verdict, bound),
         Report::Demo {
             head,
             best,

@@ -41,6 +41,9 @@ pub fn check_word(word: CheckWord) -> &'static [u8]
         CheckWord::Conflict => b"conflict",
         CheckWord::Many => b"many",
         CheckWord::Dead => b"dead",
+        CheckWord::Toll => b"toll",
+        CheckWord::Due => b"due",
+        CheckWord::Looser => b"looser",
     }
 }
 

@@ -1,6 +1,10 @@
-use Rattle.std.proofs.Common.{◌≡◌, ◌++◌, ◌∷◌, ◌∙◌, [], refl, subst, rules}
+use Rattle.std.proofs.Common.{◌≡◌, ◌++◌, ◌∷◌, ◌∙◌, [], true, refl, subst, rules}
+use Rattle.std.proofs.lemmas.List.Elements.{All-push}
 use Rattle.hw_model.specs.Problem.{Problem}
 use Rattle.hw_desk.proofs.Chain.{moves_on}
+use Rattle.hw_lines.specs.declared.line.Line.{Line}
+use Rattle.hw_cert.specs.declared.version.Version.{Version}
+use Rattle.hw_cert.specs.Laws.{has_form}
 use Rattle.hw_cert.specs.Nexts.{rest_of}
 use Rattle.hw_command.specs.Checking.{Reached, ComesOrStops, rest_outcome}
 use Rattle.hw_command.specs.Keeping.{StepReads, rest_read}
@@ -27,6 +31,7 @@ steps-preserved g c =
     let all = before ++ c.in-Further.line ∷ [] in
     let items : c.push.new.self.items ≡ all = search rules in
     let step = c.in-Further.ensures.steps before past.reached.follows in
+    let Within : Line → Type 0 = λ line. has_form c.args.reader.at.most line ≡ true in
     let now = reached_on past.reached (subst (λ (p : Problem). Reached p (rest_of r y) (rest_outcome p before r.at) all c.in-Further.behind c.in-Further.followed z) past.reached.problem step.1) in
     let reads = subst (λ (p : Problem). StepReads p before r y z (Further c.in-Further.behind c.in-Further.followed c.in-Further.line)) past.reached.problem (c.in-Further.ensures.reads before) in
     let more = goes_on (rest_read f [] c.args.reader.at) (rest_read f before r.at) (rest_read f all c.in-Further.behind.at) (rest_of c.args.reader x) (rest_of r y) (rest_of c.in-Further.behind z) past.read reads in
@@ -36,6 +41,8 @@ steps-preserved g c =
       ready = c.in-Further.ensures.further.0;
       reached = rw items now;
       read = rw items more;
+      most = c.in-Further.ensures.within.0 ∙ past.most;
+      within = rw items (All-push Within before c.in-Further.line past.within (subst (λ (v : Version). has_form v c.in-Further.line ≡ true) past.most c.in-Further.ensures.within.1));
     }
 
 pub returns-in-Ended-Ok-clause-moved : goal.returns-in-Ended-Ok-clause-moved
