@@ -12,7 +12,8 @@ use Rattle.hw_lines.specs.Lemmas.{lemmas_of}
 use Rattle.hw_lines.specs.Lines.{best_of, last_table}
 use Rattle.hw_lines.specs.Refusals.{kept_refusal}
 use Rattle.hw_lines.specs.Valid.{LineFits, ValidAfter, ValidFrom, verdict, verdict_by}
-use Rattle.hw_verdict.proofs.Refused.{from_valid}
+use Rattle.hw_lines.specs.Tolled.{is_plain}
+use Rattle.hw_verdict.proofs.Refused.{plain_judge, from_valid}
 use Rattle.hw_check.specs.Follows.{Follows}
 use Rattle.hw_check.specs.States.{CheckState}
 use Rattle.hw_cert.specs.declared.version.Version.TheVariants.{Two}
@@ -121,13 +122,16 @@ next_line all i line lt is =
 pub next_fits : (f : Problem) (all : List Line) (i : ℕ) (line : Line) → All (LineFits f) all → i < length all → line ≡ get_or all i line → LineFits f line
 next_fits f all i line fit lt is = subst (LineFits f) (sym is) (fit i line lt)
 
+pub next_plain : (all : List Line) (i : ℕ) (line : Line) → All (λ l. is_plain l ≡ true) all → i < length all → line ≡ get_or all i line → is_plain line ≡ true
+next_plain all i line plain lt is = subst (λ (l : Line). is_plain l ≡ true) (sym is) (plain i line lt)
+
 -- the next line is valid, so a checker takes it
-pub can_take : {f : Problem} {all left more : List Line} {c : CheckState} {line : Line} → Checked f all left c → left ≡ line ∷ more → LineFits f line → kept_refusal c.problem c.kept line ≡ None
-can_take {f = f} {c = c} {line = line} h cut fits =
+pub can_take : {f : Problem} {all left more : List Line} {c : CheckState} {line : Line} → Checked f all left c → left ≡ line ∷ more → LineFits f line → is_plain line ≡ true → kept_refusal c.problem c.kept line ≡ None
+can_take {f = f} {c = c} {line = line} h cut fits plain =
     let valid = subst (ValidFrom f h.before) cut h.valid in
     let fits_there = subst (λ (g : Problem). LineFits g line) (sym h.problem) fits in
     let valid_there = subst (λ (g : Problem). ValidAfter g h.before line) (sym h.problem) valid.0 in
-    subst (λ (k : Kept). kept_refusal c.problem k line ≡ None) (sym h.follows.kept) (from_valid c.problem h.before line fits_there valid_there)
+    subst (λ (k : Kept). kept_refusal c.problem k line ≡ None) (sym h.follows.kept) (from_valid c.problem h.before line fits_there (plain_judge c.problem h.before line plain) valid_there)
 
 pub one_taken : {f : Problem} {all left more : List Line} {c d : CheckState} {line : Line} → (h : Checked f all left c) → left ≡ line ∷ more → d.problem ≡ c.problem → Follows d (h.before ++ line ∷ []) → Checked f all more d
 one_taken {f = f} {all = all} {more = more} {line = line} h cut same follows = record {

@@ -14,3 +14,4 @@ mod OwnStatus
 mod OneClash
 mod OneChart
 mod OwnedClash
+mod Verified

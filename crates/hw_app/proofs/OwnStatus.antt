@@ -8,6 +8,7 @@ use Rattle.hw_desk.specs.declared.desk.Tray.TheVariants.{Proof}
 use Rattle.hw_lines.specs.declared.line.Line.{Line}
 use Rattle.hw_lines.specs.declared.check.Verdict.{Verdict}
 use Rattle.hw_lines.specs.Lines.{best_of}
+use Rattle.hw_lines.specs.Tolled.{is_plain}
 use Rattle.hw_lines.specs.Valid.{LineFits, Valid, verdict}
 use Rattle.hw_cert.specs.declared.version.Version.TheVariants.{Two}
 use Rattle.hw_cert.specs.Stream.{overlong, cert_stream}
@@ -38,9 +39,10 @@ use Rattle.hw_app.proofs.Shown.{decided_by}
 
 -- ---- what a search wrote
 
--- the bytes are the text of valid lines of the problem, whose verdict has this status
+-- the bytes are the text of valid plain lines of the problem, whose verdict has this status
 pub record Wrote (f : Problem) (bytes : List ℕ) (s : Status) : Type 0 where
   pub lines : List Line
+  pub plain : All (λ line. is_plain line ≡ true) lines
   pub fit : All (LineFits f) lines
   pub valid : Valid f lines
   pub text : bytes ≡ cert_text Two lines
@@ -55,6 +57,7 @@ same_status heads.Memory best e = absurd (cc)
 wrote : {f : Problem} {budget : ℕ} {head : Head} {table : Option (List ℕ)} {bytes : List ℕ} (s : Status) → s ≡ status_of_head head → is_answer s ≡ true → IsCertificate f budget (SolveLines f) head table bytes → Wrote f bytes s
 wrote {f = f} {head = head} s ended answer c = record {
   lines = c.lines;
+  plain = c.written.plain;
   fit = c.written.fit;
   valid = c.written.valid;
   text = c.text;
@@ -63,7 +66,7 @@ wrote {f = f} {head = head} s ended answer c = record {
 
 -- what a check of it comes to
 comes : {f : Problem} {bytes : List ℕ} {s : Status} (w : Wrote f bytes s) → IsFlat f → ((cert_stream (shape_of f) bytes).stop ≡ overlong) ⊎ (cert_outcome f bytes ≡ Shows (verdict f w.lines))
-comes {f = f} w limits = subst (λ (bs : List ℕ). ((cert_stream (shape_of f) bs).stop ≡ overlong) ⊎ (cert_outcome f bs ≡ Shows (verdict f w.lines))) (sym w.text) (own_certificate f w.lines limits w.fit w.valid)
+comes {f = f} w limits = subst (λ (bs : List ℕ). ((cert_stream (shape_of f) bs).stop ≡ overlong) ⊎ (cert_outcome f bs ≡ Shows (verdict f w.lines))) (sym w.text) (own_certificate f w.lines limits w.plain w.fit w.valid)
 
 -- ---- of a flat text
 

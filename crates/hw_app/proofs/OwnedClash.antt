@@ -23,6 +23,6 @@ own_clash f text kept drops all flat is_text told within =
     let g = part f kept in
     let plan = report_text (clashed kept drops) in
     let bytes = cert_text Two all in
-    by_outcome (own_certificate g all (part_fits f kept flat).limits told.found.proof.fit told.found.proof.valid)
+    by_outcome (own_certificate g all (part_fits f kept flat).limits told.found.proof.plain told.found.proof.fit told.found.proof.valid)
     (flat_is text plan bytes f is_text ∙ plan_within f plan bytes within ∙ ap (λ read. clash_report f read bytes) told.back)
     (ap (λ v. report_of_part (Shows v)) told.found.shown)

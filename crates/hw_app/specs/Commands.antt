@@ -8,7 +8,7 @@ use Rattle.hw_app.specs.Forms.{form_of, word_at, number_in}
 use Rattle.hw_app.specs.declared.command.Command.{Command as Told}
 use Rattle.hw_app.specs.declared.command.Command.TheVariants as told
 use Rattle.hw_app.specs.declared.form.Form.{Form}
-use Rattle.hw_app.specs.declared.form.Form.TheVariants.{SolveFlat, SolvePort, CheckFlat, CheckPort, ChartFlat, ChartPort, RenewFlat, RenewPort, CrewFlat, CrewPort, RepairFlat, RepairPort, CheckRepair, CheckRepairPort, ClashFlat, ClashPort, CheckClash, CheckClashPort, ExplainPort, AuditPort, Flatten, Demo}
+use Rattle.hw_app.specs.declared.form.Form.TheVariants.{SolveFlat, SolvePort, CheckFlat, CheckPort, VerifyFlat, VerifyPort, ChartFlat, ChartPort, RenewFlat, RenewPort, CrewFlat, CrewPort, RepairFlat, RepairPort, CheckRepair, CheckRepairPort, ClashFlat, ClashPort, CheckClash, CheckClashPort, ExplainPort, AuditPort, Flatten, Demo}
 use Rattle.hw_app.specs.declared.form.Quantity.TheVariants.{Demonstration, Ships, Slots, Budget}
 
 -- in the order of the words
@@ -21,6 +21,10 @@ pub data Command : Type 0 where
   check_flat : List ℕ → List ℕ → Command
   -- the instance, the tide table, the certificate
   check_port : List ℕ → List ℕ → List ℕ → Command
+  -- the flat text, the certificate
+  verify_flat : List ℕ → List ℕ → Command
+  -- the instance, the tide table, the certificate
+  verify_port : List ℕ → List ℕ → List ℕ → Command
   -- the flat text, the certificate
   chart_flat : List ℕ → List ℕ → Command
   -- the instance, the tide table, the certificate
@@ -64,6 +68,8 @@ command_in SolveFlat words = solve_flat (word_at words 2) (number_in Budget (wor
 command_in SolvePort words = solve_port (word_at words 2) (word_at words 3) (number_in Budget (word_at words 4)) (word_at words 5)
 command_in CheckFlat words = check_flat (word_at words 2) (word_at words 3)
 command_in CheckPort words = check_port (word_at words 2) (word_at words 3) (word_at words 4)
+command_in VerifyFlat words = verify_flat (word_at words 2) (word_at words 3)
+command_in VerifyPort words = verify_port (word_at words 2) (word_at words 3) (word_at words 4)
 command_in ChartFlat words = chart_flat (word_at words 2) (word_at words 3)
 command_in ChartPort words = chart_port (word_at words 2) (word_at words 3) (word_at words 4)
 command_in RenewFlat words = renew_flat (word_at words 2) (word_at words 3) (word_at words 4)
@@ -100,6 +106,8 @@ KeepsLimits (solve_flat name budget proof) = IsBudget budget
 KeepsLimits (solve_port instance tides budget proof) = IsBudget budget
 KeepsLimits (check_flat name cert) = ⊤
 KeepsLimits (check_port instance tides cert) = ⊤
+KeepsLimits (verify_flat name cert) = ⊤
+KeepsLimits (verify_port instance tides cert) = ⊤
 KeepsLimits (chart_flat name cert) = ⊤
 KeepsLimits (chart_port instance tides cert) = ⊤
 KeepsLimits (renew_flat name cert proof) = ⊤
@@ -126,6 +134,8 @@ command_seen (told.SolveFlat name budget proof) = solve_flat name.now budget pro
 command_seen (told.SolvePort port budget proof) = solve_port port.instance.now port.tides.now budget proof.now
 command_seen (told.CheckFlat name cert) = check_flat name.now cert.now
 command_seen (told.CheckPort port cert) = check_port port.instance.now port.tides.now cert.now
+command_seen (told.VerifyFlat name cert) = verify_flat name.now cert.now
+command_seen (told.VerifyPort port cert) = verify_port port.instance.now port.tides.now cert.now
 command_seen (told.ChartFlat name cert) = chart_flat name.now cert.now
 command_seen (told.ChartPort port cert) = chart_port port.instance.now port.tides.now cert.now
 command_seen (told.RenewFlat name cert proof) = renew_flat name.now cert.now proof.now

@@ -6,6 +6,7 @@ use Rattle.hw_desk.specs.State.{DeskState}
 use Rattle.hw_desk.specs.declared.desk.Tray.TheVariants.{Proof}
 use Rattle.hw_lines.specs.declared.line.Line.{Line}
 use Rattle.hw_lines.specs.declared.check.Verdict.{Verdict}
+use Rattle.hw_lines.specs.Tolled.{is_plain}
 use Rattle.hw_lines.specs.Valid.{LineFits, Valid, verdict}
 use Rattle.hw_cert.specs.declared.version.Version.{Version}
 use Rattle.hw_cert.specs.declared.version.Version.TheVariants.{Two}
@@ -54,13 +55,13 @@ pub record ShowsExactly (f : Problem) (bytes : List ℕ) (v : Verdict) : Type 0 
 abbrev pub ShowsValid : Type 0
 ShowsValid = (f : Problem) (bytes : List ℕ) (v : Verdict) → ShowsExactly f bytes v
 
--- the text of valid lines, as a search writes it, is a certificate that shows the lines' verdict, unless it passes a limit
+-- the text of valid lines that say nothing of tolls or prices, as a search writes it, is a certificate that shows the lines' verdict, unless it passes a limit
 abbrev pub OwnCertificate : Type 0
-OwnCertificate = (f : Problem) (all : List Line) → IsFlat f → All (LineFits f) all → Valid f all → ((cert_stream (shape_of f) (cert_text Two all)).stop ≡ overlong) ⊎ (cert_outcome f (cert_text Two all) ≡ Shows (verdict f all))
+OwnCertificate = (f : Problem) (all : List Line) → IsFlat f → All (λ line. is_plain line ≡ true) all → All (LineFits f) all → Valid f all → ((cert_stream (shape_of f) (cert_text Two all)).stop ≡ overlong) ⊎ (cert_outcome f (cert_text Two all) ≡ Shows (verdict f all))
 
--- the text of valid lines renewed is a certificate that shows the lines' verdict, unless it passes a limit
+-- the text of such lines renewed is a certificate that shows the lines' verdict, unless it passes a limit
 abbrev pub RenewedCertificate : Type 0
-RenewedCertificate = (f : Problem) (all : List Line) → IsFlat f → All (LineFits f) all → Valid f all → ((cert_stream (shape_of f) (renewed_text all)).stop ≡ overlong) ⊎ (cert_outcome f (renewed_text all) ≡ Shows (verdict f all))
+RenewedCertificate = (f : Problem) (all : List Line) → IsFlat f → All (λ line. is_plain line ≡ true) all → All (LineFits f) all → Valid f all → ((cert_stream (shape_of f) (renewed_text all)).stop ≡ overlong) ⊎ (cert_outcome f (renewed_text all) ≡ Shows (verdict f all))
 
 -- no two reports are said
 abbrev pub OneReport : (Report → Type 0) → Type 0

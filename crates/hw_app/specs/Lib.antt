@@ -13,3 +13,4 @@ pub mod Run
 pub mod Laws
 pub mod LawsOfClashes
 pub mod LawsOfCharts
+pub mod LawsOfBounds

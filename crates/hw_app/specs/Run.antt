@@ -6,11 +6,13 @@ use Rattle.hw_report.specs.Reports.{bad_words}
 use Rattle.hw_command.specs.Carries.{Task, Carries}
 use Rattle.hw_command.specs.Ends.{Ends}
 use Rattle.hw_command.specs.declared.status.Status.{Status}
-use Rattle.hw_app.specs.Commands.{Command, solve_flat, solve_port, check_flat, check_port, chart_flat, chart_port, renew_flat, renew_port, crew_flat, crew_port, repair_flat, repair_port, check_repair, check_repair_port, clash_flat, clash_port, check_clash, check_clash_port, explain_port, audit_port, flatten, demo, command_of}
+use Rattle.hw_app.specs.Commands.{Command, solve_flat, solve_port, check_flat, check_port, verify_flat, verify_port, chart_flat, chart_port, renew_flat, renew_port, crew_flat, crew_port, repair_flat, repair_port, check_repair, check_repair_port, clash_flat, clash_port, check_clash, check_clash_port, explain_port, audit_port, flatten, demo, command_of}
 use Rattle.hw_app.specs.SolveFlat.{solve_flat_task}
 use Rattle.hw_app.specs.SolvePort.{solve_port_task}
 use Rattle.hw_app.specs.CheckFlat.{check_flat_task}
 use Rattle.hw_app.specs.CheckPort.{check_port_task}
+use Rattle.hw_verify_command.specs.VerifyFlat.{verify_flat_task}
+use Rattle.hw_verify_command.specs.VerifyPort.{verify_port_task}
 use Rattle.hw_chart_command.specs.ChartFlat.{chart_flat_task}
 use Rattle.hw_chart_command.specs.ChartPort.{chart_port_task}
 use Rattle.hw_app.specs.RenewFlat.{renew_flat_task}
@@ -36,6 +38,8 @@ task_of (solve_flat name budget proof) = solve_flat_task name budget proof
 task_of (solve_port instance tides budget proof) = solve_port_task instance tides budget proof
 task_of (check_flat name cert) = check_flat_task name cert
 task_of (check_port instance tides cert) = check_port_task instance tides cert
+task_of (verify_flat name cert) = verify_flat_task name cert
+task_of (verify_port instance tides cert) = verify_port_task instance tides cert
 task_of (chart_flat name cert) = chart_flat_task name cert
 task_of (chart_port instance tides cert) = chart_port_task instance tides cert
 task_of (renew_flat name cert proof) = renew_flat_task name cert proof

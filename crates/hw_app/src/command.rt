@@ -25,6 +25,14 @@ pub enum Command<'w> {
         port: PortNames<'w>,
         cert: &'w str,
     },
+    VerifyFlat {
+        name: &'w str,
+        cert: &'w str,
+    },
+    VerifyPort {
+        port: PortNames<'w>,
+        cert: &'w str,
+    },
     ChartFlat {
         name: &'w str,
         cert: &'w str,

@@ -1,12 +1,13 @@
 //! `demo NUMBER SHIPS SLOTS BUDGET PROOF`: a demonstration that is solved and checked.
 
-ghost use Rattle.std.specs.Prelude.{◌≡◌, ◌≤◌, ◌∷◌, ◌++◌, [], All, IfOk, List, None, length};
+ghost use Rattle.std.specs.Prelude.{◌≡◌, ◌≤◌, ◌∷◌, ◌++◌, [], All, IfOk, List, None, length, true};
 ghost use Rattle.hw_cert.specs.Logs.{memory_log};
 ghost use Rattle.hw_check.specs.Follows.{Follows};
 ghost use Rattle.hw_desk.specs.State.{IsNew};
 ghost use Rattle.hw_flat.specs.Demonstration.{demonstration};
 ghost use Rattle.hw_lines.specs.Lemmas.{lemmas_of};
 ghost use Rattle.hw_lines.specs.Refusals.{kept_refusal};
+ghost use Rattle.hw_lines.specs.Tolled.{is_plain};
 ghost use Rattle.hw_lines.specs.Valid.{LineFits, Valid, verdict};
 ghost use Rattle.hw_lines.specs.declared.line.Line.{Line as CertLine};
 ghost use Rattle.hw_progress.specs.Solving.{SolveMeets};
@@ -138,6 +139,7 @@ fn best_in(verdict: Verdict) -> Option<u64>
 
 /// Checks valid lines, one by one, and says what they show.
 fn check_all(alloc: Global, flat: &Flat, lines: &[Line]) -> Result<Verdict, NoMemory>
+    requires plain { All (λ line. is_plain line ≡ true) lines.now }
     requires fit { All (LineFits flat.now) lines.now }
     requires valid { Valid flat.now lines.now }
     ensures { IfOk result (λ shown. shown ≡ verdict flat.now lines.now) }

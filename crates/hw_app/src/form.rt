@@ -17,6 +17,10 @@ pub enum Form {
     CheckFlat,
     /// `check port INSTANCE TIDES CERT` checks a certificate of a port.
     CheckPort,
+    /// `verify flat NAME CERT` checks a certificate of a flat text, which may be of the third version, with its bound.
+    VerifyFlat,
+    /// `verify port INSTANCE TIDES CERT` checks a certificate of a port, which may be of the third version, with its bound.
+    VerifyPort,
     /// `chart flat NAME CERT` draws the plan that a certificate of a flat text shows.
     ChartFlat,
     /// `chart port INSTANCE TIDES CERT` draws the plan that a certificate of a port shows.
@@ -60,6 +64,7 @@ pub enum Form {
 pub enum Keyword {
     Solve,
     Check,
+    Verify,
     Chart,
     Renew,
     Crew,
@@ -101,11 +106,13 @@ pub enum Wanted {
 }
 
 /// The forms that there are.
-pub const FORMS: [Form; 22] = [
+pub const FORMS: [Form; 24] = [
     Form::SolveFlat,
     Form::SolvePort,
     Form::CheckFlat,
     Form::CheckPort,
+    Form::VerifyFlat,
+    Form::VerifyPort,
     Form::ChartFlat,
     Form::ChartPort,
     Form::RenewFlat,
@@ -135,6 +142,8 @@ const MOST_SLOTS: u32 = 512;
 const SOLVE: Wanted = Wanted::Keyword(Keyword::Solve);
 
 const CHECK: Wanted = Wanted::Keyword(Keyword::Check);
+
+const VERIFY: Wanted = Wanted::Keyword(Keyword::Verify);
 
 const CHART: Wanted = Wanted::Keyword(Keyword::Chart);
 
@@ -191,6 +200,8 @@ pub fn words_of(form: Form) -> &'static [Wanted]
         Form::SolvePort => &[SOLVE, PORT, INSTANCE, TIDES, BUDGET, PROOF],
         Form::CheckFlat => &[CHECK, FLAT, NAME, CERT],
         Form::CheckPort => &[CHECK, PORT, INSTANCE, TIDES, CERT],
+        Form::VerifyFlat => &[VERIFY, FLAT, NAME, CERT],
+        Form::VerifyPort => &[VERIFY, PORT, INSTANCE, TIDES, CERT],
         Form::ChartFlat => &[CHART, FLAT, NAME, CERT],
         Form::ChartPort => &[CHART, PORT, INSTANCE, TIDES, CERT],
         Form::RenewFlat => &[RENEW, FLAT, NAME, CERT, PROOF],
@@ -219,6 +230,7 @@ pub fn keyword_text(keyword: Keyword) -> &'static str
     match keyword {
         Keyword::Solve => "solve",
         Keyword::Check => "check",
+        Keyword::Verify => "verify",
         Keyword::Chart => "chart",
         Keyword::Renew => "renew",
         Keyword::Crew => "crew",

@@ -20,6 +20,7 @@ mod running;
 mod solve_flat;
 mod solve_port;
 mod usage;
+mod verify_laws;
 mod words;
 
 pub use calm::run_calm;
@@ -33,3 +34,4 @@ pub use laws::{
 };
 pub use running::run;
 pub use usage::put_usage;
+pub use verify_laws::{one_verification, printed_bounds, verified_as_checked};

@@ -23,6 +23,7 @@ use hw_crew_command::{crew_flat, crew_port};
 use hw_desk::Desk;
 use hw_repair_command::{check_repair, check_repair_port, repair_flat, repair_port};
 use hw_report::Report;
+use hw_verify_command::{verify_flat, verify_port};
 use std::alloc::Global;
 
 /// Does what the words say over a desk on which nothing was begun or made, and sends its report.
@@ -49,6 +50,8 @@ pub fn run<D: Desk>(alloc: Global, words: &[String], desk: &mut D) -> Status
         } => solve_port(alloc, desk, port, budget, proof),
         Command::CheckFlat { name, cert } => check_flat(alloc, desk, name, cert),
         Command::CheckPort { port, cert } => check_port(alloc, desk, port, cert),
+        Command::VerifyFlat { name, cert } => verify_flat(alloc, desk, name, cert),
+        Command::VerifyPort { port, cert } => verify_port(alloc, desk, port, cert),
         Command::ChartFlat { name, cert } => chart_flat(alloc, desk, name, cert),
         Command::ChartPort { port, cert } => chart_port(alloc, desk, port, cert),
         Command::RenewFlat { name, cert, proof } => renew_flat(alloc, desk, name, cert, proof),

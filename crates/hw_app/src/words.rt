@@ -122,6 +122,14 @@ fn command_in(form: Form, words: &[String]) -> Command<'_>
             port: port_at(words, 2),
             cert: name_at(words, 4),
         },
+        Form::VerifyFlat => Command::VerifyFlat {
+            name: name_at(words, 2),
+            cert: name_at(words, 3),
+        },
+        Form::VerifyPort => Command::VerifyPort {
+            port: port_at(words, 2),
+            cert: name_at(words, 4),
+        },
         Form::ChartFlat => Command::ChartFlat {
             name: name_at(words, 2),
             cert: name_at(words, 3),

@@ -1,0 +1,4 @@
+pub mod Bounded
+pub mod Verifying
+pub mod VerifyFlat
+pub mod VerifyPort
