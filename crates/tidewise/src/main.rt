@@ -2,19 +2,9 @@
 //! status's code.
 #![tactic(auto)]
 
-mod files;
-mod help;
-mod host;
-mod info;
-mod output;
-#[cfg(test)]
-mod tests;
-mod words;
-
-use host::HostDesk;
+use hw_host::{HostDesk, end_of};
 use std::env;
 use std::process::ExitCode;
-use words::end_of;
 
 fn main(rt: HostRuntime) -> ExitCode {
     let mut desk = HostDesk::new(&rt);
