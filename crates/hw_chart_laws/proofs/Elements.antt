@@ -1,0 +1,135 @@
+-- What a picture is written with are elements, their beginnings and their ends.
+use Rattle.std.proofs.Common.{◌≡◌, ◌++◌, ◌∙◌, ℕ, Bool, true, false, nat_lt, List, [], ◌∷◌, codes, decimal, refl, ap, append_assoc, append-nil, if◌then◌else◌, arith}
+use Rattle.std.proofs.lemmas.Grind.{common_steps}
+use Rattle.std.specs.List.{list_all}
+use Rattle.std.proofs.lemmas.Bool.{and_from}
+use Rattle.hw_svg.specs.Lettering.{line, name_line, text_begin}
+use Rattle.hw_svg.specs.Names.{byte_text, escaped}
+use Rattle.hw_svg.specs.Shapes.{area_path, shape, shape_begin, titled}
+use Rattle.hw_svg.specs.Sheets.{group_end, item_begin, list_begin, svg_end, title_end, window_begin}
+use Rattle.hw_svg.specs.Trees.{Attribute, Node, Nodes, words, element, no_more, node, nodes_text}
+use Rattle.hw_svg.specs.WellFormed.{attribute, on_a_line, shape_node, squeeze_attributes, place_attributes, title_node, window_attributes}
+use Rattle.hw_svg.specs.Widths.{width_of}
+use Rattle.hw_svg.specs.declared.area.Area.{Area}
+use Rattle.hw_svg.specs.declared.sheet.Window.{Window}
+use Rattle.hw_svg.proofs.Nested.{name_nested, titled_nested}
+use Rattle.hw_chart_laws.specs.Trees.{are_attributes, are_trees, is_attribute, is_name, is_other, is_tree}
+use Rattle.hw_chart_laws.proofs.Plain.{Plain, area, both, letters, number}
+use Rattle.hw_chart_laws.proofs.Spelled.{Spelled}
+use Rattle.hw_chart_laws.proofs.Writing.{Tags, Writing, svg, group}
+use Rattle.hw_chart_laws.proofs.Open.{Leads, begins, closes, grows, likewise, onward, start_text, unmoved}
+
+pub kept : (a : Attribute) (more : List Attribute) → is_name a.name ≡ true → Plain a.value → list_all (is_other a.name) more ≡ true → are_attributes more ≡ true → are_attributes (a ∷ more) ≡ true
+kept a more name value other rest = and_from (is_attribute a) _ (and_from (is_name a.name) _ name value.none) (and_from (list_all (is_other a.name) more) _ other rest)
+
+on_line_tree : (part : Node) → is_tree part ≡ true → are_trees (on_a_line part) ≡ true
+on_line_tree part p = and_from (is_tree part) _ p refl
+
+shape_same : (class path : List ℕ) → shape class path ≡ nodes_text (on_a_line (shape_node class path no_more))
+unfolding shape_begin byte_text
+shape_same class path = grind (arith, common_steps)
+
+shape_tree : {class path : List ℕ} (inside : Nodes) → Plain class → Plain path → are_trees inside ≡ true → is_tree (shape_node class path inside) ≡ true
+shape_tree {class = class} {path = path} inside c p t =
+    let d : List Attribute = attribute (codes "d") path ∷ [] in
+    and_from (are_attributes (attribute (codes "class") class ∷ d)) _ (kept (attribute (codes "class") class) d refl c refl (kept (attribute (codes "d") path) [] refl p refl refl)) t
+
+leads_shape : {a : Tags} {class path : List ℕ} → Plain class → Plain path → Leads a (shape class path) a
+leads_shape {class = class} {path = path} c p =
+    let part : Node = shape_node class path no_more in
+    likewise (shape_same class path) (grows (on_a_line part) (on_line_tree part (shape_tree no_more c p refl)))
+
+titled_same : (class : List ℕ) (a : Area) (title : List ℕ) → titled class a (escaped title) ≡ nodes_text (on_a_line (shape_node class (area_path a) (node (title_node title) no_more)))
+unfolding byte_text
+titled_same class a title = titled_nested class (area_path a) (escaped title)
+
+leads_titled : {o : Tags} {class title : List ℕ} (a : Area) → Plain class → Spelled title → Leads o (titled class a title) o
+leads_titled {class = class} {title = title} a c p =
+    let inside : Nodes = node (title_node p.from) no_more in
+    let part : Node = shape_node class (area_path a) inside in
+    likewise (ap (titled class a) p.same ∙ titled_same class a p.from) (grows (on_a_line part) (on_line_tree part (shape_tree inside c (area a) refl)))
+
+line_same : (class : List ℕ) (x y : ℕ) (text : List ℕ) → line class x y (escaped text) ≡ nodes_text (on_a_line (element (codes "text") (place_attributes class x y) (node (words text) no_more)))
+unfolding text_begin byte_text
+line_same class x y text = grind (arith, common_steps)
+
+placed : {class : List ℕ} (x y : ℕ) (more : List Attribute) → Plain class → list_all (is_other (codes "class")) more ≡ true → list_all (is_other (codes "x")) more ≡ true → list_all (is_other (codes "y")) more ≡ true → are_attributes more ≡ true → are_attributes (place_attributes class x y ++ more) ≡ true
+placed {class = class} x y more c p q r rest =
+    let v : List Attribute = attribute (codes "y") (decimal y) ∷ more in
+    let h : List Attribute = attribute (codes "x") (decimal x) ∷ v in
+    kept (attribute (codes "class") class) h refl c p (kept (attribute (codes "x") (decimal x)) v refl (number x) q (kept (attribute (codes "y") (decimal y)) more refl (number y) r rest))
+
+leads_line : {o : Tags} {class text : List ℕ} (x y : ℕ) → Plain class → Spelled text → Leads o (line class x y text) o
+leads_line {class = class} {text = text} x y c p =
+    let part : Node = element (codes "text") (place_attributes class x y) (node (words p.from) no_more) in
+    likewise (ap (line class x y) p.same ∙ line_same class x y p.from) (grows (on_a_line part) (on_line_tree part (and_from (are_attributes (place_attributes class x y)) _ (placed x y [] c refl refl refl refl) refl)))
+
+name_same : (class : List ℕ) (x y : ℕ) (name : List ℕ) (place : ℕ) → name_line class x y name place ≡ nodes_text (on_a_line (element (codes "text") (place_attributes class x y ++ squeeze_attributes name place) (node (words name) no_more)))
+unfolding byte_text
+name_same class x y name place = name_nested class x y (escaped name) place (nat_lt place (width_of name))
+
+named_tree : {class : List ℕ} (b : Bool) (x y : ℕ) (name : List ℕ) (place : ℕ) → Plain class → is_tree (element (codes "text") (place_attributes class x y ++ (if b then attribute (codes "textLength") (decimal place) ∷ attribute (codes "lengthAdjust") (codes "spacingAndGlyphs") ∷ [] else [])) (node (words name) no_more)) ≡ true
+named_tree {class = class} true x y name place c =
+    let last : List Attribute = attribute (codes "lengthAdjust") (codes "spacingAndGlyphs") ∷ [] in
+    let more : List Attribute = attribute (codes "textLength") (decimal place) ∷ last in
+    and_from (are_attributes (place_attributes class x y ++ more)) _ (placed x y more c refl refl refl (kept (attribute (codes "textLength") (decimal place)) last refl (number place) refl refl)) refl
+named_tree {class = class} false x y name place c = and_from (are_attributes (place_attributes class x y ++ [])) _ (placed x y [] c refl refl refl refl) refl
+
+leads_name : {o : Tags} {class : List ℕ} (x y : ℕ) (name : List ℕ) (place : ℕ) → Plain class → Leads o (name_line class x y name place) o
+leads_name {class = class} x y name place c =
+    let part : Node = element (codes "text") (place_attributes class x y ++ squeeze_attributes name place) (node (words name) no_more) in
+    likewise (name_same class x y name place) (grows (on_a_line part) (on_line_tree part (named_tree (nat_lt place (width_of name)) x y name place c)))
+
+abbrev newline : Nodes
+newline = node (words (codes "\n")) no_more
+
+window_same : (w : Window) → window_begin w ≡ start_text svg (window_attributes w) ++ nodes_text newline
+unfolding byte_text window_begin
+window_same w = simp (append_assoc, append-nil)
+
+window_kept : (w : Window) → are_attributes (window_attributes w) ≡ true
+window_kept w =
+    let a : List Attribute = attribute (codes "preserveAspectRatio") (codes "none") ∷ [] in
+    let box : Attribute = attribute (codes "viewBox") (codes "0 0 " ++ (decimal w.across ++ (codes " " ++ decimal w.down))) in
+    let b : List Attribute = box ∷ a in
+    let c : List Attribute = attribute (codes "height") (decimal w.height) ∷ b in
+    let d : List Attribute = attribute (codes "width") (decimal w.width) ∷ c in
+    let e : List Attribute = attribute (codes "y") (decimal w.y) ∷ d in
+    kept (attribute (codes "x") (decimal w.x)) e refl (number w.x) refl (kept (attribute (codes "y") (decimal w.y)) d refl (number w.y) refl (kept (attribute (codes "width") (decimal w.width)) c refl (number w.width) refl (kept (attribute (codes "height") (decimal w.height)) b refl (number w.height) refl (kept box a refl (both (letters (codes "0 0 ") refl) (both (number w.across) (both (letters (codes " ") refl) (number w.down)))) refl refl))))
+
+leads_window : {o : Tags} (w : Window) → Leads o (window_begin w) (svg ∷ o)
+leads_window w = likewise (window_same w) (begins svg (window_attributes w) newline refl (window_kept w) refl)
+
+leads_svg_end : {o : Tags} → Leads (svg ∷ o) svg_end o
+unfolding byte_text
+leads_svg_end = onward (closes svg) (grows newline refl)
+
+leads_group_end : {o : Tags} → Leads (group ∷ o) group_end o
+unfolding byte_text
+leads_group_end = onward (closes group) (grows newline refl)
+
+pub tree_writing : Writing Leads
+tree_writing = record {
+  none = unmoved;
+  onward = onward;
+  shaped = leads_shape;
+  named = leads_titled;
+  lettered = leads_line;
+  called = leads_name;
+  opened = leads_window;
+  closed = leads_svg_end;
+  finished = leads_group_end;
+}
+
+-- a list begins
+pub leads_list : {o : Tags} → Leads o list_begin (group ∷ o)
+unfolding byte_text
+leads_list = begins group (attribute (codes "role") (codes "list") ∷ []) newline refl refl refl
+
+item_same : (title : List ℕ) → item_begin ++ (escaped title ++ title_end) ≡ start_text group (attribute (codes "role") (codes "listitem") ∷ []) ++ nodes_text (node (title_node title) newline)
+unfolding byte_text
+item_same title = simp (append_assoc, append-nil)
+
+-- an item begins, with a title
+pub leads_item : {o : Tags} {title : List ℕ} → Spelled title → Leads o (item_begin ++ (title ++ title_end)) (group ∷ o)
+leads_item {title = title} p = likewise (ap (λ (l : List ℕ). item_begin ++ (l ++ title_end)) p.same ∙ item_same p.from) (begins group (attribute (codes "role") (codes "listitem") ∷ []) (node (title_node p.from) newline) refl refl refl)

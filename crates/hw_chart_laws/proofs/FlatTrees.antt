@@ -1,0 +1,92 @@
+-- The picture of a flat problem is one element of trees.
+use Rattle.std.proofs.Common.{◌≡◌, ◌++◌, ◌+◌, ℕ, zero, suc, Option, Some, None, List, [], ◌∷◌, codes, decimal, refl, sym, subst, append_assoc, append-nil}
+use Rattle.hw_lines.specs.declared.check.Verdict.{Verdict}
+use Rattle.hw_model.specs.Problem.{Problem, horizon}
+use Rattle.hw_svg.specs.Sheets.{group_end, item_begin, list_of, picture, picture_begin, svg_end, title_end}
+use Rattle.hw_chart.specs.declared.grid.Scale.TheVariants.{Slots}
+use Rattle.hw_chart.specs.declared.outcome.CargoUnit.TheVariants.{Plain as PlainUnit}
+use Rattle.hw_chart.specs.Grids.{grid, span_end}
+use Rattle.hw_chart.specs.Headings.{ground, heading_lines, style}
+use Rattle.hw_chart.specs.Layout.{stripe}
+use Rattle.hw_chart.specs.Outcomes.{badge, title_text}
+use Rattle.hw_chart.specs.Rows.{moves_window}
+use Rattle.hw_flat_chart.specs.declared.row.Row.{Row}
+use Rattle.hw_flat_chart.specs.Fleets.{fleets, span_of}
+use Rattle.hw_flat_chart.specs.Moves.{open_level}
+use Rattle.hw_flat_chart.specs.Pictures.{body, bottom, flat_picture, foot, head, legend, panels_y, planned_body, sizes, unplanned_body}
+use Rattle.hw_flat_chart.specs.Rows.{course_parts, course_text, nowhere_text, planned_row, planned_row_text, planned_rows, row_begin, row_label, row_title, row_y, unplanned_row, unplanned_row_text, unplanned_rows, values_text}
+use Rattle.hw_chart_laws.specs.Trees.{IsPicture}
+use Rattle.hw_chart_laws.proofs.Elements.{leads_item, leads_list, tree_writing}
+use Rattle.hw_chart_laws.proofs.FlatParts.{of_columns, of_legend, of_planned_panels, of_planned_rest, of_unplanned_panels, of_unplanned_rest, spelled_course, spelled_sizes}
+use Rattle.hw_chart_laws.proofs.Open.{Leads, likewise, onward, unmoved}
+use Rattle.hw_chart_laws.proofs.Reading.{item_text}
+use Rattle.hw_chart_laws.proofs.Shared.{head_lines, of_badge, of_grid, of_ground, of_span_end, plain_title}
+use Rattle.hw_chart_laws.proofs.Spelled.{Spelled, also, fixed, of_number}
+use Rattle.hw_chart_laws.proofs.Whole.{one_picture}
+use Rattle.hw_chart_laws.proofs.Writing.{Tags, group}
+
+-- the title of a row
+abbrev pub flat_title : Problem → Row → List ℕ
+flat_title f row = (codes "ship " ++ decimal row.ship) ++ course_text f row.ship row.course
+
+pub spelled_title : (f : Problem) (row : Row) → Spelled (flat_title f row)
+spelled_title f row = also (also (fixed (codes "ship ") refl) (of_number row.ship)) (spelled_course f row.ship row.course)
+
+-- what follows it
+abbrev pub planned_rest : Problem → List ℕ → Row → List ℕ
+planned_rest f table row = stripe row.rank (row_y row) ++ (row_label f row ++ (values_text f row ++ (moves_window (row_y row) row.span (open_level f table row.ship) (horizon f) ++ (course_parts f table row row.course ++ group_end))))
+
+abbrev pub unplanned_rest : Problem → Row → List ℕ
+unplanned_rest f row = stripe row.rank (row_y row) ++ (row_label f row ++ (values_text f row ++ (nowhere_text f row ++ group_end)))
+
+planned_parts : (ib sh nu ct te st lb vt mv cp ge : List ℕ) → ((ib ++ (sh ++ (nu ++ (ct ++ (te ++ []))))) ++ (st ++ (lb ++ (vt ++ [])))) ++ (mv ++ (cp ++ (ge ++ []))) ≡ (ib ++ (((sh ++ nu) ++ ct) ++ te)) ++ (st ++ (lb ++ (vt ++ (mv ++ (cp ++ ge)))))
+planned_parts ib sh nu ct te st lb vt mv cp ge = simp (append_assoc, append-nil)
+
+unplanned_parts : (ib sh nu ct te st lb vt nw ge : List ℕ) → ((ib ++ (sh ++ (nu ++ (ct ++ (te ++ []))))) ++ (st ++ (lb ++ (vt ++ [])))) ++ (nw ++ (ge ++ [])) ≡ (ib ++ (((sh ++ nu) ++ ct) ++ te)) ++ (st ++ (lb ++ (vt ++ (nw ++ ge))))
+unplanned_parts ib sh nu ct te st lb vt nw ge = simp (append_assoc, append-nil)
+
+pub planned_is : (f : Problem) (table : List ℕ) (row : Row) → planned_row_text f table row ≡ item_text (flat_title f row) (planned_rest f table row)
+unfolding planned_row_text row_begin row_title
+planned_is f table row = planned_parts item_begin (codes "ship ") (decimal row.ship) (course_text f row.ship row.course) title_end (stripe row.rank (row_y row)) (row_label f row) (values_text f row) (moves_window (row_y row) row.span (open_level f table row.ship) (horizon f)) (course_parts f table row row.course) group_end
+
+unplanned_is : (f : Problem) (row : Row) → unplanned_row_text f row ≡ item_text (flat_title f row) (unplanned_rest f row)
+unfolding unplanned_row_text row_begin row_title
+unplanned_is f row = unplanned_parts item_begin (codes "ship ") (decimal row.ship) (course_text f row.ship row.course) title_end (stripe row.rank (row_y row)) (row_label f row) (values_text f row) (nowhere_text f row) group_end
+
+lead_planned : {a : Tags} (f : Problem) (table : List ℕ) (ship count : ℕ) → Leads (group ∷ a) (planned_rows f table ship count) (group ∷ a)
+lead_planned f table ship zero = unmoved
+lead_planned f table ship (suc more) =
+    let row = planned_row f table ship in
+    onward (likewise (planned_is f table row) (onward (leads_item (spelled_title f row)) (of_planned_rest tree_writing f table row))) (lead_planned f table (ship + 1) more)
+
+lead_unplanned : {a : Tags} (f : Problem) (ship count : ℕ) → Leads (group ∷ a) (unplanned_rows f ship count) (group ∷ a)
+lead_unplanned f ship zero = unmoved
+lead_unplanned f ship (suc more) =
+    let row = unplanned_row f ship in
+    onward (likewise (unplanned_is f row) (onward (leads_item (spelled_title f row)) (of_unplanned_rest tree_writing f row))) (lead_unplanned f (ship + 1) more)
+
+lead_list : {a : Tags} {rows : List ℕ} → Leads (group ∷ a) rows (group ∷ a) → Leads a (list_of rows) a
+lead_list p = onward leads_list (onward p (onward tree_writing.finished unmoved))
+
+lead_body : {a : Tags} (f : Problem) (table : Option (List ℕ)) → Leads a (body f table) a
+unfolding body planned_body unplanned_body
+lead_body f None = onward (lead_list (lead_unplanned f 0 f.ships)) (onward (of_unplanned_panels tree_writing f (horizon f) (panels_y f) (fleets f)) unmoved)
+lead_body f (Some table) = onward (of_columns tree_writing) (onward (lead_list (lead_planned f table 0 f.ships)) (onward (of_planned_panels tree_writing f table (span_of f (Some table)) (panels_y f) (fleets f)) unmoved))
+
+pub arranged : (pb st gr ba hl lg bd gd se en : List ℕ) → ((pb ++ (st ++ (gr ++ (ba ++ (hl ++ []))))) ++ lg) ++ (bd ++ ((gd ++ (se ++ (en ++ []))) ++ [])) ≡ pb ++ ((st ++ (gr ++ (ba ++ (hl ++ (lg ++ (bd ++ (gd ++ se))))))) ++ (en ++ []))
+arranged pb st gr ba hl lg bd gd se en = simp (append_assoc, append-nil)
+
+abbrev middle : Problem → Option (List ℕ) → Verdict → List ℕ
+middle f table verdict = ground (bottom f + 28) ++ (badge verdict ++ (heading_lines PlainUnit verdict (sizes f) ++ (legend ++ (body f table ++ (grid Slots (span_of f table) (bottom f) ++ span_end (horizon f) (span_of f table) (bottom f))))))
+
+flat_is : (f : Problem) (table : Option (List ℕ)) (verdict : Verdict) → flat_picture f table verdict ≡ picture 1280 (bottom f + 28) (title_text PlainUnit verdict) (style ++ middle f table verdict)
+unfolding flat_picture head foot
+flat_is f table verdict = arranged (picture_begin 1280 (bottom f + 28) (title_text PlainUnit verdict)) style (ground (bottom f + 28)) (badge verdict) (heading_lines PlainUnit verdict (sizes f)) legend (body f table) (grid Slots (span_of f table) (bottom f)) (span_end (horizon f) (span_of f table) (bottom f)) svg_end
+
+lead_middle : (f : Problem) (table : Option (List ℕ)) (verdict : Verdict) → Leads [] (middle f table verdict) []
+lead_middle f table verdict =
+    onward (of_ground tree_writing (bottom f + 28)) (onward (of_badge tree_writing verdict) (onward (head_lines tree_writing PlainUnit verdict (spelled_sizes f)) (onward (of_legend tree_writing) (onward (lead_body f table) (onward (of_grid tree_writing Slots (span_of f table) (bottom f)) (of_span_end tree_writing (horizon f) (span_of f table) (bottom f)))))))
+
+pub flat_trees : (f : Problem) (table : Option (List ℕ)) (verdict : Verdict) → IsPicture (flat_picture f table verdict)
+flat_trees f table verdict =
+    subst IsPicture (sym (flat_is f table verdict)) (one_picture 1280 (bottom f + 28) (title_text PlainUnit verdict) (middle f table verdict) (plain_title PlainUnit verdict) (lead_middle f table verdict))

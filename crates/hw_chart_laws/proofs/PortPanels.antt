@@ -1,0 +1,114 @@
+-- The head of a port's picture, its tides, sections and tugs, made of what a picture is written with.
+use Rattle.std.proofs.Common.{◌≡◌, true, ◌++◌, ◌+◌, ◌-◌, ◌*◌, ℕ, ℤ, Bool, nat_eq, is_some, Option, Some, None, List, [], ◌∷◌, codes, decimal, refl, if◌then◌else◌}
+use Rattle.std.specs.List.{list_all}
+use Rattle.hw_port.specs.declared.parts.Pass.{Pass}
+use Rattle.hw_port.specs.declared.parts.Section.{Section}
+use Rattle.hw_port.specs.declared.parts.Stretch.{Stretch}
+use Rattle.hw_port.specs.declared.parts.Waypoint.{Waypoint}
+use Rattle.hw_port.specs.Parts.{ShipParts}
+use Rattle.hw_port_rules.specs.Numbers.{is_outgoing, whole}
+use Rattle.hw_chart.specs.declared.course.Course.{Course}
+use Rattle.hw_chart.specs.declared.course.Course.TheVariants.{Unplanned, Stays, Sails}
+use Rattle.hw_chart.specs.Layout.{plot}
+use Rattle.hw_port_chart.specs.declared.heights.Heights.{Heights}
+use Rattle.hw_port_chart.specs.declared.passing.Strip.{Strip}
+use Rattle.hw_port_chart.specs.declared.passing.Underway.{Underway}
+use Rattle.hw_port_chart.specs.Charts.{ChartParts, course, shown, tall_between, waypoint_name}
+use Rattle.hw_port_chart.specs.Fleets.{fleet_panel, held_in, panel_of}
+use Rattle.hw_port_chart.specs.Heads.{columns, columns_where, entry, legend, other_entries, sailing_entries, way_entries}
+use Rattle.hw_port_chart.specs.Lanes.{course_stays, lane_begin, lane_end, lane_text, lane_y, lanes_from, stay_of, stays_from, stretch_marks}
+use Rattle.hw_port_chart.specs.Passings.{course_marks, marks_from, pass_marks, passing, passing_area, underway}
+use Rattle.hw_port_chart.specs.Strips.{greatest_of, height_in, heights_of, least_of, strip_at_place, strip_heights, strip_label, strip_of, strip_text, strip_y, strips, strips_from, water_level}
+use Rattle.hw_chart_laws.specs.Trees.{is_plain}
+use Rattle.hw_chart_laws.proofs.Plain.{letters}
+use Rattle.hw_chart_laws.proofs.PortTexts.{plain_mark, plain_stay, spelled_passing, spelled_stay}
+use Rattle.hw_chart_laws.proofs.Shared.{figure, filled, five, four, if_so, of_planned, of_unplanned, says, three}
+use Rattle.hw_chart_laws.proofs.Spelled.{Spelled, also, fixed, nothing, of_height, of_metres}
+use Rattle.hw_chart_laws.proofs.Writing.{Tags, Writing, svg}
+
+module _ {P : Tags → List ℕ → Tags → Type 0} (w : Writing P) where
+  of_entry : {a : Tags} (class : List ℕ) (p : list_all is_plain class ≡ true) (x : ℕ) {text : List ℕ} → Spelled text → P a (entry class x text) a
+  of_entry class p x text = w.onward (filled w class p (record { left = x; right = x + 10; top = 77; bottom = 87 })) (says w (codes "m") refl (x + 14) 86 text)
+
+  of_sailing_entries : {a : Tags} → P a sailing_entries a
+  unfolding sailing_entries
+  of_sailing_entries = four w (of_entry (codes "wa") refl 16 (fixed (codes "tide") refl)) (of_entry (codes "dr") refl 70 (fixed (codes "may sail: the higher, the deeper") refl)) (of_entry (codes "fl") refl 258 (fixed (codes "with full draft") refl)) (of_entry (codes "pl") refl 358 (fixed (codes "could move there alone") refl))
+
+  of_way_entries : {a : Tags} → P a way_entries a
+  unfolding way_entries
+  of_way_entries = three w (of_entry (codes "ou") refl 502 (fixed (codes "sails out") refl)) (of_entry (codes "in") refl 578 (fixed (codes "comes in") refl)) (of_entry (codes "tu") refl 652 (fixed (codes "holds tugs") refl))
+
+  of_other_entries : {a : Tags} → P a other_entries a
+  unfolding other_entries
+  of_other_entries = three w (of_entry (codes "ba") refl 734 (fixed (codes "tugs turn round") refl)) (of_entry (codes "be") refl 838 (fixed (codes "berth not yet clear") refl)) (of_entry (codes "fu") refl 962 (fixed (codes "whole fleet held") refl))
+
+  pub of_legend : {a : Tags} → P a legend a
+  of_legend = three w of_sailing_entries of_way_entries of_other_entries
+
+  of_columns : {a : Tags} (y : ℕ) → P a (columns y) a
+  of_columns y = five w (says w (codes "m r") refl 956 y (fixed (codes "sails") refl)) (says w (codes "m r") refl 1020 y (fixed (codes "draft m") refl)) (says w (codes "m r") refl 1094 y (fixed (codes "allowed m") refl)) (says w (codes "m r") refl 1176 y (fixed (codes "under keel m") refl)) (says w (codes "m r") refl 1268 y (fixed (codes "cargo t") refl))
+
+  pub of_heads : {a : Tags} (table : Option (List ℕ)) (rows : ℕ) → P a (columns_where table rows) a
+  of_heads table rows = if_so w (is_some table) (of_columns (rows - 8))
+
+  of_passes : {a : Tags} (chart : ChartParts) (strip : Strip) (ship : Underway) (s : ShipParts) (passes : List Pass) → P a (pass_marks chart strip ship s passes) a
+  of_passes chart strip ship s [] = w.none
+  of_passes chart strip ship s (pass ∷ more) = w.onward (if_so w (nat_eq (whole pass.waypoint) strip.place) (w.named (passing_area strip (passing chart strip ship pass)) (plain_mark s) (spelled_passing s.name (waypoint_name chart strip.place) (passing chart strip ship pass)))) (of_passes chart strip ship s more)
+
+  of_course : {a : Tags} (chart : ChartParts) (strip : Strip) (v : ℕ) (s : ShipParts) (course : Course) → P a (course_marks chart strip v s course) a
+  of_course chart strip v s Unplanned = w.none
+  of_course chart strip v s Stays = w.none
+  of_course chart strip v s (Sails slot) = of_passes chart strip (underway chart v slot) s s.route
+
+  of_marks : {a : Tags} (chart : ChartParts) (strip : Strip) (v : ℕ) (ships : List ShipParts) → P a (marks_from chart strip v ships) a
+  of_marks chart strip v [] = w.none
+  of_marks chart strip v (s ∷ more) = w.onward (of_course chart strip v s (course chart v)) (of_marks chart strip (v + 1) more)
+
+  of_strip_label : {a : Tags} (strip : Strip) (name : List ℕ) → P a (strip_label strip name) a
+  of_strip_label strip name = w.onward (w.called 16 (strip_y strip + 16) name 148 (letters (codes "b") refl)) (says w (codes "m") refl 16 (strip_y strip + 32) (also (fixed (codes "charted ") refl) (also (of_metres strip.depth) (also (fixed (codes " m") refl) nothing))))
+
+  of_strip_heights : {a : Tags} (chart : ChartParts) (strip : Strip) → P a (strip_heights chart strip) a
+  of_strip_heights chart strip = says w (codes "m") refl 900 (strip_y strip + 16) (also (fixed (codes "tide ") refl) (also (of_height (least_of (height_in chart.tide strip.place) (shown chart))) (also (fixed (codes " to ") refl) (also (of_height (greatest_of (height_in chart.tide strip.place) (shown chart))) (also (fixed (codes " m") refl) nothing)))))
+
+  of_strip : {a : Tags} (chart : ChartParts) (strip : Strip) (name : List ℕ) → P a (strip_text chart strip name) a
+  of_strip chart strip name =
+      w.onward (of_strip_label strip name) (five w (w.opened (plot (strip_y strip) 40 chart.span (tall_between strip.low strip.high))) (figure w (codes "wa") refl (water_level chart.tide strip.place strip.high) 0 (shown chart) (tall_between strip.low strip.high)) (of_marks chart strip 0 chart.port.ships) w.closed (of_strip_heights chart strip))
+
+  of_place : {a : Tags} (chart : ChartParts) (heights : Heights) (place : ℕ) (waypoint : Waypoint) → P a (strip_at_place chart heights place waypoint) a
+  unfolding strip_at_place
+  of_place chart heights place waypoint = of_strip chart (strip_of heights place waypoint) waypoint.name
+
+  of_strips_from : {a : Tags} (chart : ChartParts) (heights : Heights) (place : ℕ) (waypoints : List Waypoint) → P a (strips_from chart heights place waypoints) a
+  of_strips_from chart heights place [] = w.none
+  of_strips_from chart heights place (waypoint ∷ more) = w.onward (of_place chart heights place waypoint) (of_strips_from chart heights (place + 1) more)
+
+  pub of_strips : {a : Tags} (chart : ChartParts) → P a (strips chart) a
+  of_strips chart = of_strips_from chart (heights_of chart.tide) 0 chart.port.waypoints
+
+  of_stretches : {a : Tags} (chart : ChartParts) (place : ℕ) (section : List ℕ) (s : ShipParts) (slot : ℕ) (channel : List Stretch) → P a (stretch_marks chart place section s slot channel) a
+  of_stretches chart place section s slot [] = w.none
+  of_stretches chart place section s slot (stretch ∷ more) = w.onward (if_so w (nat_eq (whole stretch.section) place) (w.named (record { left = slot + whole stretch.enter; right = slot + whole stretch.leave; top = if is_outgoing s then 0 else 1; bottom = (if is_outgoing s then 0 else 1) + 1 }) (plain_stay s) (spelled_stay s.name section (stay_of chart s slot stretch)))) (of_stretches chart place section s slot more)
+
+  of_course_stays : {a : Tags} (chart : ChartParts) (place : ℕ) (section : List ℕ) (s : ShipParts) (course : Course) → P a (course_stays chart place section s course) a
+  of_course_stays chart place section s Unplanned = w.none
+  of_course_stays chart place section s Stays = w.none
+  of_course_stays chart place section s (Sails slot) = of_stretches chart place section s slot s.channel
+
+  of_stays_from : {a : Tags} (chart : ChartParts) (place : ℕ) (section : List ℕ) (v : ℕ) (ships : List ShipParts) → P a (stays_from chart place section v ships) a
+  of_stays_from chart place section v [] = w.none
+  of_stays_from chart place section v (s ∷ more) = w.onward (of_course_stays chart place section s (course chart v)) (of_stays_from chart place section (v + 1) more)
+
+  of_lane_begin : {a : Tags} (chart : ChartParts) (section : List ℕ) (y : ℕ) → P a (lane_begin chart section y) (svg ∷ a)
+  of_lane_begin chart section y = three w (w.called 16 (y + 13) section 148 (letters (codes "b") refl)) (w.opened (plot y 18 chart.span 2)) (filled w (codes "wi") refl (record { left = 0; right = chart.span; top = 0; bottom = 2 }))
+
+  of_lane : {a : Tags} (chart : ChartParts) (place : ℕ) (section : List ℕ) → P a (lane_text chart place section) a
+  unfolding lane_text
+  of_lane chart place section = three w (of_lane_begin chart section (lane_y chart place)) (of_stays_from chart place section 0 chart.port.ships) (w.onward w.closed (says w (codes "m") refl 900 (lane_y chart place + 13) (fixed (codes "one way: out above, in below") refl)))
+
+  pub of_lanes : {a : Tags} (chart : ChartParts) (place : ℕ) (sections : List Section) → P a (lanes_from chart place sections) a
+  of_lanes chart place [] = w.none
+  of_lanes chart place (section ∷ more) = w.onward (of_lane chart place section.name) (of_lanes chart (place + 1) more)
+
+  pub of_fleet : {a : Tags} (chart : ChartParts) (table : Option (List ℕ)) → P a (fleet_panel chart table) a
+  of_fleet chart None = of_unplanned w (panel_of chart)
+  of_fleet chart (Some table) = of_planned w (panel_of chart) (held_in chart.port table)

@@ -1,0 +1,77 @@
+-- The picture of a port's plan is one element of trees.
+use Rattle.std.proofs.Common.{◌≡◌, ◌++◌, ◌∙◌, ◌+◌, ◌*◌, ℕ, Option, List, [], ◌∷◌, refl, sym, subst, append_assoc, append-nil}
+use Rattle.hw_lines.specs.declared.check.Verdict.{Verdict}
+use Rattle.hw_port.specs.Parts.{ShipParts}
+use Rattle.hw_port.specs.Whole.{Parts}
+use Rattle.hw_tide.specs.Levels.{TideParts}
+use Rattle.hw_port_rules.specs.Numbers.{horizon_of, whole}
+use Rattle.hw_svg.specs.Sheets.{group_end, item_begin, picture, picture_begin, svg_end, title_end}
+use Rattle.hw_chart.specs.declared.grid.Scale.TheVariants.{Minutes}
+use Rattle.hw_chart.specs.declared.outcome.CargoUnit.TheVariants.{Tonnes}
+use Rattle.hw_chart.specs.Headings.{ground, heading_lines, style}
+use Rattle.hw_chart.specs.Layout.{stripe}
+use Rattle.hw_chart.specs.Outcomes.{badge, title_text}
+use Rattle.hw_port_chart.specs.Charts.{ChartParts, course}
+use Rattle.hw_port_chart.specs.Heads.{columns_where, legend, places, sizes}
+use Rattle.hw_port_chart.specs.Pictures.{bottom, chart_of, horizon_line, panels, picture_of, port_picture, times}
+use Rattle.hw_port_chart.specs.Rows.{rank_in, ranked_row, row_left, row_right, row_windows, row_y, rows_from, ship_list}
+use Rattle.hw_port_chart.specs.Titles.{row_title}
+use Rattle.hw_chart_laws.specs.Trees.{IsPicture}
+use Rattle.hw_chart_laws.proofs.Elements.{leads_item, leads_list, tree_writing}
+use Rattle.hw_chart_laws.proofs.FlatTrees.{arranged}
+use Rattle.hw_chart_laws.proofs.Open.{Leads, likewise, onward, unmoved}
+use Rattle.hw_chart_laws.proofs.PortPanels.{of_fleet, of_heads, of_lanes, of_legend, of_strips}
+use Rattle.hw_chart_laws.proofs.PortRows.{of_row_rest}
+use Rattle.hw_chart_laws.proofs.PortTexts.{spelled_row, spelled_sizes}
+use Rattle.hw_chart_laws.proofs.Reading.{item_text}
+use Rattle.hw_chart_laws.proofs.Shared.{five, head_lines, of_badge, of_grid, of_ground, of_span_end, plain_title}
+use Rattle.hw_chart_laws.proofs.Whole.{one_picture}
+use Rattle.hw_chart_laws.proofs.Writing.{Tags, group}
+
+-- the title of a row, and what follows it
+abbrev pub port_title : ChartParts → ℕ → ShipParts → List ℕ
+port_title chart v s = row_title chart v s (course chart v)
+
+abbrev pub port_rest : ChartParts → ℕ → ShipParts → ℕ → List ℕ
+port_rest chart v s rank = stripe rank (row_y chart rank) ++ (row_left v s (row_y chart rank) ++ (row_windows chart v s (row_y chart rank) ++ (row_right chart v s (row_y chart rank) (course chart v) ++ group_end)))
+
+port_parts : (ib ti te st rl rw rr ge : List ℕ) → (ib ++ (ti ++ (te ++ (st ++ [])))) ++ (rl ++ (rw ++ (rr ++ (ge ++ [])))) ≡ (ib ++ (ti ++ te)) ++ (st ++ (rl ++ (rw ++ (rr ++ ge))))
+port_parts ib ti te st rl rw rr ge = simp (append_assoc, append-nil)
+
+pub ranked_is : (chart : ChartParts) (v : ℕ) (s : ShipParts) → ranked_row chart v s ≡ item_text (port_title chart v s) (port_rest chart v s (rank_in chart.table v))
+unfolding ranked_row
+ranked_is chart v s =
+    let rank = rank_in chart.table v in
+    let y = row_y chart rank in
+    port_parts item_begin (port_title chart v s) title_end (stripe rank y) (row_left v s y) (row_windows chart v s y) (row_right chart v s y (course chart v)) group_end
+
+lead_rows : {a : Tags} (chart : ChartParts) (v : ℕ) (ships : List ShipParts) → Leads (group ∷ a) (rows_from chart v ships) (group ∷ a)
+lead_rows chart v [] = unmoved
+lead_rows chart v (s ∷ more) =
+    onward (likewise (ranked_is chart v s) (onward (leads_item (spelled_row chart v s (course chart v))) (of_row_rest tree_writing chart v s (rank_in chart.table v)))) (lead_rows chart (v + 1) more)
+
+lead_ships : {a : Tags} (chart : ChartParts) → Leads a (ship_list chart) a
+lead_ships chart = onward leads_list (onward (lead_rows chart 0 chart.port.ships) (onward tree_writing.finished unmoved))
+
+lead_panels : {a : Tags} (chart : ChartParts) → Leads a (panels chart) a
+lead_panels chart = five tree_writing (of_strips tree_writing chart) (of_heads tree_writing chart.table ((places chart.port).rows)) (lead_ships chart) (of_lanes tree_writing chart 0 chart.port.sections) (of_fleet tree_writing chart chart.table)
+
+abbrev height_of : ChartParts → ℕ
+height_of chart = (places chart.port).bottom + 28
+
+abbrev middle : ChartParts → Verdict → List ℕ
+middle chart verdict = ground (height_of chart) ++ (badge verdict ++ (heading_lines Tonnes verdict (sizes chart.port) ++ (legend ++ (panels chart ++ (times chart ++ horizon_line chart)))))
+
+picture_is : (chart : ChartParts) (verdict : Verdict) → picture_of chart verdict ≡ picture 1280 (height_of chart) (title_text Tonnes verdict) (style ++ middle chart verdict)
+unfolding picture_of
+picture_is chart verdict = arranged (picture_begin 1280 (height_of chart) (title_text Tonnes verdict)) style (ground (height_of chart)) (badge verdict) (heading_lines Tonnes verdict (sizes chart.port)) legend (panels chart) (times chart) (horizon_line chart) svg_end
+
+lead_middle : (chart : ChartParts) (verdict : Verdict) → Leads [] (middle chart verdict) []
+lead_middle chart verdict =
+    onward (of_ground tree_writing (height_of chart)) (onward (of_badge tree_writing verdict) (onward (head_lines tree_writing Tonnes verdict (spelled_sizes chart.port)) (onward (of_legend tree_writing) (onward (lead_panels chart) (onward (of_grid tree_writing (Minutes (whole chart.port.slot_minutes)) chart.span (bottom chart)) (of_span_end tree_writing (horizon_of chart.port) chart.span (bottom chart)))))))
+
+pub port_trees : (p : Parts) (h : TideParts) (table : Option (List ℕ)) (verdict : Verdict) → IsPicture (port_picture p h table verdict)
+unfolding port_picture
+port_trees p h table verdict =
+    let chart = chart_of p h table in
+    subst IsPicture (sym (picture_is chart verdict)) (one_picture 1280 (height_of chart) (title_text Tonnes verdict) (middle chart verdict) (plain_title Tonnes verdict) (lead_middle chart verdict))

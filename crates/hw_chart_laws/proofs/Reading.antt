@@ -1,0 +1,71 @@
+-- What is read back from a text: numbers, the items of a list, and lists from their elements.
+use Rattle.std.proofs.Common.{◌≡◌, ◌<◌, ◌^◌, ◌++◌, ◌∙◌, ℕ, suc, true, false, List, [], ◌∷◌, codes, decimal, drop, get_or, length, refl, ap, sym, arith, append_assoc}
+use Rattle.std.specs.List.{list_all}
+use Rattle.std.proofs.lemmas.Bool.{both_ways, and_parts}
+use Rattle.std.proofs.lemmas.List.{append_cancel_left}
+use Rattle.std.proofs.lemmas.Fmt.{decimal_injective}
+use Rattle.hw_svg.specs.Sheets.{item_begin, list_begin, title_end}
+use Rattle.hw_svg.proofs.Digits.{is_digit, digits_of}
+use Rattle.hw_chart_laws.proofs.Calm.{Still, cut, cut_past}
+
+-- digits end where something else begins
+parted : (a b : List ℕ) (x : ℕ) (r s : List ℕ) → is_digit x ≡ false → list_all is_digit a ≡ true → list_all is_digit b ≡ true → a ++ x ∷ r ≡ b ++ x ∷ s → a ≡ b
+parted [] [] x r s none p q e = refl
+parted [] (d ∷ b) x r s none p q e = absurd (both_ways (is_digit x) none (ap is_digit (ap (λ (l : List ℕ). get_or l 0 0) e) ∙ (and_parts _ _ q).0))
+parted (c ∷ a) [] x r s none p q e = absurd (both_ways (is_digit x) none (ap is_digit (sym (ap (λ (l : List ℕ). get_or l 0 0) e)) ∙ (and_parts _ _ p).0))
+parted (c ∷ a) (d ∷ b) x r s none p q e =
+    let same : c ≡ d = ap (λ (l : List ℕ). get_or l 0 0) e in
+    let rest = parted a b x r s none (and_parts _ _ p).1 (and_parts _ _ q).1 (ap (drop 1) e) in
+    rw (same, rest) refl
+
+pub number_back : (m n x : ℕ) (r s : List ℕ) → is_digit x ≡ false → m < 2 ^ 64 → n < 2 ^ 64 → decimal m ++ x ∷ r ≡ decimal n ++ x ∷ s → m ≡ n
+number_back m n x r s none fits small e = decimal_injective m n fits small (parted (decimal m) (decimal n) x r s none (digits_of m fits) (digits_of n small) e)
+
+-- the same after what both begin with
+pub after_both : (p a b x y : List ℕ) → (p ++ a) ++ x ≡ (p ++ b) ++ y → a ++ x ≡ b ++ y
+after_both p a b x y e = append_cancel_left p (a ++ x) (b ++ y) (sym (append_assoc p a x) ∙ e ∙ append_assoc p b y)
+
+-- the text of an item with a title, and what follows it
+abbrev pub item_text : List ℕ → List ℕ → List ℕ
+item_text title rest = (item_begin ++ (title ++ title_end)) ++ rest
+
+spread : (title rest items z : List ℕ) → (item_text title rest ++ items) ++ z ≡ item_begin ++ (title ++ (title_end ++ (rest ++ (items ++ z))))
+spread title rest items z =
+    append_assoc (item_text title rest) items z
+    ∙ append_assoc (item_begin ++ (title ++ title_end)) rest (items ++ z)
+    ∙ ap (λ (l : List ℕ). item_begin ++ l) (append_assoc title title_end (rest ++ (items ++ z)))
+
+after_title : {title rest : List ℕ} (items z : List ℕ) → Still title → Still rest → cut (title ++ (title_end ++ (rest ++ (items ++ z)))) ≡ cut (items ++ z)
+after_title {title = title} {rest = rest} items z t r =
+    cut_past title (title_end ++ (rest ++ (items ++ z))) t.calm
+    ∙ cut_past title_end (rest ++ (items ++ z)) refl
+    ∙ cut_past rest (items ++ z) r.calm
+
+-- two lists of items that are the same from the first one on have the same title there, and are the same after it
+pub record Stepped (title rest items z title' rest' items' z' : List ℕ) : Type 0 where
+  pub here : title ++ (title_end ++ (rest ++ (items ++ z))) ≡ title' ++ (title_end ++ (rest' ++ (items' ++ z')))
+  pub later : cut (items ++ z) ≡ cut (items' ++ z')
+
+pub stepped : (title rest items z title' rest' items' z' : List ℕ) → Still title → Still rest → Still title' → Still rest' → cut ((item_text title rest ++ items) ++ z) ≡ cut ((item_text title' rest' ++ items') ++ z') → Stepped title rest items z title' rest' items' z'
+stepped title rest items z title' rest' items' z' t r t' r' e =
+    let whole : cut (item_begin ++ (title ++ (title_end ++ (rest ++ (items ++ z))))) ≡ cut (item_begin ++ (title' ++ (title_end ++ (rest' ++ (items' ++ z'))))) = ap cut (sym (spread title rest items z)) ∙ e ∙ ap cut (spread title' rest' items' z') in
+    let same = append_cancel_left (codes "g role=\"listitem\"><title>") (title ++ (title_end ++ (rest ++ (items ++ z)))) (title' ++ (title_end ++ (rest' ++ (items' ++ z')))) whole in
+    record {
+      here = same;
+      later = sym (after_title items z t r) ∙ ap cut same ∙ after_title items' z' t' r';
+    }
+
+-- a list is the same if what stands before it has no group
+pub list_back : (a b items z items' z' : List ℕ) → Still a → Still b → a ++ (list_begin ++ (items ++ z)) ≡ b ++ (list_begin ++ (items' ++ z')) → items ++ z ≡ items' ++ z'
+list_back a b items z items' z' p q e =
+    append_cancel_left (codes "g role=\"list\">\n") (items ++ z) (items' ++ z') (sym (cut_past a (list_begin ++ (items ++ z)) p.calm) ∙ ap cut e ∙ cut_past b (list_begin ++ (items' ++ z')) q.calm)
+
+-- lists of the same length with the same numbers are the same
+pub all_same : (xs ys : List ℕ) → length xs ≡ length ys → ((k : ℕ) → k < length xs → get_or xs k 0 ≡ get_or ys k 0) → xs ≡ ys
+all_same [] [] e same = refl
+all_same [] (y ∷ ys) e same = absurd (omega (arith, e))
+all_same (x ∷ xs) [] e same = absurd (omega (arith, e))
+all_same (x ∷ xs) (y ∷ ys) e same =
+    let first : x ≡ y = same 0 (omega arith) in
+    let rest : xs ≡ ys = all_same xs ys (omega (arith, e)) (λ k lt. same (suc k) (omega (arith, lt))) in
+    rw (first, rest) refl

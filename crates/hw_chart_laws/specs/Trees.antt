@@ -1,0 +1,66 @@
+-- Trees of elements as XML wants them, and pictures made of them.
+use Rattle.std.specs.Prelude.{◌≡◌, ◌++◌, ◌&&◌, ◌||◌, ℕ, Bool, true, false, not, nat_eq, nat_le, bytes_eq, List, [], ◌∷◌, codes}
+use Rattle.std.specs.List.{list_all}
+use Rattle.hw_svg.specs.Joined.{joined}
+use Rattle.hw_svg.specs.Marks.{is_word}
+use Rattle.hw_svg.specs.Trees.{Attribute, Node, Nodes, words, element, no_more, node, attributes_text, nodes_text}
+
+-- none of the marks < > " ' &
+abbrev pub is_plain : ℕ → Bool
+is_plain b = is_word b && not (nat_eq b 38)
+
+-- a letter
+abbrev pub is_letter : ℕ → Bool
+is_letter b = (nat_le 65 b && nat_le b 90) || (nat_le 97 b && nat_le b 122)
+
+-- a letter, a dash or a colon
+abbrev pub is_name_byte : ℕ → Bool
+is_name_byte b = is_letter b || nat_eq b 45 || nat_eq b 58
+
+-- a name of an element or an attribute begins with a letter
+abbrev pub is_name : List ℕ → Bool
+is_name [] = false
+is_name (b ∷ bs) = is_letter b && list_all is_name_byte bs
+
+-- an attribute has a name, and no mark stands in its value
+abbrev pub is_attribute : Attribute → Bool
+is_attribute a = is_name a.name && list_all is_plain a.value
+
+-- an attribute has another name than this
+abbrev pub is_other : List ℕ → Attribute → Bool
+is_other name a = not (bytes_eq name a.name)
+
+-- attributes, no two of which have the same name
+abbrev pub are_attributes : List Attribute → Bool
+are_attributes [] = true
+are_attributes (a ∷ more) = is_attribute a && (list_all (is_other a.name) more && are_attributes more)
+
+abbrev mutual
+  -- an element has a name and attributes, and what stands in it is as it must be too
+  pub is_tree : Node → Bool
+  is_tree (words text) = true
+  is_tree (element tag attributes inside) = is_name tag && (are_attributes attributes && are_trees inside)
+
+  pub are_trees : Nodes → Bool
+  are_trees no_more = true
+  are_trees (node first more) = is_tree first && are_trees more
+
+-- a byte of a style sheet, which stands in a picture as it is
+abbrev pub is_sheet : ℕ → Bool
+is_sheet b = not (nat_eq b 60 || nat_eq b 38)
+
+-- trees, a style sheet and trees
+abbrev pub inside : Nodes → List ℕ → Nodes → List ℕ
+inside before sheet after = nodes_text before ++ (codes "<style>" ++ (sheet ++ (codes "</style>\n" ++ nodes_text after)))
+
+-- a text is one svg element and a line feed; in it trees stand before a style sheet and after it
+pub record IsPicture (text : List ℕ) : Type 0 where
+  pub attributes : List Attribute
+  pub before : Nodes
+  pub sheet : List ℕ
+  pub after : Nodes
+  pub named : are_attributes attributes ≡ true
+  pub heads : are_trees before ≡ true
+  pub styled : list_all is_sheet sheet ≡ true
+  pub parts : are_trees after ≡ true
+  pub same : text ≡ joined (codes "<svg" ∷ attributes_text attributes ∷ codes ">" ∷ inside before sheet after ∷ codes "</svg>" ∷ []) ++ codes "\n"
