@@ -13,25 +13,25 @@ use Rattle.hw_cert.specs.declared.version.Version.TheVariants.{One, Two, Three}
 use Rattle.hw_cert.specs.Spelled.{is_within, version_to}
 use Rattle.hw_cert.specs.Fits.{line_read}
 use Rattle.hw_cert.specs.Stream.{Position, Cut, nothing, whole, unended, long, cut_of, behind, line_by, line_next, CertLines, onward, lines_from, lines_by, lines_after, cert_stream_to}
-use Rattle.hw_cert.specs.Laws.{has_form, PlainForms, ReadForms, PlainRead}
+use Rattle.hw_cert.specs.Laws.{has_form, PlainForms, ThirdForms, ReadForms, PlainRead}
 use Rattle.hw_cert.proofs.WordBytes.{both_on}
 use Rattle.hw_cert.proofs.FormBack.{read_text}
 use Rattle.hw_cert.proofs.Headers.{header_back}
 
 -- ---- forms of versions
 
-three_has : (line : Line) → has_form Three line ≡ true
-three_has (lines.Table table) = refl
-three_has (lines.Explain n clause) = refl
-three_has (lines.Order v w x clause) = refl
-three_has (lines.Goal clause) = refl
-three_has (lines.Lemma clause hints) = refl
-three_has (lines.Delete ids) = refl
-three_has (lines.Narrows blocks) = refl
-three_has (lines.Tugs n slot most weights) = refl
-three_has (lines.Tariff scale prices) = refl
-three_has (lines.Priced clause) = refl
-three_has (lines.Bound bound) = refl
+pub third_forms : ThirdForms
+third_forms (lines.Table table) = refl
+third_forms (lines.Explain n clause) = refl
+third_forms (lines.Order v w x clause) = refl
+third_forms (lines.Goal clause) = refl
+third_forms (lines.Lemma clause hints) = refl
+third_forms (lines.Delete ids) = refl
+third_forms (lines.Narrows blocks) = refl
+third_forms (lines.Tugs n slot most weights) = refl
+third_forms (lines.Tariff scale prices) = refl
+third_forms (lines.Priced clause) = refl
+third_forms (lines.Bound bound) = refl
 
 two_has : (line : Line) → has_form One line ≡ true → has_form Two line ≡ true
 two_has (lines.Table table) h = refl
@@ -50,7 +50,7 @@ two_has (lines.Bound bound) h = h
 pub later_has : (most version : Version) (line : Line) → is_within most version ≡ true → has_form version line ≡ true → has_form most line ≡ true
 later_has One One line within h = h
 later_has Two One line within h = two_has line h
-later_has Three version line within h = three_has line
+later_has Three version line within h = third_forms line
 later_has One Two line within h = absurd cc
 later_has Two Two line within h = h
 later_has One Three line within h = absurd cc
@@ -75,6 +75,11 @@ plain_formed [] h = refl
 plain_formed (line ∷ all) h =
     let p = and_parts (is_plain line) (list_all is_plain all) h in
     both_on (has_form Two line) (list_all (has_form Two) all) (plain_forms line ∙ p.0) (plain_formed all p.1)
+
+-- all lines have forms of the third version
+pub third_formed : (all : List Line) → list_all (has_form Three) all ≡ true
+third_formed [] = refl
+third_formed (line ∷ all) = both_on (has_form Three line) (list_all (has_form Three) all) (third_forms line) (third_formed all)
 
 formed_plain : (all : List Line) → list_all (has_form Two) all ≡ true → list_all is_plain all ≡ true
 formed_plain [] h = refl

@@ -27,6 +27,7 @@ pub mod FormText
 pub mod SmallNumbers
 pub mod TollLimits
 pub mod ValidText
+pub mod ValidCerts
 pub mod ToldText
 pub mod Chosen
 mod Overlong

@@ -1,5 +1,5 @@
 -- Which lines have a form of a version, and the laws that tie them to their text.
-use Rattle.std.specs.Prelude.{◌≡◌, ℕ, ◌<◌, List, All, Some, Ok, ⊤, true, length}
+use Rattle.std.specs.Prelude.{◌≡◌, ◌⊎◌, ℕ, ◌<◌, List, All, Some, Ok, ⊤, true, length}
 use Rattle.std.specs.List.{list_all}
 use Rattle.hw_model.specs.Problem.{Problem, shape_of}
 use Rattle.hw_model.specs.Limits.{IsFlat}
@@ -7,9 +7,11 @@ use Rattle.hw_lines.specs.declared.line.Line.{Line}
 use Rattle.hw_lines.specs.declared.line.Line.TheVariants as lines
 use Rattle.hw_lines.specs.Valid.{LineFits, Valid}
 use Rattle.hw_cert.specs.declared.version.Version.{Version}
+use Rattle.hw_cert.specs.declared.version.Version.TheVariants.{Three}
 use Rattle.hw_cert.specs.Texts.{line_text, cert_text}
 use Rattle.hw_cert.specs.Spelled.{is_within, spelled}
 use Rattle.hw_cert.specs.Certs.{cert_read_to}
+use Rattle.hw_cert.specs.Stream.{complete, overlong, cert_stream_to}
 use Rattle.hw_cert.specs.Laws.{line_numbers, wide_numbers, has_form, is_small, is_wide}
 
 -- a table has a slot, a deletion a number, and a narrows a block
@@ -48,3 +50,17 @@ FormSpelled = (version : Version) (bytes : List ℕ) (line : Line) → SpellsFor
 abbrev pub ValidReads : Type 0
 ValidReads = (most version : Version) (f : Problem) (all : List Line) → is_within most version ≡ true → IsFlat f → All (LineFits f) all → Valid f all → list_all (has_form version) all ≡ true
     → cert_read_to most (shape_of f) (cert_text version all) ≡ Ok (record { version = version; lines = all })
+
+-- the lines of that text are these lines, and they end well, unless one of them passes a limit
+abbrev pub ValidStreams : Type 0
+ValidStreams = (most version : Version) (f : Problem) (all : List Line) → is_within most version ≡ true → IsFlat f → All (LineFits f) all → Valid f all → list_all (has_form version) all ≡ true
+    → ((cert_stream_to most (shape_of f) (cert_text version all)).stop ≡ overlong) ⊎ (cert_stream_to most (shape_of f) (cert_text version all) ≡ record { lines = all; stop = complete })
+
+-- so it is of the third version with valid lines of any form: their text reads back as these lines
+abbrev pub ThirdReads : Type 0
+ThirdReads = (f : Problem) (all : List Line) → IsFlat f → All (LineFits f) all → Valid f all → cert_read_to Three (shape_of f) (cert_text Three all) ≡ Ok (record { version = Three; lines = all })
+
+-- and they are the lines of that text, unless one of them passes a limit
+abbrev pub ThirdStreams : Type 0
+ThirdStreams = (f : Problem) (all : List Line) → IsFlat f → All (LineFits f) all → Valid f all
+    → ((cert_stream_to Three (shape_of f) (cert_text Three all)).stop ≡ overlong) ⊎ (cert_stream_to Three (shape_of f) (cert_text Three all) ≡ record { lines = all; stop = complete })

@@ -134,6 +134,10 @@ CertSpelled = (most : Version) (shape : Shape) (bytes : List ℕ) (version : Ver
 abbrev pub PlainForms : Type 0
 PlainForms = (line : Line) → has_form Two line ≡ is_plain line
 
+-- the third version has the forms of all lines
+abbrev pub ThirdForms : Type 0
+ThirdForms = (line : Line) → has_form Three line ≡ true
+
 -- lines that are read up to a version have its forms
 abbrev pub ReadForms : Type 0
 ReadForms = (most : Version) (shape : Shape) (bytes : List ℕ) → list_all (has_form most) (cert_stream_to most shape bytes).lines ≡ true

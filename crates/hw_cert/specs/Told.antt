@@ -7,18 +7,27 @@ use Rattle.hw_desk.specs.Calls.{Sends}
 use Rattle.hw_desk.specs.declared.desk.Tray.TheVariants.{Proof}
 use Rattle.hw_lines.specs.declared.line.Line.{Line}
 use Rattle.hw_lines.specs.declared.line.Line.TheVariants.{Table, Delete, Narrows}
+use Rattle.hw_cert.specs.declared.version.Version.{Version}
 use Rattle.hw_cert.specs.declared.version.Version.TheVariants.{Two, Three}
 use Rattle.hw_cert.specs.Texts.{header_text, cert_text}
 use Rattle.hw_cert.specs.Spelled.{spelled}
 use Rattle.hw_cert.specs.Logs.{LogAnchor, LogTold, LogModel, outside_of}
 
--- the header's line with its end
-abbrev pub header_line : List ℕ
-header_line = header_text Two ++ 10 ∷ []
+-- the header's line of a version with its end
+abbrev pub header_of : Version → List ℕ
+header_of version = header_text version ++ 10 ∷ []
 
--- the header was not sent whole: a proper prefix of it was, and then a write failed
+-- the same of the second version
+abbrev pub header_line : List ℕ
+header_line = header_of Two
+
+-- the header of a version was not sent whole: a proper prefix of it was, and then a write failed
+abbrev pub FailsHeaderOf : Version → DeskState → DeskState → Type 0
+FailsHeaderOf version old new = ((n : ℕ) × (n < length (header_of version)) × Sends Proof (take n (header_of version)) old new) × Rose old.write_faults new.write_faults
+
+-- the same of the second version
 abbrev pub FailsHeader : DeskState → DeskState → Type 0
-FailsHeader old new = ((n : ℕ) × (n < length header_line) × Sends Proof (take n header_line) old new) × Rose old.write_faults new.write_faults
+FailsHeader = FailsHeaderOf Two
 
 -- the bytes after others, if they begin with those
 abbrev pub behind_text : List ℕ → List ℕ → Option (List ℕ)
@@ -51,27 +60,51 @@ parts_told (part ∷ next ∷ parts) = with_line (line_told part) (parts_told (n
 abbrev pub lines_told : List ℕ → Option LogTold
 lines_told bytes = parts_told (parts_of 10 bytes)
 
--- what bytes tell, the header first
+-- what bytes tell, the header of this version first
+abbrev pub told_under : Version → List ℕ → Option LogTold
+told_under version bytes = option_and_then lines_told (behind_text (header_of version) bytes)
+
+-- the same of the second version
 abbrev pub bytes_told : List ℕ → Option LogTold
-bytes_told bytes = option_and_then lines_told (behind_text header_line bytes)
+bytes_told = told_under Two
 
--- what was sent is the header, whole lines and bytes after them, where it is told
+-- what was sent is the header of this version, whole lines and bytes after them, where it is told
+abbrev pub is_told_under : Version → Option (List ℕ) → Bool
+is_told_under version None = true
+is_told_under version (Some bytes) = is_some (told_under version bytes)
+
+-- the same of the second version
 abbrev pub is_told : Option (List ℕ) → Bool
-is_told None = true
-is_told (Some bytes) = is_some (bytes_told bytes)
+is_told = is_told_under Two
 
--- bytes that are the text of these lines, and after it bytes without a line feed
-pub record IsTextOf (told : LogTold) (bytes : List ℕ) : Type 0 where
-  pub text : bytes ≡ cert_text Two told.lines ++ told.behind
+-- bytes that are the text of these lines in a certificate of this version, and after it bytes without a line feed
+pub record IsTextUnder (version : Version) (told : LogTold) (bytes : List ℕ) : Type 0 where
+  pub text : bytes ≡ cert_text version told.lines ++ told.behind
   pub no_end : lacks 10 told.behind ≡ true
 
--- bytes tell lines only where they are the text of these
-abbrev pub TextTold : Type 0
-TextTold = (bytes : List ℕ) (told : LogTold) → bytes_told bytes ≡ Some told → IsTextOf told bytes
+-- the same of the second version
+abbrev pub IsTextOf : LogTold → List ℕ → Type 0
+IsTextOf = IsTextUnder Two
 
--- the log whose text a desk sent to Proof
+-- bytes tell lines under a version only where they are the text of these
+abbrev pub TextToldUnder : Version → Type 0
+TextToldUnder version = (bytes : List ℕ) (told : LogTold) → told_under version bytes ≡ Some told → IsTextUnder version told bytes
+
+-- the same of the second version
+abbrev pub TextTold : Type 0
+TextTold = TextToldUnder Two
+
+-- the same of each version
+abbrev pub EachTextTold : Type 0
+EachTextTold = (version : Version) → TextToldUnder version
+
+-- the log whose text a desk sent to Proof, in a certificate of this version
+abbrev pub log_under : Version → DeskState → LogModel
+log_under version s = record { told = option_and_then (told_under version) (s.trays Proof).sent; faults = s.write_faults }
+
+-- the same of the second version
 abbrev pub tray_log : DeskState → LogModel
-tray_log s = record { told = option_and_then bytes_told (s.trays Proof).sent; faults = s.write_faults }
+tray_log = log_under Two
 
 -- what that log holds and leaves as it is: the borrow of its desk, and all of the desk that no line changes
 abbrev pub tray_anchor : GName → DeskState → LogAnchor

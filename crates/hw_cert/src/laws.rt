@@ -1,9 +1,9 @@
 //! The laws of the text of certificates: what is written reads back, and nothing else reads so.
 
-ghost use Rattle.hw_cert.specs.Forms.{FormSpelled, ValidReads};
+ghost use Rattle.hw_cert.specs.Forms.{FormSpelled, ThirdReads, ThirdStreams, ValidReads, ValidStreams};
 ghost use Rattle.hw_cert.specs.Rows.{TextRows};
-ghost use Rattle.hw_cert.specs.Told.{TextTold};
-ghost use Rattle.hw_cert.specs.Laws.{LineSpelled, HeaderSpelled, CertSpelled, StreamSteps, StreamReads, OverlongPasses, PlainForms, ReadForms, PlainRead};
+ghost use Rattle.hw_cert.specs.Told.{EachTextTold, TextTold};
+ghost use Rattle.hw_cert.specs.Laws.{LineSpelled, HeaderSpelled, CertSpelled, StreamSteps, StreamReads, OverlongPasses, PlainForms, ThirdForms, ReadForms, PlainRead};
 
 /// Bytes read as a line exactly where they are the line's one text.
 pub fn line_spelled()
@@ -45,14 +45,41 @@ pub fn valid_reads()
     ensures { ValidReads }
 {}
 
+/// The lines of the text of valid lines are these, unless one of them passes a limit.
+pub fn valid_streams()
+    ensures { ValidStreams }
+{}
+
+/// Valid lines of a problem, whatever their forms, have a text of the third version that reads back as
+/// them.
+pub fn third_reads()
+    ensures { ThirdReads }
+{}
+
+/// The lines of the text of the third version of valid lines are these, unless one of them passes a
+/// limit.
+pub fn third_streams()
+    ensures { ThirdStreams }
+{}
+
 /// Bytes that tell lines are the text of these lines, and after it bytes without a line feed.
 pub fn text_told()
     ensures { TextTold }
 {}
 
+/// The same of the bytes of each version.
+pub fn each_text_told()
+    ensures { EachTextTold }
+{}
+
 /// The second version has the forms of plain lines.
 pub fn plain_forms()
     ensures { PlainForms }
+{}
+
+/// The third version has the forms of all lines.
+pub fn third_forms()
+    ensures { ThirdForms }
 {}
 
 /// Lines that are read up to a version have its forms.

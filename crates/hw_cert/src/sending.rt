@@ -1,15 +1,19 @@
-//! A whole certificate, sent to the proof.
+//! A certificate, sent to the proof: whole, or its header and then line by line.
 
-ghost use Rattle.std.specs.Prelude.{◌≡◌, map};
+ghost use Rattle.std.specs.Prelude.{◌≡◌, [], true, IfSome, OnOk, map};
+ghost use Rattle.std.specs.List.{list_all};
 ghost use Rattle.hw_desk.specs.State.{CanSend};
 ghost use Rattle.hw_desk.specs.Whole.{SendsText};
 ghost use Rattle.hw_desk.specs.Writers.{Puts};
 ghost use Rattle.hw_text.specs.Parts.{ended_lines};
+ghost use Rattle.hw_cert.specs.Laws.{is_small, is_wide, line_numbers, wide_numbers};
+ghost use Rattle.hw_cert.specs.Logs.{IsEmpty, ended_text};
 ghost use Rattle.hw_cert.specs.Texts.{cert_text, line_text};
+ghost use Rattle.hw_cert.specs.Told.{header_of, is_told_under, log_under};
 
 use crate::putting::put_line;
 use crate::version::Version;
-use hw_desk::{Desk, DeskFailed, Tray, TrayWriter, Writer};
+use hw_desk::{Desk, DeskFailed, Tray, TrayWriter, Writer, write_all};
 use hw_lines::Line;
 
 /// Puts lines, each with its end.
@@ -32,5 +36,40 @@ pub fn send_cert<D: Desk>(desk: &mut D, lines: &[Line]) -> Result<(), DeskFailed
     let mut out = TrayWriter::new(desk, Tray::Proof);
     out.put(b"cert 2\n");
     put_lines(&mut out, lines);
+    out.flush()
+}
+
+/// The header's line of a version, with its end.
+fn header_line(version: Version) -> &'static [u8]
+    ensures { result.now ≡ header_of version }
+{
+    match version {
+        Version::One => b"cert 1\n",
+        Version::Two => b"cert 2\n",
+        Version::Three => b"cert 3\n",
+    }
+}
+
+/// Sends the header of a certificate of a version, by a write of its own.
+pub fn send_header_of<D: Desk>(desk: &mut D, version: Version) -> Result<(), DeskFailed>
+    requires made { ((D.state desk.old).trays Tray.Proof).made ≡ true }
+    requires none { IfSome ((D.state desk.old).trays Tray.Proof).sent (λ bytes. bytes ≡ []) }
+    ensures sends { SendsText Tray.Proof (header_of version) (D.state desk.old) (D.state desk.new) result }
+    ensures told { OnOk result (is_told_under version ((D.state desk.new).trays Tray.Proof).sent ≡ true) }
+    ensures empty { OnOk result (IsEmpty (log_under version (D.state desk.new))) }
+{
+    write_all(desk, Tray::Proof, header_line(version))
+}
+
+/// Sends a line with its end.
+pub fn send_line<D: Desk>(desk: &mut D, line: &Line) -> Result<(), DeskFailed>
+    requires made { CanSend Tray.Proof (D.state desk.old) }
+    ensures sends { SendsText Tray.Proof (ended_text line.now) (D.state desk.old) (D.state desk.new) result }
+    ensures small { list_all is_small (line_numbers line.now) ≡ true }
+    ensures wide { list_all is_wide (wide_numbers line.now) ≡ true }
+{
+    let mut out = TrayWriter::new(desk, Tray::Proof);
+    put_line(&mut out, line);
+    out.put(b"\n");
     out.flush()
 }

@@ -1,18 +1,16 @@
 //! A log whose lines go to a desk's proof as text.
 
-ghost use Rattle.std.specs.Prelude.{◌≡◌, [], true, Err, IfErr, IfOk, IfSome, OnOk, Some};
-ghost use Rattle.std.specs.List.{list_all};
-ghost use Rattle.hw_desk.specs.State.{CanSend};
+ghost use Rattle.std.specs.Prelude.{◌≡◌, [], true, Err, IfErr, IfOk, IfSome, OnOk};
 ghost use Rattle.hw_desk.specs.Calls.{Sends};
 ghost use Rattle.hw_desk.specs.Whole.{SendsText};
 ghost use Rattle.hw_desk.specs.declared.desk.Tray.TheVariants.{Proof};
-ghost use Rattle.hw_cert.specs.Laws.{is_small, is_wide, line_numbers, wide_numbers};
-ghost use Rattle.hw_cert.specs.Logs.{IsEmpty, IsWhole, TakesLine, ended_text};
+ghost use Rattle.hw_cert.specs.Logs.{IsEmpty, IsWhole, TakesLine};
 ghost use Rattle.hw_cert.specs.Told.{FailsHeader, header_line, is_told, tray_anchor, tray_log};
 
-use crate::putting::put_line;
+use crate::sending::{send_header_of, send_line};
+use crate::version::Version;
 use crate::{Log, LogStop};
-use hw_desk::{Desk, DeskFailed, Tray, TrayWriter, Writer, write_all};
+use hw_desk::{Desk, DeskFailed, Tray};
 use hw_lines::Line;
 
 /// A log whose text goes to the proof of a borrowed desk. It takes no memory.
@@ -50,7 +48,7 @@ pub fn send_header<D: Desk>(desk: &mut D) -> Result<(), DeskFailed>
     ensures told { OnOk result (is_told ((D.state desk.new).trays Tray.Proof).sent ≡ true) }
     ensures empty { OnOk result (IsEmpty (tray_log (D.state desk.new))) }
 {
-    write_all(desk, Tray::Proof, b"cert 2\n")
+    send_header_of(desk, Version::Two)
 }
 
 impl<'d, D: Desk> TrayLog<'d, D> {
@@ -81,19 +79,6 @@ impl<'d, D: Desk> TrayLog<'d, D> {
     {
         TrayLog { desk }
     }
-}
-
-/// Sends a line with its end.
-fn send_line<D: Desk>(desk: &mut D, line: &Line) -> Result<(), DeskFailed>
-    requires made { CanSend Tray.Proof (D.state desk.old) }
-    ensures sends { SendsText Tray.Proof (ended_text line.now) (D.state desk.old) (D.state desk.new) result }
-    ensures small { list_all is_small (line_numbers line.now) ≡ true }
-    ensures wide { list_all is_wide (wide_numbers line.now) ≡ true }
-{
-    let mut out = TrayWriter::new(desk, Tray::Proof);
-    put_line(&mut out, line);
-    out.put(b"\n");
-    out.flush()
 }
 
 impl<D: Desk> Log for TrayLog<'_, D> {

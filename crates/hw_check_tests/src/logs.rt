@@ -4,7 +4,7 @@ ghost use Rattle.hw_cert.specs.Logs.{IsWhole};
 ghost use Rattle.hw_desk.specs.State.{IsNew};
 
 use crate::desks::desk_of;
-use hw_cert::{Hints, Line, Log, MemoryLog, TrayLog};
+use hw_cert::{Hints, Line, Log, MemoryLog, PriceLog, TrayLog};
 use hw_desk::{Desk, DeskCall, DeskFailed, FailAt, Tray};
 use hw_flat::Timetable;
 use std::alloc::Global;
@@ -130,5 +130,28 @@ fn log_sends_whole_lines(rt: HostRuntime) -> Result<(), Fail> {
             "{most} bytes a write, {count} numbers: {many:?}"
         );
     }
+    Ok(())
+}
+
+/// Sends the header of a certificate with tolls, and a bound. Whether both were sent.
+fn send_bound<D: Desk>(desk: &mut D, bound: u64) -> bool
+    requires { IsNew (D.state desk.old) }
+{
+    let _made = desk.make(Tray::Proof, "proof");
+    match PriceLog::new(desk) {
+        Ok(mut log) => log.line(&Line::Bound { bound }).is_ok(),
+        Err(_) => false,
+    }
+}
+
+#[test]
+fn price_log_sends_a_bound(rt: HostRuntime) -> Result<(), Fail> {
+    let fail = FailAt {
+        call: DeskCall::WriteProof,
+        place: 3,
+    };
+    let mut desk = desk_of(rt.alloc(), "flat", b"", 4096, 64, fail)?;
+    let sent = send_bound(&mut desk, 40);
+    assert!(rt; sent && desk.sent(Tray::Proof) == b"cert 3\nb 40\n".as_slice());
     Ok(())
 }

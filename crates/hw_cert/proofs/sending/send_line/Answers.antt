@@ -1,6 +1,6 @@
 use Rattle.std.proofs.Common.{rules}
 use Rattle.hw_desk.proofs.Written.{puts_on, text_sent}
-use Rattle.hw_cert.proofs.tray_log.send_line.Goals as goal
+use Rattle.hw_cert.proofs.sending.send_line.Goals as goal
 
 pub returns-clause-sends : goal.returns-clause-sends
 returns-clause-sends g c =
