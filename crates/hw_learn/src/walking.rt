@@ -126,6 +126,7 @@ fn clause_of(why: &Why) -> &Clause
     match why {
         Why::Lemma { clause, .. } => clause,
         Why::Source { clause, .. } => clause,
+        Why::Priced { clause } => clause,
     }
 }
 

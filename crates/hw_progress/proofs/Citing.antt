@@ -14,9 +14,10 @@ use Rattle.hw_model.specs.Rooms.{RoomModel}
 use Rattle.hw_model.specs.Refuting.{Refutes}
 use Rattle.hw_model.specs.Replay.{narrowing}
 use Rattle.hw_lines.specs.declared.line.Line.{Line}
-use Rattle.hw_lines.specs.Tolled.{is_plain}
+use Rattle.hw_lines.specs.declared.line.Line.TheVariants as lines
+use Rattle.hw_lines.specs.Tolled.{is_plain, tariff_of}
 use Rattle.hw_lines.specs.Lines.{clause_count, clause_at, live, best_of}
-use Rattle.hw_lines.specs.Valid.{LineFits, ValidFrom, denied_room, hinted}
+use Rattle.hw_lines.specs.Valid.{LineFits, PricedHolds, ValidFrom, denied_room, hinted}
 use Rattle.hw_lines.specs.Lemmas.{LeanFrom}
 use Rattle.hw_lines.proofs.Pushed.{one_more}
 use Rattle.hw_story.specs.declared.event.Event.{Event}
@@ -28,12 +29,12 @@ use Rattle.hw_story.specs.Bridge.{event_at}
 use Rattle.hw_story.proofs.Trails.{told_at}
 use Rattle.hw_story.proofs.Learnt.{reason_is, reason_fits}
 use Rattle.hw_store.specs.declared.store.Stored.{Stored}
-use Rattle.hw_progress.specs.Searches.{SearchModel, IsReason, IsSearch, FitsOpen, LiveKept, best_cargo, written_at, why_at}
+use Rattle.hw_progress.specs.Searches.{SearchModel, IsReason, HasLine, NumbersStay, PricesShow, IsSearch, FitsOpen, LiveKept, best_cargo, written_at, why_at}
 use Rattle.hw_progress.specs.Settling.{IsConflict}
-use Rattle.hw_progress.specs.Turns.{source_line, with_written, Cited, cite_by, cite, cited, cite_conflict}
-use Rattle.hw_progress.proofs.Lines.{IsClauseLine, source_is, source_no_lemma, live_is, live_stays, live_inside, new_live, of_some, kept_stored, kept_written, reason_open, reason_kept, one_line, line_open}
-use Rattle.hw_progress.proofs.Numbers.{contains_here, contains_there}
-use Rattle.hw_progress.proofs.Holds.{Writes, source_writes, valid_push, lean_push, best_same, trail_clause}
+use Rattle.hw_progress.specs.Turns.{source_line, why_lines, with_written, Cited, cite_by, cite, cited, cite_conflict}
+use Rattle.hw_progress.proofs.Lines.{IsClauseLine, source_is, why_is, why_no_lemma, live_is, live_stays, live_inside, new_live, of_some, kept_stored, kept_written, reason_open, reason_kept, one_line, line_open}
+use Rattle.hw_progress.proofs.Numbers.{contains_here, contains_there, set_stay}
+use Rattle.hw_progress.proofs.Holds.{Writes, source_writes, plain_tariff, priced_writes, priced_holds, valid_push, lean_push, best_same, trail_clause}
 
 -- ---- why an event came, and its reason's clause
 
@@ -102,9 +103,10 @@ pub record Citing (s : SearchModel) (before : List Line) (done : List ℕ) (c : 
   pub kept : LiveKept (before ++ c.lines) c.search
   pub same : c.search ≡ with_numbers s c.search.written c.search.clause_lines
   pub long : length c.search.written ≡ length s.written
+  pub stay : NumbersStay s.written c.search.written
   pub hints : hinted (before ++ c.lines) c.hints ≡ filter_map (reason_at s.trail) done
   pub alive : All (λ id. IsSome (live (before ++ c.lines) id)) c.hints
-  pub plain : All (λ line. is_plain line ≡ true) c.lines
+  pub plain : tariff_of before ≡ None → All (λ line. is_plain line ≡ true) c.lines
   pub shaped : All (LineFits s.problem) c.lines
   pub valid : ValidFrom s.problem before c.lines
   pub lean : LeanFrom s.problem before c.lines
@@ -133,6 +135,7 @@ named s before done c q n clause h r e = record {
   kept = h.kept;
   same = h.same;
   long = h.long;
+  stay = h.stay;
   hints = hint_push (before ++ c.lines) c.hints n clause (filter_map (reason_at s.trail) done) e h.hints ∙ sym (reasons_push s.trail done q clause r);
   alive = All-push (λ id. IsSome (live (before ++ c.lines) id)) c.hints n h.alive (some_is _ clause e);
   plain = h.plain;
@@ -144,14 +147,14 @@ named s before done c q n clause h r e = record {
 
 -- writing a line
 pub record Wrote (f : Problem) (before lines : List Line) (line : Line) : Type 0 where
-  pub plain : All (λ line. is_plain line ≡ true) (lines ++ line ∷ [])
+  pub plain : tariff_of before ≡ None → All (λ line. is_plain line ≡ true) (lines ++ line ∷ [])
   pub shaped : All (LineFits f) (lines ++ line ∷ [])
   pub valid : ValidFrom f before (lines ++ line ∷ [])
   pub lean : LeanFrom f before (lines ++ line ∷ [])
 
-pub wrote : (f : Problem) (before lines : List Line) (line : Line) → All (λ line. is_plain line ≡ true) lines → All (LineFits f) lines → ValidFrom f before lines → LeanFrom f before lines → Writes f (before ++ lines) line → Wrote f before lines line
+pub wrote : (f : Problem) (before lines : List Line) (line : Line) → (tariff_of before ≡ None → All (λ line. is_plain line ≡ true) lines) → All (LineFits f) lines → ValidFrom f before lines → LeanFrom f before lines → Writes f (before ++ lines) line → Wrote f before lines line
 wrote f before lines line p a v l w = record {
-  plain = All-push (λ line. is_plain line ≡ true) lines line p w.plain;
+  plain = λ none. All-push (λ line. is_plain line ≡ true) lines line (p none) (w.plain (plain_tariff before lines (p none) ∙ none));
   shaped = All-push (LineFits f) lines line a w.fits;
   valid = valid_push f before lines line v w.valid;
   lean = lean_push f before lines line l w.lean;
@@ -161,6 +164,23 @@ pub source_wrote : (s u : SearchModel) (before : List Line) (source : Source) (c
 source_wrote s u before source clause p b fit r is few =
     let best : best_of s.problem before ≡ best_cargo s = subst (λ f. best_of f before ≡ best_cargo u) p (best_same u before fit) ∙ b in
     source_writes s.problem before source clause r.0 is (subst (λ o. Refutes s.problem source o (denied_room s.problem clause)) (sym best) r.1) r.2 fit.none_empty (omega (arith, few, fit.count))
+
+-- the line of a clause that the prices in force show
+pub priced_wrote : (s u : SearchModel) (before : List Line) (clause : List Lit) (ws : List (Option ℕ)) (n : ℕ) → u ≡ with_numbers s ws n → FitsOpen before u → PricesShow s clause → IsClause (shape_of s.problem) clause → u.clause_lines + 1 < 2 ^ 32 → Writes s.problem before (lines.Priced clause)
+priced_wrote s u before clause ws n same fit show is few =
+    let shown : PricesShow u clause = subst (λ (x : SearchModel). PricesShow x clause) (sym same) (record { refuted = show.refuted; speaks = show.speaks }) in
+    let holds : PricedHolds s.problem before clause = subst (λ (f : Problem). PricedHolds f before clause) (ap (λ (x : SearchModel). x.problem) same) (priced_holds u before clause fit shown) in
+    priced_writes s.problem before clause is holds show.speaks fit.none_empty (omega (arith, few, fit.count))
+
+-- the line of a conflict that is no stored lemma
+pub why_wrote : (s u : SearchModel) (before : List Line) (why : Why) (line : Line) (ws : List (Option ℕ)) (n : ℕ) → u ≡ with_numbers s ws n → FitsOpen before u → IsConflict s why → why_lines s.problem why ≡ line ∷ [] → u.clause_lines + 1 < 2 ^ 32 → Writes s.problem before line
+why_wrote s u before (whys.Lemma number clause) line ws n same fit k e few = absurd cc
+why_wrote s u before (whys.Source source clause) line ws n same fit k e few =
+    let is : source_line s.problem source clause ≡ line = cc in
+    subst (Writes s.problem before) is (source_wrote s u before source clause (ap (λ (x : SearchModel). x.problem) same) (ap best_cargo same) fit k.holds k.fits few)
+why_wrote s u before (whys.Priced clause) line ws n same fit k e few =
+    let is : lines.Priced clause ≡ line = cc in
+    subst (Writes s.problem before) is (priced_wrote s u before clause ws n same fit k.shown k.fits few)
 
 -- the numbers of a search don't matter to its problem and best
 pub same_problem : (s : SearchModel) (before : List Line) (done : List ℕ) (c : Cited) → Citing s before done c → c.search.problem ≡ s.problem
@@ -200,6 +220,7 @@ written_one s before done c q source clause is h w none few =
       kept = subst (λ xs. LiveKept xs (with_written c.search q)) e (reason_kept c.search (before ++ c.lines) q source clause h.fit h.kept long none);
       same = ap (λ (x : SearchModel). record x { written = slice_set c.search.written q (Some (c.search.clause_lines + 1)); clause_lines = c.search.clause_lines + 1 }) h.same;
       long = length-set c.search.written q (Some (c.search.clause_lines + 1)) ∙ h.long;
+      stay = λ k written. set_stay c.search.written q (c.search.clause_lines + 1) k (h.stay k written);
       hints = hint_push (before ++ (c.lines ++ line ∷ [])) c.hints (c.search.clause_lines + 1) clause (filter_map (reason_at s.trail) done) new old ∙ sym (reasons_push s.trail done q clause r);
       alive = All-push (λ id. IsSome (live (before ++ (c.lines ++ line ∷ [])) id)) c.hints (c.search.clause_lines + 1)
           (subst (λ xs. All (λ id. IsSome (live xs id)) c.hints) e (All-weaker (λ id. IsSome (live (before ++ c.lines) id)) (λ id. IsSome (live ((before ++ c.lines) ++ line ∷ []) id)) (λ id k. live_stays c.search.problem (before ++ c.lines) line id (ls.no_delete id) k) c.hints h.alive))
@@ -221,6 +242,17 @@ cite_step s before done c q (whys.Source source clause) is h w few (Some n) e =
     let r' : reason_at c.search.trail q ≡ Some clause = ap (λ (t : TrailModel). reason_at t q) (same_trail s before done c h) ∙ r in
     named s before done c q n clause h r (written_live c.search (before ++ c.lines) q n clause h.fit e r')
 cite_step s before done c q (whys.Source source clause) is h w few None e = written_one s before done c q source clause is h w e few
+cite_step s before done c q (whys.Priced clause) is h w few (Some n) e =
+    let r : reason_at s.trail q ≡ Some clause = why_reason s.trail q (whys.Priced clause) w in
+    let r' : reason_at c.search.trail q ≡ Some clause = ap (λ (t : TrailModel). reason_at t q) (same_trail s before done c h) ∙ r in
+    named s before done c q n clause h r (written_live c.search (before ++ c.lines) q n clause h.fit e r')
+cite_step s before done c q (whys.Priced clause) is h w few None e =
+    let has : IsSome (written_at s q) = of_some (why_at s.trail q) (HasLine (written_at s q)) (whys.Priced clause) w (is.priced_lines q) in
+    absurd (none_some (written_at c.search q) e (h.stay q has))
+  where
+    none_some : (o : Option ℕ) → o ≡ None → IsSome o → ⊥
+    none_some None e some = cc
+    none_some (Some n) e some = cc
 
 pub cite_one : (s : SearchModel) (before : List Line) (done : List ℕ) (c : Cited) (q : ℕ) → IsSearch s → Citing s before done c → IsSome (reason_at s.trail q) → s.clause_lines + length done + 1 < 2 ^ 32 → Citing s before (done ++ q ∷ []) (cite c q)
 cite_one s before done c q is h some few =
@@ -241,9 +273,10 @@ cites s before places is fit kept some few = cite_all s before [] places (record
   kept = subst (λ xs. LiveKept xs s) (sym (append-nil before)) kept;
   same = refl;
   long = refl;
+  stay = λ q written. written;
   hints = refl;
   alive = All-nil (λ id. IsSome (live (before ++ []) id));
-  plain = All-nil (λ line. is_plain line ≡ true);
+  plain = λ none. All-nil (λ line. is_plain line ≡ true);
   shaped = All-nil (LineFits s.problem);
   valid = tt;
   lean = tt;
@@ -256,43 +289,32 @@ pub record Prepared (s : SearchModel) (before : List Line) (places : List ℕ) (
   pub fit : FitsOpen (before ++ c.lines) c.search
   pub same : c.search ≡ with_numbers s c.search.written c.search.clause_lines
   pub long : length c.search.written ≡ length s.written
+  pub stay : NumbersStay s.written c.search.written
   pub hints : hinted (before ++ c.lines) c.hints ≡ chain_of s.trail places clause
   pub alive : All (λ id. IsSome (live (before ++ c.lines) id)) c.hints
-  pub plain : All (λ line. is_plain line ≡ true) c.lines
+  pub plain : tariff_of before ≡ None → All (λ line. is_plain line ≡ true) c.lines
   pub shaped : All (LineFits s.problem) c.lines
   pub valid : ValidFrom s.problem before c.lines
   pub lean : LeanFrom s.problem before c.lines
   pub few : c.search.clause_lines ≤ s.clause_lines + length places + 1
 
-pub prepared : (s : SearchModel) (before : List Line) (places : List ℕ) (c : Cited) (why : Why) → Citing s before places c → IsConflict s why → 1 ≤ length (clause_of why) → s.clause_lines + length places + 1 < 2 ^ 32 → Prepared s before places (clause_of why) (cite_conflict c why)
-prepared s before places c (whys.Lemma number clause) h k some few =
-    let e = stored_live c.search (before ++ c.lines) number clause h.fit (subst (λ xs. Contains xs (record { number = number; clause = clause })) (sym (same_stored s before places c h)) k.holds) in
-    record {
-      fit = h.fit;
-      same = h.same;
-      long = h.long;
-      hints = hint_push (before ++ c.lines) c.hints number clause (filter_map (reason_at s.trail) places) e h.hints;
-      alive = All-push (λ id. IsSome (live (before ++ c.lines) id)) c.hints number h.alive (some_is _ clause e);
-      plain = h.plain;
-      shaped = h.shaped;
-      valid = h.valid;
-      lean = h.lean;
-      few = omega (arith, h.few);
-    }
-prepared s before places c (whys.Source source clause) h k some few =
-    let line = source_line c.search.problem source clause in
-    let p = same_problem s before places c h in
+-- with a line of its own
+prepared_line : (s : SearchModel) (before : List Line) (places : List ℕ) (c : Cited) (why : Why) (line : Line) → Citing s before places c → IsConflict s why → why_lines s.problem why ≡ line ∷ [] → 1 ≤ length (clause_of why) → s.clause_lines + length places + 1 < 2 ^ 32
+    → Prepared s before places (clause_of why) (record { search = record c.search { clause_lines = c.search.clause_lines + 1 }; lines = c.lines ++ line ∷ []; hints = c.hints ++ (c.search.clause_lines + 1) ∷ [] })
+prepared_line s before places c why line h k own some few =
+    let clause = clause_of why in
     let e : (before ++ c.lines) ++ line ∷ [] ≡ before ++ (c.lines ++ line ∷ []) = append_assoc before c.lines (line ∷ []) in
-    let ls = source_is c.search.problem source clause in
-    let writes : Writes s.problem (before ++ c.lines) line = subst (λ f. Writes s.problem (before ++ c.lines) (source_line f source clause)) (sym p) (source_wrote s c.search (before ++ c.lines) source clause p (same_best s before places c h) h.fit k.holds k.fits (omega (arith, few, h.few))) in
+    let ls = why_is s.problem why line own in
+    let writes : Writes s.problem (before ++ c.lines) line = why_wrote s c.search (before ++ c.lines) why line c.search.written c.search.clause_lines h.same h.fit k own (omega (arith, few, h.few)) in
     let all = wrote s.problem before c.lines line h.plain h.shaped h.valid h.lean writes in
     let n : clause_count (before ++ c.lines) + 1 ≡ c.search.clause_lines + 1 = ap (λ m. m + 1) h.fit.count in
     let new : live (before ++ (c.lines ++ line ∷ [])) (c.search.clause_lines + 1) ≡ Some clause = subst (λ xs. live xs (c.search.clause_lines + 1) ≡ Some clause) e (subst (λ m. live ((before ++ c.lines) ++ line ∷ []) m ≡ Some clause) n (new_live c.search.problem (before ++ c.lines) line clause h.fit.deletes_earlier ls)) in
     let old : hinted (before ++ (c.lines ++ line ∷ [])) c.hints ≡ filter_map (reason_at s.trail) places = subst (λ xs. hinted xs c.hints ≡ filter_map (reason_at s.trail) places) e (hinted_stays c.search.problem (before ++ c.lines) line clause ls c.hints h.alive ∙ h.hints) in
     record {
-      fit = subst (λ xs. FitsOpen xs (one_line c.search)) e (line_open c.search (before ++ c.lines) line clause h.fit ls (source_no_lemma c.search.problem source clause) some);
+      fit = subst (λ xs. FitsOpen xs (one_line c.search)) e (line_open c.search (before ++ c.lines) line clause h.fit ls (why_no_lemma s.problem why line own) some);
       same = ap (λ (x : SearchModel). record x { clause_lines = c.search.clause_lines + 1 }) h.same;
       long = h.long;
+      stay = h.stay;
       hints = hint_push (before ++ (c.lines ++ line ∷ [])) c.hints (c.search.clause_lines + 1) clause (filter_map (reason_at s.trail) places) new old;
       alive = All-push (λ id. IsSome (live (before ++ (c.lines ++ line ∷ [])) id)) c.hints (c.search.clause_lines + 1)
           (subst (λ xs. All (λ id. IsSome (live xs id)) c.hints) e (All-weaker (λ id. IsSome (live (before ++ c.lines) id)) (λ id. IsSome (live ((before ++ c.lines) ++ line ∷ []) id)) (λ id m. live_stays c.search.problem (before ++ c.lines) line id (ls.no_delete id) m) c.hints h.alive))
@@ -303,3 +325,23 @@ prepared s before places c (whys.Source source clause) h k some few =
       lean = all.lean;
       few = omega (arith, h.few);
     }
+
+pub prepared : (s : SearchModel) (before : List Line) (places : List ℕ) (c : Cited) (why : Why) → Citing s before places c → IsConflict s why → 1 ≤ length (clause_of why) → s.clause_lines + length places + 1 < 2 ^ 32 → Prepared s before places (clause_of why) (cite_conflict c why)
+prepared s before places c (whys.Lemma number clause) h k some few =
+    let e = stored_live c.search (before ++ c.lines) number clause h.fit (subst (λ xs. Contains xs (record { number = number; clause = clause })) (sym (same_stored s before places c h)) k.holds) in
+    record {
+      fit = h.fit;
+      same = h.same;
+      long = h.long;
+      stay = h.stay;
+      hints = hint_push (before ++ c.lines) c.hints number clause (filter_map (reason_at s.trail) places) e h.hints;
+      alive = All-push (λ id. IsSome (live (before ++ c.lines) id)) c.hints number h.alive (some_is _ clause e);
+      plain = h.plain;
+      shaped = h.shaped;
+      valid = h.valid;
+      lean = h.lean;
+      few = omega (arith, h.few);
+    }
+prepared s before places c (whys.Source source clause) h k some few =
+    prepared_line s before places c (whys.Source source clause) (source_line c.search.problem source clause) h k (ap (λ (f : Problem). source_line f source clause ∷ []) (sym (same_problem s before places c h))) some few
+prepared s before places c (whys.Priced clause) h k some few = prepared_line s before places c (whys.Priced clause) (lines.Priced clause) h k refl some few

@@ -2,7 +2,7 @@
 use Rattle.std.proofs.Common.{◌≡◌, ◌⊎◌, ℕ, zero, suc, ◌+◌, ◌-◌, ◌^◌, ◌<◌, ◌≤◌, false, cond, nat_lt, true, List, [], ◌∷◌, ◌++◌, Option, Some, None, length, get_or, option_and_then, All, IsSome, IsSomeAnd, IsTrue, refl, sym, ap, ◌∙◌, subst, arith, inl, inr, append-nil, append_assoc}
 use Rattle.std.specs.Prelude.{Contains, Any, AllPairs}
 use Rattle.std.specs.List.{cons_option}
-use Rattle.std.proofs.lemmas.Bool.{lt-ltb, le-ltb, cases_lt}
+use Rattle.std.proofs.lemmas.Bool.{ltb-true, lt-ltb, le-ltb, cases_lt}
 use Rattle.std.proofs.lemmas.List.Elements.{All-head, All-tail, All-get_or}
 use Rattle.std.proofs.lemmas.List.Quantifiers.{all_pairs_push}
 use Rattle.hw_model.specs.declared.lit.Lit.{Lit}
@@ -10,7 +10,7 @@ use Rattle.hw_model.specs.declared.source.Source.{Source}
 use Rattle.hw_model.specs.declared.source.Source.TheVariants as sources
 use Rattle.hw_model.specs.Problem.{Problem, shape_of}
 use Rattle.hw_model.specs.Timetables.{Permits, cargo, beats}
-use Rattle.hw_model.specs.Lits.{IsClause}
+use Rattle.hw_model.specs.Lits.{clause_holds, IsClause}
 use Rattle.hw_model.specs.Rooms.{RoomFits, RoomWithin}
 use Rattle.hw_model.specs.Narrowing.{denied}
 use Rattle.hw_model.specs.Refuting.{Refutes, IsSourceOf, NothingRefutes}
@@ -19,10 +19,14 @@ use Rattle.hw_model.specs.Replay.{replay, conflict, QuietClause}
 use Rattle.hw_laws.proofs.Rises.{rising}
 use Rattle.hw_lines.specs.declared.line.Line.{Line}
 use Rattle.hw_lines.specs.declared.line.Line.TheVariants as lines
-use Rattle.hw_lines.specs.Tolled.{is_plain}
+use Rattle.hw_lines.specs.Tolled.{is_plain, tolls_of, tariff_after, tariff_of}
 use Rattle.hw_lines.specs.Lines.{clause_count, clause_at, live, best_of, is_closed}
-use Rattle.hw_lines.specs.Valid.{LineFits, ValidAfter, ValidFrom, denied_room, hinted}
+use Rattle.hw_lines.specs.Valid.{LineFits, PricedHolds, ValidAfter, ValidFrom, denied_room, hinted}
 use Rattle.hw_lines.specs.Lemmas.{IsHinted, LeanAfter, LeanFrom}
+use Rattle.hw_lines.proofs.Pushed.{tariff_push}
+use Rattle.hw_tolls.specs.declared.tariff.Tariff.{Tariff}
+use Rattle.hw_tolls.specs.declared.toll.Toll.{Toll}
+use Rattle.hw_tolls.specs.Prices.{PricesRefute}
 use Rattle.hw_model.specs.Quiet.{SpeaksOnlyOf}
 use Rattle.hw_story.specs.declared.event.Why.{Why}
 use Rattle.hw_story.specs.declared.event.Why.TheVariants as whys
@@ -36,7 +40,7 @@ use Rattle.hw_model.specs.Rooms.{IsRoomOf}
 use Rattle.hw_story.proofs.Trails.{room_known, room_end}
 use Rattle.hw_story.proofs.Quiets.{not_within, none_within}
 use Rattle.hw_story.specs.Walks.{In}
-use Rattle.hw_progress.specs.Searches.{SearchModel, IsReason, FitsOpen, room_in, lemmas_in, best_cargo}
+use Rattle.hw_progress.specs.Searches.{SearchModel, IsReason, OfBetter, PricesShow, FitsOpen, room_in, lemmas_in, best_cargo}
 use Rattle.hw_progress.specs.Settling.{AllQuiet}
 use Rattle.hw_progress.specs.Turns.{source_line}
 use Rattle.hw_progress.proofs.Lines.{live_is}
@@ -66,38 +70,81 @@ rule_is f place =
     let back : f.ships + place - f.ships ≡ place = omega arith in
     ap (λ b. cond b (sources.Window (f.ships + place)) (sources.Rule (f.ships + place - f.ships))) past ∙ ap (λ n. sources.Rule n) back
 
--- a line is plain, of the shape, valid and lean
+-- a line is of the shape, valid and lean, and plain where no prices are in force
 pub record Writes (f : Problem) (before : List Line) (line : Line) : Type 0 where
-  pub plain : is_plain line ≡ true
+  pub plain : tariff_of before ≡ None → is_plain line ≡ true
   pub fits : LineFits f line
   pub valid : ValidAfter f before line
   pub lean : LeanAfter f before line
 
 pub source_writes : (f : Problem) (before : List Line) (source : Source) (clause : List Lit) → IsSourceOf f source → IsClause (shape_of f) clause → Refutes f source (best_of f before) (denied_room f clause) → SpeaksOnlyOf f source clause → is_closed before ≡ false → clause_count before + 1 < 2 ^ 32 → Writes f before (source_line f source clause)
 source_writes f before (sources.Window ship) clause of is refutes speaks goes few = record {
-  plain = refl;
+  plain = λ none. refl;
   fits = (omega (arith, of), is);
   valid = record { goes_on = goes; numbered = few; claim = subst (λ x. Refutes f x (best_of f before) (denied_room f clause)) (sym (window_is f ship of)) refutes };
   lean = subst (λ x. SpeaksOnlyOf f x clause) (sym (window_is f ship of)) speaks;
 }
 source_writes f before (sources.Rule place) clause of is refutes speaks goes few = record {
-  plain = refl;
+  plain = λ none. refl;
   fits = (omega (arith, of), is);
   valid = record { goes_on = goes; numbered = few; claim = subst (λ x. Refutes f x (best_of f before) (denied_room f clause)) (sym (rule_is f place)) refutes };
   lean = subst (λ x. SpeaksOnlyOf f x clause) (sym (rule_is f place)) speaks;
 }
 source_writes f before (sources.Order v w x) clause of is refutes speaks goes few = record {
-  plain = refl;
+  plain = λ none. refl;
   fits = (of.0, of.1, of.2, is);
   valid = record { goes_on = goes; numbered = few; claim = refutes };
   lean = speaks;
 }
 source_writes f before sources.Goal clause of is refutes speaks goes few = record {
-  plain = refl;
+  plain = λ none. refl;
   fits = is;
   valid = record { goes_on = goes; numbered = few; claim = refutes };
   lean = speaks;
 }
+
+-- ---- the line of a clause of prices
+
+some_tariff : {A : Type 0} (o : Option A) (P : A → Type 0) → IsSomeAnd o P → o ≡ None → ⊥
+some_tariff None P h e = h
+some_tariff (Some x) P h e = cc
+
+-- plain lines change no prices in force
+plain_stays : (last : Option Tariff) (line : Line) → is_plain line ≡ true → tariff_after last line ≡ last
+plain_stays last (lines.Table table) e = refl
+plain_stays last (lines.Explain n clause) e = refl
+plain_stays last (lines.Order v w x clause) e = refl
+plain_stays last (lines.Goal clause) e = refl
+plain_stays last (lines.Lemma clause hints) e = refl
+plain_stays last (lines.Delete ids) e = refl
+plain_stays last (lines.Narrows blocks) e = refl
+plain_stays last (lines.Tugs n slot most weights) e = refl
+plain_stays last (lines.Tariff scale prices) e = absurd cc
+plain_stays last (lines.Priced clause) e = refl
+plain_stays last (lines.Bound bound) e = refl
+
+pub plain_tariff : (before more : List Line) → All (λ line. is_plain line ≡ true) more → tariff_of (before ++ more) ≡ tariff_of before
+plain_tariff before [] all = ap tariff_of (append-nil before)
+plain_tariff before (line ∷ more) all =
+    ap tariff_of (sym (append_assoc before (line ∷ []) more))
+    ∙ plain_tariff (before ++ line ∷ []) more (All-tail (λ line. is_plain line ≡ true) line more all)
+    ∙ tariff_push before line
+    ∙ plain_stays (tariff_of before) line (All-head (λ line. is_plain line ≡ true) line more all)
+
+pub priced_writes : (f : Problem) (before : List Line) (clause : List Lit) → IsClause (shape_of f) clause → PricedHolds f before clause → SpeaksOnlyOf f sources.Goal clause → is_closed before ≡ false → clause_count before + 1 < 2 ^ 32 → Writes f before (lines.Priced clause)
+priced_writes f before clause is refutes speaks goes few = record {
+  plain = λ none. absurd (some_tariff (tariff_of before) (λ tariff. PricesRefute f (tolls_of f before) tariff (best_of f before) (denied_room f clause)) refutes none);
+  fits = is;
+  valid = record { goes_on = goes; numbered = few; claim = refutes };
+  lean = speaks;
+}
+
+-- what the prices in force show, lines that tell them show too
+pub priced_holds : (s : SearchModel) (before : List Line) (clause : List Lit) → FitsOpen before s → PricesShow s clause → PricedHolds s.problem before clause
+priced_holds s before clause fit show =
+    subst (λ (o : Option Tariff). IsSomeAnd o (λ tariff. PricesRefute s.problem (tolls_of s.problem before) tariff (best_of s.problem before) (denied_room s.problem clause))) (sym fit.prices.tariff)
+    (subst (λ (ts : List Toll). IsSomeAnd s.prices.tariff (λ tariff. PricesRefute s.problem ts tariff (best_of s.problem before) (denied_room s.problem clause))) (sym fit.prices.tolls)
+    (subst (λ (best : Option ℕ). IsSomeAnd s.prices.tariff (λ tariff. PricesRefute s.problem s.prices.tolls tariff best (denied_room s.problem clause))) (sym (best_same s before fit)) show.refuted))
 
 -- ---- a table
 
@@ -116,7 +163,7 @@ nothing_refutes s q = record {
 
 pub table_writes : (s : SearchModel) (before : List Line) (table : List ℕ) (c : ℕ) → FitsOpen before s → Permits s.problem table → cargo s.problem table ≡ Some c → IsTrue (beats c (best_cargo s)) → Writes s.problem before (lines.Table table)
 table_writes s before table c fit permits value above = record {
-  plain = refl;
+  plain = λ none. refl;
   fits = permits.listed;
   valid = record {
     goes_on = fit.none_empty;
@@ -126,9 +173,21 @@ table_writes s before table c fit permits value above = record {
   lean = tt;
 }
 
+pub beats_more : (d c : ℕ) (best : Option ℕ) → IsTrue (beats c best) → IsTrue (beats d (Some c)) → IsTrue (beats d best)
+beats_more d c None h e = refl
+beats_more d c (Some b) h e =
+    let less : b < c = ltb-true _ _ h in
+    let more : c < d = ltb-true _ _ e in
+    lt-ltb _ _ (omega (arith, less, more))
+
+-- what holds of each that beats the best holds of each that beats a better best
+pub better_true : (s : SearchModel) (table : List ℕ) (c : ℕ) (P : List ℕ → Type 0) → cargo s.problem table ≡ Some c → IsTrue (beats c (best_cargo s)) → OfBetter s P → OfBetter (record s { best = Some table }) P
+better_true s table c P worth above h other d permits e over = h other d permits e (beats_more d c (best_cargo s) above (subst (λ o. IsTrue (beats d o)) worth over))
+
 -- a reason stays one under a better best
 pub reason_rises : (s : SearchModel) (table : List ℕ) (c : ℕ) → cargo s.problem table ≡ Some c → IsTrue (beats c (best_cargo s)) → (why : Why) → IsReason s why → IsReason (record s { best = Some table }) why
 reason_rises s table c e above (whys.Lemma number clause) h = h
+reason_rises s table c e above (whys.Priced clause) h = better_true s table c (λ t. IsTrue (clause_holds t clause)) e above h
 reason_rises s table c e above (whys.Source source clause) h = (h.0, subst (λ o. Refutes s.problem source o (denied_room s.problem clause)) (sym e) (rising s.problem source (best_cargo s) c (denied_room s.problem clause) above h.1), h.2)
 
 -- ---- a lemma
@@ -173,7 +232,7 @@ trail_denied s e f c = denied_same (trail_shape s.trail) (shape_of s.problem) e 
 pub lemma_writes : (s : SearchModel) (before : List Line) (clause lemma : List Lit) (back : ℕ) (places hints : List ℕ) → s.trail.ships ≡ s.problem.ships → s.trail.slots ≡ s.problem.slots → Learns s.trail clause lemma back places
     → hinted before hints ≡ chain_of s.trail places clause → All (λ id. IsSome (live before id)) hints → is_closed before ≡ false → clause_count before + 1 < 2 ^ 32 → Writes s.problem before (lines.Lemma lemma hints)
 lemma_writes s before clause lemma back places hints ships slots h e live' goes few = record {
-  plain = refl;
+  plain = λ none. refl;
   fits = trail_clause s ships slots lemma h.fits;
   valid = record {
     goes_on = goes;

@@ -1,8 +1,9 @@
 -- What the type of a search keeps, through each change.
 use Rattle.hw_laws.proofs.Denying.{shape_fits}
-use Rattle.std.proofs.Common.{◌≡◌, ℕ, zero, suc, ◌+◌, ◌-◌, ◌*◌, ◌^◌, ◌<◌, ◌≤◌, Bool, true, false, cond, List, [], ◌∷◌, ◌++◌, Option, Some, None, length, get_or, map, take, slice_get, option_and_then, All, IfSome, IsTrue, refl, sym, ap, subst, arith, inl, inr, length-append}
+use Rattle.std.proofs.Common.{◌≡◌, ℕ, zero, suc, ◌+◌, ◌-◌, ◌*◌, ◌^◌, ◌<◌, ◌≤◌, Bool, true, false, cond, List, [], ◌∷◌, ◌++◌, Option, Some, None, length, get_or, map, take, slice_get, option_and_then, All, IfSome, IsSome, IsTrue, refl, sym, ap, subst, arith, inl, inr, length-append}
 use Rattle.std.specs.Prelude.{AllPairs, ◌==◌}
 use Rattle.std.specs.List.Sorted.{IsStrictlyIncreasing}
+use Rattle.std.specs.Option.{option_flatten}
 use Rattle.std.proofs.lemmas.Bool.{cases_lt, cases_eq, eq-eqb}
 use Rattle.std.proofs.lemmas.List.{get_or_append_left, get_or_push, length-take-le}
 use Rattle.std.proofs.lemmas.List.Elements.{All-push, All-nil, All-weaker, All-map, All-get_or, Contains-append_left}
@@ -28,12 +29,13 @@ use Rattle.hw_story.proofs.Quiets.{back_below, quiet_learnt}
 use Rattle.hw_progress.specs.declared.outcome.Branching.{Branching}
 use Rattle.hw_progress.specs.Luby.{power_above, luby_within, luby}
 use Rattle.hw_store.specs.declared.store.Stored.{Stored}
-use Rattle.hw_progress.specs.Searches.{SearchModel, new_search, IsReason, IsSearch, OfBetter, why_at, lemmas_in, room_in, best_cargo}
+use Rattle.hw_tolls.specs.Tolls.{IsToll}
+use Rattle.hw_progress.specs.Searches.{SearchModel, new_search, IsReason, HasLine, NumbersStay, IsSearch, OfBetter, why_at, lemmas_in, room_in, best_cargo}
 use Rattle.hw_progress.specs.Settling.{AllQuiet, with_events}
 use Rattle.hw_progress.specs.Turns.{with_lemma, to_level, gone_back}
 use Rattle.hw_progress.proofs.Backs.{front_length}
-use Rattle.hw_progress.proofs.Trues.{better_true, pushed_true}
-use Rattle.hw_progress.proofs.Holds.{reason_rises, lemmas_new, top_low, trail_clause}
+use Rattle.hw_progress.proofs.Trues.{pushed_true}
+use Rattle.hw_progress.proofs.Holds.{better_true, reason_rises, lemmas_new, top_low, trail_clause}
 
 -- ---- restart numbers are positive
 
@@ -81,6 +83,42 @@ pub if_why : (o : Option Why) (P Q : Why → Type 0) → ((why : Why) → P why 
 if_why None P Q h p = tt
 if_why (Some why) P Q h p = h why p
 
+-- ---- the lines of reasons that prices gave
+
+-- each reason of these events that prices gave has a number among these
+abbrev pub Lined : List Event → List (Option ℕ) → Type 0
+Lined es ws = (place : ℕ) → IfSome (option_and_then (λ (event : Event). event.why) (slice_get es place)) (HasLine (option_flatten (slice_get ws place)))
+
+line_stays : (a b : Option ℕ) (why : Why) → (IsSome a → IsSome b) → HasLine a why → HasLine b why
+line_stays a b (whys.Lemma number clause) h l = tt
+line_stays a b (whys.Source source clause) h l = tt
+line_stays a b (whys.Priced clause) h l = h l
+
+pub lined_push : (es : List Event) (ws : List (Option ℕ)) (e : Event) (o : Option ℕ) → length ws ≡ length es → IfSome e.why (HasLine o) → Lined es ws → Lined (es ++ e ∷ []) (ws ++ o ∷ [])
+lined_push [] [] e o long p h zero = p
+lined_push [] [] e o long p h (suc k) = tt
+lined_push [] (w ∷ ws) e o long p h k = absurd (omega (arith, long))
+lined_push (x ∷ es) [] e o long p h k = absurd (omega (arith, long))
+lined_push (x ∷ es) (w ∷ ws) e o long p h zero = h zero
+lined_push (x ∷ es) (w ∷ ws) e o long p h (suc k) = lined_push es ws e o (omega (arith, long)) p (λ i. h (suc i)) k
+
+pub lined_stay : (es : List Event) (ws vs : List (Option ℕ)) → NumbersStay ws vs → Lined es ws → Lined es vs
+lined_stay es ws vs stay h place = if_why (option_and_then (λ (event : Event). event.why) (slice_get es place)) (HasLine (option_flatten (slice_get ws place))) (HasLine (option_flatten (slice_get vs place))) (λ why l. line_stays (option_flatten (slice_get ws place)) (option_flatten (slice_get vs place)) why (stay place) l) (h place)
+
+pub lined_take : (n : ℕ) (es : List Event) (ws : List (Option ℕ)) → length ws ≡ length es → Lined es ws → Lined (take n es) (take n ws)
+lined_take zero es ws long h k = tt
+lined_take (suc n) [] ws long h k = tt
+lined_take (suc n) (x ∷ es) [] long h k = absurd (omega (arith, long))
+lined_take (suc n) (x ∷ es) (w ∷ ws) long h zero = h zero
+lined_take (suc n) (x ∷ es) (w ∷ ws) long h (suc k) = lined_take n es ws (omega (arith, long)) (λ i. h (suc i)) k
+
+pub lined_back : (s : SearchModel) (ws : List (Option ℕ)) (level : ℕ) → IsSearch s → length ws ≡ length s.written → NumbersStay s.written ws → Lined (back_to s.trail level).events (take (length (back_to s.trail level).events) ws)
+lined_back s ws level is long stay =
+    let f = front_of s.trail is.trail level in
+    subst (λ n. Lined (back_to s.trail level).events (take n ws)) (sym (front_length s.trail level f))
+    (subst (λ es. Lined es (take f.count ws)) (sym f.first)
+    (lined_take f.count s.trail.events ws (omega (arith, long, is.each_event)) (lined_stay s.trail.events s.written ws stay is.priced_lines)))
+
 -- ---- a new search
 
 pub new_kept : (f : Problem) (branching : Branching) → IsFlat f → IsSearch (new_search f branching)
@@ -94,12 +132,15 @@ new_kept f branching flat = record {
   clauses = All-nil (IsClause (shape_of f));
   some_literal = All-nil (λ (clause : List Lit). 1 ≤ length clause);
   reasons = λ place. tt;
+  priced_lines = λ place. tt;
   each_event = refl;
   quiet_below = λ level lt. absurd (omega (arith, lt));
   new = λ i j d lt in'. absurd (omega (arith, in'));
   permitted = tt;
+  prices = record { few = omega arith; tolls = All-nil (IsToll f); tariff = tt; bound = tt };
   counted = λ e. refl;
   few_lines = λ e. omega arith;
+  few_priced = omega arith;
   restarts_due = due_later 1;
   few_restarts = λ e. omega arith;
   sound = λ table c permits worth above. All-nil (λ clause. IsTrue (clause_holds table clause));
@@ -110,9 +151,10 @@ new_kept f branching flat = record {
 events_reason : (s : SearchModel) (more : List Event) (why : Why) → IsReason s why → IsReason (with_events s more) why
 events_reason s more (whys.Lemma number clause) h = h
 events_reason s more (whys.Source source clause) h = h
+events_reason s more (whys.Priced clause) h = h
 
-pub implied_search : (s : SearchModel) (lit : Lit) (why : Why) → IsSearch s → lit_fits (trail_shape s.trail) lit ≡ true → IsClause (trail_shape s.trail) (clause_of why) → truth (room_in s) lit ≡ Free → narrowing (clause_of why) (room_in s) ≡ Cut lit → IsReason s why → IsSearch (with_events s (record { lit = lit; level = s.trail.level; why = Some why } ∷ []))
-implied_search s lit why is fits clause free cuts holds =
+pub implied_search : (s : SearchModel) (lit : Lit) (why : Why) → IsSearch s → lit_fits (trail_shape s.trail) lit ≡ true → IsClause (trail_shape s.trail) (clause_of why) → truth (room_in s) lit ≡ Free → narrowing (clause_of why) (room_in s) ≡ Cut lit → IsReason s why → HasLine None why → IsSearch (with_events s (record { lit = lit; level = s.trail.level; why = Some why } ∷ []))
+implied_search s lit why is fits clause free cuts holds line =
     let e : Event = record { lit = lit; level = s.trail.level; why = Some why } in
     record {
       flat = is.flat;
@@ -124,12 +166,15 @@ implied_search s lit why is fits clause free cuts holds =
       clauses = is.clauses;
       some_literal = is.some_literal;
       reasons = λ place. why_option (slice_get (s.trail.events ++ e ∷ []) place) (IsReason (with_events s (e ∷ []))) (each_push s.trail.events e (λ event. IfSome event.why (IsReason (with_events s (e ∷ [])))) (λ k. option_why (slice_get s.trail.events k) (IsReason (with_events s (e ∷ []))) (if_why (why_at s.trail k) (IsReason s) (IsReason (with_events s (e ∷ []))) (events_reason s (e ∷ [])) (is.reasons k))) (events_reason s (e ∷ []) why holds) place);
+      priced_lines = lined_push s.trail.events s.written e None is.each_event line is.priced_lines;
       each_event = omega (arith, length-append s.written (None ∷ []), length-append s.trail.events (e ∷ []), is.each_event);
       quiet_below = quiet_implied s.trail lit why (lemmas_in s) is.quiet_below;
       new = is.new;
       permitted = is.permitted;
+      prices = is.prices;
       counted = is.counted;
       few_lines = is.few_lines;
+      few_priced = is.few_priced;
       restarts_due = is.restarts_due;
       few_restarts = is.few_restarts;
       sound = is.sound;
@@ -143,6 +188,7 @@ decide s lit = record s { trail = decided s.trail lit; written = s.written ++ No
 decide_reason : (s : SearchModel) (lit : Lit) (why : Why) → IsReason s why → IsReason (decide s lit) why
 decide_reason s lit (whys.Lemma number clause) h = h
 decide_reason s lit (whys.Source source clause) h = h
+decide_reason s lit (whys.Priced clause) h = h
 
 pub decided_search : (s : SearchModel) (lit : Lit) → IsSearch s → AllQuiet s → lit_fits (trail_shape s.trail) lit ≡ true → truth (room_in s) lit ≡ Free → IsSearch (decide s lit)
 decided_search s lit is quiet fits free =
@@ -157,12 +203,15 @@ decided_search s lit is quiet fits free =
       clauses = is.clauses;
       some_literal = is.some_literal;
       reasons = λ place. why_option (slice_get (s.trail.events ++ e ∷ []) place) (IsReason (decide s lit)) (each_push s.trail.events e (λ event. IfSome event.why (IsReason (decide s lit))) (λ k. option_why (slice_get s.trail.events k) (IsReason (decide s lit)) (if_why (why_at s.trail k) (IsReason s) (IsReason (decide s lit)) (decide_reason s lit) (is.reasons k))) tt place);
+      priced_lines = lined_push s.trail.events s.written e None is.each_event tt is.priced_lines;
       each_event = omega (arith, length-append s.written (None ∷ []), length-append s.trail.events (e ∷ []), is.each_event);
       quiet_below = quiet_decided s.trail lit (lemmas_in s) is.trail quiet.lemmas is.quiet_below;
       new = is.new;
       permitted = is.permitted;
+      prices = is.prices;
       counted = is.counted;
       few_lines = is.few_lines;
+      few_priced = is.few_priced;
       restarts_due = is.restarts_due;
       few_restarts = is.few_restarts;
       sound = is.sound;
@@ -181,12 +230,15 @@ better_search s table c is permits worth above = record {
   clauses = is.clauses;
   some_literal = is.some_literal;
   reasons = λ place. if_why (why_at s.trail place) (IsReason s) (IsReason (record s { best = Some table })) (reason_rises s table c worth above) (is.reasons place);
+  priced_lines = is.priced_lines;
   each_event = is.each_event;
   quiet_below = is.quiet_below;
   new = is.new;
   permitted = permits;
+  prices = is.prices;
   counted = is.counted;
   few_lines = is.few_lines;
+  few_priced = is.few_priced;
   restarts_due = is.restarts_due;
   few_restarts = is.few_restarts;
   sound = better_true s table c (λ t. All (λ clause. IsTrue (clause_holds t clause)) (lemmas_in s)) worth above is.sound;
@@ -225,10 +277,11 @@ at_level s ws n lemma level restarts since = record (to_level (with_lemma (numbe
 level_reason : (s : SearchModel) (ws : List (Option ℕ)) (n : ℕ) (lemma : List Lit) (level restarts since : ℕ) (why : Why) → IsReason s why → IsReason (at_level s ws n lemma level restarts since) why
 level_reason s ws n lemma level restarts since (whys.Lemma number clause) h = Contains-append_left s.stored (record { number = n + 1; clause = lemma } ∷ []) (record { number = number; clause = clause }) h
 level_reason s ws n lemma level restarts since (whys.Source source clause) h = h
+level_reason s ws n lemma level restarts since (whys.Priced clause) h = h
 
-lemma_at : (s : SearchModel) (ws : List (Option ℕ)) (n : ℕ) (clause lemma : List Lit) (back : ℕ) (places : List ℕ) (level restarts since : ℕ) → IsSearch s → s.over ≡ false → length ws ≡ length s.written → s.clause_lines ≤ n → n ≤ s.clause_lines + most_events s.problem.ships s.problem.slots + 1 → Learns s.trail clause lemma back places → 1 ≤ length lemma
+lemma_at : (s : SearchModel) (ws : List (Option ℕ)) (n : ℕ) (clause lemma : List Lit) (back : ℕ) (places : List ℕ) (level restarts since : ℕ) → IsSearch s → s.over ≡ false → length ws ≡ length s.written → NumbersStay s.written ws → s.clause_lines ≤ n → n ≤ s.clause_lines + most_events s.problem.ships s.problem.slots + 1 → Learns s.trail clause lemma back places → 1 ≤ length lemma
     → level ≤ s.trail.level → QuietBelow (back_to s.trail level) (lemmas_in s ++ lemma ∷ []) → since < 32 * luby (restarts + 1) → restarts + since ≤ s.lemmas + 1 → OfBetter s (λ table. IsTrue (clause_holds table lemma)) → IsSearch (at_level s ws n lemma level restarts since)
-lemma_at s ws n clause lemma back places level restarts since is over long low high learns some le quiet due few true_of =
+lemma_at s ws n clause lemma back places level restarts since is over long stay low high learns some le quiet due few true_of =
     let f = front_of s.trail is.trail level in
     let x : Stored = record { number = n + 1; clause = lemma } in
     let cs : map (λ (one : Stored). one.clause) (s.stored ++ x ∷ []) ≡ lemmas_in s ++ lemma ∷ [] = clauses_push s.stored x in
@@ -245,14 +298,17 @@ lemma_at s ws n clause lemma back places level restarts since is over long low h
           let u = at_level s ws n lemma level restarts since in
           let all : (k : ℕ) → IfSome (slice_get s.trail.events k) (λ event. IfSome event.why (IsReason u)) = λ k. option_why (slice_get s.trail.events k) (IsReason u) (if_why (why_at s.trail k) (IsReason s) (IsReason u) (level_reason s ws n lemma level restarts since) (is.reasons k)) in
           subst (λ es. IfSome (option_and_then (λ (event : Event). event.why) (slice_get es place)) (IsReason u)) (sym f.first) (why_option (slice_get (take f.count s.trail.events) place) (IsReason u) (each_take f.count s.trail.events (λ event. IfSome event.why (IsReason u)) all place));
+      priced_lines = lined_back s ws level is long stay;
       each_event =
           let k = front_length s.trail level f in
           length-take-le (length (back_to s.trail level).events) ws (omega (arith, k, f.among, long, is.each_event));
       quiet_below = subst (QuietBelow (back_to s.trail level)) (sym cs) quiet;
       new = subst (AllPairs (λ earlier later. RoomWithin (denied_room s.problem later) (denied_room s.problem earlier) → ⊥)) (sym cs) (lemmas_new s is.trail is.same_ships is.same_slots is.quiet_below is.clauses is.some_literal is.new clause lemma back places learns (top_low s.trail is.trail clause));
       permitted = is.permitted;
+      prices = is.prices;
       counted = λ e. omega (arith, is.counted over, length-append s.stored (x ∷ []));
       few_lines = λ e. omega (arith, is.few_lines over, high);
+      few_priced = is.few_priced;
       restarts_due = due;
       few_restarts = λ e. few;
       sound = λ table c permits worth above. subst (All (λ clause. IsTrue (clause_holds table clause))) (sym cs) (pushed_true s lemma is.sound true_of table c permits worth above);
@@ -276,15 +332,15 @@ lower a b lt ne = elim (cases_eq (a + 1) b) [ inl e ↦ absurd (ne e) | inr n �
     less : (a b : ℕ) → a < b → (a + 1 ≡ b → ⊥) → a + 1 < b
     less a b lt ne = grind arith
 
-pub lemma_search : (s : SearchModel) (ws : List (Option ℕ)) (n : ℕ) (clause lemma : List Lit) (back : ℕ) (places : List ℕ) → IsSearch s → s.over ≡ false → length ws ≡ length s.written → s.clause_lines ≤ n → n ≤ s.clause_lines + most_events s.problem.ships s.problem.slots + 1 → Learns s.trail clause lemma back places → 1 ≤ length lemma → OfBetter s (λ table. IsTrue (clause_holds table lemma))
+pub lemma_search : (s : SearchModel) (ws : List (Option ℕ)) (n : ℕ) (clause lemma : List Lit) (back : ℕ) (places : List ℕ) → IsSearch s → s.over ≡ false → length ws ≡ length s.written → NumbersStay s.written ws → s.clause_lines ≤ n → n ≤ s.clause_lines + most_events s.problem.ships s.problem.slots + 1 → Learns s.trail clause lemma back places → 1 ≤ length lemma → OfBetter s (λ table. IsTrue (clause_holds table lemma))
     → IsSearch (gone_back (with_lemma (numbers s ws n) lemma) back)
-lemma_search s ws n clause lemma back places is over long low high learns some true_of = by (s.since + 1 == 32 * luby (s.restarts + 1)) refl
+lemma_search s ws n clause lemma back places is over long stay low high learns some true_of = by (s.since + 1 == 32 * luby (s.restarts + 1)) refl
   where
     by : (b : Bool) → (s.since + 1 == 32 * luby (s.restarts + 1)) ≡ b → IsSearch (cond b (at_level s ws n lemma 0 (s.restarts + 1) 0) (at_level s ws n lemma back s.restarts (s.since + 1)))
-    by true e = lemma_at s ws n clause lemma back places 0 (s.restarts + 1) 0 is over long low high learns some (omega arith) (λ level lt. absurd (omega (arith, lt))) (due_later (s.restarts + 1 + 1)) (omega (arith, is.few_restarts over)) true_of
+    by true e = lemma_at s ws n clause lemma back places 0 (s.restarts + 1) 0 is over long stay low high learns some (omega arith) (λ level lt. absurd (omega (arith, lt))) (due_later (s.restarts + 1 + 1)) (omega (arith, is.few_restarts over)) true_of
     by false e =
         let top = some_top s clause lemma back places learns some in
-        lemma_at s ws n clause lemma back places back s.restarts (s.since + 1) is over long low high learns some (omega (arith, back_below s.trail is.trail clause lemma back places learns top)) (quiet_learnt s.trail is.trail clause lemma back places (lemmas_in s) learns top is.quiet_below)
+        lemma_at s ws n clause lemma back places back s.restarts (s.since + 1) is over long stay low high learns some (omega (arith, back_below s.trail is.trail clause lemma back places learns top)) (quiet_learnt s.trail is.trail clause lemma back places (lemmas_in s) learns top is.quiet_below)
         (lower s.since (32 * luby (s.restarts + 1)) is.restarts_due (not_yet (s.since + 1) (32 * luby (s.restarts + 1)) e)) (omega (arith, is.few_restarts over)) true_of
 
 -- ---- a search that is over
@@ -295,9 +351,10 @@ never e = cc
 stopped_reason : (s : SearchModel) (ws : List (Option ℕ)) (n lemmas : ℕ) (why : Why) → IsReason s why → IsReason (record s { written = ws; clause_lines = n; lemmas = lemmas; over = true }) why
 stopped_reason s ws n lemmas (whys.Lemma number clause) h = h
 stopped_reason s ws n lemmas (whys.Source source clause) h = h
+stopped_reason s ws n lemmas (whys.Priced clause) h = h
 
-pub stopped_search : (s : SearchModel) (ws : List (Option ℕ)) (n lemmas : ℕ) → IsSearch s → length ws ≡ length s.written → s.clause_lines ≤ n → IsSearch (record s { written = ws; clause_lines = n; lemmas = lemmas; over = true })
-stopped_search s ws n lemmas is long low = record {
+pub stopped_search : (s : SearchModel) (ws : List (Option ℕ)) (n lemmas : ℕ) → IsSearch s → length ws ≡ length s.written → NumbersStay s.written ws → s.clause_lines ≤ n → IsSearch (record s { written = ws; clause_lines = n; lemmas = lemmas; over = true })
+stopped_search s ws n lemmas is long stay low = record {
   flat = is.flat;
   trail = is.trail;
   same_ships = is.same_ships;
@@ -307,12 +364,15 @@ stopped_search s ws n lemmas is long low = record {
   clauses = is.clauses;
   some_literal = is.some_literal;
   reasons = λ place. if_why (why_at s.trail place) (IsReason s) (IsReason (record s { written = ws; clause_lines = n; lemmas = lemmas; over = true })) (stopped_reason s ws n lemmas) (is.reasons place);
+  priced_lines = lined_stay s.trail.events s.written ws stay is.priced_lines;
   each_event = omega (arith, long, is.each_event);
   quiet_below = is.quiet_below;
   new = is.new;
   permitted = is.permitted;
+  prices = is.prices;
   counted = λ e. absurd (never e);
   few_lines = λ e. absurd (never e);
+  few_priced = is.few_priced;
   restarts_due = is.restarts_due;
   few_restarts = λ e. absurd (never e);
   sound = is.sound;
@@ -325,9 +385,10 @@ lacking s gone = record gone { stored = s.stored; over = true }
 lacking_reason : (s : SearchModel) (ws : List (Option ℕ)) (n : ℕ) (lemma : List Lit) (level restarts since : ℕ) (why : Why) → IsReason s why → IsReason (lacking s (at_level s ws n lemma level restarts since)) why
 lacking_reason s ws n lemma level restarts since (whys.Lemma number clause) h = h
 lacking_reason s ws n lemma level restarts since (whys.Source source clause) h = h
+lacking_reason s ws n lemma level restarts since (whys.Priced clause) h = h
 
-lacking_at : (s : SearchModel) (ws : List (Option ℕ)) (n : ℕ) (lemma : List Lit) (level restarts since : ℕ) → IsSearch s → length ws ≡ length s.written → s.clause_lines ≤ n → level ≤ s.trail.level → since < 32 * luby (restarts + 1) → IsSearch (lacking s (at_level s ws n lemma level restarts since))
-lacking_at s ws n lemma level restarts since is long low le due =
+lacking_at : (s : SearchModel) (ws : List (Option ℕ)) (n : ℕ) (lemma : List Lit) (level restarts since : ℕ) → IsSearch s → length ws ≡ length s.written → NumbersStay s.written ws → s.clause_lines ≤ n → level ≤ s.trail.level → since < 32 * luby (restarts + 1) → IsSearch (lacking s (at_level s ws n lemma level restarts since))
+lacking_at s ws n lemma level restarts since is long stay low le due =
     let f = front_of s.trail is.trail level in
     let u = lacking s (at_level s ws n lemma level restarts since) in
     record {
@@ -342,22 +403,25 @@ lacking_at s ws n lemma level restarts since is long low le due =
       reasons = λ place.
           let all : (k : ℕ) → IfSome (slice_get s.trail.events k) (λ event. IfSome event.why (IsReason u)) = λ k. option_why (slice_get s.trail.events k) (IsReason u) (if_why (why_at s.trail k) (IsReason s) (IsReason u) (lacking_reason s ws n lemma level restarts since) (is.reasons k)) in
           subst (λ es. IfSome (option_and_then (λ (event : Event). event.why) (slice_get es place)) (IsReason u)) (sym f.first) (why_option (slice_get (take f.count s.trail.events) place) (IsReason u) (each_take f.count s.trail.events (λ event. IfSome event.why (IsReason u)) all place));
+      priced_lines = lined_back s ws level is long stay;
       each_event =
           let k = front_length s.trail level f in
           length-take-le (length (back_to s.trail level).events) ws (omega (arith, k, f.among, long, is.each_event));
       quiet_below = quiet_back s.trail level (lemmas_in s) le is.quiet_below;
       new = is.new;
       permitted = is.permitted;
+      prices = is.prices;
       counted = λ e. absurd (never e);
       few_lines = λ e. absurd (never e);
+      few_priced = is.few_priced;
       restarts_due = due;
       few_restarts = λ e. absurd (never e);
       sound = is.sound;
     }
 
-pub lacking_search : (s : SearchModel) (ws : List (Option ℕ)) (n : ℕ) (clause lemma : List Lit) (back : ℕ) (places : List ℕ) → IsSearch s → length ws ≡ length s.written → s.clause_lines ≤ n → Learns s.trail clause lemma back places → 1 ≤ length lemma → IsSearch (lacking s (gone_back (with_lemma (numbers s ws n) lemma) back))
-lacking_search s ws n clause lemma back places is long low learns some = by (s.since + 1 == 32 * luby (s.restarts + 1)) refl
+pub lacking_search : (s : SearchModel) (ws : List (Option ℕ)) (n : ℕ) (clause lemma : List Lit) (back : ℕ) (places : List ℕ) → IsSearch s → length ws ≡ length s.written → NumbersStay s.written ws → s.clause_lines ≤ n → Learns s.trail clause lemma back places → 1 ≤ length lemma → IsSearch (lacking s (gone_back (with_lemma (numbers s ws n) lemma) back))
+lacking_search s ws n clause lemma back places is long stay low learns some = by (s.since + 1 == 32 * luby (s.restarts + 1)) refl
   where
     by : (b : Bool) → (s.since + 1 == 32 * luby (s.restarts + 1)) ≡ b → IsSearch (lacking s (cond b (at_level s ws n lemma 0 (s.restarts + 1) 0) (at_level s ws n lemma back s.restarts (s.since + 1))))
-    by true e = lacking_at s ws n lemma 0 (s.restarts + 1) 0 is long low (omega arith) (due_later (s.restarts + 1 + 1))
-    by false e = lacking_at s ws n lemma back s.restarts (s.since + 1) is long low (omega (arith, back_below s.trail is.trail clause lemma back places learns (some_top s clause lemma back places learns some))) (lower s.since (32 * luby (s.restarts + 1)) is.restarts_due (not_yet (s.since + 1) (32 * luby (s.restarts + 1)) e))
+    by true e = lacking_at s ws n lemma 0 (s.restarts + 1) 0 is long stay low (omega arith) (due_later (s.restarts + 1 + 1))
+    by false e = lacking_at s ws n lemma back s.restarts (s.since + 1) is long stay low (omega (arith, back_below s.trail is.trail clause lemma back places learns (some_top s clause lemma back places learns some))) (lower s.since (32 * luby (s.restarts + 1)) is.restarts_due (not_yet (s.since + 1) (32 * luby (s.restarts + 1)) e))

@@ -1,5 +1,5 @@
 -- A lemma with its reasons, its conflict and the deletion after it: valid, lean, new, and fitting.
-use Rattle.std.proofs.Common.{◌≡◌, ℕ, ◌+◌, ◌^◌, ◌<◌, ◌≤◌, Bool, true, false, cond, List, [], ◌∷◌, ◌++◌, length, All, IsSome, refl, sym, ap, ◌∙◌, subst, arith, append-nil, append_assoc, length-append}
+use Rattle.std.proofs.Common.{◌≡◌, ℕ, ◌+◌, ◌^◌, ◌<◌, ◌≤◌, Bool, true, false, cond, List, [], ◌∷◌, ◌++◌, None, length, All, IsSome, refl, sym, ap, ◌∙◌, subst, arith, append-nil, append_assoc, length-append}
 use Rattle.std.specs.Prelude.{AllPairs}
 use Rattle.std.specs.List.Sorted.{IsStrictlyIncreasing}
 use Rattle.std.proofs.lemmas.Map.Keys.{sorted_from_strictly_increasing}
@@ -9,7 +9,7 @@ use Rattle.hw_model.specs.declared.lit.Lit.{Lit}
 use Rattle.hw_model.specs.Rooms.{RoomWithin}
 use Rattle.hw_lines.specs.declared.line.Line.{Line}
 use Rattle.hw_lines.specs.declared.line.Line.TheVariants as lines
-use Rattle.hw_lines.specs.Tolled.{is_plain}
+use Rattle.hw_lines.specs.Tolled.{is_plain, tariff_of}
 use Rattle.hw_lines.specs.Lines.{clause_of as clause_in, clauses_of, clause_count}
 use Rattle.hw_lines.specs.Valid.{LineFits, ValidFrom, denied_room}
 use Rattle.hw_lines.specs.Lemmas.{lemmas_of, IsNew, LeanFrom}
@@ -45,7 +45,7 @@ abbrev lemma_lines : Cited → List Lit → List Line
 lemma_lines c lemma = c.lines ++ lines.Lemma lemma c.hints ∷ []
 
 pub record LemmaWritten (s : SearchModel) (before : List Line) (lemma : List Lit) (places : List ℕ) (c : Cited) : Type 0 where
-  pub plain : All (λ line. is_plain line ≡ true) (lemma_lines c lemma)
+  pub plain : tariff_of before ≡ None → All (λ line. is_plain line ≡ true) (lemma_lines c lemma)
   pub shaped : All (LineFits s.problem) (lemma_lines c lemma)
   pub valid : ValidFrom s.problem before (lemma_lines c lemma)
   pub lean : LeanFrom s.problem before (lemma_lines c lemma)
@@ -83,8 +83,8 @@ gone_open : (before : List Line) (u : SearchModel) (back : ℕ) → IsTrail u.tr
 gone_open before u back is fit = by (is_due u)
   where
     by : (b : Bool) → FitsOpen before (cond b (record (to_level u 0) { restarts = u.restarts + 1; since = 0 }) (record (to_level u back) { since = u.since + 1 }))
-    by true = back_open before u (record (to_level u 0) { restarts = u.restarts + 1; since = 0 }) 0 is refl refl refl refl refl fit
-    by false = back_open before u (record (to_level u back) { since = u.since + 1 }) back is refl refl refl refl refl fit
+    by true = back_open before u (record (to_level u 0) { restarts = u.restarts + 1; since = 0 }) 0 is refl refl refl refl refl refl refl fit
+    by false = back_open before u (record (to_level u back) { since = u.since + 1 }) back is refl refl refl refl refl refl refl fit
 
 -- ---- and the deletion
 
@@ -100,7 +100,7 @@ gone_problem u back = by (is_due u)
     by true = refl
     by false = refl
 
-deleted : (s : SearchModel) (before written : List Line) (after : SearchModel) (ids : List ℕ) → unkept (before ++ written) after ≡ ids → All (λ line. is_plain line ≡ true) written → All (LineFits s.problem) written → ValidFrom s.problem before written → LeanFrom s.problem before written → IsNew s.problem (before ++ written) → FitsOpen (before ++ written) after → LemmaDone s before (written ++ deletion ids) after
+deleted : (s : SearchModel) (before written : List Line) (after : SearchModel) (ids : List ℕ) → unkept (before ++ written) after ≡ ids → (tariff_of before ≡ None → All (λ line. is_plain line ≡ true) written) → All (LineFits s.problem) written → ValidFrom s.problem before written → LeanFrom s.problem before written → IsNew s.problem (before ++ written) → FitsOpen (before ++ written) after → LemmaDone s before (written ++ deletion ids) after
 deleted s before written after [] e p a v l n fit =
     let same : written ++ [] ≡ written = append-nil written in
     subst (λ xs. LemmaDone s before xs after) (sym same) (record {
@@ -114,7 +114,7 @@ deleted s before written after (id ∷ ids) e p a v l n fit =
     let assoc : (before ++ written) ++ line ∷ [] ≡ before ++ (written ++ line ∷ []) = append_assoc before written (line ∷ []) in
     record {
       well = record {
-        plain = All-push (λ line. is_plain line ≡ true) written line p refl;
+        plain = λ none. All-push (λ line. is_plain line ≡ true) written line (p none) refl;
         fit = All-push (LineFits s.problem) written line a d.0;
         valid = valid_push s.problem before written line v d.1;
         lean = lean_push s.problem before written line l tt;

@@ -14,12 +14,16 @@ use Rattle.hw_lines.specs.declared.line.Line.{Line}
 use Rattle.hw_lines.specs.declared.line.Line.TheVariants as lines
 use Rattle.hw_lines.specs.Lines.{clause_of, clauses_of, clause_count, clause_at, live, deletes, DeletesEarlier, table_after, last_table, is_end, is_closed}
 use Rattle.hw_lines.specs.Lemmas.{lemma_of, lemmas_of}
-use Rattle.hw_lines.proofs.Pushed.{one_more}
-use Rattle.hw_lines.proofs.Pushed.{last_push, clauses_push}
+use Rattle.hw_lines.specs.Laws.{PricesStay}
+use Rattle.hw_lines.proofs.Pushed.{one_more, last_push, clauses_push, clause_prices, table_added}
+use Rattle.hw_story.specs.declared.event.Why.{Why}
+use Rattle.hw_story.specs.declared.event.Why.TheVariants as whys
+use Rattle.hw_story.specs.Trails.{clause_of as why_clause}
 use Rattle.hw_story.specs.Learning.{reason_at}
 use Rattle.hw_store.specs.declared.store.Stored.{Stored}
+use Rattle.hw_progress.specs.Prices.{PriceModel, PricesTold}
 use Rattle.hw_progress.specs.Searches.{SearchModel, FitsOpen, LiveKept, written_at, kept_numbers}
-use Rattle.hw_progress.specs.Turns.{source_line, with_written, with_lemma}
+use Rattle.hw_progress.specs.Turns.{source_line, why_lines, with_written, with_lemma}
 use Rattle.hw_progress.proofs.Numbers.{WrittenAt, written_found, found_written, set_here, set_other, get_within}
 
 -- ---- a clause line
@@ -41,6 +45,19 @@ source_no_lemma f (sources.Window ship) clause = refl
 source_no_lemma f (sources.Rule place) clause = refl
 source_no_lemma f (sources.Order v w x) clause = refl
 source_no_lemma f sources.Goal clause = refl
+
+pub priced_is : (clause : List Lit) → IsClauseLine (lines.Priced clause) clause
+priced_is clause = record { has = refl; no_table = λ last. refl; no_delete = λ id. refl }
+
+pub why_is : (f : Problem) (why : Why) (line : Line) → why_lines f why ≡ line ∷ [] → IsClauseLine line (why_clause why)
+why_is f (whys.Lemma number clause) line e = absurd cc
+why_is f (whys.Source source clause) line e = let same : source_line f source clause ≡ line = cc in subst (λ l. IsClauseLine l clause) same (source_is f source clause)
+why_is f (whys.Priced clause) line e = let same : lines.Priced clause ≡ line = cc in subst (λ l. IsClauseLine l clause) same (priced_is clause)
+
+pub why_no_lemma : (f : Problem) (why : Why) (line : Line) → why_lines f why ≡ line ∷ [] → lemma_of line ≡ None
+why_no_lemma f (whys.Lemma number clause) line e = absurd cc
+why_no_lemma f (whys.Source source clause) line e = let same : source_line f source clause ≡ line = cc in subst (λ l. lemma_of l ≡ None) same (source_no_lemma f source clause)
+why_no_lemma f (whys.Priced clause) line e = let same : lines.Priced clause ≡ line = cc in subst (λ l. lemma_of l ≡ None) same refl
 
 pub lemma_is : (clause : List Lit) (hints : List ℕ) → IsClauseLine (lines.Lemma clause hints) clause
 lemma_is clause hints = record { has = refl; no_table = λ last. refl; no_delete = λ id. refl }
@@ -128,6 +145,15 @@ not_end (l ∷ c) h = refl
 still_open : (f : Problem) (before : List Line) (line : Line) (clause : List Lit) → IsClauseLine line clause → 1 ≤ length clause → is_closed before ≡ false → is_closed (before ++ line ∷ []) ≡ false
 still_open f before line clause c some e = (one_more f before line).closed ∙ ap (λ b. b || is_end (clause_of line)) e ∙ ap is_end c.has ∙ not_end clause some
 
+-- ---- the prices that are told
+
+pub prices_on : (f : Problem) (before after : List Line) (p : PriceModel) → PricesStay f before after → PricesTold f before p → PricesTold f after p
+prices_on f before after p stay told = record { tolls = stay.tolls ∙ told.tolls; tariff = stay.tariff ∙ told.tariff; bound = stay.bound ∙ told.bound }
+
+-- a clause line changes none
+pub clause_told : (f : Problem) (before : List Line) (line : Line) (clause : List Lit) (p : PriceModel) → IsClauseLine line clause → PricesTold f before p → PricesTold f (before ++ line ∷ []) p
+clause_told f before line clause p c told = prices_on f before (before ++ line ∷ []) p (clause_prices f before line clause c.has) told
+
 -- ---- the numbers that a search keeps
 
 pub stored_cases : (s : SearchModel) (n : ℕ) → Contains (kept_numbers s) n → Contains (map (λ (one : Stored). one.number) s.stored) n ⊎ ((place : ℕ) × (written_at s place ≡ Some n))
@@ -193,14 +219,12 @@ some_reason s before fit q n e =
 same_count : (s : SearchModel) (before : List Line) → FitsOpen before s → s.clause_lines + 1 ≡ clause_count before + 1
 same_count s before fit = omega (arith, fit.count)
 
-pub reason_open : (s : SearchModel) (before : List Line) (place : ℕ) (source : Source) (clause : List Lit) → FitsOpen before s → reason_at s.trail place ≡ Some clause → written_at s place ≡ None → 1 ≤ length clause
-    → FitsOpen (before ++ source_line s.problem source clause ∷ []) (with_written s place)
-reason_open s before place source clause fit why none some =
-    let line = source_line s.problem source clause in
-    let c = source_is s.problem source clause in
+-- the line of any reason that has none yet
+pub written_open : (s : SearchModel) (before : List Line) (place : ℕ) (line : Line) (clause : List Lit) → FitsOpen before s → IsClauseLine line clause → lemma_of line ≡ None → reason_at s.trail place ≡ Some clause → written_at s place ≡ None → 1 ≤ length clause → FitsOpen (before ++ line ∷ []) (with_written s place)
+written_open s before place line clause fit c no_lemma why none some =
     let n = same_count s before fit in
     record {
-      lemmas = same_lemmas before line (source_no_lemma s.problem source clause) ∙ fit.lemmas;
+      lemmas = same_lemmas before line no_lemma ∙ fit.lemmas;
       count = counted s.problem before line clause c ∙ ap (λ k. k + 1) fit.count;
       best = last_push before line ∙ c.no_table (last_table before) ∙ fit.best;
       none_empty = still_open s.problem before line clause c some fit.none_empty;
@@ -219,10 +243,11 @@ reason_open s before place source clause fit why none some =
         ]
       ];
       deletes_earlier = earlier_push s.problem before line c.no_delete (omega (arith, counted s.problem before line clause c)) fit.deletes_earlier;
+      prices = clause_told s.problem before line clause s.prices c fit.prices;
     }
 
-pub reason_kept : (s : SearchModel) (before : List Line) (place : ℕ) (source : Source) (clause : List Lit) → FitsOpen before s → LiveKept before s → place < length s.written → written_at s place ≡ None → LiveKept (before ++ source_line s.problem source clause ∷ []) (with_written s place)
-reason_kept s before place source clause fit kept lt none = λ m h. elim (live_back s.problem before (source_line s.problem source clause) clause (source_is s.problem source clause) m h) [
+pub written_kept : (s : SearchModel) (before : List Line) (place : ℕ) (line : Line) (clause : List Lit) → FitsOpen before s → IsClauseLine line clause → LiveKept before s → place < length s.written → written_at s place ≡ None → LiveKept (before ++ line ∷ []) (with_written s place)
+written_kept s before place line clause fit c kept lt none = λ m h. elim (live_back s.problem before line clause c m h) [
   | inl old ↦ elim (stored_cases s m (kept m old)) [
     | inl a ↦ kept_stored (with_written s place) m a
     | inr b ↦ kept_written (with_written s place) b.0 m (written_stays s place b.0 m none b.1)
@@ -231,6 +256,14 @@ reason_kept s before place source clause fit kept lt none = λ m h. elim (live_b
       let e : s.clause_lines + 1 ≡ m = same_count s before fit ∙ sym new in
       subst (Contains (kept_numbers (with_written s place))) e (kept_written (with_written s place) place (s.clause_lines + 1) (set_here s.written place (s.clause_lines + 1) lt))
 ]
+
+-- the line of a source
+pub reason_open : (s : SearchModel) (before : List Line) (place : ℕ) (source : Source) (clause : List Lit) → FitsOpen before s → reason_at s.trail place ≡ Some clause → written_at s place ≡ None → 1 ≤ length clause
+    → FitsOpen (before ++ source_line s.problem source clause ∷ []) (with_written s place)
+reason_open s before place source clause fit why none some = written_open s before place (source_line s.problem source clause) clause fit (source_is s.problem source clause) (source_no_lemma s.problem source clause) why none some
+
+pub reason_kept : (s : SearchModel) (before : List Line) (place : ℕ) (source : Source) (clause : List Lit) → FitsOpen before s → LiveKept before s → place < length s.written → written_at s place ≡ None → LiveKept (before ++ source_line s.problem source clause ∷ []) (with_written s place)
+reason_kept s before place source clause fit kept lt none = written_kept s before place (source_line s.problem source clause) clause fit (source_is s.problem source clause) kept lt none
 
 -- ---- a conflict's line: its number is kept by nobody
 
@@ -247,6 +280,7 @@ line_open s before line clause fit c none some = record {
   reason_stands = λ q. if_some (written_at s q) (λ number. clause_at (before ++ line ∷ []) number ≡ reason_at s.trail q) (λ m e. let r = some_reason s before fit q m e in reason_stays s before line fit q m e r.0 r.1 ∙ sym r.1);
   kept_live = λ m h. live_stays s.problem before line m (c.no_delete m) (fit.kept_live m h);
   deletes_earlier = earlier_push s.problem before line c.no_delete (omega (arith, counted s.problem before line clause c)) fit.deletes_earlier;
+  prices = clause_told s.problem before line clause s.prices c fit.prices;
 }
 
 -- ---- a lemma's line
@@ -287,6 +321,7 @@ lemma_open s before lemma hints fit some =
         | inr new ↦ subst (λ k. IsSome (live (before ++ line ∷ []) k)) (sym (new ∙ n)) (some_is _ lemma (new_live s.problem before line lemma fit.deletes_earlier c))
       ];
       deletes_earlier = earlier_push s.problem before line c.no_delete (omega (arith, counted s.problem before line lemma c)) fit.deletes_earlier;
+      prices = clause_told s.problem before line lemma s.prices c fit.prices;
     }
 
 -- ---- a table's line
@@ -304,6 +339,7 @@ table_open s before table fit =
       reason_stands = λ q. if_some (written_at s q) (λ number. clause_at (before ++ line ∷ []) number ≡ reason_at s.trail q) (λ m e. let r = some_reason s before fit q m e in reason_stays s before line fit q m e r.0 r.1 ∙ sym r.1);
       kept_live = λ m h. live_stays s.problem before line m refl (fit.kept_live m h);
       deletes_earlier = earlier_push s.problem before line (λ id. refl) (omega (arith, o.uncounted refl)) fit.deletes_earlier;
+      prices = prices_on s.problem before (before ++ line ∷ []) s.prices (table_added s.problem before table).prices fit.prices;
     }
 
 pub table_kept : (s : SearchModel) (before : List Line) (table : List ℕ) → LiveKept before s → LiveKept (before ++ lines.Table table ∷ []) (record s { best = Some table })

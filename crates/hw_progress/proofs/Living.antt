@@ -7,12 +7,11 @@ use Rattle.std.proofs.lemmas.List.{length-map, take-append-le}
 use Rattle.std.proofs.lemmas.List.Elements.{All-head, All-tail, filter_map-append}
 use Rattle.std.proofs.Math.Seq.{take-append-add}
 use Rattle.hw_model.specs.declared.lit.Lit.{Lit}
-use Rattle.hw_model.specs.declared.source.Source.{Source}
 use Rattle.hw_model.specs.Problem.{Problem}
 use Rattle.hw_lines.specs.declared.line.Line.{Line}
 use Rattle.hw_lines.specs.declared.line.Line.TheVariants as lines
 use Rattle.hw_lines.specs.Lines.{clause_count, live, live_numbers}
-use Rattle.hw_lines.specs.Lemmas.{lemmas_of}
+use Rattle.hw_lines.specs.Lemmas.{lemma_of, lemmas_of}
 use Rattle.hw_story.specs.declared.event.Why.{Why}
 use Rattle.hw_story.specs.declared.event.Why.TheVariants as whys
 use Rattle.hw_story.specs.Trails.{clause_of, most_events}
@@ -20,10 +19,10 @@ use Rattle.hw_story.specs.Learning.{Learns, reason_at}
 use Rattle.hw_store.specs.declared.store.Stored.{Stored}
 use Rattle.hw_progress.specs.Searches.{SearchModel, IsSearch, FitsOpen, LiveKept, kept_numbers, why_at, written_at}
 use Rattle.hw_progress.specs.Settling.{IsConflict}
-use Rattle.hw_progress.specs.Turns.{source_line, Cited, cite_by, cite, cited, cite_conflict, with_lemma, gone_back, unkept, deletion}
+use Rattle.hw_progress.specs.Turns.{source_line, why_lines, Cited, cite_by, cite, cited, cite_conflict, with_lemma, gone_back, unkept, deletion}
 use Rattle.hw_progress.specs.Living.{FewLive, FewLiveFrom, FewLiveThroughout}
 use Rattle.hw_progress.specs.Laws.{lemma_lines, LemmaMeets, LiveTurn}
-use Rattle.hw_progress.proofs.Lines.{IsClauseLine, source_is, lemma_is, source_no_lemma, same_lemmas, lemmas_push, live_back, live_inside}
+use Rattle.hw_progress.proofs.Lines.{IsClauseLine, source_is, priced_is, lemma_is, source_no_lemma, same_lemmas, lemmas_push, live_back, live_inside}
 use Rattle.hw_progress.proofs.Backs.{contains_any, in_filter, from_filter, in_range, some_live}
 use Rattle.hw_progress.proofs.Bounds.{rises_filter, few_members, written_few, few_reasons, few_numbers, live_few}
 use Rattle.hw_progress.proofs.Citing.{Citing, cite_one, cites, same_problem}
@@ -66,10 +65,10 @@ tight s before few fit kept =
 loose : (f : Problem) (all : List Line) → Tight f all → FewLive f all
 loose f all t = omega (arith, t)
 
-grow : (f g : Problem) (all : List Line) (source : Source) (clause : List Lit) → Tight f all → FewLive f (all ++ source_line g source clause ∷ [])
-grow f g all source clause t =
-    let a = one_more_live f all (source_line g source clause) clause (source_is g source clause) in
-    let b : length (lemmas_of (all ++ source_line g source clause ∷ [])) ≡ length (lemmas_of all) = ap length (same_lemmas all (source_line g source clause) (source_no_lemma g source clause)) in
+grow : (f : Problem) (all : List Line) (line : Line) (clause : List Lit) → IsClauseLine line clause → lemma_of line ≡ None → Tight f all → FewLive f (all ++ line ∷ [])
+grow f all line clause c none t =
+    let a = one_more_live f all line clause c in
+    let b : length (lemmas_of (all ++ line ∷ [])) ≡ length (lemmas_of all) = ap length (same_lemmas all line none) in
     omega (arith, a, b, t)
 
 more_lemma : (f : Problem) (all : List Line) (lemma : List Lit) (hints : List ℕ) → FewLive f all → FewLive f (all ++ lines.Lemma lemma hints ∷ [])
@@ -88,7 +87,9 @@ by_live : (s : SearchModel) (before : List Line) (c : Cited) (q : ℕ) (why : Op
 by_live s before c q None n t h = h
 by_live s before c q (Some (whys.Lemma id clause)) n t h = h
 by_live s before c q (Some (whys.Source source clause)) (Some n) t h = h
-by_live s before c q (Some (whys.Source source clause)) None t h = few_push s.problem before c.lines (source_line c.search.problem source clause) h (grow s.problem c.search.problem (before ++ c.lines) source clause t)
+by_live s before c q (Some (whys.Source source clause)) None t h = few_push s.problem before c.lines (source_line c.search.problem source clause) h (grow s.problem (before ++ c.lines) (source_line c.search.problem source clause) clause (source_is c.search.problem source clause) (source_no_lemma c.search.problem source clause) t)
+by_live s before c q (Some (whys.Priced clause)) (Some n) t h = h
+by_live s before c q (Some (whys.Priced clause)) None t h = few_push s.problem before c.lines (lines.Priced clause) h (grow s.problem (before ++ c.lines) (lines.Priced clause) clause (priced_is clause) refl t)
 
 tight_citing : (s : SearchModel) (before : List Line) (done : List ℕ) (c : Cited) → IsSearch s → Citing s before done c → Tight s.problem (before ++ c.lines)
 tight_citing s before done c is k =
@@ -109,8 +110,12 @@ all_live s before done (q ∷ places) c is k some few h =
 conflict_live : (s : SearchModel) (before : List Line) (done : List ℕ) (c : Cited) (why : Why) → IsSearch s → Citing s before done c → FewLiveFrom s.problem before c.lines → FewLiveFrom s.problem before (cite_conflict c why).lines × FewLive s.problem (before ++ (cite_conflict c why).lines)
 conflict_live s before done c (whys.Lemma id clause) is k h = (h, loose s.problem (before ++ c.lines) (tight_citing s before done c is k))
 conflict_live s before done c (whys.Source source clause) is k h =
-    let g = grow s.problem c.search.problem (before ++ c.lines) source clause (tight_citing s before done c is k) in
-    (few_push s.problem before c.lines (source_line c.search.problem source clause) h g, subst (λ xs. FewLive s.problem xs) (append_assoc before c.lines (source_line c.search.problem source clause ∷ [])) g)
+    let line = source_line c.search.problem source clause in
+    let g = grow s.problem (before ++ c.lines) line clause (source_is c.search.problem source clause) (source_no_lemma c.search.problem source clause) (tight_citing s before done c is k) in
+    (few_push s.problem before c.lines line h g, subst (λ xs. FewLive s.problem xs) (append_assoc before c.lines (line ∷ [])) g)
+conflict_live s before done c (whys.Priced clause) is k h =
+    let g = grow s.problem (before ++ c.lines) (lines.Priced clause) clause (priced_is clause) refl (tight_citing s before done c is k) in
+    (few_push s.problem before c.lines (lines.Priced clause) h g, subst (λ xs. FewLive s.problem xs) (append_assoc before c.lines (lines.Priced clause ∷ [])) g)
 
 pub lemma_live : (s : SearchModel) (before : List Line) (why : Why) (lemma : List Lit) (back : ℕ) (places : List ℕ) → IsSearch s → s.over ≡ false → s.lemmas < 100000 → FitsOpen before s → LiveKept before s → Learns s.trail (clause_of why) lemma back places
     → FewLiveFrom s.problem before (lemma_lines (cite_conflict (cited s places) why) lemma)
@@ -143,9 +148,12 @@ turn_live s before why lemma back places is over few fit kept k some learns lite
 same_after : (s : SearchModel) (before : List Line) (done : List ℕ) (c : Cited) (why : Why) (lemma : List Lit) (back : ℕ) → Citing s before done c → (gone_back (with_lemma (cite_conflict c why).search lemma) back).problem ≡ s.problem
 same_after s before done c (whys.Lemma id clause) lemma back k = gone_problem (with_lemma (cite_conflict c (whys.Lemma id clause)).search lemma) back ∙ same_problem s before done c k
 same_after s before done c (whys.Source source clause) lemma back k = gone_problem (with_lemma (cite_conflict c (whys.Source source clause)).search lemma) back ∙ same_problem s before done c k
+same_after s before done c (whys.Priced clause) lemma back k = gone_problem (with_lemma (cite_conflict c (whys.Priced clause)).search lemma) back ∙ same_problem s before done c k
 
-pub conflict_only : (s : SearchModel) (before : List Line) (source : Source) (clause : List Lit) → IsSearch s → FitsOpen before s → LiveKept before s → FewLiveFrom s.problem before (source_line s.problem source clause ∷ [])
-conflict_only s before source clause is fit kept = (grow s.problem s.problem before source clause (tight s before (few_reasons s is).0 fit kept), tt)
+pub conflict_only : (s : SearchModel) (before : List Line) (why : Why) → IsSearch s → FitsOpen before s → LiveKept before s → FewLiveFrom s.problem before (why_lines s.problem why)
+conflict_only s before (whys.Lemma number clause) is fit kept = tt
+conflict_only s before (whys.Source source clause) is fit kept = (grow s.problem before (source_line s.problem source clause) clause (source_is s.problem source clause) (source_no_lemma s.problem source clause) (tight s before (few_reasons s is).0 fit kept), tt)
+conflict_only s before (whys.Priced clause) is fit kept = (grow s.problem before (lines.Priced clause) clause (priced_is clause) refl (tight s before (few_reasons s is).0 fit kept), tt)
 
 table_back : (f : Problem) (before : List Line) (table : List ℕ) (n : ℕ) → IsSome (live (before ++ lines.Table table ∷ []) n) → IsSome (live before n)
 table_back f before table n h = subst IsSome ((one_more f before (lines.Table table)).earlier n (inside n h) refl) h
@@ -161,7 +169,7 @@ turn_lives s before is over few fit kept = record {
       let p : after.problem ≡ s.problem = ap (λ (x : SearchModel). x.problem) e ∙ same_after s before places (cited s places) why lemma back (cites s before places is fit kept learns.reasons (omega (arith, n, m))) in
       turn_live s before why lemma back places is over few fit kept k some learns literal after e p;
   last = λ why back places learns. lemma_live s before why [] back places is over few fit kept learns;
-  conflict = λ source clause. conflict_only s before source clause is fit kept;
+  conflict = λ why. conflict_only s before why is fit kept;
   table = λ table fits.
       (live_few (record s { best = Some table }) (before ++ lines.Table table ∷ []) 0 (few_reasons s is).0 fits (λ n h. inl (kept n (table_back s.problem before table n h))), tt);
 }

@@ -52,7 +52,7 @@ part_well f before more n w l =
     let counts : clause_count more ≡ clause_count (take n more) + clause_count (drop n more) = ap clause_count (sym whole) ∙ count_append (take n more) (drop n more) in
     record {
       well = record {
-        plain = All-take (λ line. is_plain line ≡ true) n more w.plain;
+        plain = λ none. All-take (λ line. is_plain line ≡ true) n more (w.plain none);
         fit = All-take (LineFits f) n more w.fit;
         valid = valid_part f before more n w.valid;
         lean = lean_part f before more n w.lean;

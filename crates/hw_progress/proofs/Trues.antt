@@ -1,7 +1,7 @@
 -- What a search holds is true of each permitted timetable that beats its best.
-use Rattle.std.proofs.Common.{◌≡◌, ℕ, ◌<◌, true, List, [], ◌∷◌, ◌++◌, Option, Some, None, map, filter_map, option_and_then, All, IfSome, IsSome, IsTrue, refl, sym, ap, ◌∙◌, subst, arith, inl, inr}
+use Rattle.std.proofs.Common.{◌≡◌, ℕ, true, List, [], ◌∷◌, ◌++◌, Option, Some, None, map, filter_map, option_and_then, All, IfSome, IsSome, IsTrue, refl, sym, ap, ◌∙◌, subst, inl, inr}
 use Rattle.std.specs.List.{cons_option}
-use Rattle.std.proofs.lemmas.Bool.{ltb-true, lt-ltb, cases_Bool, cases_lt}
+use Rattle.std.proofs.lemmas.Bool.{lt-ltb, cases_Bool, cases_lt}
 use Rattle.std.proofs.lemmas.List.Elements.{All-nil, All-cons, All-append, All-weaker, All-head, All-tail, All-contains}
 use Rattle.hw_model.specs.declared.lit.Lit.{Lit}
 use Rattle.hw_model.specs.Problem.{shape_of}
@@ -43,6 +43,7 @@ stored_all P (x ∷ xs) all =
 pub why_true : (s : SearchModel) → IsSearch s → (why : Why) → IsClause (shape_of s.problem) (clause_of why) → IsReason s why → OfBetter s (λ table. IsTrue (clause_holds table (clause_of why)))
 why_true s is (whys.Lemma number clause) fits holds table c permits worth above = All-contains (λ (one : Stored). IsTrue (clause_holds table one.clause)) s.stored (record { number = number; clause = clause }) (stored_all (λ clause. IsTrue (clause_holds table clause)) s.stored (is.sound table c permits worth above)) holds
 why_true s is (whys.Source source clause) fits holds table c permits worth above = by_source s.problem source (best_cargo s) clause table c is.flat holds.0 fits holds.1 permits worth above
+why_true s is (whys.Priced clause) fits holds table c permits worth above = holds table c permits worth above
 
 -- what holds of each clause that may be a reason holds of the reason of each event
 each_reason : (s : SearchModel) → IsSearch s → (P : List Lit → Type 0) → ((why : Why) → IsClause (shape_of s.problem) (clause_of why) → IsReason s why → P (clause_of why)) → (place : ℕ) → IfSome (reason_at s.trail place) P
@@ -87,16 +88,6 @@ lemma_true s is why lemma back places k learns table c permits worth above = eli
 
 -- ---- a better best, and one more lemma
 
-pub beats_more : (d c : ℕ) (best : Option ℕ) → IsTrue (beats c best) → IsTrue (beats d (Some c)) → IsTrue (beats d best)
-beats_more d c None h e = refl
-beats_more d c (Some b) h e =
-    let less : b < c = ltb-true _ _ h in
-    let more : c < d = ltb-true _ _ e in
-    lt-ltb _ _ (omega (arith, less, more))
-
-pub better_true : (s : SearchModel) (table : List ℕ) (c : ℕ) (P : List ℕ → Type 0) → cargo s.problem table ≡ Some c → IsTrue (beats c (best_cargo s)) → OfBetter s P → OfBetter (record s { best = Some table }) P
-better_true s table c P worth above h other d permits e over = h other d permits e (beats_more d c (best_cargo s) above (subst (λ o. IsTrue (beats d o)) worth over))
-
 pub pushed_true : (s : SearchModel) (lemma : List Lit) → OfBetter s (λ table. All (λ clause. IsTrue (clause_holds table clause)) (lemmas_in s)) → OfBetter s (λ table. IsTrue (clause_holds table lemma)) → OfBetter s (λ table. All (λ clause. IsTrue (clause_holds table clause)) (lemmas_in s ++ lemma ∷ []))
 pushed_true s lemma all one table c permits worth above = All-append (λ clause. IsTrue (clause_holds table clause)) (lemmas_in s) (lemma ∷ []) (all table c permits worth above) (All-cons (λ clause. IsTrue (clause_holds table clause)) lemma [] (one table c permits worth above) (All-nil (λ clause. IsTrue (clause_holds table clause))))
 
@@ -110,7 +101,7 @@ implied_none s mid settled m h = subst (λ (x : SearchModel). OfBetter x (λ tab
 
 pub nothing_better : (s after : SearchModel) (old new : LogModel) → DoesEnd s after old new → NothingBetter s
 nothing_better s after old new (at_conflict e) =
-    implied_none s e.mid (Conflict (whys.Source e.source [])) e.settles (λ table c permits worth above. never table (why_true e.mid e.settles.kept (whys.Source e.source []) e.settles.ends.fits e.settles.ends.holds table c permits worth above))
+    implied_none s e.mid (Conflict e.why) e.settles (λ table c permits worth above. never table (subst (λ xs. clause_holds table xs ≡ true) e.none (why_true e.mid e.settles.kept e.why e.settles.ends.fits e.settles.ends.holds table c permits worth above)))
 nothing_better s after old new (at_lemma e) =
     implied_none s e.mid (Conflict e.why) e.analysed.settles (λ table c permits worth above. never table (lemma_true e.mid e.analysed.settles.kept e.why [] e.back e.places e.analysed.settles.ends e.analysed.learns table c permits worth above))
 

@@ -23,12 +23,12 @@ use Rattle.hw_cert.specs.Logs.{LogTold}
 use Rattle.hw_store.specs.declared.store.Stored.{Stored}
 use Rattle.hw_progress.specs.Searches.{SearchModel, new_search, IsSearch, IsReason, FitsOpen, LiveKept, LogFits, room_in, best_cargo, written_at, why_at}
 use Rattle.hw_progress.specs.Settling.{AllQuiet, IsConflict}
-use Rattle.hw_progress.specs.Turns.{source_line, with_written, cited, cite_conflict, with_lemma, to_level, gone_back, unkept, deletion}
-use Rattle.hw_progress.specs.Laws.{GoodLine, FitGoes, FitChanges, lemma_lines, LemmaMeets, EndMeets}
-use Rattle.hw_progress.proofs.Lines.{source_is, source_no_lemma, of_some, reason_open, reason_kept, line_open, table_open, table_kept}
+use Rattle.hw_progress.specs.Turns.{source_line, why_lines, with_written, cited, cite_conflict, with_lemma, to_level, gone_back, unkept, deletion}
+use Rattle.hw_progress.specs.Laws.{GoodLine, FitGoes, ConflictMeets, FitChanges, lemma_lines, LemmaMeets, EndMeets}
+use Rattle.hw_progress.proofs.Lines.{IsClauseLine, why_is, why_no_lemma, of_some, reason_open, reason_kept, line_open, table_open, table_kept}
 use Rattle.hw_progress.proofs.Backs.{events_open, events_kept, decided_open, decided_live, back_open, deleted_open, deleted_kept, nothing_kept, deletion_valid}
 use Rattle.hw_progress.proofs.Holds.{Writes, table_writes, room_fits, nothing_refutes, trail_clause}
-use Rattle.hw_progress.proofs.Citing.{Prepared, cites, prepared, source_wrote, why_inside, why_reason, reason_some}
+use Rattle.hw_progress.proofs.Citing.{Prepared, cites, prepared, source_wrote, why_wrote, why_inside, why_reason, reason_some}
 use Rattle.hw_progress.proofs.LemmaTurn.{lemma_written, lemma_done, few_places, count_append}
 use Rattle.hw_progress.proofs.Keeps.{new_kept, better_search, lemma_search}
 use Rattle.hw_progress.proofs.Bounds.{few_numbers}
@@ -51,6 +51,7 @@ starts f branching told flat none behind = (
       reason_stands = λ place. tt;
       kept_live = λ number h. absurd (omega (arith, h.1));
       deletes_earlier = λ number lt. refl;
+      prices = record { tolls = refl; tariff = refl; bound = refl };
     });
     live_kept = subst (λ xs. LiveKept xs (new_search f branching)) (sym none) (λ number h. absurd (no_line number h));
   },
@@ -74,20 +75,21 @@ reason s before place source clause is fit w none few =
       },
     )
 
-closes : (f : Problem) (before : List Line) (source : Source) → is_closed (before ++ source_line f source [] ∷ []) ≡ true
-closes f before source = (one_more f before (source_line f source [])).closed ∙ ap (λ o. is_closed before || is_end o) (source_is f source []).has ∙ last (is_closed before)
+closes : (f : Problem) (before : List Line) (line : Line) (clause : List Lit) → IsClauseLine line clause → clause ≡ [] → is_closed (before ++ line ∷ []) ≡ true
+closes f before line clause c none = (one_more f before line).closed ∙ ap (λ o. is_closed before || is_end o) (c.has ∙ ap (λ xs. Some xs) none) ∙ last (is_closed before)
   where
     last : (b : Bool) → (b || true) ≡ true
     last true = refl
     last false = refl
 
-pub conflict : (s : SearchModel) (before : List Line) (source : Source) (clause : List Lit) → IsSearch s → FitsOpen before s → IsConflict s (whys.Source source clause) → s.clause_lines + 1 < 2 ^ 32
-    → GoodLine s.problem before (source_line s.problem source clause) × (1 ≤ length clause → FitsOpen (before ++ source_line s.problem source clause ∷ []) (record s { clause_lines = s.clause_lines + 1 })) × (clause ≡ [] → is_closed (before ++ source_line s.problem source clause ∷ []) ≡ true)
-conflict s before source clause is fit k few = (
-  good s.problem before (source_line s.problem source clause) (source_wrote s s before source clause refl refl fit k.holds k.fits few),
-  λ some. line_open s before (source_line s.problem source clause) clause fit (source_is s.problem source clause) (source_no_lemma s.problem source clause) some,
-  λ e. subst (λ c. is_closed (before ++ source_line s.problem source c ∷ []) ≡ true) (sym e) (closes s.problem before source),
-)
+pub conflict : (s : SearchModel) (before : List Line) (why : Why) (line : Line) → IsSearch s → FitsOpen before s → IsConflict s why → why_lines s.problem why ≡ line ∷ [] → s.clause_lines + 1 < 2 ^ 32 → ConflictMeets s before why line
+conflict s before why line is fit k own few =
+    let c = why_is s.problem why line own in
+    record {
+      good = good s.problem before line (why_wrote s s before why line s.written s.clause_lines refl fit k own few);
+      fits = λ some. line_open s before line (clause_of why) fit c (why_no_lemma s.problem why line own) some;
+      closes = λ none. closes s.problem before line (clause_of why) c none;
+    }
 
 worth : (o : Option ℕ) (P : ℕ → Type 0) → IsSomeAnd o P → (c : ℕ) × (o ≡ Some c) × P c
 worth None P h = absurd h
@@ -119,7 +121,7 @@ delete s before fit =
   where
     by : (ids : List ℕ) → unkept before s ≡ ids → 1 ≤ length ids → GoodLine s.problem before (lines.Delete ids)
     by [] e some = absurd (omega (arith, some))
-    by (id ∷ ids) e some = let v = deletion_valid s.problem before s id ids e fit.none_empty in record { plain = refl; fits = v.0; valid = v.1; lean = tt }
+    by (id ∷ ids) e some = let v = deletion_valid s.problem before s id ids e fit.none_empty in record { plain = λ none. refl; fits = v.0; valid = v.1; lean = tt }
 
 pub fit_changes : (s : SearchModel) (before : List Line) → IsSearch s → FitsOpen before s → FitChanges s before
 fit_changes s before is fit = record {
@@ -128,7 +130,7 @@ fit_changes s before is fit = record {
     opened = decided_open before s (record { lit = lit; level = s.trail.level + 1; why = None }) fit;
     kept = decided_live before s (record { lit = lit; level = s.trail.level + 1; why = None });
   };
-  back = λ level. back_open before s (to_level s level) level is.trail refl refl refl refl refl fit;
+  back = λ level. back_open before s (to_level s level) level is.trail refl refl refl refl refl refl refl fit;
 }
 
 -- ---- a turn with a lemma
@@ -162,7 +164,7 @@ lemma_meets s before why lemma back places is over few fit kept k some learns li
       fits = subst (λ xs. FitsOpen xs after) e d.fits;
       kept = subst (λ xs. LiveKept xs after) e d.kept;
       few = omega (arith, w.few, m);
-      search = subst (λ (x : SearchModel). IsSearch (gone_back (with_lemma x lemma) back)) (sym p.same) (lemma_search s c.search.written c.search.clause_lines (clause_of why) lemma back places is over p.long low high learns literal (lemma_true s is why lemma back places k learns));
+      search = subst (λ (x : SearchModel). IsSearch (gone_back (with_lemma x lemma) back)) (sym p.same) (lemma_search s c.search.written c.search.clause_lines (clause_of why) lemma back places is over p.long p.stay low high learns literal (lemma_true s is why lemma back places k learns));
     }
 
 pub last : (s : SearchModel) (before : List Line) (why : Why) (back : ℕ) (places : List ℕ) → IsSearch s → s.over ≡ false → s.lemmas < 100000 → FitsOpen before s → LiveKept before s → IsConflict s why → 1 ≤ length (clause_of why) → Learns s.trail (clause_of why) [] back places

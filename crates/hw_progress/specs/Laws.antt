@@ -1,5 +1,5 @@
 -- The laws of a search: what it keeps, and that the lines it writes are valid, lean and new and fit it.
-use Rattle.std.specs.Prelude.{◌≡◌, ◌⊎◌, ℕ, ◌+◌, ◌-◌, ◌^◌, ◌<◌, ◌≤◌, true, false, List, [], ◌∷◌, ◌++◌, Option, Some, None, All, Contains, IsSome, IsSomeAnd, IsTrue, length, map, take}
+use Rattle.std.specs.Prelude.{◌≡◌, ◌⊎◌, ℕ, ◌+◌, ◌-◌, ◌^◌, ◌<◌, ◌≤◌, true, false, List, [], ◌∷◌, ◌++◌, Option, Some, None, All, Contains, IfSome, IsSome, IsSomeAnd, IsTrue, length, map, take}
 use Rattle.std.specs.List.{range_with_len}
 use Rattle.hw_model.specs.declared.lit.Lit.{Lit}
 use Rattle.hw_model.specs.declared.lit.LitTruth.TheVariants.{Free}
@@ -14,10 +14,10 @@ use Rattle.hw_model.specs.Narrowing.{truth}
 use Rattle.hw_model.specs.Replay.{narrowing}
 use Rattle.hw_lines.specs.declared.line.Line.{Line}
 use Rattle.hw_lines.specs.declared.line.Line.TheVariants as lines
-use Rattle.hw_lines.specs.Tolled.{is_plain}
+use Rattle.hw_lines.specs.Tolled.{is_plain, tariff_of}
 use Rattle.hw_lines.specs.Lines.{clause_count, live, is_closed}
 use Rattle.hw_lines.specs.Valid.{LineFits, ValidAfter, hinted}
-use Rattle.hw_lines.specs.Lemmas.{LeanAfter, lemmas_of, IsNew}
+use Rattle.hw_lines.specs.Lemmas.{LeanAfter, lemma_of, lemmas_of, IsNew}
 use Rattle.hw_story.specs.declared.event.Event.{Event}
 use Rattle.hw_story.specs.declared.event.Why.{Why}
 use Rattle.hw_story.specs.declared.event.Why.TheVariants as whys
@@ -26,13 +26,24 @@ use Rattle.hw_story.specs.Learning.{Learns, chain_of}
 use Rattle.hw_progress.specs.declared.outcome.Branching.{Branching}
 use Rattle.hw_progress.specs.Luby.{luby}
 use Rattle.hw_progress.specs.Branches.{branch_literal}
-use Rattle.hw_cert.specs.Logs.{LogTold, LogModel}
-use Rattle.hw_progress.specs.Searches.{SearchModel, new_search, IsSearch, IsReason, OfBetter, FitsOpen, LiveKept, LogFits, room_in, best_cargo, written_at, why_at, kept_numbers}
+use Rattle.hw_cert.specs.Logs.{LogTold, LogModel, WhereTold, Grows, IsEmpty}
+use Rattle.hw_progress.specs.Searches.{SearchModel, new_search, IsSearch, IsReason, HasLine, NumbersStay, PricesShow, OfBetter, FitsOpen, LiveKept, LogFits, room_in, best_cargo, written_at, why_at, kept_numbers}
 use Rattle.hw_progress.specs.Settling.{AllQuiet, with_events, IsConflict}
-use Rattle.hw_progress.specs.Turns.{source_line, with_written, Cited, cited, cite_conflict, with_lemma, to_level, gone_back, unkept, deletion, DoesEnd, WritesWell}
+use Rattle.hw_progress.specs.Turns.{source_line, why_lines, with_written, Cited, cited, cite_conflict, with_lemma, to_level, gone_back, unkept, deletion, DoesEnd, TurnMeets, WritesWell, is_last}
+use Rattle.hw_progress.specs.declared.outcome.Bounded.TheVariants as bounds
 use Rattle.hw_progress.specs.declared.outcome.Solved.{Solved}
+use Rattle.hw_progress.specs.declared.outcome.Solved.TheVariants as answers
+use Rattle.hw_progress.specs.declared.outcome.Turn.{Turn}
+use Rattle.hw_progress.specs.declared.outcome.Turn.TheVariants as turns
+use Rattle.hw_tolls.specs.declared.tariff.Tariff.{Tariff}
+use Rattle.hw_tolls.specs.declared.toll.Toll.{Toll}
+use Rattle.hw_tolls.specs.Tolls.{IsToll}
+use Rattle.hw_tolls.specs.Prices.{TariffFits, PricesBound}
+use Rattle.hw_progress.specs.Prices.{toll_line, tariff_line, with_toll, with_tariff, with_bound, DuesAscend}
+use Rattle.hw_progress.specs.Advised.{Heeds, HeedsLine, AdvisedMeets, BoundMeets, with_priced}
 use Rattle.hw_progress.specs.Living.{FewLive, FewLiveThroughout, FewLiveFrom}
 use Rattle.hw_progress.specs.Solving.{SolveWrites, AnswerMeans}
+use Rattle.hw_progress.specs.Proving.{ProveMeets, Proving, IsEndOf}
 
 -- ---- the beginning
 
@@ -42,9 +53,9 @@ NewSearch = (f : Problem) (branching : Branching) (told : LogTold) → IsFlat f 
 
 -- ---- what each line leaves
 
--- a line says nothing of tolls or prices, is of the problem's shape, valid after these lines, and lean
+-- a line is of the problem's shape, valid after these lines, and lean. Where no prices are in force it says nothing of tolls or prices
 pub record GoodLine (f : Problem) (before : List Line) (line : Line) : Type 0 where
-  pub plain : is_plain line ≡ true
+  pub plain : tariff_of before ≡ None → is_plain line ≡ true
   pub fits : LineFits f line
   pub valid : ValidAfter f before line
   pub lean : LeanAfter f before line
@@ -59,10 +70,96 @@ abbrev pub ReasonLine : Type 0
 ReasonLine = (s : SearchModel) (before : List Line) (place : ℕ) (source : Source) (clause : List Lit) → IsSearch s → FitsOpen before s → why_at s.trail place ≡ Some (whys.Source source clause) → written_at s place ≡ None → s.clause_lines + 1 < 2 ^ 32
     → GoodLine s.problem before (source_line s.problem source clause) × FitGoes before s (before ++ source_line s.problem source clause ∷ []) (with_written s place)
 
--- a conflict that a source gave. Its line stands, and nobody keeps its number
+-- the line of a conflict that is no stored lemma stands, and nobody keeps its number
+pub record ConflictMeets (s : SearchModel) (before : List Line) (why : Why) (line : Line) : Type 0 where
+  pub good : GoodLine s.problem before line
+  pub fits : 1 ≤ length (clause_of why) → FitsOpen (before ++ line ∷ []) (record s { clause_lines = s.clause_lines + 1 })
+  pub closes : clause_of why ≡ [] → is_closed (before ++ line ∷ []) ≡ true
+
+-- a conflict that a source or prices gave
 abbrev pub ConflictLine : Type 0
-ConflictLine = (s : SearchModel) (before : List Line) (source : Source) (clause : List Lit) → IsSearch s → FitsOpen before s → IsConflict s (whys.Source source clause) → s.clause_lines + 1 < 2 ^ 32
-    → GoodLine s.problem before (source_line s.problem source clause) × (1 ≤ length clause → FitsOpen (before ++ source_line s.problem source clause ∷ []) (record s { clause_lines = s.clause_lines + 1 })) × (clause ≡ [] → is_closed (before ++ source_line s.problem source clause ∷ []) ≡ true)
+ConflictLine = (s : SearchModel) (before : List Line) (why : Why) (line : Line) → IsSearch s → FitsOpen before s → IsConflict s why → why_lines s.problem why ≡ line ∷ [] → s.clause_lines + 1 < 2 ^ 32 → ConflictMeets s before why line
+
+-- ---- tolls and prices
+
+-- a line is of the problem's shape, valid after these lines, and lean
+pub record PriceLine (f : Problem) (before : List Line) (line : Line) : Type 0 where
+  pub fits : LineFits f line
+  pub valid : ValidAfter f before line
+  pub lean : LeanAfter f before line
+
+-- a line that changes the prices, and what it leaves
+pub record PriceMeets (s : SearchModel) (before : List Line) (line : Line) (after : SearchModel) : Type 0 where
+  pub good : PriceLine s.problem before line
+  pub no_lemma : lemma_of line ≡ None
+  pub fits : FitGoes before s (before ++ line ∷ []) after
+  pub few_live : LiveKept before s → FewLiveFrom s.problem before (line ∷ [])
+
+-- what the line leaves is a search, whatever a log tells, and the line is good after any lines that fit
+pub record PriceTaken (s : SearchModel) (line : Line) (after : SearchModel) : Type 0 where
+  pub kept : IsSearch after
+  pub meets : (before : List Line) → FitsOpen before s → PriceMeets s before line after
+
+-- a toll of the problem is declared
+abbrev pub TollLine : Type 0
+TollLine = (s : SearchModel) (toll : Toll) → IsSearch s → IsToll s.problem toll → length s.prices.tolls < 10_000
+    → PriceTaken s (toll_line s.problem toll) (record s { prices = with_toll s.prices toll })
+
+-- a tariff on the declared tolls comes into force
+abbrev pub TariffLine : Type 0
+TariffLine = (s : SearchModel) (tariff : Tariff) → IsSearch s → TariffFits (length s.prices.tolls) tariff → DuesAscend tariff
+    → PriceTaken s (tariff_line tariff) (record s { prices = with_tariff s.prices tariff })
+
+-- a bound of the whole problem below the last one, by the tariff in force
+abbrev pub BoundLine : Type 0
+BoundLine = (s : SearchModel) (bound : ℕ) → IsSearch s → bound ≤ 40_000_000_000_000 → IfSome s.prices.bound (λ last. bound < last) → IsSomeAnd s.prices.tariff (λ tariff. (1 ≤ tariff.scale) × PricesBound s.problem s.prices.tolls tariff bound)
+    → PriceTaken s (lines.Bound bound) (record s { prices = with_bound s.prices bound })
+
+-- a literal is implied by a clause that the prices in force show, and the clause is written
+abbrev pub PricedLine : Type 0
+PricedLine = (s : SearchModel) (clause : List Lit) (lit : Lit) → IsSearch s → IsClause (shape_of s.problem) clause → PricesShow s clause → lit_fits (trail_shape s.trail) lit ≡ true → truth (room_in s) lit ≡ Free → narrowing clause (room_in s) ≡ Cut lit → s.clause_lines + 1 < 2 ^ 32 → s.priced < 1_000_000_000
+    → PriceTaken s (lines.Priced clause) (with_priced s lit clause)
+
+-- what the prices in force show is true of each permitted timetable that beats the best
+abbrev pub PricesTrue : Type 0
+PricesTrue = (s : SearchModel) (clause : List Lit) → IsSearch s → IsClause (shape_of s.problem) clause → PricesShow s clause → IsReason s (whys.Priced clause)
+
+-- advice that is heeded in parts is heeded
+abbrev pub HeedsOn : Type 0
+HeedsOn = ((s : SearchModel) (log : LogModel) → IsSearch s → WhereTold log (λ told. LogFits told s) → Heeds s s log log)
+    × ((s mid after : SearchModel) (old then new : LogModel) → Heeds s mid old then → Heeds mid after then new → Heeds s after old new)
+
+-- one line of advice that a search takes is heeded
+abbrev pub HeedsOne : Type 0
+HeedsOne = (s : SearchModel) (line : Line) (after : SearchModel) (old new : LogModel) → WhereTold old (λ told. LogFits told s) → new.faults ≡ old.faults → PriceTaken s line after → Grows old new (λ was now. (now.lines ≡ was.lines ++ line ∷ []) × (now.behind ≡ []))
+    → HeedsLine s line after old new
+
+-- ---- a whole solution with advice
+
+-- it has no memory to begin, or begins, and goes on through turns and bounds
+pub record ProvingGoesOn (f : Problem) (budget : ℕ) : Type 0 where
+  pub no_search : (log : LogModel) → IsEmpty log → ProveMeets f budget log (answers.NoMemory None) None log
+  pub begins : (branching : Branching) (log : LogModel) → IsFlat f → IsEmpty log → Proving f budget (new_search f branching) log log
+  pub turns : (s after : SearchModel) (turn : Turn) (old here new : LogModel) → Proving f budget s old here → s.lemmas < budget → is_last turn ≡ false → AdvisedMeets s here turn after new → Proving f budget after old new
+  pub lower : (s after : SearchModel) (old here new : LogModel) → Proving f budget s old here → BoundMeets s here bounds.Lower after new → Proving f budget after old new
+  pub same : (s after : SearchModel) (old here new : LogModel) → Proving f budget s old here → BoundMeets s here bounds.Same after new → Proving f budget after old new
+
+-- what its answers meet, with the bound of the search
+pub record ProvingEnds (f : Problem) (budget : ℕ) (s : SearchModel) (old here : LogModel) : Type 0 where
+  pub spent : budget ≤ s.lemmas → ProveMeets f budget old (answers.Unfinished s.best) s.prices.bound here
+  pub ended : (after : SearchModel) (new : LogModel) → s.lemmas < budget → AdvisedMeets s here turns.Ended after new → (answer : Solved) → IsEndOf f after.best answer → ProveMeets f budget old answer after.prices.bound new
+  pub stopped : (after : SearchModel) (new : LogModel) → s.lemmas < budget → AdvisedMeets s here turns.NoMemory after new → ProveMeets f budget old (answers.NoMemory after.best) after.prices.bound new
+  pub failed : (after : SearchModel) (new : LogModel) → s.lemmas < budget → AdvisedMeets s here turns.LogFailed after new → ProveMeets f budget old answers.LogFailed after.prices.bound new
+  pub bound_stopped : (after : SearchModel) (new : LogModel) → BoundMeets s here bounds.NoMemory after new → ProveMeets f budget old (answers.NoMemory after.best) after.prices.bound new
+  pub bound_failed : (after : SearchModel) (new : LogModel) → BoundMeets s here bounds.LogFailed after new → ProveMeets f budget old answers.LogFailed after.prices.bound new
+
+abbrev pub ProvingMeets : Type 0
+ProvingMeets = (f : Problem) (budget : ℕ) → ProvingGoesOn f budget × ((s : SearchModel) (old here : LogModel) → IsSearch s → Proving f budget s old here → ProvingEnds f budget s old here)
+
+-- where no prices are in force a turn writes nothing of them
+abbrev pub PlainTurn : Type 0
+PlainTurn = (s : SearchModel) (old : LogModel) (turn : Turn) (after : SearchModel) (new : LogModel) → s.prices.tariff ≡ None → WhereTold old (λ told. LogFits told s) → TurnMeets s old turn after new
+    → Grows old new (λ was now. (more : List Line) × (now.lines ≡ was.lines ++ more) × All (λ line. is_plain line ≡ true) more)
 
 -- a permitted timetable that beats the best, found or offered
 abbrev pub TableLine : Type 0
@@ -88,9 +185,9 @@ pub record FitChanges (s : SearchModel) (before : List Line) : Type 0 where
 abbrev pub FitKept : Type 0
 FitKept = (s : SearchModel) (before : List Line) → IsSearch s → FitsOpen before s → FitChanges s before
 
--- an implied literal, a decision and a better timetable each leave a search
+-- an implied literal, a decision and a better timetable each leave a search. Where prices implied the literal, its line comes with it
 pub record SearchChanges (s : SearchModel) : Type 0 where
-  pub implied : (lit : Lit) (why : Why) → lit_fits (trail_shape s.trail) lit ≡ true → IsClause (trail_shape s.trail) (clause_of why) → truth (room_in s) lit ≡ Free → narrowing (clause_of why) (room_in s) ≡ Cut lit → IsReason s why → IsSearch (with_events s (record { lit = lit; level = s.trail.level; why = Some why } ∷ []))
+  pub implied : (lit : Lit) (why : Why) → lit_fits (trail_shape s.trail) lit ≡ true → IsClause (trail_shape s.trail) (clause_of why) → truth (room_in s) lit ≡ Free → narrowing (clause_of why) (room_in s) ≡ Cut lit → IsReason s why → HasLine None why → IsSearch (with_events s (record { lit = lit; level = s.trail.level; why = Some why } ∷ []))
   pub decision : (lit : Lit) → AllQuiet s → lit_fits (trail_shape s.trail) lit ≡ true → truth (room_in s) lit ≡ Free → IsSearch (record s { trail = decided s.trail lit; written = s.written ++ None ∷ [] })
   pub better : (table : List ℕ) (c : ℕ) → Permits s.problem table → cargo s.problem table ≡ Some c → IsTrue (beats c (best_cargo s)) → IsSearch (record s { best = Some table })
 
@@ -154,6 +251,7 @@ EndMeans = (s after : SearchModel) (old new : LogModel) → IsSearch s → DoesE
 pub record NumbersKept (s : SearchModel) (c : Cited) (most : ℕ) : Type 0 where
   pub same : c.search ≡ record s { written = c.search.written; clause_lines = c.search.clause_lines }
   pub long : length c.search.written ≡ length s.written
+  pub stay : NumbersStay s.written c.search.written
   pub low : s.clause_lines ≤ c.search.clause_lines
   pub high : c.search.clause_lines ≤ s.clause_lines + most
 
@@ -166,7 +264,7 @@ pub record BackKeeps (s gone : SearchModel) : Type 0 where
 -- what a turn that stopped leaves is a search, wherever it stopped
 pub record StopKeeps (s : SearchModel) : Type 0 where
   pub numbers : (why : Why) (places : List ℕ) → NumbersKept s (cite_conflict (cited s places) why) (length places + 1)
-  pub before : (written : List (Option ℕ)) (lines lemmas : ℕ) → length written ≡ length s.written → s.clause_lines ≤ lines → IsSearch (record s { written = written; clause_lines = lines; lemmas = lemmas; over = true })
+  pub before : (written : List (Option ℕ)) (lines lemmas : ℕ) → length written ≡ length s.written → NumbersStay s.written written → s.clause_lines ≤ lines → IsSearch (record s { written = written; clause_lines = lines; lemmas = lemmas; over = true })
   pub past : (why : Why) (lemma : List Lit) (back : ℕ) (places : List ℕ) → s.over ≡ false → IsConflict s why → Learns s.trail (clause_of why) lemma back places → 1 ≤ length lemma → BackKeeps s (gone_back (with_lemma (cite_conflict (cited s places) why).search lemma) back)
 
 abbrev pub StopKept : Type 0
@@ -183,7 +281,7 @@ pub record LiveTurn (s : SearchModel) (before : List Line) : Type 0 where
   pub lemma : (why : Why) (lemma : List Lit) (back : ℕ) (places : List ℕ) → IsConflict s why → 1 ≤ length (clause_of why) → Learns s.trail (clause_of why) lemma back places → 1 ≤ length lemma → (after : SearchModel) → after ≡ gone_back (with_lemma (cite_conflict (cited s places) why).search lemma) back
       → FewLiveFrom s.problem before (lemma_lines (cite_conflict (cited s places) why) lemma ++ deletion (unkept (before ++ lemma_lines (cite_conflict (cited s places) why) lemma) after))
   pub last : (why : Why) (back : ℕ) (places : List ℕ) → Learns s.trail (clause_of why) [] back places → FewLiveFrom s.problem before (lemma_lines (cite_conflict (cited s places) why) [])
-  pub conflict : (source : Source) (clause : List Lit) → FewLiveFrom s.problem before (source_line s.problem source clause ∷ [])
+  pub conflict : (why : Why) → FewLiveFrom s.problem before (why_lines s.problem why)
   pub table : (table : List ℕ) → FitsOpen (before ++ lines.Table table ∷ []) (record s { best = Some table }) → FewLiveFrom s.problem before (lines.Table table ∷ [])
 
 abbrev pub TurnLive : Type 0

@@ -9,7 +9,7 @@ use Rattle.hw_model.specs.Rooms.{IsPoint, point_of}
 use Rattle.hw_desk.specs.State.{Rose}
 use Rattle.hw_lines.specs.declared.line.Line.{Line}
 use Rattle.hw_lines.specs.declared.line.Line.TheVariants as lines
-use Rattle.hw_lines.specs.Tolled.{is_plain}
+use Rattle.hw_lines.specs.Tolled.{is_plain, tariff_of}
 use Rattle.hw_lines.specs.Lines.{clause_count, live, last_table, is_closed}
 use Rattle.hw_lines.specs.Valid.{LineFits, ValidAfter, ValidFrom}
 use Rattle.hw_lines.specs.Lemmas.{lemmas_of, IsNew, LeanAfter, LeanFrom}
@@ -36,6 +36,12 @@ source_line f (sources.Rule place) clause = lines.Explain (f.ships + place) clau
 source_line f (sources.Order v w x) clause = lines.Order v w x clause
 source_line f sources.Goal clause = lines.Goal clause
 
+-- the line of a clause that is no stored lemma
+abbrev pub why_lines : Problem → Why → List Line
+why_lines f (whys.Lemma number clause) = []
+why_lines f (whys.Source source clause) = source_line f source clause ∷ []
+why_lines f (whys.Priced clause) = lines.Priced clause ∷ []
+
 -- one more clause line, written for the reason of the event at a place
 abbrev pub with_written : SearchModel → ℕ → SearchModel
 with_written s place = record s { written = slice_set s.written place (Some (s.clause_lines + 1)); clause_lines = s.clause_lines + 1 }
@@ -53,6 +59,8 @@ cite_by c place None number = c
 cite_by c place (Some (whys.Lemma number clause)) other = record c { hints = c.hints ++ number ∷ [] }
 cite_by c place (Some (whys.Source source clause)) (Some number) = record c { hints = c.hints ++ number ∷ [] }
 cite_by c place (Some (whys.Source source clause)) None = record { search = with_written c.search place; lines = c.lines ++ source_line c.search.problem source clause ∷ []; hints = c.hints ++ (c.search.clause_lines + 1) ∷ [] }
+cite_by c place (Some (whys.Priced clause)) (Some number) = record c { hints = c.hints ++ number ∷ [] }
+cite_by c place (Some (whys.Priced clause)) None = record { search = with_written c.search place; lines = c.lines ++ lines.Priced clause ∷ []; hints = c.hints ++ (c.search.clause_lines + 1) ∷ [] }
 
 -- the reason of the event at a place is named, and written where it has no line yet
 abbrev pub cite : Cited → ℕ → Cited
@@ -66,6 +74,7 @@ cited s places = fold cite (record { search = s; lines = []; hints = [] }) place
 abbrev pub cite_conflict : Cited → Why → Cited
 cite_conflict c (whys.Lemma number clause) = record c { hints = c.hints ++ number ∷ [] }
 cite_conflict c (whys.Source source clause) = record { search = record c.search { clause_lines = c.search.clause_lines + 1 }; lines = c.lines ++ source_line c.search.problem source clause ∷ []; hints = c.hints ++ (c.search.clause_lines + 1) ∷ [] }
+cite_conflict c (whys.Priced clause) = record { search = record c.search { clause_lines = c.search.clause_lines + 1 }; lines = c.lines ++ lines.Priced clause ∷ []; hints = c.hints ++ (c.search.clause_lines + 1) ∷ [] }
 
 -- ---- the lemma
 
@@ -140,13 +149,14 @@ pub record StaysAt (s mid after : SearchModel) : Type 0 where
 -- a conflict without literals is written alone
 pub record EndsAtConflict (s after : SearchModel) (old new : LogModel) : Type 0 where
   pub mid : SearchModel
-  pub source : Source
-  pub settles : Settles s mid (Conflict (whys.Source source []))
+  pub why : Why
+  pub none : clause_of why ≡ []
+  pub settles : Settles s mid (Conflict why)
   pub stays : StaysAt s mid after
   pub lemmas : after.lemmas ≡ s.lemmas
   pub restarts : after.restarts ≡ s.restarts
   pub since : after.since ≡ s.since
-  pub written : Grows old new (λ was now. now.lines ≡ was.lines ++ source_line s.problem source [] ∷ [])
+  pub written : Grows old new (λ was now. now.lines ≡ was.lines ++ why_lines s.problem why)
 
 -- the lemma of a conflict has no literals: it was written, and the search is over
 pub record EndsAtLemma (s after : SearchModel) (old new : LogModel) : Type 0 where
@@ -212,7 +222,7 @@ pub data Stops (turn : Turn) (s after : SearchModel) (old new : LogModel) : Type
 pub data Plans (s : SearchModel) (before more : List Line) : Type 0 where
   no_line : more ≡ [] → Plans s before more
   a_table : (mid : SearchModel) → Settles s mid Quiet → IsPoint (room_in mid) → more ≡ lines.Table (point_of (room_in mid)) ∷ [] → Plans s before more
-  an_end : (mid : SearchModel) (source : Source) → Settles s mid (Conflict (whys.Source source [])) → more ≡ source_line s.problem source [] ∷ [] → Plans s before more
+  an_end : (mid : SearchModel) (why : Why) → Settles s mid (Conflict why) → clause_of why ≡ [] → more ≡ why_lines s.problem why → Plans s before more
   a_lemma : (mid : SearchModel) (why : Why) (lemma : List Lit) (back : ℕ) (places : List ℕ) → Analysed s mid why lemma back places → 1 ≤ length (clause_of why) → (behind : List Line) → (1 ≤ length lemma → behind ≡ deletion (unkept (before ++ (cite_conflict (cited mid places) why).lines ++ lines.Lemma lemma (cite_conflict (cited mid places) why).hints ∷ []) (gone_back (with_lemma (cite_conflict (cited mid places) why).search lemma) back))) → (lemma ≡ [] → behind ≡ []) → more ≡ (cite_conflict (cited mid places) why).lines ++ lines.Lemma lemma (cite_conflict (cited mid places) why).hints ∷ behind → Plans s before more
 
 -- a turn that was cut short wrote the first lines of what it was about to write
@@ -227,6 +237,10 @@ pub record FailsPart (s : SearchModel) (was now : LogTold) : Type 0 where
   pub written : WritesPart s was now
   pub next : IsSomeAnd (slice_get written.plan written.upto) (λ line. IsBegunLine line now.behind)
 
+-- the line that failed is of the shape, valid and lean after the lines, and a proper prefix of its text follows them. Where no prices are in force it says nothing of tolls or prices
+abbrev pub FailsNext : Problem → LogTold → Type 0
+FailsNext f now = (line : Line) × (tariff_of now.lines ≡ None → is_plain line ≡ true) × LineFits f line × ValidAfter f now.lines line × LeanAfter f now.lines line × IsBegunLine line now.behind
+
 -- the line that failed says nothing of tolls or prices, is of the shape, valid and lean after the lines, and a proper prefix of its text follows them
 abbrev pub FailsAt : Problem → LogTold → Type 0
 FailsAt f now = (line : Line) × (is_plain line ≡ true) × LineFits f line × ValidAfter f now.lines line × LeanAfter f now.lines line × IsBegunLine line now.behind
@@ -234,7 +248,7 @@ FailsAt f now = (line : Line) × (is_plain line ≡ true) × LineFits f line × 
 -- the log failed: its faults rose, and some first lines of the turn were written
 pub record DoesFail (s after : SearchModel) (old new : LogModel) : Type 0 where
   pub cause : Rose old.faults new.faults
-  pub failed : WhereTold new (FailsAt s.problem)
+  pub failed : WhereTold new (FailsNext s.problem)
   pub part : Grows old new (FailsPart s)
   pub stops : Stops turns.LogFailed s after old new
 
@@ -270,9 +284,9 @@ lines_of_turn f turns.Ended = most_events f.ships f.slots + 2
 lines_of_turn f turns.NoMemory = most_events f.ships f.slots + 2
 lines_of_turn f turns.LogFailed = most_events f.ships f.slots + 2
 
--- lines that say nothing of tolls or prices, are of the problem's shape, valid, lean, and bring no useless lemma
+-- lines that are of the problem's shape, valid, lean, and bring no useless lemma. Where no prices are in force they say nothing of tolls or prices
 pub record WritesWell (f : Problem) (before more : List Line) : Type 0 where
-  pub plain : All (λ line. is_plain line ≡ true) more
+  pub plain : tariff_of before ≡ None → All (λ line. is_plain line ≡ true) more
   pub fit : All (LineFits f) more
   pub valid : ValidFrom f before more
   pub lean : LeanFrom f before more
@@ -300,6 +314,7 @@ pub record TurnMeets (s : SearchModel) (old : LogModel) (turn : Turn) (after : S
   pub later : old.faults ≤ new.faults
   pub same_problem : after.problem ≡ s.problem
   pub same_rule : after.branching ≡ s.branching
+  pub same_prices : after.prices ≡ s.prices
   pub over : after.over ≡ is_last turn
   pub writes : Grows old new (TurnWrites s.problem turn)
   pub fits : FitsAfter turn after new

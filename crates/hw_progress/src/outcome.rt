@@ -40,6 +40,19 @@ pub enum Turn {
     LogFailed,
 }
 
+/// What the call for a lower bound did. After the last two the search is over.
+#[derive(Clone, Copy, Debug, PartialEq, Eq)]
+pub enum Bounded {
+    /// A lower bound was written.
+    Lower,
+    /// There was none to write.
+    Same,
+    /// Memory ran out.
+    NoMemory,
+    /// The log didn't take a line.
+    LogFailed,
+}
+
 /// How solving ends. `table` is the best timetable found, if there is one.
 #[derive(Debug, Drop)]
 pub enum Solved {
@@ -53,4 +66,12 @@ pub enum Solved {
     NoMemory { table: Option<Timetable> },
     /// The log didn't take a line.
     LogFailed,
+}
+
+/// How solving with advice ends.
+#[derive(Debug, Drop)]
+pub struct Proved {
+    pub solved: Solved,
+    /// In tenths of a tonne: no permitted timetable carries more.
+    pub bound: Option<u64>,
 }

@@ -28,6 +28,7 @@ trail_shape t = record { ships = t.ships; slots = t.slots; rules = 0 }
 abbrev pub clause_of : Why → List Lit
 clause_of (whys.Lemma id clause) = clause
 clause_of (whys.Source source clause) = clause
+clause_of (whys.Priced clause) = clause
 
 -- the clause of an event's reason, none of a decision
 abbrev pub reason : Event → Option (List Lit)

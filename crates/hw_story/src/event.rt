@@ -10,6 +10,9 @@ pub enum Why {
     Lemma { id: u32, clause: Clause },
     /// A clause of the problem's own, which this source refutes when it is denied.
     Source { source: Source, clause: Clause },
+    /// A clause that prices on tolls refute when it is denied. Where it is the reason of an event, its
+    /// line was written as the event came.
+    Priced { clause: Clause },
 }
 
 /// A literal that was Free and became true, and by which the room was cut.

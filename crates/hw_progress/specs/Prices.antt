@@ -1,0 +1,75 @@
+-- What a search keeps of tolls and prices, and the lines that tell them.
+use Rattle.std.specs.Prelude.{◌≡◌, ℕ, ◌+◌, ◌≤◌, List, [], ◌∷◌, ◌++◌, Option, Some, None, All, IfSome, length, map}
+use Rattle.std.specs.List.Sorted.{IsStrictlyIncreasing}
+use Rattle.hw_model.specs.Problem.{Problem}
+use Rattle.hw_model.specs.Timetables.{Permits, cargo}
+use Rattle.hw_tolls.specs.declared.tariff.Due.{Due}
+use Rattle.hw_tolls.specs.declared.tariff.Tariff.{Tariff}
+use Rattle.hw_tolls.specs.declared.toll.Toll.{Toll}
+use Rattle.hw_tolls.specs.declared.toll.Toll.TheVariants as tolls
+use Rattle.hw_tolls.specs.Tolls.{IsToll}
+use Rattle.hw_tolls.specs.Prices.{TariffFits}
+use Rattle.hw_lines.specs.declared.line.Line.{Line}
+use Rattle.hw_lines.specs.declared.line.Line.TheVariants as lines
+use Rattle.hw_lines.specs.declared.line.Price.{Price}
+use Rattle.hw_lines.specs.Tolled.{tolls_of, tariff_of, bound_of}
+
+-- the tolls that were declared, the tariff in force, and the last bound in tenths of a tonne
+pub record PriceModel : Type 0 where
+  pub tolls : List Toll
+  pub tariff : Option Tariff
+  pub bound : Option ℕ
+
+-- no tolls, no tariff and no bound
+abbrev pub no_prices : PriceModel
+no_prices = record { tolls = []; tariff = None; bound = None }
+
+-- no permitted timetable carries more
+abbrev pub NoneAbove : Problem → ℕ → Type 0
+NoneAbove f bound = (table : List ℕ) (c : ℕ) → Permits f table → cargo f table ≡ Some c → c ≤ bound
+
+-- at most 10,000 tolls of the problem, a tariff that fits them, and a bound that no permitted timetable passes
+pub record ArePrices (f : Problem) (p : PriceModel) : Type 0 where
+  pub few : length p.tolls ≤ 10_000
+  pub tolls : All (IsToll f) p.tolls
+  pub tariff : IfSome p.tariff (TariffFits (length p.tolls))
+  pub bound : IfSome p.bound (NoneAbove f)
+
+-- lines tell these prices
+pub record PricesTold (f : Problem) (all : List Line) (p : PriceModel) : Type 0 where
+  pub tolls : tolls_of f all ≡ p.tolls
+  pub tariff : tariff_of all ≡ p.tariff
+  pub bound : bound_of all ≡ p.bound
+
+-- ---- what one line changes
+
+-- one more toll
+abbrev pub with_toll : PriceModel → Toll → PriceModel
+with_toll p toll = record p { tolls = p.tolls ++ toll ∷ [] }
+
+-- another tariff in force
+abbrev pub with_tariff : PriceModel → Tariff → PriceModel
+with_tariff p tariff = record p { tariff = Some tariff }
+
+-- another bound
+abbrev pub with_bound : PriceModel → ℕ → PriceModel
+with_bound p bound = record p { bound = Some bound }
+
+-- ---- the lines
+
+-- the line that declares a toll; the numbers of rules follow those of the ships
+abbrev pub toll_line : Problem → Toll → Line
+toll_line f (tolls.Narrows blocks) = lines.Narrows blocks
+toll_line f (tolls.Tugs place slot weights most) = lines.Tugs (f.ships + place) slot most weights
+
+-- a price on the toll of a place by its number, which counts from 1
+abbrev pub price_of : Due → Price
+price_of due = record { toll = due.toll + 1; price = due.price }
+
+-- the line that puts a tariff in force
+abbrev pub tariff_line : Tariff → Line
+tariff_line tariff = lines.Tariff tariff.scale (map price_of tariff.dues)
+
+-- the dues are on tolls of ascending places
+abbrev pub DuesAscend : Tariff → Type 0
+DuesAscend tariff = IsStrictlyIncreasing (map (λ due. due.toll) tariff.dues)
