@@ -1,0 +1,102 @@
+//! Whoever advises a search by prices.
+
+ghost use Rattle.std.specs.Prelude.{◌≡◌, true, None};
+
+use hw_flat::{Flat, Room};
+use hw_lits::Clause;
+use hw_model::{Lit, NoMemory};
+use hw_tolls::{Tariff, Toll};
+use std::alloc::Global;
+
+/// Where a search stands.
+#[derive(Clone, Copy, Debug, PartialEq, Eq)]
+pub struct Standing {
+    /// How many lemmas it has found.
+    pub lemmas: u32,
+    /// How many restarts there were.
+    pub restarts: u32,
+    /// How many decisions stand.
+    pub level: u32,
+}
+
+/// What an adviser looks at.
+#[derive(Clone, Copy)]
+pub struct Scene<'s> {
+    pub flat: &'s Flat,
+    /// The best cargo so far, in tenths of a tonne; none before a first timetable.
+    pub best: Option<u64>,
+    /// The room of the search, in which all sources and lemmas are quiet.
+    pub room: &'s Room,
+    /// The tolls that the search has declared, in order.
+    pub tolls: &'s [Toll],
+    /// The tariff in force, on these tolls.
+    pub tariff: Option<&'s Tariff>,
+    pub standing: Standing,
+}
+
+/// One more clause, by prices.
+#[derive(Drop)]
+pub struct Advice {
+    /// Tolls to be declared, after those that are.
+    pub tolls: Vec<Toll>,
+    /// The tariff by which the clause holds, on all these tolls; none where it is the one in force.
+    pub tariff: Option<Tariff>,
+    /// No literal of it is True in the room, and at most one is Free.
+    pub clause: Clause,
+}
+
+/// A bound of what any permitted timetable carries, by prices.
+#[derive(Drop)]
+pub struct Bounding {
+    /// Tolls to be declared, after those that are.
+    pub tolls: Vec<Toll>,
+    /// The tariff by which the bound holds, on all these tolls; none where it is the one in force.
+    pub tariff: Option<Tariff>,
+    /// In tenths of a tonne.
+    pub bound: u64,
+}
+
+/// What may know a clause more, where all sources and lemmas are quiet.
+///
+/// The search asks it again whenever all is quiet, until it has nothing more to say. Its answers are
+/// right whatever it was asked before. It looks at no clock.
+pub trait Adviser {
+    ghost use Rattle.std.specs.Prelude.{◌≡◌, ◌≤◌, Bool, true, All, IfOk, IfSome, Ok, None, length};
+    ghost use Rattle.std.specs.Option.{option_copied};
+    ghost use Rattle.hw_model.specs.Rooms.{RoomFits};
+    ghost use Rattle.hw_tolls.specs.Tolls.{IsToll};
+    ghost use Rattle.hw_tolls.specs.Prices.{TariffFits};
+    ghost use Rattle.hw_advice.specs.Advisers.{IsAdvice, IsBoundAdvice, IsOpenIn};
+
+    /// It never says anything.
+    ghost silent: { Self → Bool };
+
+    /// A clause that cuts the room, or that has no literal left there; none if there is nothing to say.
+    /// An error says that memory ran out.
+    fn advise(&mut self, alloc: Global, scene: &Scene<'_>) -> Result<Option<Advice>, NoMemory>
+        requires room { RoomFits scene.now.flat.now scene.now.room.now }
+        requires tolls { All (IsToll scene.now.flat.now) scene.now.tolls.now }
+        requires few { length scene.now.tolls.now ≤ 10_000 }
+        requires tariff { IfSome scene.now.tariff (λ t. TariffFits (length scene.now.tolls.now) t.now) }
+        ensures advice { IfOk result (λ answer. IfSome answer (λ a. IsAdvice scene.now.flat.now scene.now.tolls.now (option_copied scene.now.tariff) scene.now.best scene.now.room.now a.tolls.items a.tariff a.clause)) }
+        ensures silence { silent self.old ≡ true → result ≡ Ok None }
+        ensures same { silent self.new ≡ silent self.old };
+
+    /// A bound of what any permitted timetable carries; none if it knows none. The room plays no part.
+    /// An error says that memory ran out.
+    fn bound(&mut self, alloc: Global, scene: &Scene<'_>) -> Result<Option<Bounding>, NoMemory>
+        requires room { RoomFits scene.now.flat.now scene.now.room.now }
+        requires tolls { All (IsToll scene.now.flat.now) scene.now.tolls.now }
+        requires few { length scene.now.tolls.now ≤ 10_000 }
+        requires tariff { IfSome scene.now.tariff (λ t. TariffFits (length scene.now.tolls.now) t.now) }
+        ensures bound { IfOk result (λ answer. IfSome answer (λ b. IsBoundAdvice scene.now.flat.now scene.now.tolls.now (option_copied scene.now.tariff) b.tolls.items b.tariff b.bound)) }
+        ensures silence { silent self.old ≡ true → result ≡ Ok None }
+        ensures same { silent self.new ≡ silent self.old };
+
+    /// A literal that the room leaves open, by which to decide; none if it prefers none.
+    fn prefer(&mut self, scene: &Scene<'_>) -> Option<Lit>
+        requires room { RoomFits scene.now.flat.now scene.now.room.now }
+        ensures open { IfSome result (IsOpenIn scene.now.flat.now scene.now.room.now) }
+        ensures silence { silent self.old ≡ true → result ≡ None }
+        ensures same { silent self.new ≡ silent self.old };
+}

@@ -1,0 +1,27 @@
+//! The adviser that has nothing to say.
+
+use crate::adviser::{Advice, Adviser, Bounding, Scene};
+use hw_model::{Lit, NoMemory};
+use std::alloc::Global;
+
+/// Says nothing, knows no bound and prefers no literal.
+#[derive(Clone, Copy, Debug, PartialEq, Eq)]
+pub struct NoAdvice;
+
+impl Adviser for NoAdvice {
+    ghost use Rattle.std.specs.Prelude.{true};
+
+    ghost silent = { λ _. true };
+
+    fn advise(&mut self, _alloc: Global, _scene: &Scene<'_>) -> Result<Option<Advice>, NoMemory> {
+        Ok(None)
+    }
+
+    fn bound(&mut self, _alloc: Global, _scene: &Scene<'_>) -> Result<Option<Bounding>, NoMemory> {
+        Ok(None)
+    }
+
+    fn prefer(&mut self, _scene: &Scene<'_>) -> Option<Lit> {
+        None
+    }
+}

@@ -1,0 +1,90 @@
+//! How far prices are moved in a step, and how long.
+
+use crate::lanes::SCALE;
+
+/// How fast steps begin at most, in parts of `FULL_PACE`.
+pub(crate) const FULL_PACE: i64 = 1_024;
+
+/// After so many steps without a better total the pace falls.
+const PATIENCE: u32 = 12;
+
+/// A better total counts as progress from this part of the way to the target on.
+const PROGRESS: i64 = 2_000;
+
+/// The target is at least this part of the best total below it.
+const DISTANCE: i64 = 50;
+
+/// What to do in a room.
+#[derive(Clone, Copy)]
+pub(crate) struct Course {
+    /// How many steps at most.
+    pub(crate) steps: u32,
+    pub(crate) pace: i64,
+    /// What the room may earn in the end, in parts.
+    pub(crate) target: i64,
+    /// It is enough if the room earns no more than this.
+    pub(crate) stop: i64,
+}
+
+/// How far a course is.
+#[derive(Clone, Copy)]
+pub(crate) struct Bout {
+    course: Course,
+    /// The least total so far.
+    pub(crate) best: i64,
+    pace: i64,
+    /// Steps without progress.
+    since: u32,
+}
+
+impl Bout {
+    pub(crate) fn new(course: Course) -> Bout {
+        Bout {
+            course,
+            best: i64::MAX,
+            pace: course.pace,
+            since: 0,
+        }
+    }
+
+    /// Takes the total of a step. Whether more steps are worth it.
+    pub(crate) fn goes_on(&mut self, total: i64) -> bool {
+        if total < self.best {
+            self.rejoice(total);
+            self.course.stop < total
+        } else {
+            self.despair();
+            0 < self.pace
+        }
+    }
+
+    fn rejoice(&mut self, total: i64) {
+        let left = self.best.saturating_sub(self.course.target);
+        if left / PROGRESS < self.best.saturating_sub(total) {
+            self.since = 0;
+        }
+        self.best = total;
+    }
+
+    fn despair(&mut self) {
+        self.since = self.since.saturating_add(1);
+        if PATIENCE <= self.since {
+            self.since = 0;
+            self.pace = self.pace.saturating_mul(3) / 4;
+        }
+    }
+
+    /// How far a direction of this length moves a price for each unit of it, in parts of
+    /// `FULL_PACE`.
+    pub(crate) fn unit(&self, total: i64, norm: i64) -> i64 {
+        let below = self
+            .best
+            .saturating_sub(self.best.saturating_abs() / DISTANCE);
+        let target = self.course.target.min(below);
+        let gap = total.saturating_sub(target).max(SCALE);
+        if norm <= 0 {
+            return 0;
+        }
+        gap.saturating_mul(self.pace.saturating_mul(4)) / norm
+    }
+}

@@ -1,0 +1,180 @@
+//! A ship's slots: what they earn, what is paid there, and which one is chosen.
+
+use hw_flat::{Flat, Room, ShipId};
+use hw_model::NoMemory;
+use std::alloc::Global;
+
+/// How many parts make a tenth of a tonne.
+pub(crate) const SCALE: i64 = 1_000;
+
+/// What a slot without a value earns: less than any other.
+pub(crate) const NOTHING: i64 = -(1 << 56);
+
+/// Units of a row.
+#[derive(Clone, Copy)]
+pub(crate) struct Share {
+    pub(crate) row: u32,
+    pub(crate) units: i64,
+}
+
+/// A ship's slots. All amounts are in parts.
+#[derive(Drop)]
+pub(crate) struct Lane {
+    /// What the ship gains in each slot.
+    pub(crate) gains: Vec<i64>,
+    /// By how much what it pays in a slot exceeds what it pays in the slot before; also behind the
+    /// last slot.
+    rises: Vec<i64>,
+    /// What it takes of each row in a slot.
+    shares: Vec<Vec<Share>>,
+    /// How often each slot was chosen.
+    pub(crate) counts: Vec<i64>,
+    /// Its range in the present room.
+    pub(crate) low: u32,
+    pub(crate) high: u32,
+    /// The slot that earns most.
+    chosen: u32,
+}
+
+impl Lane {
+    pub(crate) fn new(alloc: Global, flat: &Flat, ship: ShipId) -> Result<Lane, NoMemory> {
+        let slots = flat.shape().slots;
+        let mut shares = Vec::new(alloc);
+        for _slot in 0..slots {
+            shares.push(Vec::new(alloc))?;
+        }
+        Ok(Lane {
+            gains: gains(alloc, flat, ship)?,
+            rises: vec![in alloc; 0; slots as usize + 1]?,
+            shares,
+            counts: vec![in alloc; 0; slots as usize]?,
+            low: 0,
+            high: slots.saturating_sub(1),
+            chosen: 0,
+        })
+    }
+
+    /// Starts in a range, where nothing is paid.
+    pub(crate) fn begin(&mut self, low: u32, high: u32) {
+        self.low = low;
+        self.high = high;
+        for rise in self.rises.iter_mut() {
+            *rise = 0;
+        }
+    }
+
+    /// Adds what the ship takes of a row from one slot to another.
+    pub(crate) fn add_share(&mut self, low: u32, high: u32, share: Share) -> Result<(), NoMemory> {
+        for slot in low..high.saturating_add(1) {
+            if let Some(shares) = self.shares.get_mut(slot as usize) {
+                shares.push(share)?;
+            }
+        }
+        Ok(())
+    }
+
+    /// Adds an amount that is paid from one slot on and before another one.
+    pub(crate) fn charge(&mut self, from: u32, behind: u32, amount: i64) {
+        if let Some(rise) = self.rises.get_mut(from as usize) {
+            *rise = rise.wrapping_add(amount);
+        }
+        if let Some(rise) = self.rises.get_mut(behind as usize) {
+            *rise = rise.wrapping_sub(amount);
+        }
+    }
+
+    /// Chooses the first slot of the range that earns most, and says how much.
+    pub(crate) fn choose(&mut self) -> i64 {
+        let (slot, earned) = best_slot(&self.gains, &self.rises, self.low, self.high);
+        self.chosen = slot;
+        if let Some(count) = self.counts.get_mut(slot as usize) {
+            *count = count.wrapping_add(1);
+        }
+        earned
+    }
+
+    /// What the ship takes in the slot that it chose.
+    pub(crate) fn chosen_shares(&self) -> &[Share] {
+        match self.shares.get(self.chosen as usize) {
+            None => &[],
+            Some(shares) => shares,
+        }
+    }
+
+    /// Forgets how often slots were chosen.
+    pub(crate) fn forget_counts(&mut self) {
+        for count in self.counts.iter_mut() {
+            *count = 0;
+        }
+    }
+
+    /// How often a slot from one to another was chosen.
+    pub(crate) fn chosen_within(&self, low: u32, high: u32) -> i64 {
+        let mut sum: i64 = 0;
+        for slot in low..high.saturating_add(1) {
+            sum = sum.wrapping_add(self.count(slot));
+        }
+        sum
+    }
+
+    /// How often a slot was chosen.
+    pub(crate) fn count(&self, slot: u32) -> i64 {
+        self.counts.get(slot as usize).copied().unwrap_or(0)
+    }
+}
+
+/// What a ship gains in each slot.
+fn gains(alloc: Global, flat: &Flat, ship: ShipId) -> Result<Vec<i64>, NoMemory> {
+    let shape = flat.shape();
+    let mut out = Vec::new(alloc);
+    if ship < shape.ships {
+        for slot in 0..shape.slots {
+            out.push(gain(flat.value(ship, slot)))?;
+        }
+    }
+    Ok(out)
+}
+
+fn gain(value: Option<u64>) -> i64 {
+    match value {
+        None => NOTHING,
+        Some(value) => i64::try_from(value).unwrap_or(0).saturating_mul(SCALE),
+    }
+}
+
+/// The first slot of a range that earns most, and how much.
+fn best_slot(gains: &[i64], rises: &[i64], low: u32, high: u32) -> (u32, i64) {
+    let mut paid: i64 = 0;
+    let mut slot = low;
+    let mut most = i64::MIN;
+    for at in low..high.saturating_add(1) {
+        let (Some(gain), Some(rise)) = (gains.get(at as usize), rises.get(at as usize)) else {
+            break;
+        };
+        paid = paid.wrapping_add(*rise);
+        let earned = gain.wrapping_sub(paid);
+        if most < earned {
+            most = earned;
+            slot = at;
+        }
+    }
+    (slot, most)
+}
+
+/// The lanes of all ships.
+pub(crate) fn lanes(alloc: Global, flat: &Flat) -> Result<Vec<Lane>, NoMemory> {
+    let mut lanes = Vec::new(alloc);
+    for ship in 0..flat.shape().ships {
+        lanes.push(Lane::new(alloc, flat, ship)?)?;
+    }
+    Ok(lanes)
+}
+
+/// Starts in the ranges of a room, where nothing is paid.
+pub(crate) fn begin_lanes(lanes: &mut [Lane], room: &Room) {
+    for ship in 0..room.ships() {
+        if let Some(lane) = lanes.get_mut(ship as usize) {
+            lane.begin(room.low(ship), room.high(ship));
+        }
+    }
+}

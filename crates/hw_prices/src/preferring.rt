@@ -1,0 +1,130 @@
+//! The literal by which to decide.
+
+use crate::table::Table;
+use hw_flat::{Flat, Room, ShipId, Slot};
+use hw_model::Lit;
+
+/// The best slot of a ship's range, and by how much.
+#[derive(Clone, Copy)]
+struct Peak {
+    ship: ShipId,
+    slot: Slot,
+    most: i64,
+    /// The greatest of the other slots.
+    next: i64,
+}
+
+impl Peak {
+    fn regret(self) -> i64 {
+        self.most.saturating_sub(self.next)
+    }
+}
+
+/// By the ship whose best slot is furthest above the next best one; then the one of greatest value,
+/// then the lower one.
+pub(crate) fn by_regret(flat: &Flat, room: &Room) -> Option<Lit> {
+    let mut best: Option<Peak> = None;
+    for ship in 0..room.ships() {
+        if room.low(ship) < room.high(ship) {
+            best = Some(more_regret(best, peak_of_values(flat, room, ship)));
+        }
+    }
+    decided(room, best)
+}
+
+fn more_regret(best: Option<Peak>, peak: Peak) -> Peak {
+    match best {
+        Some(old) if (peak.regret(), peak.most) <= (old.regret(), old.most) => old,
+        _ => peak,
+    }
+}
+
+fn peak_of_values(flat: &Flat, room: &Room, ship: ShipId) -> Peak {
+    let mut peak = start(ship, 0);
+    let shape = flat.shape();
+    if ship < shape.ships && ship < room.ships() {
+        peak.slot = room.low(ship);
+        for slot in room.low(ship)..room.high(ship).saturating_add(1).min(shape.slots) {
+            let value = flat.value(ship, slot).unwrap_or(0);
+            peak = higher(peak, slot, i64::try_from(value).unwrap_or(0));
+        }
+    }
+    peak
+}
+
+fn start(ship: ShipId, slot: Slot) -> Peak {
+    Peak {
+        ship,
+        slot,
+        most: i64::MIN,
+        next: i64::MIN,
+    }
+}
+
+fn higher(peak: Peak, slot: Slot, value: i64) -> Peak {
+    if peak.most < value {
+        Peak {
+            slot,
+            most: value,
+            next: peak.most,
+            ..peak
+        }
+    } else {
+        Peak {
+            next: peak.next.max(value),
+            ..peak
+        }
+    }
+}
+
+/// By the ship that earns most in a slot of its range, then the lower one.
+pub(crate) fn by_earnings(table: &Table, room: &Room) -> Option<Lit> {
+    let mut best: Option<Peak> = None;
+    for ship in 0..room.ships() {
+        let (low, high) = (room.low(ship), room.high(ship));
+        if low < high {
+            best = Some(more_earned(best, peak_of_earnings(table.row(ship), ship, low, high)));
+        }
+    }
+    decided(room, best)
+}
+
+fn more_earned(best: Option<Peak>, peak: Peak) -> Peak {
+    match best {
+        Some(old) if peak.most <= old.most => old,
+        _ => peak,
+    }
+}
+
+fn peak_of_earnings(row: &[i64], ship: ShipId, low: Slot, high: Slot) -> Peak {
+    let mut peak = start(ship, low);
+    for slot in low..high.saturating_add(1) {
+        if let Some(earned) = row.get(slot as usize) {
+            peak = higher(peak, slot, *earned);
+        }
+    }
+    peak
+}
+
+/// From the best slot on, where it isn't the lowest of its range, else the lowest alone.
+fn decided(room: &Room, best: Option<Peak>) -> Option<Lit> {
+    match best {
+        None => None,
+        Some(peak) => decide(room, peak.ship, peak.slot),
+    }
+}
+
+fn decide(room: &Room, ship: ShipId, slot: Slot) -> Option<Lit> {
+    if room.ships() <= ship {
+        return None;
+    }
+    let low = room.low(ship);
+    if low < slot {
+        Some(Lit::AtOrAfter { ship, slot })
+    } else {
+        Some(Lit::Before {
+            ship,
+            slot: low.saturating_add(1),
+        })
+    }
+}

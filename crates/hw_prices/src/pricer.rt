@@ -1,0 +1,292 @@
+//! Candidates with their prices, and how the prices are moved so that a room earns less.
+
+use crate::candidates::candidates;
+use crate::course::{Bout, Course, FULL_PACE};
+use crate::distances::Distances;
+use crate::lanes::{Lane, Share, begin_lanes, lanes};
+use crate::meters::{Meter, aimed, put_back, take_up};
+use crate::rows::{Part, Row, capacity};
+use hw_flat::{Flat, Room};
+use hw_model::NoMemory;
+use hw_tolls::Toll;
+use std::alloc::Global;
+use std::mem;
+
+/// No price is greater, in parts.
+const DEAREST: i64 = 1_000_000_000_000_000;
+
+/// Candidates with prices, and what moving these takes.
+#[derive(Drop)]
+pub(crate) struct Pricer {
+    pub(crate) distances: Distances,
+    pub(crate) lanes: Vec<Lane>,
+    pub(crate) rows: Vec<Row>,
+    /// The price of each row's unit, in parts.
+    pub(crate) prices: Vec<i64>,
+    /// The best prices of a bout.
+    best: Vec<i64>,
+    meters: Vec<Meter>,
+    /// Rows with a price or a direction, and those that were overfilled last.
+    live: Vec<u32>,
+    spare: Vec<u32>,
+    /// Prices that the last room had no use for.
+    held: Vec<(u32, i64)>,
+    /// What all prices give back.
+    allowance: i64,
+    /// How many steps there were.
+    pub(crate) steps: i64,
+}
+
+impl Pricer {
+    /// The candidates of a problem, without prices.
+    pub(crate) fn new(alloc: Global, flat: &Flat) -> Result<Pricer, NoMemory> {
+        let distances = Distances::new(alloc, flat)?;
+        let tolls = candidates(alloc, flat, &distances)?;
+        let mut pricer = Pricer {
+            distances,
+            lanes: lanes(alloc, flat)?,
+            rows: Vec::new(alloc),
+            prices: Vec::new(alloc),
+            best: Vec::new(alloc),
+            meters: Vec::new(alloc),
+            live: Vec::new(alloc),
+            spare: Vec::new(alloc),
+            held: Vec::new(alloc),
+            allowance: 0,
+            steps: 0,
+        };
+        for toll in tolls {
+            pricer.add(alloc, flat, toll)?;
+        }
+        Ok(pricer)
+    }
+
+    /// Adds a candidate without a price.
+    pub(crate) fn add(&mut self, alloc: Global, flat: &Flat, toll: Toll) -> Result<(), NoMemory> {
+        let number = u32::try_from(self.rows.len()).unwrap_or(u32::MAX);
+        let meter = Meter::new(capacity(&toll));
+        let row = Row::new(alloc, flat, toll)?;
+        for charge in &row.charges {
+            let share = Share {
+                row: number,
+                units: i64::from(charge.amount),
+            };
+            if let Some(lane) = self.lanes.get_mut(charge.ship as usize) {
+                lane.add_share(charge.low, charge.high, share)?;
+            }
+        }
+        self.rows.push(row)?;
+        self.prices.push(0)?;
+        self.best.push(0)?;
+        self.meters.push(meter)?;
+        Ok(())
+    }
+
+    /// Moves the prices so that a room earns less, and leaves the best ones that it met. Gives what
+    /// the room earns under these, with what they give back, in parts.
+    pub(crate) fn improve(&mut self, room: &Room, course: Course) -> Result<i64, NoMemory> {
+        self.begin(room)?;
+        let mut bout = Bout::new(course);
+        for _step in 0..course.steps {
+            self.steps = self.steps.wrapping_add(1);
+            let total = self.choose()?;
+            if total < bout.best {
+                copy_prices(&mut self.best, &self.prices);
+            }
+            let goes_on = bout.goes_on(total);
+            let norm = if goes_on { self.aim() } else { 0 };
+            put_back(&self.lanes, &mut self.meters);
+            if norm <= 0 {
+                break;
+            }
+            self.move_prices(bout.unit(total, norm))?;
+        }
+        copy_prices(&mut self.prices, &self.best);
+        Ok(bout.best)
+    }
+
+    /// Starts in a room with the prices that stand, those that were held back among them.
+    fn begin(&mut self, room: &Room) -> Result<(), NoMemory> {
+        begin_lanes(&mut self.lanes, room);
+        self.live.clear();
+        self.allowance = 0;
+        self.release();
+        for row in 0..self.rows.len() {
+            self.begin_row(row)?;
+        }
+        copy_prices(&mut self.best, &self.prices);
+        Ok(())
+    }
+
+    /// Gives rows without a price the one that was held back.
+    fn release(&mut self) {
+        for (row, price) in &self.held {
+            if let Some(now) = self.prices.get_mut(*row as usize) {
+                if *now == 0 {
+                    *now = *price;
+                }
+            }
+        }
+        self.held.clear();
+    }
+
+    /// Charges a row's price, or holds it back where the room can't overfill the row.
+    fn begin_row(&mut self, row: usize) -> Result<(), NoMemory> {
+        let price = self.price(row);
+        let Some(meter) = self.meters.get_mut(row) else {
+            return Ok(());
+        };
+        meter.reset();
+        if price <= 0 {
+            return Ok(());
+        }
+        let capacity = meter.capacity;
+        let number = u32::try_from(row).unwrap_or(u32::MAX);
+        if self.clip(row)? <= capacity {
+            self.held.push((number, price))?;
+            self.set_price(row, 0);
+        } else {
+            self.wake(row);
+            self.live.push(number)?;
+            self.charge(row, price);
+        }
+        Ok(())
+    }
+
+    fn price(&self, row: usize) -> i64 {
+        self.prices.get(row).copied().unwrap_or(0)
+    }
+
+    fn set_price(&mut self, row: usize, price: i64) {
+        if let Some(now) = self.prices.get_mut(row) {
+            *now = price;
+        }
+    }
+
+    fn wake(&mut self, row: usize) {
+        if let Some(meter) = self.meters.get_mut(row) {
+            meter.live = true;
+        }
+    }
+
+    /// Finds what ships can take of a row in their ranges, and how much that is in all.
+    fn clip(&mut self, row: usize) -> Result<i64, NoMemory> {
+        match self.rows.get_mut(row) {
+            None => Ok(0),
+            Some(row) => clip(row, &self.lanes),
+        }
+    }
+
+    /// Charges a change of a row's price to the ships that can take of it.
+    fn charge(&mut self, row: usize, change: i64) {
+        let capacity = match self.meters.get(row) {
+            None => 0,
+            Some(meter) => meter.capacity,
+        };
+        self.allowance = self.allowance.wrapping_add(change.wrapping_mul(capacity));
+        if let Some(row) = self.rows.get(row) {
+            charge_parts(&mut self.lanes, &row.parts, change);
+        }
+    }
+
+    /// Lets each ship choose its best slot, and says what all earn, with what the prices give back.
+    fn choose(&mut self) -> Result<i64, NoMemory> {
+        let known = self.live.len();
+        let mut total = self.allowance;
+        for lane in self.lanes.iter_mut() {
+            total = total.wrapping_add(lane.choose());
+        }
+        take_up(&self.lanes, &mut self.meters, &mut self.live)?;
+        for place in known..self.live.len() {
+            let row = self.live.get(place).copied().unwrap_or(u32::MAX);
+            self.clip(row as usize)?;
+        }
+        Ok(total)
+    }
+
+    /// Turns each live row's direction by how far it is overfilled. Gives the square of their
+    /// length.
+    fn aim(&mut self) -> i64 {
+        let mut norm: i64 = 0;
+        for row in &self.live {
+            let row = *row as usize;
+            if let (Some(meter), Some(price)) = (self.meters.get_mut(row), self.prices.get(row)) {
+                meter.direction = aimed(meter, *price);
+                norm = norm.wrapping_add(meter.direction.wrapping_mul(meter.direction));
+            }
+        }
+        norm
+    }
+
+    /// Moves each live row's price along its direction. Rows without a price and a direction are
+    /// live no more.
+    fn move_prices(&mut self, unit: i64) -> Result<(), NoMemory> {
+        for place in 0..self.live.len() {
+            let number = self.live.get(place).copied().unwrap_or(u32::MAX);
+            if self.move_price(number as usize, unit) {
+                self.spare.push(number)?;
+            }
+        }
+        mem::swap(&mut self.live, &mut self.spare);
+        self.spare.clear();
+        Ok(())
+    }
+
+    /// Moves a row's price, and whether it stays alive.
+    fn move_price(&mut self, row: usize, unit: i64) -> bool {
+        let Some(meter) = self.meters.get_mut(row) else {
+            return false;
+        };
+        let direction = meter.direction;
+        let old = self.prices.get(row).copied().unwrap_or(0);
+        let step = unit.saturating_mul(direction) / FULL_PACE;
+        let new = old.saturating_add(step).max(0).min(DEAREST);
+        if new == 0 && direction == 0 {
+            meter.live = false;
+        }
+        if new != old {
+            self.set_price(row, new);
+            self.charge(row, new.wrapping_sub(old));
+        }
+        new != 0 || direction != 0
+    }
+}
+
+/// Copies prices over others.
+fn copy_prices(to: &mut [i64], from: &[i64]) {
+    if to.len() == from.len() {
+        to.copy_from_slice(from);
+    }
+}
+
+/// Finds what ships can take of a row in their ranges, and how much that is in all.
+fn clip(row: &mut Row, lanes: &[Lane]) -> Result<i64, NoMemory> {
+    row.parts.clear();
+    let mut sum: i64 = 0;
+    for charge in &row.charges {
+        if let Some(lane) = lanes.get(charge.ship as usize) {
+            let from = charge.low.max(lane.low);
+            let high = charge.high.min(lane.high);
+            if from <= high {
+                let units = i64::from(charge.amount);
+                row.parts.push(Part {
+                    ship: charge.ship,
+                    from,
+                    behind: high.saturating_add(1),
+                    units,
+                })?;
+                sum = sum.wrapping_add(units);
+            }
+        }
+    }
+    Ok(sum)
+}
+
+/// Charges a change of a price to the ships that can take of its row.
+fn charge_parts(lanes: &mut [Lane], parts: &[Part], change: i64) {
+    for part in parts {
+        if let Some(lane) = lanes.get_mut(part.ship as usize) {
+            lane.charge(part.from, part.behind, change.wrapping_mul(part.units));
+        }
+    }
+}

@@ -1,0 +1,104 @@
+//! What each ship earns in each slot under prices that stand.
+
+use crate::lanes::{Lane, SCALE};
+use crate::rows::{Row, capacity};
+use hw_flat::{Room, ShipId};
+use hw_model::NoMemory;
+use std::alloc::Global;
+
+/// What ships earn under some prices, in parts.
+#[derive(Drop)]
+pub(crate) struct Table {
+    /// By ship and slot.
+    earnings: Vec<Vec<i64>>,
+    /// What the prices give back.
+    allowance: i64,
+}
+
+impl Table {
+    /// Under a price for each row.
+    pub(crate) fn new(
+        alloc: Global,
+        lanes: &[Lane],
+        rows: &[Row],
+        prices: &[i64],
+    ) -> Result<Table, NoMemory> {
+        let mut table = Table {
+            earnings: gains(alloc, lanes)?,
+            allowance: 0,
+        };
+        for (row, price) in rows.iter().zip(prices) {
+            if 0 < *price {
+                table.charge(row, *price);
+            }
+        }
+        Ok(table)
+    }
+
+    fn charge(&mut self, row: &Row, price: i64) {
+        let returned = price.wrapping_mul(capacity(&row.toll));
+        self.allowance = self.allowance.wrapping_add(returned);
+        for charge in &row.charges {
+            if let Some(earnings) = self.earnings.get_mut(charge.ship as usize) {
+                let paid = price.wrapping_mul(i64::from(charge.amount));
+                pay(earnings, charge.low, charge.high, paid);
+            }
+        }
+    }
+
+    /// What a ship earns in each slot.
+    pub(crate) fn row(&self, ship: ShipId) -> &[i64] {
+        match self.earnings.get(ship as usize) {
+            None => &[],
+            Some(row) => row,
+        }
+    }
+
+    /// A room is refuted where the ships' greatest earnings in their ranges are at most this
+    /// together.
+    pub(crate) fn limit(&self, best: u64) -> i64 {
+        i64::try_from(best)
+            .unwrap_or(i64::MAX)
+            .saturating_add(1)
+            .saturating_mul(SCALE)
+            .saturating_sub(1)
+            .saturating_sub(self.allowance)
+    }
+
+    /// The sum of the ships' greatest earnings in their ranges.
+    pub(crate) fn total(&self, room: &Room) -> i64 {
+        let mut total: i64 = 0;
+        for ship in 0..room.ships() {
+            let most = greatest(self.row(ship), room.low(ship), room.high(ship));
+            total = total.wrapping_add(most);
+        }
+        total
+    }
+}
+
+fn gains(alloc: Global, lanes: &[Lane]) -> Result<Vec<Vec<i64>>, NoMemory> {
+    let mut out = Vec::new(alloc);
+    for lane in lanes {
+        out.push(Vec::from_slice(alloc, &lane.gains)?)?;
+    }
+    Ok(out)
+}
+
+fn pay(earnings: &mut [i64], low: u32, high: u32, paid: i64) {
+    for slot in low..high.saturating_add(1) {
+        if let Some(earned) = earnings.get_mut(slot as usize) {
+            *earned = earned.wrapping_sub(paid);
+        }
+    }
+}
+
+/// The greatest earnings of a range of slots.
+pub(crate) fn greatest(row: &[i64], low: u32, high: u32) -> i64 {
+    let mut most = i64::MIN;
+    for slot in low..high.saturating_add(1) {
+        if let Some(earned) = row.get(slot as usize) {
+            most = most.max(*earned);
+        }
+    }
+    most
+}
