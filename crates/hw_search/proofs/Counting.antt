@@ -17,9 +17,7 @@ use Rattle.hw_progress.specs.declared.outcome.Turn.TheVariants as turns
 use Rattle.hw_progress.specs.Branches.{branch_literal}
 use Rattle.hw_progress.specs.Searches.{SearchModel, IsSearch, best_cargo, room_in}
 use Rattle.hw_progress.specs.Settling.{Implies}
-use Rattle.hw_progress.specs.Turns.{cited, cite_conflict, with_lemma, to_level, is_due, gone_back, is_last, Stops, DoesDecide, DoesBetter, DoesLemma, TurnDoes}
-use Rattle.hw_progress.specs.Turns.Stops.{before_lemma, past_lemma}
-use Rattle.hw_progress.specs.Turns.DoesEnd.{at_conflict, at_lemma}
+use Rattle.hw_progress.specs.Turns.{cited, cite_conflict, with_lemma, to_level, is_due, gone_back, is_last, DoesDecide, DoesBetter, DoesLemma, TurnDoes}
 use Rattle.hw_progress.proofs.Bounds.{few_reasons}
 use Rattle.hw_progress.proofs.Choices.{branch_open, IsOpen}
 use Rattle.hw_progress.proofs.Holds.{room_fits}
@@ -70,26 +68,6 @@ decide_lemmas : (s u : SearchModel) (old new : LogModel) → DoesDecide s u old 
 decide_lemmas s u old new h =
     let d = of_some (branch_literal h.mid.branching h.mid.problem (room_in h.mid)) (λ lit. u ≡ record h.mid { trail = decided h.mid.trail lit; written = h.mid.written ++ None ∷ [] }) (λ lit. u ≡ record h.mid { trail = decided h.mid.trail lit; written = h.mid.written ++ None ∷ [] }) h.decides h.decides in
     ap (λ (x : SearchModel). x.lemmas) d.1 ∙ implied_lemmas s h.mid h.settles.implies
-
-stop_lemmas : (turn : Turn) (s u : SearchModel) (old new : LogModel) → Stops turn s u old new → u.lemmas ≤ s.lemmas + 1
-stop_lemmas turn s u old new (before_lemma h) = omega (arith, h.lemmas)
-stop_lemmas turn s u old new (past_lemma h) =
-    let c = cite_conflict (cited h.mid h.places) h.why in
-    let e : u.lemmas ≡ h.mid.lemmas + 1 = ap (λ (x : SearchModel). x.lemmas) h.search ∙ gone_lemmas (with_lemma c.search h.lemma) h.back ∙ ap (λ n. n + 1) (cited_lemmas h.mid h.why h.places) in
-    omega (arith, e, implied_lemmas s h.mid h.analysed.settles.implies)
-
--- a turn finds at most one lemma
-pub few_lemmas : (turn : Turn) (s u : SearchModel) (old new : LogModel) → TurnDoes s old turn u new → u.lemmas ≤ s.lemmas + 1
-few_lemmas turns.Decided s u old new h = omega (arith, decide_lemmas s u old new h)
-few_lemmas turns.Better s u old new h = omega (arith, ap (λ (x : SearchModel). x.lemmas) h.better, implied_lemmas s h.mid h.settles.implies)
-few_lemmas turns.Lemma s u old new h =
-    let c = cite_conflict (cited h.mid h.places) h.why in
-    let e : u.lemmas ≡ h.mid.lemmas + 1 = ap (λ (x : SearchModel). x.lemmas) h.search ∙ gone_lemmas (with_lemma c.search h.lemma) h.back ∙ ap (λ n. n + 1) (cited_lemmas h.mid h.why h.places) in
-    omega (arith, e, implied_lemmas s h.mid h.analysed.settles.implies)
-few_lemmas turns.Ended s u old new (at_conflict h) = omega (arith, h.lemmas)
-few_lemmas turns.Ended s u old new (at_lemma h) = omega (arith, h.lemmas)
-few_lemmas turns.NoMemory s u old new h = stop_lemmas turns.NoMemory s u old new h.stops
-few_lemmas turns.LogFailed s u old new h = stop_lemmas turns.LogFailed s u old new h.stops
 
 -- ---- what is left
 
@@ -152,7 +130,7 @@ lemma_more s u old new h =
 
 -- ---- fewer turns are left
 
-less_decided : (g x m e now : ℕ) → e < now → now ≤ m → g + (x + (m - now)) < g + (x + (m - e))
+pub less_decided : (g x m e now : ℕ) → e < now → now ≤ m → g + (x + (m - now)) < g + (x + (m - e))
 less_decided g x m e now a b = omega (arith, a, b)
 
 less_better : (t r now x m e later : ℕ) → r < now → now ≤ t + 1 → e ≤ later → (t + 1 - now) + (x + (m - later)) < (t + 1 - r) + (x + (m - e))
@@ -167,10 +145,10 @@ less_lemma g budget l now m e later a b =
     by : (x y : ℕ) → y ≡ (x + 1) * (m + 1) → g + (x * (m + 1) + (m - later)) < g + (y + (m - e))
     by x y h = let more : (x + 1) * (m + 1) ≡ x * (m + 1) + (m + 1) = omega arith in omega (arith, h, more)
 
-same_cargo : (s u : SearchModel) → u.problem ≡ s.problem → u.best ≡ s.best → best_cargo u ≡ best_cargo s
+pub same_cargo : (s u : SearchModel) → u.problem ≡ s.problem → u.best ≡ s.best → best_cargo u ≡ best_cargo s
 same_cargo s u p b = ap (λ (f : Problem). option_and_then (cargo f) u.best) p ∙ ap (option_and_then (cargo s.problem)) b
 
-same_left : (budget : ℕ) (s u : SearchModel) → u.problem ≡ s.problem → turns_left budget u ≡ left_by s.problem budget (best_cargo u) u.lemmas (length u.trail.events)
+pub same_left : (budget : ℕ) (s u : SearchModel) → u.problem ≡ s.problem → turns_left budget u ≡ left_by s.problem budget (best_cargo u) u.lemmas (length u.trail.events)
 same_left budget s u p = ap (λ (f : Problem). left_by f budget (best_cargo u) u.lemmas (length u.trail.events)) p
 
 pub nearer : (turn : Turn) (budget : ℕ) (s u : SearchModel) (old new : LogModel) → is_last turn ≡ false → s.lemmas < budget → u.problem ≡ s.problem → TurnDoes s old turn u new → turns_left budget u < turns_left budget s

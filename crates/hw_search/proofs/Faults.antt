@@ -7,10 +7,10 @@ use Rattle.hw_cert.specs.Logs.{LogModel}
 use Rattle.hw_progress.specs.declared.outcome.Turn.{Turn}
 use Rattle.hw_progress.specs.declared.outcome.Turn.TheVariants as turns
 use Rattle.hw_progress.specs.declared.outcome.Solved.{Solved}
+use Rattle.hw_progress.specs.Proving.{IsEndOf}
 use Rattle.hw_progress.specs.Turns.{is_last}
 use Rattle.hw_search.specs.Handing.{StopCause}
 use Rattle.hw_search.specs.Turning.{turn_of}
-use Rattle.hw_search.specs.Going.{EndsSolved}
 use Rattle.hw_search.specs.Faults.{TurnKeepsFaults, SolvedKeepsFaults}
 
 by_stop : (stop : LogStop) (old mid new : LogModel) → mid.faults ≡ old.faults → StopCause stop mid new → TurnKeepsFaults (turn_of stop) old new
@@ -31,6 +31,6 @@ going_keeps turns.NoMemory old new e k = absurd cc
 going_keeps turns.LogFailed old new e k = absurd cc
 
 -- a search that ended
-pub ended_keeps : (f : Problem) (best : Option (List ℕ)) (answer : Solved) (old new : LogModel) → EndsSolved f best answer → new.faults ≡ old.faults → SolvedKeepsFaults answer old new
+pub ended_keeps : (f : Problem) (best : Option (List ℕ)) (answer : Solved) (old new : LogModel) → IsEndOf f best answer → new.faults ≡ old.faults → SolvedKeepsFaults answer old new
 ended_keeps f None answer old new e k = subst (λ a. SolvedKeepsFaults a old new) (sym e) k
 ended_keeps f (Some table) answer old new e k = subst (λ a. SolvedKeepsFaults a old new) (sym e.1) k

@@ -2,19 +2,27 @@
 use Rattle.std.proofs.Common.{◌≡◌, ℕ, zero, suc, ◌+◌, ◌≤◌, List, [], ◌∷◌, Option, Some, None, All, IfSome, take, sym, ◌∙◌, refl, subst, arith, length-set}
 use Rattle.std.specs.Prelude.{slice_set}
 use Rattle.std.proofs.lemmas.List.Elements.{All-cons, All-head, All-tail, All-take, All-weaker}
+use Rattle.hw_progress.specs.Searches.{NumbersStay}
 use Rattle.hw_search.specs.Ledgers.{LedgerModel, with_line, with_reason, GivesAtMost}
 
+stay_set : (ws : List (Option ℕ)) (place n : ℕ) → NumbersStay ws (slice_set ws place (Some n))
+stay_set [] place n q h = h
+stay_set (w ∷ ws) zero n zero h = refl
+stay_set (w ∷ ws) zero n (suc q) h = h
+stay_set (w ∷ ws) (suc place) n zero h = h
+stay_set (w ∷ ws) (suc place) n (suc q) h = stay_set ws place n q h
+
 pub gives_none : (l : LedgerModel) (most : ℕ) → GivesAtMost most l l
-gives_none l most = record { long = refl; reserved = refl; low = omega arith; high = omega arith }
+gives_none l most = record { long = refl; stay = λ q h. h; reserved = refl; low = omega arith; high = omega arith }
 
 pub gives_reason : (l l' : LedgerModel) (place : ℕ) → l' ≡ with_reason l place → GivesAtMost 1 l l'
-gives_reason l l' place e = subst (GivesAtMost 1 l) (sym e) (record { long = length-set l.written place (Some (l.clause_lines + 1)); reserved = refl; low = omega arith; high = omega arith })
+gives_reason l l' place e = subst (GivesAtMost 1 l) (sym e) (record { long = length-set l.written place (Some (l.clause_lines + 1)); stay = stay_set l.written place (l.clause_lines + 1); reserved = refl; low = omega arith; high = omega arith })
 
 pub gives_line : (l l' : LedgerModel) → l' ≡ with_line l → GivesAtMost 1 l l'
-gives_line l l' e = subst (GivesAtMost 1 l) (sym e) (record { long = refl; reserved = refl; low = omega arith; high = omega arith })
+gives_line l l' e = subst (GivesAtMost 1 l) (sym e) (record { long = refl; stay = λ q h. h; reserved = refl; low = omega arith; high = omega arith })
 
 pub gives_then : (a b c : LedgerModel) (m n most : ℕ) → m + n ≤ most → GivesAtMost m a b → GivesAtMost n b c → GivesAtMost most a c
-gives_then a b c m n most le x y = record { long = y.long ∙ x.long; reserved = y.reserved ∙ x.reserved; low = omega (arith, x.low, y.low); high = omega (arith, le, x.high, y.high) }
+gives_then a b c m n most le x y = record { long = y.long ∙ x.long; stay = λ q h. y.stay q (x.stay q h); reserved = y.reserved ∙ x.reserved; low = omega (arith, x.low, y.low); high = omega (arith, le, x.high, y.high) }
 
 -- ---- the invariant
 

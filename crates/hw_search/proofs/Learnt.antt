@@ -50,6 +50,7 @@ few_here e u why learnt same t few = numbers_left e u why learnt.lemma learnt.ba
 reason_of : (s : SearchModel) (why : Why) → IsReason s why → IsOfProblem s.problem why
 reason_of s (whys.Lemma number clause) r = tt
 reason_of s (whys.Source source clause) r = r.0
+reason_of s (whys.Priced clause) r = tt
 
 each_reason : (s : SearchModel) (o : Option Why) → IfSome o (IsReason s) → IfSome o (IsOfProblem s.problem)
 each_reason s None r = tt
@@ -74,7 +75,7 @@ settled_here e u mid why same settles = subst (λ (x : EngineModel). Settles mid
 pub kept_over : (e : EngineModel) (table : SpeakersModel) (goal : ℕ) (worth : Option ℕ) (reserved most lemmas : ℕ) (l : LedgerModel) → KeepsEngine e table goal worth reserved → GivesAtMost most (numbers_of e.search reserved) l
     → KeepsEngine (record { search = ended e.search l.written l.clause_lines lemmas; sources = e.sources; marks = e.marks }) table goal worth l.reserved
 kept_over e table goal worth reserved most lemmas l k g = record {
-  search = (stop_keeps e.search k.search).before l.written l.clause_lines lemmas g.long g.low;
+  search = (stop_keeps e.search k.search).before l.written l.clause_lines lemmas g.long g.stay g.low;
   once = k.once;
   of_problem = k.of_problem;
   each_mark = k.each_mark;

@@ -1,5 +1,5 @@
 -- What the store's answer tells of the search's lemmas.
-use Rattle.std.proofs.Common.{◌≡◌, ℕ, List, [], ◌∷◌, map, refl, sym, ap, ◌∙◌, subst}
+use Rattle.std.proofs.Common.{◌≡◌, ℕ, None, List, [], ◌∷◌, map, refl, sym, ap, ◌∙◌, subst}
 use Rattle.std.specs.Prelude.{All, Contains}
 use Rattle.std.proofs.lemmas.List.Elements.{All-nil, All-cons, All-head, All-tail, All-map, All-contains}
 use Rattle.hw_model.specs.declared.lit.Lit.{Lit}
@@ -14,7 +14,7 @@ use Rattle.hw_store.specs.Stores.{Finds, IsNotHeld}
 use Rattle.hw_story.specs.declared.event.Why.{Why}
 use Rattle.hw_story.specs.declared.event.Why.TheVariants as whys
 use Rattle.hw_story.specs.Trails.{clause_of}
-use Rattle.hw_progress.specs.Searches.{SearchModel, IsSearch, IsReason}
+use Rattle.hw_progress.specs.Searches.{SearchModel, IsSearch, IsReason, HasLine}
 use Rattle.hw_search.specs.Engines.{EngineModel}
 use Rattle.hw_search.specs.Askings.{IsHeldWhy}
 
@@ -29,6 +29,7 @@ pub held_fits : (s : SearchModel) (held : List Stored) (id : ℕ) (why : Why) �
 held_fits s held id (whys.Lemma number clause) is same h =
     All-contains (λ (one : Stored). IsClause (shape_of s.problem) one.clause) s.stored (record { number = id; clause = clause }) (stored_all (IsClause (shape_of s.problem)) s.stored is.clauses) (subst (λ xs. Contains xs (record { number = id; clause = clause })) same h.1.0)
 held_fits s held id (whys.Source source clause) is same h = absurd h
+held_fits s held id (whys.Priced clause) is same h = absurd h
 
 -- it is the one that the store found
 pub held_active : (held : List Stored) (id : ℕ) (room : RoomModel) (why : Why) → Finds held room (helds.Clause id) → IsHeldWhy held id why → IsActive (clause_of why) room
@@ -36,11 +37,19 @@ held_active held id room (whys.Lemma number clause) f h =
     let same : f.0 ≡ clause = All-contains (λ (one : Stored). one.number ≡ id → one.clause ≡ clause) held (record { number = id; clause = f.0 }) h.1.1 f.1 refl in
     subst (λ c. IsActive c room) same f.2
 held_active held id room (whys.Source source clause) f h = absurd h
+held_active held id room (whys.Priced clause) f h = absurd h
 
 -- and may be a reason
 pub held_reason : (s : SearchModel) (held : List Stored) (id : ℕ) (why : Why) → IsSearch s → IsHeldWhy held id why → IsReason (record s { stored = held }) why
 held_reason s held id (whys.Lemma number clause) is h = subst (λ n. Contains held (record { number = n; clause = clause })) (sym h.0) h.1.0
 held_reason s held id (whys.Source source clause) is h = absurd h
+held_reason s held id (whys.Priced clause) is h = absurd h
+
+-- it needs no line of its own
+pub held_unpriced : (held : List Stored) (id : ℕ) (why : Why) → IsHeldWhy held id why → HasLine None why
+held_unpriced held id (whys.Lemma number clause) h = tt
+held_unpriced held id (whys.Source source clause) h = absurd h
+held_unpriced held id (whys.Priced clause) h = absurd h
 
 -- where the store found a clause of this number there is one
 pub held_there : (held : List Stored) (id : ℕ) (room : RoomModel) → Finds held room (helds.Clause id) → IsNotHeld held id → ⊥

@@ -16,10 +16,10 @@ use Rattle.hw_cert.specs.declared.log.LogStop.{LogStop}
 use Rattle.hw_cert.specs.declared.log.LogStop.TheVariants as stops
 use Rattle.hw_cert.specs.Logs.{LogModel, IsWhole, TakesLine}
 use Rattle.hw_progress.specs.Searches.{SearchModel, why_at, written_at}
-use Rattle.hw_progress.specs.Turns.{source_line, with_written, Cited, cite_by, cite, cited, cite_conflict}
+use Rattle.hw_progress.specs.Turns.{source_line, why_lines, with_written, Cited, cite_by, cite, cited, cite_conflict}
 use Rattle.hw_progress.specs.Laws.{lemma_lines}
 use Rattle.hw_search.specs.Handing.{TakesAll, StopsWithin, Hands}
-use Rattle.hw_search.specs.Naming.{known_number, lines_of, search_on, naming, taught, Numbers, NamesBy}
+use Rattle.hw_search.specs.Naming.{known_number, search_on, naming, taught, Numbers, NamesBy}
 use Rattle.hw_search.proofs.Handed.{all_none, all_whole, memory_after, all_on, stop_on, stop_in, stop_more, one_taken, one_stopped}
 
 pub why_of_event : (t : TrailModel) (q : ℕ) (event : Event) (why : Why) → slice_get t.events q ≡ Some event → event.why ≡ Some why → why_at t q ≡ Some why
@@ -39,11 +39,15 @@ known_by : (c : Cited) (q : ℕ) (why : Why) (w : Option ℕ) (n : ℕ) → know
 known_by c q (whys.Lemma number clause) w n e = ap (λ k. record c { hints = c.hints ++ k ∷ [] }) (let same : number ≡ n = cc in same)
 known_by c q (whys.Source source clause) None n e = absurd cc
 known_by c q (whys.Source source clause) (Some m) n e = ap (λ k. record c { hints = c.hints ++ k ∷ [] }) (let same : m ≡ n = cc in same)
+known_by c q (whys.Priced clause) None n e = absurd cc
+known_by c q (whys.Priced clause) (Some m) n e = ap (λ k. record c { hints = c.hints ++ k ∷ [] }) (let same : m ≡ n = cc in same)
 
-new_by : (c : Cited) (q : ℕ) (why : Why) (w : Option ℕ) → known_number why w ≡ None → cite_by c q (Some why) w ≡ record { search = with_written c.search q; lines = c.lines ++ lines_of c.search.problem why; hints = c.hints ++ (c.search.clause_lines + 1) ∷ [] }
+new_by : (c : Cited) (q : ℕ) (why : Why) (w : Option ℕ) → known_number why w ≡ None → cite_by c q (Some why) w ≡ record { search = with_written c.search q; lines = c.lines ++ why_lines c.search.problem why; hints = c.hints ++ (c.search.clause_lines + 1) ∷ [] }
 new_by c q (whys.Lemma number clause) w e = absurd cc
 new_by c q (whys.Source source clause) None e = refl
 new_by c q (whys.Source source clause) (Some m) e = absurd cc
+new_by c q (whys.Priced clause) None e = refl
+new_by c q (whys.Priced clause) (Some m) e = absurd cc
 
 cite_at : (c : Cited) (q : ℕ) (why : Why) (w : Option ℕ) → why_at c.search.trail q ≡ Some why → written_at c.search q ≡ w → cite c q ≡ cite_by c q (Some why) w
 cite_at c q why w e f = ap (λ o. cite_by c q o (written_at c.search q)) e ∙ ap (λ o. cite_by c q (Some why) o) f
@@ -51,7 +55,7 @@ cite_at c q why w e f = ap (λ o. cite_by c q o (written_at c.search q)) e ∙ a
 pub cite_known : (c : Cited) (q : ℕ) (why : Why) (w : Option ℕ) (n : ℕ) → why_at c.search.trail q ≡ Some why → written_at c.search q ≡ w → known_number why w ≡ Some n → cite c q ≡ record c { hints = c.hints ++ n ∷ [] }
 cite_known c q why w n e f k = cite_at c q why w e f ∙ known_by c q why w n k
 
-pub cite_new : (c : Cited) (q : ℕ) (why : Why) (w : Option ℕ) → why_at c.search.trail q ≡ Some why → written_at c.search q ≡ w → known_number why w ≡ None → cite c q ≡ record { search = with_written c.search q; lines = c.lines ++ lines_of c.search.problem why; hints = c.hints ++ (c.search.clause_lines + 1) ∷ [] }
+pub cite_new : (c : Cited) (q : ℕ) (why : Why) (w : Option ℕ) → why_at c.search.trail q ≡ Some why → written_at c.search q ≡ w → known_number why w ≡ None → cite c q ≡ record { search = with_written c.search q; lines = c.lines ++ why_lines c.search.problem why; hints = c.hints ++ (c.search.clause_lines + 1) ∷ [] }
 cite_new c q why w e f k = cite_at c q why w e f ∙ new_by c q why w k
 
 -- ---- what is known after a hint was pushed
@@ -84,14 +88,14 @@ known_hands s f t ws lines hints q why w n result log e g k whole m =
     subst (λ (x : Cited). Hands x.lines log log result) (sym (cite_known c q why w n e g k)) (hands_then [] log log result m (all_none log whole))
 
 pub new_lines : (s : SearchModel) (f : Problem) (t : TrailModel) (ws : List (Option ℕ)) (lines : ℕ) (hints : List ℕ) (q : ℕ) (why : Why) (w : Option ℕ) → why_at t q ≡ Some why → option_flatten (slice_get ws q) ≡ w → known_number why w ≡ None
-    → (cite (naming (search_on s f t ws lines) hints) q).lines ≡ lines_of f why
+    → (cite (naming (search_on s f t ws lines) hints) q).lines ≡ why_lines f why
 new_lines s f t ws lines hints q why w e g k = ap (λ (x : Cited). x.lines) (cite_new (naming (search_on s f t ws lines) hints) q why w e g k)
 
 pub new_names : (s : SearchModel) (f : Problem) (t : TrailModel) (ws : List (Option ℕ)) (lines : ℕ) (hints new : List ℕ) (q : ℕ) (why : Why) (w : Option ℕ) (result : Result Unit LogStop) → why_at t q ≡ Some why → option_flatten (slice_get ws q) ≡ w → known_number why w ≡ None → OnOk result (new ≡ hints ++ (lines + 1) ∷ [])
     → NamesBy (cite (naming (search_on s f t ws lines) hints) q) result ws lines (slice_set ws q (Some (lines + 1))) (lines + 1) new
 new_names s f t ws lines hints new q why w result e g k h =
     let c = naming (search_on s f t ws lines) hints in
-    let d : Cited = record { search = with_written c.search q; lines = c.lines ++ lines_of c.search.problem why; hints = c.hints ++ (c.search.clause_lines + 1) ∷ [] } in
+    let d : Cited = record { search = with_written c.search q; lines = c.lines ++ why_lines c.search.problem why; hints = c.hints ++ (c.search.clause_lines + 1) ∷ [] } in
     subst (λ x. NamesBy x result ws lines (slice_set ws q (Some (lines + 1))) (lines + 1) new) (sym (cite_new c q why w e g k))
     (names_then d result ws lines (slice_set ws q (Some (lines + 1))) (lines + 1) new (length-set ws q (Some (lines + 1))) (omega arith) (ok_then result (new ≡ hints ++ (lines + 1) ∷ []) (Numbers d (slice_set ws q (Some (lines + 1))) (lines + 1) new) h (λ e. record { same_written = refl; same_lines = refl; same_hints = e })))
 
@@ -105,6 +109,8 @@ from_by c q None w = ap (λ xs. record c { lines = xs }) (sym (append-nil c.line
 from_by c q (Some (whys.Lemma number clause)) w = ap (λ xs. record c { lines = xs; hints = c.hints ++ number ∷ [] }) (sym (append-nil c.lines))
 from_by c q (Some (whys.Source source clause)) (Some n) = ap (λ xs. record c { lines = xs; hints = c.hints ++ n ∷ [] }) (sym (append-nil c.lines))
 from_by c q (Some (whys.Source source clause)) None = refl
+from_by c q (Some (whys.Priced clause)) (Some n) = ap (λ xs. record c { lines = xs; hints = c.hints ++ n ∷ [] }) (sym (append-nil c.lines))
+from_by c q (Some (whys.Priced clause)) None = refl
 
 pub cite_from : (c : Cited) (q : ℕ) → cite c q ≡ record { search = (cite (naming c.search c.hints) q).search; lines = c.lines ++ (cite (naming c.search c.hints) q).lines; hints = (cite (naming c.search c.hints) q).hints }
 cite_from c q = from_by c q (why_at c.search.trail q) (written_at c.search q)
@@ -114,6 +120,8 @@ same_by c q None w = refl
 same_by c q (Some (whys.Lemma number clause)) w = refl
 same_by c q (Some (whys.Source source clause)) (Some n) = refl
 same_by c q (Some (whys.Source source clause)) None = refl
+same_by c q (Some (whys.Priced clause)) (Some n) = refl
+same_by c q (Some (whys.Priced clause)) None = refl
 
 pub fold_same : (c : Cited) (qs : List ℕ) → (fold cite c qs).search ≡ with_numbers c.search (fold cite c qs).search.written (fold cite c qs).search.clause_lines
 fold_same c [] = refl
@@ -124,6 +132,8 @@ more_by c q None w = ([], sym (append-nil c.lines))
 more_by c q (Some (whys.Lemma number clause)) w = ([], sym (append-nil c.lines))
 more_by c q (Some (whys.Source source clause)) (Some n) = ([], sym (append-nil c.lines))
 more_by c q (Some (whys.Source source clause)) None = (source_line c.search.problem source clause ∷ [], refl)
+more_by c q (Some (whys.Priced clause)) (Some n) = ([], sym (append-nil c.lines))
+more_by c q (Some (whys.Priced clause)) None = (lines.Priced clause ∷ [], refl)
 
 pub fold_lines : (c : Cited) (qs : List ℕ) → (more : List Line) × ((fold cite c qs).lines ≡ c.lines ++ more)
 fold_lines c [] = ([], sym (append-nil c.lines))
@@ -181,13 +191,15 @@ step_stops s f t ws now n lines old hints qs i d stop begun log new lt m a b =
 
 -- ---- the conflict
 
-pub conflict_lines : (s : SearchModel) (f : Problem) (hints : List ℕ) (why : Why) → s.problem ≡ f → (cite_conflict (naming s hints) why).lines ≡ lines_of f why
+pub conflict_lines : (s : SearchModel) (f : Problem) (hints : List ℕ) (why : Why) → s.problem ≡ f → (cite_conflict (naming s hints) why).lines ≡ why_lines f why
 conflict_lines s f hints (whys.Lemma number clause) e = refl
 conflict_lines s f hints (whys.Source source clause) e = ap (λ p. source_line p source clause ∷ []) e
+conflict_lines s f hints (whys.Priced clause) e = refl
 
 pub conflict_from : (c : Cited) (why : Why) → cite_conflict c why ≡ record { search = (cite_conflict (naming c.search c.hints) why).search; lines = c.lines ++ (cite_conflict (naming c.search c.hints) why).lines; hints = (cite_conflict (naming c.search c.hints) why).hints }
 conflict_from c (whys.Lemma number clause) = ap (λ xs. record c { lines = xs; hints = c.hints ++ number ∷ [] }) (sym (append-nil c.lines))
 conflict_from c (whys.Source source clause) = refl
+conflict_from c (whys.Priced clause) = refl
 
 pub taught_lines : (s : SearchModel) (f : Problem) (t : TrailModel) (ws now : List (Option ℕ)) (n lines : ℕ) (hints : List ℕ) (qs : List ℕ) (why : Why) → Numbers (cited (search_on s f t ws n) qs) now lines hints
     → (taught (search_on s f t ws n) why qs).lines ≡ (cited (search_on s f t ws n) qs).lines ++ (cite_conflict (naming (search_on s f t now lines) hints) why).lines
@@ -223,6 +235,7 @@ conflict_stops s f t ws now n lines hints qs why stop old mid new m a b =
 same_conflict : (c : Cited) (why : Why) → (cite_conflict c why).search.written ≡ c.search.written
 same_conflict c (whys.Lemma number clause) = refl
 same_conflict c (whys.Source source clause) = refl
+same_conflict c (whys.Priced clause) = refl
 
 pub taught_numbers : (s : SearchModel) (f : Problem) (t : TrailModel) (ws now : List (Option ℕ)) (n lines after : ℕ) (hints new qs : List ℕ) (why : Why) → Numbers (cited (search_on s f t ws n) qs) now lines hints
     → after ≡ (cite_conflict (naming (search_on s f t now lines) hints) why).search.clause_lines → new ≡ (cite_conflict (naming (search_on s f t now lines) hints) why).hints

@@ -1,5 +1,5 @@
 -- What each answer of a solution meets.
-use Rattle.std.proofs.Common.{◌≡◌, ℕ, ◌+◌, ◌<◌, ◌≤◌, true, false, List, [], ◌∷◌, ◌++◌, Option, Some, None, IfSome, IsSomeAnd, length, refl, sym, ap, ◌∙◌, subst, arith, append-nil, append_assoc}
+use Rattle.std.proofs.Common.{◌≡◌, ℕ, ◌+◌, ◌<◌, ◌≤◌, true, false, List, [], ◌++◌, Option, Some, None, IfSome, length, refl, sym, ap, ◌∙◌, subst, arith}
 use Rattle.std.proofs.lemmas.List.Elements.{All-append, All-nil}
 use Rattle.hw_model.specs.Problem.{Problem}
 use Rattle.hw_model.specs.Limits.{IsFlat}
@@ -9,8 +9,8 @@ use Rattle.hw_desk.specs.State.{Rose}
 use Rattle.hw_lines.specs.declared.line.Line.{Line}
 use Rattle.hw_lines.specs.Tolled.{is_plain}
 use Rattle.hw_lines.specs.Lines.{last_table, is_closed, ends}
-use Rattle.hw_lines.specs.Valid.{LineFits, ValidFrom}
-use Rattle.hw_lines.specs.Lemmas.{lemmas_of, LeanFrom}
+use Rattle.hw_lines.specs.Valid.{LineFits}
+use Rattle.hw_lines.specs.Lemmas.{lemmas_of}
 use Rattle.hw_lines.proofs.Closed.{closed_from}
 use Rattle.hw_cert.specs.Logs.{LogTold, LogModel, WhereTold, Grows, IsEmpty, IsWhole}
 use Rattle.hw_progress.specs.declared.outcome.Branching.TheVariants.{Greatest}
@@ -19,29 +19,25 @@ use Rattle.hw_progress.specs.declared.outcome.Turn.TheVariants as turns
 use Rattle.hw_progress.specs.declared.outcome.Solved.{Solved}
 use Rattle.hw_progress.specs.declared.outcome.Solved.TheVariants as answers
 use Rattle.hw_progress.specs.Living.{FewLiveFrom}
+use Rattle.hw_progress.specs.Proving.{IsEndOf}
 use Rattle.hw_progress.specs.Searches.{SearchModel, IsSearch, LogFits, new_search}
-use Rattle.hw_progress.specs.Turns.{TurnMeets, TurnWrites, WritesWell, FitsAfter, FailsAt, is_last}
+use Rattle.hw_progress.specs.Turns.{TurnMeets, TurnWrites, WritesWell, FitsAfter, FailsNext, FailsAt, is_last}
 use Rattle.hw_progress.specs.Solving.{SolveMeets, SolveWrites, AnswerTells, AnswerMeans, is_proved, may_be_spent}
 use Rattle.hw_progress.proofs.Bounds.{few_stored}
+use Rattle.hw_progress.proofs.Heeded.{valid_append, lean_append}
 use Rattle.hw_progress.proofs.Living.{throughout, none_live}
+use Rattle.hw_progress.proofs.OneLemma.{few_lemmas}
+use Rattle.hw_progress.proofs.Told.{told_same, told_on, told_and, where_and, where_so, where_grown}
 use Rattle.hw_progress.proofs.Trues.{ended as ended_means}
 use Rattle.hw_progress.proofs.Turned.{starts}
-use Rattle.hw_search.specs.Going.{WellWritten, SoFar, Going, Closing, EndsSolved}
-use Rattle.hw_search.proofs.Counting.{few_lemmas}
+use Rattle.hw_search.specs.Going.{WellWritten, SoFar, Going, Closing}
+use Rattle.hw_search.proofs.Plain.{plain_tariff}
 
 -- ---- lines after lines
 
-valid_append : (f : Problem) (before a b : List Line) → ValidFrom f before a → ValidFrom f (before ++ a) b → ValidFrom f before (a ++ b)
-valid_append f before [] b v w = subst (λ xs. ValidFrom f xs b) (append-nil before) w
-valid_append f before (line ∷ a) b v w = (v.0, valid_append f (before ++ line ∷ []) a b v.1 (subst (λ xs. ValidFrom f xs b) (sym (append_assoc before (line ∷ []) a)) w))
-
-lean_append : (f : Problem) (before a b : List Line) → LeanFrom f before a → LeanFrom f (before ++ a) b → LeanFrom f before (a ++ b)
-lean_append f before [] b v w = subst (λ xs. LeanFrom f xs b) (append-nil before) w
-lean_append f before (line ∷ a) b v w = (v.0, lean_append f (before ++ line ∷ []) a b v.1 (subst (λ xs. LeanFrom f xs b) (sym (append_assoc before (line ∷ []) a)) w))
-
 well_more : (f : Problem) (a b : List Line) → WellWritten f a → WritesWell f a b → FewLiveFrom f a b → WellWritten f (a ++ b)
 well_more f a b w m few = record {
-  plain = All-append (λ line. is_plain line ≡ true) a b w.plain m.plain;
+  plain = All-append (λ line. is_plain line ≡ true) a b w.plain (m.plain (plain_tariff a w.plain));
   fit = All-append (LineFits f) a b w.fit m.fit;
   valid = valid_append f [] a b w.valid m.valid;
   lean = lean_append f [] a b w.lean m.lean;
@@ -51,49 +47,6 @@ well_more f a b w m few = record {
 
 no_line : (f : Problem) → WellWritten f []
 no_line f = record { plain = All-nil (λ line. is_plain line ≡ true); fit = All-nil (LineFits f); valid = tt; lean = tt; new = λ i j d a b. absurd (omega (arith, b)); few_live = none_live f }
-
--- ---- what is told
-
--- from what was told at first to what is told in the end
-told_on : (old here new : LogModel) (P R Q : LogTold → LogTold → Type 0) → Grows old here P → Grows here new R → ((was mid now : LogTold) → P was mid → R mid now → Q was now) → Grows old new Q
-told_on old here new P R Q g h k = by old.told here.told new.told g h
-  where
-    by : (a b c : Option LogTold) → IfSome b (λ mid. IsSomeAnd a (λ was. P was mid)) → IfSome c (λ now. IsSomeAnd b (λ mid. R mid now)) → IfSome c (λ now. IsSomeAnd a (λ was. Q was now))
-    by a b None g h = tt
-    by a None (Some now) g h = absurd h
-    by None (Some mid) (Some now) g h = absurd g
-    by (Some was) (Some mid) (Some now) g h = k was mid now g h
-
--- and what is told of the end
-told_and : (old new : LogModel) (P Q : LogTold → LogTold → Type 0) (F : LogTold → Type 0) → Grows old new P → WhereTold new F → ((was now : LogTold) → P was now → F now → Q was now) → Grows old new Q
-told_and old new P Q F g h k = by old.told new.told g h
-  where
-    by : (a c : Option LogTold) → IfSome c (λ now. IsSomeAnd a (λ was. P was now)) → IfSome c F → IfSome c (λ now. IsSomeAnd a (λ was. Q was now))
-    by a None g h = tt
-    by None (Some now) g h = absurd g
-    by (Some was) (Some now) g h = k was now g h
-
-told_same : (log : LogModel) (F : LogTold → Type 0) (Q : LogTold → LogTold → Type 0) → WhereTold log F → ((now : LogTold) → F now → Q now now) → Grows log log Q
-told_same log F Q h k = by log.told h
-  where
-    by : (c : Option LogTold) → IfSome c F → IfSome c (λ now. IsSomeAnd c (λ was. Q was now))
-    by None h = tt
-    by (Some now) h = k now h
-
-where_and : (log : LogModel) (F G H : LogTold → Type 0) → WhereTold log F → WhereTold log G → ((now : LogTold) → F now → G now → H now) → WhereTold log H
-where_and log F G H f g k = by log.told f g
-  where
-    by : (c : Option LogTold) → IfSome c F → IfSome c G → IfSome c H
-    by None f g = tt
-    by (Some now) f g = k now f g
-
-where_grown : (old new : LogModel) (P : LogTold → LogTold → Type 0) (F : LogTold → Type 0) → Grows old new P → ((was now : LogTold) → P was now → F now) → WhereTold new F
-where_grown old new P F g k = by old.told new.told g
-  where
-    by : (a c : Option LogTold) → IfSome c (λ now. IsSomeAnd a (λ was. P was now)) → IfSome c F
-    by a None g = tt
-    by None (Some now) g = absurd g
-    by (Some was) (Some now) g = k was now g
 
 -- ---- a solution begins, and goes on
 
@@ -174,7 +127,7 @@ no_search f budget log empty = record {
   permitted = tt;
   worth = tt;
   means = tt;
-  ends = where_and log (λ told. (told.lines ≡ []) × (told.behind ≡ [])) (λ told. (told.lines ≡ []) × (told.behind ≡ [])) (λ told. told.behind ≡ []) empty empty (λ told a b. a.1);
+  ends = where_so log (λ told. (told.lines ≡ []) × (told.behind ≡ [])) (λ told. told.behind ≡ []) empty (λ told a. a.1);
 }
 
 -- memory ran out in a turn
@@ -188,7 +141,7 @@ stopped f budget s u old here now is g lt t =
       permitted = subst (λ o. IfSome o (Permits f)) (sym (t.best_stays refl)) (subst (λ (p : Problem). IfSome s.best (Permits p)) g.same_problem is.permitted);
       worth = tt;
       means = tt;
-      ends = where_and now (λ told. (told.behind ≡ []) × (is_closed told.lines ≡ false)) (λ told. (told.behind ≡ []) × (is_closed told.lines ≡ false)) (λ told. told.behind ≡ []) t.fits t.fits (λ told a b. a.0);
+      ends = where_so now (λ told. (told.behind ≡ []) × (is_closed told.lines ≡ false)) (λ told. told.behind ≡ []) t.fits (λ told a. a.0);
     }
 
 rose_on : (a b c : ℕ) → a ≤ b → Rose b c → Rose a c
@@ -206,7 +159,11 @@ failed f budget s u old here now g lt t =
       permitted = tt;
       worth = tt;
       means = tt;
-      ends = (rose, subst (λ (p : Problem). WhereTold now (FailsAt p)) g.same_problem t.does.failed);
+      ends = (
+        rose,
+        subst (λ (p : Problem). WhereTold now (FailsAt p)) g.same_problem (
+            where_and now (λ told. WellWritten f told.lines) (FailsNext s.problem) (FailsAt s.problem) (where_grown old now (λ was told. Closing f u told) (λ told. WellWritten f told.lines) (closes f budget s u turns.LogFailed old here now g t) (λ was told c. c.well)) t.does.failed (λ told w n. (n.0, n.1 (plain_tariff told.lines w.plain), n.2, n.3, n.4, n.5))),
+      );
     }
 
 -- the budget is spent
@@ -218,12 +175,12 @@ spent f budget s old now is g le = record {
   permitted = subst (λ (p : Problem). IfSome s.best (Permits p)) g.same_problem is.permitted;
   worth = tt;
   means = subst (λ (p : Problem). budget ≤ room_count p) g.same_problem (omega (arith, few_stored s is, is.counted g.going, le));
-  ends = where_and now (λ told. LogFits told s) (λ told. LogFits told s) (λ told. told.behind ≡ []) (to_fit f budget s old now g) (to_fit f budget s old now g) (λ told a b. a.nothing_behind);
+  ends = where_so now (λ told. LogFits told s) (λ told. told.behind ≡ []) (to_fit f budget s old now g) (λ told a. a.nothing_behind);
 }
 
 -- ---- the search ended
 
-pub ends_at : (f : Problem) (budget : ℕ) (s u : SearchModel) (answer : Solved) (old here now : LogModel) → IsSearch s → Going f budget s old here → s.lemmas < budget → TurnMeets s here turns.Ended u now → EndsSolved f u.best answer → SolveMeets f budget old answer now
+pub ends_at : (f : Problem) (budget : ℕ) (s u : SearchModel) (answer : Solved) (old here now : LogModel) → IsSearch s → Going f budget s old here → s.lemmas < budget → TurnMeets s here turns.Ended u now → IsEndOf f u.best answer → SolveMeets f budget old answer now
 ends_at f budget s u answer old here now is g lt t e = by u.best refl answer e
   where
     few : u.lemmas ≤ s.lemmas + 1
@@ -234,9 +191,9 @@ ends_at f budget s u answer old here now is g lt t e = by u.best refl answer e
         solve_writes f budget answer old.faults now.faults told.lines c.well (h.1 ∙ sym proved) (tells told.lines c.best) (omega (arith, c.lemmas, few_lemmas turns.Ended s u here now t.does, lt)) (λ a b d. absurd (let z : true ≡ false = sym h.1 ∙ d in cc)))
 
     whole : IsWhole now
-    whole = where_and now (λ told. (told.behind ≡ []) × (is_closed told.lines ≡ true)) (λ told. (told.behind ≡ []) × (is_closed told.lines ≡ true)) (λ told. told.behind ≡ []) t.fits t.fits (λ told a b. a.0)
+    whole = where_so now (λ told. (told.behind ≡ []) × (is_closed told.lines ≡ true)) (λ told. told.behind ≡ []) t.fits (λ told a. a.0)
 
-    by : (best : Option (List ℕ)) → u.best ≡ best → (answer : Solved) → EndsSolved f best answer → SolveMeets f budget old answer now
+    by : (best : Option (List ℕ)) → u.best ≡ best → (answer : Solved) → IsEndOf f best answer → SolveMeets f budget old answer now
     by None none answer e = subst (λ (a : Solved). SolveMeets f budget old a now) (sym e) (record {
       later = omega (arith, g.later, t.later);
       writes = writes answers.Infeasible refl (λ all h. h ∙ none);

@@ -14,11 +14,12 @@ use Rattle.hw_model.specs.Problem.{Problem, shape_of}
 use Rattle.hw_model.specs.Replay.{narrowing}
 use Rattle.hw_story.specs.declared.event.Event.{Event}
 use Rattle.hw_story.specs.declared.event.Why.{Why}
+use Rattle.hw_story.specs.declared.event.Why.TheVariants as whys
 use Rattle.hw_story.specs.Trails.{trail_shape, clause_of, most_events}
 use Rattle.hw_story.specs.Walks.{In}
 use Rattle.hw_story.proofs.Denials.{in_fits}
-use Rattle.hw_progress.specs.Searches.{SearchModel, IsSearch, IsReason, room_in}
-use Rattle.hw_progress.specs.Settling.{Implies, with_events}
+use Rattle.hw_progress.specs.Searches.{SearchModel, IsSearch, IsReason, HasLine, room_in}
+use Rattle.hw_progress.specs.Settling.{Implies, IsShown, with_events}
 use Rattle.hw_progress.proofs.Holds.{problem_clause}
 use Rattle.hw_progress.proofs.Keeps.{implied_search}
 use Rattle.hw_search.proofs.Kept.{few_in}
@@ -75,16 +76,22 @@ pub fails_more : (s mid after : SearchModel) (why : Why) → Implies s mid → F
 fails_more s mid after why a b = record { goes = goes_more s mid after a b.goes; conflict = b.conflict }
 
 -- one implied literal
-pub gains_one : (s after : SearchModel) (lit : Lit) (why : Why) → IsSearch s → lit_fits (trail_shape s.trail) lit ≡ true → IsClause (trail_shape s.trail) (clause_of why) → truth (room_in s) lit ≡ Free → narrowing (clause_of why) (room_in s) ≡ CutBy lit → IsReason s why → after ≡ with_events s (record { lit = lit; level = s.trail.level; why = Some why } ∷ []) → Gains s after
-gains_one s after lit why is fits clause free only reason e =
+pub gains_one : (s after : SearchModel) (lit : Lit) (why : Why) → IsSearch s → lit_fits (trail_shape s.trail) lit ≡ true → IsClause (trail_shape s.trail) (clause_of why) → truth (room_in s) lit ≡ Free → narrowing (clause_of why) (room_in s) ≡ CutBy lit → IsReason s why → HasLine None why → after ≡ with_events s (record { lit = lit; level = s.trail.level; why = Some why } ∷ []) → Gains s after
+gains_one s after lit why is fits clause free only reason line e =
     let event : Event = record { lit = lit; level = s.trail.level; why = Some why } in
     record {
       goes = record {
         implies = record { more = event ∷ []; implied = All-cons (λ (event : Event). IsSome event.why) event [] refl (All-nil (λ (event : Event). IsSome event.why)); only = e };
-        kept = subst IsSearch (sym e) (implied_search s lit why is fits clause free only reason);
+        kept = subst IsSearch (sym e) (implied_search s lit why is fits clause free only reason line);
       };
       more = omega (arith, ap (λ (x : SearchModel). length x.trail.events) e, length-append s.trail.events (event ∷ []));
     }
+
+-- a clause that needs no line of its own is shown
+pub unpriced_shown : (s : SearchModel) (why : Why) → HasLine None why → IsShown s why
+unpriced_shown s (whys.Lemma number clause) h = tt
+unpriced_shown s (whys.Source source clause) h = tt
+unpriced_shown s (whys.Priced clause) h = absurd cc
 
 -- ---- what is left to come
 

@@ -7,8 +7,9 @@ use Rattle.hw_model.specs.declared.lit.Lit.{Lit}
 use Rattle.hw_model.specs.declared.source.Source.{Source}
 use Rattle.hw_model.specs.Problem.{Problem}
 use Rattle.hw_lines.specs.declared.line.Line.{Line}
+use Rattle.hw_lines.specs.declared.line.Line.TheVariants as lines
 use Rattle.hw_lines.specs.Lines.{clause_count, clause_of as clause_in, table_after, last_table, is_closed, is_end}
-use Rattle.hw_lines.specs.Tolled.{is_plain}
+use Rattle.hw_lines.specs.Tolled.{is_plain, tariff_of}
 use Rattle.hw_lines.specs.Valid.{LineFits, ValidAfter, ValidFrom}
 use Rattle.hw_lines.specs.Lemmas.{lemma_of, lemmas_of, LeanAfter, LeanFrom}
 use Rattle.hw_lines.proofs.Pushed.{last_push}
@@ -23,24 +24,35 @@ use Rattle.hw_progress.specs.declared.outcome.Turn.{Turn}
 use Rattle.hw_progress.specs.declared.outcome.Turn.TheVariants as turns
 use Rattle.hw_progress.specs.Searches.{SearchModel, IsSearch, LogFits, why_at, written_at}
 use Rattle.hw_progress.specs.Living.{FewLiveFrom}
-use Rattle.hw_progress.specs.Turns.{source_line, Cited, cite_by, cite, cited, cite_conflict, lines_of_turn, Plans, WritesPart, FailsPart, FailsAt, Stops, WritesWell, TurnWrites, TurnMeets}
+use Rattle.hw_progress.specs.Turns.{source_line, why_lines, Cited, cite_by, cite, cited, cite_conflict, lines_of_turn, Plans, WritesPart, FailsPart, FailsNext, Stops, WritesWell, TurnWrites, TurnMeets}
 use Rattle.hw_progress.proofs.Lines.{source_is, source_no_lemma, same_lemmas}
 use Rattle.hw_progress.proofs.Parts.{part_well}
 use Rattle.hw_progress.proofs.Told.{grown}
 use Rattle.hw_search.specs.Handing.{StopCause, StopsAfter}
 use Rattle.hw_search.specs.Turning.{Begins, turn_of}
 use Rattle.hw_search.proofs.Handed.{grown_with, take_front, get_front}
+use Rattle.hw_search.proofs.Plain.{tariff_before}
 
--- ---- lines that sources gave
+-- ---- lines that give reasons
 
-abbrev Sourced : Line → Type 0
-Sourced line = (f : Problem) × (source : Source) × (clause : List Lit) × (line ≡ source_line f source clause)
+-- the line is no table and no lemma
+pub record Sourced (line : Line) : Type 0 where
+  pub no_table : (last : Option (List ℕ)) → table_after last line ≡ last
+  pub no_lemma : lemma_of line ≡ None
+
+source_sourced : (f : Problem) (source : Source) (clause : List Lit) → Sourced (source_line f source clause)
+source_sourced f source clause = record { no_table = (source_is f source clause).no_table; no_lemma = source_no_lemma f source clause }
+
+priced_sourced : (clause : List Lit) → Sourced (lines.Priced clause)
+priced_sourced clause = record { no_table = λ last. refl; no_lemma = refl }
 
 sourced_by : (c : Cited) (q : ℕ) (o : Option Why) (w : Option ℕ) → All Sourced c.lines → All Sourced (cite_by c q o w).lines
 sourced_by c q None w h = h
 sourced_by c q (Some (whys.Lemma number clause)) w h = h
 sourced_by c q (Some (whys.Source source clause)) (Some n) h = h
-sourced_by c q (Some (whys.Source source clause)) None h = All-push Sourced c.lines (source_line c.search.problem source clause) h (c.search.problem, source, clause, refl)
+sourced_by c q (Some (whys.Source source clause)) None h = All-push Sourced c.lines (source_line c.search.problem source clause) h (source_sourced c.search.problem source clause)
+sourced_by c q (Some (whys.Priced clause)) (Some n) h = h
+sourced_by c q (Some (whys.Priced clause)) None h = All-push Sourced c.lines (lines.Priced clause) h (priced_sourced clause)
 
 fold_sourced : (c : Cited) (qs : List ℕ) → All Sourced c.lines → All Sourced (fold cite c qs).lines
 fold_sourced c [] h = h
@@ -48,22 +60,29 @@ fold_sourced c (q ∷ qs) h = fold_sourced (cite c q) qs (sourced_by c q (why_at
 
 conflict_sourced : (c : Cited) (why : Why) → All Sourced c.lines → All Sourced (cite_conflict c why).lines
 conflict_sourced c (whys.Lemma number clause) h = h
-conflict_sourced c (whys.Source source clause) h = All-push Sourced c.lines (source_line c.search.problem source clause) h (c.search.problem, source, clause, refl)
+conflict_sourced c (whys.Source source clause) h = All-push Sourced c.lines (source_line c.search.problem source clause) h (source_sourced c.search.problem source clause)
+conflict_sourced c (whys.Priced clause) h = All-push Sourced c.lines (lines.Priced clause) h (priced_sourced clause)
 
 pub cited_sourced : (s : SearchModel) (places : List ℕ) (why : Why) → All Sourced (cite_conflict (cited s places) why).lines
 cited_sourced s places why = conflict_sourced (cited s places) why (fold_sourced (record { search = s; lines = []; hints = [] }) places (All-nil Sourced))
 
-same_table : (before xs : List Line) → All Sourced xs → last_table (before ++ xs) ≡ last_table before
+-- the line of a reason is one of them
+pub why_sourced : (f : Problem) (why : Why) → All Sourced (why_lines f why)
+why_sourced f (whys.Lemma number clause) = All-nil Sourced
+why_sourced f (whys.Source source clause) = All-push Sourced [] (source_line f source clause) (All-nil Sourced) (source_sourced f source clause)
+why_sourced f (whys.Priced clause) = All-push Sourced [] (lines.Priced clause) (All-nil Sourced) (priced_sourced clause)
+
+pub same_table : (before xs : List Line) → All Sourced xs → last_table (before ++ xs) ≡ last_table before
 same_table before [] h = ap last_table (append-nil before)
 same_table before (x ∷ xs) h =
     let one = All-head Sourced x xs h in
-    ap last_table (sym (append_assoc before (x ∷ []) xs)) ∙ same_table (before ++ x ∷ []) xs (All-tail Sourced x xs h) ∙ last_push before x ∙ ap (λ l. table_after (last_table before) l) one.3 ∙ (source_is one.0 one.1 one.2).no_table (last_table before)
+    ap last_table (sym (append_assoc before (x ∷ []) xs)) ∙ same_table (before ++ x ∷ []) xs (All-tail Sourced x xs h) ∙ last_push before x ∙ one.no_table (last_table before)
 
-no_lemmas : (before xs : List Line) → All Sourced xs → lemmas_of (before ++ xs) ≡ lemmas_of before
+pub no_lemmas : (before xs : List Line) → All Sourced xs → lemmas_of (before ++ xs) ≡ lemmas_of before
 no_lemmas before [] h = ap lemmas_of (append-nil before)
 no_lemmas before (x ∷ xs) h =
     let one = All-head Sourced x xs h in
-    ap lemmas_of (sym (append_assoc before (x ∷ []) xs)) ∙ no_lemmas (before ++ x ∷ []) xs (All-tail Sourced x xs h) ∙ same_lemmas before x (ap lemma_of one.3 ∙ source_no_lemma one.0 one.1 one.2)
+    ap lemmas_of (sym (append_assoc before (x ∷ []) xs)) ∙ no_lemmas (before ++ x ∷ []) xs (All-tail Sourced x xs h) ∙ same_lemmas before x one.no_lemma
 
 any_front : {A : Type 0} (p : A → Bool) (xs ys : List A) → list_any p (xs ++ ys) ≡ false → list_any p xs ≡ false
 any_front p [] ys h = refl
@@ -142,6 +161,7 @@ pub record Planned (s : SearchModel) (before p : List Line) : Type 0 where
 pub record Stopped (s after : SearchModel) : Type 0 where
   pub same_problem : after.problem ≡ s.problem
   pub same_rule : after.branching ≡ s.branching
+  pub same_prices : after.prices ≡ s.prices
   pub over : after.over ≡ true
   pub best : after.best ≡ s.best
 
@@ -166,12 +186,12 @@ wrote_lines stop turn s p count was now most le t m =
       few_live = part.few_live;
     }
 
-failed_at : (s : SearchModel) (p : List Line) (count : ℕ) (was now : LogTold) → count ≤ length p → StopsAfter stops.Failed p count was now → Planned s was.lines p → FailsAt s.problem now
+failed_at : (s : SearchModel) (p : List Line) (count : ℕ) (was now : LogTold) → count ≤ length p → StopsAfter stops.Failed p count was now → Planned s was.lines p → FailsNext s.problem now
 failed_at s p count was now le t m =
     let line = some_and (slice_get (p ++ m.rest) count) (λ line. IsBegunLine line now.behind) (get_front p m.rest count (λ line. IsBegunLine line now.behind) t.behind) in
     let e = lines_in stops.Failed s p count was now le t m in (
       line.0,
-      holds_at (λ line. is_plain line ≡ true) (p ++ m.rest) count line.0 m.well.plain line.1,
+      λ none. holds_at (λ line. is_plain line ≡ true) (p ++ m.rest) count line.0 (m.well.plain (tariff_before was.lines (take count (p ++ m.rest)) (ap tariff_of (sym e) ∙ none))) line.1,
       holds_at (LineFits s.problem) (p ++ m.rest) count line.0 m.well.fit line.1,
       subst (λ xs. ValidAfter s.problem xs line.0) (sym e) (valid_at s.problem was.lines (p ++ m.rest) count line.0 m.well.valid line.1),
       subst (λ xs. LeanAfter s.problem xs line.0) (sym e) (lean_at s.problem was.lines (p ++ m.rest) count line.0 m.well.lean line.1),
@@ -195,6 +215,7 @@ stop_meets s after stops.Failed p P old new b st inside later cause g plan left 
   later = later;
   same_problem = st.same_problem;
   same_rule = st.same_rule;
+  same_prices = st.same_prices;
   over = st.over;
   writes = grown_with old new (Came stops.Failed p P) (TurnWrites s.problem turns.LogFailed) (λ told. LogFits told s) (λ was now fit t. wrote_lines stops.Failed turns.LogFailed s p t.0 was now (omega arith) (inside t.0 t.1) t.2 (plan was fit)) b.fits g;
   fits = grown old new (Came stops.Failed p P) (λ told. LogFits told s) (λ now. is_closed now.lines ≡ false) g (λ was now fit t. (left_told stops.Failed s after p P was now left fit t).open') b.fits;
@@ -203,7 +224,7 @@ stop_meets s after stops.Failed p P old new b st inside later cause g plan left 
   lemmas = grown old new (Came stops.Failed p P) (λ told. LogFits told s) (λ now. length (lemmas_of now.lines) ≡ after.lemmas) g (λ was now fit t. (left_told stops.Failed s after p P was now left fit t).lemmas) b.fits;
   does = record {
     cause = cause;
-    failed = grown old new (Came stops.Failed p P) (λ told. LogFits told s) (FailsAt s.problem) g (λ was now fit t. failed_at s p t.0 was now (inside t.0 t.1) t.2 (plan was fit)) b.fits;
+    failed = grown old new (Came stops.Failed p P) (λ told. LogFits told s) (FailsNext s.problem) g (λ was now fit t. failed_at s p t.0 was now (inside t.0 t.1) t.2 (plan was fit)) b.fits;
     part = grown_with old new (Came stops.Failed p P) (FailsPart s) (λ told. LogFits told s) (λ was now fit t. failed_part s p t.0 was now (inside t.0 t.1) t.2 (plan was fit)) b.fits g;
     stops = stops';
   };
@@ -212,6 +233,7 @@ stop_meets s after stops.NoMemory p P old new b st inside later cause g plan lef
   later = later;
   same_problem = st.same_problem;
   same_rule = st.same_rule;
+  same_prices = st.same_prices;
   over = st.over;
   writes = grown_with old new (Came stops.NoMemory p P) (TurnWrites s.problem turns.NoMemory) (λ told. LogFits told s) (λ was now fit t. wrote_lines stops.NoMemory turns.NoMemory s p t.0 was now (omega arith) (inside t.0 t.1) t.2 (plan was fit)) b.fits g;
   fits = grown old new (Came stops.NoMemory p P) (λ told. LogFits told s) (λ now. (now.behind ≡ []) × (is_closed now.lines ≡ false)) g (λ was now fit t. (t.2.behind, (left_told stops.NoMemory s after p P was now left fit t).open')) b.fits;

@@ -149,6 +149,7 @@ last_meets s mid why back places ws n old new b a some t =
       later = omega (arith, t.faults);
       same_problem = e.problem;
       same_rule = e.branching;
+      same_prices = e.prices;
       over = refl;
       writes = grown_with old new R (TurnWrites s.problem turns.Ended) (λ told. LogFits told s) (λ was now fit h. record {
         more = all;
@@ -182,6 +183,7 @@ pub record SameGone (u g : SearchModel) : Type 0 where
   pub branching : g.branching ≡ u.branching
   pub stored : g.stored ≡ u.stored
   pub best : g.best ≡ u.best
+  pub prices : g.prices ≡ u.prices
   pub clause_lines : g.clause_lines ≡ u.clause_lines
   pub lemmas : g.lemmas ≡ u.lemmas
   pub over : g.over ≡ u.over
@@ -190,8 +192,8 @@ pub same_gone : (u : SearchModel) (back : ℕ) → SameGone u (gone_back u back)
 same_gone u back = by (is_due u)
   where
     by : (b : Bool) → SameGone u (cond b (record (to_level u 0) { restarts = u.restarts + 1; since = 0 }) (record (to_level u back) { since = u.since + 1 }))
-    by true = record { problem = refl; branching = refl; stored = refl; best = refl; clause_lines = refl; lemmas = refl; over = refl }
-    by false = record { problem = refl; branching = refl; stored = refl; best = refl; clause_lines = refl; lemmas = refl; over = refl }
+    by true = record { problem = refl; branching = refl; stored = refl; best = refl; prices = refl; clause_lines = refl; lemmas = refl; over = refl }
+    by false = record { problem = refl; branching = refl; stored = refl; best = refl; prices = refl; clause_lines = refl; lemmas = refl; over = refl }
 
 -- the search as it was taught, but for numbers
 same_taught : (s mid : SearchModel) (told : LogTold) (why : Why) (lemma : List Lit) (back : ℕ) (places : List ℕ) → Known s mid told why lemma back places → (taught mid why places).search ≡ record mid { written = (taught mid why places).search.written; clause_lines = (taught mid why places).search.clause_lines }
@@ -222,6 +224,7 @@ lemma_turned s mid why lemma back places ids old new b a some literal same is d 
       later = omega (arith, t.faults);
       same_problem = g.problem ∙ ap (λ (x : SearchModel). x.problem) same ∙ e.problem;
       same_rule = g.branching ∙ ap (λ (x : SearchModel). x.branching) same ∙ e.branching;
+      same_prices = g.prices ∙ ap (λ (x : SearchModel). x.prices) same ∙ e.prices;
       over = over;
       writes = grown_with old new R (TurnWrites s.problem turns.Lemma) (λ told. LogFits told s) (λ was now fit h.
           let w = whole_lemma s mid was why lemma back places e (K was fit) a some literal in
@@ -294,6 +297,7 @@ past_meets s mid why lemma back places stored more stop old new b a some literal
     let st : Stopped s after = record {
       same_problem = g.problem ∙ ap (λ (x : SearchModel). x.problem) same ∙ e.problem;
       same_rule = g.branching ∙ ap (λ (x : SearchModel). x.branching) same ∙ e.branching;
+      same_prices = g.prices ∙ ap (λ (x : SearchModel). x.prices) same ∙ e.prices;
       over = refl;
       best = g.best ∙ ap (λ (x : SearchModel). x.best) same ∙ e.best;
     } in

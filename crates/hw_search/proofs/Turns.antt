@@ -15,9 +15,11 @@ use Rattle.hw_store.specs.declared.store.Stored.{Stored}
 use Rattle.hw_story.specs.declared.event.Event.{Event}
 use Rattle.hw_story.specs.Trails.{TrailModel, trail_shape, decided}
 use Rattle.hw_story.proofs.Kept.{more_room}
+use Rattle.hw_advice.specs.Advisers as advice
 use Rattle.hw_progress.specs.Branches.{branch_literal}
 use Rattle.hw_progress.specs.Searches.{SearchModel, IsSearch, room_in, best_cargo}
 use Rattle.hw_progress.specs.Settling.{AllQuiet}
+use Rattle.hw_progress.specs.Starting.{Branches}
 use Rattle.hw_progress.proofs.Choices.{branch_open}
 use Rattle.hw_progress.proofs.Keeps.{decided_search, better_search}
 use Rattle.hw_laws.proofs.Quiets.{best_quiet}
@@ -47,11 +49,18 @@ of_some_and : {A : Type 0} (o : Option A) (P : A → Type 0) (x : A) → o ≡ S
 of_some_and None P x e h = absurd h
 of_some_and (Some y) P x e h = subst P (let same : y ≡ x = cc in same) h
 
-pub open_in : (s : SearchModel) (room : RoomModel) (lit : Lit) → IsSearch s → (IsPoint (room_in s) → ⊥) → room ≡ room_in s → branch_literal s.branching s.problem room ≡ Some lit → IsOpenIn s lit
-open_in s room lit is wide e b =
-    let h = of_some_and (branch_literal s.branching s.problem (room_in s)) (λ lit. (lit_fits (shape_of s.problem) lit ≡ true) × (truth (room_in s) lit ≡ Free)) lit (ap (branch_literal s.branching s.problem) (sym e) ∙ b) (branch_open s.branching s.problem (room_in s) (room_here s is) wide) in
-    let fits : lit_fits (trail_shape s.trail) lit ≡ true = same_fits (trail_shape s.trail) (shape_of s.problem) lit is.same_ships is.same_slots ∙ h.0 in
-    record { fits = fits; free = h.1; here = lit_here s lit is fits }
+-- the literal of the branching rule is open
+pub branch_here : (s : SearchModel) (lit : Lit) → IsSearch s → (IsPoint (room_in s) → ⊥) → Branches s lit → advice.IsOpenIn s.problem (room_in s) lit
+branch_here s lit is wide b =
+    let h = of_some_and (branch_literal s.branching s.problem (room_in s)) (λ lit. (lit_fits (shape_of s.problem) lit ≡ true) × (truth (room_in s) lit ≡ Free)) lit b (branch_open s.branching s.problem (room_in s) (room_here s is) wide) in
+    record { fits = h.0; free = h.1 }
+
+pub open_in : (e u : EngineModel) (lit : Lit) → e ≡ u → IsSearch e.search → advice.IsOpenIn u.search.problem (room_in u.search) lit → IsOpenIn e.search lit
+open_in e u lit same is o =
+    let s = e.search in
+    let here = subst (λ (x : EngineModel). advice.IsOpenIn x.search.problem (room_in x.search) lit) (sym same) o in
+    let fits : lit_fits (trail_shape s.trail) lit ≡ true = same_fits (trail_shape s.trail) (shape_of s.problem) lit is.same_ships is.same_slots ∙ here.fits in
+    record { fits = fits; free = here.free; here = lit_here s lit is fits }
 
 abbrev decides : SearchModel → Lit → SearchModel
 decides s lit = record s { trail = decided s.trail lit; written = s.written ++ None ∷ [] }

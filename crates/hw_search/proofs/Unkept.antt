@@ -18,7 +18,8 @@ use Rattle.hw_progress.specs.Searches.{SearchModel, kept_numbers}
 use Rattle.hw_progress.specs.Turns.{source_line, Cited, cite_conflict, unkept}
 use Rattle.hw_progress.specs.Laws.{lemma_lines}
 use Rattle.hw_progress.proofs.Numbers.{contains_here, contains_there, contains_cases, contains_none}
-use Rattle.hw_progress.proofs.Lines.{source_is, lemma_is, live_stays, live_back, new_live}
+use Rattle.hw_progress.proofs.Lines.{IsClauseLine, source_is, lemma_is, live_stays, live_back, new_live}
+use Rattle.hw_progress.proofs.Priced.{priced_is}
 use Rattle.hw_progress.proofs.Backs.{contains_any, from_filter, unkept_has, unkept_not}
 use Rattle.hw_progress.proofs.Citing.{Citing, Prepared}
 use Rattle.hw_search.specs.Dropped.{number_list, dropped}
@@ -101,31 +102,39 @@ unkept_is before s ids rises is_live not_kept all =
 same_written : (c : Cited) (why : Why) → (cite_conflict c why).search.written ≡ c.search.written
 same_written c (whys.Lemma number clause) = refl
 same_written c (whys.Source source clause) = refl
+same_written c (whys.Priced clause) = refl
 
 same_stored : (c : Cited) (why : Why) → (cite_conflict c why).search.stored ≡ c.search.stored
 same_stored c (whys.Lemma number clause) = refl
 same_stored c (whys.Source source clause) = refl
+same_stored c (whys.Priced clause) = refl
 
-live_conflict : (s : SearchModel) (before : List Line) (places : List ℕ) (c : Cited) (why : Why) → Citing s before places c → (n : ℕ) → IsSome (live (before ++ (cite_conflict c why).lines) n) → Contains (kept_numbers c.search) n ⊎ Contains (number_list (own_number why (c.search.clause_lines + 1))) n
-live_conflict s before places c (whys.Lemma number clause) h n l = inl (h.kept n l)
-live_conflict s before places c (whys.Source source clause) h n l =
-    let line = source_line c.search.problem source clause in
-    elim (live_back c.search.problem (before ++ c.lines) line clause (source_is c.search.problem source clause) n (subst (λ xs. IsSome (live xs n)) (sym (append_assoc before c.lines (line ∷ []))) l)) [
+new_conflict : (s : SearchModel) (before : List Line) (places : List ℕ) (c : Cited) (line : Line) (clause : List Lit) → IsClauseLine line clause → Citing s before places c → (n : ℕ) → IsSome (live (before ++ (c.lines ++ line ∷ [])) n) → Contains (kept_numbers c.search) n ⊎ Contains ((c.search.clause_lines + 1) ∷ []) n
+new_conflict s before places c line clause is h n l =
+    elim (live_back c.search.problem (before ++ c.lines) line clause is n (subst (λ xs. IsSome (live xs n)) (sym (append_assoc before c.lines (line ∷ []))) l)) [
       | inl old ↦ inl (h.kept n old)
       | inr new ↦ inr (contains_here (c.search.clause_lines + 1) [] n (let e : c.search.clause_lines + 1 ≡ n = omega (arith, new, h.fit.count) in e))
     ]
 
-own_live : (s : SearchModel) (before : List Line) (places : List ℕ) (c : Cited) (why : Why) → Citing s before places c → (n : ℕ) → Contains (number_list (own_number why (c.search.clause_lines + 1))) n → IsSome (live (before ++ (cite_conflict c why).lines) n)
-own_live s before places c (whys.Lemma number clause) h n k = absurd (contains_none n k)
-own_live s before places c (whys.Source source clause) h n k =
-    let line = source_line c.search.problem source clause in
+live_conflict : (s : SearchModel) (before : List Line) (places : List ℕ) (c : Cited) (why : Why) → Citing s before places c → (n : ℕ) → IsSome (live (before ++ (cite_conflict c why).lines) n) → Contains (kept_numbers c.search) n ⊎ Contains (number_list (own_number why (c.search.clause_lines + 1))) n
+live_conflict s before places c (whys.Lemma number clause) h n l = inl (h.kept n l)
+live_conflict s before places c (whys.Source source clause) h n l = new_conflict s before places c (source_line c.search.problem source clause) clause (source_is c.search.problem source clause) h n l
+live_conflict s before places c (whys.Priced clause) h n l = new_conflict s before places c (lines.Priced clause) clause (priced_is clause) h n l
+
+new_own : (s : SearchModel) (before : List Line) (places : List ℕ) (c : Cited) (line : Line) (clause : List Lit) → IsClauseLine line clause → Citing s before places c → (n : ℕ) → Contains ((c.search.clause_lines + 1) ∷ []) n → IsSome (live (before ++ (c.lines ++ line ∷ [])) n)
+new_own s before places c line clause is h n k =
     elim (contains_cases (c.search.clause_lines + 1) [] n k) [
       | inl e ↦
-          let new = new_live c.search.problem (before ++ c.lines) line clause h.fit.deletes_earlier (source_is c.search.problem source clause) in
+          let new = new_live c.search.problem (before ++ c.lines) line clause h.fit.deletes_earlier is in
           let at : clause_count (before ++ c.lines) + 1 ≡ n = omega (arith, e, h.fit.count) in
           subst (λ xs. IsSome (live xs n)) (append_assoc before c.lines (line ∷ [])) (subst (λ k. IsSome (live ((before ++ c.lines) ++ line ∷ []) k)) at (subst IsSome (sym new) refl))
       | inr more ↦ absurd (contains_none n more)
     ]
+
+own_live : (s : SearchModel) (before : List Line) (places : List ℕ) (c : Cited) (why : Why) → Citing s before places c → (n : ℕ) → Contains (number_list (own_number why (c.search.clause_lines + 1))) n → IsSome (live (before ++ (cite_conflict c why).lines) n)
+own_live s before places c (whys.Lemma number clause) h n k = absurd (contains_none n k)
+own_live s before places c (whys.Source source clause) h n k = new_own s before places c (source_line c.search.problem source clause) clause (source_is c.search.problem source clause) h n k
+own_live s before places c (whys.Priced clause) h n k = new_own s before places c (lines.Priced clause) clause (priced_is clause) h n k
 
 split : (ws : List (Option ℕ)) (keep : ℕ) → filter_map (λ (w : Option ℕ). w) ws ≡ filter_map (λ (w : Option ℕ). w) (take keep ws) ++ filter_map (λ (w : Option ℕ). w) (drop keep ws)
 split ws keep = ap (filter_map (λ (w : Option ℕ). w)) (sym (take-append-drop keep ws)) ∙ filter_map-append (λ (w : Option ℕ). w) (take keep ws) (drop keep ws)

@@ -54,3 +54,4 @@ StoreMeets s after (Err stop) = Implies s after
 abbrev pub IsHeldWhy : List Stored → ℕ → Why → Type 0
 IsHeldWhy held id (whys.Lemma number clause) = (number ≡ id) × IsClauseOf held id clause
 IsHeldWhy held id (whys.Source source clause) = ⊥
+IsHeldWhy held id (whys.Priced clause) = ⊥

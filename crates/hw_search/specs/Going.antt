@@ -1,7 +1,6 @@
 -- What holds of a solution that goes on, and what is left of it.
 use Rattle.std.specs.Prelude.{◌≡◌, ℕ, ◌+◌, ◌-◌, ◌*◌, ◌≤◌, true, false, List, Option, Some, None, All, length}
 use Rattle.hw_model.specs.Problem.{Problem, shape_of}
-use Rattle.hw_model.specs.Timetables.{cargo}
 use Rattle.hw_model.specs.Rooms.{whole_room}
 use Rattle.hw_model.specs.Refuting.{greatest_sum}
 use Rattle.hw_lines.specs.declared.line.Line.{Line}
@@ -11,8 +10,6 @@ use Rattle.hw_lines.specs.Valid.{LineFits, Valid}
 use Rattle.hw_lines.specs.Lemmas.{lemmas_of, IsNew, IsLean}
 use Rattle.hw_story.specs.Trails.{most_events}
 use Rattle.hw_cert.specs.Logs.{LogTold, LogModel, Grows}
-use Rattle.hw_progress.specs.declared.outcome.Solved.{Solved}
-use Rattle.hw_progress.specs.declared.outcome.Solved.TheVariants.{Optimal, Infeasible}
 use Rattle.hw_progress.specs.Living.{FewLiveThroughout}
 use Rattle.hw_progress.specs.Searches.{SearchModel, LogFits, best_cargo}
 
@@ -57,8 +54,3 @@ most_cargo f = greatest_sum f (whole_room (shape_of f))
 -- at most this many turns are to come: each finds a better timetable, a lemma, or an event
 abbrev pub turns_left : ℕ → SearchModel → ℕ
 turns_left budget s = (most_cargo s.problem + 1 - rank (best_cargo s)) + ((budget - s.lemmas) * (most_events s.problem.ships s.problem.slots + 1) + (most_events s.problem.ships s.problem.slots - length s.trail.events))
-
--- the answer of a search that ended with this best timetable or none
-abbrev pub EndsSolved : Problem → Option (List ℕ) → Solved → Type 0
-EndsSolved f None answer = answer ≡ Infeasible
-EndsSolved f (Some table) answer = (c : ℕ) × (answer ≡ Optimal table c) × (cargo f table ≡ Some c)

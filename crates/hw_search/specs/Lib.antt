@@ -1,5 +1,6 @@
 pub mod Speaking
 pub mod Engines
+pub mod Prices
 pub mod Marks
 pub mod Askings
 pub mod Dropped
@@ -13,4 +14,6 @@ pub mod Any
 pub mod Going
 pub mod GoingBack
 pub mod Faults
+pub mod Heeding
+pub mod Bounding
 pub mod MadeFor

@@ -1,8 +1,7 @@
 -- Reasons and conflicts that are named by the numbers of their lines, and written where they have none.
-use Rattle.std.specs.Prelude.{◌≡◌, ℕ, ◌+◌, ◌≤◌, List, [], ◌∷◌, Option, Some, None, Result, Ok, Err, IfSome, fold, length}
+use Rattle.std.specs.Prelude.{◌≡◌, ℕ, ◌+◌, ◌≤◌, List, [], Option, Some, None, Result, Ok, Err, IfSome, fold, length}
 use Rattle.hw_model.specs.Problem.{Problem}
 use Rattle.hw_model.specs.Refuting.{IsSourceOf}
-use Rattle.hw_lines.specs.declared.line.Line.{Line}
 use Rattle.hw_story.specs.declared.event.Why.{Why}
 use Rattle.hw_story.specs.declared.event.Why.TheVariants as whys
 use Rattle.hw_story.specs.Trails.{TrailModel}
@@ -10,7 +9,7 @@ use Rattle.hw_cert.specs.declared.log.LogStop.{LogStop}
 use Rattle.hw_cert.specs.Logs.{LogModel}
 use Rattle.hw_learn.specs.declared.learning.Learnt.{Learnt}
 use Rattle.hw_progress.specs.Searches.{SearchModel, why_at}
-use Rattle.hw_progress.specs.Turns.{source_line, Cited, cite, cited, cite_conflict}
+use Rattle.hw_progress.specs.Turns.{Cited, cite, cited, cite_conflict}
 use Rattle.hw_search.specs.Handing.{Hands, HandsLemma}
 use Rattle.hw_search.specs.Ledgers.{LedgerModel}
 use Rattle.hw_search.specs.declared.writing.WrittenLemma.{WrittenLemma}
@@ -19,16 +18,13 @@ use Rattle.hw_search.specs.declared.writing.WrittenLemma.{WrittenLemma}
 abbrev pub known_number : Why → Option ℕ → Option ℕ
 known_number (whys.Lemma number clause) written = Some number
 known_number (whys.Source source clause) written = written
-
--- the line that says why the clause holds: that of a stored lemma stands already
-abbrev pub lines_of : Problem → Why → List Line
-lines_of f (whys.Lemma number clause) = []
-lines_of f (whys.Source source clause) = source_line f source clause ∷ []
+known_number (whys.Priced clause) written = written
 
 -- a clause that a source gave names a source of the problem
 abbrev pub IsOfProblem : Problem → Why → Type 0
 IsOfProblem f (whys.Lemma number clause) = Unit {0}
 IsOfProblem f (whys.Source source clause) = IsSourceOf f source
+IsOfProblem f (whys.Priced clause) = Unit {0}
 
 -- each reason of the trail that a source gave names a source of the problem
 abbrev pub EachOfProblem : Problem → TrailModel → Type 0
@@ -78,6 +74,7 @@ NamesReasons f t l hints places l' hints' result = (s : SearchModel) → NamesBy
 abbrev pub own_number : Why → ℕ → Option ℕ
 own_number (whys.Lemma number clause) next = None
 own_number (whys.Source source clause) next = Some next
+own_number (whys.Priced clause) next = Some next
 
 -- the line of a conflict that is no stored lemma is handed to a log
 abbrev pub HandsConflict : {A : Type 0} → Problem → List ℕ → Why → LogModel → LogModel → Result A LogStop → Type 0

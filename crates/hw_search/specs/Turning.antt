@@ -43,6 +43,10 @@ turn_of NoMemory = turns.NoMemory
 abbrev pub halted : SearchModel → List (Option ℕ) → ℕ → SearchModel
 halted mid written lines = record mid { written = written; clause_lines = lines; over = true }
 
+-- the search after a decision by a literal
+abbrev pub decided_by : SearchModel → Lit → SearchModel
+decided_by s lit = record s { trail = decided s.trail lit; written = s.written ++ None ∷ [] }
+
 -- the search decided by the branching rule
 abbrev pub Decides : SearchModel → SearchModel → Type 0
-Decides s after = (lit : Lit) × Branches s lit × (after ≡ record s { trail = decided s.trail lit; written = s.written ++ None ∷ [] })
+Decides s after = (lit : Lit) × Branches s lit × (after ≡ decided_by s lit)

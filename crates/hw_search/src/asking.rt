@@ -73,6 +73,6 @@ pub fn clause_of(why: &Why) -> &Clause
     ensures value { result.now ≡ clause_of why.now }
 {
     match why {
-        Why::Lemma { clause, .. } | Why::Source { clause, .. } => clause,
+        Why::Lemma { clause, .. } | Why::Source { clause, .. } | Why::Priced { clause } => clause,
     }
 }

@@ -10,6 +10,7 @@ ghost use Rattle.hw_progress.specs.Starting.{EachSourceOnce};
 
 use crate::ledger::Ledger;
 use crate::marking::Marks;
+use crate::prices::Declared;
 use crate::speakers::Speakers;
 use hw_flat::{Flat, Room, Source, Timetable};
 use hw_model::NoMemory;
@@ -50,12 +51,16 @@ pub struct Engine<'f, S: Store + Drop, P: Propagator + Drop> {
     /// The numbers of the clause lines that were written.
     pub ledger: Ledger,
     pub best: Best,
+    /// The tolls and prices that were told.
+    pub prices: Declared,
     /// How many lemmas were written.
     pub lemmas: u32,
     /// How many restarts there were.
     pub restarts: u32,
     /// How many lemmas were written since the last restart.
     pub since: u32,
+    /// How many literals were implied by clauses of prices.
+    pub priced: u32,
     /// Whether the search is over: no turn may follow.
     pub over: bool,
 }
@@ -64,14 +69,15 @@ impl<'f, S: Store + Drop, P: Propagator + Drop> Model for Engine<'f, S, P> {
     ghost use Rattle.std.specs.Prelude.{◌≡◌, All, map};
     ghost use Rattle.hw_progress.specs.Searches.{SearchModel};
     ghost use Rattle.hw_search.specs.Engines.{EngineModel, KeepsEngine};
+    ghost use Rattle.hw_search.specs.Prices.{prices_of};
     ghost use Rattle.hw_story.specs.Trails.{room_of};
 
     ghost Value = { EngineModel };
 
-    ghost view = { λ s. record { search = record { problem = s.flat.now; branching = s.branching; trail = s.trail; stored = S.clauses s.store; written = s.ledger.written; best = s.best.table; clause_lines = s.ledger.clause_lines; lemmas = s.lemmas; restarts = s.restarts; since = s.since; over = s.over }; sources = map P.source s.props.items; marks = s.marks } };
+    ghost view = { λ s. record { search = record { problem = s.flat.now; branching = s.branching; trail = s.trail; stored = S.clauses s.store; written = s.ledger.written; best = s.best.table; prices = prices_of s.prices; clause_lines = s.ledger.clause_lines; lemmas = s.lemmas; restarts = s.restarts; since = s.since; priced = s.priced; over = s.over }; sources = map P.source s.props.items; marks = s.marks } };
 
     ghost invariant = { λ s.
-        KeepsEngine (record { search = record { problem = s.flat.now; branching = s.branching; trail = s.trail; stored = S.clauses s.store; written = s.ledger.written; best = s.best.table; clause_lines = s.ledger.clause_lines; lemmas = s.lemmas; restarts = s.restarts; since = s.since; over = s.over }; sources = map P.source s.props.items; marks = s.marks }) s.speakers s.goal s.best.worth s.ledger.reserved
+        KeepsEngine (record { search = record { problem = s.flat.now; branching = s.branching; trail = s.trail; stored = S.clauses s.store; written = s.ledger.written; best = s.best.table; prices = prices_of s.prices; clause_lines = s.ledger.clause_lines; lemmas = s.lemmas; restarts = s.restarts; since = s.since; priced = s.priced; over = s.over }; sources = map P.source s.props.items; marks = s.marks }) s.speakers s.goal s.best.worth s.ledger.reserved
         × (S.ships s.store ≡ s.flat.now.ships)
         × S.ready s.store (room_of s.trail)
         × All (λ one. P.serves one s.flat.now) s.props.items };
@@ -141,9 +147,11 @@ impl<'f, S: Store + Drop, P: Propagator + Drop> Engine<'f, S, P> {
                 table: None,
                 worth: None,
             },
+            prices: Declared::none(alloc),
             lemmas: 0,
             restarts: 0,
             since: 0,
+            priced: 0,
             over: false,
         })
     }
@@ -169,6 +177,13 @@ impl<'f, S: Store + Drop, P: Propagator + Drop> Engine<'f, S, P> {
         ensures search { IsSearch self.now.search }
     {
         self.lemmas
+    }
+
+    /// The last bound that was told, in tenths of a tonne.
+    pub fn told_bound(&self) -> Option<u64>
+        ensures value { result ≡ self.now.search.prices.bound }
+    {
+        self.prices.bound
     }
 
     /// The trail's level.

@@ -2,10 +2,11 @@
 
 ghost use Rattle.std.specs.Prelude.{◌≡◌, ◌∷◌, [], IfErr};
 ghost use Rattle.hw_model.specs.Refuting.{IsSourceOf};
-ghost use Rattle.hw_progress.specs.Turns.{source_line};
+ghost use Rattle.hw_lines.specs.declared.line.Line.TheVariants.{Priced};
+ghost use Rattle.hw_progress.specs.Turns.{source_line, why_lines};
 ghost use Rattle.hw_cert.specs.Logs.{IsWhole};
 ghost use Rattle.hw_search.specs.Handing.{StopsWithin, Hands};
-ghost use Rattle.hw_search.specs.Naming.{known_number, lines_of, IsOfProblem};
+ghost use Rattle.hw_search.specs.Naming.{known_number, IsOfProblem};
 
 use hw_cert::{Line, Log, LogStop};
 use hw_flat::Flat;
@@ -41,7 +42,7 @@ pub fn known_number(why: &Why, written: Option<u32>) -> Option<u32>
 {
     match why {
         Why::Lemma { id, .. } => Some(*id),
-        Why::Source { .. } => written,
+        Why::Source { .. } | Why::Priced { .. } => written,
     }
 }
 
@@ -49,13 +50,14 @@ pub fn known_number(why: &Why, written: Option<u32>) -> Option<u32>
 pub fn hand_why<L: Log>(alloc: Global, flat: &Flat, why: &Why, log: &mut L) -> Result<(), LogStop>
     requires source { IsOfProblem flat.now why.now }
     requires whole { IsWhole (L.state log.old) }
-    ensures hands { Hands (lines_of flat.now why.now) (L.state log.old) (L.state log.new) result }
-    ensures stops { IfErr result (λ stop. StopsWithin stop (lines_of flat.now why.now) 0 (L.state log.old) (L.state log.new)) }
+    ensures hands { Hands (why_lines flat.now why.now) (L.state log.old) (L.state log.new) result }
+    ensures stops { IfErr result (λ stop. StopsWithin stop (why_lines flat.now why.now) 0 (L.state log.old) (L.state log.new)) }
     ensures same_reference { L.anchor log.new ≡ L.anchor log.old }
 {
     match why {
         Why::Lemma { .. } => Ok(()),
         Why::Source { source, clause } => hand_source(alloc, flat, *source, clause, log),
+        Why::Priced { clause } => hand_priced(alloc, clause, log),
     }
 }
 
@@ -74,5 +76,17 @@ fn hand_source<L: Log>(
 {
     let copied = clause.copy(alloc)?;
     let line = source_line(flat, source, copied);
+    log.line(&line)
+}
+
+/// Hands the log the line of a clause of prices, which it copies.
+pub fn hand_priced<L: Log>(alloc: Global, clause: &Clause, log: &mut L) -> Result<(), LogStop>
+    requires whole { IsWhole (L.state log.old) }
+    ensures hands { Hands (Priced clause.now ∷ []) (L.state log.old) (L.state log.new) result }
+    ensures stops { IfErr result (λ stop. StopsWithin stop (Priced clause.now ∷ []) 0 (L.state log.old) (L.state log.new)) }
+    ensures same_reference { L.anchor log.new ≡ L.anchor log.old }
+{
+    let clause = clause.copy(alloc)?;
+    let line = Line::Priced { clause };
     log.line(&line)
 }

@@ -1,7 +1,7 @@
 //! The numbers of a search's clause lines.
 
 ghost use Rattle.std.specs.Prelude.{◌≡◌, ◌+◌, ◌++◌, ◌∷◌, ◌<◌, ◌≤◌, ◌^◌, [], IfOk, None, length, slice_index_or};
-ghost use Rattle.hw_search.specs.Ledgers.{with_events, with_line, with_reason};
+ghost use Rattle.hw_search.specs.Ledgers.{with_events, with_line, with_number, with_reason};
 
 use hw_model::NoMemory;
 use std::alloc::Global;
@@ -54,6 +54,16 @@ impl Ledger {
         ensures value { self.new ≡ record self.old { written = self.old.written ++ None ∷ [] } }
     {
         self.written.push_reserved(None);
+    }
+
+    /// One more event came, and the next clause line was written for its reason. It takes no memory.
+    pub fn add_written(&mut self)
+        requires room { length self.old.written < self.old.reserved }
+        requires few { self.old.clause_lines + 1 < 2 ^ 32 }
+        ensures value { self.new ≡ with_number self.old }
+    {
+        self.clause_lines += 1;
+        self.written.push_reserved(Some(self.clause_lines));
     }
 
     /// Keeps only the first `count` events.

@@ -1,7 +1,7 @@
 //! Settling: store and sources are asked in rounds until all are quiet or a clause has no
 //! literal left.
 
-ghost use Rattle.std.specs.Prelude.{◌≡◌, ◌<◌, ◌≤◌, ◌^◌, [], ◌∷◌, false, true, Ok, Some, length, slice_set};
+ghost use Rattle.std.specs.Prelude.{◌≡◌, ◌<◌, ◌≤◌, ◌^◌, [], ◌∷◌, false, true, None, Ok, Some, length, slice_set};
 ghost use Rattle.hw_model.specs.declared.lit.LitTruth.TheVariants.{Free};
 ghost use Rattle.hw_model.specs.declared.narrowing.Narrowed.TheVariants.{Cut as CutBy};
 ghost use Rattle.hw_model.specs.Lits.{lit_fits, IsClause};
@@ -10,7 +10,7 @@ ghost use Rattle.hw_model.specs.Problem.{shape_of};
 ghost use Rattle.hw_model.specs.Replay.{narrowing};
 ghost use Rattle.hw_lits.specs.Active.{IsActive};
 ghost use Rattle.hw_story.specs.Trails.{trail_shape, clause_of};
-ghost use Rattle.hw_progress.specs.Searches.{room_in, IsReason, IsSearch};
+ghost use Rattle.hw_progress.specs.Searches.{room_in, HasLine, IsReason, IsSearch};
 ghost use Rattle.hw_progress.specs.Settling.{SettleMeets, with_events};
 ghost use Rattle.hw_search.specs.Marks.{AllClear, NextMarked};
 ghost use Rattle.hw_search.specs.Askings.{AskMeets, StoreMeets, LemmasQuiet, SourcesQuiet};
@@ -34,13 +34,15 @@ pub enum Asked {
 }
 
 impl<'f, S: Store + Drop, P: Propagator + Drop> Engine<'f, S, P> {
-    /// Takes an implied literal, and marks the sources that speak of it. It takes no memory.
+    /// Takes a literal that a source or a lemma implies, and marks the sources that speak of it. It
+    /// takes no memory.
     pub fn imply(&mut self, lit: Lit, why: Why)
         requires fits { lit_fits (trail_shape self.old.search.trail) lit ≡ true }
         requires clause { IsClause (trail_shape self.old.search.trail) (clause_of why) }
         requires free { truth (room_in self.old.search) lit ≡ Free }
         requires only { narrowing (clause_of why) (room_in self.old.search) ≡ CutBy lit }
         requires reason { IsReason self.old.search why }
+        requires unpriced { HasLine None why }
         ensures search { self.new.search ≡ with_events self.old.search (record { lit = lit; level = self.old.search.trail.level; why = Some why } ∷ []) }
         ensures sources { self.new.sources ≡ self.old.sources }
     {
@@ -55,6 +57,7 @@ impl<'f, S: Store + Drop, P: Propagator + Drop> Engine<'f, S, P> {
         requires fits { IsClause (shape_of self.old.search.problem) (clause_of why) }
         requires active { IsActive (clause_of why) (room_in self.old.search) }
         requires reason { IsReason self.old.search why }
+        requires unpriced { HasLine None why }
         ensures meets { AskMeets ⊥ self.old.search self.new.search (Ok result) }
         ensures sources { self.new.sources ≡ self.old.sources }
     {

@@ -4,11 +4,11 @@ ghost use Rattle.hw_cert.specs.Logs.{IsEmpty};
 ghost use Rattle.hw_model.specs.Problem.{shape_of};
 ghost use Rattle.hw_model.specs.Rooms.{whole_room};
 ghost use Rattle.hw_model.specs.Timetables.{Permits};
+ghost use Rattle.hw_progress.specs.Proving.{IsEndOf};
 ghost use Rattle.hw_progress.specs.Searches.{new_search};
 ghost use Rattle.hw_progress.specs.Solving.{SolveMeets};
 ghost use Rattle.hw_progress.specs.Starting.{EachSourceOnce};
 ghost use Rattle.hw_search.specs.Faults.{SolvedKeepsFaults};
-ghost use Rattle.hw_search.specs.Going.{Going, EndsSolved};
 ghost use Rattle.hw_search.specs.MadeFor.{IsMadeFor};
 ghost use Rattle.hw_rules.specs.Sources.{AreSourcesOf};
 
@@ -52,10 +52,10 @@ fn start<'f>(
     Search::new(alloc, flat, store, props, Branching::Greatest)
 }
 
-// What a search that ended proved: its best timetable is a best one, or none is permitted.
-fn proved(flat: &Flat, best: Option<Timetable>) -> Solved
+/// What a search that ended proved: its best timetable is a best one, or none is permitted.
+pub fn proved(flat: &Flat, best: Option<Timetable>) -> Solved
     requires permitted { IfSome best (Permits flat.now) }
-    ensures value { EndsSolved flat.now best result }
+    ensures value { IsEndOf flat.now best result }
 {
     match best {
         None => Solved::Infeasible,

@@ -6,13 +6,14 @@ ghost use Rattle.hw_model.specs.Rooms.{IsPoint, point_of};
 ghost use Rattle.hw_story.specs.Trails.{clause_of, decided};
 ghost use Rattle.hw_cert.specs.Logs.{WhereTold, IsWhole};
 ghost use Rattle.hw_progress.specs.declared.outcome.Settled.TheVariants.{Quiet, Conflict};
-ghost use Rattle.hw_progress.specs.Searches.{SearchModel, LogFits, room_in, best_cargo};
+ghost use Rattle.hw_progress.specs.Searches.{SearchModel, IsSearch, LogFits, room_in, best_cargo};
 ghost use Rattle.hw_progress.specs.Settling.{AllQuiet, IsConflict, Settles};
+ghost use Rattle.hw_advice.specs.Advisers.{IsOpenIn};
 ghost use Rattle.hw_progress.specs.Starting.{Branches};
 ghost use Rattle.hw_progress.specs.Turns.{TurnMeets};
 ghost use Rattle.hw_progress.specs.Offers.{IsBetter, OfferMeets};
 ghost use Rattle.hw_search.specs.Faults.{TurnKeepsFaults};
-ghost use Rattle.hw_search.specs.Turning.{Decides, Teaches, TurnsFrom, turn_of};
+ghost use Rattle.hw_search.specs.Turning.{Decides, Teaches, TurnsFrom, decided_by, turn_of};
 
 use crate::asking::clause_of;
 use crate::branching::branch;
@@ -48,8 +49,8 @@ impl<'f, S: Store + Drop, P: Propagator + Drop> Engine<'f, S, P> {
         self.over = true;
     }
 
-    // The search is over since a line wasn't taken.
-    fn halt(&mut self, stop: LogStop) -> Turn
+    /// The search is over since a line wasn't taken.
+    pub fn halt(&mut self, stop: LogStop) -> Turn
         ensures search { self.new.search ≡ record self.old.search { over = true } }
         ensures value { result ≡ turn_of stop }
     {
@@ -61,21 +62,32 @@ impl<'f, S: Store + Drop, P: Propagator + Drop> Engine<'f, S, P> {
     pub fn branch(&self) -> Lit
         requires wide { IsPoint (room_in self.now.search) → ⊥ }
         ensures value { Branches self.now.search result }
+        ensures open { IsOpenIn self.now.search.problem (room_in self.now.search) result }
     {
         branch(self.branching, self.flat, self.trail.room())
     }
 
-    // Decides by the branching rule.
-    fn decide(&mut self)
+    /// Decides by an open literal.
+    pub fn decide_by(&mut self, lit: Lit)
+        requires quiet { AllQuiet self.old.search }
+        requires open { IsOpenIn self.old.search.problem (room_in self.old.search) lit }
+        ensures search { self.new.search ≡ decided_by self.old.search lit }
+        ensures kept { IsSearch self.new.search }
+    {
+        self.store.changed(self.trail.room(), lit);
+        self.trail.decide(lit);
+        self.ledger.add_event();
+        self.marks.mark(self.speakers.of(lit));
+    }
+
+    /// Decides by the branching rule.
+    pub fn decide(&mut self)
         requires quiet { AllQuiet self.old.search }
         requires wide { IsPoint (room_in self.old.search) → ⊥ }
         ensures decides { Decides self.old.search self.new.search }
     {
         let lit = self.branch();
-        self.store.changed(self.trail.room(), lit);
-        self.trail.decide(lit);
-        self.ledger.add_event();
-        self.marks.mark(self.speakers.of(lit));
+        self.decide_by(lit);
     }
 
     // Takes a better timetable, and marks the goal.
@@ -92,8 +104,8 @@ impl<'f, S: Store + Drop, P: Propagator + Drop> Engine<'f, S, P> {
         self.marks.set(self.goal);
     }
 
-    // Writes the timetable of a quiet point room.
-    fn improve<L: Log>(&mut self, log: &mut L) -> Turn
+    /// Writes the timetable of a quiet point room.
+    pub fn improve<L: Log>(&mut self, log: &mut L) -> Turn
         requires quiet { AllQuiet self.old.search }
         requires point { IsPoint (room_in self.old.search) }
         requires whole { IsWhole (L.state log.old) }
@@ -205,6 +217,23 @@ impl<'f, S: Store + Drop, P: Propagator + Drop> Engine<'f, S, P> {
         }
     }
 
+    /// Writes a conflict without literals, and learns from another one.
+    pub fn meet_conflict<L: Log>(&mut self, why: &Why, log: &mut L) -> Turn
+        requires conflict { IsConflict self.old.search why.now }
+        requires going { self.old.search.over ≡ false }
+        requires few { self.old.search.lemmas < 100000 }
+        requires whole { IsWhole (L.state log.old) }
+        ensures turns { TurnsFrom (Conflict why.now) self.old.search (L.state log.old) result self.new.search (L.state log.new) }
+        ensures kept { TurnKeepsFaults result (L.state log.old) (L.state log.new) }
+        ensures same_reference { L.anchor log.new ≡ L.anchor log.old }
+    {
+        if clause_of(why).len() == 0 {
+            self.end(why, log)
+        } else {
+            self.teach(why, log)
+        }
+    }
+
     /// Settles, and then decides, writes a better table, or learns from a conflict. After `Ended`,
     /// `NoMemory` and `LogFailed` the search is over; what was written stays, and so does the best.
     pub fn turn<L: Log>(&mut self, log: &mut L) -> Turn
@@ -225,13 +254,7 @@ impl<'f, S: Store + Drop, P: Propagator + Drop> Engine<'f, S, P> {
                     Turn::Decided
                 }
             }
-            Ok(Settled::Conflict(why)) => {
-                if clause_of(&why).len() == 0 {
-                    self.end(&why, log)
-                } else {
-                    self.teach(&why, log)
-                }
-            }
+            Ok(Settled::Conflict(why)) => self.meet_conflict(&why, log),
             Err(_stop) => {
                 let _ = &self.trail;
                 self.halt(LogStop::NoMemory)

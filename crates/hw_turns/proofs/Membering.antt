@@ -23,9 +23,12 @@ use Rattle.hw_progress.specs.Offers.{IsBetter, OfferMeets}
 use Rattle.hw_progress.proofs.Turned.{table}
 use Rattle.hw_search.specs.Going.{rank, most_cargo, turns_left}
 use Rattle.hw_search.proofs.Answering.{tells}
-use Rattle.hw_search.proofs.Counting.{few_lemmas, nearer}
+use Rattle.hw_progress.proofs.OneLemma.{few_lemmas}
+use Rattle.hw_search.proofs.Counting.{nearer}
+use Rattle.hw_search.proofs.Plain.{plain_tariff}
 use Rattle.hw_turns.specs.Crewing.{OwnWell}
 use Rattle.hw_turns.specs.Members.{Working, Caught, TurnsOwn, UnlessStopped}
+use Rattle.hw_turns.proofs.Unpriced.{same_priced}
 
 -- a log in memory with these lines
 abbrev pub own_told : List Line → LogTold
@@ -48,7 +51,7 @@ lean_append f before (line ∷ a) b v w = (v.0, lean_append f (before ++ line �
 
 own_more : (f : Problem) (own more own' : List Line) → own' ≡ own ++ more → OwnWell f own → WritesWell f own more → OwnWell f own'
 own_more f own more own' e w m = subst (OwnWell f) (sym e) (record {
-  plain = All-append (λ line. is_plain line ≡ true) own more w.plain m.plain;
+  plain = All-append (λ line. is_plain line ≡ true) own more w.plain (m.plain (plain_tariff own w.plain));
   fit = All-append (LineFits f) own more w.fit m.fit;
   valid = valid_append f [] own more w.valid m.valid;
   lean = lean_append f [] own more w.lean m.lean;
@@ -84,6 +87,7 @@ caught_offer f s row own u own' w permits better t =
         same_problem = ap (λ (x : SearchModel). x.problem) does.better ∙ w.same_problem;
         kept = subst IsSearch (sym does.better) kept;
         going = ap (λ (x : SearchModel). x.over) does.better ∙ w.going;
+        unpriced = ap (λ (x : SearchModel). x.priced) does.better ∙ w.unpriced;
         fits = does.fits;
         well = own_more f own (lines.Table row ∷ []) own' e w.well well;
       };
@@ -147,7 +151,7 @@ turns_own f s own turn u own' going w is t =
       few = omega (arith, ap clause_count e, ap length (filter_map-append clause_of own more), length-append (clauses_of own) (clauses_of more), few);
       few_lemmas = omega (arith, mine, step, his);
       closed = closed_by turn u own' going t.fits;
-      working = λ last. record { same_problem = t.same_problem ∙ w.same_problem; kept = is; going = t.over ∙ last; fits = fits_by turn u own' last t.fits; well = made };
+      working = λ last. record { same_problem = t.same_problem ∙ w.same_problem; kept = is; going = t.over ∙ last; unpriced = same_priced turn s u (memory_log own) (memory_log own') last t.does ∙ w.unpriced; fits = fits_by turn u own' last t.fits; well = made };
       nearer = λ budget last lt. nearer turn budget s u (memory_log own) (memory_log own') last lt t.same_problem t.does;
     }
 

@@ -19,11 +19,12 @@ use Rattle.hw_crew.specs.Pages.{Page}
 use Rattle.hw_turns.specs.declared.board.Board.{Board}
 use Rattle.hw_turns.specs.Crewing.{IsSaid, Crewing, OwnWell, StopSays}
 
--- a search that isn't over, and its own lines, which fit it
+-- a search that isn't over and was never advised by prices, and its own lines, which fit it
 pub record Working (f : Problem) (s : SearchModel) (own : List Line) : Type 0 where
   pub same_problem : s.problem ≡ f
   pub kept : IsSearch s
   pub going : s.over ≡ false
+  pub unpriced : s.priced ≡ 0
   pub fits : LogFits (record { lines = own; behind = [] }) s
   pub well : OwnWell f own
 

@@ -4,9 +4,10 @@ use Rattle.hw_model.specs.Timetables.{Permits}
 use Rattle.hw_progress.specs.declared.outcome.Solved.TheVariants as answers
 use Rattle.hw_progress.specs.declared.outcome.Turn.{Turn}
 use Rattle.hw_progress.specs.declared.outcome.Turn.TheVariants as turns
+use Rattle.hw_progress.specs.Proving.{IsEndOf}
 use Rattle.hw_progress.specs.Solving.{SolveMeets}
+use Rattle.hw_search.specs.Going.{Going}
 use Rattle.hw_progress.specs.Turns.{is_last}
-use Rattle.hw_search.specs.Going.{Going, EndsSolved}
 use Rattle.hw_search.proofs.Counting.{nearer}
 use Rattle.hw_search.proofs.Solutions.{begins, goes_on, ends_at, stopped, failed, spent, to_fit}
 use Rattle.hw_search.proofs.Faults.{going_keeps, ended_keeps}
@@ -50,7 +51,7 @@ pub returns-in-Ended : goal.returns-in-Ended
 returns-in-Ended g c =
     let few : c.turns.search.lemmas < c.args.budget = omega (arith, c.turns-test.true, c.lemmas.ensures.value) in
     record {
-      solves = ends_at c.args.flat.now c.args.budget c.turns.search c.turn.new.self c.proved.result (g.L.Log.state c.args.log.now) (g.L.Log.state c.turns.log) (g.L.Log.state c.turn.new.log) c.lemmas.ensures.search c.turns.invariant.going few c.in-Ended.ensures.turns (subst (λ (o : Option (List ℕ)). EndsSolved c.args.flat.now o c.proved.result) c.into_best.ensures.value c.proved.ensures.value);
+      solves = ends_at c.args.flat.now c.args.budget c.turns.search c.turn.new.self c.proved.result (g.L.Log.state c.args.log.now) (g.L.Log.state c.turns.log) (g.L.Log.state c.turn.new.log) c.lemmas.ensures.search c.turns.invariant.going few c.in-Ended.ensures.turns (subst (λ (o : Option (List ℕ)). IsEndOf c.args.flat.now o c.proved.result) c.into_best.ensures.value c.proved.ensures.value);
       kept = ended_keeps c.args.flat.now c.into_best.result c.proved.result (g.L.Log.state c.args.log.now) (g.L.Log.state c.turn.new.log) c.proved.ensures.value (c.in-Ended.ensures.kept ∙ c.turns.invariant.faults);
       same_reference = c.in-Ended.ensures.same_reference ∙ c.turns.invariant.same;
     }

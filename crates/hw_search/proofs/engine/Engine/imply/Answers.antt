@@ -20,7 +20,8 @@ add_event-requires g c =
     (of_view _ _ (λ (e : EngineModel). IsClause (trail_shape e.search.trail) (clause_of c.args.why)) c.self.view_is c.requires.clause)
     (of_view _ _ (λ (e : EngineModel). truth (room_in e.search) c.args.lit ≡ Free) c.self.view_is c.requires.free)
     (of_view _ _ (λ (e : EngineModel). narrowing (clause_of c.args.why) (room_in e.search) ≡ Cut c.args.lit) c.self.view_is c.requires.only)
-    (of_view _ _ (λ (e : EngineModel). IsReason e.search c.args.why) c.self.view_is c.requires.reason) in
+    (of_view _ _ (λ (e : EngineModel). IsReason e.search c.args.why) c.self.view_is c.requires.reason)
+    c.requires.unpriced in
     record { room = h }
 
 pub invariant_of-self : goal.invariant_of-self
@@ -33,6 +34,7 @@ invariant_of-self g c =
           (of_view _ _ (λ (e : EngineModel). truth (room_in e.search) c.args.lit ≡ Free) c.self.view_is c.requires.free)
           (of_view _ _ (λ (e : EngineModel). narrowing (clause_of c.args.why) (room_in e.search) ≡ Cut c.args.lit) c.self.view_is c.requires.only)
           (of_view _ _ (λ (e : EngineModel). IsReason e.search c.args.why) c.self.view_is c.requires.reason)
+          c.requires.unpriced
           c.imply.ensures.value c.changed.ensures.same c.add_event.ensures.value
           (subst (λ xs. MarksPlaces xs c.self.inside.marks c.mark.new.self) c.of.ensures.value c.mark.ensures.marks),
       c.changed.ensures.ships ∙ c.self.invariant.1,

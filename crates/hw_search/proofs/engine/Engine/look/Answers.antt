@@ -8,7 +8,7 @@ use Rattle.hw_progress.specs.Searches.{IsSearch}
 use Rattle.hw_search.specs.Engines.{EngineModel}
 use Rattle.hw_search.specs.Askings.{IsHeldWhy}
 use Rattle.std.specs.Prelude.{List}
-use Rattle.hw_search.proofs.Lemmas.{held_fits, held_active, held_reason, held_there, all_quiet, same_stored}
+use Rattle.hw_search.proofs.Lemmas.{held_fits, held_active, held_reason, held_unpriced, held_there, all_quiet, same_stored}
 use Rattle.hw_search.proofs.engine.Engine.look.Goals as goal
 
 pub take-requires-clause-fits : goal.take-requires-clause-fits
@@ -24,6 +24,9 @@ take-requires-clause-active g c =
 
 pub take-requires-clause-reason : goal.take-requires-clause-reason
 take-requires-clause-reason g c = held_reason _ (g.S.Store.clauses c.step.new.self) c.in-Clause.id c.in_ok-why-in-Clause.why c.self.invariant.0.search c.in_ok-why-in-Clause.ensures.held
+
+pub take-requires-clause-unpriced : goal.take-requires-clause-unpriced
+take-requires-clause-unpriced g c = held_unpriced (g.S.Store.clauses c.step.new.self) c.in-Clause.id c.in_ok-why-in-Clause.why c.in_ok-why-in-Clause.ensures.held
 
 pub lemma_of-requires : goal.lemma_of-requires
 lemma_of-requires g c =

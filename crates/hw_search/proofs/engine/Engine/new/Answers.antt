@@ -9,6 +9,7 @@ use Rattle.hw_model.specs.Problem.{shape_of}
 use Rattle.hw_model.specs.Refuting.{IsSourceOf}
 use Rattle.hw_model.specs.Rooms.{whole_room}
 use Rattle.hw_story.specs.Trails.{TrailModel, room_of, most_events}
+use Rattle.hw_search.specs.Prices.{prices_of}
 use Rattle.hw_search.specs.Speaking.{TellsSpeakers}
 use Rattle.hw_search.proofs.Kept.{kept_new}
 use Rattle.hw_search.proofs.engine.Engine.new.Goals as goal
@@ -42,7 +43,7 @@ invariant_of-result g c =
     let room = c.in_ok-ledger.ensures.reserved in
     let count : c.len.result ≡ length (map g.P.Propagator.source c.args.props.items) = omega (arith, c.len.ensures, c.args.props.ok.0, length-map c.args.props.items g.P.Propagator.source) in
     let marks : c.in_ok-marks.marks ≡ replicate (length (map g.P.Propagator.source c.args.props.items)) true = c.in_ok-marks.ensures.value ∙ ap (λ n. replicate n true) count in (
-      kept_new c.args.flat.now c.args.branching (map g.P.Propagator.source c.args.props.items) _ _ c.in_ok-trail.trail (g.S.Store.clauses c.args.store) c.in_ok-ledger.ledger c.in_ok-marks.marks c.shape-shape.ensures.limits c.requires.sources of tells at (omega (arith, most, room)) c.in_ok-trail.ensures.value c.requires.empty c.in_ok-ledger.ensures.written c.in_ok-ledger.ensures.clause_lines marks,
+      kept_new c.args.flat.now c.args.branching (map g.P.Propagator.source c.args.props.items) _ _ c.in_ok-trail.trail (g.S.Store.clauses c.args.store) c.in_ok-ledger.ledger (prices_of c.none.result) c.in_ok-marks.marks c.shape-shape.ensures.limits c.requires.sources of tells at (omega (arith, most, room)) c.in_ok-trail.ensures.value c.requires.empty c.in_ok-ledger.ensures.written c.in_ok-ledger.ensures.clause_lines c.none.ensures.value marks,
       c.requires.ships,
       subst (λ (t : TrailModel). g.S.Store.ready c.args.store (room_of t)) (sym c.in_ok-trail.ensures.value) c.requires.right,
       all,

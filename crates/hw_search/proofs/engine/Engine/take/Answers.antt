@@ -51,4 +51,4 @@ returns-in-Cut-clause-meets g c =
     let fits = unit_fits s c.clause_of.result.now unit.place c.in-Cut.lit is (subst (IsClause (shape_of s.problem)) (sym c.clause_of.ensures.value) c.requires.fits) unit.stands in
     let free : truth (room_in s) c.in-Cut.lit ≡ Free = subst (λ r. truth r c.in-Cut.lit ≡ Free) room unit.free in
     let only : narrowing (clause_of c.args.why) (room_in s) ≡ Cut c.in-Cut.lit = subst (λ r. narrowing (clause_of c.args.why) r ≡ Cut c.in-Cut.lit) room (subst (λ clause. narrowing clause c.room.result.now ≡ Cut c.in-Cut.lit) c.clause_of.ensures.value (sym c.in-Cut.ensures.value)) in
-    gains_one s c.imply.new.self.search c.in-Cut.lit c.args.why is fits (problem_clause s is.same_ships is.same_slots (clause_of c.args.why) c.requires.fits) free only c.requires.reason c.imply.ensures.search
+    gains_one s c.imply.new.self.search c.in-Cut.lit c.args.why is fits (problem_clause s is.same_ships is.same_slots (clause_of c.args.why) c.requires.fits) free only c.requires.reason c.requires.unpriced c.imply.ensures.search

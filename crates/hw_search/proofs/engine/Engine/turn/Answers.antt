@@ -8,8 +8,6 @@ use Rattle.hw_search.specs.Engines.{EngineModel}
 use Rattle.hw_search.specs.Turning.{Begins, halted}
 use Rattle.hw_search.proofs.Answering.{decides, decided_meets, stopped_early}
 use Rattle.hw_search.proofs.Ending.{turned}
-use Rattle.hw_cert.specs.declared.log.LogStop.TheVariants as stops
-use Rattle.hw_search.proofs.Faults.{stop_keeps}
 use Rattle.hw_search.proofs.engine.Engine.turn.Goals as goal
 
 pub returns-then-is_point-clause-turns : goal.returns-then-is_point-clause-turns
@@ -19,8 +17,8 @@ returns-then-is_point-clause-turns g c =
     let mid = c.settle.new.self.search in
     c.improve.ensures.turns s b (subst (Settles s mid) c.in-Ok-Quiet.field-0-is c.in-Ok-Quiet.ensures.meets)
 
-pub returns-in-Ok-Quiet-clause-turns : goal.returns-in-Ok-Quiet-clause-turns
-returns-in-Ok-Quiet-clause-turns g c =
+pub returns-else-is_point-clause-turns : goal.returns-else-is_point-clause-turns
+returns-else-is_point-clause-turns g c =
     let s = c.args.self.now.search in
     let b : Begins s (g.L.Log.state c.args.log.now) = record { kept = subst (λ (e : EngineModel). IsSearch e.search) c.self.view_is c.self.invariant.0.search; going = c.requires.going; few = c.requires.few; fits = c.requires.fits } in
     let mid = c.settle.new.self.search in
@@ -31,22 +29,15 @@ returns-in-Ok-Quiet-clause-turns g c =
     let d = c.decide.ensures.decides in
     turned s log log turns.Decided turns.Decided (decides mid d.0) c.decide.new.self.search refl d.2 (decided_meets s mid d.0 log b settles wide d.1)
 
-pub returns-then-len-eq0-clause-turns : goal.returns-then-len-eq0-clause-turns
-returns-then-len-eq0-clause-turns g c =
-    let s = c.args.self.now.search in
-    let b : Begins s (g.L.Log.state c.args.log.now) = record { kept = subst (λ (e : EngineModel). IsSearch e.search) c.self.view_is c.self.invariant.0.search; going = c.requires.going; few = c.requires.few; fits = c.requires.fits } in
-    let mid = c.settle.new.self.search in
-    c.end.ensures.turns s b (subst (Settles s mid) c.in-Ok-Conflict.field-0-is c.in-Ok-Conflict.ensures.meets)
-
 pub returns-in-Ok-Conflict-clause-turns : goal.returns-in-Ok-Conflict-clause-turns
 returns-in-Ok-Conflict-clause-turns g c =
     let s = c.args.self.now.search in
     let b : Begins s (g.L.Log.state c.args.log.now) = record { kept = subst (λ (e : EngineModel). IsSearch e.search) c.self.view_is c.self.invariant.0.search; going = c.requires.going; few = c.requires.few; fits = c.requires.fits } in
     let mid = c.settle.new.self.search in
-    c.teach.ensures.turns s b (subst (Settles s mid) c.in-Ok-Conflict.field-0-is c.in-Ok-Conflict.ensures.meets)
+    c.meet_conflict.ensures.turns s b (subst (Settles s mid) c.in-Ok-Conflict.field-0-is c.in-Ok-Conflict.ensures.meets)
 
-pub returns-clause-turns : goal.returns-clause-turns
-returns-clause-turns g c =
+pub returns-in-Err-clause-turns : goal.returns-in-Err-clause-turns
+returns-in-Err-clause-turns g c =
     let s = c.args.self.now.search in
     let b : Begins s (g.L.Log.state c.args.log.now) = record { kept = subst (λ (e : EngineModel). IsSearch e.search) c.self.view_is c.self.invariant.0.search; going = c.requires.going; few = c.requires.few; fits = c.requires.fits } in
     let mid = c.settle.new.self.search in
@@ -57,14 +48,5 @@ returns-clause-turns g c =
 pub returns-then-is_point-clause-kept : goal.returns-then-is_point-clause-kept
 returns-then-is_point-clause-kept g c = c.improve.ensures.kept
 
-pub returns-in-Ok-Quiet-clause-kept : goal.returns-in-Ok-Quiet-clause-kept
-returns-in-Ok-Quiet-clause-kept g c = refl
-
-pub returns-then-len-eq0-clause-kept : goal.returns-then-len-eq0-clause-kept
-returns-then-len-eq0-clause-kept g c = c.end.ensures.kept
-
 pub returns-in-Ok-Conflict-clause-kept : goal.returns-in-Ok-Conflict-clause-kept
-returns-in-Ok-Conflict-clause-kept g c = c.teach.ensures.kept
-
-pub returns-clause-kept : goal.returns-clause-kept
-returns-clause-kept g c = stop_keeps stops.NoMemory c.halt.result (g.L.Log.state c.args.log.now) (g.L.Log.state c.args.log.now) (g.L.Log.state c.args.log.now) c.halt.ensures.value refl refl
+returns-in-Ok-Conflict-clause-kept g c = c.meet_conflict.ensures.kept

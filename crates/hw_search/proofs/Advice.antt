@@ -1,0 +1,193 @@
+-- What is heeded line by line, and where that stops.
+use Rattle.std.proofs.Common.{◌≡◌, ℕ, zero, suc, ◌≤◌, List, [], ◌∷◌, ◌++◌, Some, All, IsSome, length, refl, sym, ap, ◌∙◌, subst, arith, append-nil, length-append}
+use Rattle.std.specs.Prelude.{AllPairs, Result, Ok, Err}
+use Rattle.std.specs.List.{cons_option}
+use Rattle.std.proofs.lemmas.List.Elements.{All-nil, All-push}
+use Rattle.hw_model.specs.declared.lit.Lit.{Lit}
+use Rattle.hw_model.specs.Rooms.{RoomWithin}
+use Rattle.hw_tolls.specs.declared.toll.Toll.{Toll}
+use Rattle.hw_lines.specs.declared.line.Line.{Line}
+use Rattle.hw_lines.specs.declared.line.Line.TheVariants as lines
+use Rattle.hw_lines.specs.Valid.{LineFits, ValidAfter, denied_room}
+use Rattle.hw_lines.specs.Lemmas.{LeanAfter, IsNew}
+use Rattle.hw_story.specs.declared.event.Event.{Event}
+use Rattle.hw_story.specs.declared.event.Why.TheVariants as whys
+use Rattle.hw_cert.specs.declared.log.LogStop.{LogStop}
+use Rattle.hw_cert.specs.declared.log.LogStop.TheVariants as stops
+use Rattle.hw_cert.specs.Logs.{LogTold, LogModel, WhereTold, Grows, IsBegunLine}
+use Rattle.hw_story.specs.Trails.{TrailModel}
+use Rattle.hw_progress.specs.Prices.{PriceModel}
+use Rattle.hw_progress.specs.Searches.{SearchModel, IsSearch, FitsOpen, LiveKept, LogFits}
+use Rattle.hw_progress.specs.Settling.{with_events}
+use Rattle.hw_progress.specs.Laws.{PriceLine, PriceMeets}
+use Rattle.hw_progress.specs.Advised.{HeedWrites, Heeds, IsCutOff, StopsBy, with_priced}
+use Rattle.hw_progress.proofs.Heeded.{heeds_on}
+use Rattle.hw_progress.proofs.Lines.{same_lemmas}
+use Rattle.hw_progress.proofs.Told.{grown}
+use Rattle.hw_search.specs.declared.settling.Asked.{Asked}
+use Rattle.hw_search.specs.declared.settling.Asked.TheVariants as asked
+use Rattle.hw_search.specs.Handing.{TakesAll, StopsAfter, StopsWithin}
+use Rattle.hw_search.specs.Heeding.{HeedStops, HeedMeets, HeedGains, ConsultMeets}
+use Rattle.hw_search.specs.Turning.{turn_of}
+use Rattle.hw_search.proofs.Handed.{grown_with, grown_to, grows_by}
+
+-- ---- what was heeded
+
+pub heeds_none : (s : SearchModel) (log : LogModel) → IsSearch s → WhereTold log (λ told. LogFits told s) → Heeds s s log log
+heeds_none s log is fits = heeds_on.0 s log is fits
+
+pub heeds_both : (s mid after : SearchModel) (old here new : LogModel) → Heeds s mid old here → Heeds mid after here new → Heeds s after old new
+heeds_both s mid after old here new a b = heeds_on.1 s mid after old here new a b
+
+-- the log fits afterwards
+pub heeds_fit : (s after : SearchModel) (old new : LogModel) → Heeds s after old new → WhereTold new (λ told. LogFits told after)
+heeds_fit s after old new h = grown_to old new (HeedWrites s after) (λ now. LogFits now after) (λ was now w. w.fits) h.writes
+
+pub same_problem : (s after : SearchModel) (old new : LogModel) → Heeds s after old new → after.problem ≡ s.problem
+same_problem s after old new h = ap (λ (x : SearchModel). x.problem) h.same
+
+pub no_fewer : (s after : SearchModel) (old new : LogModel) → Heeds s after old new → length s.trail.events ≤ length after.trail.events
+no_fewer s after old new h = omega (arith, ap (λ (t : TrailModel). length t.events) h.trail, length-append s.trail.events h.more)
+
+-- ---- a line that was taken
+
+-- what a line about prices does after any lines that fit
+abbrev pub LineMeets : SearchModel → SearchModel → Line → Type 0
+LineMeets s after line = (before : List Line) → FitsOpen before s → PriceMeets s before line after
+
+pub one_writes : (s after : SearchModel) (line : Line) (was now : LogTold) → LogFits was s → PriceMeets s was.lines line after → (now.lines ≡ was.lines ++ line ∷ []) × (now.behind ≡ []) → HeedWrites s after was now
+one_writes s after line was now fit m h = record {
+  more = line ∷ [];
+  lines = h.0;
+  good = record {
+    fit = All-push (LineFits s.problem) [] line (All-nil (LineFits s.problem)) m.good.fits;
+    valid = (m.good.valid, tt);
+    lean = (m.good.lean, tt);
+    new = λ old. subst (AllPairs (λ earlier later. RoomWithin (denied_room s.problem later) (denied_room s.problem earlier) → ⊥)) (sym (same_lemmas was.lines line m.no_lemma)) old;
+  };
+  no_lemma = ap (λ o. cons_option o []) m.no_lemma;
+  few_live = m.few_live fit.live_kept;
+  fits = record { nothing_behind = h.1; fits = subst (λ xs. FitsOpen xs after) (sym h.0) m.fits.opened; live_kept = subst (λ xs. LiveKept xs after) (sym h.0) (m.fits.kept fit.live_kept) };
+}
+
+-- the same search but for these
+abbrev SameBut : SearchModel → SearchModel → Type 0
+SameBut s after = after ≡ record s { trail = after.trail; written = after.written; prices = after.prices; clause_lines = after.clause_lines; priced = after.priced }
+
+line_heeds : (s after : SearchModel) (line : Line) (more : List Event) (tolls : List Toll) (old new : LogModel) → IsSearch after → All (λ event. IsSome event.why) more → after.trail ≡ (with_events s more).trail → after.prices.tolls ≡ s.prices.tolls ++ tolls → after.prices.bound ≡ s.prices.bound → SameBut s after
+    → LineMeets s after line → WhereTold old (λ told. LogFits told s) → TakesAll (line ∷ []) old new → Heeds s after old new
+line_heeds s after line more tolls old new is implied trail declared bound same meets fits t = record {
+  more = more;
+  implied = implied;
+  trail = trail;
+  tolls = tolls;
+  declared = declared;
+  same_bound = bound;
+  same = same;
+  kept = is;
+  same_faults = t.faults;
+  writes = grown_with old new (λ was now. (now.lines ≡ was.lines ++ line ∷ []) × (now.behind ≡ [])) (HeedWrites s after) (λ told. LogFits told s) (λ was now fit h. one_writes s after line was now fit (meets was.lines fit.fits) h) fits t.told;
+}
+
+same_trail : (s : SearchModel) → s.trail ≡ (with_events s []).trail
+same_trail s = ap (λ es. record { ships = s.trail.ships; slots = s.trail.slots; events = es; level = s.trail.level }) (sym (append-nil s.trail.events))
+
+-- a line that changes prices alone
+pub prices_heeded : (s : SearchModel) (prices : PriceModel) (tolls : List Toll) (line : Line) (old new : LogModel) → IsSearch (record s { prices = prices }) → prices.tolls ≡ s.prices.tolls ++ tolls → prices.bound ≡ s.prices.bound
+    → LineMeets s (record s { prices = prices }) line → WhereTold old (λ told. LogFits told s) → TakesAll (line ∷ []) old new → Heeds s (record s { prices = prices }) old new
+prices_heeded s prices tolls line old new is declared bound meets fits t =
+    line_heeds s (record s { prices = prices }) line [] tolls old new is (All-nil (λ (event : Event). IsSome event.why)) (same_trail s) declared bound refl meets fits t
+
+-- a literal that a clause of prices implied
+pub priced_heeded : (s : SearchModel) (lit : Lit) (clause : List Lit) (old new : LogModel) → IsSearch (with_priced s lit clause) → LineMeets s (with_priced s lit clause) (lines.Priced clause) → WhereTold old (λ told. LogFits told s) → TakesAll (lines.Priced clause ∷ []) old new → Heeds s (with_priced s lit clause) old new
+priced_heeded s lit clause old new is meets fits t =
+    let event : Event = record { lit = lit; level = s.trail.level; why = Some (whys.Priced clause) } in
+    line_heeds s (with_priced s lit clause) (lines.Priced clause) (event ∷ []) [] old new is (All-push (λ (event : Event). IsSome event.why) [] event (All-nil (λ (event : Event). IsSome event.why)) refl) refl (sym (append-nil s.prices.tolls)) refl refl meets fits t
+
+-- ---- a line that wasn't taken
+
+begun : (line : Line) (count : ℕ) (was now : LogTold) → count ≤ 0 → StopsAfter stops.Failed (line ∷ []) count was now → (now.lines ≡ was.lines) × IsBegunLine line now.behind
+begun line zero was now le h = (h.lines ∙ append-nil was.lines, h.behind)
+begun line (suc n) was now le h = absurd (omega (arith, le))
+
+nothing : (line : Line) (count : ℕ) (was now : LogTold) → count ≤ 0 → StopsAfter stops.NoMemory (line ∷ []) count was now → (now.lines ≡ was.lines) × (now.behind ≡ [])
+nothing line zero was now le h = (h.lines ∙ append-nil was.lines, h.behind)
+nothing line (suc n) was now le h = absurd (omega (arith, le))
+
+-- nothing was written, and what follows still fits
+no_more : (s : SearchModel) (was now : LogTold) → LogFits was s → (now.lines ≡ was.lines) × (now.behind ≡ []) → HeedWrites s s was now
+no_more s was now fit n = record {
+  more = [];
+  lines = n.0 ∙ sym (append-nil was.lines);
+  good = record { fit = All-nil (LineFits s.problem); valid = tt; lean = tt; new = λ old. subst (IsNew s.problem) (sym (append-nil was.lines)) old };
+  no_lemma = refl;
+  few_live = tt;
+  fits = record { nothing_behind = n.1; fits = subst (λ xs. FitsOpen xs s) (sym n.0) fit.fits; live_kept = subst (λ xs. LiveKept xs s) (sym n.0) fit.live_kept };
+}
+
+-- nothing was heeded
+same_heeds : (s : SearchModel) (old new : LogModel) → IsSearch s → new.faults ≡ old.faults → Grows old new (HeedWrites s s) → Heeds s s old new
+same_heeds s old new is faults writes = record {
+  more = [];
+  implied = All-nil (λ (event : Event). IsSome event.why);
+  trail = same_trail s;
+  tolls = [];
+  declared = sym (append-nil s.prices.tolls);
+  same_bound = refl;
+  same = refl;
+  kept = is;
+  same_faults = faults;
+  writes = writes;
+}
+
+pub line_stops : (s : SearchModel) (line : Line) (stop : LogStop) (old new : LogModel) → IsSearch s → WhereTold old (λ told. LogFits told s) → ((before : List Line) → FitsOpen before s → PriceLine s.problem before line) → StopsWithin stop (line ∷ []) 0 old new → HeedStops s s old stop new
+line_stops s line stops.Failed old new is fits good t =
+    let R : LogTold → LogTold → Type 0 = λ was now. (count : ℕ) × (count ≤ 0) × StopsAfter stops.Failed (line ∷ []) count was now in
+    record {
+      then = old;
+      heeds = heeds_none s old is fits;
+      later = t.later;
+      cause = (
+        t.cause,
+        grown old new R (λ told. LogFits told s) (IsCutOff s.problem) t.told (λ was now fit h.
+            let b = begun line h.0 was now h.1 h.2 in
+            let g = good was.lines fit.fits in
+            (line, g.fits, subst (λ xs. ValidAfter s.problem xs line) (sym b.0) g.valid, subst (λ xs. LeanAfter s.problem xs line) (sym b.0) g.lean, b.1)) fits,
+        grows_by old new R (λ was now. now.lines ≡ was.lines) (λ was now h. (begun line h.0 was now h.1 h.2).0) t.told,
+      );
+    }
+line_stops s line stops.NoMemory old new is fits good t =
+    let R : LogTold → LogTold → Type 0 = λ was now. (count : ℕ) × (count ≤ 0) × StopsAfter stops.NoMemory (line ∷ []) count was now in
+    record {
+      then = new;
+      heeds = same_heeds s old new is t.cause (grown_with old new R (HeedWrites s s) (λ told. LogFits told s) (λ was now fit h. no_more s was now fit (nothing line h.0 was now h.1 h.2)) fits t.told);
+      later = omega arith;
+      cause = refl;
+    }
+
+-- memory ran out before a line
+pub memory_stops : (s : SearchModel) (log : LogModel) → IsSearch s → WhereTold log (λ told. LogFits told s) → HeedStops s s log stops.NoMemory log
+memory_stops s log is fits = record { then = log; heeds = heeds_none s log is fits; later = omega arith; cause = refl }
+
+-- ---- one part after another
+
+pub stops_on : (s mid after : SearchModel) (stop : LogStop) (old here new : LogModel) → Heeds s mid old here → HeedStops mid after here stop new → HeedStops s after old stop new
+stops_on s mid after stop old here new a h = record {
+  then = h.then;
+  heeds = heeds_both s mid after old here h.then a h.heeds;
+  later = h.later;
+  cause = subst (λ f. StopsBy f (turn_of stop) h.then new) (same_problem s mid old here a) h.cause;
+}
+
+pub meets_on : {A : Type 0} (s mid after : SearchModel) (old here new : LogModel) (result : Result A LogStop) → Heeds s mid old here → HeedMeets mid after here new result → HeedMeets s after old new result
+meets_on s mid after old here new (Ok done) a h = heeds_both s mid after old here new a h
+meets_on s mid after old here new (Err stop) a h = stops_on s mid after stop old here new a h
+
+pub gains_on : (s mid after : SearchModel) (old here new : LogModel) → Heeds s mid old here → HeedGains mid after here new → HeedGains s after old new
+gains_on s mid after old here new a h = record { heeds = heeds_both s mid after old here new a h.heeds; more = omega (arith, no_fewer s mid old here a, h.more) }
+
+pub consult_on : (s mid after : SearchModel) (old here new : LogModel) (result : Result Asked LogStop) → Heeds s mid old here → ConsultMeets ⊥ mid after here new result → ConsultMeets ⊥ s after old new result
+consult_on s mid after old here new (Ok asked.Quiet) a h = h
+consult_on s mid after old here new (Ok asked.Cut) a h = gains_on s mid after old here new a h
+consult_on s mid after old here new (Ok (asked.Conflict why)) a h = record { heeds = heeds_both s mid after old here new a h.heeds; conflict = h.conflict }
+consult_on s mid after old here new (Err stop) a h = stops_on s mid after stop old here new a h

@@ -1,0 +1,149 @@
+-- Advice that an engine heeds, in the words of its calls. `e` is what the fields say, `u` what the call sees.
+use Rattle.std.proofs.Common.{◌≡◌, ℕ, ◌+◌, ◌<◌, ◌≤◌, ◌^◌, true, false, List, [], ◌∷◌, ◌++◌, Option, Some, All, length, get_or, refl, sym, ap, ◌∙◌, subst, arith, append-nil, append_assoc, length-append}
+use Rattle.std.proofs.lemmas.List.Elements.{All-push}
+use Rattle.hw_model.specs.declared.lit.Lit.{Lit}
+use Rattle.hw_model.specs.declared.lit.LitTruth.TheVariants.{Free, False}
+use Rattle.hw_model.specs.declared.narrowing.Narrowed.TheVariants.{Cut}
+use Rattle.hw_model.specs.Lits.{lit_fits, IsClause}
+use Rattle.hw_model.specs.Narrowing.{truth}
+use Rattle.hw_model.specs.Problem.{shape_of}
+use Rattle.hw_model.specs.Replay.{narrowing}
+use Rattle.hw_tolls.specs.declared.tariff.Tariff.{Tariff}
+use Rattle.hw_tolls.specs.declared.toll.Toll.{Toll}
+use Rattle.hw_tolls.specs.Tolls.{IsToll}
+use Rattle.hw_tolls.specs.Prices.{TariffFits}
+use Rattle.hw_lines.specs.declared.line.Line.TheVariants as lines
+use Rattle.hw_story.specs.declared.event.Why.TheVariants as whys
+use Rattle.hw_story.specs.Trails.{TrailModel, trail_shape, implied}
+use Rattle.hw_advice.specs.Advisers.{IsAdvice}
+use Rattle.hw_cert.specs.declared.log.LogStop.{LogStop}
+use Rattle.hw_cert.specs.Logs.{LogModel, WhereTold}
+use Rattle.hw_progress.specs.Prices.{ArePrices, toll_line, tariff_line, with_toll, with_tariff, DuesAscend}
+use Rattle.hw_progress.specs.Searches.{SearchModel, IsSearch, LogFits, PricesShow, best_cargo, room_in}
+use Rattle.hw_progress.specs.Advised.{Heeds, with_priced}
+use Rattle.hw_progress.proofs.Bounds.{few_numbers}
+use Rattle.hw_progress.proofs.Priced.{true_reason, priced, priced_good, priced_search}
+use Rattle.hw_progress.proofs.Tolled.{toll, tariff, tariff_more, price_search}
+use Rattle.hw_store.specs.declared.store.Stored.{Stored}
+use Rattle.hw_search.specs.Engines.{EngineModel}
+use Rattle.hw_search.specs.Handing.{TakesAll, StopsWithin}
+use Rattle.hw_search.specs.Heeding.{priced_by, with_tolls, with_given, HeedStops, HeedFails}
+use Rattle.hw_search.specs.Ledgers.{LedgerModel}
+use Rattle.hw_search.proofs.Advice.{heeds_none, prices_heeded, priced_heeded, line_stops}
+
+-- ---- a toll
+
+toll_prices : (s : SearchModel) (new : Toll) → IsSearch s → IsToll s.problem new → length s.prices.tolls < 10_000 → ArePrices s.problem (with_toll s.prices new)
+toll_prices s new is of few = record {
+  few = omega (arith, few, length-append s.prices.tolls (new ∷ []));
+  tolls = All-push (IsToll s.problem) s.prices.tolls new is.prices.tolls of;
+  tariff = tariff_more s.prices.tolls new s.prices.tariff is.prices.tariff;
+  bound = is.prices.bound;
+}
+
+toll_search : (s : SearchModel) (new : Toll) → IsSearch s → IsToll s.problem new → length s.prices.tolls < 10_000 → IsSearch (priced_by s (with_toll s.prices new))
+toll_search s new is of few = price_search s (with_toll s.prices new) is (toll_prices s new is of few)
+
+-- what a toll must be
+pub record IsNewToll (s : SearchModel) (new : Toll) : Type 0 where
+  pub toll : IsToll s.problem new
+  pub few : length s.prices.tolls < 10_000
+
+-- the same tolls, as they are held
+pub held_is : (e u : EngineModel) (held : List Toll) → e ≡ u → held ≡ e.search.prices.tolls → priced_by e.search (record e.search.prices { tolls = held }) ≡ u.search
+held_is e u held same h = ap (λ ts. priced_by e.search (record e.search.prices { tolls = ts })) h ∙ ap (λ (x : EngineModel). x.search) same
+
+pub declared_is : (e u : EngineModel) (new : Toll) (held tolls : List Toll) → e ≡ u → held ≡ e.search.prices.tolls → tolls ≡ held ++ new ∷ [] → priced_by e.search (record e.search.prices { tolls = tolls }) ≡ priced_by u.search (with_toll u.search.prices new)
+declared_is e u new held tolls same h t =
+    ap (λ ts. priced_by e.search (record e.search.prices { tolls = ts })) (t ∙ ap (λ ts. ts ++ new ∷ []) h) ∙ ap (λ (x : EngineModel). priced_by x.search (with_toll x.search.prices new)) same
+
+pub declared_heeds : (s : SearchModel) (new : Toll) (old log : LogModel) → IsSearch s → IsNewToll s new → WhereTold old (λ told. LogFits told s) → TakesAll (toll_line s.problem new ∷ []) old log → Heeds s (priced_by s (with_toll s.prices new)) old log
+declared_heeds s new old log is of fits t = prices_heeded s (with_toll s.prices new) (new ∷ []) (toll_line s.problem new) old log (toll_search s new is of.toll of.few) refl refl (toll s new is of.toll of.few).meets fits t
+
+pub declared_stops : (s : SearchModel) (new : Toll) (stop : LogStop) (old log : LogModel) → IsSearch s → IsNewToll s new → WhereTold old (λ told. LogFits told s) → StopsWithin stop (toll_line s.problem new ∷ []) 0 old log → HeedStops s s old stop log
+declared_stops s new stop old log is of fits t = line_stops s (toll_line s.problem new) stop old log is fits (λ before fit. ((toll s new is of.toll of.few).meets before fit).good) t
+
+-- ---- tolls one after another
+
+-- the search after some of the tolls
+abbrev After : SearchModel → List Toll → SearchModel
+After s tolls = priced_by s (with_tolls s.prices tolls)
+
+pub next_toll : (s mid : SearchModel) (all done : List Toll) (new : Toll) → mid ≡ After s done → All (IsToll s.problem) all → (length done < length all) × (new ≡ get_or all (length done) new) → IsToll mid.problem new
+next_toll s mid all done new e of at = subst (λ f. IsToll f new) (sym (ap (λ (x : SearchModel). x.problem) e)) (subst (IsToll s.problem) (sym at.1) (of (length done) new at.0))
+
+pub next_few : (s mid : SearchModel) (all done : List Toll) → mid ≡ After s done → length (s.prices.tolls ++ all) ≤ 10_000 → length done < length all → length mid.prices.tolls < 10_000
+next_few s mid all done e few lt = omega (arith, few, lt, ap (λ (x : SearchModel). length x.prices.tolls) e, length-append s.prices.tolls all, length-append s.prices.tolls done)
+
+pub tolls_then : (s mid after : SearchModel) (done : List Toll) (new : Toll) → mid ≡ After s done → after ≡ priced_by mid (with_toll mid.prices new) → after ≡ After s (done ++ new ∷ [])
+tolls_then s mid after done new e f = f ∙ ap (λ (x : SearchModel). priced_by x (with_toll x.prices new)) e ∙ ap (λ ts. priced_by s (record s.prices { tolls = ts })) (append_assoc s.prices.tolls done (new ∷ []))
+
+-- ---- a tariff
+
+-- what a tariff must be
+pub record IsNewTariff (s : SearchModel) (new : Tariff) : Type 0 where
+  pub fits : TariffFits (length s.prices.tolls) new
+  pub ascend : DuesAscend new
+
+tariff_search : (s : SearchModel) (new : Tariff) → IsSearch s → IsNewTariff s new → IsSearch (priced_by s (with_tariff s.prices new))
+tariff_search s new is of = price_search s (with_tariff s.prices new) is (record { few = is.prices.few; tolls = is.prices.tolls; tariff = of.fits; bound = is.prices.bound })
+
+pub forced_is : (e u : EngineModel) (new : Tariff) → e ≡ u → priced_by e.search (with_tariff e.search.prices new) ≡ priced_by u.search (with_tariff u.search.prices new)
+forced_is e u new same = ap (λ (x : EngineModel). priced_by x.search (with_tariff x.search.prices new)) same
+
+pub forced_heeds : (s : SearchModel) (new : Tariff) (old log : LogModel) → IsSearch s → IsNewTariff s new → WhereTold old (λ told. LogFits told s) → TakesAll (tariff_line new ∷ []) old log → Heeds s (priced_by s (with_tariff s.prices new)) old log
+forced_heeds s new old log is of fits t = prices_heeded s (with_tariff s.prices new) [] (tariff_line new) old log (tariff_search s new is of) (sym (append-nil s.prices.tolls)) refl (tariff s new is of.fits of.ascend).meets fits t
+
+pub forced_stops : (s : SearchModel) (new : Tariff) (stop : LogStop) (old log : LogModel) → IsSearch s → IsNewTariff s new → WhereTold old (λ told. LogFits told s) → StopsWithin stop (tariff_line new ∷ []) 0 old log → HeedStops s s old stop log
+forced_stops s new stop old log is of fits t = line_stops s (tariff_line new) stop old log is fits (λ before fit. ((tariff s new is of.fits of.ascend).meets before fit).good) t
+
+-- ---- a clause that implies a literal
+
+-- what a clause must be that implies a literal
+pub record IsNewCut (s : SearchModel) (lit : Lit) (clause : List Lit) : Type 0 where
+  pub clause_fits : IsClause (shape_of s.problem) clause
+  pub shows : PricesShow s clause
+  pub fits : lit_fits (trail_shape s.trail) lit ≡ true
+  pub free : truth (room_in s) lit ≡ Free
+  pub only : narrowing clause (room_in s) ≡ Cut lit
+  pub going : s.over ≡ false
+  pub few : s.lemmas < 100000
+  pub few_priced : s.priced < 1_000_000_000
+
+pub cut_number : (s : SearchModel) (lit : Lit) (clause : List Lit) → IsSearch s → IsNewCut s lit clause → s.clause_lines + 1 < 2 ^ 32
+cut_number s lit clause is of = omega (arith, few_numbers s is of.going of.few)
+
+pub cut_search : (s : SearchModel) (lit : Lit) (clause : List Lit) → IsSearch s → IsNewCut s lit clause → IsSearch (with_priced s lit clause)
+cut_search s lit clause is of = priced_search s lit clause is of.clause_fits of.shows of.fits of.free of.only of.few_priced
+
+pub cut_here : (e u : EngineModel) (lit : Lit) (clause : List Lit) → e ≡ u → IsNewCut u.search lit clause → IsNewCut e.search lit clause
+cut_here e u lit clause same of = subst (λ (x : EngineModel). IsNewCut x.search lit clause) (sym same) of
+
+-- what the parts of an engine hold then
+pub cut_is : (e u : EngineModel) (lit : Lit) (clause : List Lit) (trail : TrailModel) (stored : List Stored) (l : LedgerModel) (reserved : ℕ) → e ≡ u → trail ≡ implied e.search.trail lit (whys.Priced clause) → stored ≡ e.search.stored → l ≡ record { written = e.search.written ++ Some (e.search.clause_lines + 1) ∷ []; clause_lines = e.search.clause_lines + 1; reserved = reserved }
+    → record e.search { trail = trail; stored = stored; written = l.written; clause_lines = l.clause_lines; priced = e.search.priced + 1 } ≡ with_priced u.search lit clause
+cut_is e u lit clause trail stored l reserved same t st w =
+    let s = e.search in
+    ap (λ x. record s { trail = x; stored = stored; written = l.written; clause_lines = l.clause_lines; priced = s.priced + 1 }) t
+    ∙ ap (λ x. record s { trail = implied s.trail lit (whys.Priced clause); stored = x; written = l.written; clause_lines = l.clause_lines; priced = s.priced + 1 }) st
+    ∙ ap (λ (x : LedgerModel). record s { trail = implied s.trail lit (whys.Priced clause); written = x.written; clause_lines = x.clause_lines; priced = s.priced + 1 }) w
+    ∙ ap (λ (x : EngineModel). with_priced x.search lit clause) same
+
+pub cut_heeds : (s : SearchModel) (lit : Lit) (clause : List Lit) (old log : LogModel) → IsSearch s → IsNewCut s lit clause → WhereTold old (λ told. LogFits told s) → TakesAll (lines.Priced clause ∷ []) old log → Heeds s (with_priced s lit clause) old log
+cut_heeds s lit clause old log is of fits t = priced_heeded s lit clause old log (cut_search s lit clause is of) (priced s clause lit is of.clause_fits of.shows of.fits of.free of.only (cut_number s lit clause is of) of.few_priced).meets fits t
+
+pub cut_stops : (s : SearchModel) (lit : Lit) (clause : List Lit) (stop : LogStop) (old log : LogModel) → IsSearch s → IsNewCut s lit clause → WhereTold old (λ told. LogFits told s) → StopsWithin stop (lines.Priced clause ∷ []) 0 old log → HeedStops s s old stop log
+cut_stops s lit clause stop old log is of fits t = line_stops s (lines.Priced clause) stop old log is fits (λ before fit. priced_good s before clause fit of.clause_fits of.shows (cut_number s lit clause is of)) t
+
+-- ---- a clause without a literal left
+
+pub priced_fails : (s : SearchModel) (clause : List Lit) (log : LogModel) → IsSearch s → IsClause (shape_of s.problem) clause → PricesShow s clause → All (λ lit. truth (room_in s) lit ≡ False) clause → WhereTold log (λ told. LogFits told s) → HeedFails s s log log (whys.Priced clause)
+priced_fails s clause log is fits shows none told = record {
+  heeds = heeds_none s log is told;
+  conflict = record { fits = fits; all_false = none; holds = true_reason s clause is fits shows; shown = shows };
+}
+
+pub advice_shows : (s : SearchModel) (more : List Toll) (tariff : Option Tariff) (clause : List Lit) (mid after : SearchModel) → IsAdvice s.problem s.prices.tolls s.prices.tariff (best_cargo s) (room_in s) more tariff clause → mid ≡ After s more → after ≡ priced_by mid (with_given mid.prices tariff)
+    → PricesShow after clause
+advice_shows s more tariff clause mid after a e f =
+    subst (λ x. PricesShow x clause) (sym (f ∙ ap (λ (x : SearchModel). priced_by x (with_given x.prices tariff)) e)) (record { refuted = a.refuted; speaks = a.speaks })

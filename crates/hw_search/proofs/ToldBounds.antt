@@ -1,0 +1,117 @@
+-- A bound that is told after tolls and a tariff.
+use Rattle.std.proofs.Common.{◌≡◌, ℕ, ◌≤◌, true, List, [], ◌∷◌, ◌++◌, Option, Some, None, IfSome, IsSomeAnd, refl, sym, ap, ◌∙◌, subst}
+use Rattle.hw_model.specs.Timetables.{Permits, cargo}
+use Rattle.hw_tolls.specs.declared.tariff.Tariff.{Tariff}
+use Rattle.hw_tolls.specs.declared.toll.Toll.{Toll}
+use Rattle.hw_tolls.specs.Prices.{PricesBound}
+use Rattle.hw_tolls.proofs.Sound.{bounded as sound_bound}
+use Rattle.hw_advice.specs.Advisers.{IsBoundAdvice}
+use Rattle.hw_lines.specs.declared.line.Line.TheVariants as lines
+use Rattle.hw_cert.specs.declared.log.LogStop.{LogStop}
+use Rattle.hw_cert.specs.declared.log.LogStop.TheVariants as stops
+use Rattle.hw_cert.specs.Logs.{LogTold, LogModel, WhereTold, Grows}
+use Rattle.hw_progress.specs.Prices.{with_bound, NoneAbove}
+use Rattle.hw_progress.specs.Searches.{SearchModel, IsSearch, LogFits}
+use Rattle.hw_progress.specs.declared.outcome.Turn.TheVariants as turns
+use Rattle.hw_progress.specs.Advised.{HeedWrites, Heeds, Lowers, BoundMeets, StopsBy}
+use Rattle.hw_progress.proofs.Tolled.{bound}
+use Rattle.hw_search.specs.Engines.{EngineModel, KeepsEngine}
+use Rattle.hw_search.specs.Speaking.{SpeakersModel}
+use Rattle.hw_search.specs.Handing.{TakesAll, StopsWithin}
+use Rattle.hw_search.specs.Heeding.{HeedStops, priced_by, with_tolls, with_given}
+use Rattle.hw_search.specs.Bounding.{IsBelow, ShowsBound, TellsBound, IsBounded, bounded_by}
+use Rattle.hw_search.proofs.Advice.{one_writes, line_stops, same_problem}
+use Rattle.hw_search.proofs.Handed.{grown_with, grows_by}
+
+-- what a bound must be
+pub record IsNewBound (s : SearchModel) (new : ℕ) : Type 0 where
+  pub small : new ≤ 40_000_000_000_000
+  pub below : IsBelow s new
+  pub shows : ShowsBound s new
+
+pub bound_is : (e u : EngineModel) (new : ℕ) → e ≡ u → priced_by e.search (with_bound e.search.prices new) ≡ priced_by u.search (with_bound u.search.prices new)
+bound_is e u new same = ap (λ (x : EngineModel). priced_by x.search (with_bound x.search.prices new)) same
+
+pub bound_told : (s : SearchModel) (new : ℕ) (old log : LogModel) → IsSearch s → IsNewBound s new → WhereTold old (λ told. LogFits told s) → TakesAll (lines.Bound new ∷ []) old log → TellsBound s new (priced_by s (with_bound s.prices new)) old log
+bound_told s new old log is of fits t =
+    let after = priced_by s (with_bound s.prices new) in
+    let R : LogTold → LogTold → Type 0 = λ was now. (now.lines ≡ was.lines ++ lines.Bound new ∷ []) × (now.behind ≡ []) in
+    record {
+      search = refl;
+      kept = (bound s new is of.small of.below of.shows).kept;
+      same_faults = t.faults;
+      line = grows_by old log R (λ was now. now.lines ≡ was.lines ++ lines.Bound new ∷ []) (λ was now h. h.0) t.told;
+      writes = grown_with old log R (HeedWrites s after) (λ told. LogFits told s) (λ was now fit h. one_writes s after (lines.Bound new) was now fit ((bound s new is of.small of.below of.shows).meets was.lines fit.fits) h) fits t.told;
+    }
+
+pub bound_stops : (s : SearchModel) (new : ℕ) (stop : LogStop) (old log : LogModel) → IsSearch s → IsNewBound s new → WhereTold old (λ told. LogFits told s) → StopsWithin stop (lines.Bound new ∷ []) 0 old log → HeedStops s s old stop log
+bound_stops s new stop old log is of fits t = line_stops s (lines.Bound new) stop old log is fits (λ before fit. ((bound s new is of.small of.below of.shows).meets before fit).good) t
+
+-- what the parts of an engine keep then
+pub kept_bound : (e : EngineModel) (table : SpeakersModel) (goal : ℕ) (worth : Option ℕ) (reserved : ℕ) (new : ℕ) → KeepsEngine e table goal worth reserved → IsNewBound e.search new → KeepsEngine (record e { search = priced_by e.search (with_bound e.search.prices new) }) table goal worth reserved
+kept_bound e table goal worth reserved new k of = record {
+  search = (bound e.search new k.search of.small of.below of.shows).kept;
+  once = k.once;
+  of_problem = k.of_problem;
+  each_mark = k.each_mark;
+  quiet = k.quiet;
+  quiet_below = k.quiet_below;
+  speakers = k.speakers;
+  goal_at = k.goal_at;
+  worth_is = k.worth_is;
+  room = k.room;
+}
+
+-- both of two things told of two logs
+grows_both : (old new : LogModel) (P Q : LogTold → LogTold → Type 0) → Grows old new P → Grows old new Q → Grows old new (λ was now. P was now × Q was now)
+grows_both old new P Q p q = by old.told new.told p q
+  where
+    by : (a c : Option LogTold) → IfSome c (λ now. IsSomeAnd a (λ was. P was now)) → IfSome c (λ now. IsSomeAnd a (λ was. Q was now)) → IfSome c (λ now. IsSomeAnd a (λ was. P was now × Q was now))
+    by a None p q = tt
+    by None (Some now) p q = absurd p
+    by (Some was) (Some now) p q = (p, q)
+
+-- what prices show is a bound
+shown_bounds : (s : SearchModel) (new : ℕ) → IsSearch s → ShowsBound s new → NoneAbove s.problem new
+shown_bounds s new is shown table c permits worth = by s.prices.tariff shown
+  where
+    by : (o : Option Tariff) → IsSomeAnd o (λ tariff. (1 ≤ tariff.scale) × PricesBound s.problem s.prices.tolls tariff new) → c ≤ new
+    by None h = absurd h
+    by (Some tariff) h = sound_bound s.problem s.prices.tolls tariff new table c is.flat is.prices.tolls h.1 permits worth
+
+-- what an adviser said of a bound holds after its tolls and its tariff
+pub advice_shows : (s held mid : SearchModel) (more : List Toll) (tariff : Option Tariff) (new : ℕ) → IsBoundAdvice s.problem s.prices.tolls s.prices.tariff more tariff new → held ≡ priced_by s (with_tolls s.prices more) → mid ≡ priced_by held (with_given held.prices tariff) → ShowsBound mid new
+advice_shows s held mid more tariff new a e f = subst (λ x. ShowsBound x new) (sym (f ∙ ap (λ (x : SearchModel). priced_by x (with_given x.prices tariff)) e)) a.bounded
+
+pub bounded : (s mid after : SearchModel) (new : ℕ) (old here log : LogModel) → IsBelow s new → ShowsBound mid new → Heeds s mid old here → TellsBound mid new after here log → IsBounded s new after old log
+bounded s mid after new old here log below shown h t = record {
+  below = below;
+  bounds = λ table c permits worth.
+      let e = sym (same_problem s mid old here h) in
+      shown_bounds mid new h.kept shown table c (subst (λ f. Permits f table) e permits) (subst (λ f. cargo f table ≡ Some c) e worth);
+  mid = mid;
+  then = here;
+  heeds = h;
+  tells = t;
+}
+
+-- ---- the answers
+
+pub lowered : (s after : SearchModel) (new : ℕ) (old log : LogModel) → IsBounded s new after old log → Lowers s after old log
+lowered s after new old log b = record {
+  mid = b.mid;
+  then = b.then;
+  heeds = b.heeds;
+  bound = new;
+  lower = b.below;
+  line = record {
+    kept = b.tells.kept;
+    same_faults = b.tells.same_faults;
+    writes = grows_both b.then log (λ was now. now.lines ≡ was.lines ++ lines.Bound new ∷ []) (HeedWrites b.mid after) b.tells.line b.tells.writes;
+  };
+  after_is = b.tells.search;
+}
+
+pub bound_halts : (s mid after : SearchModel) (stop : LogStop) (old log : LogModel) → HeedStops s mid old stop log → after ≡ record mid { over = true } → BoundMeets s old (bounded_by stop) after log
+bound_halts s mid after stops.Failed old log h e = record { mid = mid; then = h.then; heeds = h.heeds; stopped = record { over = e; later = h.later; cause = subst (λ f. StopsBy f turns.LogFailed h.then log) (sym (same_problem s mid old h.then h.heeds)) h.cause } }
+bound_halts s mid after stops.NoMemory old log h e = record { mid = mid; then = h.then; heeds = h.heeds; stopped = record { over = e; later = h.later; cause = h.cause } }

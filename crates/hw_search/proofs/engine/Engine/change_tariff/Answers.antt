@@ -1,0 +1,11 @@
+use Rattle.std.proofs.Common.{subst}
+use Rattle.hw_progress.specs.Searches.{IsSearch}
+use Rattle.hw_search.specs.Engines.{EngineModel}
+use Rattle.hw_search.proofs.Advice.{heeds_none}
+use Rattle.hw_search.proofs.engine.Engine.change_tariff.Goals as goal
+
+pub returns-in-None-clause-heeds : goal.returns-in-None-clause-heeds
+returns-in-None-clause-heeds g c =
+    let s = c.args.self.now.search in
+    let is : IsSearch s = subst (λ (e : EngineModel). IsSearch e.search) c.self.view_is c.self.invariant.0.search in
+    heeds_none s (g.L.Log.state c.args.log.now) is c.requires.fits

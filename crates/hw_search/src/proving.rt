@@ -1,0 +1,145 @@
+//! A whole solution with advice: turn after turn of a search with an adviser, and a bound after each
+//! lemma, until it ended or the budget is spent.
+ghost use Rattle.std.specs.Prelude.{◌≡◌, ◌≤◌, IfOk, IfSome};
+ghost use Rattle.hw_cert.specs.Logs.{IsEmpty};
+ghost use Rattle.hw_model.specs.Timetables.{Permits};
+ghost use Rattle.hw_progress.specs.Proving.{IsEndOf, ProveMeets};
+ghost use Rattle.hw_progress.specs.Searches.{new_search};
+ghost use Rattle.hw_search.specs.Faults.{SolvedKeepsFaults};
+
+use crate::advised::Advised;
+use crate::any::AnyPropagator;
+use crate::solving::{propagators, proved};
+use hw_advice::Adviser;
+use hw_cert::Log;
+use hw_flat::Flat;
+use hw_model::NoMemory;
+use hw_progress::{Bounded, Branching, Proved, Solved, Turn};
+use hw_store::WatchStore;
+use std::alloc::Global;
+
+/// The search of which a solution with advice is made.
+type Prover<'f, A> = Advised<'f, WatchStore, AnyPropagator, A>;
+
+// A search that has done nothing.
+fn start<'f, A: Adviser + Drop>(
+    alloc: Global,
+    flat: &'f Flat,
+    adviser: A,
+) -> Result<Prover<'f, A>, NoMemory>
+    ensures value { IfOk result (λ search. search ≡ new_search flat.now Branching.Greatest) }
+{
+    let store = WatchStore::new(alloc, flat)?;
+    let props = propagators(alloc, flat)?;
+    Advised::new(alloc, flat, store, props, Branching::Greatest, adviser)
+}
+
+// The answer of a search that ended.
+fn ended<A: Adviser + Drop>(flat: &Flat, search: Prover<'_, A>) -> Proved
+    requires permitted { IfSome search.best (Permits flat.now) }
+    ensures solved { IsEndOf flat.now search.entry.best result.solved }
+    ensures bound { result.bound ≡ search.entry.prices.bound }
+{
+    let bound = search.told_bound();
+    Proved {
+        solved: proved(flat, search.into_best()),
+        bound,
+    }
+}
+
+// The answer where the budget is spent.
+fn unfinished<A: Adviser + Drop>(search: Prover<'_, A>) -> Proved
+    ensures { result ≡ record { solved = Solved.Unfinished search.entry.best; bound = search.entry.prices.bound } }
+{
+    let bound = search.told_bound();
+    let table = search.into_best();
+    Proved {
+        solved: Solved::Unfinished { table },
+        bound,
+    }
+}
+
+// The answer where memory ran out.
+fn out_of_memory<A: Adviser + Drop>(search: Prover<'_, A>) -> Proved
+    ensures { result ≡ record { solved = Solved.NoMemory search.entry.best; bound = search.entry.prices.bound } }
+{
+    let bound = search.told_bound();
+    let table = search.into_best();
+    Proved {
+        solved: Solved::NoMemory { table },
+        bound,
+    }
+}
+
+// The answer where the log didn't take a line.
+fn log_failed<A: Adviser + Drop>(search: Prover<'_, A>) -> Proved
+    ensures { result ≡ record { solved = Solved.LogFailed; bound = search.entry.prices.bound } }
+{
+    Proved {
+        solved: Solved::LogFailed,
+        bound: search.told_bound(),
+    }
+}
+
+fn run<'f, A: Adviser + Drop, L: Log>(
+    flat: &'f Flat,
+    budget: u32,
+    mut search: Prover<'f, A>,
+    log: &mut L,
+) -> Proved
+    requires new { search ≡ new_search flat.now Branching.Greatest }
+    requires most { budget ≤ 100_000 }
+    requires empty { IsEmpty (L.state log.old) }
+    ensures proves { ProveMeets flat.now budget (L.state log.old) result.solved result.bound (L.state log.new) }
+    ensures kept { SolvedKeepsFaults result.solved (L.state log.old) (L.state log.new) }
+    ensures same_reference { L.anchor log.new ≡ L.anchor log.old }
+{
+    let _shape = flat.shape();
+    'turns: while search.lemmas() < budget {
+        match search.turn(log) {
+            Turn::Decided | Turn::Better => {}
+            Turn::Lemma => match search.bound(log) {
+                Bounded::Lower | Bounded::Same => {}
+                Bounded::NoMemory => return out_of_memory(search),
+                Bounded::LogFailed => return log_failed(search),
+            },
+            Turn::Ended => return ended(flat, search),
+            Turn::NoMemory => return out_of_memory(search),
+            Turn::LogFailed => return log_failed(search),
+        }
+    }
+    match search.bound(log) {
+        Bounded::Lower | Bounded::Same => unfinished(search),
+        Bounded::NoMemory => out_of_memory(search),
+        Bounded::LogFailed => log_failed(search),
+    }
+}
+
+/// Finds a best timetable, or shows that none is permitted, or finds as many lemmas as the budget
+/// says, with an adviser who may know prices. After each lemma, and where the budget is spent, it asks
+/// the adviser for a bound. All lines go to the log, whose lines alone prove the answer and the bound.
+///
+/// If memory runs out, even before the first turn, it answers `NoMemory` with the best timetable and
+/// the bound so far; then the lines that were written stay.
+pub fn prove<A: Adviser + Drop, L: Log>(
+    alloc: Global,
+    flat: &Flat,
+    budget: u32,
+    adviser: A,
+    log: &mut L,
+) -> Proved
+    requires least { 1 ≤ budget }
+    requires most { budget ≤ 100_000 }
+    requires empty { IsEmpty (L.state log.old) }
+    ensures proves { ProveMeets flat.now budget (L.state log.old) result.solved result.bound (L.state log.new) }
+    ensures kept { SolvedKeepsFaults result.solved (L.state log.old) (L.state log.new) }
+    ensures same_reference { L.anchor log.new ≡ L.anchor log.old }
+{
+    match start(alloc, flat, adviser) {
+        Ok(search) => run(flat, budget, search, log),
+        Err(_stop) => Proved {
+            solved: Solved::NoMemory { table: None },
+            bound: None,
+        },
+    }
+}
