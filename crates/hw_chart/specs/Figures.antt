@@ -1,13 +1,9 @@
 -- Levels made of others.
-use Rattle.std.specs.Prelude.{ℕ, ◌&&◌, zero, suc, max, Bool, false, nat_eq, nat_lt, if◌then◌else◌, List, slice_index_or}
+use Rattle.std.specs.Prelude.{ℕ, ◌&&◌, zero, suc, max, nat_eq, nat_lt, if◌then◌else◌}
 
 -- the top of the window where an amount is all that there is, and otherwise its foot
 abbrev pub full_level : ℕ → ℕ → ℕ → ℕ
 full_level all tall amount = if nat_eq amount all && nat_lt 0 amount then 0 else tall
-
--- the top of a window one unit tall where the slot is open, and otherwise its foot
-abbrev pub move_level : List Bool → ℕ → ℕ
-move_level slots slot = if slice_index_or slots slot false then 0 else 1
 
 -- the greatest of the levels before an end
 abbrev pub greatest_level : (ℕ → ℕ) → ℕ → ℕ

@@ -1,7 +1,7 @@
 //! Figures made of others.
 
-ghost use Rattle.std.specs.Prelude.{◌≡◌, ◌-◌, ◌≤◌, length};
-ghost use Rattle.hw_chart.specs.Figures.{full_level, greatest_level, move_level};
+ghost use Rattle.std.specs.Prelude.{◌≡◌, ◌-◌, ◌≤◌};
+ghost use Rattle.hw_chart.specs.Figures.{full_level, greatest_level};
 
 use hw_svg::Levels;
 
@@ -42,22 +42,6 @@ impl<L: Levels> Levels for Full<'_, L> {
         } else {
             self.tall
         }
-    }
-}
-
-/// The slots to which a ship alone could move: the top of the window, and otherwise its foot.
-#[derive(Drop)]
-pub struct Moves<'m> {
-    pub open: &'m [bool],
-}
-
-impl Levels for Moves<'_> {
-    ghost level = { λ m slot. move_level m.open.now slot };
-
-    ghost end = { λ m. length m.open.now };
-
-    fn level(&self, slot: u32) -> u64 {
-        if self.open[slot as usize] { 0 } else { 1 }
     }
 }
 

@@ -16,7 +16,7 @@ pub use course::{Course, course_at};
 pub use grid::{Axis, MINUTES, SLOTS, Scale, put_grid, put_span_end};
 pub use heading::{Entry, put_heading, put_legend};
 pub use layout::{place, plot, put_pin, put_stripe, rank};
-pub use levels::{Full, Moves, Rising, greatest};
+pub use levels::{Full, Rising, greatest};
 pub use outcome::{CargoUnit, cargo_piece, meaning, put_badge, title};
 pub use panel::{Panel, put_planned_panel, put_unplanned_panel};
 pub use row::{

@@ -46,7 +46,7 @@ pub record DrawsText (text bytes : Option (List ℕ)) (v : Verdict) (drawn : Lis
   pub means : TableMeans problem v table
   pub is_picture : drawn ≡ flat_picture problem table v
 
--- a problem, that of the text where it is told, and what its certificate comes to, where that is told
+-- a problem, that of the text where it is told, and the outcome of its certificate, where that is told
 pub record RefusesText (text bytes : Option (List ℕ)) (o : CertOutcome) : Type 0 where
   pub problem : Problem
   pub limits : IsFlat problem

@@ -14,8 +14,17 @@ use Rattle.hw_command.specs.PortInputs.{NoPort}
 use Rattle.hw_command.specs.Scope.{named}
 use Rattle.hw_command.specs.Values.{IsPortOf, PortGives}
 use Rattle.hw_command.specs.declared.outcome.CertOutcome.{CertOutcome}
+use Rattle.hw_command.specs.declared.port_input.PortProblem.{PortProblem}
 use Rattle.hw_command.specs.declared.outcome.CertOutcome.TheVariants.{Shows, Wrong, TooLong}
 use Rattle.hw_chart_command.specs.Shown.{cert_table, IsLastShown, PortTableMeans}
+
+-- the picture of a port as it was read, with a timetable or none
+abbrev pub drawn_port : PortProblem → Option (List ℕ) → Verdict → List ℕ
+drawn_port problem table v = port_picture problem.port problem.tide table v
+
+-- the report that is this picture
+abbrev pub port_report : PortProblem → Option (List ℕ) → Verdict → Report
+port_report problem table v = picture v (drawn_port problem table v)
 
 -- the picture where a certificate of these bytes shows something of the port, and else why not
 abbrev pub port_chart_of : Parts → TideParts → List ℕ → CertOutcome → Report
@@ -33,14 +42,14 @@ pub record DrawsPort (instance tides bytes : Option (List ℕ)) (v : Verdict) (d
   pub means : PortTableMeans port tide v table
   pub is_picture : drawn ≡ port_picture port tide table v
 
--- a port with its tide, those that are told, and what its certificate comes to, where that is told
+-- a port with its tide, those that are told, and the outcome of its certificate, where that is told
 pub record RefusesPort (instance tides bytes : Option (List ℕ)) (o : CertOutcome) : Type 0 where
   pub port : Parts
   pub tide : TideParts
   pub reads : IsPortOf instance tides port tide
   pub outcome : IfSome bytes (λ bs. o ≡ cert_outcome (flattened port tide) bs)
 
--- what a report says of the instance, of the tide table and of the certificate, each where it is told. Where nothing is drawn it is what `check port` says. Where these are told, and but for want of memory, no two reports hold together; no other is given
+-- what a report says of the instance, of the tide table and of the certificate, each where it is told. Where nothing is drawn it is what `check port` says. Where these are told no two reports hold together, but that memory may run out; no other is given
 abbrev pub ChartsPortTexts : Option (List ℕ) → Option (List ℕ) → Option (List ℕ) → Option Report → Type 0
 ChartsPortTexts instance tides bytes None = ⊥
 ChartsPortTexts instance tides bytes (Some (picture v drawn)) = DrawsPort instance tides bytes v drawn

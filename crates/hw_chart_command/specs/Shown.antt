@@ -23,7 +23,7 @@ use Rattle.hw_command.specs.declared.status.Status.{Status}
 abbrev pub cert_table : Problem → List ℕ → Option (List ℕ)
 cert_table f bytes = last_table (cert_stream (shape_of f) bytes).lines
 
--- valid lines of the problem have this verdict, and their last timetable is this one, or they have none. They are all lines of the certificate, where it is told, and that is what it comes to
+-- valid lines of the problem have this verdict, and their last timetable is this one, or they have none. They are all lines of the certificate, where it is told, and its outcome is that verdict
 pub record IsLastShown (f : Problem) (bytes : Option (List ℕ)) (v : Verdict) (table : Option (List ℕ)) : Type 0 where
   pub lines : List Line
   pub fit : All (LineFits f) lines

@@ -5,12 +5,10 @@ ghost use Rattle.hw_model.specs.Problem.{IsTimetable};
 ghost use Rattle.hw_port_rules.specs.Flattened.{flattened};
 ghost use Rattle.hw_desk.specs.State.{IsNew};
 ghost use Rattle.hw_desk.specs.Whole.{SendsText};
-ghost use Rattle.hw_report.specs.Reports.{picture};
 ghost use Rattle.hw_command.specs.Carries.{Carries};
 ghost use Rattle.hw_command.specs.Ends.{Ends};
 ghost use Rattle.hw_port_chart.specs.Moves.{HasMoves};
-ghost use Rattle.hw_port_chart.specs.Pictures.{port_picture};
-ghost use Rattle.hw_chart_command.specs.ChartPort.{chart_port_task};
+ghost use Rattle.hw_chart_command.specs.ChartPort.{chart_port_task, drawn_port, port_report};
 ghost use Rattle.hw_chart_command.specs.Shown.{EndsUnlessMemory};
 
 use crate::shown::{Shown, read_shown};
@@ -47,7 +45,7 @@ fn draw<D: Desk>(alloc: Global, desk: &mut D, problem: &PortProblem, shown: Show
     requires columns { problem.now.tide.columns ≡ length problem.now.port.waypoints }
     requires flat { problem.now.flat ≡ flattened problem.now.port problem.now.tide }
     requires listed { IfSome shown.table (IsTimetable problem.now.flat) }
-    ensures { EndsUnlessMemory (picture shown.verdict (port_picture problem.now.port problem.now.tide shown.table shown.verdict)) (D.state desk.old) (D.state desk.new) result }
+    ensures { EndsUnlessMemory (port_report problem.now shown.table shown.verdict) (D.state desk.old) (D.state desk.new) result }
 {
     let Shown { verdict, table } = shown;
     match table {
@@ -68,7 +66,7 @@ fn send<D: Desk>(
 ) -> Status
     requires columns { problem.now.tide.columns ≡ length problem.now.port.waypoints }
     requires moves { HasMoves problem.now.port problem.now.tide (option_map (λ p. p.now) plan) }
-    ensures { Ends (picture verdict (port_picture problem.now.port problem.now.tide (option_map (λ p. p.now.table) plan.entry) verdict) ∷ []) (D.state desk.old) (D.state desk.new) result }
+    ensures { Ends (port_report problem.now (option_map (λ p. p.now.table) plan.entry) verdict ∷ []) (D.state desk.old) (D.state desk.new) result }
 {
     match send_text(desk, problem, plan, verdict) {
         Ok(()) => status_of_verdict(verdict),
@@ -85,7 +83,7 @@ fn send_text<D: Desk>(
 ) -> Result<(), DeskFailed>
     requires columns { problem.now.tide.columns ≡ length problem.now.port.waypoints }
     requires moves { HasMoves problem.now.port problem.now.tide (option_map (λ p. p.now) plan) }
-    ensures { SendsText Tray.Report (port_picture problem.now.port problem.now.tide (option_map (λ p. p.now.table) plan.entry) verdict) (D.state desk.old) (D.state desk.new) result }
+    ensures { SendsText Tray.Report (drawn_port problem.now (option_map (λ p. p.now.table) plan.entry) verdict) (D.state desk.old) (D.state desk.new) result }
 {
     let mut out = TrayWriter::new(desk, Tray::Report);
     put_port_picture(&mut out, &problem.port, &problem.tide, plan, verdict);

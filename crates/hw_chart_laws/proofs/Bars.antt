@@ -1,5 +1,5 @@
 -- The bars of a ship's window are the slots in which the port lets it sail.
-use Rattle.std.proofs.Common.{◌≡◌, ◌↔◌, ◌<◌, ◌≤◌, ◌≤ℤ◌, ◌-ℤ◌, ◌+◌, ◌/◌, ℕ, ℤ, Bool, true, false, Option, Some, None, IfSome, IsSome, option_map, slice_get, unsigned_abs, refl, arith, if◌then◌else◌}
+use Rattle.std.proofs.Common.{◌≡◌, ◌↔◌, ◌<◌, ◌≤◌, ◌≤ℤ◌, ◌-ℤ◌, ℕ, ℤ, Bool, true, false, Option, Some, None, IfSome, IsSome, option_map, slice_get, unsigned_abs, refl, arith, if◌then◌else◌}
 use Rattle.std.specs.Ordering.{int_eq}
 use Rattle.std.proofs.lemmas.Bool.Decides.{Decides-int_eq}
 use Rattle.std.proofs.lemmas.Int.{ints}
@@ -8,11 +8,11 @@ use Rattle.hw_port.specs.Parts.{ShipParts}
 use Rattle.hw_port_laws.proofs.Ships.{ship_kept}
 use Rattle.hw_port_rules.specs.Drafts.{carried, loaded, sailing, usable_draft, value}
 use Rattle.hw_port_chart.proofs.Bounds.{sails_between}
-use Rattle.hw_port_chart.specs.Charts.{ChartParts, full_of, tall_between}
-use Rattle.hw_port_chart.specs.Drafts.{draft_level, full_draft_level, fullness_level, short_level}
+use Rattle.hw_port_chart.specs.Charts.{ChartParts, full_of}
+use Rattle.hw_port_chart.specs.Drafts.{full_draft_level, short_level}
 use Rattle.hw_chart_laws.specs.Laws.{bar_level, foot_of, full_level}
 
-short_less : (light full d : ℤ) → light ≤ℤ d → d ≤ℤ full → unsigned_abs (full -ℤ d) ≤ unsigned_abs (full -ℤ light)
+pub short_less : (light full d : ℤ) → light ≤ℤ d → d ≤ℤ full → unsigned_abs (full -ℤ d) ≤ unsigned_abs (full -ℤ light)
 short_less light full d low high = grind (arith, ints)
 
 bar_where : (s : ShipParts) (o : Option ℤ) → IfSome (option_map (loaded s) o) (λ d. (s.light ≤ℤ d) × (d ≤ℤ full_of s)) → (short_level (full_of s) (foot_of s) (option_map (loaded s) o) < foot_of s) ↔ IsSome (option_map (carried s) o)
@@ -25,7 +25,7 @@ pub bars_are_slots : (chart : ChartParts) (v slot : ℕ) (s : ShipParts) → Por
 bars_are_slots chart v slot s kept at =
     rw at (bar_where s (usable_draft chart.port.waypoints chart.tide s slot) (sails_between chart.port chart.tide s slot (ship_kept chart.port v s kept at).load))
 
-full_where : (b : Bool) (tall : ℕ) (P : Type 0) → 0 < tall → (b ≡ true) ↔ P → (◌≡◌ {A = ℕ} (if b then 0 else tall) 0) ↔ P
+pub full_where : (b : Bool) (tall : ℕ) (P : Type 0) → 0 < tall → (b ≡ true) ↔ P → (◌≡◌ {A = ℕ} (if b then 0 else tall) 0) ↔ P
 full_where true tall P some means = (λ e. means.0 refl, λ p. refl)
 full_where false tall P some means = (λ e. absurd (omega (arith, e, some)), λ p. absurd (let e = means.1 p in cc))
 

@@ -58,7 +58,7 @@ words_calm : (text : List ℕ) → list_all is_word text ≡ true → is_calm te
 words_calm [] p = refl
 words_calm (b ∷ bs) p = let parts = and_parts _ _ p in and_from _ _ (word_calm b bs parts.0) (words_calm bs parts.1)
 
-plain_words : (text : List ℕ) → list_all is_plain text ≡ true → list_all is_word text ≡ true
+pub plain_words : (text : List ℕ) → list_all is_plain text ≡ true → list_all is_word text ≡ true
 plain_words [] p = refl
 plain_words (b ∷ bs) p = let parts = and_parts _ _ p in and_from _ _ (and_parts _ _ parts.0).0 (plain_words bs parts.1)
 

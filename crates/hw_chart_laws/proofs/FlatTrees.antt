@@ -49,7 +49,7 @@ pub planned_is : (f : Problem) (table : List ℕ) (row : Row) → planned_row_te
 unfolding planned_row_text row_begin row_title
 planned_is f table row = planned_parts item_begin (codes "ship ") (decimal row.ship) (course_text f row.ship row.course) title_end (stripe row.rank (row_y row)) (row_label f row) (values_text f row) (moves_window (row_y row) row.span (open_level f table row.ship) (horizon f)) (course_parts f table row row.course) group_end
 
-unplanned_is : (f : Problem) (row : Row) → unplanned_row_text f row ≡ item_text (flat_title f row) (unplanned_rest f row)
+pub unplanned_is : (f : Problem) (row : Row) → unplanned_row_text f row ≡ item_text (flat_title f row) (unplanned_rest f row)
 unfolding unplanned_row_text row_begin row_title
 unplanned_is f row = unplanned_parts item_begin (codes "ship ") (decimal row.ship) (course_text f row.ship row.course) title_end (stripe row.rank (row_y row)) (row_label f row) (values_text f row) (nowhere_text f row) group_end
 

@@ -17,3 +17,14 @@ pub mod PortTrees
 pub mod PortCourses
 pub mod PortReading
 pub mod Bars
+pub mod Marked
+pub mod Shown
+pub mod PortRowParts
+pub mod PortAlike
+pub mod FlatRowParts
+pub mod FlatAlike
+pub mod Ranks
+pub mod Bands
+pub mod LaneBlocks
+pub mod Stretches
+pub mod OneWay

@@ -1,5 +1,5 @@
 -- The course of a ship, read back from the title of its row in a port's picture.
-use Rattle.std.proofs.Common.{◌≡◌, ◌<◌, ◌^◌, ◌++◌, ◌∙◌, ℕ, Bool, true, false, Option, Some, None, List, [], ◌∷◌, codes, decimal, get_or, refl, ap, sym, arith, append_assoc, inl, inr, if◌then◌else◌}
+use Rattle.std.proofs.Common.{◌≡◌, ◌<◌, ◌^◌, ◌++◌, ◌∙◌, ℕ, Bool, true, false, Option, Some, None, List, [], codes, decimal, get_or, refl, ap, sym, arith, append_assoc, inl, inr, if◌then◌else◌}
 use Rattle.std.proofs.lemmas.Bool.{cases_lt, lt-ltb, le-ltb}
 use Rattle.std.proofs.lemmas.List.{append_cancel_left}
 use Rattle.hw_port.specs.Parts.{ShipParts}

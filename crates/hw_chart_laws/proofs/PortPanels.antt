@@ -1,5 +1,5 @@
 -- The head of a port's picture, its tides, sections and tugs, made of what a picture is written with.
-use Rattle.std.proofs.Common.{◌≡◌, true, ◌++◌, ◌+◌, ◌-◌, ◌*◌, ℕ, ℤ, Bool, nat_eq, is_some, Option, Some, None, List, [], ◌∷◌, codes, decimal, refl, if◌then◌else◌}
+use Rattle.std.proofs.Common.{◌≡◌, true, ◌+◌, ◌-◌, ℕ, nat_eq, is_some, Option, Some, None, List, [], ◌∷◌, codes, refl, if◌then◌else◌}
 use Rattle.std.specs.List.{list_all}
 use Rattle.hw_port.specs.declared.parts.Pass.{Pass}
 use Rattle.hw_port.specs.declared.parts.Section.{Section}
@@ -16,7 +16,7 @@ use Rattle.hw_port_chart.specs.declared.passing.Underway.{Underway}
 use Rattle.hw_port_chart.specs.Charts.{ChartParts, course, shown, tall_between, waypoint_name}
 use Rattle.hw_port_chart.specs.Fleets.{fleet_panel, held_in, panel_of}
 use Rattle.hw_port_chart.specs.Heads.{columns, columns_where, entry, legend, other_entries, sailing_entries, way_entries}
-use Rattle.hw_port_chart.specs.Lanes.{course_stays, lane_begin, lane_end, lane_text, lane_y, lanes_from, stay_of, stays_from, stretch_marks}
+use Rattle.hw_port_chart.specs.Lanes.{course_stays, lane_begin, lane_text, lane_y, lanes_from, stay_of, stays_from, stretch_marks}
 use Rattle.hw_port_chart.specs.Passings.{course_marks, marks_from, pass_marks, passing, passing_area, underway}
 use Rattle.hw_port_chart.specs.Strips.{greatest_of, height_in, heights_of, least_of, strip_at_place, strip_heights, strip_label, strip_of, strip_text, strip_y, strips, strips_from, water_level}
 use Rattle.hw_chart_laws.specs.Trees.{is_plain}

@@ -1,5 +1,5 @@
 -- The timetable of a port, read back from its picture.
-use Rattle.std.proofs.Common.{◌≡◌, ◌⊎◌, ◌<◌, ◌≤◌, ◌+◌, ◌^◌, ◌++◌, ◌∙◌, ℕ, zero, suc, Bool, true, false, Option, Some, None, List, [], ◌∷◌, codes, decimal, get_or, length, slice_get, slice_index, IsTrue, refl, ap, sym, subst, arith, append_assoc, append-nil, inl, inr, if◌then◌else◌}
+use Rattle.std.proofs.Common.{◌≡◌, ◌⊎◌, ◌<◌, ◌≤◌, ◌+◌, ◌^◌, ◌++◌, ◌∙◌, ℕ, Option, Some, List, [], ◌∷◌, length, slice_get, slice_index, IsTrue, ap, sym, subst, arith, append_assoc, append-nil, inl, inr}
 use Rattle.std.proofs.lemmas.Bool.{cases_eq}
 use Rattle.std.proofs.lemmas.List.Elements.{All-get_or}
 use Rattle.std.proofs.lemmas.Option.{slice_get-get_or}
@@ -19,7 +19,7 @@ use Rattle.hw_port_chart.specs.Fleets.{fleet_panel}
 use Rattle.hw_port_chart.specs.Heads.{columns_where, legend, places, sizes}
 use Rattle.hw_port_chart.specs.Lanes.{lanes_from}
 use Rattle.hw_port_chart.specs.Pictures.{chart_of, foot, picture_of, port_picture}
-use Rattle.hw_port_chart.specs.Rows.{rank_in, ranked_row, rows_from}
+use Rattle.hw_port_chart.specs.Rows.{rank_in, rows_from}
 use Rattle.hw_port_chart.specs.Strips.{strips}
 use Rattle.hw_port_chart.specs.Titles.{course_title, ship_title}
 use Rattle.hw_chart_laws.proofs.Calm.{Still, both, calm_writing, cut, spelled}

@@ -1,7 +1,6 @@
 -- The rows of a port's picture, made of what a picture is written with.
-use Rattle.std.proofs.Common.{◌≡◌, ◌++◌, ◌+◌, ◌-◌, ℕ, ℤ, Bool, nat_eq, nat_lt, is_none, is_some, List, [], ◌∷◌, codes, decimal, refl, if◌then◌else◌}
+use Rattle.std.proofs.Common.{◌++◌, ◌+◌, ◌-◌, ℕ, nat_eq, nat_lt, is_none, is_some, List, [], ◌∷◌, codes, refl, if◌then◌else◌}
 use Rattle.std.specs.List.{list_all, range_with_len}
-use Rattle.hw_svg.specs.Numbers.{metres}
 use Rattle.hw_svg.specs.Sheets.{group_end}
 use Rattle.hw_port.specs.declared.parts.BerthPair.{BerthPair}
 use Rattle.hw_port.specs.Parts.{ShipParts}
@@ -12,16 +11,16 @@ use Rattle.hw_chart.specs.declared.course.Course.TheVariants.{Unplanned, Stays, 
 use Rattle.hw_chart.specs.declared.row.Sailings.{Sailings}
 use Rattle.hw_chart.specs.Layout.{plot, stripe}
 use Rattle.hw_port_chart.specs.declared.sailing.Sailing.{Sailing}
-use Rattle.hw_port_chart.specs.Bars.{bars, clearings, tugs_where, voyage}
-use Rattle.hw_port_chart.specs.Charts.{ChartParts, course, full_of, slot_at, way, waypoint_name}
-use Rattle.hw_port_chart.specs.Drafts.{draft_level, draft_steps, drafts_text, full_steps, fullness_level, moves_text, open_level, sailing_where, window_of}
+use Rattle.hw_port_chart.specs.Bars.{bars, clearings}
+use Rattle.hw_port_chart.specs.Charts.{ChartParts, course, full_of, slot_at, waypoint_name}
+use Rattle.hw_port_chart.specs.Drafts.{draft_level, drafts_text, fullness_level, open_level, sailing_where, window_of}
 use Rattle.hw_port_chart.specs.Figures.{allowed_figures, capacity, cargo_figures, draft_figures, figures, keel_figures, keel_of, time_figures}
-use Rattle.hw_port_chart.specs.Rows.{no_slot_where, row_left, row_number, row_right, row_windows, row_y, sailing_parts}
+use Rattle.hw_port_chart.specs.Rows.{row_left, row_number, row_right, row_windows, row_y}
 use Rattle.hw_port_chart.specs.Sailings.{sailing_of}
 use Rattle.hw_port_chart.specs.Spans.{last_pass}
 use Rattle.hw_chart_laws.proofs.Plain.{letters}
 use Rattle.hw_chart_laws.proofs.PortTexts.{plain_arrow, plain_mark, plain_tight, plain_way, spelled_full, spelled_short}
-use Rattle.hw_chart_laws.proofs.Shared.{figure, five, four, if_so, of_bar, of_mark, of_moves, of_no_slot, of_pin, of_sailings, of_stays, of_stripe, says, three}
+use Rattle.hw_chart_laws.proofs.Shared.{figure, five, if_so, of_bar, of_mark, of_moves, of_no_slot, of_pin, of_sailings, of_stays, of_stripe, says, three}
 use Rattle.hw_chart_laws.proofs.Spelled.{also, fixed, nothing, of_clock, of_metres, of_number, of_tenths}
 use Rattle.hw_chart_laws.proofs.Writing.{Tags, Writing, group}
 

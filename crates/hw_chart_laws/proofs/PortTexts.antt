@@ -1,7 +1,5 @@
 -- The texts of a port's picture: classes without marks, and titles as elements hold them.
-use Rattle.std.proofs.Common.{◌++◌, ◌+◌, ℕ, ℤ, Bool, nat_eq, List, [], ◌∷◌, codes, decimal, refl, if◌then◌else◌, length}
-use Rattle.hw_svg.specs.Names.{escaped}
-use Rattle.hw_svg.specs.Numbers.{clock, metres, tenths}
+use Rattle.std.proofs.Common.{◌+◌, ℕ, nat_eq, List, codes, refl}
 use Rattle.hw_port.specs.Parts.{ShipParts}
 use Rattle.hw_port.specs.Whole.{Parts}
 use Rattle.hw_port_rules.specs.Numbers.{is_outgoing}
@@ -17,7 +15,7 @@ use Rattle.hw_port_chart.specs.Lanes.{stay_class, stay_title}
 use Rattle.hw_port_chart.specs.Passings.{passing_title}
 use Rattle.hw_port_chart.specs.Rows.{arrow_in, arrow_out, arrow_path, full_word}
 use Rattle.hw_port_chart.specs.Sailings.{sailing_of}
-use Rattle.hw_port_chart.specs.Titles.{course_title, load_title, row_title, ship_title, time_title, way_title}
+use Rattle.hw_port_chart.specs.Titles.{course_title, load_title, row_title, ship_title, time_title}
 use Rattle.hw_chart_laws.proofs.Plain.{Plain, both, letters, nothing as no_letters, number}
 use Rattle.hw_chart_laws.proofs.Shared.{either as either_plain}
 use Rattle.hw_chart_laws.proofs.Spelled.{Spelled, also, either, fixed, name, nothing, of_clock, of_metres, of_number, of_tenths}

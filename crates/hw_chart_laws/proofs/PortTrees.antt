@@ -1,5 +1,5 @@
 -- The picture of a port's plan is one element of trees.
-use Rattle.std.proofs.Common.{◌≡◌, ◌++◌, ◌∙◌, ◌+◌, ◌*◌, ℕ, Option, List, [], ◌∷◌, refl, sym, subst, append_assoc, append-nil}
+use Rattle.std.proofs.Common.{◌≡◌, ◌++◌, ◌+◌, ℕ, Option, List, [], ◌∷◌, sym, subst, append_assoc, append-nil}
 use Rattle.hw_lines.specs.declared.check.Verdict.{Verdict}
 use Rattle.hw_port.specs.Parts.{ShipParts}
 use Rattle.hw_port.specs.Whole.{Parts}
@@ -12,7 +12,7 @@ use Rattle.hw_chart.specs.Headings.{ground, heading_lines, style}
 use Rattle.hw_chart.specs.Layout.{stripe}
 use Rattle.hw_chart.specs.Outcomes.{badge, title_text}
 use Rattle.hw_port_chart.specs.Charts.{ChartParts, course}
-use Rattle.hw_port_chart.specs.Heads.{columns_where, legend, places, sizes}
+use Rattle.hw_port_chart.specs.Heads.{legend, places, sizes}
 use Rattle.hw_port_chart.specs.Pictures.{bottom, chart_of, horizon_line, panels, picture_of, port_picture, times}
 use Rattle.hw_port_chart.specs.Rows.{rank_in, ranked_row, row_left, row_right, row_windows, row_y, rows_from, ship_list}
 use Rattle.hw_port_chart.specs.Titles.{row_title}

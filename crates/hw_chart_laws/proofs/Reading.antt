@@ -9,17 +9,23 @@ use Rattle.hw_svg.proofs.Digits.{is_digit, digits_of}
 use Rattle.hw_chart_laws.proofs.Calm.{Still, cut, cut_past}
 
 -- digits end where something else begins
-parted : (a b : List ℕ) (x : ℕ) (r s : List ℕ) → is_digit x ≡ false → list_all is_digit a ≡ true → list_all is_digit b ≡ true → a ++ x ∷ r ≡ b ++ x ∷ s → a ≡ b
-parted [] [] x r s none p q e = refl
+parted : (a b : List ℕ) (x : ℕ) (r s : List ℕ) → is_digit x ≡ false → list_all is_digit a ≡ true → list_all is_digit b ≡ true → a ++ x ∷ r ≡ b ++ x ∷ s → (a ≡ b) × (r ≡ s)
+parted [] [] x r s none p q e = (refl, ap (drop 1) e)
 parted [] (d ∷ b) x r s none p q e = absurd (both_ways (is_digit x) none (ap is_digit (ap (λ (l : List ℕ). get_or l 0 0) e) ∙ (and_parts _ _ q).0))
 parted (c ∷ a) [] x r s none p q e = absurd (both_ways (is_digit x) none (ap is_digit (sym (ap (λ (l : List ℕ). get_or l 0 0) e)) ∙ (and_parts _ _ p).0))
 parted (c ∷ a) (d ∷ b) x r s none p q e =
     let same : c ≡ d = ap (λ (l : List ℕ). get_or l 0 0) e in
     let rest = parted a b x r s none (and_parts _ _ p).1 (and_parts _ _ q).1 (ap (drop 1) e) in
-    rw (same, rest) refl
+    (rw (same, rest.0) refl, rest.1)
+
+-- a number, and what follows it
+pub number_parted : (m n x : ℕ) (r s : List ℕ) → is_digit x ≡ false → m < 2 ^ 64 → n < 2 ^ 64 → decimal m ++ x ∷ r ≡ decimal n ++ x ∷ s → (m ≡ n) × (r ≡ s)
+number_parted m n x r s none fits small e =
+    let here = parted (decimal m) (decimal n) x r s none (digits_of m fits) (digits_of n small) e in
+    (decimal_injective m n fits small here.0, here.1)
 
 pub number_back : (m n x : ℕ) (r s : List ℕ) → is_digit x ≡ false → m < 2 ^ 64 → n < 2 ^ 64 → decimal m ++ x ∷ r ≡ decimal n ++ x ∷ s → m ≡ n
-number_back m n x r s none fits small e = decimal_injective m n fits small (parted (decimal m) (decimal n) x r s none (digits_of m fits) (digits_of n small) e)
+number_back m n x r s none fits small e = (number_parted m n x r s none fits small e).0
 
 -- the same after what both begin with
 pub after_both : (p a b x y : List ℕ) → (p ++ a) ++ x ≡ (p ++ b) ++ y → a ++ x ≡ b ++ y

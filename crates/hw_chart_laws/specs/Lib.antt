@@ -1,2 +1,5 @@
 pub mod Trees
 pub mod Laws
+pub mod Alike
+pub mod Bands
+pub mod Lanes

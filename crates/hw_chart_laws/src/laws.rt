@@ -1,5 +1,8 @@
 //! What whole pictures are, and what they say.
 
+ghost use Rattle.hw_chart_laws.specs.Alike.{FlatRowsReadBack, PortRowsReadBack};
+ghost use Rattle.hw_chart_laws.specs.Bands.{FlatPartsLieApart, PortPartsLieApart};
+ghost use Rattle.hw_chart_laws.specs.Lanes.{BlocksAreOccupations, LanesAreBlocks, OneWayIsSeen};
 ghost use Rattle.hw_chart_laws.specs.Laws.{BarsAreSlots, FlatPicturesAreTrees, FlatPlansReadBack, FullBarsAreFullDrafts, PortPicturesAreTrees, PortPlansReadBack};
 
 /// The picture of a flat problem is one element of trees.
@@ -30,4 +33,41 @@ pub fn bars_are_slots()
 /// A full bar reaches the top exactly in the slots in which the ship sails with its full draft.
 pub fn full_bars_are_full_drafts()
     ensures { FullBarsAreFullDrafts }
+{}
+
+/// Rows of ships that are written alike show ships that may sail in the same slots, and with the same draft in each.
+pub fn port_rows_read_back()
+    ensures { PortRowsReadBack }
+{}
+
+/// Rows of a flat problem's ships that are written alike show ships that carry the same at most, and in each slot values
+/// of one class.
+pub fn flat_rows_read_back()
+    ensures { FlatRowsReadBack }
+{}
+
+/// On the picture of a port no two of its tides, ships, sections and tugs share a line.
+pub fn port_parts_lie_apart()
+    ensures { PortPartsLieApart }
+{}
+
+/// On the picture of a flat problem no two of its ships and fleets share a line.
+pub fn flat_parts_lie_apart()
+    ensures { FlatPartsLieApart }
+{}
+
+/// What is drawn in the window of a section are the blocks of the ships that sail through it.
+pub fn lanes_are_blocks()
+    ensures { LanesAreBlocks }
+{}
+
+/// A block reaches over a slot exactly where a ship of its direction occupies the section then: where ships of both
+/// directions would meet, the window has a block in each half.
+pub fn blocks_are_occupations()
+    ensures { BlocksAreOccupations }
+{}
+
+/// Where the port permits the timetable, no slot of a section has a block in both halves.
+pub fn one_way_is_seen()
+    ensures { OneWayIsSeen }
 {}

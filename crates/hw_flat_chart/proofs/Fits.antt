@@ -1,7 +1,7 @@
 -- The limits of a rule: they are a fact, so a value may carry them, and its jobs keep theirs.
-use Rattle.std.proofs.Common.{ℕ, ◌<◌, All, arith}
+use Rattle.std.proofs.Common.{ℕ, All, arith}
 use Rattle.std.proofs.Props.{props}
-use Rattle.hw_model.specs.Limits.{HoleFits, JobFits, PairFits, AfterFits, TugsFit, RuleFits}
+use Rattle.hw_model.specs.Limits.{JobFits, RuleFits}
 use Rattle.hw_model.specs.declared.rule.Rule.{Rule}
 use Rattle.hw_model.specs.declared.rule.Rule.TheVariants.{Pair, After, Tugs}
 use Rattle.hw_flat_chart.specs.Fleets.{jobs_of}

@@ -1,5 +1,5 @@
 -- Where a ship alone could move: the test, and what the problem permits.
-use Rattle.std.proofs.Common.{◌≡◌, ◌↔◌, ◌<◌, ℕ, Bool, true, false, not, List, length, length-set, All, Option, Some, None, is_some, is_none, refl, ◌∙◌}
+use Rattle.std.proofs.Common.{◌≡◌, ◌↔◌, ◌<◌, ℕ, Bool, true, false, not, List, length-set, Option, Some, None, is_some, is_none, refl, ◌∙◌}
 use Rattle.std.proofs.lemmas.List.Elements.{All-set}
 use Rattle.hw_model.specs.Problem.{Problem, IsTimetable}
 use Rattle.hw_model.specs.Timetables.{Permits, first_broken}

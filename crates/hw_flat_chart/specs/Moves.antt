@@ -19,16 +19,28 @@ open_level f table ship slot = if is_open f table ship slot then 0 else 1
 abbrev pub flag_place : ℕ → ℕ → ℕ
 flag_place ship slot = ship * 512 + slot
 
+-- a flag is set exactly where the problem permits the timetable with that slot for the ship
+abbrev pub Tells : Problem → List ℕ → ℕ → ℕ → Bool → Type 0
+Tells f table ship slot flag = (flag ≡ true) ↔ Permits f (moved table ship slot)
+
+-- the flag at a place tells that of the ship and the slot whose place it is
+abbrev pub TellsAt : Problem → List ℕ → ℕ → Bool → Type 0
+TellsAt f table place flag = (ship slot : ℕ) → place ≡ flag_place ship slot → ship < f.ships → slot < horizon f → Tells f table ship slot flag
+
+-- and so does each of all flags
+abbrev pub TellAll : Problem → List ℕ → List Bool → Type 0
+TellAll f table flags = (ship slot : ℕ) → ship < f.ships → slot < horizon f → Tells f table ship slot (slice_index_or flags (flag_place ship slot) false)
+
 -- a timetable, and a flag for each ship and slot
 pub record PlanModel : Type 0 where
   pub table : List ℕ
   pub flags : List Bool
 
--- a flag is set exactly where the problem permits the timetable with that slot for the ship
+-- each flag tells whether the problem permits the timetable with that slot for the ship
 pub record IsPlan (f : Problem) (plan : PlanModel) : Type 0 where
   pub listed : IsTimetable f plan.table
   pub each_flag : length plan.flags ≡ 20_480
-  pub flagged : (ship slot : ℕ) → ship < f.ships → slot < horizon f → (slice_index_or plan.flags (flag_place ship slot) false ≡ true) ↔ Permits f (moved plan.table ship slot)
+  pub flagged : TellAll f plan.table plan.flags
 
 -- a level is 0 exactly where the problem permits the timetable with that slot for the ship
 abbrev pub MovesArePermitted : Type 0

@@ -1,5 +1,5 @@
 -- What a ship may carry, as the levels of its window: values reach 1,000,000,000,000, so a window counts them in units.
-use Rattle.std.specs.Prelude.{◌≡◌, ◌↔◌, ◌<◌, ◌≤◌, ℕ, ◌+◌, ◌-◌, ◌/◌, Bool, IsSome, is_none, nat_eq, if◌then◌else◌, Option, Some, None, unwrap_or}
+use Rattle.std.specs.Prelude.{◌↔◌, ◌<◌, ℕ, ◌+◌, ◌-◌, ◌/◌, Bool, IsSome, is_none, nat_eq, if◌then◌else◌, Option, Some, None, unwrap_or}
 use Rattle.std.specs.List.{list_all, range_with_len}
 use Rattle.hw_model.specs.Problem.{Problem, horizon, value_at}
 use Rattle.hw_chart.specs.Figures.{greatest_level}

@@ -3,7 +3,7 @@
 ghost use Rattle.std.specs.Prelude.{◌≡◌, ◌↔◌, ◌<◌, ℕ, IfOk, true, false, length, slice_index_or};
 ghost use Rattle.hw_model.specs.Problem.{IsTimetable, horizon};
 ghost use Rattle.hw_model.specs.Timetables.{Permits};
-ghost use Rattle.hw_flat_chart.specs.Moves.{flag_place, moved};
+ghost use Rattle.hw_flat_chart.specs.Moves.{TellAll, Tells, TellsAt, flag_place, moved};
 
 use hw_flat::{Flat, Timetable};
 use hw_model::{NoMemory, ShipId, Slot};
@@ -32,7 +32,7 @@ fn is_move(
     requires listed { IsTimetable flat.now table.now }
     requires ship_in { ship < flat.now.ships }
     requires slot_in { slot < horizon flat.now }
-    ensures { IfOk result (λ answer. (answer ≡ true) ↔ Permits flat.now (moved table.now ship slot)) }
+    ensures { IfOk result (Tells flat.now table.now ship slot) }
 {
     let _horizon = flat.horizon();
     if flat.value(ship, slot).is_none() {
@@ -45,7 +45,7 @@ fn is_move(
 /// The flag at a place, which is not set after the last ship or the last slot in which ships sail.
 fn flag_at(alloc: Global, flat: &Flat, table: &Timetable, place: u32) -> Result<bool, NoMemory>
     requires listed { IsTimetable flat.now table.now }
-    ensures { IfOk result (λ flag. (ship slot : ℕ) → place ≡ flag_place ship slot → ship < flat.now.ships → slot < horizon flat.now → (flag ≡ true) ↔ Permits flat.now (moved table.now ship slot)) }
+    ensures { IfOk result (TellsAt flat.now table.now place) }
 {
     let ship = place / 512;
     let slot = place % 512;
@@ -60,7 +60,7 @@ fn flag_at(alloc: Global, flat: &Flat, table: &Timetable, place: u32) -> Result<
 pub(crate) fn flags(alloc: Global, flat: &Flat, table: &Timetable) -> Result<Vec<bool>, NoMemory>
     requires listed { IsTimetable flat.now table.now }
     ensures each { IfOk result (λ flags. length flags.items ≡ 20_480) }
-    ensures flagged { IfOk result (λ flags. (ship slot : ℕ) → ship < flat.now.ships → slot < horizon flat.now → (slice_index_or flags.items (flag_place ship slot) false ≡ true) ↔ Permits flat.now (moved table.now ship slot)) }
+    ensures flagged { IfOk result (λ flags. TellAll flat.now table.now flags.items) }
 {
     let _shape = flat.shape();
     let mut flags = Vec::new(alloc);

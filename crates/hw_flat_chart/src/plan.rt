@@ -1,12 +1,12 @@
 //! A timetable with the moves that it leaves.
 
-ghost use Rattle.std.specs.Prelude.{◌≡◌, IfOk, true, length};
+ghost use Rattle.std.specs.Prelude.{◌≡◌, ◌<◌, IfOk, false, length, slice_index_or};
 ghost use Rattle.hw_model.specs.Problem.{IsTimetable};
-ghost use Rattle.hw_flat_chart.specs.Moves.{IsPlan};
+ghost use Rattle.hw_flat_chart.specs.Moves.{IsPlan, flag_place};
 
 use crate::moves::flags;
 use hw_flat::{Flat, Timetable};
-use hw_model::NoMemory;
+use hw_model::{NoMemory, ShipId, Slot};
 use std::alloc::Global;
 use std::marker::Model;
 
@@ -48,10 +48,13 @@ impl Plan {
         &self.table
     }
 
-    /// The flags, 512 for each ship.
-    pub fn flags(&self) -> &[bool]
-        ensures value { result.now ≡ self.now.flags }
+    /// Whether the ship alone could sail in a slot: its flag.
+    pub fn is_move(&self, ship: ShipId, slot: Slot) -> bool
+        requires each { length self.now.flags ≡ 20_480 }
+        requires ship { ship < 40 }
+        requires slot { slot < 512 }
+        ensures value { result ≡ slice_index_or self.now.flags (flag_place ship slot) false }
     {
-        &self.flags
+        self.flags[(ship * 512 + slot) as usize]
     }
 }

@@ -38,7 +38,7 @@ impl Levels for Openings<'_> {
 
     fn level(&self, slot: u32) -> u64 {
         let _horizon = self.flat.horizon();
-        if self.plan.flags()[(self.ship * 512 + slot) as usize] {
+        if self.plan.is_move(self.ship, slot) {
             0
         } else {
             1

@@ -1,4 +1,4 @@
--- A rank is one of so many.
+-- A rank is at most the number of ships.
 use Rattle.std.proofs.Common.{◌≤◌, ℕ, List, length, slice_index, arith}
 use Rattle.std.proofs.lemmas.List.FromFn.{length-enumerate_from}
 use Rattle.std.proofs.lemmas.List.Sums.{count_by-le-length}

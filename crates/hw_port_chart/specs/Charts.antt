@@ -35,7 +35,7 @@ slot_at chart ship = unwrap_or (slot_in chart.table ship) 0
 abbrev pub minutes_to : ChartParts → ℕ → ℕ
 minutes_to chart slot = slot * whole chart.port.slot_minutes
 
--- how tall a window is for so many units: an eighth more, so that nothing is too low to be seen
+-- how tall a window is that shows this many units: an eighth more, so that nothing is too low to be seen
 abbrev pub tall_over : ℕ → ℕ
 tall_over units = units + units / 8 + 1
 

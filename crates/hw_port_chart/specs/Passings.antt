@@ -50,9 +50,13 @@ passing_area strip p = record { left = p.slot; right = p.slot + 1; top = p.level
 abbrev pub passing_mark : Strip → ShipParts → List ℕ → Passing → List ℕ
 passing_mark strip s waypoint p = titled (mark_class s) (passing_area strip p) (passing_title s.name waypoint p)
 
+-- the mark of a pass at this waypoint
+abbrev pub mark_here : ChartParts → Strip → Underway → ShipParts → Pass → List ℕ
+mark_here chart strip ship s pass = passing_mark strip s (waypoint_name chart strip.place) (passing chart strip ship pass)
+
 -- a pass, where it is one of this waypoint
 abbrev pub pass_mark : ChartParts → Strip → Underway → ShipParts → Pass → List ℕ
-pass_mark chart strip ship s pass = if nat_eq (whole pass.waypoint) strip.place then passing_mark strip s (waypoint_name chart strip.place) (passing chart strip ship pass) else []
+pass_mark chart strip ship s pass = if nat_eq (whole pass.waypoint) strip.place then mark_here chart strip ship s pass else []
 
 abbrev pub pass_marks : ChartParts → Strip → Underway → ShipParts → List Pass → List ℕ
 pass_marks chart strip ship s [] = []

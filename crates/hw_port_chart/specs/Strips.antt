@@ -42,8 +42,12 @@ water_level h place high slot = unsigned_abs (high -ℤ height_in h place slot)
 abbrev pub strip_of : Heights → ℕ → Waypoint → Strip
 strip_of heights place w = record { place = place; depth = whole w.depth; low = heights.low; high = heights.high }
 
+-- where the strip of the waypoint at a place stands
+abbrev pub place_y : ℕ → ℕ
+place_y place = 50 * place + 124
+
 abbrev pub strip_y : Strip → ℕ
-strip_y strip = 50 * strip.place + 124
+strip_y strip = place_y strip.place
 
 abbrev pub strip_label : Strip → List ℕ → List ℕ
 strip_label strip name = name_line (codes "b") 16 (strip_y strip + 16) name 148 ++ line (codes "m") 16 (strip_y strip + 32) (joined (codes "charted " ∷ metres strip.depth ∷ codes " m" ∷ []))
@@ -51,7 +55,7 @@ strip_label strip name = name_line (codes "b") 16 (strip_y strip + 16) name 148 
 abbrev pub strip_window : ChartParts → Strip → List ℕ
 strip_window chart strip = window_begin (plot (strip_y strip) 40 chart.span (tall_between strip.low strip.high))
 
--- the water in so many slots
+-- the water in the first few slots
 abbrev pub tide_steps : TideParts → Strip → ℕ → List ℕ
 tide_steps h strip slots = steps (codes "wa") (water_level h strip.place strip.high) 0 slots (tall_between strip.low strip.high)
 

@@ -51,16 +51,6 @@ fn depth_of(waypoints: &[Waypoint], place: u32) -> i64
     waypoints[place as usize].depth
 }
 
-/// The flag of a ship and a slot.
-fn flag(plan: &Plan, ship: ShipId, slot: Slot) -> bool
-    requires each { length plan.now.flags ≡ 20_480 }
-    requires ship { ship < 40 }
-    requires slot { slot < 512 }
-    ensures { result ≡ slice_index_or plan.now.flags (ship * 512 + slot) false }
-{
-    plan.flags()[ship as usize * 512 + slot as usize]
-}
-
 impl Chart<'_> {
     /// The parts of the port.
     pub fn parts(&self) -> &PortParts
@@ -152,7 +142,7 @@ impl Chart<'_> {
     {
         let _few = self.parts();
         match self.plan() {
-            Some(plan) => flag(plan, ship, slot),
+            Some(plan) => plan.is_move(ship, slot),
             None => false,
         }
     }

@@ -27,7 +27,7 @@ pub fn heights_of(tide: &Tide) -> Heights
     Heights { low, high }
 }
 
-/// The heights at a waypoint, in so many slots.
+/// The heights at a waypoint, in the first few slots.
 #[tactic(auto, using(crate::proofs::Extremes::least_next, crate::proofs::Extremes::greatest_next))]
 pub fn heights_at(tide: &Tide, place: u32, slots: u32) -> Heights
     requires place { place < tide.now.columns }

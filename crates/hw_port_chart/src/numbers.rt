@@ -23,7 +23,7 @@ pub fn product(a: u32, b: u32) -> u64
     u64::from(a) * u64::from(b)
 }
 
-/// How tall a window is for so many units.
+/// How tall a window is that shows this many units.
 pub fn tall_over(units: u64) -> u64
     requires { units ≤ 4_294_967_295 }
     ensures { result ≡ tall_of units }

@@ -8,7 +8,7 @@ ghost use Rattle.hw_port_rules.specs.Numbers.{horizon_of, whole};
 ghost use Rattle.hw_port_rules.specs.Drafts.{passing_slot};
 ghost use Rattle.hw_chart.specs.Courses.{SailsBefore};
 ghost use Rattle.hw_port_chart.specs.Charts.{tall_between as tall_of, waypoint_name};
-ghost use Rattle.hw_port_chart.specs.Passings.{course_marks, marks_from, need as need_of, pass_mark, pass_marks, passing, passing_area, passing_mark, passing_title, water as water_of};
+ghost use Rattle.hw_port_chart.specs.Passings.{course_marks, mark_here, marks_from, need as need_of, pass_mark, pass_marks, passing, passing_area, passing_mark, passing_title, water as water_of};
 
 use crate::chart::Chart;
 use crate::numbers::{mark_class, natural, tall_over};
@@ -199,7 +199,7 @@ fn put_pass_mark<W: Writer>(
     requires place { strip.place < length chart.now.port.waypoints }
     requires slot { underway.slot < 512 }
     requires pass { PassKept (pos (length chart.now.port.waypoints)) pass.now }
-    ensures { Puts (passing_mark strip ship.now (waypoint_name chart.now strip.place) (passing chart.now strip underway pass.now)) (W.state out.old) (W.state out.new) }
+    ensures { Puts (mark_here chart.now strip underway ship.now pass.now) (W.state out.old) (W.state out.new) }
 {
     let waypoint = chart.waypoint(strip.place);
     let passing = passing_of(chart, strip, underway, pass);

@@ -15,7 +15,7 @@ pub struct Places {
     pub bottom: u32,
 }
 
-/// The places of so many waypoints, ships and sections.
+/// The places of the parts, by how many waypoints, ships and sections there are.
 fn places_for(waypoints: u32, ships: u32, sections: u32) -> Places
     requires waypoints { waypoints ≤ 16 }
     requires ships { ships ≤ 40 }

@@ -82,7 +82,7 @@ fn put_window<W: Writer>(out: &mut W, chart: &Chart, strip: Strip)
     put_window_begin(out, plot(y(strip), 40, chart.span(), tall(strip)));
 }
 
-/// Puts the water at a waypoint, in so many slots.
+/// Puts the water at a waypoint, in the first few slots.
 fn put_tide<W: Writer>(out: &mut W, tide: &Tide, strip: Strip, slots: u32)
     requires place { strip.place < tide.now.columns }
     requires slots { slots ≤ tide.now.rows }

@@ -1,4 +1,4 @@
-use Rattle.std.proofs.Common.{◌≡◌, ◌<◌, ◌+◌, ◌++◌, ℕ, [], ◌∷◌, length, length-append, arith}
+use Rattle.std.proofs.Common.{[], ◌∷◌, length-append, arith}
 use Rattle.hw_model.specs.Timetables.{Permits}
 use Rattle.hw_flat_chart.specs.Moves.{flag_place, moved}
 use Rattle.hw_flat_chart.proofs.Flags.{flag_more}

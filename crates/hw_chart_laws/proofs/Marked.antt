@@ -1,0 +1,149 @@
+-- Texts that hold the same number of marks <: where a mark follows each, they can be told from what follows.
+use Rattle.std.proofs.Common.{◌≡◌, ◌+◌, ◌++◌, ◌∙◌, ◌||◌, ℕ, Bool, true, false, not, nat_eq, nat_lt, List, [], ◌∷◌, codes, decimal, drop, get_or, refl, ap, sym, arith, if◌then◌else◌}
+use Rattle.std.specs.List.{list_all}
+use Rattle.std.proofs.lemmas.Bool.{and_parts, cond_both}
+use Rattle.hw_svg.specs.Lettering.{line, name_line, squeeze, squeezed, text_begin}
+use Rattle.hw_svg.specs.Marks.{is_word}
+use Rattle.hw_svg.specs.Names.{escaped}
+use Rattle.hw_svg.specs.Shapes.{block, shape, shape_begin}
+use Rattle.hw_svg.specs.Sheets.{window_begin}
+use Rattle.hw_svg.specs.Widths.{width_of}
+use Rattle.hw_svg.specs.declared.area.Area.{Area}
+use Rattle.hw_svg.specs.declared.sheet.Window.{Window}
+use Rattle.hw_svg.proofs.Words.{name_is_word}
+use Rattle.hw_chart_laws.specs.Trees.{is_plain}
+use Rattle.hw_chart_laws.proofs.Calm.{plain_words}
+use Rattle.hw_chart_laws.proofs.Plain.{Plain, area, letters, nothing, number}
+use Rattle.hw_chart_laws.proofs.Spelled.{Spelled}
+
+abbrev pub mark : ℕ → ℕ
+mark b = if nat_eq b 60 then 1 else 0
+
+-- how many marks < a text holds
+abbrev pub marks : List ℕ → ℕ
+marks [] = 0
+marks (b ∷ bs) = mark b + marks bs
+
+-- two texts hold as many marks
+pub record AsMany (a b : List ℕ) : Type 0 where
+  pub same : marks a ≡ marks b
+
+-- a mark stands first
+pub record Begins (text : List ℕ) : Type 0 where
+  pub first : get_or text 0 0 ≡ 60
+
+marks-append : (a b : List ℕ) → marks (a ++ b) ≡ marks a + marks b
+marks-append [] b = omega arith
+marks-append (x ∷ a) b = omega (arith, marks-append a b)
+
+pub both : {a b c d : List ℕ} → AsMany a c → AsMany b d → AsMany (a ++ b) (c ++ d)
+both {a = a} {b = b} {c = c} {d = d} p q = record { same = omega (arith, marks-append a b, marks-append c d, p.same, q.same) }
+
+pub fixed : (text : List ℕ) → AsMany text text
+fixed text = record { same = refl }
+
+no_mark : (c d e f : Bool) → not (c || d || e || f) ≡ true → c ≡ false
+no_mark true d e f p = absurd cc
+no_mark false d e f p = refl
+
+words_hold : (text : List ℕ) → list_all is_word text ≡ true → marks text ≡ 0
+words_hold [] p = refl
+words_hold (b ∷ bs) p =
+    let parts = and_parts _ _ p in
+    let none : mark b ≡ 0 = ap (λ (c : Bool). if c then 1 else 0) (no_mark (nat_eq b 60) (nat_eq b 62) (nat_eq b 34) (nat_eq b 39) parts.0) in
+    let rest = words_hold bs parts.1 in
+    omega (arith, none, rest)
+
+pub plain : {a b : List ℕ} → Plain a → Plain b → AsMany a b
+plain {a = a} {b = b} p q = record { same = words_hold a (plain_words a p.none) ∙ sym (words_hold b (plain_words b q.none)) }
+
+pub named : (name other : List ℕ) → AsMany (escaped name) (escaped other)
+named name other = record { same = words_hold (escaped name) (name_is_word name) ∙ sym (words_hold (escaped other) (name_is_word other)) }
+
+pub spelled : {a b : List ℕ} → Spelled a → Spelled b → AsMany a b
+spelled {a = a} {b = b} p q =
+    let e = words_hold (escaped p.from) (name_is_word p.from) in
+    let f = words_hold (escaped q.from) (name_is_word q.from) in
+    record { same = ap marks p.same ∙ e ∙ sym (ap marks q.same ∙ f) }
+
+-- two texts that hold as many marks are the same, and so is what follows them
+pub record Told (a b r s : List ℕ) : Type 0 where
+  pub text : a ≡ b
+  pub rest : r ≡ s
+
+tell : (a b r s : List ℕ) → marks a ≡ marks b → get_or r 0 0 ≡ 60 → get_or s 0 0 ≡ 60 → a ++ r ≡ b ++ s → Told a b r s
+tell [] [] r s same p q e = record { text = refl; rest = e }
+tell [] (y ∷ b) r s same p q e =
+    let here : mark y ≡ 1 = ap mark (sym (ap (λ (l : List ℕ). get_or l 0 0) e) ∙ p) in
+    absurd (omega (arith, same, here))
+tell (x ∷ a) [] r s same p q e =
+    let here : mark x ≡ 1 = ap mark (ap (λ (l : List ℕ). get_or l 0 0) e ∙ q) in
+    absurd (omega (arith, same, here))
+tell (x ∷ a) (y ∷ b) r s same p q e =
+    let first : x ≡ y = ap (λ (l : List ℕ). get_or l 0 0) e in
+    let here : mark x ≡ mark y = ap mark first in
+    let more = tell a b r s (omega (arith, same, here)) p q (ap (drop 1) e) in
+    record { text = rw (first, more.text) refl; rest = more.rest }
+
+pub told : {a b : List ℕ} (r s : List ℕ) → AsMany a b → Begins r → Begins s → a ++ r ≡ b ++ s → Told a b r s
+told {a = a} {b = b} r s p f g e = tell a b r s p.same f.first g.first e
+
+-- ---- elements, and what follows them
+
+pub of_shape : {class path kind way : List ℕ} → Plain class → Plain path → Plain kind → Plain way → AsMany (shape class path) (shape kind way)
+unfolding shape_begin
+of_shape c p k w = both (both (fixed (codes "<path class=\"")) (both (plain c k) (both (fixed (codes "\" d=\"")) (fixed [])))) (both (plain p w) (both (fixed (codes "\"/>\n")) (fixed [])))
+
+pub of_block : (class : List ℕ) (a b : Area) → list_all is_plain class ≡ true → AsMany (block class a) (block class b)
+of_block class a b p = of_shape (letters class p) (area a) (letters class p) (area b)
+
+pub shape_first : (class path t : List ℕ) → Begins (shape class path ++ t)
+unfolding shape_begin
+shape_first class path t = record { first = refl }
+
+begin_as : (class : List ℕ) (x y z : ℕ) → AsMany (text_begin class x y) (text_begin class x z)
+unfolding text_begin
+begin_as class x y z = both (fixed (codes "<text class=\"")) (both (fixed class) (both (fixed (codes "\" x=\"")) (both (fixed (decimal x)) (both (fixed (codes "\" y=\"")) (both (plain (number y) (number z)) (both (fixed (codes "\"")) (fixed [])))))))
+
+pub of_line : (class : List ℕ) (x y z : ℕ) {text other : List ℕ} → Spelled text → Spelled other → AsMany (line class x y text) (line class x z other)
+of_line class x y z p q = both (begin_as class x y z) (both (fixed (codes ">")) (both (spelled p q) (both (fixed (codes "</text>\n")) (fixed []))))
+
+pub line_first : (class : List ℕ) (x y : ℕ) (text t : List ℕ) → Begins (line class x y text ++ t)
+unfolding text_begin
+line_first class x y text t = record { first = refl }
+
+plain_squeezed : (place : ℕ) → marks (squeezed place) ≡ 0
+unfolding squeezed
+plain_squeezed place = (both (fixed (codes " textLength=\"")) (both (plain (number place) nothing) (both (fixed (codes "\" lengthAdjust=\"spacingAndGlyphs\"")) (fixed [])))).same
+
+squeeze_none : (name : List ℕ) (place : ℕ) → marks (squeeze name place) ≡ 0
+squeeze_none name place = cond_both (nat_lt place (width_of name)) _ _ (λ (text : List ℕ). marks text ≡ 0) (λ e. plain_squeezed place) (λ e. refl)
+
+pub of_name : (class : List ℕ) (x y z : ℕ) (name other : List ℕ) (place : ℕ) → AsMany (name_line class x y name place) (name_line class x z other place)
+of_name class x y z name other place =
+    let squeezes : AsMany (squeeze name place) (squeeze other place) = record { same = squeeze_none name place ∙ sym (squeeze_none other place) } in
+    both (begin_as class x y z) (both squeezes (both (fixed (codes ">")) (both (named name other) (both (fixed (codes "</text>\n")) (fixed [])))))
+
+pub name_first : (class : List ℕ) (x y : ℕ) (name : List ℕ) (place : ℕ) (t : List ℕ) → Begins (name_line class x y name place ++ t)
+unfolding text_begin
+name_first class x y name place t = record { first = refl }
+
+pub of_window : (w v : Window) → AsMany (window_begin w) (window_begin v)
+unfolding window_begin
+of_window w v = both (fixed (codes "<svg x=\"")) (both (plain (number w.x) (number v.x)) (both (fixed (codes "\" y=\"")) (both (plain (number w.y) (number v.y)) (both (fixed (codes "\" width=\"")) (both (plain (number w.width) (number v.width)) (both (fixed (codes "\" height=\"")) (both (plain (number w.height) (number v.height)) (both (fixed (codes "\" viewBox=\"0 0 ")) (both (plain (number w.across) (number v.across)) (both (fixed (codes " ")) (both (plain (number w.down) (number v.down)) (both (fixed (codes "\" preserveAspectRatio=\"none\">\n")) (fixed [])))))))))))))
+
+pub window_first : (w : Window) (t : List ℕ) → Begins (window_begin w ++ t)
+unfolding window_begin
+window_first w t = record { first = refl }
+
+-- where a part may be left out
+pub begins_either : (b : Bool) (x t : List ℕ) → Begins (x ++ t) → Begins t → Begins ((if b then x else []) ++ t)
+begins_either true x t p q = p
+begins_either false x t p q = q
+
+-- the stripe behind a row, which may be left out, is told from what follows it
+pub past_stripe : (b c : Bool) {x y : List ℕ} (r s : List ℕ) → AsMany x y → Begins r → Begins s → (x ++ r ≡ s → ⊥) → (r ≡ y ++ s → ⊥) → (if b then x else []) ++ r ≡ (if c then y else []) ++ s → r ≡ s
+past_stripe true true r s p f g one two e = (told r s p f g e).rest
+past_stripe true false r s p f g one two e = absurd (one e)
+past_stripe false true r s p f g one two e = absurd (two e)
+past_stripe false false r s p f g one two e = e
