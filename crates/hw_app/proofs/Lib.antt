@@ -15,3 +15,4 @@ mod OneClash
 mod OneChart
 mod OwnedClash
 mod Verified
+mod OwnProof

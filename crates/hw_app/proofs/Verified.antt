@@ -34,7 +34,7 @@ use Rattle.hw_app.proofs.OnePort.{OfFiles, of_port, no_port_files, one_report}
 
 -- ---- one report
 
-verified_files : (instance tides bytes : List ℕ) (r : Report) → VerifiesPortTexts (Some instance) (Some tides) (Some bytes) (Some r) → OfFiles instance tides (port_verified bytes) r
+pub verified_files : (instance tides bytes : List ℕ) (r : Report) → VerifiesPortTexts (Some instance) (Some tides) (Some bytes) (Some r) → OfFiles instance tides (port_verified bytes) r
 verified_files instance tides bytes (verified v bound (by_name p h)) says = of_port (port_verified bytes) _ says.reads (port_told says)
 verified_files instance tides bytes (refused number word hint) says = of_port (port_verified bytes) _ says.reads (ap (report_with (by_name says.port says.tide) (cert_bound (flattened says.port says.tide) bytes)) says.outcome)
 verified_files instance tides bytes (too_long Certificate) says = of_port (port_verified bytes) _ says.reads (ap (report_with (by_name says.port says.tide) (cert_bound (flattened says.port says.tide) bytes)) says.outcome)

@@ -8,7 +8,7 @@ use Rattle.hw_app.specs.Forms.{form_of, word_at, number_in}
 use Rattle.hw_app.specs.declared.command.Command.{Command as Told}
 use Rattle.hw_app.specs.declared.command.Command.TheVariants as told
 use Rattle.hw_app.specs.declared.form.Form.{Form}
-use Rattle.hw_app.specs.declared.form.Form.TheVariants.{SolveFlat, SolvePort, CheckFlat, CheckPort, VerifyFlat, VerifyPort, ChartFlat, ChartPort, RenewFlat, RenewPort, CrewFlat, CrewPort, RepairFlat, RepairPort, CheckRepair, CheckRepairPort, ClashFlat, ClashPort, CheckClash, CheckClashPort, ExplainPort, AuditPort, Flatten, Demo}
+use Rattle.hw_app.specs.declared.form.Form.TheVariants.{SolveFlat, SolvePort, ProveFlat, ProvePort, CheckFlat, CheckPort, VerifyFlat, VerifyPort, ChartFlat, ChartPort, RenewFlat, RenewPort, CrewFlat, CrewPort, RepairFlat, RepairPort, CheckRepair, CheckRepairPort, ClashFlat, ClashPort, CheckClash, CheckClashPort, ExplainPort, AuditPort, Flatten, Demo}
 use Rattle.hw_app.specs.declared.form.Quantity.TheVariants.{Demonstration, Ships, Slots, Budget}
 
 -- in the order of the words
@@ -17,6 +17,10 @@ pub data Command : Type 0 where
   solve_flat : List ℕ → ℕ → List ℕ → Command
   -- the instance, the tide table, the budget, Proof
   solve_port : List ℕ → List ℕ → ℕ → List ℕ → Command
+  -- the flat text, the budget, Proof
+  prove_flat : List ℕ → ℕ → List ℕ → Command
+  -- the instance, the tide table, the budget, Proof
+  prove_port : List ℕ → List ℕ → ℕ → List ℕ → Command
   -- the flat text, the certificate
   check_flat : List ℕ → List ℕ → Command
   -- the instance, the tide table, the certificate
@@ -66,6 +70,8 @@ pub data Command : Type 0 where
 abbrev pub command_in : Form → List (List ℕ) → Command
 command_in SolveFlat words = solve_flat (word_at words 2) (number_in Budget (word_at words 3)) (word_at words 4)
 command_in SolvePort words = solve_port (word_at words 2) (word_at words 3) (number_in Budget (word_at words 4)) (word_at words 5)
+command_in ProveFlat words = prove_flat (word_at words 2) (number_in Budget (word_at words 3)) (word_at words 4)
+command_in ProvePort words = prove_port (word_at words 2) (word_at words 3) (number_in Budget (word_at words 4)) (word_at words 5)
 command_in CheckFlat words = check_flat (word_at words 2) (word_at words 3)
 command_in CheckPort words = check_port (word_at words 2) (word_at words 3) (word_at words 4)
 command_in VerifyFlat words = verify_flat (word_at words 2) (word_at words 3)
@@ -104,6 +110,8 @@ IsBudget budget = (1 ≤ budget) × (budget ≤ most_budget)
 abbrev pub KeepsLimits : Command → Type 0
 KeepsLimits (solve_flat name budget proof) = IsBudget budget
 KeepsLimits (solve_port instance tides budget proof) = IsBudget budget
+KeepsLimits (prove_flat name budget proof) = IsBudget budget
+KeepsLimits (prove_port instance tides budget proof) = IsBudget budget
 KeepsLimits (check_flat name cert) = ⊤
 KeepsLimits (check_port instance tides cert) = ⊤
 KeepsLimits (verify_flat name cert) = ⊤
@@ -132,6 +140,8 @@ KeepsLimits (demo number ships slots budget proof) = CanDraw ships slots × IsBu
 abbrev pub command_seen : Told → Command
 command_seen (told.SolveFlat name budget proof) = solve_flat name.now budget proof.now
 command_seen (told.SolvePort port budget proof) = solve_port port.instance.now port.tides.now budget proof.now
+command_seen (told.ProveFlat name budget proof) = prove_flat name.now budget proof.now
+command_seen (told.ProvePort port budget proof) = prove_port port.instance.now port.tides.now budget proof.now
 command_seen (told.CheckFlat name cert) = check_flat name.now cert.now
 command_seen (told.CheckPort port cert) = check_port port.instance.now port.tides.now cert.now
 command_seen (told.VerifyFlat name cert) = verify_flat name.now cert.now

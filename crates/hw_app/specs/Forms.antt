@@ -7,7 +7,7 @@ use Rattle.hw_command.specs.Budgets.{most_budget}
 use Rattle.hw_crew_command.specs.Orders.{order_read}
 use Rattle.hw_app.specs.Demo.{most_ships, most_slots}
 use Rattle.hw_app.specs.declared.form.Form.{Form}
-use Rattle.hw_app.specs.declared.form.Form.TheVariants.{SolveFlat, SolvePort, CheckFlat, CheckPort, VerifyFlat, VerifyPort, ChartFlat, ChartPort, RenewFlat, RenewPort, CrewFlat, CrewPort, RepairFlat, RepairPort, CheckRepair, CheckRepairPort, ClashFlat, ClashPort, CheckClash, CheckClashPort, ExplainPort, AuditPort, Flatten, Demo}
+use Rattle.hw_app.specs.declared.form.Form.TheVariants.{SolveFlat, SolvePort, ProveFlat, ProvePort, CheckFlat, CheckPort, VerifyFlat, VerifyPort, ChartFlat, ChartPort, RenewFlat, RenewPort, CrewFlat, CrewPort, RepairFlat, RepairPort, CheckRepair, CheckRepairPort, ClashFlat, ClashPort, CheckClash, CheckClashPort, ExplainPort, AuditPort, Flatten, Demo}
 use Rattle.hw_app.specs.declared.form.Keyword.{Keyword as KeywordOf}
 use Rattle.hw_app.specs.declared.form.Keyword.TheVariants as key
 use Rattle.hw_app.specs.declared.form.Quantity.{Quantity}
@@ -17,6 +17,7 @@ use Rattle.hw_app.specs.declared.form.Wanted.TheVariants.{Keyword, Input, Proof,
 
 abbrev pub keyword_text : KeywordOf → List ℕ
 keyword_text key.Solve = codes "solve"
+keyword_text key.Prove = codes "prove"
 keyword_text key.Check = codes "check"
 keyword_text key.Verify = codes "verify"
 keyword_text key.Chart = codes "chart"
@@ -33,7 +34,7 @@ keyword_text key.Demo = codes "demo"
 
 -- the forms that there are
 abbrev pub forms : List Form
-forms = SolveFlat ∷ SolvePort ∷ CheckFlat ∷ CheckPort ∷ VerifyFlat ∷ VerifyPort ∷ ChartFlat ∷ ChartPort ∷ RenewFlat ∷ RenewPort ∷ CrewFlat ∷ CrewPort ∷ RepairFlat ∷ RepairPort ∷ CheckRepair ∷ CheckRepairPort ∷ ClashFlat ∷ ClashPort ∷ CheckClash ∷ CheckClashPort ∷ ExplainPort ∷ AuditPort ∷ Flatten ∷ Demo ∷ []
+forms = SolveFlat ∷ SolvePort ∷ ProveFlat ∷ ProvePort ∷ CheckFlat ∷ CheckPort ∷ VerifyFlat ∷ VerifyPort ∷ ChartFlat ∷ ChartPort ∷ RenewFlat ∷ RenewPort ∷ CrewFlat ∷ CrewPort ∷ RepairFlat ∷ RepairPort ∷ CheckRepair ∷ CheckRepairPort ∷ ClashFlat ∷ ClashPort ∷ CheckClash ∷ CheckClashPort ∷ ExplainPort ∷ AuditPort ∷ Flatten ∷ Demo ∷ []
 
 -- the limits of a number
 abbrev pub least_of : Quantity → ℕ
@@ -52,6 +53,8 @@ most_of counts.Budget = most_budget
 abbrev pub words_of : Form → List Wanted
 words_of SolveFlat = Keyword key.Solve ∷ Keyword key.Flat ∷ Input feed.Flat ∷ Number counts.Budget ∷ Proof ∷ []
 words_of SolvePort = Keyword key.Solve ∷ Keyword key.Port ∷ Input feed.Instance ∷ Input feed.Tides ∷ Number counts.Budget ∷ Proof ∷ []
+words_of ProveFlat = Keyword key.Prove ∷ Keyword key.Flat ∷ Input feed.Flat ∷ Number counts.Budget ∷ Proof ∷ []
+words_of ProvePort = Keyword key.Prove ∷ Keyword key.Port ∷ Input feed.Instance ∷ Input feed.Tides ∷ Number counts.Budget ∷ Proof ∷ []
 words_of CheckFlat = Keyword key.Check ∷ Keyword key.Flat ∷ Input feed.Flat ∷ Input feed.Certificate ∷ []
 words_of CheckPort = Keyword key.Check ∷ Keyword key.Port ∷ Input feed.Instance ∷ Input feed.Tides ∷ Input feed.Certificate ∷ []
 words_of VerifyFlat = Keyword key.Verify ∷ Keyword key.Flat ∷ Input feed.Flat ∷ Input feed.Certificate ∷ []

@@ -14,3 +14,4 @@ pub mod Laws
 pub mod LawsOfClashes
 pub mod LawsOfCharts
 pub mod LawsOfBounds
+pub mod LawsOfProofs

@@ -6,9 +6,11 @@ use Rattle.hw_report.specs.Reports.{bad_words}
 use Rattle.hw_command.specs.Carries.{Task, Carries}
 use Rattle.hw_command.specs.Ends.{Ends}
 use Rattle.hw_command.specs.declared.status.Status.{Status}
-use Rattle.hw_app.specs.Commands.{Command, solve_flat, solve_port, check_flat, check_port, verify_flat, verify_port, chart_flat, chart_port, renew_flat, renew_port, crew_flat, crew_port, repair_flat, repair_port, check_repair, check_repair_port, clash_flat, clash_port, check_clash, check_clash_port, explain_port, audit_port, flatten, demo, command_of}
+use Rattle.hw_app.specs.Commands.{Command, solve_flat, solve_port, prove_flat, prove_port, check_flat, check_port, verify_flat, verify_port, chart_flat, chart_port, renew_flat, renew_port, crew_flat, crew_port, repair_flat, repair_port, check_repair, check_repair_port, clash_flat, clash_port, check_clash, check_clash_port, explain_port, audit_port, flatten, demo, command_of}
 use Rattle.hw_app.specs.SolveFlat.{solve_flat_task}
 use Rattle.hw_app.specs.SolvePort.{solve_port_task}
+use Rattle.hw_prove_command.specs.ProveFlat.{prove_flat_task}
+use Rattle.hw_prove_command.specs.ProvePort.{prove_port_task}
 use Rattle.hw_app.specs.CheckFlat.{check_flat_task}
 use Rattle.hw_app.specs.CheckPort.{check_port_task}
 use Rattle.hw_verify_command.specs.VerifyFlat.{verify_flat_task}
@@ -36,6 +38,8 @@ use Rattle.hw_app.specs.Demo.{demo_task}
 abbrev pub task_of : Command → Task
 task_of (solve_flat name budget proof) = solve_flat_task name budget proof
 task_of (solve_port instance tides budget proof) = solve_port_task instance tides budget proof
+task_of (prove_flat name budget proof) = prove_flat_task name budget proof
+task_of (prove_port instance tides budget proof) = prove_port_task instance tides budget proof
 task_of (check_flat name cert) = check_flat_task name cert
 task_of (check_port instance tides cert) = check_port_task instance tides cert
 task_of (verify_flat name cert) = verify_flat_task name cert

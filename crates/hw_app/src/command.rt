@@ -17,6 +17,16 @@ pub enum Command<'w> {
         budget: u32,
         proof: &'w str,
     },
+    ProveFlat {
+        name: &'w str,
+        budget: u32,
+        proof: &'w str,
+    },
+    ProvePort {
+        port: PortNames<'w>,
+        budget: u32,
+        proof: &'w str,
+    },
     CheckFlat {
         name: &'w str,
         cert: &'w str,

@@ -13,6 +13,10 @@ pub enum Form {
     SolveFlat,
     /// `solve port INSTANCE TIDES BUDGET PROOF` searches for a best timetable of a port, up to BUDGET lemmas.
     SolvePort,
+    /// `prove flat NAME BUDGET PROOF` searches for a best timetable of a flat text with prices, up to BUDGET lemmas.
+    ProveFlat,
+    /// `prove port INSTANCE TIDES BUDGET PROOF` searches for a best timetable of a port with prices, up to BUDGET lemmas.
+    ProvePort,
     /// `check flat NAME CERT` checks a certificate of a flat text.
     CheckFlat,
     /// `check port INSTANCE TIDES CERT` checks a certificate of a port.
@@ -63,6 +67,7 @@ pub enum Form {
 #[derive(Clone, Copy, Debug, PartialEq, Eq)]
 pub enum Keyword {
     Solve,
+    Prove,
     Check,
     Verify,
     Chart,
@@ -106,9 +111,11 @@ pub enum Wanted {
 }
 
 /// The forms that there are.
-pub const FORMS: [Form; 24] = [
+pub const FORMS: [Form; 26] = [
     Form::SolveFlat,
     Form::SolvePort,
+    Form::ProveFlat,
+    Form::ProvePort,
     Form::CheckFlat,
     Form::CheckPort,
     Form::VerifyFlat,
@@ -140,6 +147,8 @@ const MOST_SHIPS: u32 = 40;
 const MOST_SLOTS: u32 = 512;
 
 const SOLVE: Wanted = Wanted::Keyword(Keyword::Solve);
+
+const PROVE: Wanted = Wanted::Keyword(Keyword::Prove);
 
 const CHECK: Wanted = Wanted::Keyword(Keyword::Check);
 
@@ -198,6 +207,8 @@ pub fn words_of(form: Form) -> &'static [Wanted]
     match form {
         Form::SolveFlat => &[SOLVE, FLAT, NAME, BUDGET, PROOF],
         Form::SolvePort => &[SOLVE, PORT, INSTANCE, TIDES, BUDGET, PROOF],
+        Form::ProveFlat => &[PROVE, FLAT, NAME, BUDGET, PROOF],
+        Form::ProvePort => &[PROVE, PORT, INSTANCE, TIDES, BUDGET, PROOF],
         Form::CheckFlat => &[CHECK, FLAT, NAME, CERT],
         Form::CheckPort => &[CHECK, PORT, INSTANCE, TIDES, CERT],
         Form::VerifyFlat => &[VERIFY, FLAT, NAME, CERT],
@@ -229,6 +240,7 @@ pub fn keyword_text(keyword: Keyword) -> &'static str
 {
     match keyword {
         Keyword::Solve => "solve",
+        Keyword::Prove => "prove",
         Keyword::Check => "check",
         Keyword::Verify => "verify",
         Keyword::Chart => "chart",

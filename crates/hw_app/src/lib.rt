@@ -14,6 +14,7 @@ mod demo;
 mod flatten;
 mod form;
 mod laws;
+mod prove_laws;
 mod renew_flat;
 mod renew_port;
 mod running;
@@ -32,6 +33,7 @@ pub use laws::{
     fault_causes, one_certificate_report, one_port_report, own_certificate, own_status,
     renewed_certificate, shows_valid,
 };
+pub use prove_laws::verified_as_proved;
 pub use running::run;
 pub use usage::put_usage;
 pub use verify_laws::{one_verification, printed_bounds, verified_as_checked};

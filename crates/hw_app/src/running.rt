@@ -21,6 +21,7 @@ use hw_clash_command::{check_clash, check_clash_port, clash_flat, clash_port, ex
 use hw_command::{Status, finish};
 use hw_crew_command::{crew_flat, crew_port};
 use hw_desk::Desk;
+use hw_prove_command::{prove_flat, prove_port};
 use hw_repair_command::{check_repair, check_repair_port, repair_flat, repair_port};
 use hw_report::Report;
 use hw_verify_command::{verify_flat, verify_port};
@@ -48,6 +49,16 @@ pub fn run<D: Desk>(alloc: Global, words: &[String], desk: &mut D) -> Status
             budget,
             proof,
         } => solve_port(alloc, desk, port, budget, proof),
+        Command::ProveFlat {
+            name,
+            budget,
+            proof,
+        } => prove_flat(alloc, desk, name, budget, proof),
+        Command::ProvePort {
+            port,
+            budget,
+            proof,
+        } => prove_port(alloc, desk, port, budget, proof),
         Command::CheckFlat { name, cert } => check_flat(alloc, desk, name, cert),
         Command::CheckPort { port, cert } => check_port(alloc, desk, port, cert),
         Command::VerifyFlat { name, cert } => verify_flat(alloc, desk, name, cert),

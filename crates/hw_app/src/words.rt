@@ -114,6 +114,16 @@ fn command_in(form: Form, words: &[String]) -> Command<'_>
             budget: number_at(words, 4, Quantity::Budget),
             proof: name_at(words, 5),
         },
+        Form::ProveFlat => Command::ProveFlat {
+            name: name_at(words, 2),
+            budget: number_at(words, 3, Quantity::Budget),
+            proof: name_at(words, 4),
+        },
+        Form::ProvePort => Command::ProvePort {
+            port: port_at(words, 2),
+            budget: number_at(words, 4, Quantity::Budget),
+            proof: name_at(words, 5),
+        },
         Form::CheckFlat => Command::CheckFlat {
             name: name_at(words, 2),
             cert: name_at(words, 3),

@@ -3,7 +3,7 @@ use Rattle.std.specs.Prelude.{ℕ, List, [], ◌∷◌, ◌++◌, ◌||◌, Opti
 use Rattle.hw_app.specs.Forms.{forms}
 use Rattle.hw_app.specs.Usage.{usage}
 use Rattle.hw_app.specs.declared.form.Form.{Form}
-use Rattle.hw_app.specs.declared.form.Form.TheVariants.{SolveFlat, SolvePort, CheckFlat, CheckPort, VerifyFlat, VerifyPort, ChartFlat, ChartPort, RenewFlat, RenewPort, CrewFlat, CrewPort, RepairFlat, RepairPort, CheckRepair, CheckRepairPort, ClashFlat, ClashPort, CheckClash, CheckClashPort, ExplainPort, AuditPort, Flatten, Demo}
+use Rattle.hw_app.specs.declared.form.Form.TheVariants.{SolveFlat, SolvePort, ProveFlat, ProvePort, CheckFlat, CheckPort, VerifyFlat, VerifyPort, ChartFlat, ChartPort, RenewFlat, RenewPort, CrewFlat, CrewPort, RepairFlat, RepairPort, CheckRepair, CheckRepairPort, ClashFlat, ClashPort, CheckClash, CheckClashPort, ExplainPort, AuditPort, Flatten, Demo}
 use Rattle.hw_host.specs.declared.info.Info.{Info}
 use Rattle.hw_host.specs.declared.info.Info.TheVariants.{Help, Version}
 use Rattle.hw_host.specs.declared.help.TheConstants.{HEAD, TAIL}
@@ -26,6 +26,8 @@ info_of (word ∷ other ∷ words) = None
 abbrev pub purpose_of : Form → List ℕ
 purpose_of SolveFlat = codes "looks for a best timetable of a flat text, and writes a certificate to PROOF"
 purpose_of SolvePort = codes "looks for a best timetable of a port, and writes a certificate to PROOF"
+purpose_of ProveFlat = codes "looks for a best timetable of a flat text with prices, and writes a certificate to PROOF"
+purpose_of ProvePort = codes "looks for a best timetable of a port with prices, and writes a certificate to PROOF"
 purpose_of CheckFlat = codes "says what a certificate shows of a flat text, or its first bad line"
 purpose_of CheckPort = codes "says what a certificate shows of a port, or its first bad line"
 purpose_of VerifyFlat = codes "says what a certificate shows of a flat text, with its bound, or its first bad line"

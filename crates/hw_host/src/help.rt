@@ -41,6 +41,10 @@ pub fn purpose_of(form: Form) -> &'static str
             "looks for a best timetable of a flat text, and writes a certificate to PROOF",
         Form::SolvePort =>
             "looks for a best timetable of a port, and writes a certificate to PROOF",
+        Form::ProveFlat =>
+            "looks for a best timetable of a flat text with prices, and writes a certificate to PROOF",
+        Form::ProvePort =>
+            "looks for a best timetable of a port with prices, and writes a certificate to PROOF",
         Form::CheckFlat => "says what a certificate shows of a flat text, or its first bad line",
         Form::CheckPort => "says what a certificate shows of a port, or its first bad line",
         Form::VerifyFlat =>

@@ -13,7 +13,7 @@ use Rattle.hw_port_rules.specs.Flattened.{flattened}
 use Rattle.hw_tide.specs.declared.fault.TideFault.TheVariants as tide_faults
 use Rattle.hw_report.specs.declared.report.Head.TheVariants.{Optimal, Infeasible, Unfinished, Memory}
 use Rattle.hw_report.specs.declared.report.RefusedWord.TheVariants.{Form, Check}
-use Rattle.hw_report.specs.Reports.{by_number, by_name, solved, checked, verified, demo, bad_words, bad_flat, bad_json, bad_field, bad_tides, refused, read_fault, too_long, no_memory, repaired, rechecked, bad_text, clashed, met, spent_step, clash_holds, after, audit_end}
+use Rattle.hw_report.specs.Reports.{by_number, by_name, solved, checked, verified, proved, demo, bad_words, bad_flat, bad_json, bad_field, bad_tides, refused, read_fault, too_long, no_memory, repaired, rechecked, bad_text, clashed, met, spent_step, clash_holds, after, audit_end}
 use Rattle.hw_report.specs.Lines.{sail_line}
 use Rattle.hw_report.specs.Texts.{report_text}
 
@@ -228,3 +228,27 @@ some_broken = refl
 
 pub the_audit_ends : report_text audit_end ≡ codes "end\n"
 the_audit_ends = refl
+
+pub a_bound_below : report_text (proved (Unfinished 7) (flattened (small false) tides) (by_name (small false) tides) (Some (0 ∷ [])) (Some 4_084_107)) ≡ codes "unfinished 7 best 22800.0\nbound 408410.7\nsail 0 0 1590 22800.0 Cape Grace\nend\n"
+unfolding digits sail_line
+a_bound_below = refl
+
+pub a_bound_by_number : report_text (proved (Unfinished 7) (flattened (small true) tides) by_number (Some (2 ∷ [])) (Some 50)) ≡ codes "unfinished 7 best 0\nbound 50\nstay 0\nend\n"
+unfolding digits
+a_bound_by_number = refl
+
+pub a_bound_of_none_found : report_text (proved (Unfinished 30) (flattened (small true) tides) by_number None (Some 50)) ≡ codes "unfinished 30 none\nbound 50\nend\n"
+unfolding digits
+a_bound_of_none_found = refl
+
+pub proved_without_bound : report_text (proved (Unfinished 30) (flattened (small true) tides) by_number None None) ≡ codes "unfinished 30 none\nend\n"
+unfolding digits
+proved_without_bound = refl
+
+-- a best timetable needs no bound
+pub proved_best : report_text (proved (Optimal 228_000) (flattened (small false) tides) by_number (Some (0 ∷ [])) (Some 228_000)) ≡ codes "optimal 228000\nsail 0 228000 0\nend\n"
+unfolding digits
+proved_best = refl
+
+pub proved_infeasible : report_text (proved Infeasible (flattened (small true) tides) by_number None (Some 50)) ≡ codes "infeasible\nend\n"
+proved_infeasible = refl

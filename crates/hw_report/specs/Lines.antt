@@ -63,6 +63,11 @@ head_text names Infeasible best = codes "infeasible\n"
 head_text names (Unfinished budget) best = unfinished_text names budget best
 head_text names Memory best = memory_text names best
 
+-- behind an unfinished head the bound on the cargo of every permitted timetable, if there is one
+abbrev pub bound_text : Naming → Head → Option ℕ → List ℕ
+bound_text names (Unfinished budget) (Some bound) = carried (codes "bound ") names bound
+bound_text names head bound = []
+
 -- a ship's slot with its value there, or that it stays
 abbrev pub number_line : Problem → ℕ → ℕ → List ℕ
 number_line f ship slot =

@@ -24,6 +24,8 @@ pub data Report : Type 0 where
   checked : Verdict → Naming → Report
   -- what a certificate of any version shows, and the last bound among its lines
   verified : Verdict → Option ℕ → Naming → Report
+  -- a problem that was solved with prices, with its timetable or none, and the last bound of its certificate
+  proved : Head → Problem → Naming → Option (List ℕ) → Option ℕ → Report
   -- a demonstration: how it was solved, its cargo or none, what its certificate shows, and the lemmas of that
   demo : Head → Option ℕ → Verdict → ℕ → Report
   bad_words : ℕ → Report

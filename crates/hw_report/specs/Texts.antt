@@ -9,11 +9,11 @@ use Rattle.hw_report.specs.declared.report.Head.{Head}
 use Rattle.hw_report.specs.declared.report.Head.TheVariants.{Memory}
 use Rattle.hw_report.specs.declared.report.RefusedWord.{RefusedWord}
 use Rattle.hw_report.specs.declared.report.RefusedWord.TheVariants.{Check}
-use Rattle.hw_report.specs.Reports.{Report, by_number, solved, checked, verified, demo, bad_words, bad_flat, bad_json, bad_field, bad_tides, refused, read_fault, too_long, no_memory, repaired, rechecked, bad_text, clashed, met, spent_step, clash_holds, after, audit_end, whole_text, picture}
+use Rattle.hw_report.specs.Reports.{Report, by_number, solved, checked, verified, proved, demo, bad_words, bad_flat, bad_json, bad_field, bad_tides, refused, read_fault, too_long, no_memory, repaired, rechecked, bad_text, clashed, met, spent_step, clash_holds, after, audit_end, whole_text, picture}
 use Rattle.hw_report.specs.Words.{feed_text, flat_word_text, refused_word_text}
 use Rattle.hw_report.specs.Pieces.{joined}
 use Rattle.hw_port.specs.Places.{path_text, word_text}
-use Rattle.hw_report.specs.Lines.{numbered, verdict_text, verified_text, head_text, table_text, numbers_text, repair_verdict_text, moved_text, drop_lines, broken_text}
+use Rattle.hw_report.specs.Lines.{numbered, verdict_text, verified_text, head_text, bound_text, table_text, numbers_text, repair_verdict_text, moved_text, drop_lines, broken_text}
 
 -- the first fault of a tide table; want of memory is none
 abbrev pub tide_fault_text : TideFault → List ℕ
@@ -50,6 +50,7 @@ abbrev pub report_text : Report → List ℕ
 report_text (solved head f names table) = joined (head_text names head (option_and_then (cargo f) table) ∷ table_text f names table ∷ [])
 report_text (checked verdict names) = verdict_text names verdict
 report_text (verified verdict bound names) = verified_text names verdict bound
+report_text (proved head f names table bound) = joined (head_text names head (option_and_then (cargo f) table) ∷ bound_text names head bound ∷ table_text f names table ∷ [])
 report_text (demo head best verdict lemmas) = demo_text head best verdict lemmas
 report_text (bad_words place) = numbered (codes "words ") place
 report_text (bad_flat number word) = joined (codes "bad flat " ∷ decimal number ∷ codes " " ∷ flat_word_text word ∷ codes "\n" ∷ [])

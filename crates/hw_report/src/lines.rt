@@ -5,7 +5,7 @@ ghost use Rattle.hw_model.specs.Problem.{IsTimetable};
 ghost use Rattle.hw_port.specs.Kept.{Within};
 ghost use Rattle.hw_port_rules.specs.Drafts.{sailing as sailing_draft};
 ghost use Rattle.hw_port_rules.specs.Numbers.{whole, horizon_of};
-ghost use Rattle.hw_report.specs.Lines.{numbered, carried, cargo_text, verdict_text, bounded_text, verified_text, unfinished_text, memory_text, head_text, number_line, name_in, sail_line, sailing_line, name_line, ship_line, ship_lines, table_text};
+ghost use Rattle.hw_report.specs.Lines.{numbered, carried, cargo_text, verdict_text, bounded_text, verified_text, unfinished_text, memory_text, head_text, bound_text, number_line, name_in, sail_line, sailing_line, name_line, ship_line, ship_lines, table_text};
 ghost use Rattle.hw_report.specs.Pieces.{piece_text};
 ghost use Rattle.hw_report.specs.Printing.{AreNamesOf};
 ghost use Rattle.hw_desk.specs.Writers.{Puts};
@@ -143,6 +143,20 @@ pub fn put_head<W: Writer>(out: &mut W, names: Names, head: Head, best: Option<u
         Head::Infeasible => out.put(b"infeasible\n"),
         Head::Unfinished { budget } => put_unfinished(out, names, budget, best),
         Head::Memory => put_memory(out, names, best),
+    }
+}
+
+/// Puts the bound behind an unfinished head, if there is one.
+pub fn put_bound<W: Writer>(out: &mut W, names: Names, head: Head, bound: Option<u64>)
+    ensures { Puts (bound_text (names_seen names.entry) head bound) (W.state out.old) (W.state out.new) }
+{
+    match head {
+        Head::Unfinished { .. } => {
+            if let Some(bound) = bound {
+                put_carried(out, b"bound ", names, bound);
+            }
+        }
+        Head::Optimal { .. } | Head::Infeasible | Head::Memory => {}
     }
 }
 

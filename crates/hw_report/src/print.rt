@@ -2,14 +2,14 @@
 
 ghost use Rattle.std.specs.Prelude.{◌++◌, codes, None, Some};
 ghost use Rattle.hw_model.specs.Problem.{IsTimetable};
-ghost use Rattle.hw_report.specs.Lines.{head_text, repair_text, repair_verdict_text};
+ghost use Rattle.hw_report.specs.Lines.{bound_text, head_text, repair_text, repair_verdict_text};
 ghost use Rattle.hw_report.specs.Printing.{AreNamesOf};
 ghost use Rattle.hw_desk.specs.Writers.{Puts};
-ghost use Rattle.hw_report.specs.Reports.{repaired, solved, spent_step};
+ghost use Rattle.hw_report.specs.Reports.{proved, repaired, solved, spent_step};
 ghost use Rattle.hw_report.specs.Seen.{names_seen};
 ghost use Rattle.hw_report.specs.Texts.{report_text, summary_text, demo_text};
 
-use crate::lines::{cargo_piece, put_head, put_numbered, put_table, put_verdict};
+use crate::lines::{cargo_piece, put_bound, put_head, put_numbered, put_table, put_verdict};
 use crate::piece::{Piece, put_pieces};
 use crate::report::{Head, Names};
 use hw_cert::Verdict;
@@ -32,6 +32,33 @@ pub fn put_none<W: Writer>(out: &mut W, head: Head, names: Names)
     ensures { Puts (head_text (names_seen names.entry) head None ++ codes "end\n") (W.state out.old) (W.state out.new) }
 {
     put_head(out, names, head, None);
+    out.put(b"end\n");
+}
+
+/// Puts a report with a bound and its timetable.
+pub fn put_proved<W: Writer>(
+    out: &mut W,
+    head: Head,
+    flat: &Flat,
+    names: Names,
+    table: &Timetable,
+    bound: Option<u64>,
+)
+    requires table { IsTimetable flat.now table.now }
+    requires names { AreNamesOf flat.now (names_seen names) }
+    ensures { Puts (report_text (proved head flat.now (names_seen names.entry) (Some table.now) bound)) (W.state out.old) (W.state out.new) }
+{
+    put_head(out, names, head, cargo(flat, table));
+    put_bound(out, names, head, bound);
+    put_table(out, flat, names, table);
+}
+
+/// Puts a report with a bound and without a timetable.
+pub fn put_none_proved<W: Writer>(out: &mut W, head: Head, names: Names, bound: Option<u64>)
+    ensures { Puts (head_text (names_seen names.entry) head None ++ (bound_text (names_seen names.entry) head bound ++ codes "end\n")) (W.state out.old) (W.state out.new) }
+{
+    put_head(out, names, head, None);
+    put_bound(out, names, head, bound);
     out.put(b"end\n");
 }
 

@@ -8,7 +8,10 @@ ghost use Rattle.hw_report.specs.Texts.{report_text};
 
 use crate::lines::{put_numbered, put_verdict, put_verified};
 use crate::lists::{put_after, put_clash, put_met};
-use crate::print::{put_demo, put_none, put_rechecked, put_repaired, put_solved, put_step};
+use crate::print::{
+    put_demo, put_none, put_none_proved, put_proved, put_rechecked, put_repaired, put_solved,
+    put_step,
+};
 use crate::refusals::{
     put_bad_field, put_bad_flat, put_bad_text, put_bad_tides, put_feed, put_refused,
 };
@@ -50,6 +53,20 @@ fn put_report<W: Writer>(out: &mut W, report: &Report)
             bound,
             names,
         } => put_verified(out, names, verdict, bound),
+        Report::Proved {
+            head,
+            flat,
+            names,
+            table: Some(table),
+            bound,
+        } => put_proved(out, head, flat, names, table, bound),
+        Report::Proved {
+            head,
+            names,
+            table: None,
+            bound,
+            ..
+        } => put_none_proved(out, head, names, bound),
         Report::Demo {
             head,
             best,

@@ -1,0 +1,4 @@
+mod Proved
+mod ProveWorks
+mod FlatProved
+mod PortProved

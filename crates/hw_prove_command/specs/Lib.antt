@@ -1,0 +1,4 @@
+pub mod Priced
+pub mod Proving
+pub mod ProveFlat
+pub mod ProvePort

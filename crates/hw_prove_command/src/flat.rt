@@ -1,0 +1,35 @@
+//! `prove flat NAME BUDGET PROOF`: a certified search of a flat text, with prices.
+
+ghost use Rattle.std.specs.Prelude.{◌≤◌};
+ghost use Rattle.hw_desk.specs.State.{IsNew};
+ghost use Rattle.hw_command.specs.Budgets.{most_budget};
+ghost use Rattle.hw_command.specs.Carries.{Carries};
+ghost use Rattle.hw_prove_command.specs.ProveFlat.{prove_flat_task};
+
+use crate::proving::{prove_report, prove_to};
+use hw_command::{Status, finish, finish_with, read_flat};
+use hw_desk::Desk;
+use hw_report::Names;
+use std::alloc::Global;
+
+/// Reads the flat text, searches with prices, its lines sent to Proof, until `budget` lemmas (1 to
+/// 100000) are written, and reports. Proof is made only once the text was read.
+pub fn prove_flat<D: Desk>(
+    alloc: Global,
+    desk: &mut D,
+    name: &str,
+    budget: u32,
+    proof: &str,
+) -> Status
+    requires least { 1 ≤ budget }
+    requires most { budget ≤ most_budget }
+    requires fresh { IsNew (D.state desk.old) }
+    ensures { Carries (prove_flat_task name.now budget proof.now) (D.state desk.old) (D.state desk.new) result }
+{
+    let flat = match read_flat(alloc, desk, name) {
+        Ok(flat) => flat,
+        Err(report) => return finish(desk, &report),
+    };
+    let proved = prove_to(alloc, desk, &flat, budget, proof);
+    finish_with(desk, prove_report(&flat, Names::Flat, budget, &proved))
+}

@@ -1,0 +1,40 @@
+//! `prove port INSTANCE TIDES BUDGET PROOF`: a certified search of a port, with prices.
+
+ghost use Rattle.std.specs.Prelude.{◌≤◌};
+ghost use Rattle.hw_desk.specs.State.{IsNew};
+ghost use Rattle.hw_command.specs.Budgets.{most_budget};
+ghost use Rattle.hw_command.specs.Carries.{Carries};
+ghost use Rattle.hw_prove_command.specs.ProvePort.{prove_port_task};
+
+use crate::proving::{prove_report, prove_to};
+use hw_command::{PortNames, Status, finish, finish_with, read_port_problem};
+use hw_desk::Desk;
+use hw_report::Names;
+use std::alloc::Global;
+
+/// Reads the instance and then its tide table, searches with prices, its lines sent to Proof, until
+/// `budget` lemmas (1 to 100000) are written, and reports by the port's names. Proof is made only once
+/// both were read.
+pub fn prove_port<D: Desk>(
+    alloc: Global,
+    desk: &mut D,
+    port: PortNames,
+    budget: u32,
+    proof: &str,
+) -> Status
+    requires least { 1 ≤ budget }
+    requires most { budget ≤ most_budget }
+    requires fresh { IsNew (D.state desk.old) }
+    ensures { Carries (prove_port_task port.entry.instance.now port.entry.tides.now budget proof.now) (D.state desk.old) (D.state desk.new) result }
+{
+    let problem = match read_port_problem(alloc, desk, port) {
+        Ok(problem) => problem,
+        Err(report) => return finish(desk, &report),
+    };
+    let proved = prove_to(alloc, desk, &problem.flat, budget, proof);
+    let names = Names::Port {
+        port: &problem.port,
+        tide: &problem.tide,
+    };
+    finish_with(desk, prove_report(&problem.flat, names, budget, &proved))
+}
