@@ -11,35 +11,30 @@ const FIRST: u32 = 32;
 
 /// Finds prices on tolls: for the whole room once, and for each room from the last ones on.
 ///
-/// It says nothing in the first 32 lemmas, without a best and in a point room. It looks at no clock,
-/// and each call ends after a fixed number of steps.
+/// It gives a bound after 32 lemmas, or where a smaller budget is spent, and where the budget is spent
+/// a lower one if it finds one. It advises nothing in the first 32 lemmas, without a best and in a
+/// point room. It looks at no clock, and each call ends after a fixed number of steps.
 #[derive(Drop)]
 pub struct PricingAdviser {
+    /// How many lemmas the search finds at most.
+    budget: u32,
     /// None before it is needed.
     mind: Option<Mind>,
 }
 
 impl PricingAdviser {
-    /// One that has not looked at a problem yet. It takes no memory.
-    pub fn new() -> PricingAdviser {
-        PricingAdviser { mind: None }
+    /// One for a search of at most so many lemmas, that has not looked at a problem yet. It takes no
+    /// memory.
+    pub fn new(budget: u32) -> PricingAdviser {
+        PricingAdviser { budget, mind: None }
     }
 
     /// Looks at the problem of a scene, unless it did so before.
-    fn look(&mut self, alloc: Global, scene: &Scene<'_>, best: u64) -> Result<(), NoMemory> {
+    fn look(&mut self, alloc: Global, scene: &Scene<'_>) -> Result<(), NoMemory> {
         if self.mind.is_none() {
-            self.mind = Some(Mind::new(alloc, scene, best)?);
+            self.mind = Some(Mind::new(alloc, scene)?);
         }
         Ok(())
-    }
-}
-
-/// The best, once prices may be worth it.
-fn due_best(scene: &Scene<'_>) -> Option<u64> {
-    if FIRST <= scene.standing.lemmas {
-        scene.best
-    } else {
-        None
     }
 }
 
@@ -49,32 +44,32 @@ impl Adviser for PricingAdviser {
     ghost silent = { λ _. false };
 
     fn advise(&mut self, alloc: Global, scene: &Scene<'_>) -> Result<Option<Advice>, NoMemory> {
-        let Some(best) = due_best(scene) else {
-            return Ok(None);
-        };
-        if scene.room.is_point() {
+        if scene.standing.lemmas < FIRST || scene.room.is_point() {
             return Ok(None);
         }
-        self.look(alloc, scene, best)?;
+        self.look(alloc, scene)?;
         match &mut self.mind {
             None => Ok(None),
-            Some(mind) => mind.advise(alloc, scene, best),
+            Some(mind) => mind.advise(alloc, scene),
         }
     }
 
     fn bound(&mut self, alloc: Global, scene: &Scene<'_>) -> Result<Option<Bounding>, NoMemory> {
-        let Some(best) = due_best(scene) else {
+        let spent = self.budget <= scene.standing.lemmas;
+        if scene.standing.lemmas < FIRST && !spent {
             return Ok(None);
-        };
-        self.look(alloc, scene, best)?;
+        }
+        self.look(alloc, scene)?;
         match &mut self.mind {
             None => Ok(None),
-            Some(mind) => mind.bound(alloc, scene),
+            Some(mind) => mind.bound(alloc, scene, spent),
         }
     }
 
     fn prefer(&mut self, scene: &Scene<'_>) -> Option<Lit> {
-        let _best = due_best(scene)?;
+        if scene.standing.lemmas < FIRST {
+            return None;
+        }
         match &self.mind {
             None => None,
             Some(mind) => open_bound(scene, mind.prefer(scene)),

@@ -22,9 +22,8 @@ pub(crate) struct Share {
 pub(crate) struct Lane {
     /// What the ship gains in each slot.
     pub(crate) gains: Vec<i64>,
-    /// By how much what it pays in a slot exceeds what it pays in the slot before; also behind the
-    /// last slot.
-    rises: Vec<i64>,
+    /// The place of its first slot among the slots of all ships.
+    start: u32,
     /// What it takes of each row in a slot.
     shares: Vec<Vec<Share>>,
     /// How often each slot was chosen.
@@ -45,7 +44,7 @@ impl Lane {
         }
         Ok(Lane {
             gains: gains(alloc, flat, ship)?,
-            rises: vec![in alloc; 0; slots as usize + 1]?,
+            start: ship.saturating_mul(slots.saturating_add(1)),
             shares,
             counts: vec![in alloc; 0; slots as usize]?,
             low: 0,
@@ -54,13 +53,9 @@ impl Lane {
         })
     }
 
-    /// Starts in a range, where nothing is paid.
-    pub(crate) fn begin(&mut self, low: u32, high: u32) {
-        self.low = low;
-        self.high = high;
-        for rise in self.rises.iter_mut() {
-            *rise = 0;
-        }
+    /// The place of a slot among the slots of all ships.
+    pub(crate) fn place(&self, slot: u32) -> u32 {
+        self.start.saturating_add(slot)
     }
 
     /// Adds what the ship takes of a row from one slot to another.
@@ -73,19 +68,11 @@ impl Lane {
         Ok(())
     }
 
-    /// Adds an amount that is paid from one slot on and before another one.
-    pub(crate) fn charge(&mut self, from: u32, behind: u32, amount: i64) {
-        if let Some(rise) = self.rises.get_mut(from as usize) {
-            *rise = rise.wrapping_add(amount);
-        }
-        if let Some(rise) = self.rises.get_mut(behind as usize) {
-            *rise = rise.wrapping_sub(amount);
-        }
-    }
-
-    /// Chooses the first slot of the range that earns most, and says how much.
-    pub(crate) fn choose(&mut self) -> i64 {
-        let (slot, earned) = best_slot(&self.gains, &self.rises, self.low, self.high);
+    /// Chooses the first slot of the range that earns most, and says how much. For each slot of all ships
+    /// it is told by how much what is paid there exceeds what is paid in the slot before.
+    pub(crate) fn choose(&mut self, rises: &[i64]) -> i64 {
+        let paid = within(rises, self.place(self.low), self.place(self.high));
+        let (slot, earned) = best_slot(within(&self.gains, self.low, self.high), paid, self.low);
         self.chosen = slot;
         if let Some(count) = self.counts.get_mut(slot as usize) {
             *count = count.wrapping_add(1);
@@ -142,21 +129,25 @@ fn gain(value: Option<u64>) -> i64 {
     }
 }
 
-/// The first slot of a range that earns most, and how much.
-fn best_slot(gains: &[i64], rises: &[i64], low: u32, high: u32) -> (u32, i64) {
+/// The amounts from one place to another; none where there are fewer.
+fn within(amounts: &[i64], low: u32, high: u32) -> &[i64] {
+    amounts.get(low as usize..high as usize + 1).unwrap_or(&[])
+}
+
+/// The first slot of a range that earns most, and how much. The range begins with this one.
+fn best_slot(gains: &[i64], rises: &[i64], low: u32) -> (u32, i64) {
     let mut paid: i64 = 0;
+    let mut at = low;
     let mut slot = low;
     let mut most = i64::MIN;
-    for at in low..high.saturating_add(1) {
-        let (Some(gain), Some(rise)) = (gains.get(at as usize), rises.get(at as usize)) else {
-            break;
-        };
+    for (gain, rise) in gains.iter().zip(rises) {
         paid = paid.wrapping_add(*rise);
         let earned = gain.wrapping_sub(paid);
         if most < earned {
             most = earned;
             slot = at;
         }
+        at = at.wrapping_add(1);
     }
     (slot, most)
 }
@@ -170,11 +161,12 @@ pub(crate) fn lanes(alloc: Global, flat: &Flat) -> Result<Vec<Lane>, NoMemory> {
     Ok(lanes)
 }
 
-/// Starts in the ranges of a room, where nothing is paid.
+/// Starts in the ranges of a room.
 pub(crate) fn begin_lanes(lanes: &mut [Lane], room: &Room) {
     for ship in 0..room.ships() {
         if let Some(lane) = lanes.get_mut(ship as usize) {
-            lane.begin(room.low(ship), room.high(ship));
+            lane.low = room.low(ship);
+            lane.high = room.high(ship);
         }
     }
 }

@@ -28,7 +28,13 @@ use std::alloc::Global;
 const STEPS: u32 = 50;
 
 /// How fast they begin.
-const PACE: i64 = FULL_PACE / 2;
+const PACE: i64 = FULL_PACE / 16;
+
+/// Steps in a room where there is no best.
+const EXPLORED: u32 = 10;
+
+/// Steps of the last look at the whole room.
+const LAST_STEPS: u32 = 1_000;
 
 /// New prices that refute no room are worth an answer if they cut so many ends of ranges.
 const CUTS: usize = 4;
@@ -42,12 +48,20 @@ pub(crate) struct Mind {
     named: Vec<u32>,
     /// What ships earn under the tariff in force.
     table: Option<Table>,
+    /// What they earn under the last prices, where these didn't come into force.
+    latest: Option<Table>,
     /// Where the tariff in force may have more cuts.
     cutting: Option<Standing>,
     /// The prices for the whole room.
     root: Vec<i64>,
-    /// Whether their bound was answered.
-    bounded: bool,
+    /// What it earns under them, in parts.
+    least: i64,
+    /// The best for which they were found.
+    sought: Option<u64>,
+    /// Whether their bound was tried.
+    tried: bool,
+    /// The last bound that was answered.
+    bound: Option<u64>,
 }
 
 /// What to answer under new prices.
@@ -68,19 +82,23 @@ struct Draft {
 
 impl Mind {
     /// Finds the prices for the whole room.
-    pub(crate) fn new(alloc: Global, scene: &Scene<'_>, best: u64) -> Result<Mind, NoMemory> {
+    pub(crate) fn new(alloc: Global, scene: &Scene<'_>) -> Result<Mind, NoMemory> {
         let mut pricer = Pricer::new(alloc, scene.flat)?;
         let whole = Room::whole(alloc, scene.flat.shape())?;
-        find_prices(alloc, scene.flat, &mut pricer, &whole, goal(best))?;
+        let least = find_prices(alloc, scene.flat, &mut pricer, &whole, target(scene.best))?;
         let root = Vec::from_slice(alloc, &pricer.prices)?;
         Ok(Mind {
             pricer,
             rules: RulesByPair::new(alloc, scene.flat)?,
             named: Vec::new(alloc),
             table: None,
+            latest: None,
             cutting: None,
             root,
-            bounded: false,
+            least,
+            sought: scene.best,
+            tried: false,
+            bound: None,
         })
     }
 
@@ -89,7 +107,6 @@ impl Mind {
         &mut self,
         alloc: Global,
         scene: &Scene<'_>,
-        best: u64,
     ) -> Result<Option<Advice>, NoMemory>
         requires room { RoomFits scene.now.flat.now scene.now.room.now }
         requires tolls { All (IsToll scene.now.flat.now) scene.now.tolls.now }
@@ -97,6 +114,10 @@ impl Mind {
         requires tariff { IfSome scene.now.tariff (λ t. TariffFits (length scene.now.tolls.now) t.now) }
         ensures advice { IfOk result (λ answer. IfSome answer (λ a. IsAdvice scene.now.flat.now scene.now.tolls.now (option_copied scene.now.tariff) scene.now.best scene.now.room.now a.tolls.items a.tariff a.clause)) }
     {
+        let Some(best) = scene.best else {
+            self.explore(alloc, scene)?;
+            return Ok(None);
+        };
         if let Some(lits) = self.lits_in_force(alloc, scene, best)? {
             return advice_in_force(alloc, scene, lits);
         }
@@ -104,6 +125,29 @@ impl Mind {
             None => Ok(None),
             Some(plan) => self.carry_out(alloc, scene, plan),
         }
+    }
+
+    /// Finds prices that tell which slots are worth most, where there is no best.
+    fn explore(&mut self, alloc: Global, scene: &Scene<'_>) -> Result<(), NoMemory> {
+        let course = Course {
+            steps: EXPLORED,
+            pace: PACE,
+            target: target(None),
+            stop: i64::MIN,
+        };
+        self.pricer.improve(scene.room, course)?;
+        self.latest = Some(self.present(alloc)?);
+        Ok(())
+    }
+
+    /// What ships earn under the prices that stand.
+    fn present(&self, alloc: Global) -> Result<Table, NoMemory> {
+        Table::new(
+            alloc,
+            &self.pricer.lanes,
+            &self.pricer.rows,
+            &self.pricer.prices,
+        )
     }
 
     /// The literals of a clause under the tariff in force.
@@ -144,12 +188,7 @@ impl Mind {
             stop: goal,
         };
         self.pricer.improve(scene.room, course)?;
-        let table = Table::new(
-            alloc,
-            &self.pricer.lanes,
-            &self.pricer.rows,
-            &self.pricer.prices,
-        )?;
+        let table = self.present(alloc)?;
         let limit = table.limit(best);
         if table.total(scene.room) <= limit {
             let lits = loosened(alloc, &table, scene.room, None, limit)?;
@@ -161,6 +200,7 @@ impl Mind {
         }
         let cuts = cuts(alloc, &table, scene.room, limit)?;
         if cuts.len() < CUTS {
+            self.latest = Some(table);
             return Ok(None);
         }
         let lits = loosened(alloc, &table, scene.room, cuts.first().copied(), limit)?;
@@ -196,46 +236,97 @@ impl Mind {
         if answer.is_some() {
             name_rows(&mut self.named, &mut self.pricer.rows, &rows)?;
             self.table = Some(table);
+            self.latest = None;
             self.cutting = if more { Some(scene.standing) } else { None };
         }
         Ok(answer)
     }
 
-    /// What the whole problem carries at most under the prices for the whole room. They are then in
-    /// force. It is answered once.
+    /// What the whole problem carries at most under the prices for the whole room, where that is less
+    /// than it answered before. They are then in force. A last look at them may find better ones.
     pub(crate) fn bound(
         &mut self,
         alloc: Global,
         scene: &Scene<'_>,
+        last: bool,
     ) -> Result<Option<Bounding>, NoMemory>
         requires tolls { All (IsToll scene.now.flat.now) scene.now.tolls.now }
         requires few { length scene.now.tolls.now ≤ 10_000 }
         ensures bound { IfOk result (λ answer. IfSome answer (λ b. IsBoundAdvice scene.now.flat.now scene.now.tolls.now (option_copied scene.now.tariff) b.tolls.items b.tariff b.bound)) }
     {
-        if self.bounded {
+        if last && self.sought != scene.best {
+            self.look_again(alloc, scene)?;
+        }
+        if self.tried {
             return Ok(None);
         }
+        self.tried = true;
         let declared = scene.tolls.len();
         follow(&mut self.named, &mut self.pricer.rows, declared)?;
         let table = Table::new(alloc, &self.pricer.lanes, &self.pricer.rows, &self.root)?;
         let Draft { offer, rows } = draft_of(alloc, &self.pricer.rows, &self.named, &self.root)?;
-        let answer = bounding(alloc, scene, &mut self.rules, offer)?;
-        if answer.is_some() {
-            name_rows(&mut self.named, &mut self.pricer.rows, &rows)?;
-            self.table = Some(table);
-            self.cutting = None;
-            self.bounded = true;
+        match bounding(alloc, scene, &mut self.rules, offer)? {
+            Some(answer) if self.is_lower(answer.bound) => {
+                name_rows(&mut self.named, &mut self.pricer.rows, &rows)?;
+                self.table = Some(table);
+                self.latest = None;
+                self.cutting = None;
+                self.bound = Some(answer.bound);
+                Ok(Some(answer))
+            }
+            _ => Ok(None),
         }
-        Ok(answer)
     }
 
-    /// The literal by which to decide: by regret, and after every second restart by what ships earn
-    /// under the tariff in force.
+    /// Whether a bound is below the last one that was answered.
+    fn is_lower(&self, bound: u64) -> bool {
+        match self.bound {
+            None => true,
+            Some(last) => bound < last,
+        }
+    }
+
+    /// Looks for better prices for the whole room, from those that were found before.
+    fn look_again(&mut self, alloc: Global, scene: &Scene<'_>) -> Result<(), NoMemory> {
+        let whole = Room::whole(alloc, scene.flat.shape())?;
+        self.pricer.take_prices(&self.root);
+        let course = Course {
+            steps: LAST_STEPS,
+            pace: FULL_PACE / 8,
+            target: target(scene.best),
+            stop: i64::MIN,
+        };
+        let least = self.pricer.improve(&whole, course)?;
+        self.sought = scene.best;
+        if least < self.least {
+            self.least = least;
+            self.root = Vec::from_slice(alloc, &self.pricer.prices)?;
+            self.tried = false;
+        }
+        Ok(())
+    }
+
+    /// The literal by which to decide: by what ships earn under the last prices, and after every second
+    /// restart by regret.
     pub(crate) fn prefer(&self, scene: &Scene<'_>) -> Option<Lit> {
-        match &self.table {
-            Some(table) if scene.standing.restarts % 2 == 1 => by_earnings(table, scene.room),
+        let table = match &self.latest {
+            None => &self.table,
+            Some(_) => &self.latest,
+        };
+        match table {
+            Some(table) if scene.best.is_none() || scene.standing.restarts % 2 == 0 => by_earnings(
+                table, scene.room,
+            ),
             _ => by_regret(scene.flat, scene.room),
         }
+    }
+}
+
+/// What a room is to earn: too little for more than the best, if there is one.
+fn target(best: Option<u64>) -> i64 {
+    match best {
+        None => i64::MAX,
+        Some(best) => goal(best),
     }
 }
 

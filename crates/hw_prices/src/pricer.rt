@@ -20,6 +20,9 @@ const DEAREST: i64 = 1_000_000_000_000_000;
 pub(crate) struct Pricer {
     pub(crate) distances: Distances,
     pub(crate) lanes: Vec<Lane>,
+    /// By how much what is paid in a slot exceeds what is paid in the slot before: for each slot of
+    /// each ship, and behind its last one.
+    rises: Vec<i64>,
     pub(crate) rows: Vec<Row>,
     /// The price of each row's unit, in parts.
     pub(crate) prices: Vec<i64>,
@@ -42,9 +45,12 @@ impl Pricer {
     pub(crate) fn new(alloc: Global, flat: &Flat) -> Result<Pricer, NoMemory> {
         let distances = Distances::new(alloc, flat)?;
         let tolls = candidates(alloc, flat, &distances)?;
+        let shape = flat.shape();
+        let places = shape.ships * (shape.slots + 1);
         let mut pricer = Pricer {
             distances,
             lanes: lanes(alloc, flat)?,
+            rises: vec![in alloc; 0; places as usize]?,
             rows: Vec::new(alloc),
             prices: Vec::new(alloc),
             best: Vec::new(alloc),
@@ -105,9 +111,18 @@ impl Pricer {
         Ok(bout.best)
     }
 
+    /// Takes other prices, and forgets those that were held back.
+    pub(crate) fn take_prices(&mut self, prices: &[i64]) {
+        self.held.clear();
+        copy_prices(&mut self.prices, prices);
+    }
+
     /// Starts in a room with the prices that stand, those that were held back among them.
     fn begin(&mut self, room: &Room) -> Result<(), NoMemory> {
         begin_lanes(&mut self.lanes, room);
+        for rise in self.rises.iter_mut() {
+            *rise = 0;
+        }
         self.live.clear();
         self.allowance = 0;
         self.release();
@@ -185,7 +200,7 @@ impl Pricer {
         };
         self.allowance = self.allowance.wrapping_add(change.wrapping_mul(capacity));
         if let Some(row) = self.rows.get(row) {
-            charge_parts(&mut self.lanes, &row.parts, change);
+            charge_parts(&mut self.rises, &row.parts, change);
         }
     }
 
@@ -194,7 +209,7 @@ impl Pricer {
         let known = self.live.len();
         let mut total = self.allowance;
         for lane in self.lanes.iter_mut() {
-            total = total.wrapping_add(lane.choose());
+            total = total.wrapping_add(lane.choose(&self.rises));
         }
         take_up(&self.lanes, &mut self.meters, &mut self.live)?;
         for place in known..self.live.len() {
@@ -270,9 +285,8 @@ fn clip(row: &mut Row, lanes: &[Lane]) -> Result<i64, NoMemory> {
             if from <= high {
                 let units = i64::from(charge.amount);
                 row.parts.push(Part {
-                    ship: charge.ship,
-                    from,
-                    behind: high.saturating_add(1),
+                    from: lane.place(from),
+                    behind: lane.place(high.saturating_add(1)),
                     units,
                 })?;
                 sum = sum.wrapping_add(units);
@@ -282,11 +296,15 @@ fn clip(row: &mut Row, lanes: &[Lane]) -> Result<i64, NoMemory> {
     Ok(sum)
 }
 
-/// Charges a change of a price to the ships that can take of its row.
-fn charge_parts(lanes: &mut [Lane], parts: &[Part], change: i64) {
+/// Charges a change of a price to the slots in which ships take of its row.
+fn charge_parts(rises: &mut [i64], parts: &[Part], change: i64) {
     for part in parts {
-        if let Some(lane) = lanes.get_mut(part.ship as usize) {
-            lane.charge(part.from, part.behind, change.wrapping_mul(part.units));
+        let amount = change.wrapping_mul(part.units);
+        if let Some(rise) = rises.get_mut(part.from as usize) {
+            *rise = rise.wrapping_add(amount);
+        }
+        if let Some(rise) = rises.get_mut(part.behind as usize) {
+            *rise = rise.wrapping_sub(amount);
         }
     }
 }

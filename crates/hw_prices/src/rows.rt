@@ -19,10 +19,10 @@ pub(crate) struct Row {
     pub(crate) parts: Vec<Part>,
 }
 
-/// Units that a ship takes from a slot on and before another one.
+/// Units that a ship takes in some slots, by the places of these among the slots of all ships: from one
+/// on and before another.
 #[derive(Clone, Copy)]
 pub(crate) struct Part {
-    pub(crate) ship: u32,
     pub(crate) from: u32,
     pub(crate) behind: u32,
     pub(crate) units: i64,

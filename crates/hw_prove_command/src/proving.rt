@@ -61,7 +61,7 @@ fn prove_on<D: Desk>(alloc: Global, desk: &mut D, flat: &Flat, budget: u32) -> P
     ensures outside { outside_of (D.state desk.new) ≡ outside_of (D.state desk.old) }
 {
     let mut log = PriceLog::over(desk);
-    prove(alloc, flat, budget, PricingAdviser::new(), &mut log)
+    prove(alloc, flat, budget, PricingAdviser::new(budget), &mut log)
 }
 
 /// The report of what a search with prices found, and none where its log failed: nothing more is sent
