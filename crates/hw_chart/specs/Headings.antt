@@ -1,6 +1,5 @@
 -- The head of a picture: its title and ground, and what its colours say.
 use Rattle.std.specs.Prelude.{ℕ, ◌+◌, List, [], ◌∷◌, ◌++◌, codes}
-use Rattle.hw_lines.specs.declared.check.Verdict.{Verdict}
 use Rattle.hw_svg.specs.Joined.{joined}
 use Rattle.hw_svg.specs.Lettering.{line}
 use Rattle.hw_svg.specs.Shapes.{block}
@@ -8,6 +7,7 @@ use Rattle.hw_svg.specs.Sheets.{picture_begin}
 use Rattle.hw_chart.specs.declared.style.TheConstants.{STYLE}
 use Rattle.hw_chart.specs.declared.heading.Entry.{Entry}
 use Rattle.hw_chart.specs.declared.outcome.CargoUnit.{CargoUnit}
+use Rattle.hw_chart.specs.declared.outcome.Outcome.{Outcome}
 use Rattle.hw_chart.specs.Outcomes.{badge, meaning_text, title_text}
 
 -- the style sheet is one constant
@@ -18,11 +18,11 @@ abbrev pub ground : ℕ → List ℕ
 ground height = block (codes "gr") (record { left = 0; right = 1280; top = 0; bottom = height })
 
 -- the title, what it means, and the sizes of the problem
-abbrev pub heading_lines : CargoUnit → Verdict → List ℕ → List ℕ
-heading_lines unit verdict sizes = joined (line (codes "h") 48 36 (title_text unit verdict) ∷ line (codes "m") 48 56 (meaning_text verdict) ∷ line (codes "m r") 1268 36 sizes ∷ [])
+abbrev pub heading_lines : CargoUnit → Outcome → List ℕ → List ℕ
+heading_lines unit outcome sizes = joined (line (codes "h") 48 36 (title_text unit outcome) ∷ line (codes "m") 48 56 (meaning_text unit outcome) ∷ line (codes "m r") 1268 36 sizes ∷ [])
 
-abbrev pub heading : CargoUnit → Verdict → ℕ → List ℕ → List ℕ
-heading unit verdict height sizes = joined (picture_begin 1280 height (title_text unit verdict) ∷ style ∷ ground height ∷ badge verdict ∷ heading_lines unit verdict sizes ∷ [])
+abbrev pub heading : CargoUnit → Outcome → ℕ → List ℕ → List ℕ
+heading unit outcome height sizes = joined (picture_begin 1280 height (title_text unit outcome) ∷ style ∷ ground height ∷ badge outcome.verdict ∷ heading_lines unit outcome sizes ∷ [])
 
 -- an entry of the legend: a patch of a class, and what it says
 abbrev pub entry_text : Entry → List ℕ

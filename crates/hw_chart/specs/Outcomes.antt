@@ -1,5 +1,5 @@
 -- What a certificate shows, as the title, the meaning and the badge of a picture.
-use Rattle.std.specs.Prelude.{ℕ, List, [], ◌∷◌, ◌++◌, Some, None, codes, decimal}
+use Rattle.std.specs.Prelude.{ℕ, List, [], ◌∷◌, ◌++◌, Option, Some, None, codes, decimal}
 use Rattle.hw_lines.specs.declared.check.Verdict.{Verdict}
 use Rattle.hw_lines.specs.declared.check.Verdict.TheVariants.{Optimal, Infeasible, Unfinished}
 use Rattle.hw_svg.specs.Joined.{joined}
@@ -7,6 +7,7 @@ use Rattle.hw_svg.specs.Numbers.{tenths}
 use Rattle.hw_svg.specs.Shapes.{shape}
 use Rattle.hw_chart.specs.declared.outcome.CargoUnit.{CargoUnit}
 use Rattle.hw_chart.specs.declared.outcome.CargoUnit.TheVariants.{Tonnes, Plain}
+use Rattle.hw_chart.specs.declared.outcome.Outcome.{Outcome}
 
 -- a cargo as it is written
 abbrev pub cargo_text : CargoUnit → ℕ → List ℕ
@@ -17,17 +18,36 @@ abbrev pub unit_text : CargoUnit → List ℕ
 unit_text Tonnes = codes " t"
 unit_text Plain = []
 
-abbrev pub title_text : CargoUnit → Verdict → List ℕ
-title_text unit (Optimal cargo) = joined (codes "Proved best: " ∷ cargo_text unit cargo ∷ unit_text unit ∷ [])
-title_text unit Infeasible = codes "Infeasible"
-title_text unit (Unfinished (Some cargo)) = joined (codes "Not proved best: " ∷ cargo_text unit cargo ∷ unit_text unit ∷ [])
-title_text unit (Unfinished None) = codes "No plan"
+-- a cargo with its unit
+abbrev pub amount_parts : CargoUnit → ℕ → List (List ℕ)
+amount_parts unit cargo = cargo_text unit cargo ∷ unit_text unit ∷ []
 
-abbrev pub meaning_text : Verdict → List ℕ
-meaning_text (Optimal cargo) = codes "the certificate proves that no permitted timetable carries more"
-meaning_text Infeasible = codes "the certificate proves that no timetable is permitted"
-meaning_text (Unfinished (Some cargo)) = codes "this timetable is permitted; of others nothing is proved"
-meaning_text (Unfinished None) = codes "the certificate has no timetable and proves nothing"
+-- what no permitted timetable carries more than, where that is known
+abbrev pub most_parts : CargoUnit → Option ℕ → List (List ℕ)
+most_parts unit None = []
+most_parts unit (Some bound) = codes ", at most " ∷ amount_parts unit bound
+
+-- the title by a bound and a verdict. A bound is spoken of only where the verdict is unfinished
+abbrev pub title_by : CargoUnit → Option ℕ → Verdict → List ℕ
+title_by unit bound (Optimal cargo) = joined (codes "Proved best: " ∷ amount_parts unit cargo)
+title_by unit bound Infeasible = codes "Infeasible"
+title_by unit bound (Unfinished (Some cargo)) = joined (codes "Not proved best: " ∷ cargo_text unit cargo ∷ unit_text unit ∷ most_parts unit bound)
+title_by unit bound (Unfinished None) = joined (codes "No plan" ∷ most_parts unit bound)
+
+abbrev pub title_text : CargoUnit → Outcome → List ℕ
+title_text unit outcome = title_by unit outcome.bound outcome.verdict
+
+-- what is meant, by a bound and a verdict
+abbrev pub meaning_by : CargoUnit → Option ℕ → Verdict → List ℕ
+meaning_by unit bound (Optimal cargo) = codes "the certificate proves that no permitted timetable carries more"
+meaning_by unit bound Infeasible = codes "the certificate proves that no timetable is permitted"
+meaning_by unit None (Unfinished (Some cargo)) = codes "this timetable is permitted; of others nothing is proved"
+meaning_by unit (Some bound) (Unfinished (Some cargo)) = joined (codes "this timetable is permitted; the certificate proves that none carries more than " ∷ amount_parts unit bound)
+meaning_by unit None (Unfinished None) = codes "the certificate has no timetable and proves nothing"
+meaning_by unit (Some bound) (Unfinished None) = joined (codes "the certificate has no timetable; it proves that none carries more than " ∷ amount_parts unit bound)
+
+abbrev pub meaning_text : CargoUnit → Outcome → List ℕ
+meaning_text unit outcome = meaning_by unit outcome.bound outcome.verdict
 
 abbrev pub disc_class : Verdict → List ℕ
 disc_class (Optimal cargo) = codes "tu"

@@ -5,10 +5,9 @@ ghost use Rattle.hw_svg.specs.Pieces.{pieces_text};
 ghost use Rattle.hw_chart.specs.Headings.{entries_text, entry_text, ground, heading, heading_lines};
 ghost use Rattle.hw_chart.specs.Outcomes.{title_text};
 
-use crate::outcome::{CargoUnit, meaning, put_badge, title};
+use crate::outcome::{CargoUnit, Outcome, meaning, put_badge, title};
 use crate::style::put_style;
 use hw_desk::Writer;
-use hw_lines::Verdict;
 use hw_svg::{Area, Piece, put_block, put_line, put_picture_begin};
 
 /// An entry of the legend: a class of shapes, where it stands, and what it says.
@@ -33,11 +32,11 @@ fn put_ground<W: Writer>(out: &mut W, height: u64)
 }
 
 /// Puts the title, what it means, and the sizes of the problem.
-fn put_heading_lines<W: Writer>(out: &mut W, unit: CargoUnit, verdict: Verdict, sizes: &[Piece])
-    ensures { Puts (heading_lines unit verdict (pieces_text sizes.now)) (W.state out.old) (W.state out.new) }
+fn put_heading_lines<W: Writer>(out: &mut W, unit: CargoUnit, outcome: Outcome, sizes: &[Piece])
+    ensures { Puts (heading_lines unit outcome (pieces_text sizes.now)) (W.state out.old) (W.state out.new) }
 {
-    put_line(out, b"h", 48, 36, &title(unit, verdict));
-    put_line(out, b"m", 48, 56, &[Piece::Word(meaning(verdict))]);
+    put_line(out, b"h", 48, 36, &title(unit, outcome));
+    put_line(out, b"m", 48, 56, &meaning(unit, outcome));
     put_line(out, b"m r", 1268, 36, sizes);
 }
 
@@ -45,17 +44,17 @@ fn put_heading_lines<W: Writer>(out: &mut W, unit: CargoUnit, verdict: Verdict, 
 pub fn put_heading<W: Writer>(
     out: &mut W,
     unit: CargoUnit,
-    verdict: Verdict,
+    outcome: Outcome,
     height: u64,
     sizes: &[Piece],
 )
-    ensures { Puts (heading unit verdict height (pieces_text sizes.now)) (W.state out.old) (W.state out.new) }
+    ensures { Puts (heading unit outcome height (pieces_text sizes.now)) (W.state out.old) (W.state out.new) }
 {
-    put_picture_begin(out, 1280, height, &title(unit, verdict));
+    put_picture_begin(out, 1280, height, &title(unit, outcome));
     put_style(out);
     put_ground(out, height);
-    put_badge(out, verdict);
-    put_heading_lines(out, unit, verdict, sizes);
+    put_badge(out, outcome.verdict);
+    put_heading_lines(out, unit, outcome, sizes);
 }
 
 /// Puts an entry of the legend.

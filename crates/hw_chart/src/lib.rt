@@ -17,7 +17,7 @@ pub use grid::{Axis, MINUTES, SLOTS, Scale, put_grid, put_span_end};
 pub use heading::{Entry, put_heading, put_legend};
 pub use layout::{place, plot, put_pin, put_stripe, rank};
 pub use levels::{Full, Rising, greatest};
-pub use outcome::{CargoUnit, cargo_piece, meaning, put_badge, title};
+pub use outcome::{CargoUnit, Outcome, cargo_piece, meaning, put_badge, title};
 pub use panel::{Panel, put_planned_panel, put_unplanned_panel};
 pub use row::{
     Sailings, put_bar, put_bars_begin, put_moves_window, put_no_slot, put_sailing_mark,

@@ -1,9 +1,10 @@
 //! What a certificate shows, as the title of a picture.
 
-ghost use Rattle.std.specs.Prelude.{◌≡◌};
+ghost use Rattle.std.specs.Prelude.{◌≡◌, ◌∷◌};
 ghost use Rattle.hw_desk.specs.Writers.{Puts};
+ghost use Rattle.hw_svg.specs.Joined.{joined};
 ghost use Rattle.hw_svg.specs.Pieces.{piece_text, pieces_text};
-ghost use Rattle.hw_chart.specs.Outcomes.{badge, cargo_text, disc_class, meaning_text, sign_path, title_text, unit_text};
+ghost use Rattle.hw_chart.specs.Outcomes.{amount_parts, badge, cargo_text, disc_class, meaning_text, most_parts, sign_path, title_text, unit_text};
 
 use hw_desk::Writer;
 use hw_lines::Verdict;
@@ -14,6 +15,14 @@ use hw_svg::{Piece, put_shape};
 pub enum CargoUnit {
     Tonnes,
     Plain,
+}
+
+/// What a certificate shows, as it stands over a picture: a verdict, and a bound in tenths of a tonne, if
+/// it has one. The bound is spoken of only where the verdict is unfinished.
+#[derive(Clone, Copy, Debug, PartialEq, Eq)]
+pub struct Outcome {
+    pub verdict: Verdict,
+    pub bound: Option<u64>,
 }
 
 /// A cargo as a piece of text.
@@ -36,40 +45,90 @@ fn unit_piece(unit: CargoUnit) -> Piece<'static>
     }
 }
 
-/// The title of a picture, in three pieces.
-pub fn title(unit: CargoUnit, verdict: Verdict) -> [Piece<'static>; 3]
-    ensures { pieces_text result ≡ title_text unit verdict }
+/// A bound after what was said, in three pieces that are empty where there is none.
+fn at_most(unit: CargoUnit, bound: Option<u64>) -> [Piece<'static>; 3]
+    ensures { pieces_text result ≡ joined (most_parts unit bound) }
 {
-    let sign = unit_piece(unit);
-    match verdict {
-        Verdict::Optimal(cargo) => {
-            let cargo = cargo_piece(unit, cargo);
-            [Piece::Word(b"Proved best: "), cargo, sign]
+    let nothing = Piece::Word(b"");
+    match bound {
+        None => [nothing, nothing, nothing],
+        Some(bound) => {
+            let bound = cargo_piece(unit, bound);
+            [Piece::Word(b", at most "), bound, unit_piece(unit)]
         }
-        Verdict::Infeasible => [
-            Piece::Word(b"Infeasible"),
-            Piece::Word(b""),
-            Piece::Word(b""),
-        ],
-        Verdict::Unfinished(Some(cargo)) => {
-            let cargo = cargo_piece(unit, cargo);
-            [Piece::Word(b"Not proved best: "), cargo, sign]
-        }
-        Verdict::Unfinished(None) => [Piece::Word(b"No plan"), Piece::Word(b""), Piece::Word(b"")],
     }
 }
 
-/// What the title means, in a sentence.
-pub fn meaning(verdict: Verdict) -> &'static [u8]
-    ensures { result.now ≡ meaning_text verdict }
+/// The title of a picture, in six pieces.
+pub fn title(unit: CargoUnit, outcome: Outcome) -> [Piece<'static>; 6]
+    ensures { pieces_text result ≡ title_text unit outcome }
 {
-    match verdict {
-        Verdict::Optimal(_) => b"the certificate proves that no permitted timetable carries more",
-        Verdict::Infeasible => b"the certificate proves that no timetable is permitted",
-        Verdict::Unfinished(Some(_)) => {
-            b"this timetable is permitted; of others nothing is proved"
+    let sign = unit_piece(unit);
+    let nothing = Piece::Word(b"");
+    match outcome.verdict {
+        Verdict::Optimal(cargo) => {
+            let cargo = cargo_piece(unit, cargo);
+            let best = Piece::Word(b"Proved best: ");
+            [best, cargo, sign, nothing, nothing, nothing]
         }
-        Verdict::Unfinished(None) => b"the certificate has no timetable and proves nothing",
+        Verdict::Infeasible => {
+            let none = Piece::Word(b"Infeasible");
+            [none, nothing, nothing, nothing, nothing, nothing]
+        }
+        Verdict::Unfinished(Some(cargo)) => {
+            let cargo = cargo_piece(unit, cargo);
+            let [words, bound, bound_sign] = at_most(unit, outcome.bound);
+            let so_far = Piece::Word(b"Not proved best: ");
+            [so_far, cargo, sign, words, bound, bound_sign]
+        }
+        Verdict::Unfinished(None) => {
+            let [words, bound, bound_sign] = at_most(unit, outcome.bound);
+            let none = Piece::Word(b"No plan");
+            [none, nothing, nothing, words, bound, bound_sign]
+        }
+    }
+}
+
+/// What an unfinished certificate with this bound means, by the words before the bound.
+fn bounded(unit: CargoUnit, words: &'static [u8], bound: u64) -> [Piece<'static>; 3]
+    ensures { pieces_text result ≡ joined (words.now ∷ amount_parts unit bound) }
+{
+    let bound = cargo_piece(unit, bound);
+    [Piece::Word(words), bound, unit_piece(unit)]
+}
+
+/// A text as three pieces.
+fn plain(words: &'static [u8]) -> [Piece<'static>; 3]
+    ensures { pieces_text result ≡ words.now }
+{
+    [Piece::Word(words), Piece::Word(b""), Piece::Word(b"")]
+}
+
+/// What the title means, in a sentence of three pieces.
+pub fn meaning(unit: CargoUnit, outcome: Outcome) -> [Piece<'static>; 3]
+    ensures { pieces_text result ≡ meaning_text unit outcome }
+{
+    match (outcome.verdict, outcome.bound) {
+        (Verdict::Optimal(_), _) => {
+            plain(b"the certificate proves that no permitted timetable carries more")
+        }
+        (Verdict::Infeasible, _) => plain(b"the certificate proves that no timetable is permitted"),
+        (Verdict::Unfinished(Some(_)), None) => {
+            plain(b"this timetable is permitted; of others nothing is proved")
+        }
+        (Verdict::Unfinished(Some(_)), Some(bound)) => bounded(
+            unit,
+            b"this timetable is permitted; the certificate proves that none carries more than ",
+            bound,
+        ),
+        (Verdict::Unfinished(None), None) => {
+            plain(b"the certificate has no timetable and proves nothing")
+        }
+        (Verdict::Unfinished(None), Some(bound)) => bounded(
+            unit,
+            b"the certificate has no timetable; it proves that none carries more than ",
+            bound,
+        ),
     }
 }
 

@@ -1,34 +1,35 @@
--- `chart flat NAME CERT`: the plan that a certificate of a flat text shows is drawn.
+-- `chart flat NAME CERT`: the plan that a certificate of a flat text, of any version, shows is drawn.
 use Rattle.std.specs.Prelude.{◌≡◌, ℕ, List, [], ◌∷◌, Option, None, Some, IfSome, Result, Ok, Err, length, nat_lt, if◌then◌else◌}
 use Rattle.hw_model.specs.Limits.{IsFlat}
 use Rattle.hw_model.specs.Problem.{Problem}
 use Rattle.hw_desk.specs.State.{DeskState}
 use Rattle.hw_desk.specs.declared.desk.Feed.TheVariants.{Flat, Certificate}
 use Rattle.hw_flat.specs.Text.{Fault, flat_text}
+use Rattle.hw_chart.specs.declared.outcome.Outcome.{Outcome}
 use Rattle.hw_flat_chart.specs.Pictures.{flat_picture}
 use Rattle.hw_lines.specs.declared.check.Verdict.{Verdict}
 use Rattle.hw_report.specs.Reports.{Report, picture, refused, bad_flat, too_long}
 use Rattle.hw_command.specs.Carries.{Task, one_report}
-use Rattle.hw_command.specs.Certificates.{cert_outcome}
 use Rattle.hw_command.specs.Inputs.{NoFlat}
 use Rattle.hw_command.specs.Scope.{named}
 use Rattle.hw_command.specs.Values.{most_bytes, IsTextOf, FlatGives}
 use Rattle.hw_command.specs.declared.outcome.CertOutcome.{CertOutcome}
 use Rattle.hw_command.specs.declared.outcome.CertOutcome.TheVariants.{Shows, Wrong, TooLong}
-use Rattle.hw_chart_command.specs.Shown.{cert_table, IsLastShown, TableMeans}
+use Rattle.hw_verify_command.specs.Bounded.{any_outcome}
+use Rattle.hw_chart_command.specs.Shown.{cert_table, shown_with, IsLastShown, OutcomeMeans}
 
 -- ---- by the bytes alone
 
 -- the picture where a certificate of these bytes shows something, and else why not
 abbrev pub flat_chart_of : Problem → List ℕ → CertOutcome → Report
-flat_chart_of f bytes (Shows v) = picture v (flat_picture f (cert_table f bytes) v)
+flat_chart_of f bytes (Shows v) = picture v (flat_picture f (cert_table f bytes) (shown_with f bytes v))
 flat_chart_of f bytes (Wrong number word hint) = refused number word hint
 flat_chart_of f bytes TooLong = too_long Certificate
 
 -- a certificate of what a text reads as
 abbrev pub read_chart : Result Problem Fault → List ℕ → Report
 read_chart (Err bad) bytes = bad_flat bad.number bad.word
-read_chart (Ok f) bytes = flat_chart_of f bytes (cert_outcome f bytes)
+read_chart (Ok f) bytes = flat_chart_of f bytes (any_outcome f bytes)
 
 -- a flat text and a certificate, each by its bytes
 abbrev pub texts_chart : List ℕ → List ℕ → Report
@@ -36,24 +37,25 @@ texts_chart text bytes = if nat_lt most_bytes (length text) then too_long Flat e
 
 -- ---- what is said
 
--- a problem, that of the text where it is told, and what is drawn of it: the verdict of its certificate and the last timetable there, with what these say of the problem
+-- a problem, that of the text where it is told, and what is drawn of it: the verdict of its certificate, and the last bound and the last timetable there, with what these say of the problem
 pub record DrawsText (text bytes : Option (List ℕ)) (v : Verdict) (drawn : List ℕ) : Type 0 where
   pub problem : Problem
   pub limits : IsFlat problem
   pub reads : IfSome text (IsTextOf problem)
+  pub bound : Option ℕ
   pub table : Option (List ℕ)
-  pub shown : IsLastShown problem bytes v table
-  pub means : TableMeans problem v table
-  pub is_picture : drawn ≡ flat_picture problem table v
+  pub shown : IsLastShown problem bytes (record { verdict = v; bound = bound }) table
+  pub means : OutcomeMeans problem (record { verdict = v; bound = bound }) table
+  pub is_picture : drawn ≡ flat_picture problem table (record { verdict = v; bound = bound })
 
--- a problem, that of the text where it is told, and the outcome of its certificate, where that is told
+-- a problem, that of the text where it is told, and what its certificate comes to, where that is told
 pub record RefusesText (text bytes : Option (List ℕ)) (o : CertOutcome) : Type 0 where
   pub problem : Problem
   pub limits : IsFlat problem
   pub reads : IfSome text (IsTextOf problem)
-  pub outcome : IfSome bytes (λ bs. o ≡ cert_outcome problem bs)
+  pub outcome : IfSome bytes (λ bs. o ≡ any_outcome problem bs)
 
--- what a report says of the text and of the certificate, each as far as it is told. Where nothing is drawn it is what `check flat` says. No other report is given
+-- what a report says of the text and of the certificate, each as far as it is told. Where nothing is drawn it is what `verify flat` says. No other report is given
 abbrev pub ChartsTexts : Option (List ℕ) → Option (List ℕ) → Report → Type 0
 ChartsTexts text bytes (picture v drawn) = DrawsText text bytes v drawn
 ChartsTexts text bytes (refused number word hint) = RefusesText text bytes (Wrong number word hint)

@@ -1,4 +1,4 @@
--- `chart port INSTANCE TIDES CERT`: the plan that a certificate of a port shows is drawn.
+-- `chart port INSTANCE TIDES CERT`: the plan that a certificate of a port, of any version, shows is drawn.
 use Rattle.std.specs.Prelude.{◌≡◌, ℕ, List, [], ◌∷◌, Option, Some, None, IfSome}
 use Rattle.hw_desk.specs.State.{DeskState}
 use Rattle.hw_desk.specs.declared.desk.Feed.TheVariants.{Instance, Tides, Certificate}
@@ -6,50 +6,52 @@ use Rattle.hw_lines.specs.declared.check.Verdict.{Verdict}
 use Rattle.hw_port.specs.Whole.{Parts}
 use Rattle.hw_tide.specs.Levels.{TideParts}
 use Rattle.hw_port_rules.specs.Flattened.{flattened}
+use Rattle.hw_chart.specs.declared.outcome.Outcome.{Outcome}
 use Rattle.hw_port_chart.specs.Pictures.{port_picture}
 use Rattle.hw_report.specs.Reports.{Report, picture, refused, too_long}
 use Rattle.hw_command.specs.Carries.{Task, one_report}
-use Rattle.hw_command.specs.Certificates.{cert_outcome}
 use Rattle.hw_command.specs.PortInputs.{NoPort}
 use Rattle.hw_command.specs.Scope.{named}
 use Rattle.hw_command.specs.Values.{IsPortOf, PortGives}
 use Rattle.hw_command.specs.declared.outcome.CertOutcome.{CertOutcome}
 use Rattle.hw_command.specs.declared.port_input.PortProblem.{PortProblem}
 use Rattle.hw_command.specs.declared.outcome.CertOutcome.TheVariants.{Shows, Wrong, TooLong}
-use Rattle.hw_chart_command.specs.Shown.{cert_table, IsLastShown, PortTableMeans}
+use Rattle.hw_verify_command.specs.Bounded.{any_outcome}
+use Rattle.hw_chart_command.specs.Shown.{cert_table, shown_with, IsLastShown, PortOutcomeMeans}
 
 -- the picture of a port as it was read, with a timetable or none
-abbrev pub drawn_port : PortProblem → Option (List ℕ) → Verdict → List ℕ
-drawn_port problem table v = port_picture problem.port problem.tide table v
+abbrev pub drawn_port : PortProblem → Option (List ℕ) → Outcome → List ℕ
+drawn_port problem table o = port_picture problem.port problem.tide table o
 
 -- the report that is this picture
-abbrev pub port_report : PortProblem → Option (List ℕ) → Verdict → Report
-port_report problem table v = picture v (drawn_port problem table v)
+abbrev pub port_report : PortProblem → Option (List ℕ) → Outcome → Report
+port_report problem table o = picture o.verdict (drawn_port problem table o)
 
 -- the picture where a certificate of these bytes shows something of the port, and else why not
 abbrev pub port_chart_of : Parts → TideParts → List ℕ → CertOutcome → Report
-port_chart_of p h bytes (Shows v) = picture v (port_picture p h (cert_table (flattened p h) bytes) v)
+port_chart_of p h bytes (Shows v) = picture v (port_picture p h (cert_table (flattened p h) bytes) (shown_with (flattened p h) bytes v))
 port_chart_of p h bytes (Wrong number word hint) = refused number word hint
 port_chart_of p h bytes TooLong = too_long Certificate
 
--- a port with its tide, that of the instance and of the table where they are told, and what is drawn of it: the verdict of its certificate and the last timetable there, with what these say by the port's own rules
+-- a port with its tide, that of the instance and of the table where they are told, and what is drawn of it: the verdict of its certificate, and the last bound and the last timetable there, with what these say by the port's own rules
 pub record DrawsPort (instance tides bytes : Option (List ℕ)) (v : Verdict) (drawn : List ℕ) : Type 0 where
   pub port : Parts
   pub tide : TideParts
   pub reads : IsPortOf instance tides port tide
+  pub bound : Option ℕ
   pub table : Option (List ℕ)
-  pub shown : IsLastShown (flattened port tide) bytes v table
-  pub means : PortTableMeans port tide v table
-  pub is_picture : drawn ≡ port_picture port tide table v
+  pub shown : IsLastShown (flattened port tide) bytes (record { verdict = v; bound = bound }) table
+  pub means : PortOutcomeMeans port tide (record { verdict = v; bound = bound }) table
+  pub is_picture : drawn ≡ port_picture port tide table (record { verdict = v; bound = bound })
 
--- a port with its tide, those that are told, and the outcome of its certificate, where that is told
+-- a port with its tide, those that are told, and what its certificate comes to, where that is told
 pub record RefusesPort (instance tides bytes : Option (List ℕ)) (o : CertOutcome) : Type 0 where
   pub port : Parts
   pub tide : TideParts
   pub reads : IsPortOf instance tides port tide
-  pub outcome : IfSome bytes (λ bs. o ≡ cert_outcome (flattened port tide) bs)
+  pub outcome : IfSome bytes (λ bs. o ≡ any_outcome (flattened port tide) bs)
 
--- what a report says of the instance, of the tide table and of the certificate, each where it is told. Where nothing is drawn it is what `check port` says. Where these are told no two reports hold together, but that memory may run out; no other is given
+-- what a report says of the instance, of the tide table and of the certificate, each where it is told. Where nothing is drawn it is what `verify port` says. Where these are told no two reports hold together, but that memory may run out; no other is given
 abbrev pub ChartsPortTexts : Option (List ℕ) → Option (List ℕ) → Option (List ℕ) → Option Report → Type 0
 ChartsPortTexts instance tides bytes None = ⊥
 ChartsPortTexts instance tides bytes (Some (picture v drawn)) = DrawsPort instance tides bytes v drawn

@@ -1,4 +1,4 @@
--- What is drawn: the verdict of a certificate, and the timetable of its last table line, or none.
+-- What is drawn: the verdict of a certificate of any version, its last bound, and the timetable of its last table line, or none.
 use Rattle.std.specs.Prelude.{◌≡◌, ◌⊎◌, ℕ, List, [], ◌∷◌, Option, Some, None, All, IfSome, IsSomeAnd}
 use Rattle.hw_model.specs.Problem.{Problem, shape_of}
 use Rattle.hw_model.specs.Timetables.{Permits, cargo, IsBest, NonePermitted}
@@ -7,31 +7,41 @@ use Rattle.hw_lines.specs.declared.check.Verdict.{Verdict}
 use Rattle.hw_lines.specs.declared.check.Verdict.TheVariants.{Optimal, Infeasible, Unfinished}
 use Rattle.hw_lines.specs.declared.line.Line.{Line}
 use Rattle.hw_lines.specs.Lines.{last_table}
+use Rattle.hw_lines.specs.Tolled.{bound_of}
 use Rattle.hw_lines.specs.Valid.{LineFits, Valid, verdict}
-use Rattle.hw_cert.specs.Stream.{cert_stream}
+use Rattle.hw_verdict.specs.Laws.{IsBound}
+use Rattle.hw_cert.specs.declared.version.Version.TheVariants.{Three}
+use Rattle.hw_cert.specs.Stream.{cert_stream_to}
+use Rattle.hw_chart.specs.declared.outcome.Outcome.{Outcome}
 use Rattle.hw_port.specs.Whole.{Parts}
 use Rattle.hw_tide.specs.Levels.{TideParts}
 use Rattle.hw_port_rules.specs.Permitted.{PortPermits, port_cargo, IsPortBest, NonePortPermitted}
+use Rattle.hw_port_verdict.specs.Laws.{IsPortBound}
 use Rattle.hw_report.specs.Reports.{Report, no_memory}
-use Rattle.hw_command.specs.Certificates.{cert_outcome}
 use Rattle.hw_command.specs.Ends.{Ends}
 use Rattle.hw_command.specs.Keeping.{whole_lines}
 use Rattle.hw_command.specs.declared.outcome.CertOutcome.TheVariants.{Shows}
 use Rattle.hw_command.specs.declared.status.Status.{Status}
+use Rattle.hw_verify_command.specs.Bounded.{any_outcome, cert_bound}
 
 -- the timetable of the last table line that a certificate's bytes read as, or none
 abbrev pub cert_table : Problem → List ℕ → Option (List ℕ)
-cert_table f bytes = last_table (cert_stream (shape_of f) bytes).lines
+cert_table f bytes = last_table (cert_stream_to Three (shape_of f) bytes).lines
 
--- valid lines of the problem have this verdict, and their last timetable is this one, or they have none. They are all lines of the certificate, where it is told, and its outcome is that verdict
-pub record IsLastShown (f : Problem) (bytes : Option (List ℕ)) (v : Verdict) (table : Option (List ℕ)) : Type 0 where
+-- a verdict, with the bound of the last bound line that a certificate's bytes read as, or none
+abbrev pub shown_with : Problem → List ℕ → Verdict → Outcome
+shown_with f bytes v = record { verdict = v; bound = cert_bound f bytes }
+
+-- valid lines of the problem have this verdict, and their last bound and their last timetable are these, or they have none. They are all lines of the certificate, where it is told, and that is what it comes to
+pub record IsLastShown (f : Problem) (bytes : Option (List ℕ)) (o : Outcome) (table : Option (List ℕ)) : Type 0 where
   pub lines : List Line
   pub fit : All (LineFits f) lines
   pub valid : Valid f lines
-  pub verdict : v ≡ verdict f lines
+  pub verdict : o.verdict ≡ verdict f lines
+  pub bound : o.bound ≡ bound_of lines
   pub last : table ≡ last_table lines
-  pub read : IfSome bytes (λ bs. cert_stream (shape_of f) bs ≡ whole_lines lines)
-  pub outcome : IfSome bytes (λ bs. Shows v ≡ cert_outcome f bs)
+  pub read : IfSome bytes (λ bs. cert_stream_to Three (shape_of f) bs ≡ whole_lines lines)
+  pub outcome : IfSome bytes (λ bs. Shows o.verdict ≡ any_outcome f bs)
 
 -- what a verdict says of the problem and of the timetable that is drawn with it: it is a best one with this cargo; none is permitted, and none is drawn; or it is permitted and has this cargo, and without one there is no cargo
 abbrev pub TableMeans : Problem → Verdict → Option (List ℕ) → Type 0
@@ -50,6 +60,16 @@ PortTableMeans p h Infeasible None = NonePortPermitted p h
 PortTableMeans p h Infeasible (Some table) = ⊥
 PortTableMeans p h (Unfinished best) None = best ≡ None
 PortTableMeans p h (Unfinished best) (Some table) = PortPermits p h table × IsSomeAnd best (λ c. port_cargo p h table ≡ Some c)
+
+-- what is shown of the problem is so, and no permitted timetable carries more than the bound, where there is one
+pub record OutcomeMeans (f : Problem) (o : Outcome) (table : Option (List ℕ)) : Type 0 where
+  pub means : TableMeans f o.verdict table
+  pub bounds : IfSome o.bound (IsBound f)
+
+-- the same by the port's own rules
+pub record PortOutcomeMeans (p : Parts) (h : TideParts) (o : Outcome) (table : Option (List ℕ)) : Type 0 where
+  pub means : PortTableMeans p h o.verdict table
+  pub bounds : IfSome o.bound (IsPortBound p h)
 
 -- a run ends with this report, or memory ran out before any of it was sent
 abbrev pub EndsUnlessMemory : Report → DeskState → DeskState → Status → Type 0

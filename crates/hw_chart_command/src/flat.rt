@@ -13,7 +13,7 @@ ghost use Rattle.hw_chart_command.specs.ChartFlat.{chart_flat_task};
 ghost use Rattle.hw_chart_command.specs.Shown.{EndsUnlessMemory};
 
 use crate::shown::{Shown, read_shown};
-use hw_cert::Verdict;
+use hw_chart::Outcome;
 use hw_command::{Status, finish, read_flat, status_of_verdict};
 use hw_desk::{Desk, DeskFailed, Tray, TrayWriter, Writer};
 use hw_flat::Flat;
@@ -21,9 +21,9 @@ use hw_flat_chart::{Plan, put_flat_picture};
 use hw_report::Report;
 use std::alloc::Global;
 
-/// Reads the flat text, checks the certificate of it to its end, and sends the picture of its verdict
-/// and of its last timetable, up to 900,000 bytes. A certificate that shows nothing is reported as by
-/// `check flat`.
+/// Reads the flat text, checks the certificate of it, of any version, to its end, and sends the picture
+/// of what it shows and of its last timetable, up to 900,000 bytes. A certificate that shows nothing is
+/// reported as by `verify flat`.
 ///
 /// Each slot to which a ship alone could move is tried before the first byte is sent; the picture
 /// itself takes no memory. After `WriteFault` a proper prefix of it was sent.
@@ -44,25 +44,25 @@ pub fn chart_flat<D: Desk>(alloc: Global, desk: &mut D, name: &str, cert: &str) 
 /// Finds the moves of the timetable, if there is one, and sends the picture.
 fn draw<D: Desk>(alloc: Global, desk: &mut D, flat: &Flat, shown: Shown) -> Status
     requires listed { IfSome shown.table (IsTimetable flat.now) }
-    ensures { EndsUnlessMemory (picture shown.verdict (flat_picture flat.now shown.table shown.verdict)) (D.state desk.old) (D.state desk.new) result }
+    ensures { EndsUnlessMemory (picture shown.outcome.verdict (flat_picture flat.now shown.table shown.outcome)) (D.state desk.old) (D.state desk.new) result }
 {
-    let Shown { verdict, table } = shown;
+    let Shown { outcome, table } = shown;
     match table {
-        None => send(desk, flat, None, verdict),
+        None => send(desk, flat, None, outcome),
         Some(table) => match Plan::new(alloc, flat, table) {
-            Ok(plan) => send(desk, flat, Some(&plan), verdict),
+            Ok(plan) => send(desk, flat, Some(&plan), outcome),
             Err(_) => finish(desk, &Report::Memory),
         },
     }
 }
 
 /// Sends the picture. Returns the status of its verdict, or `WriteFault` if a write failed.
-fn send<D: Desk>(desk: &mut D, flat: &Flat, plan: Option<&Plan>, verdict: Verdict) -> Status
+fn send<D: Desk>(desk: &mut D, flat: &Flat, plan: Option<&Plan>, outcome: Outcome) -> Status
     requires moves { IfSome plan (λ p. IsPlan flat.now p.now) }
-    ensures { Ends (picture verdict (flat_picture flat.now (option_map (λ p. p.now.table) plan.entry) verdict) ∷ []) (D.state desk.old) (D.state desk.new) result }
+    ensures { Ends (picture outcome.verdict (flat_picture flat.now (option_map (λ p. p.now.table) plan.entry) outcome) ∷ []) (D.state desk.old) (D.state desk.new) result }
 {
-    match send_text(desk, flat, plan, verdict) {
-        Ok(()) => status_of_verdict(verdict),
+    match send_text(desk, flat, plan, outcome) {
+        Ok(()) => status_of_verdict(outcome.verdict),
         Err(_) => Status::WriteFault,
     }
 }
@@ -72,12 +72,12 @@ fn send_text<D: Desk>(
     desk: &mut D,
     flat: &Flat,
     plan: Option<&Plan>,
-    verdict: Verdict,
+    outcome: Outcome,
 ) -> Result<(), DeskFailed>
     requires moves { IfSome plan (λ p. IsPlan flat.now p.now) }
-    ensures { SendsText Tray.Report (flat_picture flat.now (option_map (λ p. p.now.table) plan.entry) verdict) (D.state desk.old) (D.state desk.new) result }
+    ensures { SendsText Tray.Report (flat_picture flat.now (option_map (λ p. p.now.table) plan.entry) outcome) (D.state desk.old) (D.state desk.new) result }
 {
     let mut out = TrayWriter::new(desk, Tray::Report);
-    put_flat_picture(&mut out, flat, plan, verdict);
+    put_flat_picture(&mut out, flat, plan, outcome);
     out.flush()
 }

@@ -12,7 +12,7 @@ ghost use Rattle.hw_chart_command.specs.ChartPort.{chart_port_task, drawn_port, 
 ghost use Rattle.hw_chart_command.specs.Shown.{EndsUnlessMemory};
 
 use crate::shown::{Shown, read_shown};
-use hw_cert::Verdict;
+use hw_chart::Outcome;
 use hw_command::{PortNames, PortProblem, Status, finish, read_port_problem, status_of_verdict};
 use hw_desk::{Desk, DeskFailed, Tray, TrayWriter, Writer};
 use hw_flat_chart::Plan;
@@ -20,9 +20,9 @@ use hw_port_chart::put_port_picture;
 use hw_report::Report;
 use std::alloc::Global;
 
-/// Reads the instance and then its tide table, checks the certificate of the port to its end, and
-/// sends the picture of its verdict and of its last timetable, up to 1,600,000 bytes. A certificate
-/// that shows nothing is reported as by `check port`.
+/// Reads the instance and then its tide table, checks the certificate of the port, of any version, to
+/// its end, and sends the picture of what it shows and of its last timetable, up to 1,600,000 bytes. A
+/// certificate that shows nothing is reported as by `verify port`.
 ///
 /// Each slot to which a ship alone could move is tried before the first byte is sent; the picture
 /// itself takes no memory. After `WriteFault` a proper prefix of it was sent.
@@ -45,13 +45,13 @@ fn draw<D: Desk>(alloc: Global, desk: &mut D, problem: &PortProblem, shown: Show
     requires columns { problem.now.tide.columns ≡ length problem.now.port.waypoints }
     requires flat { problem.now.flat ≡ flattened problem.now.port problem.now.tide }
     requires listed { IfSome shown.table (IsTimetable problem.now.flat) }
-    ensures { EndsUnlessMemory (port_report problem.now shown.table shown.verdict) (D.state desk.old) (D.state desk.new) result }
+    ensures { EndsUnlessMemory (port_report problem.now shown.table shown.outcome) (D.state desk.old) (D.state desk.new) result }
 {
-    let Shown { verdict, table } = shown;
+    let Shown { outcome, table } = shown;
     match table {
-        None => send(desk, problem, None, verdict),
+        None => send(desk, problem, None, outcome),
         Some(table) => match Plan::new(alloc, &problem.flat, table) {
-            Ok(plan) => send(desk, problem, Some(&plan), verdict),
+            Ok(plan) => send(desk, problem, Some(&plan), outcome),
             Err(_) => finish(desk, &Report::Memory),
         },
     }
@@ -62,14 +62,14 @@ fn send<D: Desk>(
     desk: &mut D,
     problem: &PortProblem,
     plan: Option<&Plan>,
-    verdict: Verdict,
+    outcome: Outcome,
 ) -> Status
     requires columns { problem.now.tide.columns ≡ length problem.now.port.waypoints }
     requires moves { HasMoves problem.now.port problem.now.tide (option_map (λ p. p.now) plan) }
-    ensures { Ends (port_report problem.now (option_map (λ p. p.now.table) plan.entry) verdict ∷ []) (D.state desk.old) (D.state desk.new) result }
+    ensures { Ends (port_report problem.now (option_map (λ p. p.now.table) plan.entry) outcome ∷ []) (D.state desk.old) (D.state desk.new) result }
 {
-    match send_text(desk, problem, plan, verdict) {
-        Ok(()) => status_of_verdict(verdict),
+    match send_text(desk, problem, plan, outcome) {
+        Ok(()) => status_of_verdict(outcome.verdict),
         Err(_) => Status::WriteFault,
     }
 }
@@ -79,13 +79,13 @@ fn send_text<D: Desk>(
     desk: &mut D,
     problem: &PortProblem,
     plan: Option<&Plan>,
-    verdict: Verdict,
+    outcome: Outcome,
 ) -> Result<(), DeskFailed>
     requires columns { problem.now.tide.columns ≡ length problem.now.port.waypoints }
     requires moves { HasMoves problem.now.port problem.now.tide (option_map (λ p. p.now) plan) }
-    ensures { SendsText Tray.Report (drawn_port problem.now (option_map (λ p. p.now.table) plan.entry) verdict) (D.state desk.old) (D.state desk.new) result }
+    ensures { SendsText Tray.Report (drawn_port problem.now (option_map (λ p. p.now.table) plan.entry) outcome) (D.state desk.old) (D.state desk.new) result }
 {
     let mut out = TrayWriter::new(desk, Tray::Report);
-    put_port_picture(&mut out, &problem.port, &problem.tide, plan, verdict);
+    put_port_picture(&mut out, &problem.port, &problem.tide, plan, outcome);
     out.flush()
 }

@@ -3,26 +3,27 @@
 ghost use Rattle.std.specs.Prelude.{◌≡◌, Err, IfErr, false};
 ghost use Rattle.hw_report.specs.Printing.{CanPrint};
 ghost use Rattle.hw_report.specs.Seen.{report_seen};
-ghost use Rattle.hw_command.specs.Certificates.{report_of_check};
 ghost use Rattle.hw_report.specs.Reports.{by_number};
+ghost use Rattle.hw_verify_command.specs.Verifying.{report_of_verified};
 ghost use Rattle.hw_chart_command.specs.Reading.{ReadsShown};
 
-use hw_cert::Verdict;
-use hw_command::{CertOutcome, CertStop, TabledCert, check_cert_table};
+use hw_chart::Outcome;
+use hw_command::{CertOutcome, CertStop};
 use hw_desk::{Desk, Feed};
 use hw_flat::{Flat, Timetable};
 use hw_report::Report;
+use hw_verify_command::{VerifiedCert, verify_cert_table};
 use std::alloc::Global;
 
-/// The verdict of a certificate, and the timetable of its last table line, if it has one.
+/// What a certificate shows, and the timetable of its last table line, if it has one.
 #[derive(Drop)]
 pub(crate) struct Shown {
-    pub verdict: Verdict,
+    pub outcome: Outcome,
     pub table: Option<Timetable>,
 }
 
-/// Begins the certificate under its name and checks it to its end. An error is the report of why it
-/// shows nothing.
+/// Begins the certificate, of any version, under its name and checks it to its end. An error is the
+/// report of why it shows nothing.
 pub(crate) fn read_shown<D: Desk>(
     alloc: Global,
     desk: &mut D,
@@ -33,12 +34,19 @@ pub(crate) fn read_shown<D: Desk>(
     ensures shown { ReadsShown flat.now cert.now (D.state desk.old) (D.state desk.new) result }
     ensures printed { IfErr result (λ report. CanPrint (report_seen report)) }
 {
-    let TabledCert { outcome, table } = match check_cert_table(alloc, desk, flat, cert) {
-        Ok(tabled) => tabled,
+    let VerifiedCert {
+        outcome,
+        bound,
+        table,
+    } = match verify_cert_table(alloc, desk, flat, cert) {
+        Ok(verified) => verified,
         Err(stop) => return Err(stopped_at(stop)),
     };
     match outcome {
-        CertOutcome::Shows(verdict) => Ok(Shown { verdict, table }),
+        CertOutcome::Shows(verdict) => Ok(Shown {
+            outcome: Outcome { verdict, bound },
+            table,
+        }),
         CertOutcome::Wrong { number, word, hint } => Err(Report::Refused { number, word, hint }),
         CertOutcome::TooLong => Err(Report::TooLong {
             feed: Feed::Certificate,
@@ -48,7 +56,7 @@ pub(crate) fn read_shown<D: Desk>(
 
 /// The report of a check that was cut off.
 fn stopped_at(stop: CertStop) -> Report<'static>
-    ensures value { report_seen result ≡ report_of_check by_number (Err stop) }
+    ensures value { report_seen result ≡ report_of_verified by_number (Err stop) }
     ensures printed { CanPrint (report_seen result) }
 {
     match stop {

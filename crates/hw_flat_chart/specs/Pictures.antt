@@ -3,13 +3,13 @@ use Rattle.std.specs.Prelude.{ℕ, ◌+◌, ◌*◌, List, [], ◌∷◌, ◌++�
 use Rattle.hw_model.specs.declared.rule.Rule.{Rule}
 use Rattle.hw_model.specs.Problem.{Problem, horizon}
 use Rattle.hw_model.specs.Rules.{busy}
-use Rattle.hw_lines.specs.declared.check.Verdict.{Verdict}
 use Rattle.hw_svg.specs.Joined.{joined}
 use Rattle.hw_svg.specs.Lettering.{line}
 use Rattle.hw_svg.specs.Shapes.{block}
 use Rattle.hw_svg.specs.Sheets.{list_of, svg_end}
 use Rattle.hw_chart.specs.declared.grid.Scale.TheVariants.{Slots}
 use Rattle.hw_chart.specs.declared.outcome.CargoUnit.TheVariants.{Plain}
+use Rattle.hw_chart.specs.declared.outcome.Outcome.{Outcome}
 use Rattle.hw_chart.specs.declared.panel.Panel.{Panel}
 use Rattle.hw_chart.specs.Grids.{grid, span_end}
 use Rattle.hw_chart.specs.Headings.{heading}
@@ -42,8 +42,8 @@ other_entries = joined (entry (codes "tu") 560 (codes "holds tugs") ∷ entry (c
 abbrev pub legend : List ℕ
 legend = sailing_entries ++ other_entries
 
-unfoldable pub head : Problem → Verdict → List ℕ
-head f verdict = heading Plain verdict (bottom f + 28) (sizes f) ++ legend
+unfoldable pub head : Problem → Outcome → List ℕ
+head f outcome = heading Plain outcome (bottom f + 28) (sizes f) ++ legend
 
 -- what the figures right of the rows are
 unfoldable pub columns : List ℕ
@@ -76,5 +76,5 @@ body f None = unplanned_body f
 body f (Some table) = planned_body f table
 
 -- the whole text: what a certificate shows, and the timetable, if there is one
-unfoldable pub flat_picture : Problem → Option (List ℕ) → Verdict → List ℕ
-flat_picture f table verdict = joined (head f verdict ∷ body f table ∷ foot f (span_of f table) ∷ [])
+unfoldable pub flat_picture : Problem → Option (List ℕ) → Outcome → List ℕ
+flat_picture f table outcome = joined (head f outcome ∷ body f table ∷ foot f (span_of f table) ∷ [])

@@ -12,10 +12,9 @@ use crate::panels::{put_planned_panels, put_unplanned_panels};
 use crate::plan::Plan;
 use crate::rows::{put_planned_rows, put_unplanned_rows};
 use crate::span::span;
-use hw_chart::{CargoUnit, Entry, Scale, put_grid, put_heading, put_legend, put_span_end};
+use hw_chart::{CargoUnit, Entry, Outcome, Scale, put_grid, put_heading, put_legend, put_span_end};
 use hw_desk::Writer;
 use hw_flat::Flat;
-use hw_lines::Verdict;
 use hw_svg::{Piece, put_group_end, put_line, put_list_begin, put_svg_end};
 
 /// Puts what the colours of sailings say.
@@ -103,8 +102,8 @@ fn bottom(flat: &Flat) -> u32
 
 /// Puts the head of the picture: what a certificate shows, the sizes of the problem, and what the colours say.
 #[tactic(auto, unfolding(crate::specs::Pictures::head, crate::specs::Pictures::sizes))]
-fn put_head<W: Writer>(out: &mut W, flat: &Flat, verdict: Verdict)
-    ensures { Puts (head flat.now verdict) (W.state out.old) (W.state out.new) }
+fn put_head<W: Writer>(out: &mut W, flat: &Flat, outcome: Outcome)
+    ensures { Puts (head flat.now outcome) (W.state out.old) (W.state out.new) }
 {
     let shape = flat.shape();
     let sizes = [
@@ -116,7 +115,7 @@ fn put_head<W: Writer>(out: &mut W, flat: &Flat, verdict: Verdict)
         Piece::Number(u64::from(shape.rules)),
     ];
     let height = u64::from(bottom(flat)) + 28;
-    put_heading(out, CargoUnit::Plain, verdict, height, &sizes);
+    put_heading(out, CargoUnit::Plain, outcome, height, &sizes);
     put_colours(out);
 }
 
@@ -180,11 +179,11 @@ fn put_foot<W: Writer>(out: &mut W, flat: &Flat, span: u32)
 /// It takes no memory. The timetable need not be permitted; where a ship has no value in its slot, the ship carries 0
 /// there and has no mark above the foot of its window.
 #[tactic(auto, unfolding(crate::specs::Pictures::flat_picture, crate::specs::Pictures::body, crate::specs::Fleets::span_of))]
-pub fn put_flat_picture<W: Writer>(out: &mut W, flat: &Flat, plan: Option<&Plan>, verdict: Verdict)
+pub fn put_flat_picture<W: Writer>(out: &mut W, flat: &Flat, plan: Option<&Plan>, outcome: Outcome)
     requires { IfSome plan (λ p. IsPlan flat.now p.now) }
-    ensures { Puts (flat_picture flat.now (option_map (λ p. p.now.table) plan.entry) verdict) (W.state out.old) (W.state out.new) }
+    ensures { Puts (flat_picture flat.now (option_map (λ p. p.now.table) plan.entry) outcome) (W.state out.old) (W.state out.new) }
 {
-    put_head(out, flat, verdict);
+    put_head(out, flat, outcome);
     match plan {
         None => {
             put_unplanned_body(out, flat);

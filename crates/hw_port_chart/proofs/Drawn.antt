@@ -1,12 +1,12 @@
 -- A picture is drawn over as many slots as it shows.
 use Rattle.std.proofs.Common.{◌≡◌, ℕ, List, Option, subst}
 use Rattle.hw_desk.specs.Writers.{WriterState, Puts}
-use Rattle.hw_lines.specs.declared.check.Verdict.{Verdict}
+use Rattle.hw_chart.specs.declared.outcome.Outcome.{Outcome}
 use Rattle.hw_port.specs.Whole.{Parts}
 use Rattle.hw_tide.specs.Levels.{TideParts}
 use Rattle.hw_port_chart.specs.Pictures.{picture_of, port_picture}
 use Rattle.hw_port_chart.specs.Spans.{span_of}
 
-pub drawn : (p : Parts) (h : TideParts) (table : Option (List ℕ)) (verdict : Verdict) (span : ℕ) (x y : WriterState) → span ≡ span_of p table → Puts (picture_of (record { port = p; tide = h; table = table; span = span }) verdict) x y → Puts (port_picture p h table verdict) x y
+pub drawn : (p : Parts) (h : TideParts) (table : Option (List ℕ)) (outcome : Outcome) (span : ℕ) (x y : WriterState) → span ≡ span_of p table → Puts (picture_of (record { port = p; tide = h; table = table; span = span }) outcome) x y → Puts (port_picture p h table outcome) x y
 unfolding port_picture
-drawn p h table verdict span x y e drawing = subst (λ n. Puts (picture_of (record { port = p; tide = h; table = table; span = n }) verdict) x y) e drawing
+drawn p h table outcome span x y e drawing = subst (λ n. Puts (picture_of (record { port = p; tide = h; table = table; span = n }) outcome) x y) e drawing

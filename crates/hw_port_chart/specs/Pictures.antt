@@ -1,6 +1,5 @@
 -- The whole picture of a port's plan.
 use Rattle.std.specs.Prelude.{ℕ, ◌+◌, Option, List, [], ◌∷◌, ◌++◌}
-use Rattle.hw_lines.specs.declared.check.Verdict.{Verdict}
 use Rattle.hw_svg.specs.Joined.{joined}
 use Rattle.hw_svg.specs.Sheets.{svg_end}
 use Rattle.hw_port.specs.Whole.{Parts}
@@ -8,6 +7,7 @@ use Rattle.hw_tide.specs.Levels.{TideParts}
 use Rattle.hw_port_rules.specs.Numbers.{whole, horizon_of}
 use Rattle.hw_chart.specs.declared.grid.Scale.TheVariants.{Minutes}
 use Rattle.hw_chart.specs.declared.outcome.CargoUnit.TheVariants.{Tonnes}
+use Rattle.hw_chart.specs.declared.outcome.Outcome.{Outcome}
 use Rattle.hw_chart.specs.Grids.{grid, span_end}
 use Rattle.hw_chart.specs.Headings.{heading}
 use Rattle.hw_port_chart.specs.Charts.{ChartParts}
@@ -19,8 +19,8 @@ use Rattle.hw_port_chart.specs.Lanes.{lanes_from}
 use Rattle.hw_port_chart.specs.Fleets.{fleet_panel}
 
 -- what was proved, the sizes of the port, and what the colours say
-abbrev pub head : ChartParts → Verdict → List ℕ
-head chart verdict = heading Tonnes verdict ((places chart.port).bottom + 28) (sizes chart.port) ++ legend
+abbrev pub head : ChartParts → Outcome → List ℕ
+head chart outcome = heading Tonnes outcome ((places chart.port).bottom + 28) (sizes chart.port) ++ legend
 
 -- the tides, the ships, the sections and the tugs, one below another
 abbrev pub panels : ChartParts → List ℕ
@@ -42,12 +42,12 @@ horizon_line chart = span_end (horizon_of chart.port) chart.span (bottom chart)
 abbrev pub foot : ChartParts → List ℕ
 foot chart = joined (times chart ∷ horizon_line chart ∷ svg_end ∷ [])
 
-unfoldable pub picture_of : ChartParts → Verdict → List ℕ
-picture_of chart verdict = joined (head chart verdict ∷ panels chart ∷ foot chart ∷ [])
+unfoldable pub picture_of : ChartParts → Outcome → List ℕ
+picture_of chart outcome = joined (head chart outcome ∷ panels chart ∷ foot chart ∷ [])
 
 abbrev pub chart_of : Parts → TideParts → Option (List ℕ) → ChartParts
 chart_of p h table = record { port = p; tide = h; table = table; span = span_of p table }
 
 -- the picture of a port with its tide, a timetable or none, and what a certificate proves
-unfoldable pub port_picture : Parts → TideParts → Option (List ℕ) → Verdict → List ℕ
-port_picture p h table verdict = picture_of (chart_of p h table) verdict
+unfoldable pub port_picture : Parts → TideParts → Option (List ℕ) → Outcome → List ℕ
+port_picture p h table outcome = picture_of (chart_of p h table) outcome

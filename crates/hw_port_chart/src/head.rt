@@ -10,9 +10,8 @@ ghost use Rattle.hw_port_chart.specs.Pictures.{head};
 use crate::chart::Chart;
 use crate::numbers::natural;
 use crate::places::places_of;
-use hw_chart::{CargoUnit, Entry, put_heading, put_legend};
+use hw_chart::{CargoUnit, Entry, Outcome, put_heading, put_legend};
 use hw_desk::Writer;
-use hw_lines::Verdict;
 use hw_port::PortParts;
 use hw_svg::{Piece, put_line};
 
@@ -130,12 +129,12 @@ fn sizes(parts: &PortParts) -> [Piece<'static>; 8]
 }
 
 /// Puts the head of a picture: what was proved, the sizes of the port, and what the colours say.
-pub fn put_head<W: Writer>(out: &mut W, chart: &Chart, verdict: Verdict)
-    ensures { Puts (head chart.now verdict) (W.state out.old) (W.state out.new) }
+pub fn put_head<W: Writer>(out: &mut W, chart: &Chart, outcome: Outcome)
+    ensures { Puts (head chart.now outcome) (W.state out.old) (W.state out.new) }
 {
     let parts = chart.parts();
     let height = u64::from(places_of(parts).bottom) + 28;
-    put_heading(out, CargoUnit::Tonnes, verdict, height, &sizes(parts));
+    put_heading(out, CargoUnit::Tonnes, outcome, height, &sizes(parts));
     put_all_entries(out);
 }
 

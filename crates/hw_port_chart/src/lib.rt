@@ -1,7 +1,7 @@
 //! The picture of a port's plan as SVG: the tide at each waypoint, a row for each ship, the one-way sections, and the tugs
 //! against the fleet, with what a certificate proves as the title.
 //!
-//! The picture is a function of a port, its tide, a timetable or none, and a verdict, and what a writer is given is that
+//! The picture is a function of a port, its tide, a timetable or none, and an outcome, and what a writer is given is that
 //! text. It is in the words of the port's own rules, so what it shows are drafts, values and moves by these.
 #![tactic(auto)]
 

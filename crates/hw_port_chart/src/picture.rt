@@ -14,10 +14,9 @@ use crate::places::places_of;
 use crate::row::put_ships;
 use crate::span::span;
 use crate::strip::put_strips;
-use hw_chart::{Scale, put_grid, put_span_end};
+use hw_chart::{Outcome, Scale, put_grid, put_span_end};
 use hw_desk::Writer;
 use hw_flat_chart::Plan;
-use hw_lines::Verdict;
 use hw_port::Port;
 use hw_svg::put_svg_end;
 use hw_tide::Tide;
@@ -79,10 +78,10 @@ fn put_foot<W: Writer>(out: &mut W, chart: &Chart)
 }
 
 /// Puts a picture.
-fn put_picture<W: Writer>(out: &mut W, chart: &Chart, verdict: Verdict)
-    ensures { Puts (picture_of chart.now verdict) (W.state out.old) (W.state out.new) }
+fn put_picture<W: Writer>(out: &mut W, chart: &Chart, outcome: Outcome)
+    ensures { Puts (picture_of chart.now outcome) (W.state out.old) (W.state out.new) }
 {
-    put_head(out, chart, verdict);
+    put_head(out, chart, outcome);
     put_panels(out, chart);
     put_foot(out, chart);
 }
@@ -90,17 +89,17 @@ fn put_picture<W: Writer>(out: &mut W, chart: &Chart, verdict: Verdict)
 /// Puts the picture of a port with its tide, a timetable of its flat problem or none, and what a certificate proves.
 ///
 /// The picture is one SVG, below 1,600,000 bytes, each a line feed or from the space to the tilde. The timetable need not
-/// be permitted, nor the verdict be true of it: what is printed is the picture of these. It takes no memory.
+/// be permitted, nor the outcome be true of it: what is printed is the picture of these. It takes no memory.
 pub fn put_port_picture<W: Writer>(
     out: &mut W,
     port: &Port,
     tide: &Tide,
     plan: Option<&Plan>,
-    verdict: Verdict,
+    outcome: Outcome,
 )
     requires columns { tide.now.columns ≡ length port.now.waypoints }
     requires moves { HasMoves port.now tide.now (option_map (λ plan. plan.now) plan) }
-    ensures { Puts (port_picture port.now tide.now (option_map (λ plan. plan.now.table) plan.entry) verdict) (W.state out.old) (W.state out.new) }
+    ensures { Puts (port_picture port.now tide.now (option_map (λ plan. plan.now.table) plan.entry) outcome) (W.state out.old) (W.state out.new) }
 {
     let _kept = port.parts();
     let chart = Chart {
@@ -109,5 +108,5 @@ pub fn put_port_picture<W: Writer>(
         plan,
         span: span(port, plan),
     };
-    put_picture(out, &chart, verdict);
+    put_picture(out, &chart, outcome);
 }

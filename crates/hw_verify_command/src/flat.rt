@@ -4,7 +4,7 @@ ghost use Rattle.hw_desk.specs.State.{IsNew};
 ghost use Rattle.hw_command.specs.Carries.{Carries};
 ghost use Rattle.hw_verify_command.specs.VerifyFlat.{verify_flat_task};
 
-use crate::verified::{verified_report, verify_cert};
+use crate::verified::{verified_report, verify_cert_table};
 use hw_command::{Status, finish, read_flat};
 use hw_desk::Desk;
 use hw_report::Names;
@@ -19,6 +19,6 @@ pub fn verify_flat<D: Desk>(alloc: Global, desk: &mut D, name: &str, cert: &str)
         Ok(flat) => flat,
         Err(report) => return finish(desk, &report),
     };
-    let verified = verify_cert(alloc, desk, &flat, cert);
+    let verified = verify_cert_table(alloc, desk, &flat, cert);
     finish(desk, &verified_report(verified, Names::Flat))
 }

@@ -9,3 +9,4 @@ mod verified;
 
 pub use flat::verify_flat;
 pub use port::verify_port;
+pub use verified::{VerifiedCert, verify_cert_table};

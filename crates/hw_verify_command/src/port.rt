@@ -4,7 +4,7 @@ ghost use Rattle.hw_desk.specs.State.{IsNew};
 ghost use Rattle.hw_command.specs.Carries.{Carries};
 ghost use Rattle.hw_verify_command.specs.VerifyPort.{verify_port_task};
 
-use crate::verified::{verified_report, verify_cert};
+use crate::verified::{verified_report, verify_cert_table};
 use hw_command::{PortNames, Status, finish, read_port_problem};
 use hw_desk::Desk;
 use hw_report::Names;
@@ -20,7 +20,7 @@ pub fn verify_port<D: Desk>(alloc: Global, desk: &mut D, port: PortNames, cert: 
         Ok(problem) => problem,
         Err(report) => return finish(desk, &report),
     };
-    let verified = verify_cert(alloc, desk, &problem.flat, cert);
+    let verified = verify_cert_table(alloc, desk, &problem.flat, cert);
     let names = Names::Port {
         port: &problem.port,
         tide: &problem.tide,

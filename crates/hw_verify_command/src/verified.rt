@@ -1,32 +1,34 @@
-//! A certificate of any version that is checked for its verdict and its bound.
+//! A certificate of any version that is checked for its verdict, its bound and its last timetable.
 
 ghost use Rattle.std.specs.Prelude.{◌≡◌, [], ℕ, List, false};
 ghost use Rattle.hw_check.specs.Follows.{Follows};
 ghost use Rattle.hw_desk.specs.Calls.{Moves};
+ghost use Rattle.hw_lines.specs.Lines.{table_after};
 ghost use Rattle.hw_report.specs.Printing.{CanPrint};
 ghost use Rattle.hw_report.specs.Seen.{names_seen, report_seen};
 ghost use Rattle.hw_command.specs.Checking.{IsReady};
 ghost use Rattle.hw_verify_command.specs.Verifying.{VerifiesCert, VerifiesRest, report_of_verified, report_with};
 
-use hw_cert::{LineReader, Version};
+use hw_cert::{Line, LineReader, Version};
 use hw_check::Checker;
 use hw_command::{CertOutcome, CertStep, CertStop, OpenCert, check_line, open_cert_to};
 use hw_desk::{Desk, Feed};
-use hw_flat::Flat;
+use hw_flat::{Flat, Timetable};
 use hw_report::{Names, Report};
 use std::alloc::Global;
 
-/// The outcome of a certificate, and the bound of its last bound line, in tenths of a tonne, if it has
-/// one.
-#[derive(Clone, Copy)]
-pub(crate) struct VerifiedCert {
+/// The outcome of a certificate, the bound of its last bound line, in tenths of a tonne, if it has one,
+/// and the timetable of its last table line, if it has one.
+#[derive(Drop)]
+pub struct VerifiedCert {
     pub outcome: CertOutcome,
     pub bound: Option<u64>,
+    pub table: Option<Timetable>,
 }
 
 /// Begins a certificate of any version under its name and checks it to its end or up to the first wrong
-/// line.
-pub(crate) fn verify_cert<D: Desk>(
+/// line, with the last bound and the last timetable kept. Of the lines it keeps no other.
+pub fn verify_cert_table<D: Desk>(
     alloc: Global,
     desk: &mut D,
     flat: &Flat,
@@ -41,6 +43,16 @@ pub(crate) fn verify_cert<D: Desk>(
     }
 }
 
+/// The last timetable after one more line.
+fn table_behind(last: Option<Timetable>, line: Line) -> Option<Timetable>
+    ensures { result ≡ table_after last line }
+{
+    match line {
+        Line::Table(table) => Some(table),
+        _ => last,
+    }
+}
+
 /// Takes the lines that are left, each at least one byte of at most 2^40.
 fn verify_lines<D: Desk>(
     desk: &mut D,
@@ -52,6 +64,7 @@ fn verify_lines<D: Desk>(
     ensures moved { (bytes : List ℕ) × Moves Feed.Certificate bytes (D.state desk.old) (D.state desk.new) }
     ensures verifies { VerifiesRest reader checker.entry (D.state desk.old) (D.state desk.new) result }
 {
+    let mut table = None;
     'steps: loop {
         let bound = checker.bound();
         match check_line(desk, reader, checker) {
@@ -60,11 +73,17 @@ fn verify_lines<D: Desk>(
                 checker: followed,
                 line,
             } => {
-                std::mem::drop(line);
+                table = table_behind(table, line);
                 reader = behind;
                 checker = followed;
             }
-            CertStep::Ended(Ok(outcome)) => return Ok(VerifiedCert { outcome, bound }),
+            CertStep::Ended(Ok(outcome)) => {
+                return Ok(VerifiedCert {
+                    outcome,
+                    bound,
+                    table,
+                });
+            }
             CertStep::Ended(Err(stop)) => return Err(stop),
         }
     }

@@ -16,4 +16,4 @@ invariant_of-chart g c = (
 )
 
 pub returns : goal.returns
-returns g c = drawn c.args.port.now c.args.tide.now (option_map (λ plan. plan.now.table) c.args.plan) c.args.verdict c.span.result _ _ c.span.ensures.value c.put_picture.ensures
+returns g c = drawn c.args.port.now c.args.tide.now (option_map (λ plan. plan.now.table) c.args.plan) c.args.outcome c.span.result _ _ c.span.ensures.value c.put_picture.ensures
