@@ -13,6 +13,7 @@ mod Answered
 mod OwnStatus
 mod OneClash
 mod OneChart
+mod CheckedChart
 mod OwnedClash
 mod Verified
 mod OwnProof

@@ -25,7 +25,7 @@ mod verify_laws;
 mod words;
 
 pub use calm::run_calm;
-pub use chart_laws::{charts_as_checked, one_chart};
+pub use chart_laws::{charts_as_checked, charts_as_verified, one_chart};
 pub use clash_laws::{one_clash_report, own_clash};
 pub use form::{FORMS, Form};
 pub use hw_command::Status;

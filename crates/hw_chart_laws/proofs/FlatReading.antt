@@ -3,12 +3,12 @@ use Rattle.std.proofs.Common.{◌≡◌, ◌<◌, ◌≤◌, ◌+◌, ◌-◌, �
 use Rattle.std.proofs.lemmas.Bool.{cases_eq, cases_lt, lt-ltb, le-ltb}
 use Rattle.std.proofs.lemmas.List.{append_cancel_left}
 use Rattle.std.proofs.lemmas.List.Elements.{All-get_or}
-use Rattle.hw_lines.specs.declared.check.Verdict.{Verdict}
 use Rattle.hw_model.specs.Problem.{IsTimetable, Problem, horizon}
 use Rattle.hw_svg.specs.Sheets.{group_end, list_begin, picture_begin, title_end}
 use Rattle.hw_chart.specs.declared.course.Course.{Course}
 use Rattle.hw_chart.specs.declared.course.Course.TheVariants.{Unplanned, Stays, Sails}
 use Rattle.hw_chart.specs.declared.outcome.CargoUnit.TheVariants.{Plain as PlainUnit}
+use Rattle.hw_chart.specs.declared.outcome.Outcome.{Outcome}
 use Rattle.hw_chart.specs.Courses.{SailsBefore, course_of}
 use Rattle.hw_chart.specs.Headings.{ground, heading_lines, style}
 use Rattle.hw_chart.specs.Outcomes.{badge, title_text}
@@ -20,7 +20,8 @@ use Rattle.hw_chart_laws.proofs.Calm.{Still, both, calm_writing, cut, spelled}
 use Rattle.hw_chart_laws.proofs.FlatParts.{of_columns, of_legend, of_planned_rest, spelled_sizes}
 use Rattle.hw_chart_laws.proofs.FlatTrees.{flat_title, planned_is, planned_rest, spelled_title}
 use Rattle.hw_chart_laws.proofs.Reading.{after_both, all_same, item_text, list_back, number_back, stepped}
-use Rattle.hw_chart_laws.proofs.Shared.{head_lines, of_badge, of_ground, plain_title}
+use Rattle.hw_chart_laws.proofs.Shared.{head_lines, of_badge, of_ground}
+use Rattle.hw_chart_laws.proofs.Titles.{plain_title}
 use Rattle.hw_chart_laws.proofs.Whole.{still_begin, still_style}
 
 -- a course is read back from its text
@@ -72,8 +73,8 @@ abbrev panels_of : Problem → List ℕ → List ℕ
 panels_of f table = planned_panels f table (span_of f (Some table)) (panels_y f) (fleets f)
 
 -- what stands before the list of rows, and what after it
-abbrev before_rows : Problem → Verdict → List ℕ
-before_rows f verdict = picture_begin 1280 (bottom f + 28) (title_text PlainUnit verdict) ++ (style ++ (ground (bottom f + 28) ++ (badge verdict ++ (heading_lines PlainUnit verdict (sizes f) ++ (legend ++ columns)))))
+abbrev before_rows : Problem → Outcome → List ℕ
+before_rows f outcome = picture_begin 1280 (bottom f + 28) (title_text PlainUnit outcome) ++ (style ++ (ground (bottom f + 28) ++ (badge outcome.verdict ++ (heading_lines PlainUnit outcome (sizes f) ++ (legend ++ columns)))))
 
 abbrev after_rows : Problem → List ℕ → List ℕ
 after_rows f table = group_end ++ (panels_of f table ++ foot f (span_of f (Some table)))
@@ -81,13 +82,13 @@ after_rows f table = group_end ++ (panels_of f table ++ foot f (span_of f (Some 
 parts : (pb st gr ba hl lg co lb rs ge pa ft : List ℕ) → ((pb ++ (st ++ (gr ++ (ba ++ (hl ++ []))))) ++ lg) ++ ((co ++ ((lb ++ (rs ++ (ge ++ []))) ++ (pa ++ []))) ++ (ft ++ [])) ≡ (pb ++ (st ++ (gr ++ (ba ++ (hl ++ (lg ++ co)))))) ++ (lb ++ (rs ++ (ge ++ (pa ++ ft))))
 parts pb st gr ba hl lg co lb rs ge pa ft = simp (append_assoc, append-nil)
 
-by_rows : (f : Problem) (table : List ℕ) (verdict : Verdict) → flat_picture f (Some table) verdict ≡ before_rows f verdict ++ (list_begin ++ (planned_rows f table 0 f.ships ++ after_rows f table))
+by_rows : (f : Problem) (table : List ℕ) (outcome : Outcome) → flat_picture f (Some table) outcome ≡ before_rows f outcome ++ (list_begin ++ (planned_rows f table 0 f.ships ++ after_rows f table))
 unfolding flat_picture head body planned_body
-by_rows f table verdict = parts (picture_begin 1280 (bottom f + 28) (title_text PlainUnit verdict)) style (ground (bottom f + 28)) (badge verdict) (heading_lines PlainUnit verdict (sizes f)) legend columns list_begin (planned_rows f table 0 f.ships) group_end (panels_of f table) (foot f (span_of f (Some table)))
+by_rows f table outcome = parts (picture_begin 1280 (bottom f + 28) (title_text PlainUnit outcome)) style (ground (bottom f + 28)) (badge outcome.verdict) (heading_lines PlainUnit outcome (sizes f)) legend columns list_begin (planned_rows f table 0 f.ships) group_end (panels_of f table) (foot f (span_of f (Some table)))
 
-still_before : (f : Problem) (verdict : Verdict) → Still (before_rows f verdict)
-still_before f verdict =
-    both (still_begin 1280 (bottom f + 28) (plain_title PlainUnit verdict)) (both still_style (both (of_ground calm_writing {a = []} (bottom f + 28)).still (both (of_badge calm_writing {a = []} verdict).still (both (head_lines calm_writing {a = []} PlainUnit verdict (spelled_sizes f)).still (both (of_legend calm_writing {a = []}).still (of_columns calm_writing {a = []}).still)))))
+still_before : (f : Problem) (outcome : Outcome) → Still (before_rows f outcome)
+still_before f outcome =
+    both (still_begin 1280 (bottom f + 28) (plain_title PlainUnit outcome)) (both still_style (both (of_ground calm_writing {a = []} (bottom f + 28)).still (both (of_badge calm_writing {a = []} outcome.verdict).still (both (head_lines calm_writing {a = []} PlainUnit outcome (spelled_sizes f)).still (both (of_legend calm_writing {a = []}).still (of_columns calm_writing {a = []}).still)))))
 
 -- two slots of which a ship's course is the same
 pub slots_same : (slots x y : ℕ) → x ≤ slots → y ≤ slots → course_of (Some x) slots ≡ course_of (Some y) slots → x ≡ y
@@ -109,9 +110,9 @@ below false slots x lt = omega (arith, lt)
 slot_most : (f : Problem) (table : List ℕ) → IsTimetable f table → (k : ℕ) → k < length table → slice_index table k ≤ horizon f
 slot_most f table listed k lt = below f.stay f.slots (slice_index table k) (All-get_or (λ slot. slot < f.slots) table k 0 lt listed.each_slot)
 
-pub flat_back : (f : Problem) (table other : List ℕ) (verdict later : Verdict) → horizon f < 2 ^ 64 → IsTimetable f table → IsTimetable f other → flat_picture f (Some table) verdict ≡ flat_picture f (Some other) later → table ≡ other
-flat_back f table other verdict later small listed given e =
-    let lists = list_back (before_rows f verdict) (before_rows f later) (planned_rows f table 0 f.ships) (after_rows f table) (planned_rows f other 0 f.ships) (after_rows f other) (still_before f verdict) (still_before f later) (sym (by_rows f table verdict) ∙ e ∙ by_rows f other later) in
+pub flat_back : (f : Problem) (table other : List ℕ) (outcome later : Outcome) → horizon f < 2 ^ 64 → IsTimetable f table → IsTimetable f other → flat_picture f (Some table) outcome ≡ flat_picture f (Some other) later → table ≡ other
+flat_back f table other outcome later small listed given e =
+    let lists = list_back (before_rows f outcome) (before_rows f later) (planned_rows f table 0 f.ships) (after_rows f table) (planned_rows f other 0 f.ships) (after_rows f other) (still_before f outcome) (still_before f later) (sym (by_rows f table outcome) ∙ e ∙ by_rows f other later) in
     all_same table other (listed.each_ship ∙ sym given.each_ship) (λ k lt.
     let inside : k < 0 + f.ships = omega (arith, lt, listed.each_ship) in
     slots_same (horizon f) (slice_index table k) (slice_index other k) (slot_most f table listed k lt) (slot_most f other given k (omega (arith, lt, listed.each_ship, given.each_ship))) (rows_back f table other small 0 f.ships (after_rows f table) (after_rows f other) (ap cut lists) k (omega arith) inside))

@@ -1,10 +1,10 @@
 -- The picture of a flat problem is one element of trees.
 use Rattle.std.proofs.Common.{◌≡◌, ◌++◌, ◌+◌, ℕ, zero, suc, Option, Some, None, List, [], ◌∷◌, codes, decimal, refl, sym, subst, append_assoc, append-nil}
-use Rattle.hw_lines.specs.declared.check.Verdict.{Verdict}
 use Rattle.hw_model.specs.Problem.{Problem, horizon}
 use Rattle.hw_svg.specs.Sheets.{group_end, item_begin, list_of, picture, picture_begin, svg_end, title_end}
 use Rattle.hw_chart.specs.declared.grid.Scale.TheVariants.{Slots}
 use Rattle.hw_chart.specs.declared.outcome.CargoUnit.TheVariants.{Plain as PlainUnit}
+use Rattle.hw_chart.specs.declared.outcome.Outcome.{Outcome}
 use Rattle.hw_chart.specs.Grids.{grid, span_end}
 use Rattle.hw_chart.specs.Headings.{ground, heading_lines, style}
 use Rattle.hw_chart.specs.Layout.{stripe}
@@ -20,7 +20,8 @@ use Rattle.hw_chart_laws.proofs.Elements.{leads_item, leads_list, tree_writing}
 use Rattle.hw_chart_laws.proofs.FlatParts.{of_columns, of_legend, of_planned_panels, of_planned_rest, of_unplanned_panels, of_unplanned_rest, spelled_course, spelled_sizes}
 use Rattle.hw_chart_laws.proofs.Open.{Leads, likewise, onward, unmoved}
 use Rattle.hw_chart_laws.proofs.Reading.{item_text}
-use Rattle.hw_chart_laws.proofs.Shared.{head_lines, of_badge, of_grid, of_ground, of_span_end, plain_title}
+use Rattle.hw_chart_laws.proofs.Shared.{head_lines, of_badge, of_grid, of_ground, of_span_end}
+use Rattle.hw_chart_laws.proofs.Titles.{plain_title}
 use Rattle.hw_chart_laws.proofs.Spelled.{Spelled, also, fixed, of_number}
 use Rattle.hw_chart_laws.proofs.Whole.{one_picture}
 use Rattle.hw_chart_laws.proofs.Writing.{Tags, group}
@@ -76,17 +77,17 @@ lead_body f (Some table) = onward (of_columns tree_writing) (onward (lead_list (
 pub arranged : (pb st gr ba hl lg bd gd se en : List ℕ) → ((pb ++ (st ++ (gr ++ (ba ++ (hl ++ []))))) ++ lg) ++ (bd ++ ((gd ++ (se ++ (en ++ []))) ++ [])) ≡ pb ++ ((st ++ (gr ++ (ba ++ (hl ++ (lg ++ (bd ++ (gd ++ se))))))) ++ (en ++ []))
 arranged pb st gr ba hl lg bd gd se en = simp (append_assoc, append-nil)
 
-abbrev middle : Problem → Option (List ℕ) → Verdict → List ℕ
-middle f table verdict = ground (bottom f + 28) ++ (badge verdict ++ (heading_lines PlainUnit verdict (sizes f) ++ (legend ++ (body f table ++ (grid Slots (span_of f table) (bottom f) ++ span_end (horizon f) (span_of f table) (bottom f))))))
+abbrev middle : Problem → Option (List ℕ) → Outcome → List ℕ
+middle f table outcome = ground (bottom f + 28) ++ (badge outcome.verdict ++ (heading_lines PlainUnit outcome (sizes f) ++ (legend ++ (body f table ++ (grid Slots (span_of f table) (bottom f) ++ span_end (horizon f) (span_of f table) (bottom f))))))
 
-flat_is : (f : Problem) (table : Option (List ℕ)) (verdict : Verdict) → flat_picture f table verdict ≡ picture 1280 (bottom f + 28) (title_text PlainUnit verdict) (style ++ middle f table verdict)
+flat_is : (f : Problem) (table : Option (List ℕ)) (outcome : Outcome) → flat_picture f table outcome ≡ picture 1280 (bottom f + 28) (title_text PlainUnit outcome) (style ++ middle f table outcome)
 unfolding flat_picture head foot
-flat_is f table verdict = arranged (picture_begin 1280 (bottom f + 28) (title_text PlainUnit verdict)) style (ground (bottom f + 28)) (badge verdict) (heading_lines PlainUnit verdict (sizes f)) legend (body f table) (grid Slots (span_of f table) (bottom f)) (span_end (horizon f) (span_of f table) (bottom f)) svg_end
+flat_is f table outcome = arranged (picture_begin 1280 (bottom f + 28) (title_text PlainUnit outcome)) style (ground (bottom f + 28)) (badge outcome.verdict) (heading_lines PlainUnit outcome (sizes f)) legend (body f table) (grid Slots (span_of f table) (bottom f)) (span_end (horizon f) (span_of f table) (bottom f)) svg_end
 
-lead_middle : (f : Problem) (table : Option (List ℕ)) (verdict : Verdict) → Leads [] (middle f table verdict) []
-lead_middle f table verdict =
-    onward (of_ground tree_writing (bottom f + 28)) (onward (of_badge tree_writing verdict) (onward (head_lines tree_writing PlainUnit verdict (spelled_sizes f)) (onward (of_legend tree_writing) (onward (lead_body f table) (onward (of_grid tree_writing Slots (span_of f table) (bottom f)) (of_span_end tree_writing (horizon f) (span_of f table) (bottom f)))))))
+lead_middle : (f : Problem) (table : Option (List ℕ)) (outcome : Outcome) → Leads [] (middle f table outcome) []
+lead_middle f table outcome =
+    onward (of_ground tree_writing (bottom f + 28)) (onward (of_badge tree_writing outcome.verdict) (onward (head_lines tree_writing PlainUnit outcome (spelled_sizes f)) (onward (of_legend tree_writing) (onward (lead_body f table) (onward (of_grid tree_writing Slots (span_of f table) (bottom f)) (of_span_end tree_writing (horizon f) (span_of f table) (bottom f)))))))
 
-pub flat_trees : (f : Problem) (table : Option (List ℕ)) (verdict : Verdict) → IsPicture (flat_picture f table verdict)
-flat_trees f table verdict =
-    subst IsPicture (sym (flat_is f table verdict)) (one_picture 1280 (bottom f + 28) (title_text PlainUnit verdict) (middle f table verdict) (plain_title PlainUnit verdict) (lead_middle f table verdict))
+pub flat_trees : (f : Problem) (table : Option (List ℕ)) (outcome : Outcome) → IsPicture (flat_picture f table outcome)
+flat_trees f table outcome =
+    subst IsPicture (sym (flat_is f table outcome)) (one_picture 1280 (bottom f + 28) (title_text PlainUnit outcome) (middle f table outcome) (plain_title PlainUnit outcome) (lead_middle f table outcome))

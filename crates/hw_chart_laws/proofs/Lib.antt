@@ -1,4 +1,5 @@
 pub mod Plain
+pub mod Titles
 pub mod Spelled
 pub mod Writing
 pub mod Open

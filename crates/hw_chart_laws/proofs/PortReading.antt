@@ -3,7 +3,6 @@ use Rattle.std.proofs.Common.{◌≡◌, ◌⊎◌, ◌<◌, ◌≤◌, ◌+◌,
 use Rattle.std.proofs.lemmas.Bool.{cases_eq}
 use Rattle.std.proofs.lemmas.List.Elements.{All-get_or}
 use Rattle.std.proofs.lemmas.Option.{slice_get-get_or}
-use Rattle.hw_lines.specs.declared.check.Verdict.{Verdict}
 use Rattle.hw_port.specs.Parts.{ShipParts}
 use Rattle.hw_port.specs.Whole.{Parts}
 use Rattle.hw_tide.specs.Levels.{TideParts}
@@ -11,6 +10,7 @@ use Rattle.hw_port_rules.specs.Numbers.{horizon_of, some_may_stay}
 use Rattle.hw_port_rules.specs.Timetables.{IsPortTimetable}
 use Rattle.hw_svg.specs.Sheets.{group_end, list_begin, picture_begin}
 use Rattle.hw_chart.specs.declared.outcome.CargoUnit.TheVariants.{Tonnes}
+use Rattle.hw_chart.specs.declared.outcome.Outcome.{Outcome}
 use Rattle.hw_chart.specs.Courses.{SailsBefore, course_of}
 use Rattle.hw_chart.specs.Headings.{ground, heading_lines, style}
 use Rattle.hw_chart.specs.Outcomes.{badge, title_text}
@@ -30,7 +30,8 @@ use Rattle.hw_chart_laws.proofs.PortRows.{of_row_rest}
 use Rattle.hw_chart_laws.proofs.PortTexts.{spelled_row, spelled_sizes}
 use Rattle.hw_chart_laws.proofs.PortTrees.{port_rest, port_title, ranked_is}
 use Rattle.hw_chart_laws.proofs.Reading.{after_both, all_same, item_text, list_back, stepped}
-use Rattle.hw_chart_laws.proofs.Shared.{head_lines, of_badge, of_ground, plain_title}
+use Rattle.hw_chart_laws.proofs.Shared.{head_lines, of_badge, of_ground}
+use Rattle.hw_chart_laws.proofs.Titles.{plain_title}
 use Rattle.hw_chart_laws.proofs.Whole.{still_begin, still_style}
 
 -- courses of a chart that are small numbers
@@ -56,8 +57,8 @@ abbrev height_of : ChartParts → ℕ
 height_of chart = (places chart.port).bottom + 28
 
 -- what stands before the list of ships, and what after it
-abbrev before_ships : ChartParts → Verdict → List ℕ
-before_ships chart verdict = picture_begin 1280 (height_of chart) (title_text Tonnes verdict) ++ (style ++ (ground (height_of chart) ++ (badge verdict ++ (heading_lines Tonnes verdict (sizes chart.port) ++ (legend ++ (strips chart ++ columns_where chart.table ((places chart.port).rows)))))))
+abbrev before_ships : ChartParts → Outcome → List ℕ
+before_ships chart outcome = picture_begin 1280 (height_of chart) (title_text Tonnes outcome) ++ (style ++ (ground (height_of chart) ++ (badge outcome.verdict ++ (heading_lines Tonnes outcome (sizes chart.port) ++ (legend ++ (strips chart ++ columns_where chart.table ((places chart.port).rows)))))))
 
 abbrev after_ships : ChartParts → List ℕ
 after_ships chart = group_end ++ (lanes_from chart 0 chart.port.sections ++ (fleet_panel chart chart.table ++ foot chart))
@@ -65,13 +66,13 @@ after_ships chart = group_end ++ (lanes_from chart 0 chart.port.sections ++ (fle
 parts : (pb st gr ba hl lg sr co lb rs ge la fl ft : List ℕ) → ((pb ++ (st ++ (gr ++ (ba ++ (hl ++ []))))) ++ lg) ++ ((sr ++ (co ++ ((lb ++ (rs ++ (ge ++ []))) ++ (la ++ (fl ++ []))))) ++ (ft ++ [])) ≡ (pb ++ (st ++ (gr ++ (ba ++ (hl ++ (lg ++ (sr ++ co))))))) ++ (lb ++ (rs ++ (ge ++ (la ++ (fl ++ ft)))))
 parts pb st gr ba hl lg sr co lb rs ge la fl ft = simp (append_assoc, append-nil)
 
-by_ships : (chart : ChartParts) (verdict : Verdict) → picture_of chart verdict ≡ before_ships chart verdict ++ (list_begin ++ (rows_from chart 0 chart.port.ships ++ after_ships chart))
+by_ships : (chart : ChartParts) (outcome : Outcome) → picture_of chart outcome ≡ before_ships chart outcome ++ (list_begin ++ (rows_from chart 0 chart.port.ships ++ after_ships chart))
 unfolding picture_of
-by_ships chart verdict = parts (picture_begin 1280 (height_of chart) (title_text Tonnes verdict)) style (ground (height_of chart)) (badge verdict) (heading_lines Tonnes verdict (sizes chart.port)) legend (strips chart) (columns_where chart.table ((places chart.port).rows)) list_begin (rows_from chart 0 chart.port.ships) group_end (lanes_from chart 0 chart.port.sections) (fleet_panel chart chart.table) (foot chart)
+by_ships chart outcome = parts (picture_begin 1280 (height_of chart) (title_text Tonnes outcome)) style (ground (height_of chart)) (badge outcome.verdict) (heading_lines Tonnes outcome (sizes chart.port)) legend (strips chart) (columns_where chart.table ((places chart.port).rows)) list_begin (rows_from chart 0 chart.port.ships) group_end (lanes_from chart 0 chart.port.sections) (fleet_panel chart chart.table) (foot chart)
 
-still_before : (chart : ChartParts) (verdict : Verdict) → Still (before_ships chart verdict)
-still_before chart verdict =
-    both (still_begin 1280 (height_of chart) (plain_title Tonnes verdict)) (both still_style (both (of_ground calm_writing {a = []} (height_of chart)).still (both (of_badge calm_writing {a = []} verdict).still (both (head_lines calm_writing {a = []} Tonnes verdict (spelled_sizes chart.port)).still (both (of_legend calm_writing {a = []}).still (both (of_strips calm_writing {a = []} chart).still (of_heads calm_writing {a = []} chart.table ((places chart.port).rows)).still))))))
+still_before : (chart : ChartParts) (outcome : Outcome) → Still (before_ships chart outcome)
+still_before chart outcome =
+    both (still_begin 1280 (height_of chart) (plain_title Tonnes outcome)) (both still_style (both (of_ground calm_writing {a = []} (height_of chart)).still (both (of_badge calm_writing {a = []} outcome.verdict).still (both (head_lines calm_writing {a = []} Tonnes outcome (spelled_sizes chart.port)).still (both (of_legend calm_writing {a = []}).still (both (of_strips calm_writing {a = []} chart).still (of_heads calm_writing {a = []} chart.table ((places chart.port).rows)).still))))))
 
 slot_most : (p : Parts) (table : List ℕ) → IsPortTimetable p table → (k : ℕ) → k < length table → slice_index table k ≤ horizon_of p
 slot_most p table listed k lt =
@@ -83,12 +84,12 @@ slot_most p table listed k lt =
 given : (table : List ℕ) (k slots : ℕ) → k < length table → course_of (slice_get table k) slots ≡ course_of (Some (slice_index table k)) slots
 given table k slots lt = ap (λ (o : Option ℕ). course_of o slots) (slice_get-get_or table k 0 lt)
 
-pub port_back : (p : Parts) (h : TideParts) (table other : List ℕ) (verdict later : Verdict) → horizon_of p < 2 ^ 64 → IsPortTimetable p table → IsPortTimetable p other → port_picture p h (Some table) verdict ≡ port_picture p h (Some other) later → table ≡ other
+pub port_back : (p : Parts) (h : TideParts) (table other : List ℕ) (outcome later : Outcome) → horizon_of p < 2 ^ 64 → IsPortTimetable p table → IsPortTimetable p other → port_picture p h (Some table) outcome ≡ port_picture p h (Some other) later → table ≡ other
 unfolding port_picture
-port_back p h table other verdict later small listed listing e =
+port_back p h table other outcome later small listed listing e =
     let one = chart_of p h (Some table) in
     let two = chart_of p h (Some other) in
-    let lists = list_back (before_ships one verdict) (before_ships two later) (rows_from one 0 p.ships) (after_ships one) (rows_from two 0 p.ships) (after_ships two) (still_before one verdict) (still_before two later) (sym (by_ships one verdict) ∙ e ∙ by_ships two later) in
+    let lists = list_back (before_ships one outcome) (before_ships two later) (rows_from one 0 p.ships) (after_ships one) (rows_from two 0 p.ships) (after_ships two) (still_before one outcome) (still_before two later) (sym (by_ships one outcome) ∙ e ∙ by_ships two later) in
     let smalls : (slots : List ℕ) → AreSmall (chart_of p h (Some slots)) = λ slots v. small_course (slice_get slots v) (horizon_of p) small in
     all_same table other (listed.each_ship ∙ sym listing.each_ship) (λ k lt.
     let inside : k < 0 + length p.ships = omega (arith, lt, listed.each_ship) in

@@ -1,6 +1,5 @@
 -- The picture of a port's plan is one element of trees.
 use Rattle.std.proofs.Common.{◌≡◌, ◌++◌, ◌+◌, ℕ, Option, List, [], ◌∷◌, sym, subst, append_assoc, append-nil}
-use Rattle.hw_lines.specs.declared.check.Verdict.{Verdict}
 use Rattle.hw_port.specs.Parts.{ShipParts}
 use Rattle.hw_port.specs.Whole.{Parts}
 use Rattle.hw_tide.specs.Levels.{TideParts}
@@ -8,6 +7,7 @@ use Rattle.hw_port_rules.specs.Numbers.{horizon_of, whole}
 use Rattle.hw_svg.specs.Sheets.{group_end, item_begin, picture, picture_begin, svg_end, title_end}
 use Rattle.hw_chart.specs.declared.grid.Scale.TheVariants.{Minutes}
 use Rattle.hw_chart.specs.declared.outcome.CargoUnit.TheVariants.{Tonnes}
+use Rattle.hw_chart.specs.declared.outcome.Outcome.{Outcome}
 use Rattle.hw_chart.specs.Headings.{ground, heading_lines, style}
 use Rattle.hw_chart.specs.Layout.{stripe}
 use Rattle.hw_chart.specs.Outcomes.{badge, title_text}
@@ -24,7 +24,8 @@ use Rattle.hw_chart_laws.proofs.PortPanels.{of_fleet, of_heads, of_lanes, of_leg
 use Rattle.hw_chart_laws.proofs.PortRows.{of_row_rest}
 use Rattle.hw_chart_laws.proofs.PortTexts.{spelled_row, spelled_sizes}
 use Rattle.hw_chart_laws.proofs.Reading.{item_text}
-use Rattle.hw_chart_laws.proofs.Shared.{five, head_lines, of_badge, of_grid, of_ground, of_span_end, plain_title}
+use Rattle.hw_chart_laws.proofs.Shared.{five, head_lines, of_badge, of_grid, of_ground, of_span_end}
+use Rattle.hw_chart_laws.proofs.Titles.{plain_title}
 use Rattle.hw_chart_laws.proofs.Whole.{one_picture}
 use Rattle.hw_chart_laws.proofs.Writing.{Tags, group}
 
@@ -59,19 +60,19 @@ lead_panels chart = five tree_writing (of_strips tree_writing chart) (of_heads t
 abbrev height_of : ChartParts → ℕ
 height_of chart = (places chart.port).bottom + 28
 
-abbrev middle : ChartParts → Verdict → List ℕ
-middle chart verdict = ground (height_of chart) ++ (badge verdict ++ (heading_lines Tonnes verdict (sizes chart.port) ++ (legend ++ (panels chart ++ (times chart ++ horizon_line chart)))))
+abbrev middle : ChartParts → Outcome → List ℕ
+middle chart outcome = ground (height_of chart) ++ (badge outcome.verdict ++ (heading_lines Tonnes outcome (sizes chart.port) ++ (legend ++ (panels chart ++ (times chart ++ horizon_line chart)))))
 
-picture_is : (chart : ChartParts) (verdict : Verdict) → picture_of chart verdict ≡ picture 1280 (height_of chart) (title_text Tonnes verdict) (style ++ middle chart verdict)
+picture_is : (chart : ChartParts) (outcome : Outcome) → picture_of chart outcome ≡ picture 1280 (height_of chart) (title_text Tonnes outcome) (style ++ middle chart outcome)
 unfolding picture_of
-picture_is chart verdict = arranged (picture_begin 1280 (height_of chart) (title_text Tonnes verdict)) style (ground (height_of chart)) (badge verdict) (heading_lines Tonnes verdict (sizes chart.port)) legend (panels chart) (times chart) (horizon_line chart) svg_end
+picture_is chart outcome = arranged (picture_begin 1280 (height_of chart) (title_text Tonnes outcome)) style (ground (height_of chart)) (badge outcome.verdict) (heading_lines Tonnes outcome (sizes chart.port)) legend (panels chart) (times chart) (horizon_line chart) svg_end
 
-lead_middle : (chart : ChartParts) (verdict : Verdict) → Leads [] (middle chart verdict) []
-lead_middle chart verdict =
-    onward (of_ground tree_writing (height_of chart)) (onward (of_badge tree_writing verdict) (onward (head_lines tree_writing Tonnes verdict (spelled_sizes chart.port)) (onward (of_legend tree_writing) (onward (lead_panels chart) (onward (of_grid tree_writing (Minutes (whole chart.port.slot_minutes)) chart.span (bottom chart)) (of_span_end tree_writing (horizon_of chart.port) chart.span (bottom chart)))))))
+lead_middle : (chart : ChartParts) (outcome : Outcome) → Leads [] (middle chart outcome) []
+lead_middle chart outcome =
+    onward (of_ground tree_writing (height_of chart)) (onward (of_badge tree_writing outcome.verdict) (onward (head_lines tree_writing Tonnes outcome (spelled_sizes chart.port)) (onward (of_legend tree_writing) (onward (lead_panels chart) (onward (of_grid tree_writing (Minutes (whole chart.port.slot_minutes)) chart.span (bottom chart)) (of_span_end tree_writing (horizon_of chart.port) chart.span (bottom chart)))))))
 
-pub port_trees : (p : Parts) (h : TideParts) (table : Option (List ℕ)) (verdict : Verdict) → IsPicture (port_picture p h table verdict)
+pub port_trees : (p : Parts) (h : TideParts) (table : Option (List ℕ)) (outcome : Outcome) → IsPicture (port_picture p h table outcome)
 unfolding port_picture
-port_trees p h table verdict =
+port_trees p h table outcome =
     let chart = chart_of p h table in
-    subst IsPicture (sym (picture_is chart verdict)) (one_picture 1280 (height_of chart) (title_text Tonnes verdict) (middle chart verdict) (plain_title Tonnes verdict) (lead_middle chart verdict))
+    subst IsPicture (sym (picture_is chart outcome)) (one_picture 1280 (height_of chart) (title_text Tonnes outcome) (middle chart outcome) (plain_title Tonnes outcome) (lead_middle chart outcome))

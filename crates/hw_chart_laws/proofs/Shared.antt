@@ -1,67 +1,32 @@
 -- What the pictures of ports and of flat problems share, made of what a picture is written with.
-use Rattle.std.proofs.Common.{◌++◌, ◌+◌, ◌%◌, ℕ, zero, suc, Bool, true, nat_eq, nat_lt, ◌≡◌, List, [], ◌∷◌, Some, None, codes, refl, if◌then◌else◌}
+use Rattle.std.proofs.Common.{◌++◌, ◌+◌, ◌%◌, ℕ, zero, suc, Bool, true, nat_eq, nat_lt, ◌≡◌, List, [], ◌∷◌, codes, refl, if◌then◌else◌}
 use Rattle.std.specs.List.{list_all}
 use Rattle.std.proofs.lemmas.Bool.{cond_both}
 use Rattle.hw_lines.specs.declared.check.Verdict.{Verdict}
-use Rattle.hw_lines.specs.declared.check.Verdict.TheVariants.{Optimal, Infeasible, Unfinished}
 use Rattle.hw_svg.specs.Figures.{steps}
 use Rattle.hw_svg.specs.Lettering.{line}
-use Rattle.hw_svg.specs.Numbers.{tenths}
 use Rattle.hw_svg.specs.Shapes.{block}
 use Rattle.hw_svg.specs.declared.area.Area.{Area}
 use Rattle.hw_chart.specs.declared.grid.Axis.{Axis}
 use Rattle.hw_chart.specs.declared.grid.Scale.{Scale}
 use Rattle.hw_chart.specs.declared.grid.Scale.TheVariants.{Minutes, Slots}
 use Rattle.hw_chart.specs.declared.outcome.CargoUnit.{CargoUnit}
-use Rattle.hw_chart.specs.declared.outcome.CargoUnit.TheVariants.{Tonnes, Plain as PlainUnit}
+use Rattle.hw_chart.specs.declared.outcome.Outcome.{Outcome}
 use Rattle.hw_chart.specs.declared.panel.Panel.{Panel}
 use Rattle.hw_chart.specs.declared.row.Sailings.{Sailings}
 use Rattle.hw_chart.specs.Grids.{axis_of, axis_text, caption_text, grid, is_day, line_paths, mark, mark_class, mark_text, marks, span_end}
 use Rattle.hw_chart.specs.Headings.{ground, heading_lines}
 use Rattle.hw_chart.specs.Layout.{pin, stripe}
-use Rattle.hw_chart.specs.Outcomes.{badge, cargo_text, disc_class, meaning_text, sign_path, title_text, unit_text}
+use Rattle.hw_chart.specs.Outcomes.{badge}
 use Rattle.hw_chart.specs.Panels.{at_most, fleet_label, held_inside, panel_ground, planned_panel, unplanned_panel}
 use Rattle.hw_chart.specs.Rows.{bar, moves_window, no_slot, sailing_mark, sailings_begin, stays}
 use Rattle.hw_chart_laws.specs.Trees.{is_plain}
 use Rattle.hw_chart_laws.proofs.Plain.{Plain, area, both, letters, nothing, number, path}
+use Rattle.hw_chart_laws.proofs.Titles.{plain_disc, plain_meaning, plain_sign, plain_title}
 use Rattle.hw_chart_laws.proofs.Spelled.{Spelled, also, fixed, of_clock, of_number, plain}
 use Rattle.hw_chart_laws.proofs.Writing.{Tags, Writing, svg}
 
 -- ---- texts without marks
-
-pub plain_tenths : (n : ℕ) → Plain (tenths n)
-unfolding tenths
-plain_tenths n = both (number _) (both (letters (codes ".") refl) (both (number _) nothing))
-
-plain_cargo : (unit : CargoUnit) (cargo : ℕ) → Plain (cargo_text unit cargo)
-plain_cargo Tonnes cargo = plain_tenths cargo
-plain_cargo PlainUnit cargo = number cargo
-
-plain_unit : (unit : CargoUnit) → Plain (unit_text unit)
-plain_unit Tonnes = letters _ refl
-plain_unit PlainUnit = letters _ refl
-
-pub plain_title : (unit : CargoUnit) (verdict : Verdict) → Plain (title_text unit verdict)
-plain_title unit (Optimal cargo) = both (letters (codes "Proved best: ") refl) (both (plain_cargo unit cargo) (both (plain_unit unit) nothing))
-plain_title unit Infeasible = letters _ refl
-plain_title unit (Unfinished (Some cargo)) = both (letters (codes "Not proved best: ") refl) (both (plain_cargo unit cargo) (both (plain_unit unit) nothing))
-plain_title unit (Unfinished None) = letters _ refl
-
-plain_meaning : (verdict : Verdict) → Plain (meaning_text verdict)
-plain_meaning (Optimal cargo) = letters _ refl
-plain_meaning Infeasible = letters _ refl
-plain_meaning (Unfinished (Some cargo)) = letters _ refl
-plain_meaning (Unfinished None) = letters _ refl
-
-plain_disc : (verdict : Verdict) → Plain (disc_class verdict)
-plain_disc (Optimal cargo) = letters _ refl
-plain_disc Infeasible = letters _ refl
-plain_disc (Unfinished best) = letters _ refl
-
-plain_sign : (verdict : Verdict) → Plain (sign_path verdict)
-plain_sign (Optimal cargo) = letters _ refl
-plain_sign Infeasible = letters _ refl
-plain_sign (Unfinished best) = letters _ refl
 
 -- one of two texts
 pub either : (b : Bool) {x y : List ℕ} → Plain x → Plain y → Plain (if b then x else y)
@@ -109,8 +74,8 @@ module _ {P : Tags → List ℕ → Tags → Type 0} (w : Writing P) where
   pub says : {a : Tags} (class : List ℕ) (p : list_all is_plain class ≡ true) (x y : ℕ) {text : List ℕ} → Spelled text → P a (line class x y text) a
   says class p x y text = w.lettered x y (letters class p) text
 
-  pub head_lines : {a : Tags} (unit : CargoUnit) (verdict : Verdict) {sizes : List ℕ} → Spelled sizes → P a (heading_lines unit verdict sizes) a
-  head_lines unit verdict sizes = three (says (codes "h") refl 48 36 (plain (plain_title unit verdict))) (says (codes "m") refl 48 56 (plain (plain_meaning verdict))) (says (codes "m r") refl 1268 36 sizes)
+  pub head_lines : {a : Tags} (unit : CargoUnit) (outcome : Outcome) {sizes : List ℕ} → Spelled sizes → P a (heading_lines unit outcome sizes) a
+  head_lines unit outcome sizes = three (says (codes "h") refl 48 36 (plain (plain_title unit outcome))) (says (codes "m") refl 48 56 (plain (plain_meaning unit outcome))) (says (codes "m r") refl 1268 36 sizes)
 
   pub of_ground : {a : Tags} (height : ℕ) → P a (ground height) a
   of_ground height = filled (codes "gr") refl _

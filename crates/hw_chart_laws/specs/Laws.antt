@@ -1,6 +1,5 @@
 -- What whole pictures are, and what they say.
 use Rattle.std.specs.Prelude.{◌≡◌, ◌↔◌, ◌<◌, ◌≤◌, ℕ, List, Option, Some, IsSome, slice_get}
-use Rattle.hw_lines.specs.declared.check.Verdict.{Verdict}
 use Rattle.hw_model.specs.Problem.{IsTimetable, Problem, horizon}
 use Rattle.hw_port.specs.Kept.{PortKept}
 use Rattle.hw_port.specs.Parts.{ShipParts}
@@ -8,6 +7,7 @@ use Rattle.hw_port.specs.Whole.{Parts}
 use Rattle.hw_tide.specs.Levels.{TideParts}
 use Rattle.hw_port_rules.specs.Drafts.{sailing, value}
 use Rattle.hw_port_rules.specs.Timetables.{IsPortTimetable}
+use Rattle.hw_chart.specs.declared.outcome.Outcome.{Outcome}
 use Rattle.hw_flat_chart.specs.Pictures.{flat_picture}
 use Rattle.hw_port_chart.specs.Charts.{ChartParts, full_of, tall_between}
 use Rattle.hw_port_chart.specs.Drafts.{draft_level, fullness_level}
@@ -16,19 +16,19 @@ use Rattle.hw_chart_laws.specs.Trees.{IsPicture}
 
 -- the picture of a flat problem is one element of trees, with a timetable or without one, whatever was proved
 abbrev pub FlatPicturesAreTrees : Type 0
-FlatPicturesAreTrees = (f : Problem) (table : Option (List ℕ)) (verdict : Verdict) → IsPicture (flat_picture f table verdict)
+FlatPicturesAreTrees = (f : Problem) (table : Option (List ℕ)) (outcome : Outcome) → IsPicture (flat_picture f table outcome)
 
 -- and so is that of a port's plan, whatever the names are
 abbrev pub PortPicturesAreTrees : Type 0
-PortPicturesAreTrees = (p : Parts) (h : TideParts) (table : Option (List ℕ)) (verdict : Verdict) → IsPicture (port_picture p h table verdict)
+PortPicturesAreTrees = (p : Parts) (h : TideParts) (table : Option (List ℕ)) (outcome : Outcome) → IsPicture (port_picture p h table outcome)
 
 -- two timetables of a flat problem that have the same picture are the same, whatever was proved of them
 abbrev pub FlatPlansReadBack : Type 0
-FlatPlansReadBack = (f : Problem) (table other : List ℕ) (verdict later : Verdict) → horizon f ≤ 512 → IsTimetable f table → IsTimetable f other → flat_picture f (Some table) verdict ≡ flat_picture f (Some other) later → table ≡ other
+FlatPlansReadBack = (f : Problem) (table other : List ℕ) (outcome later : Outcome) → horizon f ≤ 512 → IsTimetable f table → IsTimetable f other → flat_picture f (Some table) outcome ≡ flat_picture f (Some other) later → table ≡ other
 
 -- and so are two timetables of a port
 abbrev pub PortPlansReadBack : Type 0
-PortPlansReadBack = (p : Parts) (h : TideParts) (table other : List ℕ) (verdict later : Verdict) → PortKept p → IsPortTimetable p table → IsPortTimetable p other → port_picture p h (Some table) verdict ≡ port_picture p h (Some other) later → table ≡ other
+PortPlansReadBack = (p : Parts) (h : TideParts) (table other : List ℕ) (outcome later : Outcome) → PortKept p → IsPortTimetable p table → IsPortTimetable p other → port_picture p h (Some table) outcome ≡ port_picture p h (Some other) later → table ≡ other
 
 -- the foot of a ship's window
 abbrev pub foot_of : ShipParts → ℕ

@@ -70,7 +70,7 @@ long_by text bytes h = told_map text (λ t long. told_all bytes (λ b. sym (ap (
 
 -- ---- what is said
 
-verifies : {f : Problem} {text bytes : Option (List ℕ)} (o : CertOutcome) (bound : Option ℕ) → IsFlat f → IfSome text (IsTextOf f) → Verifies f bytes (any_outcome f) (cert_stream_to Three (shape_of f)) o bound → VerifiesFlat text bytes (report_with by_number bound o)
+verifies : {f : Problem} {text bytes table : Option (List ℕ)} (o : CertOutcome) (bound : Option ℕ) → IsFlat f → IfSome text (IsTextOf f) → Verifies f bytes (any_outcome f) (cert_stream_to Three (shape_of f)) o bound table → VerifiesFlat text bytes (report_with by_number bound o)
 verifies {f = f} {text = text} {bytes = bytes} (Shows v) bound flat reads h =
     let shown = is_verified h in
     record {
@@ -94,7 +94,7 @@ verify_stops {x = x} {r = r} name cert h ends = stops_carries (verify_flat_task 
     (by_line (x.held name) (λ (r : Report). VerifyFlatSays name cert x (Some r)) r (λ number word bad. record { texts = bad; decided = bad_by (x.held name) (x.held cert) number word bad }) (λ long. record { texts = long; decided = long_by (x.held name) (x.held cert) long })) ends
 
 verify_says : {name cert : List ℕ} {x y z : DeskState} {f : Problem} (result : Result VerifiedCert CertStop) → ReadsFlat name x y f → VerifiesCert f cert y z result → is_common (report_of_verified by_number result) ≡ false → VerifiesFlat (x.held name) (x.held cert) (report_of_verified by_number result)
-verify_says {cert = cert} {f = f} (Ok v) h m e = verifies v.outcome v.bound h.limits h.reads (subst (λ (told : Option (List ℕ)). Verifies f told (any_outcome f) (cert_stream_to Three (shape_of f)) v.outcome v.bound) (ap (λ held. held cert) h.entered.begins.held) m.verifies.1)
+verify_says {cert = cert} {f = f} (Ok v) h m e = verifies v.outcome v.bound h.limits h.reads (subst (λ (told : Option (List ℕ)). Verifies f told (any_outcome f) (cert_stream_to Three (shape_of f)) v.outcome v.bound v.table) (ap (λ held. held cert) h.entered.begins.held) m.verifies.1)
 verify_says (Err Fault) h m e = absurd (cc)
 verify_says (Err NoMemory) h m e = absurd (cc)
 

@@ -1,6 +1,5 @@
--- A certificate whose last bound is kept.
-use Rattle.std.proofs.Common.{◌≡◌, ◌∙◌, ℕ, List, [], ◌∷◌, ◌++◌, Option, Result, Ok, Err, subst}
-use Rattle.std.specs.Prelude.{IfSome, IsSomeAnd}
+-- A certificate whose last bound and last timetable are kept.
+use Rattle.std.proofs.Common.{◌≡◌, ◌∙◌, ℕ, List, [], Option, Result, Ok, Err, subst}
 use Rattle.hw_model.specs.Problem.{Problem, shape_of}
 use Rattle.hw_desk.specs.State.{DeskState}
 use Rattle.hw_desk.specs.Calls.{Moves}
@@ -12,46 +11,29 @@ use Rattle.hw_cert.specs.Nexts.{rest_of}
 use Rattle.hw_cert.specs.Reader.{ReaderModel}
 use Rattle.hw_cert.specs.Stream.{Position, CertLines, cert_stream_to}
 use Rattle.hw_check.specs.States.{CheckState}
-use Rattle.hw_command.specs.Checking.{Reached, rest_outcome, ComesOrStops, IsOpen, OpensCert}
+use Rattle.hw_command.specs.Checking.{rest_outcome, ComesOrStops, IsOpen, OpensCert}
 use Rattle.hw_command.specs.Keeping.{rest_read, StepReads}
-use Rattle.hw_command.specs.declared.cert.CertStep.TheVariants.{Further, Ended}
+use Rattle.hw_command.specs.declared.cert.CertStep.TheVariants.{Ended}
 use Rattle.hw_command.specs.declared.cert.OpenCert.{OpenCert}
 use Rattle.hw_command.specs.declared.outcome.CertOutcome.{CertOutcome}
 use Rattle.hw_command.specs.declared.outcome.CertStop.{CertStop}
 use Rattle.hw_command.specs.declared.outcome.CertStop.TheVariants.{Fault, NoMemory}
 use Rattle.hw_command.proofs.Begun.{rose_on}
-use Rattle.hw_command.proofs.Chained.{goes_on, reached_on}
 use Rattle.hw_command.proofs.Kept.{kept_behind, enters_on}
+use Rattle.hw_command.proofs.Tabled.{Taken}
 use Rattle.hw_verify_command.specs.Bounded.{any_outcome}
 use Rattle.hw_verify_command.specs.Verifying.{Verifies, VerifiesOrStops, VerifiesCert}
 use Rattle.hw_verify_command.specs.declared.verified.VerifiedCert.{VerifiedCert}
 
--- these lines were taken by now, and they are the first that are read
-pub record Taken (f : Problem) (told : Option (List ℕ)) (outcome : List ℕ → CertOutcome) (read : List ℕ → CertLines) (all : List Line) (reader : ReaderModel) (checker : CheckState) (now : DeskState) : Type 0 where
-  pub reached : Reached f told outcome all reader checker now
-  pub reads : IfSome told (λ bytes. IsSomeAnd (rest_of reader now) (λ rest. read bytes ≡ rest_read f all reader.at rest))
-
--- one line more
-pub taken_on : {f : Problem} {told : Option (List ℕ)} {outcome : List ℕ → CertOutcome} {read : List ℕ → CertLines} {before : List Line} {r s : ReaderModel} {c d : CheckState} (line : Line) (x y : DeskState)
-    → Taken f told outcome read before r c x → Reached c.problem (rest_of r x) (rest_outcome c.problem before r.at) (before ++ line ∷ []) s d y → StepReads c.problem before r x y (Further s d line) → Taken f told outcome read (before ++ line ∷ []) s d y
-taken_on {f = f} {told = told} {read = is_read} {before = before} {r = r} {s = s} {d = d} line x y h step reads =
-    let all = before ++ line ∷ [] in
-    let now = subst (λ (p : Problem). Reached p (rest_of r x) (rest_outcome p before r.at) all s d y) h.reached.problem step in
-    let one = subst (λ (p : Problem). StepReads p before r x y (Further s d line)) h.reached.problem reads in
-    record {
-      reached = reached_on h.reached now;
-      reads = goes_on is_read (rest_read f before r.at) (rest_read f all s.at) told (rest_of r x) (rest_of s y) h.reads one;
-    }
-
 -- what is found behind lines that were taken
-pub verified_behind : {f : Problem} {told : Option (List ℕ)} {outcome : List ℕ → CertOutcome} {read : List ℕ → CertLines} {all : List Line} {r : ReaderModel} {c : CheckState} (x y z : DeskState) (o : CertOutcome) (bound : Option ℕ)
-    → Taken f told outcome read all r c y → bound ≡ bound_of all → y.read_faults ≡ x.read_faults
-    → ComesOrStops c.problem all (rest_of r y) (rest_outcome c.problem all r.at) y z (Ok o) → StepReads c.problem all r y z (Ended (Ok o)) → (z.read_faults ≡ x.read_faults) × Verifies f told outcome read o bound
+pub verified_behind : {f : Problem} {told : Option (List ℕ)} {outcome : List ℕ → CertOutcome} {read : List ℕ → CertLines} {all : List Line} {table : Option (List ℕ)} {r : ReaderModel} {c : CheckState} (x y z : DeskState) (o : CertOutcome) (bound : Option ℕ)
+    → Taken f told outcome read all table r c y → bound ≡ bound_of all → y.read_faults ≡ x.read_faults
+    → ComesOrStops c.problem all (rest_of r y) (rest_outcome c.problem all r.at) y z (Ok o) → StepReads c.problem all r y z (Ended (Ok o)) → (z.read_faults ≡ x.read_faults) × Verifies f told outcome read o bound table
 verified_behind {all = all} {r = r} x y z o bound h last kept k reads =
     let step = subst (λ (p : Problem). ComesOrStops p all (rest_of r y) (rest_outcome p all r.at) y z (Ok o)) h.reached.problem k in
     let one = subst (λ (p : Problem). StepReads p all r y z (Ended (Ok o))) h.reached.problem reads in
     let both = kept_behind x z o h.reached h.reads kept step one in
-    (both.0, record { lines = all; keeps = both.1; last = last })
+    (both.0, record { lines = all; keeps = both.1; last = last; tabled = h.last })
 
 -- the same behind a step without a fault
 verifies_from : (f : Problem) (told : Option (List ℕ)) (outcome : List ℕ → CertOutcome) (is_read : List ℕ → CertLines) (x y z : DeskState) (found : Result VerifiedCert CertStop) → y.read_faults ≡ x.read_faults → VerifiesOrStops f told outcome is_read y z found → VerifiesOrStops f told outcome is_read x z found

@@ -1,5 +1,5 @@
 mod Followed
 mod Meant
-mod FlatVerified
+pub mod FlatVerified
 pub mod PortVerified
 pub mod SameLines

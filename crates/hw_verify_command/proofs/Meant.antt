@@ -22,7 +22,7 @@ use Rattle.hw_verify_command.specs.Bounded.{any_outcome, cert_bound, IsVerified,
 use Rattle.hw_verify_command.specs.Verifying.{Verifies, report_with}
 
 -- an outcome that shows something shows this
-pub is_verified : {f : Problem} {bytes : Option (List ℕ)} {v : Verdict} {bound : Option ℕ} → Verifies f bytes (any_outcome f) (cert_stream_to Three (shape_of f)) (Shows v) bound → IsVerified f bytes v bound
+pub is_verified : {f : Problem} {bytes table : Option (List ℕ)} {v : Verdict} {bound : Option ℕ} → Verifies f bytes (any_outcome f) (cert_stream_to Three (shape_of f)) (Shows v) bound table → IsVerified f bytes v bound
 is_verified h = record { lines = h.lines; fit = h.keeps.fit; valid = h.keeps.valid; verdict = h.keeps.comes.0; last = h.last; read = h.keeps.reads; outcome = h.keeps.comes.1 }
 
 pub bound_means : {f : Problem} {bytes : Option (List ℕ)} {v : Verdict} {bound : Option ℕ} → IsFlat f → IsVerified f bytes v bound → BoundMeans f v bound

@@ -31,7 +31,7 @@ use Rattle.hw_verify_command.proofs.Meant.{is_verified, port_bound_means, told_r
 use Rattle.hw_verify_command.proofs.FlatVerified.{verify_works}
 
 -- the report of an outcome
-verifies : {p : Parts} {t : TideParts} {instance tides bytes : Option (List ℕ)} (o : CertOutcome) (bound : Option ℕ) → IsPortOf instance tides p t → Verifies (flattened p t) bytes (any_outcome (flattened p t)) (cert_stream_to Three (shape_of (flattened p t))) o bound → VerifiesPortTexts instance tides bytes (Some (report_with (by_name p t) bound o))
+verifies : {p : Parts} {t : TideParts} {instance tides bytes table : Option (List ℕ)} (o : CertOutcome) (bound : Option ℕ) → IsPortOf instance tides p t → Verifies (flattened p t) bytes (any_outcome (flattened p t)) (cert_stream_to Three (shape_of (flattened p t))) o bound table → VerifiesPortTexts instance tides bytes (Some (report_with (by_name p t) bound o))
 verifies {p = p} {t = t} (Shows v) bound port h =
     let shown = is_verified h in
     record { reads = port; shown = shown; means = port_bound_means port.kept shown }
@@ -43,7 +43,7 @@ pub verify_stops : {x y z : DeskState} {r : Report} {s : Status} (instance tides
 verify_stops {x = x} {r = r} instance tides cert h ends = stops_carries (verify_port_task instance tides cert) (named Certificate cert ∷ []) h refl (λ feed given. given) (by_fault (x.held instance) (x.held tides) (λ (r : Report). VerifyPortSays instance tides cert x (Some r)) r (λ bad. bad) (λ fault bad. bad) (λ fault bad. bad) (λ bad. bad) (λ bad. bad)) ends
 
 verify_says : {instance tides cert : List ℕ} {x y z : DeskState} {p : Parts} {t : TideParts} {f : Problem} (result : Result VerifiedCert CertStop) → ReadsPortProblem instance tides x y p t f → VerifiesCert (flattened p t) cert y z result → is_common (report_of_verified (by_name p t) result) ≡ false → VerifiesPortTexts (x.held instance) (x.held tides) (x.held cert) (Some (report_of_verified (by_name p t) result))
-verify_says {cert = cert} {p = p} {t = t} (Ok v) h m e = verifies v.outcome v.bound h.port (subst (λ (told : Option (List ℕ)). Verifies (flattened p t) told (any_outcome (flattened p t)) (cert_stream_to Three (shape_of (flattened p t))) v.outcome v.bound) (ap (λ held. held cert) h.entered.begins.held) m.verifies.1)
+verify_says {cert = cert} {p = p} {t = t} (Ok v) h m e = verifies v.outcome v.bound h.port (subst (λ (told : Option (List ℕ)). Verifies (flattened p t) told (any_outcome (flattened p t)) (cert_stream_to Three (shape_of (flattened p t))) v.outcome v.bound v.table) (ap (λ held. held cert) h.entered.begins.held) m.verifies.1)
 verify_says (Err Fault) h m e = absurd (cc)
 verify_says (Err NoMemory) h m e = absurd (cc)
 

@@ -1,4 +1,4 @@
-use Rattle.hw_app.proofs.OneChart.{charts_as_checked}
+use Rattle.hw_app.proofs.CheckedChart.{charts_as_checked}
 use Rattle.hw_app.proofs.chart_laws.charts_as_checked.Goals as goal
 
 pub returns : goal.returns

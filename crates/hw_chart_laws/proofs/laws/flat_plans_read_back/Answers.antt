@@ -4,6 +4,6 @@ use Rattle.hw_chart_laws.proofs.FlatReading.{flat_back}
 use Rattle.hw_chart_laws.proofs.laws.flat_plans_read_back.Goals as goal
 
 pub returns : goal.returns
-returns c = λ f table other verdict later few listed given e.
+returns c = λ f table other outcome later few listed given e.
     let small : horizon f < 2 ^ 64 = omega (arith, few) in
-    flat_back f table other verdict later small listed given e
+    flat_back f table other outcome later small listed given e

@@ -5,8 +5,8 @@ use Rattle.hw_chart_laws.proofs.PortReading.{port_back}
 use Rattle.hw_chart_laws.proofs.laws.port_plans_read_back.Goals as goal
 
 pub returns : goal.returns
-returns c = λ p h table other verdict later kept listed given e.
+returns c = λ p h table other outcome later kept listed given e.
     let low = kept.slots.low in
     let high = kept.slots.high in
     let small : horizon_of p < 2 ^ 64 = grind (arith, ints, low, high) in
-    port_back p h table other verdict later small listed given e
+    port_back p h table other outcome later small listed given e

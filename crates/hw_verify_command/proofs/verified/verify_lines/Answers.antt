@@ -1,6 +1,7 @@
 use Rattle.std.proofs.Common.{◌++◌, ◌∷◌, ◌∙◌, [], refl}
 use Rattle.hw_desk.proofs.Chain.{moves_on}
-use Rattle.hw_verify_command.proofs.Followed.{taken_on, verified_behind}
+use Rattle.hw_command.proofs.Tabled.{taken_on}
+use Rattle.hw_verify_command.proofs.Followed.{verified_behind}
 use Rattle.hw_verify_command.proofs.verified.verify_lines.Goals as goal
 
 pub steps-preserved : goal.steps-preserved
@@ -14,7 +15,7 @@ steps-preserved g c =
       moved = (past.moved.0 ++ c.check_line.ensures.moved.0, moves_on past.moved.1 c.check_line.ensures.moved.1 (past.moved.0 ++ c.check_line.ensures.moved.0) refl);
       kept = step.0 ∙ past.kept;
       ready = c.in-Further.ensures.further.0;
-      taken = (before ++ c.in-Further.line ∷ [], taken_on c.in-Further.line y z past.taken.1 step.1 (c.in-Further.ensures.reads before));
+      taken = (before ++ c.in-Further.line ∷ [], taken_on c.in-Further.line y z past.taken.1 c.table_behind-table.ensures step.1 (c.in-Further.ensures.reads before));
     }
 
 pub returns-in-Ended-Ok-clause-moved : goal.returns-in-Ended-Ok-clause-moved

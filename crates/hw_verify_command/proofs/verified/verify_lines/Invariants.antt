@@ -5,7 +5,7 @@ use Rattle.hw_cert.specs.Nexts.{rest_of}
 use Rattle.hw_lines.specs.declared.line.Line.{Line}
 use Rattle.hw_command.specs.Checking.{IsReady, rest_outcome}
 use Rattle.hw_command.specs.Keeping.{rest_read}
-use Rattle.hw_verify_command.proofs.Followed.{Taken}
+use Rattle.hw_command.proofs.Tabled.{Taken}
 use Rattle.hw_verify_command.proofs.verified.verify_lines.Given as goal
 
 abbrev pub invariant-steps : goal.invariant-steps
@@ -17,7 +17,7 @@ invariant-steps g l =
       moved : (bytes : List ℕ) × Moves Certificate bytes (state l.fn.desk) (state l.desk);
       kept : (state l.desk).read_faults ≡ (state l.fn.desk).read_faults;
       ready : IsReady l.reader l.checker (state l.desk);
-      taken : (all : List Line) × Taken f told (rest_outcome f [] l.fn.reader.at) (rest_read f [] l.fn.reader.at) all l.reader l.checker (state l.desk);
+      taken : (all : List Line) × Taken f told (rest_outcome f [] l.fn.reader.at) (rest_read f [] l.fn.reader.at) all l.table l.reader l.checker (state l.desk);
     }
 
 abbrev pub decreases-steps : goal.decreases-steps

@@ -1,5 +1,5 @@
 use Rattle.hw_verify_command.proofs.Followed.{verifies_of}
-use Rattle.hw_verify_command.proofs.verified.verify_cert.Goals as goal
+use Rattle.hw_verify_command.proofs.verified.verify_cert_table.Goals as goal
 
 pub returns-in-Ok : goal.returns-in-Ok
 returns-in-Ok g c =
