@@ -5,7 +5,6 @@ use Rattle.hw_model.specs.Problem.{Problem}
 use Rattle.hw_desk.specs.State.{DeskState}
 use Rattle.hw_desk.specs.declared.desk.Feed.TheVariants.{Flat, Certificate}
 use Rattle.hw_flat.specs.Text.{Fault, flat_text}
-use Rattle.hw_chart.specs.declared.outcome.Outcome.{Outcome}
 use Rattle.hw_flat_chart.specs.Pictures.{flat_picture}
 use Rattle.hw_lines.specs.declared.check.Verdict.{Verdict}
 use Rattle.hw_report.specs.Reports.{Report, picture, refused, bad_flat, too_long}
