@@ -43,7 +43,7 @@ one_chart = record {
 -- ---- drawn as it is verified
 
 outcome_drawn : (f : Problem) (text bytes : List ℕ) (o : CertOutcome) → IsTextOf f text → IsFlatChartOf text (report_with by_number (cert_bound f bytes) o) (flat_chart_of f bytes o)
-outcome_drawn f text bytes (Shows v) is_text = (f, is_text, _, refl)
+outcome_drawn f text bytes (Shows v) is_text = (f, is_text, (_, refl))
 outcome_drawn f text bytes (Wrong number word hint) is_text = refl
 outcome_drawn f text bytes TooLong is_text = refl
 

@@ -63,7 +63,7 @@ long_by text bytes h = told_map text (λ t long. told_all bytes (λ b. sym (ap (
 drawn_by : {f : Problem} {o : Outcome} {table : Option (List ℕ)} (bytes : Option (List ℕ)) → IsLastShown f bytes o table → IfSome bytes (λ bs. picture o.verdict (flat_picture f table o) ≡ flat_chart_of f bs (any_outcome f bs))
 drawn_by {f = f} {o = o} bytes h = told_map bytes (λ bs e.
     let v = o.verdict in
-    ap (λ (t : Option (List ℕ)). picture v (flat_picture f t o)) e.0 ∙ ap (λ (b : Option ℕ). picture v (flat_picture f (cert_table f bs) (record { verdict = v; bound = b }))) e.1.0 ∙ ap (flat_chart_of f bs) e.1.1) (told_last bytes h)
+    ap (λ (t : Option (List ℕ)). picture v (flat_picture f t o)) e.0 ∙ ap (λ (b : Option ℕ). picture v (flat_picture f (cert_table f bs) (record { verdict = v; bound = b }))) e.1 ∙ ap (flat_chart_of f bs) e.2) (told_last bytes h)
 
 -- ---- what is said
 

@@ -106,4 +106,4 @@ port_drawn {bytes = bytes} {v = v} h =
     let told = told_last (Some bytes) h.shown in
     let of_table = λ (t : Option (List ℕ)). port_picture h.port h.tide t (record { verdict = v; bound = h.bound }) in
     let of_bound = λ (b : Option ℕ). port_picture h.port h.tide (cert_table (flattened h.port h.tide) bytes) (record { verdict = v; bound = b }) in
-    ap (picture v) (h.is_picture ∙ ap of_table told.0 ∙ ap of_bound told.1.0) ∙ ap (port_chart_of h.port h.tide bytes) told.1.1
+    ap (picture v) (h.is_picture ∙ ap of_table told.0 ∙ ap of_bound told.1) ∙ ap (port_chart_of h.port h.tide bytes) told.2
