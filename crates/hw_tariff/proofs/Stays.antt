@@ -1,15 +1,28 @@
 -- What is charged stays so, and what a book of prices keeps.
-use Rattle.std.proofs.Common.{◌≡◌, ℕ, ◌<◌, Bool, List, [], ◌∷◌, ◌++◌, Option, Some, None, length, option_map, All, IfSome, sym, ap, ◌∙◌, subst, arith, length-append}
+use Rattle.std.proofs.Common.{◌≡◌, ℕ, zero, suc, ◌+◌, ◌-◌, ◌<◌, Bool, List, [], ◌∷◌, ◌++◌, Option, Some, None, length, fold, option_map, All, IfSome, refl, sym, ap, ◌∙◌, subst, arith, length-append}
 use Rattle.std.proofs.lemmas.List.Elements.{All-push}
-use Rattle.hw_model.specs.Problem.{Problem}
+use Rattle.std.specs.List.{range_with_len}
+use Rattle.hw_model.specs.Problem.{Problem, value_at}
 use Rattle.hw_model.specs.Rooms.{RoomModel}
 use Rattle.hw_tolls.specs.declared.tariff.Tariff.{Tariff}
 use Rattle.hw_tolls.specs.declared.toll.Toll.{Toll}
 use Rattle.hw_tolls.specs.Tolls.{IsToll}
-use Rattle.hw_tolls.specs.Computed.{prices_refute}
+use Rattle.hw_tolls.specs.Prices.{DueFits}
+use Rattle.hw_tolls.specs.Computed.{balance, best_balance, better, prices_refute}
 use Rattle.hw_tolls.proofs.More.{same_allowance, same_pays, fits_more}
 use Rattle.hw_tariff.specs.InForce.{Charged, IsCharged}
 use Rattle.hw_tariff.specs.PriceStates.{PriceState, AreGood, tariff_of}
+use Rattle.hw_tariff.proofs.Charged.{balance_by}
+
+-- passes with equal steps end equal
+same_fold : {X : Type 0} (g h : X → ℕ → X) (so_far : X) (from count : ℕ) → ((x : X) (k : ℕ) → g x k ≡ h x k) → fold g so_far (range_with_len from count) ≡ fold h so_far (range_with_len from count)
+same_fold g h so_far from zero same = refl
+same_fold g h so_far from (suc count) same = same_fold g h (g so_far from) (from + 1) count same ∙ ap (λ x. fold h x (range_with_len (from + 1) count)) (same so_far from)
+
+best_stays : (f : Problem) (tolls more : List Toll) (tariff : Tariff) (ship low high : ℕ) → All (DueFits (length tolls)) tariff.dues → best_balance f (tolls ++ more) tariff ship low high ≡ best_balance f tolls tariff ship low high
+best_stays f tolls more tariff ship low high fit =
+    same_fold (λ most slot. better most (balance f (tolls ++ more) tariff ship slot)) (λ most slot. better most (balance f tolls tariff ship slot)) None low (high + 1 - low)
+    (λ most slot. ap (λ cost. better most (option_map (balance_by tariff.scale cost) (value_at f ship slot))) (same_pays f tolls more tariff.dues ship slot fit))
 
 pub charged_stays : (f : Problem) (tolls more : List Toll) (c : Charged) → IsCharged f tolls c → IsCharged f (tolls ++ more) c
 charged_stays f tolls more c is = record {
@@ -22,6 +35,7 @@ charged_stays f tolls more c is = record {
       paid = λ slot inside. (is.costs.ships ship lt).paid slot inside ∙ sym (same_pays f tolls more c.tariff.dues ship slot is.fits.each_due);
     };
   };
+  tops = record { each_ship = is.tops.each_ship; ships = λ ship lt. is.tops.ships ship lt ∙ sym (best_stays f tolls more c.tariff ship 0 (f.slots - 1) is.fits.each_due) };
 }
 
 stays_charged : (f : Problem) (tolls more : List Toll) (o : Option Charged) → IfSome o (IsCharged f tolls) → IfSome o (IsCharged f (tolls ++ more))

@@ -1,4 +1,4 @@
-use Rattle.std.proofs.Common.{◌≡◌, ℕ, ◌<◌, None}
+use Rattle.std.proofs.Common.{ℕ, ◌<◌, None}
 use Rattle.hw_model.specs.declared.source.Source.TheVariants as sources
 use Rattle.hw_model.specs.Refuting.{Refutes}
 use Rattle.hw_tariff.proofs.by_pair.first_refuting.Given as goal

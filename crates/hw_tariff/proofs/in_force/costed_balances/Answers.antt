@@ -8,8 +8,8 @@ use Rattle.hw_tariff.proofs.in_force.costed_balances.Goals as goal
 pub loop-ship-preserved : goal.loop-ship-preserved
 loop-ship-preserved c =
     let ships : c.shape-ship-end.result.ships ≡ c.args.flat.now.ships = ap (λ s. s.ships) c.shape-ship-end.ensures.value in
-    let next : c.best_by_costs.result ≡ best_balance c.args.flat.now c.args.tolls.now c.args.tariff.now c.loop-ship.ship (low_of c.args.room.now c.loop-ship.ship) (high_of c.args.room.now c.loop-ship.ship) =
-    c.best_by_costs.ensures.value ∙ same_best c.args.flat.now c.args.tolls.now c.args.tariff.now c.loop-ship.ship c.low.result c.high.result _ _ c.low.ensures.value c.high.ensures.value
+    let next : c.costed_best.result ≡ best_balance c.args.flat.now c.args.tolls.now c.args.tariff.now c.loop-ship.ship (low_of c.args.room.now c.loop-ship.ship) (high_of c.args.room.now c.loop-ship.ship) =
+    c.costed_best.ensures.value ∙ same_best c.args.flat.now c.args.tolls.now c.args.tariff.now c.loop-ship.ship c.low.result c.high.result _ _ c.low.ensures.value c.high.ensures.value
     in
     record {
       small = c.together-sum.ensures.parts c.loop-ship.ship c.loop-ship.invariant.small;
