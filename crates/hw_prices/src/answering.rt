@@ -7,11 +7,11 @@ ghost use Rattle.hw_tolls.specs.Tolls.{IsToll};
 ghost use Rattle.hw_tolls.specs.Prices.{TariffFits};
 ghost use Rattle.hw_advice.specs.Advisers.{IsAdvice, IsBoundAdvice, IsOpenIn};
 
-use crate::exact::{are_priced, bound_of, joined, tested};
+use crate::exact::{are_priced, bound_of, copied, joined, tested};
 use hw_advice::{Advice, Bounding, Scene};
 use hw_flat::Room;
 use hw_model::{Lit, NoMemory};
-use hw_tariff::RulesByPair;
+use hw_tariff::{InForce, RulesByPair};
 use hw_tolls::{Tariff, Toll};
 use std::alloc::Global;
 
@@ -37,7 +37,9 @@ pub(crate) fn advice_in_force(
     let Some(tariff) = scene.tariff else {
         return Ok(None);
     };
-    match tested(alloc, scene, scene.tolls, tariff, lits)? {
+    let tariff = copied(alloc, tariff)?;
+    let prices = InForce::new(alloc, scene.flat, scene.tolls, tariff)?;
+    match tested(alloc, scene, scene.tolls, &prices, lits)? {
         None => Ok(None),
         Some(clause) => Ok(Some(Advice {
             tolls: Vec::new(alloc),
@@ -65,11 +67,12 @@ pub(crate) fn advice_anew(
         return Ok(None);
     }
     let all = joined(alloc, scene.tolls, &tolls)?;
-    match tested(alloc, scene, &all, &tariff, lits)? {
+    let prices = InForce::new(alloc, scene.flat, &all, tariff)?;
+    match tested(alloc, scene, &all, &prices, lits)? {
         None => Ok(None),
         Some(clause) => Ok(Some(Advice {
             tolls,
-            tariff: Some(tariff),
+            tariff: Some(prices.into_tariff()),
             clause,
         })),
     }

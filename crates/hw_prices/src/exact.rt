@@ -10,6 +10,7 @@ ghost use Rattle.hw_model.specs.Rooms.{RoomFits};
 ghost use Rattle.hw_lits.specs.Active.{IsActive};
 ghost use Rattle.hw_tolls.specs.Tolls.{IsToll, capacity};
 ghost use Rattle.hw_tolls.specs.Prices.{PricesRefute, TariffFits};
+ghost use Rattle.hw_tariff.specs.InForce.{IsCharged};
 ghost use Rattle.hw_advice.specs.Advisers.{ArePriced};
 ghost use Rattle.hw_prices.specs.Exact.{IsBound, IsTested};
 
@@ -19,9 +20,9 @@ use hw_flat::{Flat, Room};
 use hw_lits::{Clause, deny, narrowing};
 use hw_model::{Lit, Narrowed, NoMemory};
 use hw_tariff::{
-    RulesByPair, allowance_of, charged_balances, charged_refute, is_toll_by, tariff_fits,
+    InForce, RulesByPair, allowance_of, charged_balances, charged_refute, is_toll_by, tariff_fits,
 };
-use hw_tolls::{Balance, Due, Tariff, Toll};
+use hw_tolls::{Balance, Due, Dues, Tariff, Toll};
 use std::alloc::Global;
 
 /// The most tolls that a search declares.
@@ -101,18 +102,31 @@ fn are_tolls(
     Ok(true)
 }
 
-/// The clause of these literals, if it passes all tests under a tariff on these tolls.
+/// A tariff like this one.
+pub(crate) fn copied(alloc: Global, tariff: &Tariff) -> Result<Tariff, NoMemory>
+    ensures value { IfOk result (λ copied. copied ≡ tariff.now) }
+{
+    Ok(Tariff {
+        scale: tariff.scale,
+        dues: Dues {
+            items: Vec::from_slice(alloc, &tariff.dues.items)?,
+        },
+    })
+}
+
+/// The clause of these literals, if it passes all tests under a tariff that was charged on these
+/// tolls.
 pub(crate) fn tested(
     alloc: Global,
     scene: &Scene<'_>,
     tolls: &[Toll],
-    tariff: &Tariff,
+    prices: &InForce,
     lits: Vec<Lit>,
 ) -> Result<Option<Clause>, NoMemory>
     requires room { RoomFits scene.now.flat.now scene.now.room.now }
     requires tolls { All (IsToll scene.now.flat.now) tolls.now }
-    requires fits { TariffFits (length tolls.now) tariff.now }
-    ensures value { IfOk result (λ found. IfSome found (IsTested scene.now.flat.now tolls.now tariff.now scene.now.best scene.now.room.now)) }
+    requires charged { IsCharged scene.now.flat.now tolls.now prices.now }
+    ensures value { IfOk result (λ found. IfSome found (IsTested scene.now.flat.now tolls.now prices.now.tariff scene.now.best scene.now.room.now)) }
 {
     let shape = scene.flat.shape();
     let Ok(clause) = Clause::from_list(shape, lits) else {
@@ -120,10 +134,7 @@ pub(crate) fn tested(
     };
     let mut denied = Room::whole(alloc, shape)?;
     deny(&clause, &mut denied);
-    let mut costs = vec![in alloc; 0; shape.slots as usize]?;
-    let best = scene.best;
-    let refuted = charged_refute(scene.flat, tolls, tariff, best, &denied, &mut costs);
-    if refuted
+    if prices.refutes(scene.flat, tolls, scene.best, &denied)
         && is_active(scene.flat, &clause, scene.room)
         && names_no_order(scene.flat, &clause)
     {
