@@ -53,7 +53,7 @@ all_small ship k (c ∷ cs) all =
     let here : c.amount ≤ 64 = All-head (λ (charge : Charge). charge.amount ≤ 64) c cs all in
     omega (arith, takes_small ship k c, here, all_small ship k cs (All-tail (λ (charge : Charge). charge.amount ≤ 64) c cs all), sum_by-cons (takes ship k) c cs)
 
-times_small : (p n : ℕ) → p ≤ 1_000_000_000_000_000_000 → n ≤ 2_560 → p * n ≤ 2_560_000_000_000_000_000_000
+pub times_small : (p n : ℕ) → p ≤ 1_000_000_000_000_000_000 → n ≤ 2_560 → p * n ≤ 2_560_000_000_000_000_000_000
 times_small p n a b = le_trans (mul-le-mul_right n a) (omega (arith, b))
 
 added_small : (low high price ship k : ℕ) (cs : List Charge) → price ≤ 1_000_000_000_000_000_000 → length cs ≤ 40 → All (λ charge. charge.amount ≤ 64) cs → cond (lies_in low high k) (price * sum_by (takes ship k) cs) 0 ≤ 2_560_000_000_000_000_000_000

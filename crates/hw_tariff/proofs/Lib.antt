@@ -1,4 +1,5 @@
 pub mod Steps
 pub mod Judged
 pub mod Charged
+pub mod Rows
 pub mod Stays

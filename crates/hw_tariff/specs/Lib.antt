@@ -1,3 +1,4 @@
 pub mod Asked
+pub mod Charging
 pub mod InForce
 pub mod PriceStates

@@ -17,7 +17,7 @@ struct Span {
 }
 
 /// Adds an amount to the cost of each slot from `from` on and below `to`.
-fn add(costs: &mut [u128], from: usize, to: usize, amount: u128)
+pub(crate) fn add(costs: &mut [u128], from: usize, to: usize, amount: u128)
     requires inside { to ≤ length costs.old }
     requires small { All (λ c. c ≤ 1_000_000_000_000_000_000_000_000_000) costs.old }
     requires small_amount { amount ≤ 64_000_000_000_000_000_000 }
@@ -58,7 +58,7 @@ fn charge_blocks(costs: &mut [u128], span: Span, blocks: &[Block])
 }
 
 /// The charge of a block.
-fn charge_of(block: Block) -> Charge
+pub(crate) fn charge_of(block: Block) -> Charge
     ensures value { result ≡ block_charge block }
 {
     Charge {
@@ -87,7 +87,7 @@ fn charge_jobs(costs: &mut [u128], span: Span, jobs: &[Job], weights: &[u32], bu
 }
 
 /// The charge of a job with its weight, in a slot.
-fn charge_for(job: Job, weight: u32, busy: Slot) -> Charge
+pub(crate) fn charge_for(job: Job, weight: u32, busy: Slot) -> Charge
     requires in_slots { busy ≤ 512 }
     ensures value { result ≡ job_charge busy weight job }
 {

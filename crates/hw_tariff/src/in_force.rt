@@ -10,7 +10,7 @@ ghost use Rattle.hw_tolls.specs.Computed.{BalanceFits};
 ghost use Rattle.hw_tariff.specs.InForce.{IsCharged, AreCosts, AreTops, ShipCosts};
 
 use crate::balancing::{best_by_costs, together};
-use crate::charging::charge;
+use crate::costs::{Costs, costs_of};
 use crate::refuting::{aim, falls_short};
 use crate::taking::allowance_of;
 use hw_flat::{Flat, Room, ShipId};
@@ -18,22 +18,6 @@ use hw_model::NoMemory;
 use hw_tolls::{Balance, Block, Due, Tariff, Toll};
 use std::alloc::Global;
 use std::marker::Model;
-
-/// What a ship pays in each slot, in parts, seen as their list.
-#[derive(Drop)]
-pub(crate) struct Costs {
-    items: Vec<u128>,
-}
-
-impl Model for Costs {
-    ghost use Rattle.std.specs.Prelude.{List, ℕ, ◌≤◌, All};
-
-    ghost Value = { List ℕ };
-
-    ghost view = { λ c. c.items.items };
-
-    ghost invariant = { λ c. All (λ cost. cost ≤ 256_000_000_000_000_000_000_000_000) c.items.items };
-}
 
 /// A tariff with its allowance, what each ship pays in each slot, and each ship's best balance, all
 /// in parts.
@@ -119,50 +103,6 @@ impl InForce {
     }
 }
 
-/// What each ship pays in each slot.
-fn costs_of(
-    alloc: Global,
-    flat: &Flat,
-    tolls: &[Toll],
-    dues: &[Due],
-) -> Result<Vec<Costs>, NoMemory>
-    requires tolls { All (IsToll flat.now) tolls.now }
-    requires few { length dues.now ≤ 100_000 }
-    requires fit { All (DueFits (length tolls.now)) dues.now }
-    ensures value { IfOk result (λ costs. AreCosts flat.now tolls.now dues.now costs.items) }
-{
-    let mut costs = Vec::new(alloc);
-    for ship in 0..flat.shape().ships {
-        let row = ship_costs(alloc, flat, tolls, dues, ship)?;
-        costs.push(row)?;
-    }
-    Ok(costs)
-}
-
-/// What a ship pays in each slot.
-fn ship_costs(
-    alloc: Global,
-    flat: &Flat,
-    tolls: &[Toll],
-    dues: &[Due],
-    ship: ShipId,
-) -> Result<Costs, NoMemory>
-    requires tolls { All (IsToll flat.now) tolls.now }
-    requires few { length dues.now ≤ 100_000 }
-    requires fit { All (DueFits (length tolls.now)) dues.now }
-    ensures value { IfOk result (λ costs. ShipCosts flat.now tolls.now dues.now ship costs) }
-{
-    let slots = flat.shape().slots;
-    let mut items = vec![in alloc; 0; slots as usize]?;
-    let range = Block {
-        ship,
-        low: 0,
-        high: slots - 1,
-    };
-    charge(&mut items, flat, tolls, dues, range);
-    Ok(Costs { items })
-}
-
 /// Each ship's best balance over all its slots, by what it pays.
 fn tops_of(
     alloc: Global,
@@ -184,7 +124,7 @@ fn tops_of(
             high: flat.shape().slots - 1,
         };
         let row = &costs[ship as usize];
-        tops.push(best_by_costs(flat, tolls, tariff, range, &row.items))?;
+        tops.push(best_by_costs(flat, tolls, tariff, range, row.as_slice()))?;
     }
     Ok(tops)
 }
@@ -243,6 +183,6 @@ fn costed_best(
     if range.low == 0 && range.high == flat.shape().slots - 1 {
         top
     } else {
-        best_by_costs(flat, tolls, tariff, range, &row.items)
+        best_by_costs(flat, tolls, tariff, range, row.as_slice())
     }
 }

@@ -8,6 +8,7 @@
 mod balancing;
 mod by_pair;
 mod charging;
+mod costs;
 mod fitting;
 mod in_force;
 mod judging;

@@ -1,0 +1,26 @@
+use Rattle.std.proofs.Common.{◌∙◌, arith}
+use Rattle.hw_tariff.proofs.Rows.{due_left, pays_small}
+use Rattle.hw_tariff.proofs.costs.charge_dues.Goals as goal
+
+pub charge_ships-requires-clause-room : goal.charge_ships-requires-clause-room
+charge_ships-requires-clause-room c = λ ship slot.
+    omega (
+      arith,
+      due_left c.args.flat.now c.args.tolls.now c.args.dues.now ship slot c.loop-due.due-index (record { toll = 0; price = 0 }) c.index-tolls-due.result c.requires.fit c.loop-due-test.true c.index-tolls-due.is,
+      c.loop-due.invariant.told ship slot,
+      c.requires.none ship slot,
+      pays_small c.args.flat.now c.args.tolls.now c.args.dues.now ship slot c.shape-shape.ensures.limits c.requires.tolls c.requires.fit,
+      c.requires.few,
+    )
+
+pub loop-due-preserved : goal.loop-due-preserved
+loop-due-preserved c = record {
+  each_slot = λ ship. c.charge_ships.ensures.charged.each_slot ship ∙ c.loop-due.invariant.each_slot ship;
+  told = λ ship slot.
+      omega (
+        arith,
+        due_left c.args.flat.now c.args.tolls.now c.args.dues.now ship slot c.loop-due.due-index (record { toll = 0; price = 0 }) c.index-tolls-due.result c.requires.fit c.loop-due-test.true c.index-tolls-due.is,
+        c.charge_ships.ensures.charged.paid ship slot,
+        c.loop-due.invariant.told ship slot,
+      );
+}
