@@ -6,14 +6,15 @@ use hw_advice::{Advice, Adviser, Bounding, Scene};
 use hw_model::{Lit, NoMemory};
 use std::alloc::Global;
 
-/// It says nothing before so many lemmas, so that easy problems stay as fast as they are.
+/// It says nothing before this many lemmas, so that easy problems stay as fast as they are.
 const FIRST: u32 = 32;
 
-/// Finds prices on tolls: for the whole room once, and for each room from the last ones on.
+/// Advises a search by prices on tolls. It looks for prices for the whole problem once, and then moves
+/// them a little in each room that it is shown.
 ///
-/// It gives a bound after 32 lemmas, or where a smaller budget is spent, and where the budget is spent
-/// a lower one if it finds one. It advises nothing in the first 32 lemmas, without a best and in a
-/// point room. It looks at no clock, and each call ends after a fixed number of steps.
+/// It is silent in the first 32 lemmas, in a point room, and as long as there is no best. It gives a
+/// bound after 32 lemmas, or when a smaller budget is spent; when the budget is spent it looks for a
+/// lower one. It looks at no clock, and each call ends after a fixed number of steps.
 #[derive(Drop)]
 pub struct PricingAdviser {
     /// How many lemmas the search finds at most.
@@ -23,7 +24,7 @@ pub struct PricingAdviser {
 }
 
 impl PricingAdviser {
-    /// One for a search of at most so many lemmas, that has not looked at a problem yet. It takes no
+    /// An adviser of a search of at most `budget` lemmas. It has not looked at a problem yet, and takes no
     /// memory.
     pub fn new(budget: u32) -> PricingAdviser {
         PricingAdviser { budget, mind: None }

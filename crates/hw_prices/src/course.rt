@@ -5,7 +5,7 @@ use crate::lanes::SCALE;
 /// How fast steps begin at most, in parts of `FULL_PACE`.
 pub(crate) const FULL_PACE: i64 = 1_024;
 
-/// After so many steps without a better total the pace falls.
+/// After this many steps without a better total the pace falls.
 const PATIENCE: u32 = 12;
 
 /// A better total counts as progress from this part of the way to the target on.

@@ -8,7 +8,7 @@ use hw_model::{Job, NoMemory, Rule};
 use hw_tolls::{Toll, Weights};
 use std::alloc::Global;
 
-/// At most so many of the ships can be served together.
+/// At most this many of the ships can be served together.
 const MOST: u32 = 4;
 
 /// A job, by how often its ship held its tugs in a slot.
@@ -39,7 +39,7 @@ struct Berth<'b> {
     jobs: &'b [Job],
 }
 
-/// The jobs with so many tugs or more, and so many of the others, those that held theirs most often.
+/// The jobs with this many tugs or more, and this many of the others, those that held theirs most often.
 #[derive(Clone, Copy)]
 struct Choice {
     tugs: u32,
@@ -144,7 +144,7 @@ fn best_choice(steps: i64, berth: Berth<'_>, loads: &[Load], most: u32) -> Optio
     best
 }
 
-/// Whether no job before this place has so many tugs.
+/// Whether no job before this place has this many tugs.
 fn is_first(jobs: &[Job], place: usize, tugs: u32) -> bool {
     jobs.iter().take(place).all(|job| job.tugs != tugs)
 }

@@ -33,6 +33,8 @@ pub(crate) struct Lane {
     pub(crate) high: u32,
     /// The slot that earns most.
     chosen: u32,
+    /// The slot in which the meters count what the ship takes.
+    taken: Option<u32>,
 }
 
 impl Lane {
@@ -50,6 +52,7 @@ impl Lane {
             low: 0,
             high: slots.saturating_sub(1),
             chosen: 0,
+            taken: None,
         })
     }
 
@@ -68,8 +71,9 @@ impl Lane {
         Ok(())
     }
 
-    /// Chooses the first slot of the range that earns most, and says how much. For each slot of all ships
-    /// it is told by how much what is paid there exceeds what is paid in the slot before.
+    /// Chooses the slot of the range that earns most, the first of several, and returns what it earns.
+    ///
+    /// `rises` says for each slot of all ships how much more is paid there than in the slot before.
     pub(crate) fn choose(&mut self, rises: &[i64]) -> i64 {
         let paid = within(rises, self.place(self.low), self.place(self.high));
         let (slot, earned) = best_slot(within(&self.gains, self.low, self.high), paid, self.low);
@@ -80,9 +84,26 @@ impl Lane {
         earned
     }
 
-    /// What the ship takes in the slot that it chose.
-    pub(crate) fn chosen_shares(&self) -> &[Share] {
-        match self.shares.get(self.chosen as usize) {
+    /// Whether the ship chose another slot than the one in which it takes.
+    pub(crate) fn is_elsewhere(&self) -> bool {
+        self.taken != Some(self.chosen)
+    }
+
+    /// The ship takes in the slot that it chose.
+    pub(crate) fn move_there(&mut self) {
+        self.taken = Some(self.chosen);
+    }
+
+    /// What the ship takes in its slot.
+    pub(crate) fn taken_shares(&self) -> &[Share] {
+        match self.taken {
+            None => &[],
+            Some(slot) => self.shares_in(slot),
+        }
+    }
+
+    fn shares_in(&self, slot: u32) -> &[Share] {
+        match self.shares.get(slot as usize) {
             None => &[],
             Some(shares) => shares,
         }
@@ -161,12 +182,13 @@ pub(crate) fn lanes(alloc: Global, flat: &Flat) -> Result<Vec<Lane>, NoMemory> {
     Ok(lanes)
 }
 
-/// Starts in the ranges of a room.
+/// Starts in the ranges of a room, with nothing taken.
 pub(crate) fn begin_lanes(lanes: &mut [Lane], room: &Room) {
     for ship in 0..room.ships() {
         if let Some(lane) = lanes.get_mut(ship as usize) {
             lane.low = room.low(ship);
             lane.high = room.high(ship);
+            lane.taken = None;
         }
     }
 }

@@ -1,12 +1,12 @@
 //! How much of each row is taken, and where its price goes.
 
-use crate::lanes::Lane;
+use crate::lanes::{Lane, Share};
 use hw_model::NoMemory;
 
-/// Directions count this part of a unit.
+/// Directions count units in this many parts.
 const UNIT: i64 = 16;
 
-/// A direction keeps so much of the last one, in tenths.
+/// This part of a direction is kept from the last one, in tenths.
 const KEPT: i64 = 6;
 
 /// What is taken of a row, and where its price goes.
@@ -26,6 +26,10 @@ impl Meter {
             direction: 0,
             live: false,
         }
+    }
+
+    pub(crate) fn is_overfilled(&self) -> bool {
+        self.capacity < self.usage
     }
 
     /// Nothing is taken, and the price rests.
@@ -49,33 +53,39 @@ pub(crate) fn aimed(meter: &Meter, price: i64) -> i64 {
     }
 }
 
-/// Adds what the ships take in the slots that they chose. Rows that are overfilled come alive.
+/// Counts what the ships take in the slots that they chose. Rows that are overfilled come alive.
 pub(crate) fn take_up(
-    lanes: &[Lane],
+    lanes: &mut [Lane],
     meters: &mut [Meter],
     live: &mut Vec<u32>,
 ) -> Result<(), NoMemory> {
-    for lane in lanes {
-        for share in lane.chosen_shares() {
-            if let Some(meter) = meters.get_mut(share.row as usize) {
-                meter.usage = meter.usage.wrapping_add(share.units);
-                if !meter.live && meter.capacity < meter.usage {
-                    meter.live = true;
-                    live.push(share.row)?;
-                }
-            }
+    for lane in lanes.iter_mut() {
+        if lane.is_elsewhere() {
+            put_back(lane.taken_shares(), meters);
+            lane.move_there();
+            take(lane.taken_shares(), meters, live)?;
         }
     }
     Ok(())
 }
 
-/// Takes that back.
-pub(crate) fn put_back(lanes: &[Lane], meters: &mut [Meter]) {
-    for lane in lanes {
-        for share in lane.chosen_shares() {
-            if let Some(meter) = meters.get_mut(share.row as usize) {
-                meter.usage = meter.usage.wrapping_sub(share.units);
+fn put_back(shares: &[Share], meters: &mut [Meter]) {
+    for share in shares {
+        if let Some(meter) = meters.get_mut(share.row as usize) {
+            meter.usage = meter.usage.wrapping_sub(share.units);
+        }
+    }
+}
+
+fn take(shares: &[Share], meters: &mut [Meter], live: &mut Vec<u32>) -> Result<(), NoMemory> {
+    for share in shares {
+        if let Some(meter) = meters.get_mut(share.row as usize) {
+            meter.usage = meter.usage.wrapping_add(share.units);
+            if !meter.live && meter.is_overfilled() {
+                meter.live = true;
+                live.push(share.row)?;
             }
         }
     }
+    Ok(())
 }

@@ -36,7 +36,7 @@ const EXPLORED: u32 = 10;
 /// Steps of the last look at the whole room.
 const LAST_STEPS: u32 = 1_000;
 
-/// New prices that refute no room are worth an answer if they cut so many ends of ranges.
+/// New prices that refute no room are worth an answer if they cut this many ends of ranges.
 const CUTS: usize = 4;
 
 /// What an adviser knows of a problem.

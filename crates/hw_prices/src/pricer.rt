@@ -4,7 +4,7 @@ use crate::candidates::candidates;
 use crate::course::{Bout, Course, FULL_PACE};
 use crate::distances::Distances;
 use crate::lanes::{Lane, Share, begin_lanes, lanes};
-use crate::meters::{Meter, aimed, put_back, take_up};
+use crate::meters::{Meter, aimed, take_up};
 use crate::rows::{Part, Row, capacity};
 use hw_flat::{Flat, Room};
 use hw_model::NoMemory;
@@ -21,7 +21,7 @@ pub(crate) struct Pricer {
     pub(crate) distances: Distances,
     pub(crate) lanes: Vec<Lane>,
     /// By how much what is paid in a slot exceeds what is paid in the slot before: for each slot of
-    /// each ship, and behind its last one.
+    /// each ship, and after its last one.
     rises: Vec<i64>,
     pub(crate) rows: Vec<Row>,
     /// The price of each row's unit, in parts.
@@ -101,7 +101,6 @@ impl Pricer {
             }
             let goes_on = bout.goes_on(total);
             let norm = if goes_on { self.aim() } else { 0 };
-            put_back(&self.lanes, &mut self.meters);
             if norm <= 0 {
                 break;
             }
@@ -211,7 +210,7 @@ impl Pricer {
         for lane in self.lanes.iter_mut() {
             total = total.wrapping_add(lane.choose(&self.rises));
         }
-        take_up(&self.lanes, &mut self.meters, &mut self.live)?;
+        take_up(&mut self.lanes, &mut self.meters, &mut self.live)?;
         for place in known..self.live.len() {
             let row = self.live.get(place).copied().unwrap_or(u32::MAX);
             self.clip(row as usize)?;
@@ -233,8 +232,8 @@ impl Pricer {
         norm
     }
 
-    /// Moves each live row's price along its direction. Rows without a price and a direction are
-    /// live no more.
+    /// Moves each live row's price along its direction. A row stays alive with a price, with a direction
+    /// or overfilled.
     fn move_prices(&mut self, unit: i64) -> Result<(), NoMemory> {
         for place in 0..self.live.len() {
             let number = self.live.get(place).copied().unwrap_or(u32::MAX);
@@ -256,14 +255,13 @@ impl Pricer {
         let old = self.prices.get(row).copied().unwrap_or(0);
         let step = unit.saturating_mul(direction) / FULL_PACE;
         let new = old.saturating_add(step).max(0).min(DEAREST);
-        if new == 0 && direction == 0 {
-            meter.live = false;
-        }
+        let live = new != 0 || direction != 0 || meter.is_overfilled();
+        meter.live = live;
         if new != old {
             self.set_price(row, new);
             self.charge(row, new.wrapping_sub(old));
         }
-        new != 0 || direction != 0
+        live
     }
 }
 

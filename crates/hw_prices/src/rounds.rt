@@ -16,11 +16,11 @@ const STEPS: u32 = 1_000;
 /// Steps of a round in which the chosen slots are counted.
 const COUNTED: u32 = STEPS / 3;
 
-/// At most so many rounds of tolls that are found.
+/// At most this many rounds of tolls that are found.
 const ROUNDS: u32 = 20;
 
-/// At most so many tolls a round.
-const FOUND: usize = 40;
+/// At most this many tolls a round: the next ones would be much like these.
+const FOUND: usize = 10;
 
 /// Finds prices for a room from nothing, and adds tolls that help. Gives what the room earns under
 /// them, with what they give back, in parts.

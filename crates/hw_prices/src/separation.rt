@@ -45,7 +45,7 @@ impl Spot {
     }
 }
 
-/// What is sought in: what the ships chose in so many steps, and how far rules keep them apart.
+/// What is sought in: what the ships chose in this many steps, and how far rules keep them apart.
 #[derive(Clone, Copy)]
 pub(crate) struct Choices<'c> {
     pub(crate) flat: &'c Flat,
@@ -252,7 +252,7 @@ fn widen(choices: &Choices<'_>, blocks: &mut [Block]) {
     }
 }
 
-/// Widens a block by the slot before or behind it, where it stays apart. Whether it does.
+/// Widens a block by the slot before or after it, where it stays apart. Whether it does.
 fn widen_one(choices: &Choices<'_>, blocks: &mut [Block], place: usize, before: bool) -> bool {
     let Some(old) = blocks.get(place).copied() else {
         return false;
