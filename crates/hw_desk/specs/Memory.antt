@@ -1,5 +1,5 @@
 -- A desk in memory, as a contract sees it.
-use Rattle.std.specs.Prelude.{◌≡◌, ◌+◌, ◌-◌, ◌^◌, ◌&&◌, ◌==◌, ℕ, List, [], Bool, true, false, Some, None, Result, Ok, Err, IfSome, cond, min, refl}
+use Rattle.std.specs.Prelude.{◌≡◌, ◌+◌, ◌++◌, ◌-◌, ◌^◌, ◌&&◌, ◌==◌, ℕ, List, [], Bool, true, false, Some, None, Result, Ok, Err, IfSome, cond, min, refl}
 use Rattle.std.specs.List.{list_any}
 use Rattle.std.proofs.Math.Nat.{min-le_right}
 use Rattle.hw_desk.specs.State.{FeedState, TrayState, DeskState, IsFresh, IsBounded, bounded_count}
@@ -76,6 +76,10 @@ new_memory files most room fails = record {
 abbrev pub sent_to : MemoryModel → Tray → SentModel
 sent_to d Report = d.report.sent
 sent_to d Proof = d.proof.sent
+
+-- a tray with more bytes sent to it
+abbrev pub with_sent : TraySlot → List ℕ → TraySlot
+with_sent tray bytes = record tray { sent = record tray.sent { bytes = tray.sent.bytes ++ bytes } }
 
 abbrev pub same_call : DeskCall → DeskCall → Bool
 same_call call.Begin call.Begin = true

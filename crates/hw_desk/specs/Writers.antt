@@ -13,6 +13,10 @@ pub record WriterState : Type 0 where
   pub waiting : List ℕ
   pub spent : Bool
 
+-- the state of a writer with these parts
+abbrev pub writer_state : DeskState → GName → Tray → List ℕ → Bool → WriterState
+writer_state desk borrow tray waiting spent = record { desk = desk; borrow = borrow; tray = tray; waiting = waiting; spent = spent }
+
 -- how many bytes may wait
 abbrev pub room : ℕ
 room = 8192

@@ -1,9 +1,9 @@
 //! The desk in memory whose calls fail where a list says so.
 
-ghost use Rattle.std.specs.Prelude.{◌≡◌, ◌<◌, ◌≤◌, ◌↔◌, ◌+◌, ◌-◌, ◌^◌, ◌⊎◌, ◌++◌, [], min, length, take, true, false, IfOk, IfSome, IsNone, OnErr, OnOk, IsErr, IsTrue, MatchResult};
+ghost use Rattle.std.specs.Prelude.{◌≡◌, ◌<◌, ◌≤◌, ◌↔◌, ◌+◌, ◌-◌, ◌^◌, ◌⊎◌, [], min, length, take, true, false, IfOk, IfSome, IsNone, OnErr, OnOk, IsErr, IsTrue, MatchResult};
 ghost use Rattle.hw_desk.specs.State.{Rose};
 ghost use Rattle.hw_desk.specs.Names.{kept_name};
-ghost use Rattle.hw_desk.specs.Memory.{fails_at, next_count, fresh_tray};
+ghost use Rattle.hw_desk.specs.Memory.{fails_at, next_count, fresh_tray, with_sent};
 
 use crate::name::KeptName;
 use crate::sent::SentBytes;
@@ -122,7 +122,7 @@ fn open_or_fail(
     Ok(())
 }
 
-/// A tray that wasn't made, with room for `room` bytes.
+/// A tray that wasn't made, which has room for `room` bytes.
 fn empty_tray(alloc: Global, room: usize) -> Result<TraySlot, NoMemory>
     ensures { IfOk result (λ tray. tray ≡ fresh_tray room) }
 {
@@ -133,7 +133,7 @@ fn empty_tray(alloc: Global, room: usize) -> Result<TraySlot, NoMemory>
     })
 }
 
-/// Makes the report. What was sent to it before stays where the make fails.
+/// Makes the report. What was sent to it before stays if the make fails.
 fn make_report(
     slot: &mut TraySlot,
     name: &str,
@@ -184,7 +184,7 @@ fn send_or_fail(
     faults: &mut u64,
 ) -> Result<usize, DeskFailed>
     requires { 1 ≤ most }
-    ensures slot { MatchResult result (λ n. slot.new ≡ record slot.old { sent = record slot.old.sent { bytes = slot.old.sent.bytes ++ take n bytes.now } }) (λ _. slot.new ≡ slot.old) }
+    ensures slot { MatchResult result (λ n. slot.new ≡ with_sent slot.old (take n bytes.now)) (λ _. slot.new ≡ slot.old) }
     ensures count { IfOk result (λ n. n ≡ min (length bytes.now) (min most (slot.old.sent.room - length slot.old.sent.bytes))) }
     ensures faults { MatchResult result (λ _. faults.new ≡ faults.old) (λ _. faults.new ≡ next_count faults.old) }
     ensures exactly { IsErr result ↔ (IsTrue listed ⊎ (slot.old.sent.room ≤ length slot.old.sent.bytes)) }

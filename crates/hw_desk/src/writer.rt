@@ -3,13 +3,13 @@
 ghost use Rattle.std.specs.Prelude.{◌≡◌, ◌++◌, ◌<◌, [], length, take, decimal, is_err, true, false};
 ghost use Rattle.hw_desk.specs.State.{DeskState, CanSend, can_send};
 ghost use Rattle.hw_desk.specs.Whole.{SendsText};
-ghost use Rattle.hw_desk.specs.Writers.{WriterState, Puts, Opens, Flushes, answer_of};
+ghost use Rattle.hw_desk.specs.Writers.{WriterState, Puts, Opens, Flushes, answer_of, writer_state};
 
 use crate::buffer::TextBuffer;
 use crate::{Desk, DeskFailed, Tray, write_all};
 use itoa::Buffer;
 
-/// A writer of text to a tray: bytes wait in a fixed buffer, and are sent where it is full and at the end.
+/// A writer of text to a tray: bytes wait in a fixed buffer, and are sent when it is full and at the end.
 ///
 /// It takes no memory. A text that fits the buffer, 8192 bytes, is sent at once, by `flush` alone.
 /// After a failed write the writer is spent: it sends nothing more, and `flush` answers the failure.
@@ -55,7 +55,7 @@ impl<'d, D: Desk> TrayWriter<'d, D> {
     pub fn new(desk: &'d mut D, tray: Tray) -> TrayWriter<'d, D>
         requires { CanSend tray (D.state desk.old) }
         ensures same_reference { result.desk.ghost_name ≡ desk.entry.ghost_name }
-        ensures opens { Opens tray (D.state desk.old) (record { desk = D.state result.desk.now; borrow = result.desk.ghost_name; tray = result.tray; waiting = result.waiting; spent = result.spent }) }
+        ensures opens { Opens tray (D.state desk.old) (writer_state (D.state result.desk.now) result.desk.ghost_name result.tray result.waiting result.spent) }
     {
         TrayWriter {
             desk,
@@ -67,7 +67,7 @@ impl<'d, D: Desk> TrayWriter<'d, D> {
 }
 
 impl<D: Desk> Writer for TrayWriter<'_, D> {
-    ghost state = { λ w. record { desk = D.state w.desk.now; borrow = w.desk.ghost_name; tray = w.tray; waiting = w.waiting; spent = w.spent } };
+    ghost state = { λ w. writer_state (D.state w.desk.now) w.desk.ghost_name w.tray w.waiting w.spent };
 
     fn put(&mut self, bytes: &[u8]) {
         if self.waiting.has_room(bytes.len()) {
