@@ -1,5 +1,5 @@
 -- What a line reader is seen as, and what its calls on pending bytes do.
-use Rattle.std.specs.Prelude.{◌≡◌, ℕ, ◌+◌, ◌^◌, ◌≤◌, List, [], ◌∷◌, ◌++◌, Result, length, Bool, true, false, IfOk, IfSome}
+use Rattle.std.specs.Prelude.{◌≡◌, ℕ, ◌+◌, ◌^◌, ◌≤◌, List, [], ◌∷◌, ◌++◌, Option, Some, None, Result, length, drop, Bool, true, false, IfOk, IfSome}
 use Rattle.std.specs.Io.KnownBytes.{IsAtEnd}
 use Rattle.hw_desk.specs.State.{DeskState}
 use Rattle.hw_desk.specs.Calls.{Moves, ReadCause, ReadKept}
@@ -17,10 +17,15 @@ pub record ReaderModel : Type 0 where
   pub at : Position
   pub pending : List ℕ
 
--- a line's bytes before a line feed were taken, or all of them, where there is none
+-- the bytes before the first line feed were taken as a line's, or all of them if there is none
 abbrev pub Scans : List ℕ → List ℕ → List ℕ → List ℕ → Bool → Type 0
 Scans bytes rest old new false = (lacks 10 bytes ≡ true) × (new ≡ old ++ bytes) × (rest ≡ [])
 Scans bytes rest old new true = (front : List ℕ) × (bytes ≡ front ++ 10 ∷ rest) × (lacks 10 front ≡ true) × (new ≡ old ++ front)
+
+-- the same, by how many bytes were used, including the line feed, or none if there is none
+abbrev pub ScansUsed : Option ℕ → List ℕ → List ℕ → List ℕ → Type 0
+ScansUsed None bytes old new = Scans bytes [] old new false
+ScansUsed (Some n) bytes old new = Scans bytes (drop n bytes) old new true
 
 -- the next bytes of the feed are pending, at most `most` of them, and none only where none is left
 pub record Fills {E : Type 0} (feed : Feed) (most : ℕ) (pending : List ℕ) (old new : DeskState) (result : Result ℕ E) : Type 0 where

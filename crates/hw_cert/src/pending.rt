@@ -1,8 +1,8 @@
 //! The bytes of one read that no line has taken yet.
 
-ghost use Rattle.std.specs.Prelude.{◌≡◌, ◌==◌, [], ◌≤◌, ◌<◌, length, true, false, take, drop, position, MatchOption, IfOk, IfSome};
+ghost use Rattle.std.specs.Prelude.{◌≡◌, ◌==◌, [], ◌≤◌, ◌<◌, length, true, take, position, IfOk, IfSome};
 ghost use Rattle.hw_desk.specs.Calls.{Reads};
-ghost use Rattle.hw_cert.specs.Reader.{Scans, Fills};
+ghost use Rattle.hw_cert.specs.Reader.{Scans, ScansUsed, Fills};
 
 use hw_desk::{Desk, DeskFailed, Feed};
 use std::alloc::{AllocError, Global};
@@ -36,11 +36,11 @@ fn find_end(bytes: &[u8]) -> Option<usize>
     bytes.iter().position(|b| *b == b'\n')
 }
 
-/// Appends the bytes before the first line feed, or all where there is none. Returns how many were
-/// used, the line feed among them, or none where there is no line feed.
+/// Appends the bytes before the first line feed, or all of them if there is none. Returns how many were
+/// used, including the line feed, or none without a line feed.
 fn scan_bytes(bytes: &[u8], line: &mut Vec<u8>) -> Result<Option<usize>, AllocError>
     ensures used { IfOk result (λ used. IfSome used (λ n. n ≤ length bytes.now)) }
-    ensures scans { IfOk result (λ used. MatchOption used (Scans bytes.now [] line.old.items line.new.items false) (λ n. Scans bytes.now (drop n bytes.now) line.old.items line.new.items true)) }
+    ensures scans { IfOk result (λ used. ScansUsed used bytes.now line.old.items line.new.items) }
 {
     match find_end(bytes) {
         Some(place) => {
@@ -70,7 +70,7 @@ fn read_block<D: Desk>(
 }
 
 impl Pending {
-    /// No bytes, with the room for one read.
+    /// No bytes yet, with room for one read.
     pub fn new(alloc: Global) -> Result<Pending, AllocError>
         ensures { IfOk result (λ p. p ≡ []) }
     {
@@ -82,7 +82,7 @@ impl Pending {
         })
     }
 
-    /// Takes the bytes up to the first line feed, which is taken too, or all where there is none.
+    /// Takes the bytes up to and including the first line feed, or all of them if there is none.
     /// Returns whether there was one.
     pub fn scan(&mut self, line: &mut Vec<u8>) -> Result<bool, AllocError>
         ensures { IfOk result (λ found. Scans self.old self.new line.old.items line.new.items found) }
@@ -100,7 +100,7 @@ impl Pending {
         }
     }
 
-    /// Lets the bytes go and reads the next ones, at most `most`.
+    /// Drops the bytes and reads the next ones, at most `most`.
     pub fn fill<D: Desk>(
         &mut self,
         desk: &mut D,
