@@ -4,13 +4,10 @@ use Rattle.std.proofs.lemmas.Bool.{cases_Bool, cases_lt, or_cases, or_left, both
 use Rattle.std.proofs.lemmas.List.Elements.{All-weaker}
 use Rattle.std.proofs.lemmas.List.Folds.{Any-from_list_any, list_any_at, list_any_none}
 use Rattle.std.proofs.lemmas.List.Kept.{AllPairs-from_increasing}
-use Rattle.std.specs.List.{AllPairs, Contains, list_any, range_with_len}
+use Rattle.std.specs.List.{AllPairs, Contains, range_with_len}
 use Rattle.std.specs.List.Sorted.{IsStrictlyIncreasing}
 use Rattle.hw_verdict.proofs.Naming.{from_among}
-
--- whether this number is one of these
-abbrev pub among : ℕ → List ℕ → Bool
-among id ids = list_any (λ other. other == id) ids
+use Rattle.hw_check.specs.Marks.{among}
 
 -- ---- among and Contains
 

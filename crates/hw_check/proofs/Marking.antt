@@ -12,8 +12,8 @@ use Rattle.hw_lines.specs.Lines.{clause_of, clauses_of, clause_count}
 use Rattle.hw_verdict.specs.Renewing.{hints_of, has_hint, is_hint_of, last_named, deletions, undeleting, next_number, renewed_from, IsNumbered}
 use Rattle.hw_verdict.proofs.Fitting.{range_ascends}
 use Rattle.hw_verdict.proofs.Naming.{from_among}
-use Rattle.hw_check.specs.Marks.{Marks}
-use Rattle.hw_check.proofs.Ascending.{among, among_filter, among_range, at_most_greatest, same_ascending}
+use Rattle.hw_check.specs.Marks.{Marks, among}
+use Rattle.hw_check.proofs.Ascending.{among_filter, among_range, at_most_greatest, same_ascending}
 
 -- ---- the hints of which a line is the last
 

@@ -10,7 +10,7 @@ use Rattle.hw_model.specs.declared.lit.Lit.{Lit}
 use Rattle.hw_lines.specs.Kept.{NumberedClause, clause_under, without}
 use Rattle.hw_check.specs.declared.place.Place.{Place}
 use Rattle.hw_check.specs.States.{literals}
-use Rattle.hw_check.specs.Places.{lits_at, clause_at, clauses_at, PlaceFits, Ascends, NoneHas, StandsAt}
+use Rattle.hw_check.specs.Places.{lits_at, clause_at, clauses_at, new_place, PlaceFits, Ascends, NoneHas, StandsAt}
 
 -- the clause at a place, dead or live
 abbrev pub whole_at : List Lit → Place → NumberedClause
@@ -187,10 +187,6 @@ behind : (lits more : List Lit) → take (length lits + length more - length lit
 behind lits more =
     let size : length lits + length more - length lits ≡ length more = omega arith in
     rw (size, drop-append_seam lits more) (ap (take (length more)) (sym (append-nil more)) ∙ take-append_seam more [])
-
--- the place of literals that are appended to a list
-abbrev pub new_place : ℕ → List Lit → List Lit → Place
-new_place id lits more = record { id = id; start = length lits; len = length more; is_live = true }
 
 pub pushed_at : (lits more : List Lit) (places : List Place) (id : ℕ) → All (PlaceFits (length lits)) places → clauses_at (lits ++ more) (places ++ new_place id lits more ∷ []) ≡ clauses_at lits places ++ (record { id = id; clause = more }) ∷ []
 pushed_at lits more places id all =

@@ -10,8 +10,8 @@ use Rattle.hw_model.specs.declared.lit.Lit.{Lit}
 use Rattle.hw_lines.specs.Kept.{NumberedClause, without}
 use Rattle.hw_check.specs.declared.place.Place.{Place}
 use Rattle.hw_check.specs.States.{ClauseStore, IsBounded, literals, needed}
-use Rattle.hw_check.specs.Places.{lits_at, clauses_at, PlaceFits, Ascends, StandsAt, IsStored, Gathers}
-use Rattle.hw_check.proofs.Places.{clauses_few, new_place, pushed_at, literals_push, one_less, literals_less, removed_at, IsRead}
+use Rattle.hw_check.specs.Places.{lits_at, clauses_at, new_place, PlaceFits, Ascends, StandsAt, IsStored, Gathers}
+use Rattle.hw_check.proofs.Places.{clauses_few, pushed_at, literals_push, one_less, literals_less, removed_at, IsRead}
 
 -- lists of the same numbers
 same_number : (xs ys : List Place) (i : ℕ) (d : Place) → map (λ place. place.id) xs ≡ map (λ place. place.id) ys → i < length xs → i < length ys → (get_or xs i d).id ≡ (get_or ys i d).id

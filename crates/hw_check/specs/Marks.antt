@@ -1,8 +1,26 @@
--- Marks on the numbers that later lines name.
-use Rattle.std.specs.Prelude.{◌≡◌, ℕ, ◌<◌, Bool, false, List, length, slice_index_or}
+-- Marks on the numbers that later lines name, and the deletions that are due.
+use Rattle.std.specs.Prelude.{◌≡◌, ℕ, ◌<◌, ◌==◌, Bool, false, List, ◌++◌, length, slice_index_or}
+use Rattle.std.specs.List.{list_any}
 use Rattle.hw_lines.specs.declared.line.Line.{Line}
-use Rattle.hw_verdict.specs.Renewing.{is_hint_of}
+use Rattle.hw_lines.specs.Lines.{clause_of}
+use Rattle.hw_verdict.specs.Renewing.{deletions, is_hint_of, undeleting}
 
--- of the numbers with a mark, just those are marked that one of these lines has as a hint
+-- whether this number is one of these
+abbrev pub among : ℕ → List ℕ → Bool
+among id ids = list_any (λ other. other == id) ids
+
+-- whether this number is marked
+abbrev pub is_marked : List Bool → ℕ → Bool
+is_marked marked id = slice_index_or marked id false
+
+-- exactly the numbers that one of these lines has as a hint are marked, of those that have a place for a mark
 abbrev pub Marks : List Bool → List Line → Type 0
-Marks marked later = (id : ℕ) → id < length marked → slice_index_or marked id false ≡ is_hint_of later id
+Marks marked later = (id : ℕ) → id < length marked → is_marked marked id ≡ is_hint_of later id
+
+-- the deletions that follow a line of this number before these later lines
+abbrev pub due_after : ℕ → Line → List Line → List Line
+due_after number line later = deletions number line later (clause_of line)
+
+-- the line, unless it is a deletion, and the deletions that follow it
+abbrev pub renewed_line : ℕ → Line → List Line → List Line
+renewed_line number line later = undeleting line ++ due_after number line later

@@ -1,5 +1,5 @@
 -- Clauses that stand in one list of literals, the dead ones among them.
-use Rattle.std.specs.Prelude.{◌≡◌, ℕ, ◌+◌, ◌<◌, ◌≤◌, List, Option, Some, None, length, map, filter, filter_map, slice_range, All, AllPairs, ◌≢◌, if◌then◌else◌}
+use Rattle.std.specs.Prelude.{◌≡◌, ℕ, ◌+◌, ◌<◌, ◌≤◌, List, Option, Some, None, true, length, map, filter, filter_map, slice_range, All, AllPairs, ◌≢◌, if◌then◌else◌}
 use Rattle.std.specs.List.{HoldsAt}
 use Rattle.hw_model.specs.declared.lit.Lit.{Lit}
 use Rattle.hw_lines.specs.Kept.{NumberedClause}
@@ -9,6 +9,10 @@ use Rattle.hw_check.specs.States.{literals}
 -- the literals at a place
 abbrev pub lits_at : List Lit → Place → List Lit
 lits_at lits place = slice_range lits place.start (place.start + place.len)
+
+-- the place of a live clause of this number whose literals are put after these
+abbrev pub new_place : ℕ → List Lit → List Lit → Place
+new_place id lits more = record { id = id; start = length lits; len = length more; is_live = true }
 
 -- the clause at a place, unless it is dead
 abbrev pub clause_at : List Lit → Place → Option NumberedClause

@@ -1,12 +1,13 @@
 -- What a checker keeps.
-use Rattle.std.specs.Prelude.{ℕ, ◌+◌, ◌*◌, ◌≤◌, Bool, List, Option, All, length, sum_by}
+use Rattle.std.specs.Prelude.{ℕ, ◌+◌, ◌*◌, ◌≤◌, Bool, List, [], ◌∷◌, ◌++◌, Option, All, length, sum_by}
+use Rattle.hw_model.specs.declared.lit.Lit.{Lit}
 use Rattle.hw_model.specs.Problem.{Problem}
 use Rattle.hw_model.specs.Rooms.{RoomModel, RoomFits}
 use Rattle.hw_model.specs.Lits.{IsLitOf}
 use Rattle.hw_lines.specs.Kept.{NumberedClause, Kept, none_kept}
 use Rattle.hw_tariff.specs.PriceStates.{PriceState, AreGood, tariff_of}
 
--- what is kept of the lines that were taken, and how many literals and places are kept for it, those of dead clauses among them
+-- what is kept of the lines that were taken, and how many literals and places are kept for it, including those of dead clauses
 pub record CheckState : Type 0 where
   pub problem : Problem
   pub kept : Kept
@@ -31,6 +32,10 @@ pub record ClauseStore : Type 0 where
   pub next : ℕ
   pub kept_lits : ℕ
   pub kept_places : ℕ
+
+-- the list with these literals as one more live clause, under the next number
+abbrev pub with_next : ClauseStore → List Lit → ClauseStore
+with_next store lits = record { live = store.live ++ (record { id = store.next; clause = lits }) ∷ []; next = store.next + 1; kept_lits = store.kept_lits + length lits; kept_places = store.kept_places + 1 }
 
 -- what is kept, by the clauses, the tolls and prices, the best cargo, and whether a clause line had no literals
 abbrev pub kept_in : ClauseStore → PriceState → Option ℕ → Bool → Kept

@@ -3,7 +3,7 @@
 
 ghost use Rattle.std.specs.Prelude.{◌≡◌, ◌∷◌, ◌++◌, [], ◌+◌, ◌*◌, ◌^◌, ◌<◌, ◌≤◌, Some, length, nat_lt, option_copied, OnOk, OnErr};
 ghost use Rattle.hw_lines.specs.Kept.{clause_under, without};
-ghost use Rattle.hw_check.specs.States.{IsBounded, literals};
+ghost use Rattle.hw_check.specs.States.{IsBounded, literals, with_next};
 
 use crate::stored::{Stored, find_place, gathered, lits_at};
 use hw_model::{Lit, NoMemory};
@@ -16,7 +16,7 @@ use std::marker::Model;
 #[derive(Drop)]
 pub(crate) struct ClauseList {
     stored: Stored,
-    /// How many numbers were given, those of dead clauses among them.
+    /// How many numbers were given, including those of dead clauses.
     count: u32,
     /// How many clauses are live.
     held: u32,
@@ -75,7 +75,7 @@ impl ClauseList {
         self.live_lits
     }
 
-    /// The number of literals that are kept, those of dead clauses among them.
+    /// The number of literals that are kept, including those of dead clauses.
     pub(crate) fn kept_lits(&self) -> usize
         ensures value { result ≡ self.now.kept_lits }
     {
@@ -104,10 +104,10 @@ impl ClauseList {
         }
     }
 
-    /// Adds a clause, which is live, under the next number.
+    /// Adds a live clause under the next number.
     pub(crate) fn push(&mut self, lits: &[Lit]) -> Result<(), NoMemory>
         requires numbered { self.old.next < 2 ^ 32 }
-        ensures added { OnOk result (self.new ≡ record { live = self.old.live ++ (record { id = self.old.next; clause = lits.now }) ∷ []; next = self.old.next + 1; kept_lits = self.old.kept_lits + length lits.now; kept_places = self.old.kept_places + 1 }) }
+        ensures added { OnOk result (self.new ≡ with_next self.old lits.now) }
         ensures kept { OnErr result (self.new ≡ self.old) }
     {
         self.stored.add(self.count + 1, lits)?;
@@ -141,8 +141,8 @@ impl ClauseList {
         }
     }
 
-    /// Gives back what is kept of dead clauses where it is more than what the live ones need, by
-    /// one pass over all that is kept. It costs at most twice what died since the last pass.
+    /// Gives back what is kept of dead clauses once it is more than the live ones need, in one pass
+    /// over all that is kept. It costs at most twice what died since the last pass.
     pub(crate) fn give_back(&mut self) -> Result<(), NoMemory>
         ensures same { self.new.live ≡ self.old.live }
         ensures numbered { self.new.next ≡ self.old.next }

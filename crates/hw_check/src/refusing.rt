@@ -11,6 +11,7 @@ ghost use Rattle.hw_lines.specs.Valid.{LineFits, denied_room};
 ghost use Rattle.hw_lines.specs.Refusals as refusals;
 ghost use Rattle.hw_lines.specs.Kept.{clause_under};
 ghost use Rattle.hw_tariff.specs.PriceStates.{AreGood};
+ghost use Rattle.hw_check.specs.Hints.{refusal_of_lemma};
 ghost use Rattle.hw_check.specs.States.{LitsFit, kept_in};
 
 use crate::clause_list::ClauseList;
@@ -173,7 +174,7 @@ fn lemma_refusal(
     requires clause { IsClause (shape_of flat.now) clause.now }
     requires lits { LitsFit flat.now.ships clauses.now.live }
     requires room { RoomFits flat.now room.old }
-    ensures value { result ≡ refusals.lemma_refusal (refusals.first_dead clauses.now.live hints.now) hints.now (replay (denied_room flat.now clause.now) (refusals.named clauses.now.live hints.now)) }
+    ensures value { result ≡ refusal_of_lemma flat.now clauses.now.live clause.now hints.now }
     ensures room { RoomFits flat.now room.new }
 {
     match first_dead(clauses, hints) {

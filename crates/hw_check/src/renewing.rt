@@ -2,13 +2,12 @@
 //!
 //! The lines are taken from the last one back. On the way, the numbers that later lines name are
 //! marked, so that each line knows which of its hints no later line names.
-ghost use Rattle.std.specs.Prelude.{◌≡◌, ℕ, ◌+◌, ◌^◌, ◌<◌, ◌≤◌, ◌==◌, ◌||◌, not, false, List, ◌∷◌, ◌++◌, [], length, filter, reverse, slice_index_or, is_some, All, IfOk, OnOk};
-ghost use Rattle.std.specs.List.{list_any};
+ghost use Rattle.std.specs.Prelude.{◌≡◌, ℕ, ◌+◌, ◌^◌, ◌<◌, ◌≤◌, ◌||◌, not, List, ◌∷◌, ◌++◌, [], length, filter, reverse, is_some, All, IfOk, OnOk};
 ghost use Rattle.std.specs.List.Sorted.{IsStrictlyIncreasing};
 ghost use Rattle.hw_lines.specs.declared.line.Line.{Line};
 ghost use Rattle.hw_lines.specs.Lines as counting;
 ghost use Rattle.hw_verdict.specs.Renewing as renewal;
-ghost use Rattle.hw_check.specs.Marks.{Marks};
+ghost use Rattle.hw_check.specs.Marks.{Marks, among, is_marked, due_after, renewed_line};
 
 use crate::refusing::clause_of;
 use hw_lines::{Hints, Line};
@@ -16,8 +15,8 @@ use hw_model::NoMemory;
 use std::alloc::Global;
 
 /// The lines without their deletions, each followed by those that are due: one of its hints that no
-/// later line has, and one of its own number where no later line has it. Nothing follows a clause
-/// line without literals.
+/// later line has, and one of its own number if no later line has it. Nothing follows a clause line
+/// without literals.
 ///
 /// The lines are moved, and lost if memory runs out. It costs one pass over them and over their
 /// hints, the sort of each line's hints that it is the last to have, and a mark for each number.
@@ -80,7 +79,7 @@ fn put_line(
 ) -> Result<(), NoMemory>
     requires number { number < length marked.old }
     requires hints { All (λ id. id < length marked.old) (renewal.hints_of line) }
-    ensures put { (later : List Line) → Marks marked.old later → OnOk result (made.new.items ≡ made.old.items ++ reverse (renewal.undeleting line ++ renewal.deletions number line later (counting.clause_of line))) }
+    ensures put { (later : List Line) → Marks marked.old later → OnOk result (made.new.items ≡ made.old.items ++ reverse (renewed_line number line later)) }
     ensures marked { (later : List Line) → Marks marked.old later → OnOk result (Marks marked.new (line ∷ later)) }
 {
     put_due(alloc, &line, number, marked, made)?;
@@ -109,7 +108,7 @@ fn put_due(
 ) -> Result<(), NoMemory>
     requires number { number < length marked.now }
     requires hints { All (λ id. id < length marked.now) (renewal.hints_of line.now) }
-    ensures put { (later : List Line) → Marks marked.now later → OnOk result (made.new.items ≡ made.old.items ++ reverse (renewal.deletions number line.now later (counting.clause_of line.now))) }
+    ensures put { (later : List Line) → Marks marked.now later → OnOk result (made.new.items ≡ made.old.items ++ reverse (due_after number line.now later)) }
 {
     let Some(clause) = clause_of(line) else {
         return Ok(());
@@ -121,7 +120,7 @@ fn put_due(
     put_deletion(last_named(alloc, line, marked)?, made)
 }
 
-/// Puts one deletion of these numbers, where there are any.
+/// Puts one deletion of these numbers, if there are any.
 fn put_deletion(ids: Vec<u32>, made: &mut Vec<Line>) -> Result<(), NoMemory>
     ensures put { OnOk result (made.new.items ≡ made.old.items ++ renewal.deletion ids.items) }
 {
@@ -158,16 +157,16 @@ fn last_named(alloc: Global, line: &Line, marked: &[bool]) -> Result<Vec<u32>, N
 /// Brings the numbers into order, each once.
 fn sort_once(ids: &mut Vec<u32>)
     ensures ascends { IsStrictlyIncreasing ids.new.items }
-    ensures same { (id : ℕ) → list_any (λ other. other == id) ids.new.items ≡ list_any (λ other. other == id) ids.old.items }
+    ensures same { (id : ℕ) → among id ids.new.items ≡ among id ids.old.items }
 {
     ids.sort_unstable();
     ids.dedup();
 }
 
-/// Those of these numbers that aren't marked.
+/// The numbers that aren't marked.
 fn unmarked(alloc: Global, ids: &[u32], marked: &[bool]) -> Result<Vec<u32>, NoMemory>
     requires hints { All (λ id. id < length marked.now) ids.now }
-    ensures value { IfOk result (λ kept. kept.items ≡ filter (λ id. not (slice_index_or marked.now id false)) ids.now) }
+    ensures value { IfOk result (λ kept. kept.items ≡ filter (λ id. not (is_marked marked.now id)) ids.now) }
 {
     let mut kept = Vec::new(alloc);
     for id in ids {
@@ -181,7 +180,7 @@ fn unmarked(alloc: Global, ids: &[u32], marked: &[bool]) -> Result<Vec<u32>, NoM
 /// Marks these numbers.
 fn mark(ids: &[u32], marked: &mut [bool])
     requires hints { All (λ id. id < length marked.old) ids.now }
-    ensures marked { (id : ℕ) → id < length marked.old → slice_index_or marked.new id false ≡ (slice_index_or marked.old id false || list_any (λ other. other == id) ids.now) }
+    ensures marked { (id : ℕ) → id < length marked.old → is_marked marked.new id ≡ (is_marked marked.old id || among id ids.now) }
 {
     for id in ids {
         marked[*id as usize] = true;

@@ -1,7 +1,7 @@
 //! The literals of clauses in one list, each clause with its place.
 
-ghost use Rattle.std.specs.Prelude.{◌≡◌, ◌∷◌, ◌++◌, [], ◌+◌, ◌^◌, ◌<◌, ◌≤◌, true, length, All, IfOk, OnOk, OnErr};
-ghost use Rattle.hw_check.specs.Places.{Ascends, Finds, PlaceFits, Gathers, lits_at};
+ghost use Rattle.std.specs.Prelude.{◌≡◌, ◌∷◌, ◌++◌, [], ◌+◌, ◌^◌, ◌<◌, ◌≤◌, length, All, IfOk, OnOk, OnErr};
+ghost use Rattle.hw_check.specs.Places.{Ascends, Finds, PlaceFits, Gathers, lits_at, new_place};
 
 use crate::place::Place;
 use hw_model::{Lit, NoMemory};
@@ -28,7 +28,7 @@ impl Stored {
     /// Adds a live clause after the others.
     pub(crate) fn add(&mut self, id: u32, lits: &[Lit]) -> Result<(), NoMemory>
         ensures lits { OnOk result (self.new.lits.items ≡ self.old.lits.items ++ lits.now) }
-        ensures places { OnOk result (self.new.places.items ≡ self.old.places.items ++ (record { id = id; start = length self.old.lits.items; len = length lits.now; is_live = true }) ∷ []) }
+        ensures places { OnOk result (self.new.places.items ≡ self.old.places.items ++ new_place id self.old.lits.items lits.now ∷ []) }
         ensures same_lits { OnErr result (self.new.lits.items ≡ self.old.lits.items) }
         ensures same_places { OnErr result (self.new.places.items ≡ self.old.places.items) }
     {

@@ -1,5 +1,5 @@
 use Rattle.std.proofs.Common.{◌≡◌, ℕ, ◌<◌, ◌||◌, false, length, get_or, take}
-use Rattle.hw_check.proofs.Ascending.{among}
+use Rattle.hw_check.specs.Marks.{among}
 use Rattle.hw_check.proofs.renewing.mark.Given as goal
 
 abbrev pub invariant-loop-id : goal.invariant-loop-id
