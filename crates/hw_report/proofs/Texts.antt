@@ -166,7 +166,7 @@ pub a_looser_bound : report_text (refused 7 (Check checks.Looser) None) ≡ code
 unfolding digits
 a_looser_bound = refl
 
--- a word that names no number has none behind it
+-- a word that names no number has none after it
 pub no_number_behind : report_text (refused 3 (Check checks.Worse) (Some 9)) ≡ codes "refused 3 worse\n"
 unfolding digits
 no_number_behind = refl

@@ -14,7 +14,7 @@ use Rattle.hw_report.specs.declared.report.Head.TheVariants.{Optimal, Infeasible
 use Rattle.hw_report.specs.Pieces.{joined, tenths}
 use Rattle.hw_report.specs.Reports.{Naming, by_number, by_name}
 
--- a word with its end of line behind a number or a text
+-- a label, a number and the end of the line
 abbrev pub numbered : List ℕ → ℕ → List ℕ
 numbered label n = joined (label ∷ decimal n ∷ codes "\n" ∷ [])
 
@@ -39,7 +39,7 @@ abbrev pub bounded_text : Naming → Option ℕ → ℕ → List ℕ
 bounded_text names None bound = carried (codes "unfinished none bound ") names bound
 bounded_text names (Some c) bound = joined (codes "unfinished " ∷ cargo_text names c ∷ codes " bound " ∷ cargo_text names bound ∷ codes "\n" ∷ [])
 
--- what valid lines show, and behind an unfinished verdict the last bound among them, if there is one
+-- what valid lines show, and after an unfinished verdict the last bound among them, if there is one
 abbrev pub verified_text : Naming → Verdict → Option ℕ → List ℕ
 verified_text names (verdicts.Optimal c) bound = verdict_text names (verdicts.Optimal c)
 verified_text names verdicts.Infeasible bound = verdict_text names verdicts.Infeasible
@@ -51,7 +51,7 @@ abbrev pub unfinished_text : Naming → ℕ → Option ℕ → List ℕ
 unfinished_text names budget None = joined (codes "unfinished " ∷ decimal budget ∷ codes " none\n" ∷ [])
 unfinished_text names budget (Some c) = joined (codes "unfinished " ∷ decimal budget ∷ codes " best " ∷ cargo_text names c ∷ codes "\n" ∷ [])
 
--- the same where memory was wanting in the search
+-- the same if memory ran out in the search
 abbrev pub memory_text : Naming → Option ℕ → List ℕ
 memory_text names None = codes "memory none\n"
 memory_text names (Some c) = carried (codes "memory best ") names c
@@ -63,7 +63,7 @@ head_text names Infeasible best = codes "infeasible\n"
 head_text names (Unfinished budget) best = unfinished_text names budget best
 head_text names Memory best = memory_text names best
 
--- behind an unfinished head the bound on the cargo of every permitted timetable, if there is one
+-- after an unfinished head the bound on the cargo of every permitted timetable, if there is one
 abbrev pub bound_text : Naming → Head → Option ℕ → List ℕ
 bound_text names (Unfinished budget) (Some bound) = carried (codes "bound ") names bound
 bound_text names head bound = []

@@ -8,7 +8,7 @@ abbrev pub joined : List (List ℕ) → List ℕ
 joined [] = []
 joined (text ∷ texts) = text ++ joined texts
 
--- tenths of a tonne as tonnes, with one digit behind the point
+-- tenths of a tonne as tonnes, with one digit after the point
 abbrev pub tenths : ℕ → List ℕ
 tenths c = joined (decimal (c / 10) ∷ codes "." ∷ decimal (c % 10) ∷ [])
 

@@ -50,7 +50,7 @@ pub data Report : Type 0 where
   -- the budget was spent in a step
   spent_step : ℕ → ℕ → Report
   clash_holds : Report
-  -- the restrictions broken after so many events
+  -- the restrictions broken after this many events
   after : ℕ → List ℕ → Report
   audit_end : Report
   -- a text as it is

@@ -1,5 +1,5 @@
 -- The text of a report, each line ended.
-use Rattle.std.specs.Prelude.{ℕ, List, [], ◌∷◌, Option, Some, None, codes, decimal, option_and_then}
+use Rattle.std.specs.Prelude.{ℕ, List, [], ◌∷◌, ◌++◌, Option, Some, None, codes, decimal, option_and_then}
 use Rattle.hw_model.specs.Timetables.{cargo}
 use Rattle.hw_lines.specs.declared.check.CheckWord.TheVariants as checks
 use Rattle.hw_lines.specs.declared.check.Verdict.{Verdict}
@@ -9,13 +9,13 @@ use Rattle.hw_report.specs.declared.report.Head.{Head}
 use Rattle.hw_report.specs.declared.report.Head.TheVariants.{Memory}
 use Rattle.hw_report.specs.declared.report.RefusedWord.{RefusedWord}
 use Rattle.hw_report.specs.declared.report.RefusedWord.TheVariants.{Check}
-use Rattle.hw_report.specs.Reports.{Report, by_number, solved, checked, verified, proved, demo, bad_words, bad_flat, bad_json, bad_field, bad_tides, refused, read_fault, too_long, no_memory, repaired, rechecked, bad_text, clashed, met, spent_step, clash_holds, after, audit_end, whole_text, picture}
+use Rattle.hw_report.specs.Reports.{Naming, Report, by_number, solved, checked, verified, proved, demo, bad_words, bad_flat, bad_json, bad_field, bad_tides, refused, read_fault, too_long, no_memory, repaired, rechecked, bad_text, clashed, met, spent_step, clash_holds, after, audit_end, whole_text, picture}
 use Rattle.hw_report.specs.Words.{feed_text, flat_word_text, refused_word_text}
 use Rattle.hw_report.specs.Pieces.{joined}
 use Rattle.hw_port.specs.Places.{path_text, word_text}
 use Rattle.hw_report.specs.Lines.{numbered, verdict_text, verified_text, head_text, bound_text, table_text, numbers_text, repair_verdict_text, moved_text, drop_lines, broken_text}
 
--- the first fault of a tide table; want of memory is none
+-- the first fault of a tide table; out of memory isn't one
 abbrev pub tide_fault_text : TideFault → List ℕ
 tide_fault_text (tides.Header column) = numbered (codes "bad tides header ") column
 tide_fault_text (tides.Length row) = numbered (codes "bad tides length ") row
@@ -40,10 +40,18 @@ refused_text number word (Some id) = joined (codes "refused " ∷ decimal number
 abbrev pub summary_text : Head → Option ℕ → Verdict → ℕ → List ℕ
 summary_text head best verdict lemmas = joined (head_text by_number head best ∷ codes "check " ∷ verdict_text by_number verdict ∷ codes "lemmas " ∷ decimal lemmas ∷ codes "\nend\n" ∷ [])
 
--- where memory was wanting there is no summary
+-- no summary if memory ran out
 abbrev pub demo_text : Head → Option ℕ → Verdict → ℕ → List ℕ
 demo_text Memory best verdict lemmas = codes "memory\n"
 demo_text head best verdict lemmas = summary_text head best verdict lemmas
+
+-- a solved problem's report without a timetable
+abbrev pub none_text : Naming → Head → List ℕ
+none_text names head = head_text names head None ++ codes "end\n"
+
+-- the same with a bound
+abbrev pub none_proved_text : Naming → Head → Option ℕ → List ℕ
+none_proved_text names head bound = head_text names head None ++ bound_text names head bound ++ codes "end\n"
 
 -- the whole text of a report, by its kind
 abbrev pub report_text : Report → List ℕ

@@ -146,7 +146,7 @@ pub fn put_head<W: Writer>(out: &mut W, names: Names, head: Head, best: Option<u
     }
 }
 
-/// Puts the bound behind an unfinished head, if there is one.
+/// Puts the bound after an unfinished head, if there is one.
 pub fn put_bound<W: Writer>(out: &mut W, names: Names, head: Head, bound: Option<u64>)
     ensures { Puts (bound_text (names_seen names.entry) head bound) (W.state out.old) (W.state out.new) }
 {

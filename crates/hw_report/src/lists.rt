@@ -11,14 +11,14 @@ use crate::piece::{Piece, put_pieces};
 use hw_desk::Writer;
 use hw_flat::Timetable;
 
-/// Puts a number behind a space.
+/// Puts a space and a number.
 fn put_spaced<W: Writer>(out: &mut W, number: u32)
     ensures { Puts (joined (codes " " ∷ decimal number ∷ [])) (W.state out.old) (W.state out.new) }
 {
     put_pieces(out, &[Piece::Word(b" "), Piece::Number(u64::from(number))]);
 }
 
-/// Puts numbers, each behind a space.
+/// Puts numbers, each after a space.
 fn put_numbers<W: Writer>(out: &mut W, numbers: &[u32])
     ensures { Puts (numbers_text numbers.now) (W.state out.old) (W.state out.new) }
 {
@@ -76,7 +76,7 @@ fn put_broken<W: Writer>(out: &mut W, broken: &[u32])
     }
 }
 
-/// Puts the restrictions broken after so many events.
+/// Puts the restrictions broken after this many events.
 pub fn put_after<W: Writer>(out: &mut W, number: u64, broken: &[u32])
     ensures { Puts (report_text (after number broken.now)) (W.state out.old) (W.state out.new) }
 {

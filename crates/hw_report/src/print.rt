@@ -1,13 +1,13 @@
 //! Reports of what was found.
 
-ghost use Rattle.std.specs.Prelude.{◌++◌, codes, None, Some};
+ghost use Rattle.std.specs.Prelude.{Some};
 ghost use Rattle.hw_model.specs.Problem.{IsTimetable};
-ghost use Rattle.hw_report.specs.Lines.{bound_text, head_text, repair_text, repair_verdict_text};
+ghost use Rattle.hw_report.specs.Lines.{repair_text, repair_verdict_text};
 ghost use Rattle.hw_report.specs.Printing.{AreNamesOf};
 ghost use Rattle.hw_desk.specs.Writers.{Puts};
 ghost use Rattle.hw_report.specs.Reports.{proved, repaired, solved, spent_step};
 ghost use Rattle.hw_report.specs.Seen.{names_seen};
-ghost use Rattle.hw_report.specs.Texts.{report_text, summary_text, demo_text};
+ghost use Rattle.hw_report.specs.Texts.{none_text, none_proved_text, report_text, summary_text, demo_text};
 
 use crate::lines::{cargo_piece, put_bound, put_head, put_numbered, put_table, put_verdict};
 use crate::piece::{Piece, put_pieces};
@@ -29,7 +29,7 @@ pub fn put_solved<W: Writer>(out: &mut W, head: Head, flat: &Flat, names: Names,
 
 /// Puts a solved problem's report without a timetable.
 pub fn put_none<W: Writer>(out: &mut W, head: Head, names: Names)
-    ensures { Puts (head_text (names_seen names.entry) head None ++ codes "end\n") (W.state out.old) (W.state out.new) }
+    ensures { Puts (none_text (names_seen names.entry) head) (W.state out.old) (W.state out.new) }
 {
     put_head(out, names, head, None);
     out.put(b"end\n");
@@ -55,7 +55,7 @@ pub fn put_proved<W: Writer>(
 
 /// Puts a report with a bound and without a timetable.
 pub fn put_none_proved<W: Writer>(out: &mut W, head: Head, names: Names, bound: Option<u64>)
-    ensures { Puts (head_text (names_seen names.entry) head None ++ (bound_text (names_seen names.entry) head bound ++ codes "end\n")) (W.state out.old) (W.state out.new) }
+    ensures { Puts (none_proved_text (names_seen names.entry) head bound) (W.state out.old) (W.state out.new) }
 {
     put_head(out, names, head, None);
     put_bound(out, names, head, bound);
