@@ -1,5 +1,5 @@
 -- The order in which a walk takes the lists of slots, and what it keeps of them.
-use Rattle.std.specs.Prelude.{◌≡◌, ◌↔◌, ℕ, ◌<◌, Bool, true, false, List, Option, Some, None, slice_index}
+use Rattle.std.specs.Prelude.{◌≡◌, ◌↔◌, ℕ, ◌+◌, ◌<◌, Bool, true, false, List, Option, Some, None, slice_index}
 use Rattle.hw_model.specs.Problem.{Problem, IsTimetable}
 use Rattle.hw_model.specs.Walk.{rank, table_count, NoneBefore, FirstBest}
 use Rattle.hw_rules.specs.declared.outcome.Walked.{Walked}
@@ -26,6 +26,10 @@ kept table (Some c) = Some (table, c)
 abbrev pub BestSoFar : Problem → ℕ → Option (List ℕ × ℕ) → Type 0
 BestSoFar f many None = NoneBefore f many
 BestSoFar f many (Some best) = FirstBest f many best.0 best.1
+
+-- the first best of the first `many` lists became that of one list more
+abbrev pub BestOfOneMore : Problem → ℕ → Option (List ℕ × ℕ) → Option (List ℕ × ℕ) → Type 0
+BestOfOneMore f many before after = BestSoFar f many before → BestSoFar f (many + 1) after
 
 -- what is answered after all lists, or after some of them
 abbrev pub answer : Bool → List ℕ → Option ℕ → Walked

@@ -41,6 +41,14 @@ pub record AreSourcesBefore (f : Problem) (place : Source) (list : List Source) 
   pub only : All (λ source. IsSourceOf f source × ComesBefore source place) list
   pub order : AllPairs ComesBefore list
 
+-- the first place among the orders of ship v with each two greater ones
+abbrev pub first_order_of : ℕ → Source
+first_order_of v = sources.Order v (v + 1) (v + 1 + 1)
+
+-- the first place among the orders of the ships v and w with each greater one
+abbrev pub first_order_with : ℕ → ℕ → Source
+first_order_with v w = sources.Order v w (w + 1)
+
 -- no source is twice in the list of a problem's sources
 abbrev pub NoSourceTwice : Type 0
 NoSourceTwice = (f : Problem) (list : List Source) → AreSourcesOf f list → AllPairs (λ earlier later. earlier ≡ later → ⊥) list

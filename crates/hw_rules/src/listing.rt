@@ -2,12 +2,12 @@
 //! ships, and the goal.
 ghost use Rattle.std.specs.Prelude.{◌≡◌, ◌<◌, ◌+◌, IfOk, OnOk};
 ghost use Rattle.hw_model.specs.declared.source.Source.TheVariants as kinds;
-ghost use Rattle.hw_rules.specs.Sources.{AreSourcesOf, AreSourcesBefore};
+ghost use Rattle.hw_rules.specs.Sources.{AreSourcesOf, AreSourcesBefore, first_order_of, first_order_with};
 
 use hw_flat::{Flat, NoMemory, ShipId, Source};
 use std::alloc::{AllocFailed, Global};
 
-/// The windows of all ships.
+/// Appends the windows of all ships.
 fn push_windows(out: &mut Vec<Source>, flat: &Flat) -> Result<(), AllocFailed<Source>>
     ensures { OnOk result (AreSourcesBefore flat.now (kinds.Window 0) out.old.items → AreSourcesBefore flat.now (kinds.Rule 0) out.new.items) }
 {
@@ -18,7 +18,7 @@ fn push_windows(out: &mut Vec<Source>, flat: &Flat) -> Result<(), AllocFailed<So
     Ok(())
 }
 
-/// All rules.
+/// Appends all rules.
 fn push_rules(out: &mut Vec<Source>, flat: &Flat) -> Result<(), AllocFailed<Source>>
     ensures { OnOk result (AreSourcesBefore flat.now (kinds.Rule 0) out.old.items → AreSourcesBefore flat.now (kinds.Order 0 1 2) out.new.items) }
 {
@@ -29,7 +29,7 @@ fn push_rules(out: &mut Vec<Source>, flat: &Flat) -> Result<(), AllocFailed<Sour
     Ok(())
 }
 
-/// The orders of two ships with each greater one.
+/// Appends the orders of two ships with each greater one.
 fn push_thirds(
     out: &mut Vec<Source>,
     flat: &Flat,
@@ -38,7 +38,7 @@ fn push_thirds(
 ) -> Result<(), AllocFailed<Source>>
     requires ascends { v < w }
     requires ship_in { w < flat.now.ships }
-    ensures { OnOk result (AreSourcesBefore flat.now (kinds.Order v w (w + 1)) out.old.items → AreSourcesBefore flat.now (kinds.Order v (w + 1) (w + 1 + 1)) out.new.items) }
+    ensures { OnOk result (AreSourcesBefore flat.now (first_order_with v w) out.old.items → AreSourcesBefore flat.now (first_order_with v (w + 1)) out.new.items) }
 {
     let ships = flat.shape().ships;
     for x in w + 1..ships {
@@ -47,10 +47,10 @@ fn push_thirds(
     Ok(())
 }
 
-/// The orders of a ship with each two greater ones.
+/// Appends the orders of a ship with every two greater ones.
 fn push_seconds(out: &mut Vec<Source>, flat: &Flat, v: ShipId) -> Result<(), AllocFailed<Source>>
     requires ship_in { v < flat.now.ships }
-    ensures { OnOk result (AreSourcesBefore flat.now (kinds.Order v (v + 1) (v + 1 + 1)) out.old.items → AreSourcesBefore flat.now (kinds.Order (v + 1) (v + 1 + 1) (v + 1 + 1 + 1)) out.new.items) }
+    ensures { OnOk result (AreSourcesBefore flat.now (first_order_of v) out.old.items → AreSourcesBefore flat.now (first_order_of (v + 1)) out.new.items) }
 {
     let ships = flat.shape().ships;
     for w in v + 1..ships {
@@ -59,7 +59,7 @@ fn push_seconds(out: &mut Vec<Source>, flat: &Flat, v: ShipId) -> Result<(), All
     Ok(())
 }
 
-/// The orders of each three ships.
+/// Appends the orders of every three ships.
 fn push_orders(out: &mut Vec<Source>, flat: &Flat) -> Result<(), AllocFailed<Source>>
     ensures { OnOk result (AreSourcesBefore flat.now (kinds.Order 0 1 2) out.old.items → AreSourcesBefore flat.now kinds.Goal out.new.items) }
 {
@@ -71,7 +71,7 @@ fn push_orders(out: &mut Vec<Source>, flat: &Flat) -> Result<(), AllocFailed<Sou
 }
 
 /// All sources of a problem, in order: the windows by ship, the rules by place, the orders of three
-/// ships v < w < x by v, w and x, and the goal. Of 40 ships there are 9880 orders.
+/// ships v < w < x by v, w and x, and the goal. Forty ships have 9880 orders.
 pub fn sources(alloc: Global, flat: &Flat) -> Result<Vec<Source>, NoMemory>
     ensures { IfOk result (λ list. AreSourcesOf flat.now list.items) }
 {

@@ -1,11 +1,11 @@
 //! The walk through the lists of slots, which keeps the first best one.
 
-ghost use Rattle.std.specs.Prelude.{◌≡◌, ◌↔◌, ◌≤◌, ◌<◌, ◌+◌, ℕ, IfOk, IfSome, IfNone, MatchBool, IsTrue, false, Some, None, length};
+ghost use Rattle.std.specs.Prelude.{◌≡◌, ◌↔◌, ◌≤◌, ◌<◌, ℕ, IfOk, IfSome, IfNone, MatchBool, IsTrue, false, Some, None, length};
 ghost use Rattle.hw_model.specs.Problem.{IsTimetable};
 ghost use Rattle.hw_model.specs.Timetables.{Permits, NonePermitted, cargo, beats};
 ghost use Rattle.hw_model.specs.Walk.{rank, table_count};
 ghost use Rattle.hw_rules.specs.Outcomes.{WalkedTo, SomePermitted, IsBestFound, IsNoneLeft, IsSpent, FoundIsBest};
-ghost use Rattle.hw_rules.specs.Listing.{kept, BestSoFar, answer};
+ghost use Rattle.hw_rules.specs.Listing.{kept, BestOfOneMore, answer};
 
 use crate::goal::{beats, cargo_of};
 use crate::lists::{advance, first_list};
@@ -15,10 +15,10 @@ use hw_flat::{Flat, Timetable};
 use hw_model::{NoMemory, Slot};
 use std::alloc::Global;
 
-/// Goes through the lists of slots in lexicographic order, ship 0 first, at most as many as the
-/// budget, and keeps the first permitted one of greatest cargo.
+/// Goes through the lists of slots in lexicographic order, ship 0 first, and keeps the first
+/// permitted one of greatest cargo. It looks at no more lists than the budget allows.
 ///
-/// Rules are tested only of lists whose cargo is above the greatest so far.
+/// The rules are tested only on lists whose cargo is above the greatest so far.
 pub fn walk(alloc: Global, flat: &Flat, budget: u32) -> Result<Walked, NoMemory>
     ensures walked { IfOk result (WalkedTo flat.now budget) }
     ensures optimal { IfOk result (FoundIsBest flat.now) }
@@ -32,7 +32,7 @@ pub fn walk(alloc: Global, flat: &Flat, budget: u32) -> Result<Walked, NoMemory>
     walk_from(alloc, flat, budget, &mut current, &mut best)
 }
 
-/// Walks from the first list of slots on. `best` is written to.
+/// Walks from the first list of slots on, and overwrites `best`.
 fn walk_from(
     alloc: Global,
     flat: &Flat,
@@ -56,11 +56,11 @@ fn walk_from(
     outcome(alloc, false, best, most)
 }
 
-/// Looks at the next list of slots, and keeps it where it is better than the best so far.
+/// Looks at the next list of slots, and keeps it if it is better than the best so far.
 fn look(flat: &Flat, current: &[Slot], best: &mut [Slot], most: &mut Option<u64>)
     requires listed { IsTimetable flat.now current.now }
     requires same_length { length best.old ≡ length current.now }
-    ensures { let many = rank flat.now.slots current.now in BestSoFar flat.now many (kept best.old most.old) → BestSoFar flat.now (many + 1) (kept best.new most.new) }
+    ensures { BestOfOneMore flat.now (rank flat.now.slots current.now) (kept best.old most.old) (kept best.new most.new) }
 {
     if let Some(cargo) = better_cargo(flat, current, *most) {
         best.copy_from_slice(current);
@@ -68,7 +68,7 @@ fn look(flat: &Flat, current: &[Slot], best: &mut [Slot], most: &mut Option<u64>
     }
 }
 
-/// The cargo of a list of slots, where it is permitted and has more than the most so far.
+/// The cargo of a list of slots, if the list is permitted and carries more than the most so far.
 fn better_cargo(flat: &Flat, current: &[Slot], most: Option<u64>) -> Option<u64>
     requires listed { IsTimetable flat.now current.now }
     ensures better { IfSome result (λ c. Permits flat.now current.now × (cargo flat.now current.now ≡ Some c) × IsTrue (beats c most)) }
@@ -80,7 +80,7 @@ fn better_cargo(flat: &Flat, current: &[Slot], most: Option<u64>) -> Option<u64>
     }
 }
 
-/// What a walk answers that looked at the whole or at a part of the lists.
+/// The outcome of a walk that looked at all of the lists, or only at some.
 fn outcome(alloc: Global, whole: bool, best: &[Slot], most: Option<u64>) -> Result<Walked, NoMemory>
     requires few { length best.now ≤ 40 }
     ensures { IfOk result (λ w. w ≡ answer whole best.now most) }
