@@ -8,8 +8,7 @@ use Rattle.serde_json.specs.Data.{Data}
 use Rattle.serde_json.specs.Read.{read}
 use Rattle.hw_read.specs.declared.fault.ReadFault.{ReadFault}
 use Rattle.hw_read.specs.declared.fault.ReadFault.TheVariants.{NotJson, Field, NoMemory}
-use Rattle.hw_read.specs.Places.{no_stars}
-use Rattle.hw_read.specs.Table.{port, version_of, entry_faults, first_of}
+use Rattle.hw_read.specs.Table.{instance_faults, first_of}
 use Rattle.hw_read.specs.Parts.{port_parts}
 
 -- the first fault of form, else the port of the parts
@@ -19,7 +18,7 @@ after_form (Some f) p = Err f
 
 -- the form of the whole value first, by the table of its version; then the meaning
 unfoldable pub instance_of : Data → Result Parts PortFault
-instance_of d = after_form (first_of (entry_faults (port (version_of d)) no_stars d)) (port_parts d)
+instance_of d = after_form (first_of (instance_faults d)) (port_parts d)
 
 -- the port, or the fault; memory may run out at any time
 abbrev pub Gives : Result Parts ReadFault → Result Parts PortFault → Type 0

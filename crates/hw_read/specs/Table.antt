@@ -12,7 +12,7 @@ use Rattle.serde_json.specs.Find.{get, as_str, as_bool, as_array, as_object}
 use Rattle.hw_read.specs.declared.stars.Stars.{Stars}
 use Rattle.hw_read.specs.declared.table.Version.{Version}
 use Rattle.hw_read.specs.declared.table.Version.TheVariants.{First, Second}
-use Rattle.hw_read.specs.Places.{path, deeper}
+use Rattle.hw_read.specs.Places.{path, deeper, no_stars}
 use Rattle.hw_read.specs.Form.{whole_number, all_named}
 
 -- an entry is a place with its kind; a list's items have one entry, an object's members one each
@@ -155,6 +155,10 @@ abbrev mutual
   pub members_faults : Members → Stars → Data → List PortFault
   members_faults no_more s d = []
   members_faults (member name p ms) s d = member_faults (entry_faults p) (path (place_of p) s) s (get name d) ++ members_faults ms s d
+
+-- all faults of form of an instance, by the table of its version
+abbrev pub instance_faults : Data → List PortFault
+instance_faults d = entry_faults (port (version_of d)) no_stars d
 
 -- the first of these faults
 abbrev pub first_of : List PortFault → Option PortFault

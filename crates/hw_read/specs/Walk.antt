@@ -14,7 +14,7 @@ use Rattle.hw_read.specs.declared.table.Form.{Form}
 use Rattle.hw_read.specs.declared.table.Form.TheVariants.{Number, Text, Truth, List', Object', Member', Stays', End}
 use Rattle.hw_read.specs.Places.{path, deeper}
 use Rattle.hw_read.specs.Form.{number_form, text_form, truth_form, items_form, object_form, member_form}
-use Rattle.hw_read.specs.Table.{Entry, Members, number, text, truth, list, object, no_more, member, place_of, names_in}
+use Rattle.hw_read.specs.Table.{Entry, Members, number, text, truth, list, object, no_more, member, place_of, names_in, port, version_of}
 use Rattle.hw_read.specs.Names.{names_of}
 
 -- what a value at a place is tested by
@@ -87,6 +87,10 @@ abbrev mutual
   pub members_long : Members → Data → Bool
   members_long no_more d = false
   members_long (member name p ms) d = member_long (entry_long p) (get name d) || members_long ms d
+
+-- a list that the table of an instance's version names has more than 2^32 items
+abbrev pub instance_long : Data → Bool
+instance_long d = entry_long (port (version_of d)) d
 
 abbrev pub form_long : Version → Form → Data → Bool
 form_long version (Number field) d = false

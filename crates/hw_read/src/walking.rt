@@ -4,8 +4,8 @@ ghost use Rattle.std.specs.Prelude.{◌≡◌};
 ghost use Rattle.serde_json.specs.View.{view};
 ghost use Rattle.hw_read.specs.declared.table.Version.TheVariants.{First, Second};
 ghost use Rattle.hw_read.specs.Places.{no_stars};
-ghost use Rattle.hw_read.specs.Table.{port, version_of as told_version, first_of, entry_faults};
-ghost use Rattle.hw_read.specs.Walk.{Tells, form_fault, form_long, entry_fault, entry_long};
+ghost use Rattle.hw_read.specs.Table.{port, version_of as told_version, first_of, instance_faults};
+ghost use Rattle.hw_read.specs.Walk.{Tells, form_fault, form_long, entry_fault, entry_long, instance_long};
 
 use crate::fault::ReadFault;
 use crate::members::{items, member, number, object, text, truth};
@@ -18,7 +18,7 @@ const NO_STARS: Stars = Stars {
     second: None,
 };
 
-/// The first fault of a value that must have a form. An object's members are tested in the
+/// Tests a value by a form, and returns the first fault. An object's members are tested in the
 /// order of the table, each by one look-up. `NoMemory` says that a list has more than 2^32 items.
 fn walk(form: &Form<'_>, version: Version, stars: Stars, value: &Value) -> Result<(), ReadFault>
     ensures { Tells (form_long version form.now (view value.now)) result (form_fault version form.now stars (view value.now)) }
@@ -101,7 +101,7 @@ fn test_by(version: Version, value: &Value) -> Result<(), ReadFault>
 
 /// The first fault of form of an instance, by the table of its version.
 pub fn test_form(value: &Value) -> Result<(), ReadFault>
-    ensures { Tells (entry_long (port (told_version (view value.now))) (view value.now)) result (first_of (entry_faults (port (told_version (view value.now))) no_stars (view value.now))) }
+    ensures { Tells (instance_long (view value.now)) result (first_of (instance_faults (view value.now))) }
 {
     test_by(version_of(value), value)
 }
