@@ -55,6 +55,14 @@ slot_fits Waters row (Some before) slot = nat_lt before slot
 abbrev pub fitting : TableKind → ℕ → Option ℕ → ℕ → Option ℕ
 fitting kind row last slot = if slot_fits kind row last slot then Some slot else None
 
+-- the fields end before a place
+abbrev pub EndBefore : ℕ → List (List ℕ) → Type 0
+EndBefore place fields = drop place fields ≡ []
+
+-- the fields have this one at a place
+abbrev pub HasAt : ℕ → List (List ℕ) → List ℕ → Type 0
+HasAt place fields field = drop place fields ≡ field ∷ drop (place + 1) fields
+
 abbrev pub first_field : List (List ℕ) → List ℕ
 first_field [] = []
 first_field (f ∷ fs) = f

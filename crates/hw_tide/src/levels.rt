@@ -1,10 +1,10 @@
 //! The records of a tide table, one after another.
 
-ghost use Rattle.std.specs.Prelude.{◌≡◌, ◌≤◌, ◌<◌, ◌+◌, map, drop, length, MatchOption, [], ◌∷◌, None, option_and_then};
+ghost use Rattle.std.specs.Prelude.{◌≡◌, ◌≤◌, drop, length, MatchOption, None, option_and_then};
 ghost use Rattle.csv.specs.Records.{fields_of};
 ghost use Rattle.hw_text.specs.Numbers.{number_up_to};
 ghost use Rattle.hw_tide.specs.Coming.{IsReading, ReadsComing};
-ghost use Rattle.hw_tide.specs.Table.{Gives, slot_fits, fitting, first_field, heights_from, levels_form, levels_from};
+ghost use Rattle.hw_tide.specs.Table.{EndBefore, HasAt, Gives, slot_fits, fitting, first_field, heights_from, levels_form, levels_from};
 
 use crate::fault::TideFault;
 use crate::kind::TableKind;
@@ -14,7 +14,7 @@ use hw_text::{read_number, read_signed};
 use std::alloc::Global;
 use std::marker::Model;
 
-/// The heights at one slot, a height for each waypoint. Seen as a record of the same fields.
+/// The heights at one slot, one for each waypoint. Seen as a record of the same fields.
 #[derive(Debug, Drop)]
 pub struct Levels {
     pub slot: u32,
@@ -31,7 +31,7 @@ impl Model for Levels {
 
 /// The field at a place, if the record has one there.
 pub fn field_of(fields: &ByteRecord, place: usize) -> Option<&[u8]>
-    ensures { MatchOption result (drop place (fields_of fields.now) ≡ []) (λ f. drop place (fields_of fields.now) ≡ f.now ∷ drop (place + 1) (fields_of fields.now)) }
+    ensures { MatchOption result (EndBefore place (fields_of fields.now)) (λ field. HasAt place (fields_of fields.now) field.now) }
 {
     fields.get(place)
 }
@@ -88,7 +88,7 @@ fn slot_of(kind: TableKind, row: u64, last: Option<u32>, field: &[u8]) -> Option
     }
 }
 
-/// The heights of a record of this many columns, counting that of the slot.
+/// The heights of a record of this many columns, the slot's included.
 #[tactic(auto, unfolding(crate::specs::Table::levels_form))]
 fn levels_of(
     alloc: Global,
@@ -112,8 +112,8 @@ fn levels_of(
     Ok(Levels { slot, heights })
 }
 
-/// The heights of all records that are still to come. Each is judged as it is taken, and the first
-/// that is wrong ends it.
+/// The heights of all records that are still to be read. Each is judged as it is taken, and the
+/// first wrong one ends the reading.
 pub fn all_levels(
     alloc: Global,
     kind: TableKind,
