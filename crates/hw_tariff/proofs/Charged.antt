@@ -21,7 +21,7 @@ use Rattle.hw_tolls.specs.declared.toll.Toll.TheVariants.{Narrows, Tugs}
 use Rattle.hw_tolls.specs.Tolls.{IsToll, lies_in, block_charge, job_charge, job_charges, rule_charges}
 use Rattle.hw_tolls.specs.Prices.{DueFits}
 use Rattle.hw_tolls.specs.Computed.{takes, takes_at, pays, balance}
-use Rattle.hw_tariff.proofs.Steps.{sum_left, toll_read}
+use Rattle.hw_tariff.proofs.Steps.{due_left, toll_read}
 
 pub whole_span : (from to k j : ℕ) → from ≤ k → k ≤ max from to → to ≤ k → (nat_le from j && nat_lt j k) ≡ (nat_le from j && nat_lt j to)
 whole_span from to k j a b c = grind (arith, nat_tests)
@@ -40,6 +40,13 @@ charge_step low high price ship k old new all charge rest before split is told =
         parts p a b s old new all is told sum = grind arith
     by false is told = omega (arith, is, told)
 
+-- the first of these charges, and the others
+pub charge_left : (price ship slot : ℕ) (charge : Charge) (rest before : List Charge) → before ≡ charge ∷ rest → price * sum_by (takes ship slot) before ≡ price * takes ship slot charge + price * sum_by (takes ship slot) rest
+charge_left price ship slot charge rest before split = parts price (takes ship slot charge) (sum_by (takes ship slot) rest) (sum_by (takes ship slot) before) (ap (sum_by (takes ship slot)) split ∙ sum_by-cons (takes ship slot) charge rest)
+  where
+    parts : (p a b s : ℕ) → s ≡ a + b → p * s ≡ p * a + p * b
+    parts p a b s sum = grind arith
+
 takes_small : (ship k : ℕ) (charge : Charge) → takes ship k charge ≤ charge.amount
 takes_small ship k charge = by (nat_eq charge.ship ship && lies_in charge.low charge.high k)
   where
@@ -53,7 +60,7 @@ all_small ship k (c ∷ cs) all =
     let here : c.amount ≤ 64 = All-head (λ (charge : Charge). charge.amount ≤ 64) c cs all in
     omega (arith, takes_small ship k c, here, all_small ship k cs (All-tail (λ (charge : Charge). charge.amount ≤ 64) c cs all), sum_by-cons (takes ship k) c cs)
 
-pub times_small : (p n : ℕ) → p ≤ 1_000_000_000_000_000_000 → n ≤ 2_560 → p * n ≤ 2_560_000_000_000_000_000_000
+times_small : (p n : ℕ) → p ≤ 1_000_000_000_000_000_000 → n ≤ 2_560 → p * n ≤ 2_560_000_000_000_000_000_000
 times_small p n a b = le_trans (mul-le-mul_right n a) (omega (arith, b))
 
 added_small : (low high price ship k : ℕ) (cs : List Charge) → price ≤ 1_000_000_000_000_000_000 → length cs ≤ 40 → All (λ charge. charge.amount ≤ 64) cs → cond (lies_in low high k) (price * sum_by (takes ship k) cs) 0 ≤ 2_560_000_000_000_000_000_000
@@ -114,6 +121,20 @@ pub toll_small : (f : Problem) (toll : Toll) (ship k : ℕ) → IsFlat f → IsT
 toll_small f (Narrows blocks) ship k flat is = omega (arith, all_small ship k (map block_charge blocks) (blocks_small blocks), few_blocks blocks is.few_blocks)
 toll_small f (Tugs place slot weights most) ship k flat is = rule_small f.ships slot ship k weights (slice_get f.rules place) (at_place (RuleFits f.ships) f.rules place flat.each_rule) is.small_weights
 
+taken_small : (f : Problem) (o : Option Toll) (ship slot : ℕ) → IsFlat f → IfSome o (IsToll f) → takes_at f o ship slot ≤ 2_560
+taken_small f None ship slot flat h = zero-le
+taken_small f (Some toll) ship slot flat h = toll_small f toll ship slot flat h
+
+-- no ship pays more than this in a slot
+pub pays_small : (f : Problem) (tolls : List Toll) (dues : List Due) (ship slot : ℕ) → IsFlat f → All (IsToll f) tolls → All (DueFits (length tolls)) dues → pays f tolls dues ship slot ≤ 2_560_000_000_000_000_000_000 * length dues
+pays_small f tolls [] ship slot flat all fit = zero-le
+pays_small f tolls (due ∷ dues) ship slot flat all fit =
+    let fits : DueFits (length tolls) due = All-head (DueFits (length tolls)) due dues fit in
+    let few : takes_at f (slice_get tolls due.toll) ship slot ≤ 2_560 = taken_small f (slice_get tolls due.toll) ship slot flat (at_place (IsToll f) tolls due.toll all) in
+    let here : due.price * takes_at f (slice_get tolls due.toll) ship slot ≤ 2_560_000_000_000_000_000_000 = times_small due.price (takes_at f (slice_get tolls due.toll) ship slot) fits.small_price few in
+    let rest : pays f tolls dues ship slot ≤ 2_560_000_000_000_000_000_000 * length dues = pays_small f tolls dues ship slot flat all (All-tail (DueFits (length tolls)) due dues fit) in
+    omega (arith, here, rest, sum_by-cons (λ (due : Due). due.price * takes_at f (slice_get tolls due.toll) ship slot) due dues)
+
 due_small : (b : Bool) (price units : ℕ) → price ≤ 1_000_000_000_000_000_000 → units ≤ 2_560 → cond b (price * units) 0 ≤ 2_560_000_000_000_000_000_000
 due_small true price units cheap few = times_small price units cheap few
 due_small false price units cheap few = zero-le
@@ -127,13 +148,8 @@ due_charged f tolls dues ship low high i k old new all d toll flat tolls_are fit
     let at : slice_get tolls (get_or dues i d).toll ≡ Some toll = toll_read tolls dues i d toll fit lt read in
     let one : IsToll f toll = subst (λ o. IfSome o (IsToll f)) at (at_place (IsToll f) tolls (get_or dues i d).toll tolls_are) in
     let few : takes_at f (Some toll) ship k ≤ 2_560 = toll_small f toll ship k flat one in
-    let left : pays f tolls (drop i dues) ship k ≡ (get_or dues i d).price * takes_at f (slice_get tolls (get_or dues i d).toll) ship k + pays f tolls (drop (i + 1) dues) ship k =
-    sum_left (λ (due : Due). due.price * takes_at f (slice_get tolls due.toll) ship k) dues i d lt
-    in
-    let left' : pays f tolls (drop i dues) ship k ≡ (get_or dues i d).price * takes_at f (Some toll) ship k + pays f tolls (drop (i + 1) dues) ship k =
-    left ∙ ap (λ o. (get_or dues i d).price * takes_at f o ship k + pays f tolls (drop (i + 1) dues) ship k) at
-    in
-    (omega (arith, is, due_small (lies_in low high k) (get_or dues i d).price (takes_at f (Some toll) ship k) (fit i d lt).small_price few), by (lies_in low high k) is told left')
+    let left : pays f tolls (drop i dues) ship k ≡ (get_or dues i d).price * takes_at f (Some toll) ship k + pays f tolls (drop (i + 1) dues) ship k = due_left f tolls dues ship k i d toll fit lt read in
+    (omega (arith, is, due_small (lies_in low high k) (get_or dues i d).price (takes_at f (Some toll) ship k) (fit i d lt).small_price few), by (lies_in low high k) is told left)
   where
     by : (b : Bool) → new ≡ old + cond b ((get_or dues i d).price * takes_at f (Some toll) ship k) 0 → old + cond b (pays f tolls (drop i dues) ship k) 0 ≡ all
         → pays f tolls (drop i dues) ship k ≡ (get_or dues i d).price * takes_at f (Some toll) ship k + pays f tolls (drop (i + 1) dues) ship k → new + cond b (pays f tolls (drop (i + 1) dues) ship k) 0 ≡ all

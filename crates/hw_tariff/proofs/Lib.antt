@@ -1,5 +1,4 @@
 pub mod Steps
 pub mod Judged
 pub mod Charged
-pub mod Rows
 pub mod Stays

@@ -42,6 +42,6 @@ pub record IsCharged (f : Problem) (tolls : List Toll) (c : Charged) : Type 0 wh
   pub costs : AreCosts f tolls c.tariff.dues c.costs
   pub tops : AreTops f tolls c.tariff c.tops
 
--- what is charged for tolls is charged for these and more behind them
+-- what is charged for tolls is charged for these and more after them
 abbrev pub ChargedStays : Type 0
 ChargedStays = (f : Problem) (tolls more : List Toll) (c : Charged) → IsCharged f tolls c → IsCharged f (tolls ++ more) c

@@ -1,8 +1,8 @@
 //! Where the rules on two ships stand: which of them to ask first.
 
-ghost use Rattle.std.specs.Prelude.{◌≡◌, ◌↔◌, IsTrue, is_some};
+ghost use Rattle.std.specs.Prelude.{◌≡◌, ◌↔◌, IfSome, IsTrue, is_some};
 ghost use Rattle.hw_model.specs.Rooms.{RoomFits};
-ghost use Rattle.hw_tariff.specs.Asked.{SomeRuleRefutes};
+ghost use Rattle.hw_tariff.specs.Asked.{RuleRefutes, SomeRuleRefutes};
 
 use hw_flat::{Flat, Room, ShipId, Source};
 use hw_model::{Job, NoMemory, Rule};
@@ -164,6 +164,7 @@ fn place_refutes(flat: &Flat, room: &Room, place: u32) -> bool
 fn first_refuting(flat: &Flat, room: &Room) -> Option<u32>
     requires room { RoomFits flat.now room.now }
     ensures value { IsTrue (is_some result) ↔ SomeRuleRefutes flat.now room.now }
+    ensures place { IfSome result (λ place. RuleRefutes flat.now place room.now) }
 {
     for place in 0..flat.shape().rules {
         if refuted(flat, Source::Rule { place }, None, room) {

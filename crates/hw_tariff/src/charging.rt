@@ -1,9 +1,10 @@
 //! What a ship pays in each slot of a range, for all of these slots at once.
-ghost use Rattle.std.specs.Prelude.{◌≡◌, ℕ, ◌+◌, ◌*◌, ◌<◌, ◌≤◌, ◌&&◌, nat_le, nat_lt, if◌then◌else◌, length, map, sum_by, All, Some, slice_index};
+ghost use Rattle.std.specs.Prelude.{◌≡◌, ℕ, ◌+◌, ◌*◌, ◌<◌, ◌≤◌, ◌&&◌, nat_le, nat_lt, if◌then◌else◌, length, map, All, Some, slice_index};
 ghost use Rattle.hw_model.specs.Limits.{RuleFits, JobFits};
 ghost use Rattle.hw_tolls.specs.Tolls.{IsToll, WeighsUpTo, lies_in, block_charge, job_charge, job_charges, rule_charges};
 ghost use Rattle.hw_tolls.specs.Prices.{DueFits};
 ghost use Rattle.hw_tolls.specs.Computed as computed;
+ghost use Rattle.hw_tariff.specs.Charging.{PaysMore, pays_for};
 
 use hw_flat::{Flat, Slot};
 use hw_model::{Job, Rule};
@@ -34,7 +35,7 @@ fn charge_one(costs: &mut [u128], span: Span, charge: Charge)
     requires small { All (λ c. c ≤ 1_000_000_000_000_000_000_000_000_000) costs.old }
     requires small_price { span.price ≤ 1_000_000_000_000_000_000 }
     requires small_amount { charge.amount ≤ 64 }
-    ensures value { (k : ℕ) → slice_index costs.new k ≡ slice_index costs.old k + (if lies_in span.range.low span.range.high k then span.price * computed.takes span.range.ship k charge else 0) }
+    ensures value { PaysMore span.range (λ k. span.price * computed.takes span.range.ship k charge) costs.old costs.new }
 {
     if charge.ship == span.range.ship {
         let from = span.range.low.max(charge.low);
@@ -50,7 +51,7 @@ fn charge_blocks(costs: &mut [u128], span: Span, blocks: &[Block])
     requires small { All (λ c. c ≤ 256_000_000_000_000_000_000_000_000) costs.old }
     requires small_price { span.price ≤ 1_000_000_000_000_000_000 }
     requires few { length blocks.now ≤ 40 }
-    ensures value { (k : ℕ) → slice_index costs.new k ≡ slice_index costs.old k + (if lies_in span.range.low span.range.high k then span.price * sum_by (computed.takes span.range.ship k) (map block_charge blocks.now) else 0) }
+    ensures value { PaysMore span.range (pays_for span.price (map block_charge blocks.now) span.range.ship) costs.old costs.new }
 {
     for block in blocks {
         charge_one(costs, span, charge_of(*block));
@@ -79,7 +80,7 @@ fn charge_jobs(costs: &mut [u128], span: Span, jobs: &[Job], weights: &[u32], bu
     requires fit { All (JobFits 40) jobs.now }
     requires small_weights { All (λ weight. weight ≤ 64) weights.now }
     requires in_slots { busy ≤ 512 }
-    ensures value { (k : ℕ) → slice_index costs.new k ≡ slice_index costs.old k + (if lies_in span.range.low span.range.high k then span.price * sum_by (computed.takes span.range.ship k) (job_charges busy weights.now jobs.now) else 0) }
+    ensures value { PaysMore span.range (pays_for span.price (job_charges busy weights.now jobs.now) span.range.ship) costs.old costs.new }
 {
     for (place, job) in jobs.iter().enumerate() {
         charge_one(costs, span, charge_for(*job, weights[place], busy));
@@ -108,7 +109,7 @@ fn charge_rule(costs: &mut [u128], span: Span, rule: &Rule, weights: &[u32], bus
     requires weighed { WeighsUpTo weights.now 2_560 rule.now }
     requires small_weights { All (λ weight. weight ≤ 64) weights.now }
     requires in_slots { busy ≤ 512 }
-    ensures value { (k : ℕ) → slice_index costs.new k ≡ slice_index costs.old k + (if lies_in span.range.low span.range.high k then span.price * sum_by (computed.takes span.range.ship k) (rule_charges busy weights.now (Some rule.now)) else 0) }
+    ensures value { PaysMore span.range (pays_for span.price (rule_charges busy weights.now (Some rule.now)) span.range.ship) costs.old costs.new }
 {
     match rule {
         Rule::Pair { .. } | Rule::After { .. } => {}
@@ -122,7 +123,7 @@ fn charge_toll(costs: &mut [u128], span: Span, flat: &Flat, toll: &Toll)
     requires small { All (λ c. c ≤ 256_000_000_000_000_000_000_000_000) costs.old }
     requires small_price { span.price ≤ 1_000_000_000_000_000_000 }
     requires toll { IsToll flat.now toll.now }
-    ensures value { (k : ℕ) → slice_index costs.new k ≡ slice_index costs.old k + (if lies_in span.range.low span.range.high k then span.price * computed.takes_at flat.now (Some toll.now) span.range.ship k else 0) }
+    ensures value { PaysMore span.range (λ k. span.price * computed.takes_at flat.now (Some toll.now) span.range.ship k) costs.old costs.new }
 {
     match toll {
         Toll::Narrows { blocks } => charge_blocks(costs, span, &blocks.items),

@@ -1,11 +1,11 @@
 //! What all ships pay in each slot: each due charges its toll's blocks or jobs once.
 
-ghost use Rattle.std.specs.Prelude.{◌≡◌, ℕ, ◌+◌, ◌*◌, ◌<◌, ◌≤◌, ◌&&◌, nat_le, nat_lt, if◌then◌else◌, Some, length, map, sum_by, All, IfOk, slice_index};
+ghost use Rattle.std.specs.Prelude.{◌≡◌, ℕ, ◌+◌, ◌*◌, ◌<◌, ◌≤◌, ◌&&◌, nat_le, nat_lt, if◌then◌else◌, Some, length, map, All, IfOk, slice_index};
 ghost use Rattle.hw_model.specs.Limits.{RuleFits};
 ghost use Rattle.hw_tolls.specs.Tolls.{IsToll, WeighsUpTo, block_charge, job_charges, rule_charges};
 ghost use Rattle.hw_tolls.specs.Prices.{DueFits};
 ghost use Rattle.hw_tolls.specs.Computed as computed;
-ghost use Rattle.hw_tariff.specs.Charging.{AllPayMore, AreRows, CanPay, HasCost, cost_at, most_paid};
+ghost use Rattle.hw_tariff.specs.Charging.{AllPayMore, AreRows, CanPay, HasCost, cost_at, most_paid, pays_for};
 ghost use Rattle.hw_tariff.specs.InForce.{AreCosts};
 
 use crate::charging::{add, charge_for, charge_of};
@@ -141,8 +141,8 @@ fn charge_ships(rows: &mut [Costs], flat: &Flat, price: u64, toll: &Toll)
 fn charge_each_block(rows: &mut [Costs], price: u64, blocks: &[Block])
     requires inside { All (λ block. HasCost rows.old block.ship block.high) blocks.now }
     requires small_price { price ≤ 1_000_000_000_000_000_000 }
-    requires room { CanPay (λ ship slot. price * sum_by (computed.takes ship slot) (map block_charge blocks.now)) rows.old }
-    ensures charged { AllPayMore (λ ship slot. price * sum_by (computed.takes ship slot) (map block_charge blocks.now)) rows.old rows.new }
+    requires room { CanPay (pays_for price (map block_charge blocks.now)) rows.old }
+    ensures charged { AllPayMore (pays_for price (map block_charge blocks.now)) rows.old rows.new }
 {
     for block in blocks {
         charge_row(rows, price, charge_of(*block));
@@ -157,8 +157,8 @@ fn charge_each_of_rule(rows: &mut [Costs], price: u64, rule: &Rule, weights: &[u
     requires small_weights { All (λ weight. weight ≤ 64) weights.now }
     requires small_price { price ≤ 1_000_000_000_000_000_000 }
     requires in_slots { busy ≤ 512 }
-    requires room { CanPay (λ ship slot. price * sum_by (computed.takes ship slot) (rule_charges busy weights.now (Some rule.now))) rows.old }
-    ensures charged { AllPayMore (λ ship slot. price * sum_by (computed.takes ship slot) (rule_charges busy weights.now (Some rule.now))) rows.old rows.new }
+    requires room { CanPay (pays_for price (rule_charges busy weights.now (Some rule.now))) rows.old }
+    ensures charged { AllPayMore (pays_for price (rule_charges busy weights.now (Some rule.now))) rows.old rows.new }
 {
     match rule {
         Rule::Pair { .. } | Rule::After { .. } => {}
@@ -173,8 +173,8 @@ fn charge_each_job(rows: &mut [Costs], price: u64, jobs: &[Job], weights: &[u32]
     requires small_weights { All (λ weight. weight ≤ 64) weights.now }
     requires small_price { price ≤ 1_000_000_000_000_000_000 }
     requires in_slots { busy ≤ 512 }
-    requires room { CanPay (λ ship slot. price * sum_by (computed.takes ship slot) (job_charges busy weights.now jobs.now)) rows.old }
-    ensures charged { AllPayMore (λ ship slot. price * sum_by (computed.takes ship slot) (job_charges busy weights.now jobs.now)) rows.old rows.new }
+    requires room { CanPay (pays_for price (job_charges busy weights.now jobs.now)) rows.old }
+    ensures charged { AllPayMore (pays_for price (job_charges busy weights.now jobs.now)) rows.old rows.new }
 {
     for (place, job) in jobs.iter().enumerate() {
         charge_row(rows, price, charge_for(*job, weights[place], busy));

@@ -44,9 +44,9 @@ impl Model for InForce {
 impl InForce {
     /// Charges a tariff on tolls of the problem.
     ///
-    /// It takes the memory of a number for each ship and slot, and a step for each. Each due costs one look at its toll's
-    /// blocks or jobs for each ship, and a step for each slot that they charge. An error says that
-    /// memory ran out.
+    /// It takes the memory of a number for each ship and slot, and a step for each. Each due costs one
+    /// look at its toll's blocks or jobs, and a step for each slot that they charge. An error says
+    /// that memory ran out.
     pub fn new(
         alloc: Global,
         flat: &Flat,
@@ -86,7 +86,7 @@ impl InForce {
 
     /// Whether the prices refute the room under the best, in tenths of a tonne, exactly as
     /// [`prices_refute`](crate::prices_refute) says. The tolls are those for which the tariff was
-    /// charged, or these and more behind them.
+    /// charged, or these and more after them.
     ///
     /// It takes no memory, a step for each ship, and one for each slot of the ranges that aren't
     /// whole, however many dues there are.

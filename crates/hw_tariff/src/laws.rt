@@ -2,7 +2,7 @@
 
 ghost use Rattle.hw_tariff.specs.InForce.{ChargedStays};
 
-/// What is charged for tolls stays so when more come behind them.
+/// What is charged for tolls stays so when more come after them.
 pub fn charged_stays()
     ensures { ChargedStays }
 {}

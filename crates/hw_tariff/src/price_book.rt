@@ -62,7 +62,7 @@ impl PriceBook {
         is_toll_by(alloc, flat, &mut self.rules, toll)
     }
 
-    /// Adds a toll behind those that are there. Below 10,000 of them the book stays good. An error
+    /// Adds a toll after those that are there. Below 10,000 of them the book stays good. An error
     /// says that memory ran out, and nothing has changed.
     pub fn declare(&mut self, toll: Toll) -> Result<(), NoMemory>
         ensures added { OnOk result (self.new ≡ record self.old { tolls = self.old.tolls ++ toll ∷ [] }) }
@@ -73,7 +73,7 @@ impl PriceBook {
         Ok(())
     }
 
-    /// Puts a tariff on the tolls so far in force, in place of any other. It costs what
+    /// Puts a tariff on the tolls so far in force, instead of any other. It costs what
     /// [`InForce::new`] does. An error says that memory ran out, and nothing has changed.
     pub fn put_in_force(
         &mut self,
@@ -95,7 +95,7 @@ impl PriceBook {
     }
 
     /// Whether the tariff in force refutes the room under the best, in tenths of a tonne; none
-    /// where no tariff is in force. It takes no memory, and a step for each slot of the ranges.
+    /// where no tariff is in force. It costs what [`InForce::refutes`] does.
     pub fn refutes(&self, flat: &Flat, best: Option<u64>, room: &Room) -> Option<bool>
         requires good { AreGood flat.now self.now }
         requires room { RoomFits flat.now room.now }

@@ -1,6 +1,7 @@
 //! The greatest weight of jobs that a fleet can serve together.
-ghost use Rattle.std.specs.Prelude.{◌≡◌, ℕ, ◌+◌, ◌-◌, ◌<◌, ◌≤◌, max, nat_le, if◌then◌else◌, length, All, IfOk, slice_index};
+ghost use Rattle.std.specs.Prelude.{◌≡◌, ℕ, ◌+◌, ◌<◌, ◌≤◌, length, All, IfOk, slice_index};
 ghost use Rattle.hw_tolls.specs.Tolls as tolls;
+ghost use Rattle.hw_tariff.specs.Weighing.{heaviest_with};
 
 use hw_model::{Job, NoMemory};
 use std::alloc::Global;
@@ -48,7 +49,7 @@ fn with_job(alloc: Global, weight: u32, tugs: u32, most: &[u32]) -> Result<Vec<u
     requires small_weight { weight ≤ 64 }
     requires small { All (λ m. m ≤ 2_496) most.now }
     ensures long { IfOk result (λ next. length next.items ≡ length most.now) }
-    ensures value { IfOk result (λ next. (k : ℕ) → k < length most.now → slice_index next.items k ≡ (if nat_le tugs k then max (slice_index most.now k) (weight + slice_index most.now (k - tugs)) else slice_index most.now k)) }
+    ensures value { IfOk result (λ next. (k : ℕ) → k < length most.now → slice_index next.items k ≡ heaviest_with weight tugs most.now k) }
 {
     let mut next = Vec::with_capacity(alloc, most.len())?;
     for k in 0..most.len() {
@@ -62,7 +63,7 @@ fn heavier(weight: u32, tugs: usize, most: &[u32], k: usize) -> u32
     requires small_weight { weight ≤ 64 }
     requires small { All (λ m. m ≤ 2_496) most.now }
     requires inside { k < length most.now }
-    ensures value { result ≡ (if nat_le tugs k then max (slice_index most.now k) (weight + slice_index most.now (k - tugs)) else slice_index most.now k) }
+    ensures value { result ≡ heaviest_with weight tugs most.now k }
 {
     if tugs <= k {
         most[k].max(weight + most[k - tugs])

@@ -1,5 +1,6 @@
 use Rattle.std.proofs.Common.{◌∙◌, arith}
-use Rattle.hw_tariff.proofs.Rows.{due_left, pays_small}
+use Rattle.hw_tariff.proofs.Charged.{pays_small}
+use Rattle.hw_tariff.proofs.Steps.{due_left}
 use Rattle.hw_tariff.proofs.costs.charge_dues.Goals as goal
 
 pub charge_ships-requires-clause-room : goal.charge_ships-requires-clause-room

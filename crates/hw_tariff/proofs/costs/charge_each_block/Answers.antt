@@ -1,7 +1,6 @@
 use Rattle.std.proofs.Common.{◌≡◌, ◌+◌, ◌∷◌, ap, sym, ◌∙◌, arith, drop, map}
 use Rattle.hw_tolls.specs.Tolls.{block_charge}
-use Rattle.hw_tariff.proofs.Charged.{blocks_left}
-use Rattle.hw_tariff.proofs.Rows.{charge_left}
+use Rattle.hw_tariff.proofs.Charged.{blocks_left, charge_left}
 use Rattle.hw_tariff.proofs.costs.charge_each_block.Goals as goal
 
 pub loop-block-preserved : goal.loop-block-preserved

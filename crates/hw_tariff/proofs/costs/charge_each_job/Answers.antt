@@ -1,6 +1,6 @@
 use Rattle.std.proofs.Common.{◌≡◌, ◌+◌, ◌∷◌, ap, sym, ◌∙◌, arith, drop}
 use Rattle.hw_tolls.specs.Tolls.{job_charges}
-use Rattle.hw_tariff.proofs.Rows.{charge_left}
+use Rattle.hw_tariff.proofs.Charged.{charge_left}
 use Rattle.hw_tariff.proofs.Steps.{charges_left}
 use Rattle.hw_tariff.proofs.costs.charge_each_job.Goals as goal
 
