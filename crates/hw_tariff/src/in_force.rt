@@ -1,10 +1,10 @@
 //! A tariff in force: what it makes each ship pay in each slot, charged once.
 
-ghost use Rattle.std.specs.Prelude.{◌≡◌, ◌↔◌, ◌-◌, ◌<◌, ◌≤◌, None, length, All, IfOk, IfSome, IsTrue, slice_index_or};
+ghost use Rattle.std.specs.Prelude.{◌≡◌, ◌↔◌, ◌-◌, ◌<◌, length, All, IfOk, IfSome, IsTrue};
 ghost use Rattle.hw_model.specs.Limits.{IsFlat};
 ghost use Rattle.hw_model.specs.Rooms.{RoomFits};
 ghost use Rattle.hw_tolls.specs.Tolls.{IsToll};
-ghost use Rattle.hw_tolls.specs.Prices.{DueFits, TariffFits, PricesRefute};
+ghost use Rattle.hw_tolls.specs.Prices.{TariffFits, PricesRefute};
 ghost use Rattle.hw_tolls.specs.Computed as computed;
 ghost use Rattle.hw_tolls.specs.Computed.{BalanceFits};
 ghost use Rattle.hw_tariff.specs.InForce.{IsCharged, AreCosts, AreTops, ShipCosts};
@@ -13,9 +13,9 @@ use crate::balancing::{best_by_costs, together};
 use crate::costs::{Costs, costs_of};
 use crate::refuting::{aim, falls_short};
 use crate::taking::allowance_of;
-use hw_flat::{Flat, Room, ShipId};
+use hw_flat::{Flat, Room};
 use hw_model::NoMemory;
-use hw_tolls::{Balance, Block, Due, Tariff, Toll};
+use hw_tolls::{Balance, Block, Tariff, Toll};
 use std::alloc::Global;
 use std::marker::Model;
 
