@@ -1,6 +1,8 @@
 -- What an adviser may answer.
 use Rattle.std.specs.Prelude.{◌≡◌, ℕ, ◌≤◌, true, List, ◌++◌, Option, Some, None, All, IfSome, IsSomeAnd, length, map}
 use Rattle.std.specs.List.Sorted.{IsStrictlyIncreasing}
+use Rattle.std.specs.Option.{option_copied}
+use Rattle.std.specs.Borrow.{Bor}
 use Rattle.hw_model.specs.declared.lit.Lit.{Lit}
 use Rattle.hw_model.specs.declared.lit.LitTruth.TheVariants.{Free}
 use Rattle.hw_model.specs.declared.source.Source.TheVariants.{Goal}
@@ -8,12 +10,26 @@ use Rattle.hw_model.specs.Problem.{Problem, shape_of}
 use Rattle.hw_model.specs.Lits.{lit_fits, IsClause}
 use Rattle.hw_model.specs.Narrowing.{truth, denied}
 use Rattle.hw_model.specs.Quiet.{SpeaksOnlyOf}
-use Rattle.hw_model.specs.Rooms.{RoomModel}
+use Rattle.hw_model.specs.Rooms.{RoomModel, RoomFits}
 use Rattle.hw_lits.specs.Active.{IsActive}
 use Rattle.hw_tolls.specs.declared.tariff.Tariff.{Tariff}
 use Rattle.hw_tolls.specs.declared.toll.Toll.{Toll}
 use Rattle.hw_tolls.specs.Tolls.{IsToll}
 use Rattle.hw_tolls.specs.Prices.{PricesBound, PricesRefute, TariffFits}
+use Rattle.hw_advice.specs.declared.adviser.Advice.{Advice}
+use Rattle.hw_advice.specs.declared.adviser.Bounding.{Bounding}
+use Rattle.hw_advice.specs.declared.adviser.Scene.{Scene}
+
+-- a room of the problem, at most 10,000 tolls of it, and a tariff on them, if there is one
+pub record SceneFits (f : Problem) (room : RoomModel) (tolls : List Toll) (tariff : Option (Bor Tariff)) : Type 0 where
+  pub room_fits : RoomFits f room
+  pub of_problem : All (IsToll f) tolls
+  pub few : length tolls ≤ 10_000
+  pub tariff_fits : IfSome tariff (λ t. TariffFits (length tolls) t.now)
+
+-- what an adviser may be shown
+abbrev pub IsScene : Scene → Type 0
+IsScene scene = SceneFits scene.flat.now scene.room.now scene.tolls.now scene.tariff
 
 -- the given tariff, or where none is given the one in force
 abbrev pub in_force : Option Tariff → Option Tariff → Option Tariff
@@ -40,6 +56,14 @@ pub record IsBoundAdvice (f : Problem) (declared : List Toll) (last : Option Tar
   pub prices : ArePriced f declared more tariff
   pub bounded : IsSomeAnd (in_force last tariff) (λ t. (1 ≤ t.scale) × PricesBound f (declared ++ more) t bound)
   pub small : bound ≤ 40_000_000_000_000
+
+-- advice in a scene: it holds of the scene's problem, tolls, tariff, best and room
+abbrev pub IsAdviceIn : Scene → Advice → Type 0
+IsAdviceIn scene advice = IsAdvice scene.flat.now scene.tolls.now (option_copied scene.tariff) scene.best scene.room.now advice.tolls.items advice.tariff advice.clause
+
+-- a bound in a scene: it holds of the scene's problem, tolls and tariff
+abbrev pub IsBoundIn : Scene → Bounding → Type 0
+IsBoundIn scene bounding = IsBoundAdvice scene.flat.now scene.tolls.now (option_copied scene.tariff) bounding.tolls.items bounding.tariff bounding.bound
 
 -- a literal of the problem that the room leaves open
 pub record IsOpenIn (f : Problem) (room : RoomModel) (lit : Lit) : Type 0 where

@@ -61,12 +61,9 @@ pub struct Bounding {
 /// The search asks it again whenever all is quiet, until it has nothing more to say. Its answers are
 /// right whatever it was asked before. It looks at no clock.
 pub trait Adviser {
-    ghost use Rattle.std.specs.Prelude.{◌≡◌, ◌≤◌, Bool, true, All, IfOk, IfSome, Ok, None, length};
-    ghost use Rattle.std.specs.Option.{option_copied};
+    ghost use Rattle.std.specs.Prelude.{◌≡◌, Bool, true, IfOk, IfSome, Ok, None};
     ghost use Rattle.hw_model.specs.Rooms.{RoomFits};
-    ghost use Rattle.hw_tolls.specs.Tolls.{IsToll};
-    ghost use Rattle.hw_tolls.specs.Prices.{TariffFits};
-    ghost use Rattle.hw_advice.specs.Advisers.{IsAdvice, IsBoundAdvice, IsOpenIn};
+    ghost use Rattle.hw_advice.specs.Advisers.{IsAdviceIn, IsBoundIn, IsOpenIn, IsScene};
 
     /// It never says anything.
     ghost silent: { Self → Bool };
@@ -74,22 +71,16 @@ pub trait Adviser {
     /// A clause that cuts the room, or that has no literal left there; none if there is nothing to say.
     /// An error says that memory ran out.
     fn advise(&mut self, alloc: Global, scene: &Scene<'_>) -> Result<Option<Advice>, NoMemory>
-        requires room { RoomFits scene.now.flat.now scene.now.room.now }
-        requires tolls { All (IsToll scene.now.flat.now) scene.now.tolls.now }
-        requires few { length scene.now.tolls.now ≤ 10_000 }
-        requires tariff { IfSome scene.now.tariff (λ t. TariffFits (length scene.now.tolls.now) t.now) }
-        ensures advice { IfOk result (λ answer. IfSome answer (λ a. IsAdvice scene.now.flat.now scene.now.tolls.now (option_copied scene.now.tariff) scene.now.best scene.now.room.now a.tolls.items a.tariff a.clause)) }
+        requires { IsScene scene.now }
+        ensures advice { IfOk result (λ answer. IfSome answer (IsAdviceIn scene.now)) }
         ensures silence { silent self.old ≡ true → result ≡ Ok None }
         ensures same { silent self.new ≡ silent self.old };
 
     /// A bound of what any permitted timetable carries; none if it knows none. The room plays no part.
     /// An error says that memory ran out.
     fn bound(&mut self, alloc: Global, scene: &Scene<'_>) -> Result<Option<Bounding>, NoMemory>
-        requires room { RoomFits scene.now.flat.now scene.now.room.now }
-        requires tolls { All (IsToll scene.now.flat.now) scene.now.tolls.now }
-        requires few { length scene.now.tolls.now ≤ 10_000 }
-        requires tariff { IfSome scene.now.tariff (λ t. TariffFits (length scene.now.tolls.now) t.now) }
-        ensures bound { IfOk result (λ answer. IfSome answer (λ b. IsBoundAdvice scene.now.flat.now scene.now.tolls.now (option_copied scene.now.tariff) b.tolls.items b.tariff b.bound)) }
+        requires { IsScene scene.now }
+        ensures bound { IfOk result (λ answer. IfSome answer (IsBoundIn scene.now)) }
         ensures silence { silent self.old ≡ true → result ≡ Ok None }
         ensures same { silent self.new ≡ silent self.old };
 

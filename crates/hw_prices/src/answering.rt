@@ -1,11 +1,9 @@
 //! Answers that passed the exact tests.
 
 ghost use Rattle.std.specs.Prelude.{◌<◌, ◌≤◌, length, All, IfOk, IfSome, IsTrue};
-ghost use Rattle.std.specs.Option.{option_copied};
 ghost use Rattle.hw_model.specs.Rooms.{RoomFits, low_of, high_of};
 ghost use Rattle.hw_tolls.specs.Tolls.{IsToll};
-ghost use Rattle.hw_tolls.specs.Prices.{TariffFits};
-ghost use Rattle.hw_advice.specs.Advisers.{IsAdvice, IsBoundAdvice, IsOpenIn};
+ghost use Rattle.hw_advice.specs.Advisers.{IsAdviceIn, IsBoundIn, IsOpenIn, IsScene};
 
 use crate::exact::{are_priced, bound_of, copied, joined, tested};
 use hw_advice::{Advice, Bounding, Scene};
@@ -28,11 +26,8 @@ pub(crate) fn advice_in_force(
     scene: &Scene<'_>,
     lits: Vec<Lit>,
 ) -> Result<Option<Advice>, NoMemory>
-    requires room { RoomFits scene.now.flat.now scene.now.room.now }
-    requires tolls { All (IsToll scene.now.flat.now) scene.now.tolls.now }
-    requires few { length scene.now.tolls.now ≤ 10_000 }
-    requires tariff { IfSome scene.now.tariff (λ t. TariffFits (length scene.now.tolls.now) t.now) }
-    ensures advice { IfOk result (λ answer. IfSome answer (λ a. IsAdvice scene.now.flat.now scene.now.tolls.now (option_copied scene.now.tariff) scene.now.best scene.now.room.now a.tolls.items a.tariff a.clause)) }
+    requires { IsScene scene.now }
+    ensures advice { IfOk result (λ answer. IfSome answer (IsAdviceIn scene.now)) }
 {
     let Some(tariff) = scene.tariff else {
         return Ok(None);
@@ -60,7 +55,7 @@ pub(crate) fn advice_anew(
     requires room { RoomFits scene.now.flat.now scene.now.room.now }
     requires tolls { All (IsToll scene.now.flat.now) scene.now.tolls.now }
     requires few { length scene.now.tolls.now ≤ 10_000 }
-    ensures advice { IfOk result (λ answer. IfSome answer (λ a. IsAdvice scene.now.flat.now scene.now.tolls.now (option_copied scene.now.tariff) scene.now.best scene.now.room.now a.tolls.items a.tariff a.clause)) }
+    ensures advice { IfOk result (λ answer. IfSome answer (IsAdviceIn scene.now)) }
 {
     let Offer { tolls, tariff } = offer;
     if !are_priced(alloc, scene, rules, &tolls, &tariff)? {
@@ -87,7 +82,7 @@ pub(crate) fn bounding(
 ) -> Result<Option<Bounding>, NoMemory>
     requires tolls { All (IsToll scene.now.flat.now) scene.now.tolls.now }
     requires few { length scene.now.tolls.now ≤ 10_000 }
-    ensures bound { IfOk result (λ answer. IfSome answer (λ b. IsBoundAdvice scene.now.flat.now scene.now.tolls.now (option_copied scene.now.tariff) b.tolls.items b.tariff b.bound)) }
+    ensures bound { IfOk result (λ answer. IfSome answer (IsBoundIn scene.now)) }
 {
     let Offer { tolls, tariff } = offer;
     if !are_priced(alloc, scene, rules, &tolls, &tariff)? {

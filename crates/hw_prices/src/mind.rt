@@ -1,11 +1,9 @@
 //! What an adviser knows of a problem: prices, and the tolls that it has named.
 
 ghost use Rattle.std.specs.Prelude.{◌≤◌, length, All, IfOk, IfSome};
-ghost use Rattle.std.specs.Option.{option_copied};
 ghost use Rattle.hw_model.specs.Rooms.{RoomFits};
 ghost use Rattle.hw_tolls.specs.Tolls.{IsToll};
-ghost use Rattle.hw_tolls.specs.Prices.{TariffFits};
-ghost use Rattle.hw_advice.specs.Advisers.{IsAdvice, IsBoundAdvice};
+ghost use Rattle.hw_advice.specs.Advisers.{IsAdviceIn, IsBoundIn, IsScene};
 
 use crate::answering::{Offer, advice_anew, advice_in_force, bounding};
 use crate::course::{Course, FULL_PACE};
@@ -108,11 +106,8 @@ impl Mind {
         alloc: Global,
         scene: &Scene<'_>,
     ) -> Result<Option<Advice>, NoMemory>
-        requires room { RoomFits scene.now.flat.now scene.now.room.now }
-        requires tolls { All (IsToll scene.now.flat.now) scene.now.tolls.now }
-        requires few { length scene.now.tolls.now ≤ 10_000 }
-        requires tariff { IfSome scene.now.tariff (λ t. TariffFits (length scene.now.tolls.now) t.now) }
-        ensures advice { IfOk result (λ answer. IfSome answer (λ a. IsAdvice scene.now.flat.now scene.now.tolls.now (option_copied scene.now.tariff) scene.now.best scene.now.room.now a.tolls.items a.tariff a.clause)) }
+        requires { IsScene scene.now }
+        ensures advice { IfOk result (λ answer. IfSome answer (IsAdviceIn scene.now)) }
     {
         let Some(best) = scene.best else {
             self.explore(alloc, scene)?;
@@ -221,7 +216,7 @@ impl Mind {
         requires room { RoomFits scene.now.flat.now scene.now.room.now }
         requires tolls { All (IsToll scene.now.flat.now) scene.now.tolls.now }
         requires few { length scene.now.tolls.now ≤ 10_000 }
-        ensures advice { IfOk result (λ answer. IfSome answer (λ a. IsAdvice scene.now.flat.now scene.now.tolls.now (option_copied scene.now.tariff) scene.now.best scene.now.room.now a.tolls.items a.tariff a.clause)) }
+        ensures advice { IfOk result (λ answer. IfSome answer (IsAdviceIn scene.now)) }
     {
         let Plan { table, lits, more } = plan;
         let declared = scene.tolls.len();
@@ -252,7 +247,7 @@ impl Mind {
     ) -> Result<Option<Bounding>, NoMemory>
         requires tolls { All (IsToll scene.now.flat.now) scene.now.tolls.now }
         requires few { length scene.now.tolls.now ≤ 10_000 }
-        ensures bound { IfOk result (λ answer. IfSome answer (λ b. IsBoundAdvice scene.now.flat.now scene.now.tolls.now (option_copied scene.now.tariff) b.tolls.items b.tariff b.bound)) }
+        ensures bound { IfOk result (λ answer. IfSome answer (IsBoundIn scene.now)) }
     {
         if last && self.sought != scene.best {
             self.look_again(alloc, scene)?;

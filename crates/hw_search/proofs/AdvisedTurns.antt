@@ -1,6 +1,7 @@
 -- A turn with advice, part by part.
-use Rattle.std.proofs.Common.{◌≡◌, ◌-◌, ◌<◌, true, false, [], Option, Some, None, length, refl, sym, ap, ◌∙◌, subst, arith, append-nil}
+use Rattle.std.proofs.Common.{◌≡◌, ℕ, ◌-◌, ◌<◌, ◌≤◌, true, false, List, [], Option, Some, None, All, Bor, IfSome, length, refl, sym, ap, ◌∙◌, subst, arith, append-nil}
 use Rattle.std.proofs.lemmas.List.Elements.{All-nil}
+use Rattle.std.specs.Option.{option_copied}
 use Rattle.hw_model.specs.declared.lit.Lit.{Lit}
 use Rattle.hw_model.specs.Problem.{Problem}
 use Rattle.hw_model.specs.Rooms.{RoomModel, RoomFits, IsPoint}
@@ -11,7 +12,12 @@ use Rattle.hw_story.specs.Trails.{most_events}
 use Rattle.hw_cert.specs.declared.log.LogStop.{LogStop}
 use Rattle.hw_cert.specs.declared.log.LogStop.TheVariants as stops
 use Rattle.hw_cert.specs.Logs.{LogModel, WhereTold}
-use Rattle.hw_advice.specs.Advisers.{IsOpenIn}
+use Rattle.hw_tolls.specs.declared.tariff.Tariff.{Tariff}
+use Rattle.hw_tolls.specs.declared.toll.Toll.{Toll}
+use Rattle.hw_tolls.specs.Tolls.{IsToll}
+use Rattle.hw_tolls.specs.Prices.{TariffFits}
+use Rattle.hw_advice.specs.declared.adviser.Scene.{Scene}
+use Rattle.hw_advice.specs.Advisers.{IsOpenIn, IsScene}
 use Rattle.hw_progress.specs.declared.outcome.Settled.TheVariants.{Quiet, Conflict}
 use Rattle.hw_progress.specs.declared.outcome.Turn.{Turn}
 use Rattle.hw_progress.specs.declared.outcome.Turn.TheVariants as turns
@@ -34,6 +40,20 @@ use Rattle.hw_search.proofs.Steps.{implies_none}
 -- the room that it sees is one of the problem
 pub room_seen : (s : SearchModel) (f : Problem) (room : RoomModel) → IsSearch s → f ≡ s.problem → room ≡ room_in s → RoomFits f room
 room_seen s f room is p r = subst (λ g. RoomFits g room) (sym p) (subst (RoomFits s.problem) (sym r) (room_here s is))
+
+-- the tariff that it sees is the one in force
+tariff_seen : (n : ℕ) (seen : Option (Bor Tariff)) (p : Option Tariff) → option_copied seen ≡ p → IfSome p (TariffFits n) → IfSome seen (λ t. TariffFits n t.now)
+tariff_seen n None p e h = tt
+tariff_seen n (Some t) p e h = subst (λ o. IfSome o (TariffFits n)) (sym e) h
+
+-- it may be shown what it sees
+pub scene_seen : (s : SearchModel) (scene : Scene) → IsSearch s → scene.flat.now ≡ s.problem → scene.room.now ≡ room_in s → scene.tolls.now ≡ s.prices.tolls → option_copied scene.tariff ≡ s.prices.tariff → IsScene scene
+scene_seen s scene is flat room tolls tariff = record {
+  room_fits = room_seen s scene.flat.now scene.room.now is flat room;
+  of_problem = subst (λ f. All (IsToll f) scene.tolls.now) (sym flat) (subst (All (IsToll s.problem)) (sym tolls) is.prices.tolls);
+  few = subst (λ (ts : List Toll). length ts ≤ 10_000) (sym tolls) is.prices.few;
+  tariff_fits = subst (λ (ts : List Toll). IfSome scene.tariff (λ t. TariffFits (length ts) t.now)) (sym tolls) (tariff_seen (length s.prices.tolls) scene.tariff s.prices.tariff tariff is.prices.tariff);
+}
 
 -- ---- after settling
 

@@ -1,6 +1,8 @@
 -- A bound that an adviser gives, written after the tolls and the tariff by which it holds.
 use Rattle.std.specs.Prelude.{◌≡◌, ℕ, ◌<◌, ◌≤◌, [], ◌∷◌, ◌++◌, Option, Some, None, Result, Ok, Err, IfSome, IsSomeAnd, ⊤}
 use Rattle.hw_tolls.specs.Prices.{PricesBound}
+use Rattle.hw_advice.specs.declared.adviser.Bounding.{Bounding}
+use Rattle.hw_advice.specs.Advisers.{IsBoundAdvice}
 use Rattle.hw_lines.specs.declared.line.Line.TheVariants as lines
 use Rattle.hw_cert.specs.declared.log.LogStop.{LogStop}
 use Rattle.hw_cert.specs.declared.log.LogStop.TheVariants as stops
@@ -11,6 +13,10 @@ use Rattle.hw_progress.specs.Prices.{with_bound, NoneAbove}
 use Rattle.hw_progress.specs.Searches.{SearchModel, IsSearch}
 use Rattle.hw_progress.specs.Advised.{HeedWrites, Heeds}
 use Rattle.hw_search.specs.Heeding.{HeedStops, priced_by}
+
+-- a bound for a search: it holds of the search's problem and prices
+abbrev pub IsBoundFor : SearchModel → Bounding → Type 0
+IsBoundFor s bounding = IsBoundAdvice s.problem s.prices.tolls s.prices.tariff bounding.tolls.items bounding.tariff bounding.bound
 
 -- the bound is below the last one
 abbrev pub IsBelow : SearchModel → ℕ → Type 0

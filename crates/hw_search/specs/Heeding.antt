@@ -1,20 +1,30 @@
 -- What heeding advice leaves, and where it stops.
-use Rattle.std.specs.Prelude.{◌<◌, ◌≤◌, ◌++◌, List, Option, Some, None, Result, Ok, Err, length}
+use Rattle.std.specs.Prelude.{◌≡◌, ◌<◌, ◌≤◌, ◌++◌, List, Option, Some, None, Result, Ok, Err, length}
 use Rattle.hw_story.specs.declared.event.Why.{Why}
 use Rattle.hw_cert.specs.declared.log.LogStop.{LogStop}
 use Rattle.hw_cert.specs.Logs.{LogModel}
 use Rattle.hw_tolls.specs.declared.tariff.Tariff.{Tariff}
 use Rattle.hw_tolls.specs.declared.toll.Toll.{Toll}
-use Rattle.hw_advice.specs.Advisers.{in_force}
+use Rattle.hw_advice.specs.declared.adviser.Advice.{Advice}
+use Rattle.hw_advice.specs.declared.adviser.Standing.{Standing}
+use Rattle.hw_advice.specs.Advisers.{in_force, IsAdvice}
 use Rattle.hw_progress.specs.declared.outcome.Turn.{Turn}
 use Rattle.hw_progress.specs.Prices.{PriceModel}
-use Rattle.hw_progress.specs.Searches.{SearchModel}
+use Rattle.hw_progress.specs.Searches.{SearchModel, best_cargo, room_in}
 use Rattle.hw_progress.specs.Settling.{IsConflict}
 use Rattle.hw_progress.specs.Advised.{Heeds, StopsBy, AdvisedMeets}
 use Rattle.hw_search.specs.declared.settling.Asked.{Asked}
 use Rattle.hw_search.specs.declared.settling.Asked.TheVariants as asked
 use Rattle.hw_search.specs.Faults.{TurnKeepsFaults}
 use Rattle.hw_search.specs.Turning.{turn_of}
+
+-- where a search stands
+abbrev pub standing_of : SearchModel → Standing
+standing_of s = record { lemmas = s.lemmas; restarts = s.restarts; level = s.trail.level }
+
+-- advice for a search: it holds of the search's problem, prices, best and room
+abbrev pub IsAdviceFor : SearchModel → Advice → Type 0
+IsAdviceFor s advice = IsAdvice s.problem s.prices.tolls s.prices.tariff (best_cargo s) (room_in s) advice.tolls.items advice.tariff advice.clause
 
 -- more tolls
 abbrev pub with_tolls : PriceModel → List Toll → PriceModel
@@ -56,6 +66,10 @@ ConsultMeets nothing s after old new (Ok asked.Quiet) = nothing
 ConsultMeets nothing s after old new (Ok asked.Cut) = HeedGains s after old new
 ConsultMeets nothing s after old new (Ok (asked.Conflict why)) = HeedFails s after old new why
 ConsultMeets nothing s after old new (Err stop) = HeedStops s after old stop new
+
+-- an adviser was consulted: it had nothing to say and all is as before, or its advice was heeded
+abbrev pub ConsultHeeds : SearchModel → SearchModel → LogModel → LogModel → Result Asked LogStop → Type 0
+ConsultHeeds s after old new result = ConsultMeets ((after ≡ s) × (new ≡ old)) s after old new result
 
 -- a turn with advice, and what it does to the log's faults
 pub record AdvisedTurn (s : SearchModel) (old : LogModel) (turn : Turn) (after : SearchModel) (new : LogModel) : Type 0 where

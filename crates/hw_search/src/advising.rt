@@ -2,11 +2,11 @@
 
 ghost use Rattle.std.specs.Prelude.{◌≡◌, ◌<◌, false, IfOk, IfSome, ⊤};
 ghost use Rattle.std.specs.Option.{option_copied};
-ghost use Rattle.hw_advice.specs.Advisers.{IsAdvice, IsOpenIn};
+ghost use Rattle.hw_advice.specs.Advisers.{IsOpenIn};
 ghost use Rattle.hw_cert.specs.Logs.{WhereTold};
 ghost use Rattle.hw_progress.specs.Searches.{best_cargo, room_in, IsSearch, LogFits};
 ghost use Rattle.hw_progress.specs.Settling.{AllQuiet};
-ghost use Rattle.hw_search.specs.Heeding.{AdvisedTurn, ConsultMeets, RoundMeets};
+ghost use Rattle.hw_search.specs.Heeding.{standing_of, AdvisedTurn, ConsultHeeds, RoundMeets};
 
 use crate::engine::Engine;
 use crate::settling::Asked;
@@ -29,6 +29,7 @@ impl<'f, S: Store + Drop, P: Propagator + Drop> Engine<'f, S, P> {
         ensures room { result.room.now ≡ room_in self.now.search }
         ensures tolls { result.tolls.now ≡ self.now.search.prices.tolls }
         ensures tariff { option_copied result.tariff ≡ self.now.search.prices.tariff }
+        ensures standing { result.standing ≡ standing_of self.now.search }
         ensures search { IsSearch self.now.search }
     {
         Scene {
@@ -54,7 +55,7 @@ impl<'f, S: Store + Drop, P: Propagator + Drop> Engine<'f, S, P> {
         requires going { self.old.search.over ≡ false }
         requires few { self.old.search.lemmas < 100000 }
         requires fits { WhereTold (L.state log.old) (λ told. LogFits told self.old.search) }
-        ensures meets { ConsultMeets ((self.new.search ≡ self.old.search) × (L.state log.new ≡ L.state log.old)) self.old.search self.new.search (L.state log.old) (L.state log.new) result }
+        ensures meets { ConsultHeeds self.old.search self.new.search (L.state log.old) (L.state log.new) result }
         ensures same_reference { L.anchor log.new ≡ L.anchor log.old }
     {
         if self.priced >= MOST_PRICED {

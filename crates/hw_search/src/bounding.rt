@@ -1,11 +1,10 @@
 //! Bounds of what any permitted timetable carries, which an adviser knows by prices.
 
 ghost use Rattle.std.specs.Prelude.{◌≡◌, ◌≤◌, ◌↔◌, false, IsTrue};
-ghost use Rattle.hw_advice.specs.Advisers.{IsBoundAdvice};
 ghost use Rattle.hw_cert.specs.Logs.{WhereTold};
 ghost use Rattle.hw_progress.specs.Searches.{LogFits};
 ghost use Rattle.hw_progress.specs.Advised.{BoundMeets};
-ghost use Rattle.hw_search.specs.Bounding.{BoundHeeds, BoundKeepsFaults, IsBelow, ShowsBound, TellMeets, bounded_by};
+ghost use Rattle.hw_search.specs.Bounding.{BoundHeeds, BoundKeepsFaults, IsBelow, IsBoundFor, ShowsBound, TellMeets, bounded_by};
 
 use crate::engine::Engine;
 use crate::telling::hand_bound;
@@ -57,7 +56,7 @@ impl<'f, S: Store + Drop, P: Propagator + Drop> Engine<'f, S, P> {
         bounding: Bounding,
         log: &mut L,
     ) -> Result<Option<u64>, LogStop>
-        requires advice { IsBoundAdvice self.old.search.problem self.old.search.prices.tolls self.old.search.prices.tariff bounding.tolls.items bounding.tariff bounding.bound }
+        requires advice { IsBoundFor self.old.search bounding }
         requires below { IsBelow self.old.search bounding.bound }
         requires fits { WhereTold (L.state log.old) (λ told. LogFits told self.old.search) }
         ensures heeds { BoundHeeds self.old.search self.new.search (L.state log.old) (L.state log.new) result }

@@ -12,12 +12,11 @@ ghost use Rattle.hw_lits.specs.Active.{IsActive};
 ghost use Rattle.hw_story.specs.Trails.{trail_shape};
 ghost use Rattle.hw_tolls.specs.Tolls.{IsToll};
 ghost use Rattle.hw_tolls.specs.Prices.{TariffFits};
-ghost use Rattle.hw_advice.specs.Advisers.{IsAdvice};
 ghost use Rattle.hw_cert.specs.Logs.{WhereTold};
 ghost use Rattle.hw_progress.specs.Prices.{with_tariff, with_toll, DuesAscend};
-ghost use Rattle.hw_progress.specs.Searches.{best_cargo, room_in, LogFits, PricesShow};
+ghost use Rattle.hw_progress.specs.Searches.{room_in, LogFits, PricesShow};
 ghost use Rattle.hw_progress.specs.Advised.{with_priced};
-ghost use Rattle.hw_search.specs.Heeding.{priced_by, with_given, with_tolls, ConsultMeets, HeedMeets};
+ghost use Rattle.hw_search.specs.Heeding.{priced_by, with_given, with_tolls, ConsultMeets, HeedMeets, IsAdviceFor};
 
 use crate::engine::Engine;
 use crate::handing::hand_priced;
@@ -149,7 +148,7 @@ impl<'f, S: Store + Drop, P: Propagator + Drop> Engine<'f, S, P> {
     /// Declares the tolls of advice, puts its tariff in force, and takes the literal that its clause
     /// has left, or tells that it has none.
     pub fn heed<L: Log>(&mut self, advice: Advice, log: &mut L) -> Result<Asked, LogStop>
-        requires advice { IsAdvice self.old.search.problem self.old.search.prices.tolls self.old.search.prices.tariff (best_cargo self.old.search) (room_in self.old.search) advice.tolls.items advice.tariff advice.clause }
+        requires advice { IsAdviceFor self.old.search advice }
         requires going { self.old.search.over ≡ false }
         requires few { self.old.search.lemmas < 100000 }
         requires few_priced { self.old.search.priced < 1_000_000_000 }
