@@ -14,6 +14,7 @@ use Rattle.hw_search.specs.Handing.{StopCause}
 use Rattle.hw_crew.specs.Pages.{Page}
 use Rattle.hw_crew.specs.Crews.{Shared}
 use Rattle.hw_turns.specs.declared.board.Board.{Board}
+use Rattle.hw_turns.specs.declared.handing.OwnLines.{OwnLines}
 
 -- where a log is told, these are its lines, and nothing follows them
 abbrev pub IsSaid : List Line → LogModel → Type 0
@@ -72,3 +73,11 @@ HandsOn f own from numbers board old numbers' board' new = (pages : List Page) (
 -- whatever pages there are, some first ones of them were
 abbrev pub StopsOn : Problem → List Line → ℕ → List ℕ → Board → LogModel → List ℕ → Board → LogModel → LogStop → Type 0
 StopsOn f own from numbers board old numbers' board' new stop = (pages : List Page) (place : ℕ) (all : List Line) → HandsFrom f own from numbers board pages place all old → HandsSome f stop own numbers' board' pages place old new
+
+-- the same of a searcher's own lines
+abbrev pub HandsOwn : Problem → OwnLines → List ℕ → Board → LogModel → List ℕ → Board → LogModel → Type 0
+HandsOwn f own numbers board old numbers' board' new = HandsOn f own.lines.now own.from numbers board old numbers' board' new
+
+-- and where one of them wasn't taken
+abbrev pub StopsOwn : Problem → OwnLines → List ℕ → Board → LogModel → List ℕ → Board → LogModel → LogStop → Type 0
+StopsOwn f own numbers board old numbers' board' new stop = StopsOn f own.lines.now own.from numbers board old numbers' board' new stop

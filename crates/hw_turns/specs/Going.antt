@@ -1,5 +1,5 @@
 -- What holds of a crew that goes on, and what a turn of one of it leaves.
-use Rattle.std.specs.Prelude.{Contains, filter, ◌≡◌, ℕ, ◌<◌, ◌≤◌, true, false, List, ◌∷◌, ◌++◌, Option, Some, None, All, length, map, sum_by, []}
+use Rattle.std.specs.Prelude.{Contains, filter, ◌≡◌, ℕ, ◌<◌, ◌≤◌, true, false, List, ◌∷◌, ◌++◌, Option, Some, None, All, IsSomeAnd, length, map, slice_get, sum_by, []}
 use Rattle.std.specs.List.{list_any}
 use Rattle.hw_model.specs.Problem.{Problem}
 use Rattle.hw_model.specs.Limits.{IsFlat}
@@ -37,6 +37,10 @@ crew_left budget members = sum_by (λ (m : Member). turns_left budget m.search) 
 -- a searcher has this rule
 abbrev pub HasRule : List Member → Branching → Type 0
 HasRule members rule = list_any (λ (m : Member). same_rule m.rule rule) members ≡ true
+
+-- the searcher at a place has this rule
+abbrev pub HasRuleAt : List Member → ℕ → Branching → Type 0
+HasRuleAt members place rule = IsSomeAnd (slice_get members place) (λ (m : Member). same_rule m.rule rule ≡ true)
 
 -- each searcher goes on
 abbrev pub AllWorking : Problem → List Member → Type 0

@@ -1,5 +1,5 @@
 -- A searcher of a crew: its search and its own lines, and what its turn leaves.
-use Rattle.std.specs.Prelude.{◌≡◌, ℕ, ◌+◌, ◌<◌, ◌≤◌, false, List, [], Option, Some, IsTrue, length, option_and_then, take, slice_get, slice_set, ⊤}
+use Rattle.std.specs.Prelude.{◌≡◌, ℕ, ◌+◌, ◌<◌, ◌≤◌, false, List, [], Option, Some, IfSome, IsTrue, length, option_and_then, take, slice_get, slice_set, ⊤}
 use Rattle.hw_model.specs.Timetables.{cargo, beats}
 use Rattle.hw_model.specs.Problem.{Problem}
 use Rattle.hw_desk.specs.State.{Rose}
@@ -111,3 +111,11 @@ ComesNearer budget turn s u = is_last turn ≡ false → s.lemmas < budget → t
 -- the timetable's cargo is above that of the other one, or there is no other
 abbrev pub IsAbove : Problem → List ℕ → Option (List ℕ) → Type 0
 IsAbove f table other = (c : ℕ) × (cargo f table ≡ Some c) × IsTrue (beats c (option_and_then (cargo f) other))
+
+-- it isn't
+abbrev pub NotAbove : Problem → List ℕ → Option (List ℕ) → Type 0
+NotAbove f table other = IfSome (cargo f table) (λ c. beats c (option_and_then (cargo f) other) ≡ false)
+
+-- the cargo of the best of all isn't above that of the search's best
+abbrev pub KeepsUp : Problem → SearchModel → Option (List ℕ) → Type 0
+KeepsUp f s best = IfSome best (λ table. NotAbove f table s.best)

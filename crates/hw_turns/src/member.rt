@@ -9,10 +9,10 @@ ghost use Rattle.hw_progress.specs.Searches.{new_search};
 ghost use Rattle.hw_progress.specs.Turns.{is_last};
 ghost use Rattle.hw_search.specs.Turning.{turn_of};
 ghost use Rattle.hw_turns.specs.Going.{page_of};
-ghost use Rattle.hw_turns.specs.Members.{Working, Caught, ComesNearer, IsAbove, TurnsOn, TurnsOwn, UnlessStopped, TurnCause, StaysTold};
+ghost use Rattle.hw_turns.specs.Members.{Working, Caught, ComesNearer, IsAbove, KeepsUp, NotAbove, TurnsOn, TurnsOwn, UnlessStopped, TurnCause, StaysTold};
 
 use crate::board::Board;
-use crate::handing::hand_on;
+use crate::handing::{OwnLines, hand_on};
 use hw_cert::{Log, LogStop, MemoryLog};
 use hw_flat::{Flat, NoMemory, Timetable};
 use hw_rules::cargo;
@@ -57,6 +57,7 @@ fn is_above(flat: &Flat, table: &Timetable, other: Option<&Timetable>) -> bool
     requires table { IsTimetable flat.now table.now }
     requires other { IfSome (option_copied other) (IsTimetable flat.now) }
     ensures better { IsTrue result → IsAbove flat.now table.now (option_copied other.entry) }
+    ensures not_better { result ≡ false → NotAbove flat.now table.now (option_copied other.entry) }
 {
     let Some(worth) = cargo(flat, table) else {
         return false;
@@ -87,6 +88,7 @@ impl<'f> Member<'f> {
         requires working { Working flat.now self.old.search self.old.log }
         requires permitted { IfSome best.now (Permits flat.now) }
         ensures caught { OnOk result (Caught flat.now self.old.search self.old.log self.new.search self.new.log) }
+        ensures keeps_up { OnOk result (KeepsUp flat.now self.new.search best.now) }
         ensures numbers { self.new.numbers ≡ self.old.numbers }
         ensures rule { self.new.rule ≡ self.old.rule }
     {
@@ -163,15 +165,11 @@ impl<'f> Member<'f> {
             Turn::NoMemory => return Turn::NoMemory,
             Turn::LogFailed => unreachable!(),
         }
-        match hand_on(
-            alloc,
-            flat,
-            self.log.lines(),
+        let own = OwnLines {
+            lines: self.log.lines(),
             from,
-            &mut self.numbers,
-            board,
-            log,
-        ) {
+        };
+        match hand_on(alloc, flat, &own, &mut self.numbers, board, log) {
             Ok(()) => turn,
             Err(stop) => turn_of(stop),
         }
