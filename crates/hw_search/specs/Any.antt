@@ -5,10 +5,11 @@ use Rattle.hw_model.specs.Rooms.{RoomModel}
 use Rattle.hw_model.specs.Refuting.{IsSourceOf}
 use Rattle.hw_prop.specs.declared.propagator.Propagator.{Ghosts as Members}
 use Rattle.hw_prop.specs.declared.shaver.Shaver.{Shaver}
-use Rattle.hw_pairs.specs.declared.props.Channel.{Channel}
-use Rattle.hw_pairs.specs.declared.props.Separation.{Separation}
-use Rattle.hw_pairs.specs.declared.props.Berth.{Berth}
-use Rattle.hw_pairs.specs.declared.props.OrderTriple.{OrderTriple}
+use Rattle.hw_pairs.specs.declared.props.Stateless.{Stateless}
+use Rattle.hw_pairs.specs.declared.props.Pairs.{Pairs}
+use Rattle.hw_pairs.specs.declared.props.OneHolePairs.{OneHolePairs}
+use Rattle.hw_pairs.specs.declared.props.Afters.{Afters}
+use Rattle.hw_pairs.specs.declared.props.Orders.{Orders}
 use Rattle.hw_tugs.specs.declared.profile.TugProfile.{TugProfile}
 use Rattle.hw_goal.specs.declared.bound.GoalBound.{GoalBound}
 use Rattle.hw_search.specs.declared.any.AnyPropagator.{AnyPropagator}
@@ -34,10 +35,10 @@ meaning kind p = record { source = kind.says.source p; serves = kind.says.serves
 -- each kind in a row
 pub record Kinds : Type 1 where
   pub shaver : Kind Shaver
-  pub channel : Kind Channel
-  pub separation : Kind Separation
-  pub berth : Kind Berth
-  pub order_triple : Kind OrderTriple
+  pub channel : Kind (Stateless Pairs)
+  pub separation : Kind (Stateless OneHolePairs)
+  pub berth : Kind (Stateless Afters)
+  pub order_triple : Kind (Stateless Orders)
   pub tug_profile : Kind TugProfile
   pub goal_bound : Kind GoalBound
 
