@@ -25,7 +25,7 @@ use Rattle.hw_verify_command.specs.Bounded.{any_outcome}
 use Rattle.hw_verify_command.specs.Verifying.{Verifies, VerifiesOrStops, VerifiesCert}
 use Rattle.hw_verify_command.specs.declared.verified.VerifiedCert.{VerifiedCert}
 
--- what is found behind lines that were taken
+-- what is found after lines that were taken
 pub verified_behind : {f : Problem} {told : Option (List ℕ)} {outcome : List ℕ → CertOutcome} {read : List ℕ → CertLines} {all : List Line} {table : Option (List ℕ)} {r : ReaderModel} {c : CheckState} (x y z : DeskState) (o : CertOutcome) (bound : Option ℕ)
     → Taken f told outcome read all table r c y → bound ≡ bound_of all → y.read_faults ≡ x.read_faults
     → ComesOrStops c.problem all (rest_of r y) (rest_outcome c.problem all r.at) y z (Ok o) → StepReads c.problem all r y z (Ended (Ok o)) → (z.read_faults ≡ x.read_faults) × Verifies f told outcome read o bound table
@@ -35,7 +35,7 @@ verified_behind {all = all} {r = r} x y z o bound h last kept k reads =
     let both = kept_behind x z o h.reached h.reads kept step one in
     (both.0, record { lines = all; keeps = both.1; last = last; tabled = h.last })
 
--- the same behind a step without a fault
+-- the same after a step without a fault
 verifies_from : (f : Problem) (told : Option (List ℕ)) (outcome : List ℕ → CertOutcome) (is_read : List ℕ → CertLines) (x y z : DeskState) (found : Result VerifiedCert CertStop) → y.read_faults ≡ x.read_faults → VerifiesOrStops f told outcome is_read y z found → VerifiesOrStops f told outcome is_read x z found
 verifies_from f told outcome is_read x y z (Ok v) before h = (h.0 ∙ before, h.1)
 verifies_from f told outcome is_read x y z (Err Fault) before h = rose_on before h

@@ -17,7 +17,7 @@ use Rattle.hw_command.specs.Verdicts.{Means, MeansOfPort}
 use Rattle.hw_command.specs.declared.outcome.CertOutcome.{CertOutcome}
 use Rattle.hw_command.specs.declared.outcome.CertOutcome.TheVariants.{Shows}
 
--- what a certificate of a problem, of any version, comes to by its bytes
+-- the outcome of a certificate of a problem, of any version, by its bytes
 abbrev pub any_outcome : Problem → List ℕ → CertOutcome
 any_outcome f bytes = cert_outcome_to Three f bytes
 
@@ -29,7 +29,7 @@ cert_bound f bytes = bound_of (cert_stream_to Three (shape_of f) bytes).lines
 abbrev pub NamesThird : List ℕ → Type 0
 NamesThird bytes = (more : List ℕ) × (bytes ≡ codes "cert 3\n" ++ more)
 
--- valid lines of the problem have this verdict, and their last bound is this one, or they have none. They are all lines of the certificate, where it is told, and that is what it comes to
+-- valid lines of the problem with this verdict and this last bound, or none. If the certificate is told, they are all its lines, and the verdict is its outcome
 pub record IsVerified (f : Problem) (bytes : Option (List ℕ)) (v : Verdict) (bound : Option ℕ) : Type 0 where
   pub lines : List Line
   pub fit : All (LineFits f) lines
@@ -39,7 +39,7 @@ pub record IsVerified (f : Problem) (bytes : Option (List ℕ)) (v : Verdict) (b
   pub read : IfSome bytes (λ bs. cert_stream_to Three (shape_of f) bs ≡ whole_lines lines)
   pub outcome : IfSome bytes (λ bs. Shows v ≡ any_outcome f bs)
 
--- what a verdict says of the problem is so, and no permitted timetable carries more than the bound
+-- what a verdict says of the problem is true, and no permitted timetable carries more than the bound
 pub record BoundMeans (f : Problem) (v : Verdict) (bound : Option ℕ) : Type 0 where
   pub means : Means f v
   pub bounds : IfSome bound (IsBound f)

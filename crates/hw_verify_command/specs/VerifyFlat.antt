@@ -1,4 +1,4 @@
--- `verify flat NAME CERT`: a certificate of a flat text, of any version, is checked line by line, and its bound is told.
+-- `verify flat NAME CERT`: checks a certificate of a flat text, of any version, line by line, and reports its bound.
 use Rattle.std.specs.Prelude.{◌≡◌, ℕ, List, [], ◌∷◌, Option, None, Some, IfSome, Result, Ok, Err, length, nat_lt, if◌then◌else◌}
 use Rattle.hw_model.specs.Limits.{IsFlat}
 use Rattle.hw_model.specs.Problem.{Problem}
@@ -33,7 +33,7 @@ texts_verified text bytes = if nat_lt most_bytes (length text) then too_long Fla
 
 -- ---- what is said
 
--- a problem, that of the text where it is told; the verdict of its certificate and the last bound there; and what these say of the problem is so
+-- a problem, which is the text's if that is told; its certificate's verdict and last bound; and what these say of the problem is true
 pub record VerifiesText (text bytes : Option (List ℕ)) (v : Verdict) (bound : Option ℕ) : Type 0 where
   pub problem : Problem
   pub limits : IsFlat problem
@@ -41,21 +41,21 @@ pub record VerifiesText (text bytes : Option (List ℕ)) (v : Verdict) (bound : 
   pub shown : IsVerified problem bytes v bound
   pub means : BoundMeans problem v bound
 
--- a problem, that of the text where it is told, and what its certificate comes to, where that is told
+-- a problem, which is the text's if that is told, and the outcome of its certificate, if that is told
 pub record RefusesText (text bytes : Option (List ℕ)) (o : CertOutcome) : Type 0 where
   pub problem : Problem
   pub limits : IsFlat problem
   pub reads : IfSome text (IsTextOf problem)
   pub outcome : IfSome bytes (λ bs. o ≡ any_outcome problem bs)
 
--- what a report says of the text and of the certificate, each as far as it is told. No other report is given
+-- what a report says of the text and the certificate, as far as they are told. No other report is given
 abbrev pub VerifiesTexts : Option (List ℕ) → Option (List ℕ) → Report → Type 0
 VerifiesTexts text bytes (verified v bound names) = (names ≡ by_number) × VerifiesText text bytes v bound
 VerifiesTexts text bytes (refused number word hint) = RefusesText text bytes (Wrong number word hint)
 VerifiesTexts text bytes (too_long Certificate) = RefusesText text bytes TooLong
 VerifiesTexts text bytes r = NoFlat text r
 
--- the same, and where both are told the report is decided by their bytes
+-- the same, and if both are told, their bytes decide the report
 pub record VerifiesFlat (text bytes : Option (List ℕ)) (r : Report) : Type 0 where
   pub texts : VerifiesTexts text bytes r
   pub decided : IfSome text (λ t. IfSome bytes (λ b. r ≡ texts_verified t b))

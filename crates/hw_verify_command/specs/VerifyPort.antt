@@ -1,4 +1,4 @@
--- `verify port INSTANCE TIDES CERT`: a certificate of a port, of any version, is checked line by line, and its bound is told.
+-- `verify port INSTANCE TIDES CERT`: checks a certificate of a port, of any version, line by line, and reports its bound.
 use Rattle.std.specs.Prelude.{◌≡◌, ℕ, List, [], ◌∷◌, Option, Some, None, IfSome}
 use Rattle.hw_desk.specs.State.{DeskState}
 use Rattle.hw_desk.specs.declared.desk.Feed.TheVariants.{Instance, Tides, Certificate}
@@ -20,20 +20,20 @@ use Rattle.hw_verify_command.specs.Verifying.{report_with}
 abbrev pub port_verified : List ℕ → Parts → TideParts → Report
 port_verified bytes p h = report_with (by_name p h) (cert_bound (flattened p h) bytes) (any_outcome (flattened p h) bytes)
 
--- a port with its tide, that of the instance and of the table where they are told; the verdict of its certificate and the last bound there; and what these say by the port's own rules is so
+-- a port with its tide, read from the instance and the tide table if they are told; its certificate's verdict and last bound; and what these say by the port's own rules is true
 pub record VerifiesPort (instance tides bytes : Option (List ℕ)) (p : Parts) (h : TideParts) (v : Verdict) (bound : Option ℕ) : Type 0 where
   pub reads : IsPortOf instance tides p h
   pub shown : IsVerified (flattened p h) bytes v bound
   pub means : PortBoundMeans p h v bound
 
--- a port with its tide, those that are told, and what its certificate comes to, where that is told
+-- a port with its tide, read from the instance and the tide table if they are told, and the outcome of its certificate, if that is told
 pub record RefusesPort (instance tides bytes : Option (List ℕ)) (o : CertOutcome) : Type 0 where
   pub port : Parts
   pub tide : TideParts
   pub reads : IsPortOf instance tides port tide
   pub outcome : IfSome bytes (λ bs. o ≡ any_outcome (flattened port tide) bs)
 
--- what a report says of the instance, of the tide table and of the certificate, each where it is told. Where these are told, and but for want of memory, no two reports hold together; no other is given
+-- what a report says of the instance, the tide table and the certificate, as far as they are told. If all are told, one report alone holds, apart from out of memory. No other report is given
 abbrev pub VerifiesPortTexts : Option (List ℕ) → Option (List ℕ) → Option (List ℕ) → Option Report → Type 0
 VerifiesPortTexts instance tides bytes None = ⊥
 VerifiesPortTexts instance tides bytes (Some (verified v bound (by_name p h))) = VerifiesPort instance tides bytes p h v bound

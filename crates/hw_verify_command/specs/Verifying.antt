@@ -22,7 +22,7 @@ use Rattle.hw_command.specs.declared.outcome.CertStop.TheVariants as stops
 use Rattle.hw_verify_command.specs.Bounded.{any_outcome}
 use Rattle.hw_verify_command.specs.declared.verified.VerifiedCert.{VerifiedCert}
 
--- an outcome, the valid lines after which it comes, all that the bytes read as where it shows something, and the last bound and the last timetable among them
+-- an outcome and the valid lines before it, which are all that the bytes read as if it shows something, with the last bound and the last timetable among them
 pub record Verifies (f : Problem) (told : Option (List ℕ)) (outcome : List ℕ → CertOutcome) (read : List ℕ → CertLines) (o : CertOutcome) (bound : Option ℕ) (table : Option (List ℕ)) : Type 0 where
   pub lines : List Line
   pub keeps : Keeps f told outcome read lines o
@@ -34,7 +34,7 @@ abbrev pub VerifiesOrStops : Problem → Option (List ℕ) → (List ℕ → Cer
 VerifiesOrStops f told outcome read old new (Ok v) = (new.read_faults ≡ old.read_faults) × Verifies f told outcome read v.outcome v.bound v.table
 VerifiesOrStops f told outcome read old new (Err stop) = NoOutcome old new stop
 
--- the same of what is left, where the reading stands there and no line was taken
+-- the same of what is left to read from the reader's place on, before any line was taken
 abbrev pub VerifiesRest : ReaderModel → CheckState → DeskState → DeskState → Result VerifiedCert CertStop → Type 0
 VerifiesRest r c old new result = VerifiesOrStops c.problem (rest_of r old) (rest_outcome c.problem [] r.at) (rest_read c.problem [] r.at) old new result
 
@@ -51,7 +51,7 @@ report_with names bound (Shows v) = verified v bound names
 report_with names bound (Wrong number word hint) = refused number word hint
 report_with names bound TooLong = too_long Certificate
 
--- the report of what a check of a certificate gives
+-- the report of a certificate's check
 abbrev pub report_of_verified : Naming → Result VerifiedCert CertStop → Report
 report_of_verified names (Ok v) = report_with names v.bound v.outcome
 report_of_verified names (Err stops.Fault) = read_fault Certificate

@@ -27,7 +27,8 @@ pub struct VerifiedCert {
 }
 
 /// Begins a certificate of any version under its name and checks it to its end or up to the first wrong
-/// line, with the last bound and the last timetable kept. Of the lines it keeps no other.
+/// line. It keeps the last bound and the last timetable, and no other line. An error says that a read
+/// failed, or that memory ran out.
 pub fn verify_cert_table<D: Desk>(
     alloc: Global,
     desk: &mut D,
@@ -53,7 +54,7 @@ fn table_behind(last: Option<Timetable>, line: Line) -> Option<Timetable>
     }
 }
 
-/// Takes the lines that are left, each at least one byte of at most 2^40.
+/// Checks the remaining lines. Each takes at least one of at most 2^40 bytes.
 fn verify_lines<D: Desk>(
     desk: &mut D,
     mut reader: LineReader,
@@ -89,7 +90,7 @@ fn verify_lines<D: Desk>(
     }
 }
 
-/// The report of what a check of a certificate gives, in these names.
+/// The report of a certificate's check, in these names.
 pub(crate) fn verified_report(verified: Result<VerifiedCert, CertStop>, names: Names) -> Report
     ensures value { report_seen result ≡ report_of_verified (names_seen names.entry) verified }
     ensures printed { CanPrint (report_seen result) }
