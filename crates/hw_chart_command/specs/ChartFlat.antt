@@ -1,7 +1,8 @@
--- `chart flat NAME CERT`: the plan that a certificate of a flat text, of any version, shows is drawn.
+-- `chart flat NAME CERT`: draws the plan that a certificate of a flat text, of any version, shows.
 use Rattle.std.specs.Prelude.{◌≡◌, ℕ, List, [], ◌∷◌, Option, None, Some, IfSome, Result, Ok, Err, length, nat_lt, if◌then◌else◌}
 use Rattle.hw_model.specs.Limits.{IsFlat}
 use Rattle.hw_model.specs.Problem.{Problem}
+use Rattle.hw_chart.specs.declared.outcome.Outcome.{Outcome}
 use Rattle.hw_desk.specs.State.{DeskState}
 use Rattle.hw_desk.specs.declared.desk.Feed.TheVariants.{Flat, Certificate}
 use Rattle.hw_flat.specs.Text.{Fault, flat_text}
@@ -17,11 +18,15 @@ use Rattle.hw_command.specs.declared.outcome.CertOutcome.TheVariants.{Shows, Wro
 use Rattle.hw_verify_command.specs.Bounded.{any_outcome}
 use Rattle.hw_chart_command.specs.Shown.{cert_table, shown_with, IsLastShown, OutcomeMeans}
 
+-- the report that is the picture of a problem with a timetable or none
+abbrev pub flat_report : Problem → Option (List ℕ) → Outcome → Report
+flat_report f table o = picture o.verdict (flat_picture f table o)
+
 -- ---- by the bytes alone
 
--- the picture where a certificate of these bytes shows something, and else why not
+-- the picture if a certificate of these bytes shows something, otherwise why it shows nothing
 abbrev pub flat_chart_of : Problem → List ℕ → CertOutcome → Report
-flat_chart_of f bytes (Shows v) = picture v (flat_picture f (cert_table f bytes) (shown_with f bytes v))
+flat_chart_of f bytes (Shows v) = flat_report f (cert_table f bytes) (shown_with f bytes v)
 flat_chart_of f bytes (Wrong number word hint) = refused number word hint
 flat_chart_of f bytes TooLong = too_long Certificate
 
@@ -36,7 +41,7 @@ texts_chart text bytes = if nat_lt most_bytes (length text) then too_long Flat e
 
 -- ---- what is said
 
--- a problem, that of the text where it is told, and what is drawn of it: the verdict of its certificate, and the last bound and the last timetable there, with what these say of the problem
+-- a problem, which is the text's if that is told, and what is drawn of it: its certificate's verdict, last bound and last timetable, with what these say of the problem
 pub record DrawsText (text bytes : Option (List ℕ)) (v : Verdict) (drawn : List ℕ) : Type 0 where
   pub problem : Problem
   pub limits : IsFlat problem
@@ -47,21 +52,21 @@ pub record DrawsText (text bytes : Option (List ℕ)) (v : Verdict) (drawn : Lis
   pub means : OutcomeMeans problem (record { verdict = v; bound = bound }) table
   pub is_picture : drawn ≡ flat_picture problem table (record { verdict = v; bound = bound })
 
--- a problem, that of the text where it is told, and what its certificate comes to, where that is told
+-- a problem, which is the text's if that is told, and the outcome of its certificate, if that is told
 pub record RefusesText (text bytes : Option (List ℕ)) (o : CertOutcome) : Type 0 where
   pub problem : Problem
   pub limits : IsFlat problem
   pub reads : IfSome text (IsTextOf problem)
   pub outcome : IfSome bytes (λ bs. o ≡ any_outcome problem bs)
 
--- what a report says of the text and of the certificate, each as far as it is told. Where nothing is drawn it is what `verify flat` says. No other report is given
+-- what a report says of the text and the certificate, as far as they are told. If nothing is drawn, it says what `verify flat` would. No other report is given
 abbrev pub ChartsTexts : Option (List ℕ) → Option (List ℕ) → Report → Type 0
 ChartsTexts text bytes (picture v drawn) = DrawsText text bytes v drawn
 ChartsTexts text bytes (refused number word hint) = RefusesText text bytes (Wrong number word hint)
 ChartsTexts text bytes (too_long Certificate) = RefusesText text bytes TooLong
 ChartsTexts text bytes r = NoFlat text r
 
--- the same, and where both are told the report is decided by their bytes
+-- the same, and if both are told, their bytes decide the report
 pub record Charts (text bytes : Option (List ℕ)) (r : Report) : Type 0 where
   pub texts : ChartsTexts text bytes r
   pub decided : IfSome text (λ t. IfSome bytes (λ b. r ≡ texts_chart t b))

@@ -1,4 +1,4 @@
--- `chart port INSTANCE TIDES CERT`: the plan that a certificate of a port, of any version, shows is drawn.
+-- `chart port INSTANCE TIDES CERT`: draws the plan that a certificate of a port, of any version, shows.
 use Rattle.std.specs.Prelude.{◌≡◌, ℕ, List, [], ◌∷◌, Option, Some, None, IfSome}
 use Rattle.hw_desk.specs.State.{DeskState}
 use Rattle.hw_desk.specs.declared.desk.Feed.TheVariants.{Instance, Tides, Certificate}
@@ -27,13 +27,13 @@ drawn_port problem table o = port_picture problem.port problem.tide table o
 abbrev pub port_report : PortProblem → Option (List ℕ) → Outcome → Report
 port_report problem table o = picture o.verdict (drawn_port problem table o)
 
--- the picture where a certificate of these bytes shows something of the port, and else why not
+-- the picture if a certificate of these bytes shows something of the port, otherwise why it shows nothing
 abbrev pub port_chart_of : Parts → TideParts → List ℕ → CertOutcome → Report
 port_chart_of p h bytes (Shows v) = picture v (port_picture p h (cert_table (flattened p h) bytes) (shown_with (flattened p h) bytes v))
 port_chart_of p h bytes (Wrong number word hint) = refused number word hint
 port_chart_of p h bytes TooLong = too_long Certificate
 
--- a port with its tide, that of the instance and of the table where they are told, and what is drawn of it: the verdict of its certificate, and the last bound and the last timetable there, with what these say by the port's own rules
+-- a port with its tide, read from the instance and the tide table if they are told, and what is drawn of it: its certificate's verdict, last bound and last timetable, with what these say by the port's own rules
 pub record DrawsPort (instance tides bytes : Option (List ℕ)) (v : Verdict) (drawn : List ℕ) : Type 0 where
   pub port : Parts
   pub tide : TideParts
@@ -44,14 +44,14 @@ pub record DrawsPort (instance tides bytes : Option (List ℕ)) (v : Verdict) (d
   pub means : PortOutcomeMeans port tide (record { verdict = v; bound = bound }) table
   pub is_picture : drawn ≡ port_picture port tide table (record { verdict = v; bound = bound })
 
--- a port with its tide, those that are told, and what its certificate comes to, where that is told
+-- a port with its tide, read from the instance and the tide table if they are told, and the outcome of its certificate, if that is told
 pub record RefusesPort (instance tides bytes : Option (List ℕ)) (o : CertOutcome) : Type 0 where
   pub port : Parts
   pub tide : TideParts
   pub reads : IsPortOf instance tides port tide
   pub outcome : IfSome bytes (λ bs. o ≡ any_outcome (flattened port tide) bs)
 
--- what a report says of the instance, of the tide table and of the certificate, each where it is told. Where nothing is drawn it is what `verify port` says. Where these are told no two reports hold together, but that memory may run out; no other is given
+-- what a report says of the instance, the tide table and the certificate, as far as they are told. If nothing is drawn, it says what `verify port` would. If all are told, one report alone holds, apart from out of memory. No other report is given
 abbrev pub ChartsPortTexts : Option (List ℕ) → Option (List ℕ) → Option (List ℕ) → Option Report → Type 0
 ChartsPortTexts instance tides bytes None = ⊥
 ChartsPortTexts instance tides bytes (Some (picture v drawn)) = DrawsPort instance tides bytes v drawn

@@ -20,7 +20,7 @@ abbrev pub IsNothing : CertOutcome → Type 0
 IsNothing (Shows v) = ⊥
 IsNothing o = ⊤
 
--- a check finds nothing that is shown
+-- the check shows nothing
 abbrev pub ShowsNothing : Result VerifiedCert CertStop → Type 0
 ShowsNothing (Ok verified) = IsNothing verified.outcome
 ShowsNothing (Err stop) = ⊤
@@ -31,7 +31,7 @@ pub record ReadsLast (f : Problem) (cert : List ℕ) (old new : DeskState) (show
   pub read_faults : new.read_faults ≡ old.read_faults
   pub last : IsLastShown f (old.held cert) shown.outcome shown.table
 
--- the certificate was checked, and nothing is shown: the report is that of the check
+-- the certificate was checked and shows nothing: the report is the check's
 pub record ReadsNothing (f : Problem) (cert : List ℕ) (old new : DeskState) (r : Report) : Type 0 where
   pub found : Result VerifiedCert CertStop
   pub nothing : ShowsNothing found

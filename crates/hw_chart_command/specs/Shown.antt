@@ -32,7 +32,7 @@ cert_table f bytes = last_table (cert_stream_to Three (shape_of f) bytes).lines
 abbrev pub shown_with : Problem → List ℕ → Verdict → Outcome
 shown_with f bytes v = record { verdict = v; bound = cert_bound f bytes }
 
--- valid lines of the problem have this verdict, and their last bound and their last timetable are these, or they have none. They are all lines of the certificate, where it is told, and that is what it comes to
+-- valid lines of the problem with this verdict, and this last bound and this last timetable, or none. If the certificate is told, they are all its lines, and the verdict is its outcome
 pub record IsLastShown (f : Problem) (bytes : Option (List ℕ)) (o : Outcome) (table : Option (List ℕ)) : Type 0 where
   pub lines : List Line
   pub fit : All (LineFits f) lines
@@ -43,7 +43,7 @@ pub record IsLastShown (f : Problem) (bytes : Option (List ℕ)) (o : Outcome) (
   pub read : IfSome bytes (λ bs. cert_stream_to Three (shape_of f) bs ≡ whole_lines lines)
   pub outcome : IfSome bytes (λ bs. Shows o.verdict ≡ any_outcome f bs)
 
--- what a verdict says of the problem and of the timetable that is drawn with it: it is a best one with this cargo; none is permitted, and none is drawn; or it is permitted and has this cargo, and without one there is no cargo
+-- what a verdict says of the problem and of the timetable drawn with it: the timetable is a best one, of this cargo; none is permitted, and none is drawn; or the timetable is permitted and has this cargo, and without one there is no cargo
 abbrev pub TableMeans : Problem → Verdict → Option (List ℕ) → Type 0
 TableMeans f (Optimal c) None = ⊥
 TableMeans f (Optimal c) (Some table) = IsBest f table c
@@ -61,7 +61,7 @@ PortTableMeans p h Infeasible (Some table) = ⊥
 PortTableMeans p h (Unfinished best) None = best ≡ None
 PortTableMeans p h (Unfinished best) (Some table) = PortPermits p h table × IsSomeAnd best (λ c. port_cargo p h table ≡ Some c)
 
--- what is shown of the problem is so, and no permitted timetable carries more than the bound, where there is one
+-- what is shown of the problem is true, and no permitted timetable carries more than the bound, if there is one
 pub record OutcomeMeans (f : Problem) (o : Outcome) (table : Option (List ℕ)) : Type 0 where
   pub means : TableMeans f o.verdict table
   pub bounds : IfSome o.bound (IsBound f)

@@ -4,12 +4,11 @@ ghost use Rattle.std.specs.Prelude.{◌∷◌, [], IfSome, option_map};
 ghost use Rattle.hw_model.specs.Problem.{IsTimetable};
 ghost use Rattle.hw_desk.specs.State.{IsNew};
 ghost use Rattle.hw_desk.specs.Whole.{SendsText};
-ghost use Rattle.hw_report.specs.Reports.{picture};
 ghost use Rattle.hw_command.specs.Carries.{Carries};
 ghost use Rattle.hw_command.specs.Ends.{Ends};
 ghost use Rattle.hw_flat_chart.specs.Moves.{IsPlan};
 ghost use Rattle.hw_flat_chart.specs.Pictures.{flat_picture};
-ghost use Rattle.hw_chart_command.specs.ChartFlat.{chart_flat_task};
+ghost use Rattle.hw_chart_command.specs.ChartFlat.{chart_flat_task, flat_report};
 ghost use Rattle.hw_chart_command.specs.Shown.{EndsUnlessMemory};
 
 use crate::shown::{Shown, read_shown};
@@ -44,7 +43,7 @@ pub fn chart_flat<D: Desk>(alloc: Global, desk: &mut D, name: &str, cert: &str) 
 /// Finds the moves of the timetable, if there is one, and sends the picture.
 fn draw<D: Desk>(alloc: Global, desk: &mut D, flat: &Flat, shown: Shown) -> Status
     requires listed { IfSome shown.table (IsTimetable flat.now) }
-    ensures { EndsUnlessMemory (picture shown.outcome.verdict (flat_picture flat.now shown.table shown.outcome)) (D.state desk.old) (D.state desk.new) result }
+    ensures { EndsUnlessMemory (flat_report flat.now shown.table shown.outcome) (D.state desk.old) (D.state desk.new) result }
 {
     let Shown { outcome, table } = shown;
     match table {
@@ -59,7 +58,7 @@ fn draw<D: Desk>(alloc: Global, desk: &mut D, flat: &Flat, shown: Shown) -> Stat
 /// Sends the picture. Returns the status of its verdict, or `WriteFault` if a write failed.
 fn send<D: Desk>(desk: &mut D, flat: &Flat, plan: Option<&Plan>, outcome: Outcome) -> Status
     requires moves { IfSome plan (λ p. IsPlan flat.now p.now) }
-    ensures { Ends (picture outcome.verdict (flat_picture flat.now (option_map (λ p. p.now.table) plan.entry) outcome) ∷ []) (D.state desk.old) (D.state desk.new) result }
+    ensures { Ends (flat_report flat.now (option_map (λ p. p.now.table) plan.entry) outcome ∷ []) (D.state desk.old) (D.state desk.new) result }
 {
     match send_text(desk, flat, plan, outcome) {
         Ok(()) => status_of_verdict(outcome.verdict),
