@@ -1,4 +1,4 @@
--- `audit port INSTANCE TIDES PLAN EVENTS`: a port's plan is watched through events.
+-- `audit port INSTANCE TIDES PLAN EVENTS`: watches a port's plan through events.
 use Rattle.std.specs.Prelude.{◌≡◌, ◌↔◌, ◌+◌, ◌≤◌, ℕ, List, [], ◌∷◌, ◌++◌, length, map, take, Option, Some, None, IfSome}
 use Rattle.std.specs.List.{range_with_len}
 use Rattle.hw_model.specs.Problem.{Problem, shape_of}
@@ -10,10 +10,11 @@ use Rattle.hw_port_rules.specs.Flattened.{flattened}
 use Rattle.hw_port_rules.specs.Numbers.{whole}
 use Rattle.hw_port_rules.specs.Permitted.{PortPermits}
 use Rattle.hw_report.specs.Reports.{Report, after, audit_end, bad_text, too_long}
+use Rattle.hw_audit.specs.Audits.{Audited}
 use Rattle.hw_audit.specs.Laws.{fewer_tugs}
 use Rattle.hw_derived.specs.Reading.{fault}
 use Rattle.hw_audit.specs.Text.{table_text, events_text}
-use Rattle.hw_audit.specs.Watching.{Watched, watched, after_all, first_refused, broken_now}
+use Rattle.hw_audit.specs.Watching.{Watched, watched, after as after_event, after_all, first_refused, broken_now}
 use Rattle.hw_audit.specs.Words.{word_text}
 use Rattle.hw_audit.specs.declared.event.PortEvent.{PortEvent}
 use Rattle.hw_audit.specs.declared.fault.AuditWord.{AuditWord}
@@ -34,16 +35,20 @@ state_after s events n = after_all s (take n events)
 abbrev pub line_after : Problem → Watched → List PortEvent → ℕ → Report
 line_after f s events n = after n (broken_now f (state_after s events n))
 
+-- the restrictions broken after one more event
+abbrev pub broken_after : Audited → PortEvent → List ℕ
+broken_after a event = broken_now a.problem (after_event a.state event)
+
 -- what is printed: a line for each number of events, from none to all of them, and the end
 abbrev pub audit_reports : Problem → Watched → List PortEvent → List Report
 audit_reports f s events = map (line_after f s events) (range_with_len 0 (length events + 1)) ++ audit_end ∷ []
 
--- where nothing is broken after the first n events, and only there, the port with the tugs that are left permits the timetable that then stands
+-- nothing is broken after the first n events exactly if the port, with the tugs that are left, permits the timetable of that time
 abbrev pub TellsOfPort : Parts → TideParts → List ℕ → List PortEvent → Type 0
 TellsOfPort p h table events = (n : ℕ) → n ≤ length events
     → let s = state_after (watched table) events n in ((broken_now (flattened p h) s ≡ []) ↔ PortPermits (fewer_tugs s.withdrawn p) h s.table)
 
--- a port with its tide, a timetable of the port, and events that are all taken from it on, those of the four texts where they are told. The reports are all the lines, from the timetable on
+-- a port with its tide, a timetable of it, and events that are all taken after that, each as its text says, if that is told. The reports are all the lines, before any event and after each one
 pub record Audits (instance tides plan events : Option (List ℕ)) (reports : List Report) : Type 0 where
   pub port : Parts
   pub tide : TideParts
@@ -67,7 +72,7 @@ pub record IsBadPlan (instance tides plan : Option (List ℕ)) (number : ℕ) (w
   pub named : word ≡ word_text cause
   pub reads : IfSome plan (ReadsAs (table_text (shape_of (flattened port tide))) (fault number cause))
 
--- the first bad line of the events; or else the line of the first event that is refused. The first event is line 2
+-- the first bad line of the events, or else the line of the first refused event. The first event is line 2
 pub data EventsFail (f : Problem) (fleet : ℕ) (s : Watched) (text : Option (List ℕ)) (number : ℕ) (cause : AuditWord) : Type 0 where
   by_form : IfSome text (ReadsAs events_text (fault number cause)) → EventsFail f fleet s text number cause
   by_event : (events : List PortEvent) → AreEventsOf text events → first_refused f fleet 2 s events ≡ Some (number, cause) → EventsFail f fleet s text number cause
@@ -82,7 +87,7 @@ pub record AreBadEvents (instance tides plan events : Option (List ℕ)) (number
   pub named : word ≡ word_text cause
   pub fail : EventsFail (flattened port tide) (whole port.fleet) (watched table) events number cause
 
--- what a lone report says of the four texts, each where it is told
+-- what a lone report says of the four texts, as far as they are told
 abbrev pub NoAudit : Option (List ℕ) → Option (List ℕ) → Option (List ℕ) → Option (List ℕ) → Report → Type 0
 NoAudit instance tides plan events (bad_text Plan number word) = IsBadPlan instance tides plan number word
 NoAudit instance tides plan events (bad_text Events number word) = AreBadEvents instance tides plan events number word
@@ -90,7 +95,7 @@ NoAudit instance tides plan events (too_long Plan) = GivesTide instance tides ×
 NoAudit instance tides plan events (too_long Events) = GivesPlan instance tides plan × IfSome events IsLong
 NoAudit instance tides plan events r = NoPort instance tides r
 
--- what the reports say of the four texts, each where it is told. Apart from out of memory, no two lists of reports hold together where these are told
+-- what the reports say of the four texts, as far as they are told. If all are told, one list of reports alone holds, apart from out of memory
 abbrev pub AuditsTexts : Option (List ℕ) → Option (List ℕ) → Option (List ℕ) → Option (List ℕ) → List Report → Type 0
 AuditsTexts instance tides plan events [] = ⊥
 AuditsTexts instance tides plan events (r ∷ []) = NoAudit instance tides plan events r

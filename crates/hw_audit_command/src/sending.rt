@@ -7,7 +7,7 @@ ghost use Rattle.hw_command.specs.Ends.{Ends};
 ghost use Rattle.hw_desk.specs.Whole.{SendsText};
 ghost use Rattle.hw_report.specs.Reports.{after};
 ghost use Rattle.hw_report.specs.Texts.{report_text};
-ghost use Rattle.hw_audit_command.specs.AuditPort.{audit_reports};
+ghost use Rattle.hw_audit_command.specs.AuditPort.{audit_reports, broken_after};
 
 use hw_audit::{Audit, PortEvent};
 use hw_command::{Status, status_of};
@@ -42,7 +42,7 @@ fn send_next<D: Desk>(
 ) -> Result<(), DeskFailed>
     requires taken { refused audit.old.problem audit.old.fleet audit.old.state event ≡ None }
     ensures stands { audit.new ≡ in_state audit.old (state_after audit.old.state event) }
-    ensures sends { SendsText Tray.Report (report_text (after number (broken_now audit.old.problem (state_after audit.old.state event)))) (D.state desk.old) (D.state desk.new) result }
+    ensures sends { SendsText Tray.Report (report_text (after number (broken_after audit.old event))) (D.state desk.old) (D.state desk.new) result }
 {
     take(audit, event);
     send_broken(desk, number, audit)
