@@ -112,7 +112,7 @@ ComesNearer budget turn s u = is_last turn ≡ false → s.lemmas < budget → t
 abbrev pub IsAbove : Problem → List ℕ → Option (List ℕ) → Type 0
 IsAbove f table other = (c : ℕ) × (cargo f table ≡ Some c) × IsTrue (beats c (option_and_then (cargo f) other))
 
--- it isn't
+-- the timetable's cargo isn't above that of the other one
 abbrev pub NotAbove : Problem → List ℕ → Option (List ℕ) → Type 0
 NotAbove f table other = IfSome (cargo f table) (λ c. beats c (option_and_then (cargo f) other) ≡ false)
 
