@@ -4,7 +4,7 @@ ghost use Rattle.std.specs.Prelude.{◌≡◌, ◌↔◌, IfSome, IsTrue, is_som
 ghost use Rattle.hw_model.specs.Rooms.{RoomFits};
 ghost use Rattle.hw_tariff.specs.Asked.{RuleRefutes, SomeRuleRefutes};
 
-use hw_flat::{Flat, Room, ShipId, Source};
+use hw_flat::{Flat, Room, ShipId, Slot, Source};
 use hw_model::{Job, NoMemory, Rule};
 use hw_rules::refuted;
 use std::alloc::Global;
@@ -17,7 +17,7 @@ pub struct RulesByPair {
     /// The places of the rules on two ships, by the pair's number.
     own: Vec<Vec<u32>>,
     tugs: Vec<u32>,
-    /// The place of the rule that was found last by asking all of them.
+    /// The place of the rule on tugs, or on other ships, that was found last.
     last: u32,
 }
 
@@ -61,19 +61,22 @@ impl RulesByPair {
     /// Whether some rule of the problem refutes the room, in which two ships alone have less than
     /// all their slots.
     ///
-    /// The rules on these two ships are asked first, then the one that was found last by asking all,
-    /// then those on tugs with jobs of both ships. Only where none of these refutes the room, all are
-    /// asked.
+    /// The rules on these two ships are asked first, then the rule that was found last among the others,
+    /// then those on tugs that may refute the room, which costs a look at each job. Only where none of
+    /// these refutes the room, all are asked.
     pub(crate) fn refute(&mut self, flat: &Flat, room: &Room, v: ShipId, w: ShipId) -> bool
         requires ships { room.now.ships ≡ flat.now.ships }
         requires slots { room.now.slots ≡ flat.now.slots }
         ensures value { IsTrue result ↔ SomeRuleRefutes flat.now room.now }
     {
         let _ships = room.ships();
-        if self.hinted(flat, room, v, w) {
+        if self.own_refutes(flat, room, v, w) {
             return true;
         }
-        match first_refuting(flat, room) {
+        if place_refutes(flat, room, self.last) {
+            return true;
+        }
+        match self.another_refuting(flat, room, v, w) {
             None => false,
             Some(place) => {
                 self.last = place;
@@ -82,18 +85,15 @@ impl RulesByPair {
         }
     }
 
-    /// Whether one of the rules that are asked first refutes the room.
-    fn hinted(&self, flat: &Flat, room: &Room, v: ShipId, w: ShipId) -> bool
+    /// The place of a rule that refutes the room, one on tugs if such a one is found.
+    fn another_refuting(&self, flat: &Flat, room: &Room, v: ShipId, w: ShipId) -> Option<u32>
         requires room { RoomFits flat.now room.now }
-        ensures sound { IsTrue result → SomeRuleRefutes flat.now room.now }
+        ensures value { IsTrue (is_some result) ↔ SomeRuleRefutes flat.now room.now }
     {
-        if self.own_refutes(flat, room, v, w) {
-            return true;
+        match self.tugs_refuting(flat, room, v, w) {
+            None => first_refuting(flat, room),
+            Some(place) => Some(place),
         }
-        if place_refutes(flat, room, self.last) {
-            return true;
-        }
-        self.tugs_refute(flat, room, v, w)
     }
 
     /// Whether one of the rules on the two ships refutes the room.
@@ -107,31 +107,87 @@ impl RulesByPair {
         }
     }
 
-    /// Whether one of the rules on tugs with jobs of both ships refutes the room.
-    fn tugs_refute(&self, flat: &Flat, room: &Room, v: ShipId, w: ShipId) -> bool
+    /// The place of a rule on tugs that refutes the room, among those that may do so by the jobs of both
+    /// ships.
+    fn tugs_refuting(&self, flat: &Flat, room: &Room, v: ShipId, w: ShipId) -> Option<u32>
         requires room { RoomFits flat.now room.now }
-        ensures sound { IsTrue result → SomeRuleRefutes flat.now room.now }
+        ensures sound { IfSome result (λ place. SomeRuleRefutes flat.now room.now) }
     {
         for place in &self.tugs {
-            if serves_both(flat, *place, v, w) && place_refutes(flat, room, *place) {
-                return true;
+            if may_refute(flat, room, *place, v, w) && place_refutes(flat, room, *place) {
+                return Some(*place);
             }
         }
-        false
+        None
     }
 }
 
-/// Whether the rule at a place is one on tugs with jobs of both ships.
-fn serves_both(flat: &Flat, place: u32, v: ShipId, w: ShipId) -> bool {
+/// Whether the rule at a place is one on tugs in which both ships surely hold tugs in one slot, and in
+/// which the jobs that surely hold tugs somewhere need more than the fleet.
+fn may_refute(flat: &Flat, room: &Room, place: u32, v: ShipId, w: ShipId) -> bool {
     match flat.rules().get(place as usize) {
-        Some(Rule::Tugs { jobs, .. }) => serves(&jobs.items, v) && serves(&jobs.items, w),
+        Some(Rule::Tugs { fleet, jobs }) => {
+            let (first, second) = (held_by(room, &jobs.items, v), held_by(room, &jobs.items, w));
+            match (first, second) {
+                (Some(first), Some(second)) => {
+                    first.meets(second) && *fleet < surely_held(room, &jobs.items)
+                }
+                _ => false,
+            }
+        }
         _ => false,
     }
 }
 
-/// Whether one of the jobs is the ship's.
-fn serves(jobs: &[Job], ship: ShipId) -> bool {
-    jobs.iter().any(|job| job.ship == ship)
+/// Slots from one on and before another.
+#[derive(Clone, Copy)]
+struct Slots {
+    from: Slot,
+    end: Slot,
+}
+
+impl Slots {
+    fn meets(self, other: Slots) -> bool {
+        self.from.max(other.from) < self.end.min(other.end)
+    }
+
+    fn is_empty(self) -> bool {
+        self.end <= self.from
+    }
+}
+
+/// The slots in which a job holds its tugs wherever its ship sails in its range.
+fn surely(room: &Room, job: Job) -> Option<Slots> {
+    if room.ships() <= job.ship {
+        return None;
+    }
+    Some(Slots {
+        from: room.high(job.ship),
+        end: room.low(job.ship).saturating_add(job.hold),
+    })
+}
+
+/// The slots in which a ship surely holds tugs, if it has a job.
+fn held_by(room: &Room, jobs: &[Job], ship: ShipId) -> Option<Slots> {
+    for job in jobs {
+        if job.ship == ship {
+            return surely(room, *job);
+        }
+    }
+    None
+}
+
+/// The tugs of the jobs that surely hold them in some slot.
+fn surely_held(room: &Room, jobs: &[Job]) -> u32 {
+    let mut tugs: u32 = 0;
+    for job in jobs {
+        if let Some(slots) = surely(room, *job) {
+            if !slots.is_empty() {
+                tugs = tugs.saturating_add(job.tugs);
+            }
+        }
+    }
+    tugs
 }
 
 /// A number of two ships, whichever comes first.
@@ -160,7 +216,7 @@ fn place_refutes(flat: &Flat, room: &Room, place: u32) -> bool
     place < flat.shape().rules && refuted(flat, Source::Rule { place }, None, room)
 }
 
-/// The place of the first rule that refutes the room, or none.
+/// The place of a rule that refutes the room, or none.
 fn first_refuting(flat: &Flat, room: &Room) -> Option<u32>
     requires room { RoomFits flat.now room.now }
     ensures value { IsTrue (is_some result) ↔ SomeRuleRefutes flat.now room.now }

@@ -27,9 +27,9 @@ pub fn is_toll(alloc: Global, flat: &Flat, toll: &Toll) -> Result<bool, NoMemory
 /// The same by where the problem's rules stand, for many tolls of one problem.
 ///
 /// Where a rule on the very ships of two blocks keeps them apart, none but the rules on these two
-/// ships are asked. Else the rule that was found last by asking all is asked, then those on tugs
-/// with jobs of both ships, and then all: for blocks that aren't apart that happens once. A room's
-/// memory is taken. An error says that memory ran out.
+/// ships are asked. Else the rule that was found last among the others is asked, then those on tugs that
+/// may do so, and then all: for blocks that aren't apart that happens once. A room's memory is taken. An
+/// error says that memory ran out.
 pub fn is_toll_by(
     alloc: Global,
     flat: &Flat,
