@@ -80,7 +80,8 @@ impl<'f> Checker<'f> {
         self.clauses.held()
     }
 
-    /// How much is kept: never more than twice what the live clauses need.
+    /// How much is kept of clauses: never more than twice what the live ones need. Tolls and the tariff in force
+    /// are not counted.
     pub fn space(&self) -> Space
         ensures live_lits { result.live_lits ≡ literals self.now.kept.live }
         ensures live_clauses { result.live_clauses ≡ length self.now.kept.live }

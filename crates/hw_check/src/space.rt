@@ -1,6 +1,6 @@
-//! How much a checker keeps, of live clauses and of dead ones.
+//! How much a checker keeps of clauses, live and dead.
 
-/// How much a checker keeps.
+/// How much a checker keeps of clauses.
 #[derive(Clone, Copy, Debug, PartialEq, Eq)]
 pub struct Space {
     /// The literals of the live clauses.
