@@ -81,11 +81,11 @@ fn blocks_from(
 ) -> Result<Vec<Block>, NoMemory> {
     let mut blocks = Vec::new(alloc);
     for ship in group {
-        let behind = slot.saturating_add(room_for(distances, group, *ship));
+        let end = slot.saturating_add(room_for(distances, group, *ship));
         blocks.push(Block {
             ship: *ship,
             low: slot,
-            high: behind.min(horizon).saturating_sub(1),
+            high: end.min(horizon).saturating_sub(1),
         })?;
     }
     Ok(blocks)

@@ -26,6 +26,18 @@ pub(crate) struct Course {
     pub(crate) stop: i64,
 }
 
+impl Course {
+    /// The course to a goal, with which it ends; without a goal it takes all its steps.
+    pub(crate) fn towards(goal: Option<i64>, steps: u32, pace: i64) -> Course {
+        Course {
+            steps,
+            pace,
+            target: goal.unwrap_or(i64::MAX),
+            stop: goal.unwrap_or(i64::MIN),
+        }
+    }
+}
+
 /// How far a course is.
 #[derive(Clone, Copy)]
 pub(crate) struct Bout {

@@ -71,6 +71,14 @@ impl Lane {
         Ok(())
     }
 
+    /// Takes of no row any more.
+    pub(crate) fn forget_shares(&mut self) {
+        self.taken = None;
+        for shares in self.shares.iter_mut() {
+            shares.clear();
+        }
+    }
+
     /// Chooses the slot of the range that earns most, the first of several, and returns what it earns.
     ///
     /// `rises` says for each slot of all ships how much more is paid there than in the slot before.

@@ -10,6 +10,7 @@ mod course;
 mod covers;
 mod cuts;
 mod distances;
+mod drafts;
 mod exact;
 mod finds;
 mod lanes;

@@ -165,11 +165,11 @@ fn opened(table: &Table, reach: Reach) -> Reach {
 fn literals(alloc: Global, slots: u32, reaches: &[Reach]) -> Result<Vec<Lit>, NoMemory> {
     let mut out = Vec::new(alloc);
     for reach in reaches {
-        let behind = reach.high.saturating_add(1);
-        if behind < slots {
+        let end = reach.high.saturating_add(1);
+        if end < slots {
             out.push(Lit::AtOrAfter {
                 ship: reach.ship,
-                slot: behind,
+                slot: end,
             })?;
         }
         if 0 < reach.low {

@@ -5,21 +5,20 @@ ghost use Rattle.hw_model.specs.Rooms.{RoomFits};
 ghost use Rattle.hw_tolls.specs.Tolls.{IsToll};
 ghost use Rattle.hw_advice.specs.Advisers.{IsAdviceIn, IsBoundIn, IsScene};
 
-use crate::answering::{Offer, advice_anew, advice_in_force, bounding};
+use crate::answering::{advice_anew, advice_in_force, bounding};
 use crate::course::{Course, FULL_PACE};
 use crate::cuts::cuts;
+use crate::drafts::{Draft, draft_of, follow, name_rows};
 use crate::lanes::SCALE;
 use crate::loosening::loosened;
 use crate::preferring::{by_earnings, by_regret};
-use crate::pricer::Pricer;
-use crate::rounds::find_prices;
-use crate::rows::{Row, copy};
+use crate::pricer::{Pricer, price_at};
+use crate::rounds::{add_tolls, find_prices};
 use crate::table::Table;
 use hw_advice::{Advice, Bounding, Scene, Standing};
 use hw_flat::Room;
 use hw_model::{Lit, NoMemory};
 use hw_tariff::RulesByPair;
-use hw_tolls::{Due, Dues, Tariff};
 use std::alloc::Global;
 
 /// Steps in a room, from the last prices.
@@ -37,10 +36,23 @@ const LAST_STEPS: u32 = 1_000;
 /// New prices that refute no room are worth an answer if they cut this many ends of ranges.
 const CUTS: usize = 4;
 
+/// One in this many rooms is looked through for tolls, if it is no deeper than this level.
+const SEARCHED: u32 = 16;
+
+const DEEPEST: u32 = 6;
+
+/// No room is looked through once there are this many candidates or declared tolls.
+const ENOUGH: usize = 3_000;
+
+/// After this many rooms the candidates that had no price in any of them are dropped.
+const IDLE: u32 = 32;
+
 /// What an adviser knows of a problem.
 #[derive(Drop)]
 pub(crate) struct Mind {
     pricer: Pricer,
+    /// In how many rooms prices were moved under a best.
+    rooms: u32,
     rules: RulesByPair,
     /// The rows whose tolls are declared, in order.
     named: Vec<u32>,
@@ -71,22 +83,16 @@ struct Plan {
     more: bool,
 }
 
-/// A tariff of prices, with the rows whose tolls must be declared for it.
-#[derive(Drop)]
-struct Draft {
-    offer: Offer,
-    rows: Vec<u32>,
-}
-
 impl Mind {
     /// Finds the prices for the whole room.
     pub(crate) fn new(alloc: Global, scene: &Scene<'_>) -> Result<Mind, NoMemory> {
         let mut pricer = Pricer::new(alloc, scene.flat)?;
         let whole = Room::whole(alloc, scene.flat.shape())?;
-        let least = find_prices(alloc, scene.flat, &mut pricer, &whole, target(scene.best))?;
+        let least = find_prices(alloc, scene.flat, &mut pricer, &whole, scene.best.map(goal))?;
         let root = Vec::from_slice(alloc, &pricer.prices)?;
         Ok(Mind {
             pricer,
+            rooms: 0,
             rules: RulesByPair::new(alloc, scene.flat)?,
             named: Vec::new(alloc),
             table: None,
@@ -124,13 +130,8 @@ impl Mind {
 
     /// Finds prices that tell which slots are worth most, where there is no best.
     fn explore(&mut self, alloc: Global, scene: &Scene<'_>) -> Result<(), NoMemory> {
-        let course = Course {
-            steps: EXPLORED,
-            pace: PACE,
-            target: target(None),
-            stop: i64::MIN,
-        };
-        self.pricer.improve(scene.room, course)?;
+        self.pricer
+            .improve(scene.room, Course::towards(None, EXPLORED, PACE))?;
         self.latest = Some(self.present(alloc)?);
         Ok(())
     }
@@ -175,14 +176,7 @@ impl Mind {
         scene: &Scene<'_>,
         best: u64,
     ) -> Result<Option<Plan>, NoMemory> {
-        let goal = goal(best);
-        let course = Course {
-            steps: STEPS,
-            pace: PACE,
-            target: goal,
-            stop: goal,
-        };
-        self.pricer.improve(scene.room, course)?;
+        self.move_prices(alloc, scene, goal(best))?;
         let table = self.present(alloc)?;
         let limit = table.limit(best);
         if table.total(scene.room) <= limit {
@@ -204,6 +198,47 @@ impl Mind {
             lits,
             more: true,
         }))
+    }
+
+    /// Moves the prices for a room, and now and then looks for more tolls there, or drops candidates that
+    /// were of no use.
+    fn move_prices(&mut self, alloc: Global, scene: &Scene<'_>, goal: i64) -> Result<(), NoMemory> {
+        let course = Course::towards(Some(goal), STEPS, PACE);
+        let least = self.pricer.improve(scene.room, course)?;
+        self.rooms = self.rooms.wrapping_add(1);
+        if goal < least && self.looks_for_tolls(scene) {
+            if add_tolls(alloc, scene.flat, &mut self.pricer, scene.room, goal)? {
+                self.pricer.improve(scene.room, course)?;
+            }
+        }
+        self.pricer.count_idle();
+        if self.rooms % IDLE == 0 {
+            self.drop_idle(alloc)?;
+        }
+        Ok(())
+    }
+
+    fn looks_for_tolls(&self, scene: &Scene<'_>) -> bool {
+        self.rooms % SEARCHED == 0
+            && scene.standing.level <= DEEPEST
+            && self.pricer.rows.len() < ENOUGH
+            && scene.tolls.len() < ENOUGH
+    }
+
+    /// Drops the candidates that had no price in the last rooms, nor for the whole room.
+    fn drop_idle(&mut self, alloc: Global) -> Result<(), NoMemory> {
+        let places = self.pricer.drop_idle(alloc, IDLE, &self.root)?;
+        for row in self.named.iter_mut() {
+            *row = places.get(*row as usize).copied().unwrap_or(u32::MAX);
+        }
+        let mut root = Vec::new(alloc);
+        for (place, new) in places.iter().enumerate() {
+            if *new != u32::MAX {
+                root.push(price_at(&self.root, place))?;
+            }
+        }
+        self.root = root;
+        Ok(())
     }
 
     /// The advice of a plan. Its prices are then in force.
@@ -285,12 +320,7 @@ impl Mind {
     fn look_again(&mut self, alloc: Global, scene: &Scene<'_>) -> Result<(), NoMemory> {
         let whole = Room::whole(alloc, scene.flat.shape())?;
         self.pricer.take_prices(&self.root);
-        let course = Course {
-            steps: LAST_STEPS,
-            pace: FULL_PACE / 8,
-            target: target(scene.best),
-            stop: i64::MIN,
-        };
+        let course = Course::towards(scene.best.map(goal), LAST_STEPS, FULL_PACE / 8);
         let least = self.pricer.improve(&whole, course)?;
         self.sought = scene.best;
         if least < self.least {
@@ -317,14 +347,6 @@ impl Mind {
     }
 }
 
-/// What a room is to earn: too little for more than the best, if there is one.
-fn target(best: Option<u64>) -> i64 {
-    match best {
-        None => i64::MAX,
-        Some(best) => goal(best),
-    }
-}
-
 /// What a room may earn at most to be refuted under a best, in parts.
 fn goal(best: u64) -> i64 {
     i64::try_from(best)
@@ -332,69 +354,4 @@ fn goal(best: u64) -> i64 {
         .saturating_add(1)
         .saturating_mul(SCALE)
         .saturating_sub(1)
-}
-
-/// Takes rows for declared only as far as the search has declared tolls.
-fn follow(named: &mut Vec<u32>, rows: &mut [Row], declared: usize) -> Result<(), NoMemory> {
-    for row in named.iter().skip(declared) {
-        if let Some(row) = rows.get_mut(*row as usize) {
-            row.number = None;
-        }
-    }
-    named.truncate(declared);
-    for _other in named.len()..declared {
-        named.push(u32::MAX)?;
-    }
-    Ok(())
-}
-
-/// The tariff of some prices: first the dues on tolls that are declared, then those on others.
-fn draft_of(alloc: Global, rows: &[Row], named: &[u32], prices: &[i64]) -> Result<Draft, NoMemory> {
-    let mut items = Vec::new(alloc);
-    for (number, row) in named.iter().enumerate() {
-        let price = prices.get(*row as usize).copied().unwrap_or(0);
-        add_due(&mut items, number, price)?;
-    }
-    let mut tolls = Vec::new(alloc);
-    let mut new_rows = Vec::new(alloc);
-    for (place, row) in rows.iter().enumerate() {
-        let price = prices.get(place).copied().unwrap_or(0);
-        if row.number.is_none() && 0 < price {
-            add_due(&mut items, named.len().saturating_add(tolls.len()), price)?;
-            tolls.push(copy(alloc, &row.toll)?)?;
-            new_rows.push(u32::try_from(place).unwrap_or(u32::MAX))?;
-        }
-    }
-    Ok(Draft {
-        offer: Offer {
-            tolls,
-            tariff: Tariff {
-                scale: u32::try_from(SCALE).unwrap_or(0),
-                dues: Dues { items },
-            },
-        },
-        rows: new_rows,
-    })
-}
-
-fn add_due(items: &mut Vec<Due>, toll: usize, price: i64) -> Result<(), NoMemory> {
-    if 0 < price {
-        items.push(Due {
-            toll: u32::try_from(toll).unwrap_or(u32::MAX),
-            price: u64::try_from(price).unwrap_or(0),
-        })?;
-    }
-    Ok(())
-}
-
-/// Numbers rows whose tolls are declared after all others.
-fn name_rows(named: &mut Vec<u32>, rows: &mut [Row], new: &[u32]) -> Result<(), NoMemory> {
-    for number in new {
-        let place = u32::try_from(named.len()).unwrap_or(u32::MAX);
-        named.push(*number)?;
-        if let Some(row) = rows.get_mut(*number as usize) {
-            row.number = Some(place);
-        }
-    }
-    Ok(())
 }

@@ -69,9 +69,13 @@ impl Pricer {
 
     /// Adds a candidate without a price.
     pub(crate) fn add(&mut self, alloc: Global, flat: &Flat, toll: Toll) -> Result<(), NoMemory> {
-        let number = u32::try_from(self.rows.len()).unwrap_or(u32::MAX);
-        let meter = Meter::new(capacity(&toll));
         let row = Row::new(alloc, flat, toll)?;
+        self.put(row, 0)
+    }
+
+    /// Puts a row with its price after the others.
+    fn put(&mut self, row: Row, price: i64) -> Result<(), NoMemory> {
+        let number = u32::try_from(self.rows.len()).unwrap_or(u32::MAX);
         for charge in &row.charges {
             let share = Share {
                 row: number,
@@ -81,11 +85,58 @@ impl Pricer {
                 lane.add_share(charge.low, charge.high, share)?;
             }
         }
+        self.meters.push(Meter::new(capacity(&row.toll)))?;
         self.rows.push(row)?;
-        self.prices.push(0)?;
+        self.prices.push(price)?;
         self.best.push(0)?;
-        self.meters.push(meter)?;
         Ok(())
+    }
+
+    /// Counts a room in which rows had a price or none. One that was held back is a price.
+    pub(crate) fn count_idle(&mut self) {
+        for (row, price) in self.rows.iter_mut().zip(&self.prices) {
+            row.idle = if 0 < *price {
+                0
+            } else {
+                row.idle.saturating_add(1)
+            };
+        }
+        for (row, _price) in &self.held {
+            if let Some(row) = self.rows.get_mut(*row as usize) {
+                row.idle = 0;
+            }
+        }
+    }
+
+    /// Drops the rows without a price in the last rooms, this many or more, but for those with a price
+    /// in `kept`. Returns the new place of each row, `u32::MAX` where it was dropped.
+    ///
+    /// It takes a step for each slot of each row that stays.
+    pub(crate) fn drop_idle(
+        &mut self,
+        alloc: Global,
+        rooms: u32,
+        kept: &[i64],
+    ) -> Result<Vec<u32>, NoMemory> {
+        self.release();
+        for lane in self.lanes.iter_mut() {
+            lane.forget_shares();
+        }
+        self.meters.clear();
+        self.best.clear();
+        self.live.clear();
+        let rows = mem::replace(&mut self.rows, Vec::new(alloc));
+        let prices = mem::replace(&mut self.prices, Vec::new(alloc));
+        let mut places = Vec::new(alloc);
+        for (place, row) in rows.into_iter().enumerate() {
+            if row.idle < rooms || 0 < price_at(kept, place) {
+                places.push(u32::try_from(self.rows.len()).unwrap_or(u32::MAX))?;
+                self.put(row, price_at(&prices, place))?;
+            } else {
+                places.push(u32::MAX)?;
+            }
+        }
+        Ok(places)
     }
 
     /// Moves the prices so that a room earns less, and leaves the best ones that it met. Gives what
@@ -110,10 +161,13 @@ impl Pricer {
         Ok(bout.best)
     }
 
-    /// Takes other prices, and forgets those that were held back.
+    /// Takes other prices, with none for rows that were added since, and forgets those that were held
+    /// back.
     pub(crate) fn take_prices(&mut self, prices: &[i64]) {
         self.held.clear();
-        copy_prices(&mut self.prices, prices);
+        for (place, price) in self.prices.iter_mut().enumerate() {
+            *price = price_at(prices, place);
+        }
     }
 
     /// Starts in a room with the prices that stand, those that were held back among them.
@@ -146,7 +200,7 @@ impl Pricer {
 
     /// Charges a row's price, or holds it back where the room can't overfill the row.
     fn begin_row(&mut self, row: usize) -> Result<(), NoMemory> {
-        let price = self.price(row);
+        let price = price_at(&self.prices, row);
         let Some(meter) = self.meters.get_mut(row) else {
             return Ok(());
         };
@@ -165,10 +219,6 @@ impl Pricer {
             self.charge(row, price);
         }
         Ok(())
-    }
-
-    fn price(&self, row: usize) -> i64 {
-        self.prices.get(row).copied().unwrap_or(0)
     }
 
     fn set_price(&mut self, row: usize, price: i64) {
@@ -252,7 +302,7 @@ impl Pricer {
             return false;
         };
         let direction = meter.direction;
-        let old = self.prices.get(row).copied().unwrap_or(0);
+        let old = price_at(&self.prices, row);
         let step = unit.saturating_mul(direction) / FULL_PACE;
         let new = old.saturating_add(step).max(0).min(DEAREST);
         let live = new != 0 || direction != 0 || meter.is_overfilled();
@@ -263,6 +313,11 @@ impl Pricer {
         }
         live
     }
+}
+
+/// A row's price among these.
+pub(crate) fn price_at(prices: &[i64], row: usize) -> i64 {
+    prices.get(row).copied().unwrap_or(0)
 }
 
 /// Copies prices over others.
@@ -284,7 +339,7 @@ fn clip(row: &mut Row, lanes: &[Lane]) -> Result<i64, NoMemory> {
                 let units = i64::from(charge.amount);
                 row.parts.push(Part {
                     from: lane.place(from),
-                    behind: lane.place(high.saturating_add(1)),
+                    end: lane.place(high.saturating_add(1)),
                     units,
                 })?;
                 sum = sum.wrapping_add(units);
@@ -301,7 +356,7 @@ fn charge_parts(rises: &mut [i64], parts: &[Part], change: i64) {
         if let Some(rise) = rises.get_mut(part.from as usize) {
             *rise = rise.wrapping_add(amount);
         }
-        if let Some(rise) = rises.get_mut(part.behind as usize) {
+        if let Some(rise) = rises.get_mut(part.end as usize) {
             *rise = rise.wrapping_sub(amount);
         }
     }

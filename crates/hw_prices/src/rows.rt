@@ -17,6 +17,8 @@ pub(crate) struct Row {
     pub(crate) number: Option<u32>,
     /// What ships take of it in the present room.
     pub(crate) parts: Vec<Part>,
+    /// In how many rooms it has had no price since it last had one.
+    pub(crate) idle: u32,
 }
 
 /// Units that a ship takes in some slots, by the places of these among the slots of all ships: from one
@@ -24,7 +26,7 @@ pub(crate) struct Row {
 #[derive(Clone, Copy)]
 pub(crate) struct Part {
     pub(crate) from: u32,
-    pub(crate) behind: u32,
+    pub(crate) end: u32,
     pub(crate) units: i64,
 }
 
@@ -36,6 +38,7 @@ impl Row {
             charges,
             number: None,
             parts: Vec::new(alloc),
+            idle: 0,
         })
     }
 }

@@ -150,7 +150,7 @@ fn block_with(blocks: &[Block], spot: Spot) -> Block {
     spot.block()
 }
 
-/// Puts a block in place of the ship's own, or adds it.
+/// Replaces the ship's own block, or adds this one.
 fn put_block(blocks: &mut Vec<Block>, wide: Block) -> Result<(), NoMemory> {
     for block in blocks.iter_mut() {
         if block.ship == wide.ship {
