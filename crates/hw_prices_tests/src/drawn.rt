@@ -29,7 +29,7 @@ impl Draft {
         self.text.extend_from_slice(text)
     }
 
-    /// Appends a number behind some text.
+    /// Appends a number after some text.
     fn number(&mut self, before: &[u8], number: u32) -> Result<(), AllocError> {
         self.put(before)?;
         put_number(&mut self.text, u64::from(number))
@@ -58,7 +58,7 @@ impl Draft {
         self.put(b"\n")
     }
 
-    /// A hole behind 0, before it, or about it.
+    /// A hole after 0, before it, or about it.
     fn hole(&mut self) -> Result<(), AllocError> {
         let near = 1 + self.draw(2);
         let width = self.draw(3);

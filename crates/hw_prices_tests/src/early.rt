@@ -21,7 +21,7 @@ struct Early {
     ahead: u32,
 }
 
-/// Where a search would stand, so many lemmas later.
+/// Where a search would stand this many lemmas later.
 fn later(standing: Standing, ahead: u32) -> Standing {
     Standing {
         lemmas: standing.lemmas.saturating_add(ahead),
@@ -50,7 +50,7 @@ impl Adviser for Early {
     }
 }
 
-/// A plan with prices, of which the adviser is so many lemmas ahead, and its lines.
+/// A plan with prices, whose adviser is this many lemmas ahead, and its lines.
 pub fn plan(alloc: Global, flat: &Flat, budget: u32, ahead: u32) -> (Proved, Vec<Line>)
     ensures fit { All (LineFits flat.now) result.1.items }
 {

@@ -11,7 +11,7 @@ use std::test::Fail;
 /// In tenths of a tonne.
 const MOST: u64 = 1_000_000_000_000;
 
-/// Appends a number behind some text.
+/// Appends a number after some text.
 fn put(text: &mut Vec<u8>, before: &[u8], number: u64) -> Result<(), AllocError> {
     text.extend_from_slice(before)?;
     put_number(text, number)

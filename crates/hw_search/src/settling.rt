@@ -137,7 +137,7 @@ impl<'f, S: Store + Drop, P: Propagator + Drop> Engine<'f, S, P> {
     }
 
     // Asks each marked source in turn, each until it is quiet. A round that brings a cut may leave
-    // marks behind. It goes over the marks once, block by block, and asks no other source.
+    // marks. It goes over the marks once, block by block, and asks no other source.
     fn ask_round(&mut self) -> Result<Asked, NoMemory>
         ensures meets { AskMeets (SourcesQuiet self.new.search) self.old.search self.new.search result }
         ensures sources { self.new.sources ≡ self.old.sources }
