@@ -2,7 +2,7 @@
 use Rattle.std.proofs.Common.{◌≡◌, ◌==◌, ◌||◌, ◌++◌, ◌∙◌, ℕ, Bool, true, false, cond, List, [], ◌∷◌, Option, Some, None, append-nil, inl, refl, sym, ap, subst, arith}
 use Rattle.std.specs.Prelude.{IfSome, IsSomeAnd}
 use Rattle.hw_desk.specs.Calls.{OnlyFeed, OnlyTray}
-use Rattle.hw_desk.specs.State.{DeskState, FeedState, IsNew, place_of, same_feed, Rose}
+use Rattle.hw_desk.specs.State.{DeskState, FeedState, place_of, same_feed, Rose}
 use Rattle.hw_desk.specs.declared.desk.Feed.{Feed}
 use Rattle.hw_desk.specs.declared.desk.Tray.{Tray}
 use Rattle.hw_desk.specs.declared.whole.ReadStop.{ReadStop}
@@ -24,7 +24,7 @@ not_second false b e = e
 same_back : (m n : ℕ) → (m == n) ≡ false → (n == m) ≡ false
 same_back m n e = grind arith
 
--- another feed than the one that was entered is as before
+-- a feed other than the one that was entered is as before
 other_kept : {feed : Feed} {x y : DeskState} (f : Feed) → OnlyFeed feed x y → same_feed f feed ≡ false → y.feeds f ≡ x.feeds f
 other_kept {feed = feed} {x = x} {y = y} f h e = ap (λ feeds. feeds f) h.feeds ∙ ap (λ b. cond b (y.feeds feed) (x.feeds f)) e
 
@@ -171,10 +171,3 @@ input_stops y done feed name rest stops.NoMemory long parts h give before s = re
   early = λ e. absurd (cc);
   why = λ own. absurd (cc);
 }
-
--- a feed that wasn't begun, and a tray that wasn't made, are as new
-pub still_unread : {inputs : List Named} {x y : DeskState} (feed : Feed) → IsNew x → Entered inputs x y → is_among inputs feed ≡ false → (y.feeds feed).begun ≡ false
-still_unread feed new h e = ap (λ (s : FeedState). s.begun) (h.begins.others feed e) ∙ new.feeds feed
-
-pub still_unmade : {inputs : List Named} {x y : DeskState} (tray : Tray) → IsNew x → Entered inputs x y → (y.trays tray).made ≡ false
-still_unmade tray new h = ap (λ trays. (trays tray).made) h.trays ∙ new.trays tray

@@ -1,5 +1,5 @@
 -- One line more of a certificate.
-use Rattle.std.proofs.Common.{◌≡◌, ◌+◌, ℕ, List, [], ◌∷◌, ◌++◌, Option, Some, None, Ok, Err, refl, sym, ap, ◌∙◌, subst, arith}
+use Rattle.std.proofs.Common.{◌≡◌, ◌+◌, ℕ, List, [], ◌∷◌, ◌++◌, Option, Some, None, Err, refl, sym, ap, ◌∙◌, subst, arith}
 use Rattle.std.specs.Prelude.{IfSome, IsSome, IsSomeAnd, is_none, if◌then◌else◌}
 use Rattle.hw_model.specs.declared.shape.Shape.{Shape}
 use Rattle.hw_model.specs.Problem.{Problem, shape_of}
@@ -8,37 +8,23 @@ use Rattle.hw_desk.specs.State.{DeskState}
 use Rattle.hw_cert.proofs.Streams.{steps}
 use Rattle.hw_lines.specs.declared.check.Refusal.{Refusal}
 use Rattle.hw_lines.specs.declared.line.Line.{Line}
-use Rattle.hw_cert.specs.declared.reader.Next.TheVariants as nexts
 use Rattle.hw_cert.specs.declared.stop.FormWord.{FormWord}
 use Rattle.hw_cert.specs.declared.stop.LineStop.{LineStop}
 use Rattle.hw_cert.specs.declared.stop.LineStop.TheVariants as lines
 use Rattle.hw_check.specs.declared.stop.CheckStop.{CheckStop}
 use Rattle.hw_check.specs.declared.stop.CheckStop.TheVariants as checks
 use Rattle.hw_check.specs.Follows.{Stops}
-use Rattle.hw_lines.specs.declared.check.Verdict.{Verdict}
 use Rattle.hw_cert.specs.declared.version.Version.{Version}
 use Rattle.hw_cert.specs.Laws.{following}
 use Rattle.hw_cert.specs.Nexts.{rest_of, next_line, Behind, Takes}
 use Rattle.hw_cert.specs.Reader.{ReaderModel}
 use Rattle.hw_lines.specs.Refusals.{refusal}
-use Rattle.hw_cert.specs.Stream.{NextLine, ends, comes, bad, too_long, next_of, CertLines, stream_of}
-use Rattle.hw_lines.specs.Valid.{verdict}
+use Rattle.hw_cert.specs.Stream.{NextLine, comes, bad, too_long, next_of, CertLines, stream_of}
 use Rattle.hw_report.specs.declared.report.RefusedWord.TheVariants.{Form, Check}
 use Rattle.hw_command.specs.Certificates.{line_outcome}
 use Rattle.hw_command.specs.Checking.{line_number, left_outcome, rest_outcome, ComesOrStops, of_check_stop, of_line_stop}
-use Rattle.hw_command.specs.declared.outcome.CertOutcome.TheVariants.{Shows, Wrong, TooLong}
-
-pub told_map : {P Q : List ℕ → Type 0} (o : Option (List ℕ)) → ((x : List ℕ) → P x → Q x) → IfSome o P → IfSome o Q
-told_map None f h = tt
-told_map (Some x) f h = f x h
-
-pub some_map : {P Q : List ℕ → Type 0} (o : Option (List ℕ)) → ((x : List ℕ) → P x → Q x) → IsSomeAnd o P → IsSomeAnd o Q
-some_map None f h = h
-some_map (Some x) f h = f x h
-
-pub some_gives : {P : List ℕ → Type 0} {Q : Type 0} (o : Option (List ℕ)) → ((x : List ℕ) → P x → Q) → IsSomeAnd o P → Q
-some_gives None f h = absurd h
-some_gives (Some x) f h = f x h
+use Rattle.hw_command.specs.declared.outcome.CertOutcome.TheVariants.{Wrong, TooLong}
+use Rattle.hw_command.proofs.Told.{told_map, some_map, some_gives}
 
 pub line_number_on : {r reader : ReaderModel} {line : Line} → Behind r reader line → line_number reader.at ≡ line_number r.at + 1
 line_number_on {r = r} {reader = reader} h = on r.at.version reader.at.version h.version h.number
@@ -56,7 +42,7 @@ streamed f r rest next same e = steps (shape_of f) r.at (parts_of 10 rest) ∙ a
 decided : (f : Problem) (before : List Line) (r : ReaderModel) (rest : List ℕ) (next : NextLine) → r.shape ≡ shape_of f → next_line r rest ≡ next → rest_outcome f before r.at rest ≡ left_outcome f before (line_number r.at) (following (shape_of f) next)
 decided f before r rest next same e = ap (left_outcome f before (line_number r.at)) (streamed f r rest next same e)
 
--- a line comes next, behind which the reader stands
+-- a line comes next, after which the reader stands
 abbrev pub ComesNext : ReaderModel → ReaderModel → Line → DeskState → DeskState → Type 0
 ComesNext r reader line x y = IfSome (rest_of r x) (λ rest. IsSomeAnd (rest_of reader y) (λ more. next_line r rest ≡ comes line reader.at (parts_of 10 more)))
 
@@ -81,10 +67,7 @@ wrong_comes x y r reader line f before w number same h count is next =
     ap (λ (n : ℕ). Wrong n (Check w.word) w.hint) place
     ∙ sym (decided f before r rest _ same e ∙ ap (λ (found : Option Refusal). line_outcome (line_number r.at) found (left_outcome f (before ++ line ∷ []) (line_number r.at + 1) left)) is))) next
 
--- nothing comes next
-pub end_comes : (r : ReaderModel) (f : Problem) (before : List Line) (known : Option (List ℕ)) → r.shape ≡ shape_of f → IfSome known (λ rest. next_line r rest ≡ ends) → IfSome known (λ rest. Shows (verdict f before) ≡ rest_outcome f before r.at rest)
-end_comes r f before known same = told_map known (λ rest e. sym (decided f before r rest ends same e))
-
+-- no line comes next, for its form or for its length
 pub bad_comes : (r : ReaderModel) (f : Problem) (before : List Line) (number : ℕ) (word : FormWord) (known : Option (List ℕ)) → r.shape ≡ shape_of f → IfSome known (λ rest. next_line r rest ≡ bad number word) → IfSome known (λ rest. Wrong number (Form word) None ≡ rest_outcome f before r.at rest)
 bad_comes r f before number word known same = told_map known (λ rest e. sym (decided f before r rest (bad number word) same e))
 
@@ -97,15 +80,10 @@ pub line_refused : (x y : DeskState) (r reader : ReaderModel) (line : Line) (f :
 line_refused x y r reader line f before number (checks.Refused w) same h count is next kept = (kept, wrong_comes x y r reader line f before w number same h count is next)
 line_refused x y r reader line f before number checks.NoMemory same h count is next kept = kept
 
--- no line more is had
+-- no further line is read
 pub none_had : (x y : DeskState) (r : ReaderModel) (f : Problem) (before : List Line) (stop : LineStop) → r.shape ≡ shape_of f → Takes r x y (Err stop)
     → ComesOrStops f before (rest_of r x) (rest_outcome f before r.at) x y (of_line_stop stop)
 none_had x y r f before (lines.Form number word) same t = (t.kept (λ e. absurd (cc)), bad_comes r f before number word (rest_of r x) same t.next)
 none_had x y r f before lines.Fault same t = t.fault refl
 none_had x y r f before lines.TooLong same t = (t.kept (λ e. absurd (cc)), long_comes r f before (rest_of r x) same t.next)
 none_had x y r f before lines.NoMemory same t = t.kept (λ e. absurd (cc))
-
--- the certificate ends
-pub all_had : (x y : DeskState) (r : ReaderModel) (f : Problem) (before : List Line) (v : Verdict) → r.shape ≡ shape_of f → v ≡ verdict f before → Takes r x y (Ok nexts.End)
-    → ComesOrStops f before (rest_of r x) (rest_outcome f before r.at) x y (Ok (Shows v))
-all_had x y r f before v same e t = (t.kept (λ e. absurd (cc)), (e, subst (λ (w : Verdict). IfSome (rest_of r x) (λ rest. Shows w ≡ rest_outcome f before r.at rest)) (sym e) (end_comes r f before (rest_of r x) same t.next)))

@@ -1,5 +1,5 @@
 -- Reports that are sent, one after another.
-use Rattle.std.proofs.Common.{◌≡◌, ◌<◌, ◌+◌, ◌++◌, ◌∙◌, ℕ, List, [], ◌∷◌, Option, Some, None, Result, Ok, Err, append-nil, append_assoc, length-append, inl, inr, length, take, refl, sym, ap, subst, arith}
+use Rattle.std.proofs.Common.{◌≡◌, ◌<◌, ◌++◌, ◌∙◌, ℕ, List, [], ◌∷◌, Option, Some, None, Ok, Err, append-nil, append_assoc, length-append, inl, inr, length, take, refl, sym, ap, subst, arith}
 use Rattle.std.proofs.lemmas.Grind.{flat_map-append}
 use Rattle.std.proofs.lemmas.List.{take-append-le}
 use Rattle.std.specs.Io.KnownBytes.{append_known}
@@ -36,7 +36,7 @@ sent_short {x = x} {y = y} r e h rose = inr (record {
 
 -- ---- several
 
--- of the trays none has changed
+-- no tray has changed
 same_trays : (x : Tray → TrayState) → x ≡ put_tray x tray.Report (x tray.Report)
 same_trays x = λ i t. (at t) i
   where

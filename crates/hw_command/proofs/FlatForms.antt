@@ -19,7 +19,7 @@ use Rattle.hw_command.specs.Scope.{Entered, named}
 use Rattle.hw_command.specs.Values.{most_bytes, IsLong, GivesProblem}
 use Rattle.hw_command.proofs.Begun.{entered_none, entered_on, input_stops, refuses, wants_memory}
 
--- what is so of the bytes that were read is so of those that are told
+-- what is true of the bytes that were read is true of those that are told
 pub of_whole : (P : List ℕ → Type 0) (told : Option (List ℕ)) (bytes : List ℕ) → IsWholeOf told bytes → P bytes → IfSome told (λ all. (length all ≤ most_bytes) × P all)
 of_whole P None bytes whole p = tt
 of_whole P (Some all) bytes whole p = subst (λ (xs : List ℕ). (length xs ≤ most_bytes) × P xs) (sym whole.0) (whole.1, p)
@@ -28,7 +28,7 @@ of_whole P (Some all) bytes whole p = subst (λ (xs : List ℕ). (length xs ≤ 
 entered : {name : List ℕ} {x y : DeskState} {r : Result (Vec ℕ Global) ReadStop} → ReadsInput Flat name x y r → Entered (named Flat name ∷ []) x y
 entered {x = x} h = entered_on [] (entered_none x) h.enters refl
 
--- the text isn't had
+-- the text isn't read to its end
 pub no_text_stops : {name : List ℕ} {x y : DeskState} (stop : ReadStop) → ReadsInput Flat name x y (Err stop) → StopsAtFlat name x y (report_of_stop Flat stop)
 no_text_stops {name = name} {x = x} stop h = input_stops x [] Flat name [] stop (λ long. long) refl (entered h) tt refl h.answer
 

@@ -21,12 +21,8 @@ use Rattle.hw_cert.specs.declared.version.Version.TheVariants.{Two}
 use Rattle.hw_cert.specs.Stream.{Position, start_to, CertLines, ends, stream_of, cert_stream}
 use Rattle.hw_check.specs.Follows.{Follows}
 use Rattle.hw_check.specs.States.{CheckState, no_lines}
-use Rattle.hw_check.specs.declared.stop.CheckStop.{CheckStop}
-use Rattle.hw_check.specs.declared.stop.CheckStop.TheVariants as checks
-use Rattle.hw_cert.specs.declared.stop.LineStop.{LineStop}
-use Rattle.hw_cert.specs.declared.stop.LineStop.TheVariants as stops
 use Rattle.hw_command.specs.Certificates.{cert_outcome}
-use Rattle.hw_command.specs.Checking.{Reached, rest_outcome, ComesOrStops, FindsOrStops, IsOpen, OpensCert, ChecksCert, line_number, of_check_stop, of_line_stop}
+use Rattle.hw_command.specs.Checking.{Reached, rest_outcome, ComesOrStops, FindsOrStops, IsOpen, OpensCert, ChecksCert, line_number}
 use Rattle.hw_command.specs.Inputs.{Enters}
 use Rattle.hw_command.specs.Keeping.{before_lines, whole_lines, rest_read, StepReads, Keeps, KeepsOrStops, KeptWithin, KeptPlain, KeepsCert}
 use Rattle.hw_command.specs.declared.cert.CertStep.TheVariants.{Ended}
@@ -37,7 +33,8 @@ use Rattle.hw_command.specs.declared.outcome.CertStop.{CertStop}
 use Rattle.hw_command.specs.declared.outcome.CertStop.TheVariants.{Fault, NoMemory}
 use Rattle.hw_command.specs.declared.keeping.KeptCert.{KeptCert}
 use Rattle.hw_command.proofs.Begun.{rose_on}
-use Rattle.hw_command.proofs.Checked.{ComesNext, streamed, told_map, some_map}
+use Rattle.hw_command.proofs.Checked.{ComesNext, streamed}
+use Rattle.hw_command.proofs.Told.{told_map, some_map}
 use Rattle.hw_command.proofs.Chained.{comes_back, finds_from, none_pending}
 
 -- the line that comes next is the next one that is read
@@ -53,24 +50,13 @@ line_read_on x y r reader line f before same next =
 pub all_read : (r : ReaderModel) (f : Problem) (before : List Line) (known : Option (List ℕ)) → r.shape ≡ shape_of f → IfSome known (λ rest. next_line r rest ≡ ends) → IfSome known (λ rest. rest_read f before r.at rest ≡ whole_lines before)
 all_read r f before known same = told_map known (λ rest e. ap (before_lines before) (streamed f r rest ends same e) ∙ ap whole_lines (append-nil before))
 
--- a line that isn't taken, and one that isn't had, say nothing of what is read
-pub refused_reads : (f : Problem) (before : List Line) (r : ReaderModel) (x y : DeskState) (number : ℕ) (stop : CheckStop) → StepReads f before r x y (Ended (of_check_stop number stop))
-refused_reads f before r x y number (checks.Refused w) = tt
-refused_reads f before r x y number checks.NoMemory = tt
-
-pub stopped_reads : (f : Problem) (before : List Line) (r : ReaderModel) (x y : DeskState) (stop : LineStop) → StepReads f before r x y (Ended (of_line_stop stop))
-stopped_reads f before r x y (stops.Form number word) = tt
-stopped_reads f before r x y stops.Fault = tt
-stopped_reads f before r x y stops.TooLong = tt
-stopped_reads f before r x y stops.NoMemory = tt
-
 -- what is read to the end of the lines left is what was to be read
 read_back : {A : Type 0} (a c : List ℕ → A) (b : A) (told rest : Option (List ℕ)) → IfSome told (λ x. IsSomeAnd rest (λ y. a x ≡ c y)) → IfSome rest (λ y. c y ≡ b) → IfSome told (λ x. a x ≡ b)
 read_back a c b None rest h k = tt
 read_back a c b (Some x) None h k = absurd h
 read_back a c b (Some x) (Some y) h k = h ∙ k
 
--- what is kept behind lines that were taken
+-- what is kept after lines that were taken
 pub kept_behind : {f : Problem} {told : Option (List ℕ)} {outcome : List ℕ → CertOutcome} {read : List ℕ → CertLines} {all : List Line} {r : ReaderModel} {c : CheckState} {y : DeskState} (x z : DeskState) (o : CertOutcome)
     → Reached f told outcome all r c y → IfSome told (λ bytes. IsSomeAnd (rest_of r y) (λ rest. read bytes ≡ rest_read f all r.at rest)) → y.read_faults ≡ x.read_faults
     → ComesOrStops f all (rest_of r y) (rest_outcome f all r.at) y z (Ok o) → StepReads f all r y z (Ended (Ok o)) → (z.read_faults ≡ x.read_faults) × Keeps f told outcome read all o
@@ -102,7 +88,7 @@ kept_behind {f = f} {told = told} {outcome = outcome} {all = all} {r = r} {y = y
   },
 )
 
--- the same behind a step without a fault
+-- the same after a step without a fault
 keeps_from : (f : Problem) (told : Option (List ℕ)) (outcome : List ℕ → CertOutcome) (is_read : List ℕ → CertLines) (x y z : DeskState) (kept : Result KeptCert CertStop) → y.read_faults ≡ x.read_faults → KeepsOrStops f told outcome is_read y z kept → KeepsOrStops f told outcome is_read x z kept
 keeps_from f told outcome is_read x y z (Ok k) before h = (h.0 ∙ before, h.1)
 keeps_from f told outcome is_read x y z (Err Fault) before h = rose_on before h
@@ -153,7 +139,7 @@ kept_plain r (Err stop) e h = tt
 pub keeps_of : {f : Problem} {cert bytes : List ℕ} {open_cert : OpenCert} (x y z : DeskState) (kept : Result KeptCert CertStop) → OpensCert Two f cert x y (Ok open_cert) → Moves Certificate bytes y z → KeepsOrStops open_cert.checker.problem (rest_of open_cert.reader y) (rest_outcome open_cert.checker.problem [] open_cert.reader.at) (rest_read open_cert.checker.problem [] open_cert.reader.at) y z kept → KeptWithin open_cert.reader kept → KeepsCert f cert x z kept
 keeps_of {open_cert = open_cert} x y z kept h m k within = record { enters = enters_on h.enters m; keeps = kept_of x y z kept h.answer.0 h.answer.1 k; plain = kept_plain open_cert.reader kept (ap (λ (p : Position). p.most) h.answer.0.first) within }
 
--- the number of the line behind which a reader stands, by that of the next one
+-- the number of the line after which a reader stands, by that of the next one
 pub line_count : {r reader : ReaderModel} {line : Line} (number : ℕ) → Behind r reader line → number ≡ reader.at.number → (number - 1) + 1 ≡ line_number reader.at
 line_count {r = r} {reader = reader} number h e = on r.at.version reader.at.version h.version (e ∙ h.number) e
   where

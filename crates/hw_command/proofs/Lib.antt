@@ -3,10 +3,10 @@ pub mod Stops
 pub mod Made
 pub mod CertWorks
 pub mod FlatForms
+pub mod Told
 pub mod Checked
 pub mod Chained
 pub mod Kept
-pub mod Tabled
 pub mod Sendings
 pub mod SentWorks
 pub mod Renewals

@@ -24,7 +24,7 @@ use Rattle.hw_command.specs.PortHeads.{HeadMeansOfPort, IsPortPlan}
 use Rattle.hw_command.specs.Verdicts.{Means, ShownBy, MeansOfPort, ShownOfPort}
 use Rattle.hw_command.specs.declared.outcome.CertOutcome.{CertOutcome}
 use Rattle.hw_command.specs.declared.outcome.CertOutcome.TheVariants.{Shows, Wrong, TooLong}
-use Rattle.hw_command.proofs.Checked.{some_gives}
+use Rattle.hw_command.proofs.Told.{some_gives}
 
 -- what a verdict of valid lines says
 pub means : (f : Problem) (all : List Line) (v : Verdict) → IsFlat f → All (LineFits f) all → Valid f all → v ≡ verdict f all → Means f v

@@ -78,7 +78,7 @@ table_stops {name = name} {table = table} {p = p} (tables.Table fault) h k = rec
   };
 }
 
--- memory was wanting for the flat problem
+-- memory ran out for the flat problem
 pub memory_stops : {name table : List ℕ} {x y z : DeskState} {p : Parts} {t : TideParts} → ReadsInstance name x y (Ok p) → ReadsTide p table y z (Ok t) → StopsAtPort name table x z no_memory
 memory_stops {name = name} {table = table} h k = record {
   works = wants_memory None (named Instance name ∷ named Tides table ∷ []) [] refl (port_entered h k) (gives_port h, tt) (k.answer.3 ∙ h.answer.2);

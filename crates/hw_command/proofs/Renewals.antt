@@ -1,4 +1,4 @@
--- A certificate whose lines go to Proof renewed.
+-- A certificate whose renewed lines go to Proof.
 use Rattle.std.proofs.Common.{◌≡◌, ◌∙◌, ℕ, true, List, Option, Result, Ok, Err, All, sym, subst}
 use Rattle.hw_model.specs.Problem.{Problem, shape_of}
 use Rattle.hw_desk.specs.State.{DeskState}

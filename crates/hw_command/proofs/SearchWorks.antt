@@ -27,21 +27,23 @@ found_works r e h give kept k cause = made_works r e h give k.only (made h k) ke
 pub broken_works : {f : Problem} {inputs : List Named} {Gives : Feed → Type 0} {proof : List ℕ} {budget : ℕ} {x y z : DeskState} → Entered inputs x y → GiveBefore Gives inputs → y.read_faults ≡ x.read_faults → SearchesTo f budget proof y z LogFailed → Breaks inputs Gives (Some proof) x z
 broken_works h give read k = breaks_off h give read k.only (made h k) k.leaves.0
 
+-- a report, if there is one, can be printed where what is seen of it can
+pub can_print : {A : Type 0} (seen : A → Report) (report : Option A) → IfSome (option_map seen report) CanPrint → IfSome report (λ r. CanPrint (seen r))
+can_print seen None can = tt
+can_print seen (Some r) can = can
+
+-- a permitted timetable, or none, is one that can be printed
+pub is_listed : (f : Problem) (table : Option (List ℕ)) → IfSome table (Permits f) → IsTableOf f table
+is_listed f None permitted = tt
+is_listed f (Some slots) permitted = permitted.listed
+
 -- the report of an answer, if there is one, can be printed
 pub printed : {A : Type 0} {f : Problem} {budget : ℕ} {name : List ℕ} {y z : DeskState} (seen : A → Report) (report : Option A) (names : Naming) (answer : Solved) → option_map seen report ≡ report_of_search budget f names answer → SearchesTo f budget name y z answer → AreNamesOf f names → IfSome report (λ r. CanPrint (seen r))
-printed {A = A} {f = f} {budget = budget} {name = name} {y = y} {z = z} seen report names answer e k are = given report (subst (λ (o : Option Report). IfSome o CanPrint) (sym e) (told answer k))
+printed {A = A} {f = f} {budget = budget} {name = name} {y = y} {z = z} seen report names answer e k are = can_print seen report (subst (λ (o : Option Report). IfSome o CanPrint) (sym e) (told answer k))
   where
-    given : (o : Option A) → IfSome (option_map seen o) CanPrint → IfSome o (λ r. CanPrint (seen r))
-    given None can = tt
-    given (Some r) can = can
-
-    listed : (o : Option (List ℕ)) → IfSome o (Permits f) → IsTableOf f o
-    listed None permitted = tt
-    listed (Some table) permitted = permitted.listed
-
     told : (a : Solved) → SearchesTo f budget name y z a → IfSome (report_of_search budget f names a) CanPrint
     told (Optimal table c) s = (s.leaves.1.permitted.listed, are)
     told Infeasible s = (tt, are)
-    told (Unfinished table) s = (listed table s.leaves.1.permitted, are)
-    told (NoMemory table) s = (listed table s.leaves.1.permitted, are)
+    told (Unfinished table) s = (is_listed f table s.leaves.1.permitted, are)
+    told (NoMemory table) s = (is_listed f table s.leaves.1.permitted, are)
     told LogFailed s = tt

@@ -1,6 +1,6 @@
 -- A search whose lines go to Proof.
 use Rattle.std.proofs.Common.{◌≡◌, ◌≤◌, ◌++◌, ◌∙◌, ℕ, List, [], Bool, true, false, Option, Some, None, Result, Ok, Err, inr, refl, sym, ap, subst, arith, append-nil}
-use Rattle.std.specs.Prelude.{IfSome, IsSomeAnd, is_some, is_err, option_and_then}
+use Rattle.std.specs.Prelude.{IfSome, IsSomeAnd, is_err, option_and_then}
 use Rattle.hw_model.specs.Problem.{Problem}
 use Rattle.hw_model.specs.Timetables.{cargo}
 use Rattle.hw_desk.specs.State.{DeskState, TrayState, put_tray, Rose}
@@ -16,6 +16,7 @@ use Rattle.hw_cert.specs.declared.version.Version.TheVariants.{Two}
 use Rattle.hw_cert.specs.Logs.{LogTold, outside_of, Outside}
 use Rattle.hw_cert.specs.Texts.{cert_text}
 use Rattle.hw_cert.specs.Told.{header_line, bytes_told, is_told, tray_log, IsTextOf}
+use Rattle.hw_cert.proofs.Telling.{some_told}
 use Rattle.hw_cert.proofs.ToldText.{text_told}
 use Rattle.hw_progress.specs.declared.outcome.Solved.{Solved}
 use Rattle.hw_progress.specs.declared.outcome.Solved.TheVariants.{Optimal, Infeasible, Unfinished, NoMemory, LogFailed}
@@ -28,10 +29,6 @@ use Rattle.hw_command.specs.Certified.{IsWritten, SolveLines, IsSpent, IsCertifi
 use Rattle.hw_command.specs.Searching.{SearchLeaves, SearchesTo}
 
 -- ---- what was told of the log
-
-some_told : (o : Option LogTold) → is_some o ≡ true → (told : LogTold) × (o ≡ Some told)
-some_told None e = absurd (cc)
-some_told (Some told) e = (told, refl)
 
 -- what holds of the lines told holds of the bytes told
 pub by_lines : {P : LogTold → Type 0} {Q : List ℕ → Type 0} (sent : Option (List ℕ)) → is_told sent ≡ true → IfSome (option_and_then bytes_told sent) P → ((told : LogTold) (bytes : List ℕ) → IsTextOf told bytes → P told → Q bytes) → IfSome sent Q
@@ -108,7 +105,7 @@ leaves {f = f} {budget = budget} LogFailed x y z before told m kept = (
 
 -- ---- the frame
 
--- of the trays Proof alone may have changed
+-- no tray but Proof may have changed
 only_proof : (x y : Tray → TrayState) → y Report ≡ x Report → y ≡ put_tray x Proof (y Proof)
 only_proof x y e = λ i t. (at t) i
   where
@@ -125,7 +122,7 @@ outside_only {y = y} {z = z} e later = record {
   later = later;
 }
 
--- ---- the search was had
+-- ---- the search has run
 
 ends_well : {x y z w : DeskState} {name : List ℕ} {f : Problem} {budget : ℕ} {E F : Type 0} {u v : Unit {0}} (answer : Solved) → Makes {E = E} Proof name x y (Ok u) → SendsText {E = F} Proof header_line y z (Ok v) → outside_of w ≡ outside_of z → is_told (w.trays Proof).sent ≡ true → SolveMeets f budget (tray_log z) answer (tray_log w) → SolvedKeepsFaults answer (tray_log z) (tray_log w) → SearchesTo f budget name x w answer
 ends_well {x = x} {z = z} {w = w} {name = name} answer h k same told m kept = record {

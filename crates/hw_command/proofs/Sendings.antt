@@ -8,9 +8,9 @@ use Rattle.hw_desk.specs.Whole.{SendsText}
 use Rattle.hw_desk.specs.declared.desk.Tray.TheVariants.{Proof}
 use Rattle.hw_desk.proofs.Chain.{only_tray_on}
 use Rattle.hw_command.specs.Sending.{SendsTo}
-use Rattle.hw_command.proofs.Checked.{told_map}
+use Rattle.hw_command.proofs.Told.{told_map}
 
--- what was sent behind nothing
+-- what was sent after nothing
 first_sent : (before now : Option (List ℕ)) (text : List ℕ) → IfSome before (λ bytes. bytes ≡ []) → Tells now (append_known before text) → IfSome now (λ bytes. bytes ≡ text)
 first_sent before None text h e = tt
 first_sent None (Some bytes) text h e = absurd (cc)

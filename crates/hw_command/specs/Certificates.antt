@@ -1,4 +1,4 @@
--- What a certificate comes to, by its bytes.
+-- The outcome of a certificate, by its bytes.
 use Rattle.std.specs.Prelude.{ℕ, ◌+◌, List, [], ◌∷◌, ◌++◌, Option, Some, None, Result, Ok, Err}
 use Rattle.hw_model.specs.Problem.{Problem, shape_of}
 use Rattle.hw_desk.specs.declared.desk.Feed.TheVariants.{Certificate}
@@ -32,7 +32,7 @@ abbrev pub lines_outcome : Problem → List Line → ℕ → List Line → CertE
 lines_outcome f before number [] stop = end_outcome f before stop
 lines_outcome f before number (line ∷ more) stop = line_outcome number (refusal f before line) (lines_outcome f (before ++ line ∷ []) (number + 1) more stop)
 
--- what a certificate reads as: the first of its lines that is refused, else how they end. The header is line 1
+-- the outcome of what a certificate reads as: the first of its lines that is refused, else how they end. The header is line 1
 abbrev pub stream_outcome : Problem → CertLines → CertOutcome
 stream_outcome f read = lines_outcome f [] 2 read.lines read.stop
 

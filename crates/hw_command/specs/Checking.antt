@@ -81,7 +81,7 @@ pub record OpensCert (most : Version) (f : Problem) (cert : List ℕ) (old new :
   pub enters : Enters feeds.Certificate cert old new
   pub answer : OpenAnswer most f (old.held cert) old new result
 
--- what a certificate comes to after these lines, and no read failed; or why it isn't known
+-- the outcome of a certificate after these lines, and no read failed; or why it isn't known
 abbrev pub ComesOrStops : Problem → List Line → Option (List ℕ) → (List ℕ → CertOutcome) → DeskState → DeskState → Result CertOutcome CertStop → Type 0
 ComesOrStops f all told outcome old new (Ok o) = (new.read_faults ≡ old.read_faults) × Comes f all told outcome o
 ComesOrStops f all told outcome old new (Err stop) = NoOutcome old new stop
@@ -95,7 +95,7 @@ Steps f before r old new (Ended found) = ComesOrStops f before (rest_of r old) (
 abbrev pub StepsOn : ReaderModel → CheckState → DeskState → DeskState → CertStep → Type 0
 StepsOn r c old new step = (before : List Line) → Follows c before → Steps c.problem before r old new step
 
--- after a line more can be taken
+-- after a line one more can be taken
 abbrev pub GoesFurther : ReaderModel → DeskState → CertStep → Type 0
 GoesFurther r now (Further reader checker line) = IsReady reader checker now × (r.at.taken < reader.at.taken)
 GoesFurther r now (Ended found) = ⊤
@@ -105,12 +105,12 @@ abbrev pub StaysWithin : ReaderModel → CertStep → Type 0
 StaysWithin r (Further reader checker line) = (reader.at.most ≡ r.at.most) × (has_form r.at.most line ≡ true)
 StaysWithin r (Ended found) = ⊤
 
--- what a certificate comes to whose line of this number isn't taken
+-- the outcome of a certificate whose line of this number isn't taken
 abbrev pub of_check_stop : ℕ → CheckStop → Result CertOutcome CertStop
 of_check_stop number (checks.Refused r) = Ok (Wrong number (Check r.word) r.hint)
 of_check_stop number checks.NoMemory = Err NoMemory
 
--- what a certificate comes to of which no line more is had
+-- the outcome of a certificate of which no further line is read
 abbrev pub of_line_stop : LineStop → Result CertOutcome CertStop
 of_line_stop (lines.Form number word) = Ok (Wrong number (Form word) None)
 of_line_stop lines.Fault = Err Fault

@@ -25,7 +25,7 @@ pub record Enters (feed : Feed) (name : List ℕ) (old new : DeskState) : Type 0
   pub begun : (new.feeds feed).begun ≡ true
   pub named : IfSome (new.feeds feed).name (λ n. n ≡ name)
 
--- why an input isn't had: a fault has its cause, and otherwise no read failed
+-- why an input isn't read to its end: a fault has its cause, and otherwise no read failed
 abbrev pub StopsFor : Option (List ℕ) → DeskState → DeskState → ReadStop → Type 0
 StopsFor told old new stops.Fault = Rose old.read_faults new.read_faults
 StopsFor told old new stops.TooLong = IfSome told IsLong × (new.read_faults ≡ old.read_faults)
@@ -66,13 +66,13 @@ NoFlat text _ = ⊥
 abbrev pub StopsAtFlat : List ℕ → DeskState → DeskState → Report → Type 0
 StopsAtFlat name old new r = Stops (named feeds.Flat name ∷ []) (FlatGives name old.held) (NoFlat (old.held name)) old new r
 
--- the report of an input that isn't had
+-- the report of an input that isn't read to its end
 abbrev pub report_of_stop : Feed → ReadStop → Report
 report_of_stop feed stops.Fault = read_fault feed
 report_of_stop feed stops.TooLong = too_long feed
 report_of_stop feed stops.NoMemory = no_memory
 
--- the report of bytes that are no problem's
+-- the report of bytes that give no problem
 abbrev pub report_of_fault : FlatFault → Report
 report_of_fault (faults.Line number word) = bad_flat number word
 report_of_fault faults.NoMemory = no_memory

@@ -12,7 +12,6 @@ pub mod Certificates
 pub mod Verdicts
 pub mod Checking
 pub mod Keeping
-pub mod Tabling
 pub mod Certified
 pub mod PortHeads
 pub mod Searching

@@ -29,7 +29,7 @@ pub record HasVerdict (f : Problem) (v : Verdict) (all : List Line) : Type 0 whe
   pub valid : Valid f all
   pub verdict : v ≡ verdict f all
 
--- all lines of a certificate, where its bytes are told, and none of them speaks of tolls or prices. They show this, and so do they renewed
+-- all lines of a certificate, where its bytes are told, and none of them speaks of tolls or prices. They show this, before and after they are renewed
 pub record CanRenew (f : Problem) (bytes : Option (List ℕ)) (v : Verdict) (all : List Line) : Type 0 where
   pub plain : All (λ line. is_plain line ≡ true) all
   pub reads : IfSome bytes (λ bs. cert_stream (shape_of f) bs ≡ whole_lines all)
@@ -37,11 +37,11 @@ pub record CanRenew (f : Problem) (bytes : Option (List ℕ)) (v : Verdict) (all
   pub shown : HasVerdict f v all
   pub shown_again : HasVerdict f v (renewed all)
 
--- the text of these lines renewed
+-- the text of these lines, renewed
 abbrev pub renewed_text : List Line → List ℕ
 renewed_text all = cert_text Two (renewed all)
 
--- Proof was made under its name and holds the text of a certificate's lines renewed, where it is told
+-- Proof was made under its name and holds the text of a certificate's renewed lines, where it is told
 pub record Renews (f : Problem) (bytes : Option (List ℕ)) (v : Verdict) (proof : List ℕ) (old new : DeskState) : Type 0 where
   pub lines : List Line
   pub renewable : CanRenew f bytes v lines
@@ -57,7 +57,7 @@ pub record RenewBreaks (f : Problem) (bytes : Option (List ℕ)) (new : DeskStat
 
 -- ---- the calls
 
--- the certificate is begun and read to its end, and its lines renewed are sent to Proof
+-- the certificate is begun and read to its end, and its renewed lines are sent to Proof
 pub record Rewrites (f : Problem) (cert proof : List ℕ) (old new : DeskState) (v : Verdict) (sent : Result Unit Unit) : Type 0 where
   pub read : DeskState
   pub enters : Enters Certificate cert old read
@@ -72,7 +72,7 @@ RenewsTo f cert proof old new (Checked (Ok (Shows v))) = Rewrites f cert proof o
 RenewsTo f cert proof old new (Checked checked) = ChecksCert f cert old new checked
 RenewsTo f cert proof old new WriteFailed = (v : Verdict) × Rewrites f cert proof old new v (Err tt)
 
--- the report of an answer, but where a make or a write of Proof failed
+-- the report of an answer, unless a make or a write of Proof failed
 abbrev pub report_of_renewal : Naming → Renewal → Option Report
 report_of_renewal names (Checked checked) = Some (report_of_check names checked)
 report_of_renewal names WriteFailed = None

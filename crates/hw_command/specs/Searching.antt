@@ -26,7 +26,7 @@ pub record SearchesTo (f : Problem) (budget : ℕ) (name : List ℕ) (old new : 
   pub named : IfSome (new.trays tray.Proof).name (λ n. n ≡ name)
   pub leaves : SearchLeaves f budget old new answer
 
--- the report of an answer, but where the log failed
+-- the report of an answer, unless the log failed
 abbrev pub report_of_search : ℕ → Problem → Naming → Solved → Option Report
 report_of_search budget f names (Optimal table c) = Some (solved (heads.Optimal c) f names (Some table))
 report_of_search budget f names Infeasible = Some (solved heads.Infeasible f names None)

@@ -19,7 +19,7 @@ Means f (verdicts.Optimal c) = (table : List ℕ) × IsBest f table c
 Means f verdicts.Infeasible = NonePermitted f
 Means f (verdicts.Unfinished best) = ⊤
 
--- valid lines of the problem have this verdict, and what it says of the problem is so
+-- valid lines of the problem have this verdict, and what it says of the problem is true
 pub record IsShown (f : Problem) (v : Verdict) : Type 0 where
   pub lines : List Line
   pub fit : All (LineFits f) lines
@@ -34,13 +34,13 @@ ShownBy f outcome = ⊤
 
 -- ---- of a port
 
--- what a verdict says of the port: a timetable that it permits carries so much, and none that it permits carries more; or it permits none
+-- what a verdict says of the port: a timetable that it permits carries this much, and none that it permits carries more; or it permits none
 abbrev pub MeansOfPort : Parts → TideParts → Verdict → Type 0
 MeansOfPort p h (verdicts.Optimal c) = (table : List ℕ) × IsPortBest p h table c
 MeansOfPort p h verdicts.Infeasible = NonePortPermitted p h
 MeansOfPort p h (verdicts.Unfinished best) = ⊤
 
--- lines that are valid by the port's restrictions have this verdict, and what it says of the port is so
+-- lines that are valid by the port's restrictions have this verdict, and what it says of the port is true
 pub record IsShownOfPort (p : Parts) (h : TideParts) (v : Verdict) : Type 0 where
   pub lines : List Line
   pub fit : All (LineFits (flattened p h)) lines

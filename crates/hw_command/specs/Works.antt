@@ -25,7 +25,7 @@ speaks (too_long feed) = of_input feed
 speaks no_memory = of_memory
 speaks r = of_answer
 
--- how far the inputs were begun: all of them before an answer, and else up to the one of which is spoken; memory may run out at any place
+-- how far the inputs were begun: all of them before an answer, otherwise up to the one that is spoken of; memory may run out at any place
 abbrev pub UpTo : List Named → List Named → Speaks → Type 0
 UpTo done rest of_answer = rest ≡ []
 UpTo done rest (of_input feed) = IsSomeAnd (last_of done) (λ input. input.feed ≡ feed)

@@ -89,7 +89,7 @@ pub fn check_cert<D: Desk>(
     }
 }
 
-/// Takes the lines that are left, each at least one byte of at most 2^40.
+/// Checks the remaining lines. Each takes at least one of at most 2^40 bytes.
 fn check_lines<D: Desk>(
     desk: &mut D,
     mut reader: LineReader,
@@ -116,7 +116,7 @@ fn check_lines<D: Desk>(
     }
 }
 
-/// Takes one line more.
+/// Takes one more line.
 pub fn check_line<'f, D: Desk>(
     desk: &mut D,
     reader: LineReader,
@@ -146,7 +146,7 @@ pub fn check_line<'f, D: Desk>(
     }
 }
 
-/// What a certificate comes to whose line of this number isn't taken.
+/// The outcome of a certificate whose line of this number isn't taken.
 fn refused_line(number: u64, stop: CheckStop) -> Result<CertOutcome, CertStop>
     ensures { result ≡ of_check_stop number stop }
 {
@@ -160,7 +160,7 @@ fn refused_line(number: u64, stop: CheckStop) -> Result<CertOutcome, CertStop>
     }
 }
 
-/// What a certificate comes to of which no line more is had.
+/// The outcome of a certificate of which no further line is read.
 fn no_line(stop: LineStop) -> Result<CertOutcome, CertStop>
     ensures { result ≡ of_line_stop stop }
 {
@@ -176,7 +176,7 @@ fn no_line(stop: LineStop) -> Result<CertOutcome, CertStop>
     }
 }
 
-/// The report of what a check of a certificate gives, in these names.
+/// The report of a certificate's check, in these names.
 pub fn check_report(checked: Result<CertOutcome, CertStop>, names: Names) -> Report
     ensures value { report_seen result ≡ report_of_check (names_seen names.entry) checked }
     ensures printed { CanPrint (report_seen result) }

@@ -43,7 +43,7 @@ pub fn read_flat<D: Desk>(alloc: Global, desk: &mut D, name: &str) -> Result<Fla
     };
     match Flat::read(alloc, &bytes) {
         Ok(flat) => {
-            // The call tells that the problem is within the limits.
+            // The call shows that the problem is within the limits.
             let _shape = flat.shape();
             Ok(flat)
         }
@@ -51,7 +51,7 @@ pub fn read_flat<D: Desk>(alloc: Global, desk: &mut D, name: &str) -> Result<Fla
     }
 }
 
-/// The report of an input that isn't had.
+/// The report of an input that isn't read to its end.
 pub fn stopped(feed: Feed, stop: ReadStop) -> Report<'static>
     ensures value { report_seen result ≡ report_of_stop feed stop }
     ensures printed { CanPrint (report_seen result) }
@@ -63,7 +63,7 @@ pub fn stopped(feed: Feed, stop: ReadStop) -> Report<'static>
     }
 }
 
-/// The report of bytes that are no problem's.
+/// The report of bytes that give no problem.
 fn bad_text(fault: FlatFault) -> Report<'static>
     ensures value { report_seen result ≡ report_of_fault fault }
     ensures printed { CanPrint (report_seen result) }

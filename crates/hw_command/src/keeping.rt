@@ -14,7 +14,7 @@ use hw_desk::{Desk, Feed};
 use hw_flat::Flat;
 use std::alloc::Global;
 
-/// What a certificate comes to, and the lines of it that were taken.
+/// The outcome of a certificate, and the lines of it that were taken.
 #[derive(Drop)]
 pub struct KeptCert {
     pub outcome: CertOutcome,
@@ -38,7 +38,7 @@ pub fn keep_cert<D: Desk>(
     }
 }
 
-/// Takes the lines that are left, each at least one byte of at most 2^40.
+/// Checks the remaining lines and keeps them. Each takes at least one of at most 2^40 bytes.
 fn keep_lines<D: Desk>(
     alloc: Global,
     desk: &mut D,

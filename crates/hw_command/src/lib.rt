@@ -16,7 +16,6 @@ mod renewing;
 mod searching;
 mod sending;
 mod status;
-mod tabling;
 
 pub use budget::MOST_BUDGET;
 pub use cert::{CertStep, OpenCert, check_cert, check_line, check_report, open_cert, open_cert_to};
@@ -29,4 +28,3 @@ pub use renewing::{Renewal, renew_to, renewal_report};
 pub use searching::{search_report, search_to};
 pub use sending::send_lines;
 pub use status::{Status, status_of, status_of_verdict};
-pub use tabling::{TabledCert, check_cert_table};

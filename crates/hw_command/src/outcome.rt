@@ -1,9 +1,9 @@
-//! What a certificate comes to.
+//! The outcome of a certificate.
 
 use hw_cert::Verdict;
 use hw_report::RefusedWord;
 
-/// What a certificate comes to, whatever its problem is of.
+/// The outcome of a certificate, whether its problem is a flat text's or a port's.
 #[derive(Clone, Copy, Debug, PartialEq, Eq)]
 pub enum CertOutcome {
     /// All its lines are valid and show this.
@@ -18,7 +18,7 @@ pub enum CertOutcome {
     TooLong,
 }
 
-/// Why it isn't known what a certificate comes to.
+/// Why the outcome of a certificate isn't known.
 #[derive(Clone, Copy, Debug, PartialEq, Eq)]
 pub enum CertStop {
     /// A begin or a read failed.

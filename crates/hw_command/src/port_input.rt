@@ -26,7 +26,7 @@ pub struct PortNames<'n> {
 /// Why there is no port.
 #[derive(Clone, Copy, Debug, PartialEq, Eq)]
 pub enum InstanceStop {
-    /// The instance isn't had.
+    /// The instance wasn't read to its end.
     Input(ReadStop),
     /// It is no JSON text.
     NotJson,
@@ -37,9 +37,9 @@ pub enum InstanceStop {
 /// Why there is no tide.
 #[derive(Clone, Copy, Debug, PartialEq, Eq)]
 pub enum TideStop {
-    /// The table isn't had.
+    /// The table wasn't read to its end.
     Input(ReadStop),
-    /// Its first fault, which isn't want of memory.
+    /// Its first fault, other than out of memory.
     Table(TideFault),
 }
 
@@ -73,7 +73,7 @@ pub fn read_port_problem<D: Desk>(
     };
     match flatten(alloc, &port, &tide) {
         Ok(flat) => {
-            // The call tells that the problem is within the limits.
+            // The call shows that the problem is within the limits.
             let _shape = flat.shape();
             Ok(PortProblem { port, tide, flat })
         }
@@ -81,7 +81,7 @@ pub fn read_port_problem<D: Desk>(
     }
 }
 
-/// Why bytes are no port's.
+/// Why bytes give no port.
 fn bad_instance(fault: ReadFault) -> InstanceStop
     ensures { result ≡ stop_of_instance fault }
 {
@@ -92,7 +92,7 @@ fn bad_instance(fault: ReadFault) -> InstanceStop
     }
 }
 
-/// Why bytes are no tide's.
+/// Why bytes give no tide.
 fn bad_table(fault: TideFault) -> TideStop
     ensures { result ≡ stop_of_tide fault }
 {
@@ -102,7 +102,7 @@ fn bad_table(fault: TideFault) -> TideStop
     }
 }
 
-/// Begins the instance under its name, reads it to its end, and reads the port that it is of.
+/// Begins the instance under its name, reads it to its end, and reads the port from it.
 fn read_instance<D: Desk>(alloc: Global, desk: &mut D, name: &str) -> Result<Port, InstanceStop>
     requires { ((D.state desk.old).feeds Feed.Instance).begun ≡ false }
     ensures { ReadsInstance name.now (D.state desk.old) (D.state desk.new) result }
@@ -113,7 +113,7 @@ fn read_instance<D: Desk>(alloc: Global, desk: &mut D, name: &str) -> Result<Por
     };
     match read_port(alloc, &bytes) {
         Ok(port) => {
-            // The call tells that the port keeps the meaning rules.
+            // The call shows that the port keeps the meaning rules.
             let _parts = port.parts();
             Ok(port)
         }
@@ -137,7 +137,7 @@ fn read_table<D: Desk>(
     };
     match read_tides(alloc, &bytes, port) {
         Ok(tide) => {
-            // Reading a field tells that the tide is within its limits.
+            // Reading a field shows that the tide is within its limits.
             let _rows = tide.rows;
             Ok(tide)
         }

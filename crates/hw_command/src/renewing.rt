@@ -21,7 +21,7 @@ use std::alloc::Global;
 /// What comes of a certificate that is to be renewed.
 #[derive(Clone, Copy, Debug, PartialEq, Eq)]
 pub enum Renewal {
-    /// The answer of its check. Where it shows something, its lines renewed were sent to Proof; otherwise
+    /// The answer of its check. If it shows something, its renewed lines were sent to Proof; otherwise
     /// Proof wasn't made.
     Checked(Result<CertOutcome, CertStop>),
     /// A make or a write of Proof failed.
@@ -57,7 +57,7 @@ pub fn renew_to<D: Desk>(
     }
 }
 
-/// The report of what comes of a certificate, and none where Proof failed: nothing more is sent then.
+/// The report of what comes of a certificate, or none if Proof failed: then nothing more is sent.
 pub fn renewal_report(renewal: Renewal, names: Names) -> Option<Report>
     ensures value { option_map report_seen result ≡ report_of_renewal (names_seen names.entry) renewal }
     ensures printed { IfSome result (λ report. CanPrint (report_seen report)) }

@@ -18,7 +18,7 @@ use hw_search::{Solved, solve};
 use std::alloc::Global;
 
 /// Makes Proof under a name and searches, each line sent there as it is found. A failed make and a
-/// failed header are told as a log that failed.
+/// failed header count as a log that failed.
 pub fn search_to<D: Desk>(
     alloc: Global,
     desk: &mut D,
@@ -56,8 +56,8 @@ fn search_on<D: Desk>(alloc: Global, desk: &mut D, flat: &Flat, budget: u32) -> 
     solve(alloc, flat, budget, &mut log)
 }
 
-/// The report of what a search found, and none where its log failed: nothing more is sent then. After
-/// want of memory it has the best timetable that was found.
+/// The report of what a search found, or none if its log failed: then nothing more is sent. If memory
+/// ran out, the report has the best timetable that was found.
 pub fn search_report<'a>(
     flat: &'a Flat,
     names: Names<'a>,

@@ -18,7 +18,7 @@ pub enum Status {
     Unfinished,
     /// The words are no command.
     Words,
-    /// An input doesn't read.
+    /// An input is bad.
     BadInput,
     /// A certificate is refused.
     Refused,
