@@ -49,10 +49,6 @@ common_alike (read_fault feed) s t e ended = inr (inl ended)
 common_alike no_memory s t e ended = inr (inr (inr ended))
 common_alike r s t e ended = absurd (cc)
 
-by_common : (b : Bool) → (b ≡ true → ⊥) → b ≡ false
-by_common true h = absurd (h refl)
-by_common false h = refl
-
 pub alike : (Says : DeskState → DeskState → Option Report → Type 0) (old mid new : DeskState) (s t : Status) (reports : List Report) → (are_common reports ≡ false → one_report Says old mid reports) → Ends reports mid new t → ((r : Report) → Says old mid (Some r) → status_of r ≡ s) → EndsAlike s t
 alike Says old mid new s t [] says ends same = inr (inr (inl ends.0))
 alike Says old mid new s t (r ∷ []) says (inl whole) same = by_kind (is_common r) refl

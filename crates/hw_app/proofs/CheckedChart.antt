@@ -25,7 +25,7 @@ use Rattle.hw_app.specs.LawsOfCharts.{IsChartOf, ChartsAsChecked}
 use Rattle.hw_app.proofs.OnePort.{OfFiles, of_port, no_port_files, one_report}
 use Rattle.hw_app.proofs.OneChart.{of_chart, chart_files}
 
--- a certificate, drawn by what it comes to
+-- a certificate, drawn by its outcome
 by_stream : (names : Naming) (f : Problem) (bytes : List ℕ) (drawn : CertOutcome → Report) → ((o : CertOutcome) → IsChartOf (report_of names o) (drawn o)) → NamesThird bytes ⊎ (cert_stream_to Three (shape_of f) bytes ≡ cert_stream (shape_of f) bytes) → NamesThird bytes ⊎ IsChartOf (report_of names (cert_outcome f bytes)) (drawn (any_outcome f bytes))
 by_stream names f bytes drawn alike (inl third) = inl third
 by_stream names f bytes drawn alike (inr same) =

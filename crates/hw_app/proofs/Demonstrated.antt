@@ -106,7 +106,7 @@ demonstrates_of {f = f} {g = g} {budget = budget} {all = all} answer head best v
 
 -- ---- the check
 
--- lines that were taken, and valid ones behind them
+-- lines that were taken, and valid ones after them
 pub record Checked (f : Problem) (all : List Line) (left : List Line) (c : CheckState) : Type 0 where
   pub before : List Line
   pub follows : Follows c before

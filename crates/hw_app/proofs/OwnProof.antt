@@ -74,7 +74,7 @@ own_bytes {f = f} {head = head} {table = table} {bound = bound} {bytes = bytes} 
 reported : {f : Problem} {bytes : List ℕ} {v : Verdict} {bound : Option ℕ} (names : Naming) → Tells f bytes v bound → report_with names (cert_bound f bytes) (any_outcome f bytes) ≡ verified v bound names
 reported {f = f} {bytes = bytes} {bound = bound} names t = ap (λ (b : Option ℕ). report_with names b (any_outcome f bytes)) t.bound_told ∙ ap (report_with names bound) t.outcome
 
--- a report, by what the bytes come to
+-- a report, by the outcome of the bytes
 by_bytes : {f : Problem} {bytes : List ℕ} {v : Verdict} {bound : Option ℕ} (names : Naming) (r : Report) → r ≡ report_with names (cert_bound f bytes) (any_outcome f bytes) → PassesLimit f bytes ⊎ Tells f bytes v bound → PassesLimit f bytes ⊎ (r ≡ verified v bound names)
 by_bytes names r e (inl long) = inl long
 by_bytes names r e (inr t) = inr (e ∙ reported names t)

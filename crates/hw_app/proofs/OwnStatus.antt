@@ -64,7 +64,7 @@ wrote {f = f} {head = head} s ended answer c = record {
   shows = ap status_of_verdict c.shows ∙ same_status head (best_of f c.lines) (ap is_answer (sym ended) ∙ answer) ∙ sym ended;
 }
 
--- what a check of it comes to
+-- the outcome of a check of it
 comes : {f : Problem} {bytes : List ℕ} {s : Status} (w : Wrote f bytes s) → IsFlat f → ((cert_stream (shape_of f) bytes).stop ≡ overlong) ⊎ (cert_outcome f bytes ≡ Shows (verdict f w.lines))
 comes {f = f} w limits = subst (λ (bs : List ℕ). ((cert_stream (shape_of f) bs).stop ≡ overlong) ⊎ (cert_outcome f bs ≡ Shows (verdict f w.lines))) (sym w.text) (own_certificate f w.lines limits w.plain w.fit w.valid)
 

@@ -1,4 +1,4 @@
--- What a certificate of a flat text comes to.
+-- The outcome of a certificate of a flat text.
 use Rattle.std.proofs.Common.{◌≡◌, ◌≤◌, ◌∙◌, ℕ, cond, List, [], ◌∷◌, length, Option, Some, None, Result, Ok, Err, false, refl, sym, ap, subst}
 use Rattle.std.specs.Prelude.{IfSome}
 use Rattle.std.proofs.lemmas.Bool.{le-ltb, lt-ltb}
@@ -24,16 +24,11 @@ use Rattle.hw_command.specs.declared.outcome.CertStop.TheVariants.{Fault, NoMemo
 use Rattle.hw_command.specs.declared.status.Status.{Status}
 use Rattle.hw_command.proofs.Begun.{entered_on}
 use Rattle.hw_command.proofs.CertWorks.{cert_works}
-use Rattle.hw_command.proofs.Checked.{told_map}
+use Rattle.hw_command.proofs.Told.{told_all, told_map}
 use Rattle.hw_command.proofs.FlatForms.{by_line, gives_problem}
 use Rattle.hw_command.proofs.Meanings.{shown_by}
 use Rattle.hw_command.proofs.Stops.{stops_carries}
 use Rattle.hw_app.specs.CheckFlat.{read_report, texts_report, ChecksText, Checks, CheckFlatSays, check_flat_task}
-
--- what holds of all bytes holds of those that are told
-told_all : {Q : List ℕ → Type 0} (o : Option (List ℕ)) → ((x : List ℕ) → Q x) → IfSome o Q
-told_all None h = tt
-told_all (Some x) h = h x
 
 within : (text bytes : List ℕ) → length text ≤ most_bytes → texts_report text bytes ≡ read_report (flat_text text) bytes
 within text bytes h = ap (λ b. cond b (too_long Flat) (read_report (flat_text text) bytes)) (le-ltb _ _ h)

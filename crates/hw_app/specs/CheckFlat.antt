@@ -24,7 +24,7 @@ read_report (Ok f) bytes = report_of by_number (cert_outcome f bytes)
 abbrev pub texts_report : List ℕ → List ℕ → Report
 texts_report text bytes = if nat_lt most_bytes (length text) then too_long Flat else read_report (flat_text text) bytes
 
--- a problem, that of the text where it is told, and what its certificate comes to, where that is told
+-- a problem, that of the text where it is told, and the outcome of its certificate, where that is told
 pub record ChecksText (text bytes : Option (List ℕ)) (o : CertOutcome) : Type 0 where
   pub problem : Problem
   pub limits : IsFlat problem
@@ -32,7 +32,7 @@ pub record ChecksText (text bytes : Option (List ℕ)) (o : CertOutcome) : Type 
   pub outcome : IfSome bytes (λ bs. o ≡ cert_outcome problem bs)
   pub shown : ShownBy problem o
 
--- what a report says of the text and of the certificate, each as far as it is told. Where these are told, and but for want of memory, no two reports hold together; no other is given
+-- what a report says of the text and of the certificate, each as far as it is told. Apart from out of memory, no two reports hold together where these are told; no other is given
 abbrev pub ChecksTexts : Option (List ℕ) → Option (List ℕ) → Report → Type 0
 ChecksTexts text bytes (checked v names) = (names ≡ by_number) × ChecksText text bytes (Shows v)
 ChecksTexts text bytes (refused number word hint) = ChecksText text bytes (Wrong number word hint)

@@ -15,7 +15,7 @@ use Rattle.hw_command.specs.Verdicts.{ShownOfPort}
 use Rattle.hw_command.specs.declared.outcome.CertOutcome.{CertOutcome}
 use Rattle.hw_command.specs.declared.outcome.CertOutcome.TheVariants.{Shows, Wrong, TooLong}
 
--- a port with its tide, that of the instance and of the table where they are told, and what its certificate comes to, where that is told
+-- a port with its tide, that of the instance and of the table where they are told, and the outcome of its certificate, where that is told
 pub record ChecksPort (instance table bytes : Option (List ℕ)) (p : Parts) (h : TideParts) (o : CertOutcome) : Type 0 where
   pub reads : IsPortOf instance table p h
   pub outcome : IfSome bytes (λ bs. o ≡ cert_outcome (flattened p h) bs)
@@ -27,7 +27,7 @@ pub record ChecksSomePort (instance table bytes : Option (List ℕ)) (o : CertOu
   pub tide : TideParts
   pub checks : ChecksPort instance table bytes port tide o
 
--- what a report says of the instance, of the table and of the certificate, each where it is told. Where these are told, and but for want of memory, no two reports hold together; no other is given
+-- what a report says of the instance, of the table and of the certificate, each where it is told. Apart from out of memory, no two reports hold together where these are told; no other is given
 abbrev pub ChecksPortTexts : Option (List ℕ) → Option (List ℕ) → Option (List ℕ) → Option Report → Type 0
 ChecksPortTexts instance table bytes None = ⊥
 ChecksPortTexts instance table bytes (Some (checked v (by_name p h))) = ChecksPort instance table bytes p h (Shows v)

@@ -37,7 +37,7 @@ pub record CanDraw (ships slots : ℕ) : Type 0 where
   pub some_slot : 1 ≤ slots
   pub few_slots : slots ≤ most_slots
 
--- what was found; want of memory is nothing that was found
+-- the head of something that was found, which out of memory is not
 abbrev pub IsFound : Head → Type 0
 IsFound (heads.Optimal c) = ⊤
 IsFound heads.Infeasible = ⊤
@@ -47,7 +47,7 @@ IsFound heads.Memory = ⊥
 -- lines of a problem that was solved, and what a summary says of them
 pub record Demonstrates (f : Problem) (budget : ℕ) (head : Head) (best : Option ℕ) (shown : Verdict) (lemmas : ℕ) (all : List Line) : Type 0 where
   pub written : IsWritten f budget (SolveLines f) all
-  -- the last table is permitted, and the head says of the problem what is so
+  -- the last table is permitted, and what the head says of the problem is true
   pub permitted : IfSome (last_table all) (Permits f)
   pub found : IsFound head
   pub means : HeadMeans f budget (room_count f) head (last_table all)
@@ -72,7 +72,7 @@ pub record ShowsPart (f : Problem) (budget : ℕ) (new : DeskState) : Type 0 whe
   pub written : IsWritten f budget (SolveLines f) lines
   pub part : IfSome (new.trays tray.Proof).sent (IsCutOf (cert_text Two lines))
 
--- what the report of a demonstration says; none is a write fault on Proof. Want of memory is common to all commands, and no other report is given
+-- what the report of a demonstration says; none is a write fault on Proof. Out of memory is common to all commands, and no other report is given
 abbrev pub DemoSays : Problem → ℕ → List ℕ → DeskState → DeskState → Option Report → Type 0
 DemoSays f budget proof old new None = ShowsPart f budget new
 DemoSays f budget proof old new (Some (demo head best shown lemmas)) = Shows f budget proof old new head best shown lemmas
@@ -89,7 +89,7 @@ demo_task f budget proof = record {
 
 -- ---- the calls
 
--- the head of what a search found, and none where memory was wanting; a log in memory doesn't fail
+-- the head of what a search found, or none if memory ran out; a log in memory doesn't fail
 abbrev pub head_of : ℕ → Solved → Option Head
 head_of budget (answers.Optimal table c) = Some (heads.Optimal c)
 head_of budget answers.Infeasible = Some heads.Infeasible

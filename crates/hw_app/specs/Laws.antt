@@ -67,7 +67,7 @@ RenewedCertificate = (f : Problem) (all : List Line) → IsFlat f → All (λ li
 abbrev pub OneReport : (Report → Type 0) → Type 0
 OneReport Says = (r s : Report) → Says r → Says s → r ≡ s
 
--- the files' bytes decide what is reported of a port's certificate, of a port's flat text, and of a certificate of the repair of a port's plan, but for a failed call and want of memory
+-- the files' bytes decide what is reported of a port's certificate, of a port's flat text, and of a certificate of the repair of a port's plan, unless a call fails or memory runs out
 pub record OnePortReport : Type 0 where
   pub check : (instance table cert : List ℕ) → OneReport (λ r. ChecksPortTexts (Some instance) (Some table) (Some cert) (Some r))
   pub flatten : (instance table : List ℕ) → OneReport (λ r. FlattensTexts (Some instance) (Some table) (Some r))

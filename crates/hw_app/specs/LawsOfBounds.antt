@@ -17,7 +17,7 @@ use Rattle.hw_app.specs.CheckFlat.{Checks}
 use Rattle.hw_app.specs.CheckPort.{ChecksPortTexts}
 use Rattle.hw_app.specs.Laws.{OneReport}
 
--- the files' bytes decide what is reported of a certificate of any version, but for a failed call and want of memory
+-- the files' bytes decide what is reported of a certificate of any version, unless a call fails or memory runs out
 pub record OneVerification : Type 0 where
   pub flat : (text cert : List ℕ) → OneReport (VerifiesFlat (Some text) (Some cert))
   pub port : (instance tides cert : List ℕ) → OneReport (λ r. VerifiesPortTexts (Some instance) (Some tides) (Some cert) (Some r))
@@ -32,7 +32,7 @@ pub record PrintsAlike (c r : Report) : Type 0 where
   pub text : report_text r ≡ report_text c
   pub status : status_of r ≡ status_of c
 
--- of the same files' bytes `verify` prints what `check` prints, but for a failed call and want of memory, unless the certificate names the third version
+-- of the same files' bytes `verify` prints what `check` prints, unless a call fails, memory runs out or the certificate names the third version
 pub record VerifiedAsChecked : Type 0 where
   pub flat : (text cert : List ℕ) (c r : Report) → Checks (Some text) (Some cert) c → VerifiesFlat (Some text) (Some cert) r → NamesThird cert ⊎ PrintsAlike c r
   pub port : (instance tides cert : List ℕ) (c r : Report) → ChecksPortTexts (Some instance) (Some tides) (Some cert) (Some c) → VerifiesPortTexts (Some instance) (Some tides) (Some cert) (Some r) → NamesThird cert ⊎ PrintsAlike c r

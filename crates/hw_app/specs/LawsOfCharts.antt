@@ -16,7 +16,7 @@ use Rattle.hw_app.specs.CheckFlat.{Checks}
 use Rattle.hw_app.specs.CheckPort.{ChecksPortTexts}
 use Rattle.hw_app.specs.Laws.{OneReport}
 
--- the files' bytes decide the picture of a certificate, and what is reported where nothing is drawn, but for a failed call and want of memory
+-- the files' bytes decide the picture of a certificate, and what is reported where nothing is drawn, unless a call fails or memory runs out
 pub record OneChart : Type 0 where
   pub flat : (text cert : List ℕ) → OneReport (Charts (Some text) (Some cert))
   pub port : (instance tides cert : List ℕ) → OneReport (λ r. ChartsPortTexts (Some instance) (Some tides) (Some cert) (Some r))
@@ -35,7 +35,7 @@ abbrev pub IsPortChartOf : Report → Report → Type 0
 IsPortChartOf (verified v bound (by_name p h)) r = IsPictureOf (port_picture p h) v bound r
 IsPortChartOf c r = r ≡ c
 
--- of the same files' bytes `chart` draws what `verify` shows, and refuses what `verify` refuses, but for a failed call and want of memory
+-- of the same files' bytes `chart` draws what `verify` shows, and refuses what `verify` refuses, unless a call fails or memory runs out
 pub record ChartsAsVerified : Type 0 where
   pub flat : (text cert : List ℕ) (c r : Report) → VerifiesFlat (Some text) (Some cert) c → Charts (Some text) (Some cert) r → IsFlatChartOf text c r
   pub port : (instance tides cert : List ℕ) (c r : Report) → VerifiesPortTexts (Some instance) (Some tides) (Some cert) (Some c) → ChartsPortTexts (Some instance) (Some tides) (Some cert) (Some r) → IsPortChartOf c r

@@ -16,7 +16,7 @@ use Rattle.hw_clash_command.specs.ExplainPort.{ExplainsTexts}
 use Rattle.hw_clash_command.specs.Found.{IsClashTold}
 use Rattle.hw_app.specs.Laws.{OneReport}
 
--- the files' bytes decide what is reported of a port's clash and its certificate, and the words for its restrictions, but for a failed call and want of memory
+-- the files' bytes decide what is reported of a port's clash and its certificate, and the words for its restrictions, unless a call fails or memory runs out
 pub record OneClashReport : Type 0 where
   pub check : (instance table plan cert : List ℕ) → OneReport (λ r. ChecksPortClashTexts (Some instance) (Some table) (Some plan) (Some cert) (Some r))
   pub explain : (instance table : List ℕ) → OneReport (λ r. ExplainsTexts (Some instance) (Some table) (Some r))

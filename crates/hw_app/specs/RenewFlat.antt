@@ -1,4 +1,4 @@
--- `renew flat NAME CERT PROOF`: a certificate of a flat text is checked as by `check flat`, and its lines renewed are sent to Proof.
+-- `renew flat NAME CERT PROOF`: a certificate of a flat text is checked as by `check flat`, and its renewed lines are sent to Proof.
 use Rattle.std.specs.Prelude.{◌≡◌, ℕ, List, [], ◌∷◌, Option, Some, None, IfSome}
 use Rattle.hw_model.specs.Limits.{IsFlat}
 use Rattle.hw_model.specs.Problem.{Problem}
@@ -13,7 +13,7 @@ use Rattle.hw_command.specs.Scope.{named}
 use Rattle.hw_command.specs.Values.{IsTextOf, FlatGives}
 use Rattle.hw_command.specs.Verdicts.{Means}
 
--- a problem, that of the text where it is told, of which the verdict says what is so. Proof was made, and holds the certificate renewed
+-- a problem, that of the text where it is told, of which the verdict says what is true. Proof was made, and holds the certificate renewed
 pub record RenewsText (text bytes : Option (List ℕ)) (proof : List ℕ) (old new : DeskState) (v : Verdict) : Type 0 where
   pub problem : Problem
   pub limits : IsFlat problem

@@ -1,4 +1,4 @@
--- `renew port INSTANCE TIDES CERT PROOF`: a certificate of a port is checked as by `check port`, and its lines renewed are sent to Proof.
+-- `renew port INSTANCE TIDES CERT PROOF`: a certificate of a port is checked as by `check port`, and its renewed lines are sent to Proof.
 use Rattle.std.specs.Prelude.{ℕ, List, [], ◌∷◌, Option, Some, None}
 use Rattle.hw_desk.specs.State.{DeskState}
 use Rattle.hw_desk.specs.declared.desk.Feed.TheVariants.{Instance, Tides, Certificate}
@@ -14,7 +14,7 @@ use Rattle.hw_command.specs.Scope.{named}
 use Rattle.hw_command.specs.Values.{IsPortOf, PortGives}
 use Rattle.hw_command.specs.Verdicts.{MeansOfPort}
 
--- a port with its tide, that of the instance and of the table where they are told, of which the verdict says what is so. Proof was made, and holds the certificate renewed
+-- a port with its tide, that of the instance and of the table where they are told, of which the verdict says what is true. Proof was made, and holds the certificate renewed
 pub record RenewsPort (instance table bytes : Option (List ℕ)) (proof : List ℕ) (old new : DeskState) (p : Parts) (h : TideParts) (v : Verdict) : Type 0 where
   pub reads : IsPortOf instance table p h
   pub means : MeansOfPort p h v

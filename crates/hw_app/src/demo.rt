@@ -47,7 +47,7 @@ struct Shown {
 }
 
 /// Draws the problem, solves it and checks the certificate in memory, and then sends the certificate
-/// to Proof and reports. Proof isn't made where memory was wanting.
+/// to Proof and reports. Proof isn't made if memory runs out.
 pub fn demo<D: Desk>(alloc: Global, desk: &mut D, draw: Draw, budget: u32, proof: &str) -> Status
     requires draw { CanDraw draw.ships draw.slots }
     requires least { 1 ≤ budget }
@@ -112,7 +112,7 @@ fn solve_kept(alloc: Global, flat: &Flat, budget: u32) -> (Solved, Vec<Line>)
     (solved, log.into_lines())
 }
 
-/// The head of what was found, and none where memory was wanting.
+/// The head of what was found, or none if memory ran out.
 fn head_of(solved: &Solved, budget: u32) -> Option<Head>
     requires logged { solved.now ≡ Solved.LogFailed → ⊥ }
     ensures { result ≡ head_of budget solved.now }

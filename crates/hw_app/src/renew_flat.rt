@@ -9,7 +9,7 @@ use hw_desk::Desk;
 use hw_report::Names;
 use std::alloc::Global;
 
-/// Reads the flat text, checks the certificate of it, sends its lines renewed to Proof, and reports.
+/// Reads the flat text, checks the certificate of it, sends its renewed lines to Proof, and reports.
 /// Proof is made only once the whole certificate was checked.
 pub fn renew_flat<D: Desk>(
     alloc: Global,

@@ -11,8 +11,8 @@ use hw_desk::Desk;
 use hw_report::Names;
 use std::alloc::Global;
 
-/// Reads the instance and then its tide table, checks the certificate of the port, sends its lines
-/// renewed to Proof, and reports. Proof is made only once the whole certificate was checked.
+/// Reads the instance and then its tide table, checks the certificate of the port, sends its renewed
+/// lines to Proof, and reports. Proof is made only once the whole certificate was checked.
 pub fn renew_port<D: Desk>(
     alloc: Global,
     desk: &mut D,

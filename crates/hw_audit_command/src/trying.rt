@@ -20,7 +20,7 @@ fn watch(alloc: Global, problem: &PortProblem, table: &Timetable) -> Result<Audi
     requires listed { IsPortTimetable problem.now.port table.now }
     ensures { IfOk result (λ audit. audit ≡ audited problem.now.port problem.now.tide table.now) }
 {
-    // The call tells that it has at most 40 slots.
+    // The call shows that it has at most 40 slots.
     let _ships = table.len();
     let copy = Timetable::from_slots(alloc, table.as_slice())?;
     Audit::new(alloc, &problem.port, &problem.tide, copy)

@@ -25,7 +25,7 @@ use Rattle.hw_command.specs.declared.outcome.CertStop.{CertStop}
 use Rattle.hw_command.specs.declared.outcome.CertStop.TheVariants.{Fault, NoMemory}
 use Rattle.hw_command.specs.declared.status.Status.{Status}
 use Rattle.hw_command.proofs.Begun.{entered_on, answers, wants_memory}
-use Rattle.hw_command.proofs.Checked.{told_map}
+use Rattle.hw_command.proofs.Told.{told_all, told_map}
 use Rattle.hw_command.proofs.FlatForms.{by_line, gives_problem}
 use Rattle.hw_command.proofs.Stops.{stops_carries}
 use Rattle.hw_verify_command.specs.Bounded.{any_outcome}
@@ -39,11 +39,6 @@ use Rattle.hw_chart_command.specs.declared.shown.Shown.{Shown}
 use Rattle.hw_chart_command.proofs.LastShown.{last_means, last_permitted, listed, told_last}
 
 -- ---- by the bytes
-
--- what holds of all bytes holds of those that are told
-told_all : {Q : List ℕ → Type 0} (o : Option (List ℕ)) → ((x : List ℕ) → Q x) → IfSome o Q
-told_all None h = tt
-told_all (Some x) h = h x
 
 within : (text bytes : List ℕ) → length text ≤ most_bytes → texts_chart text bytes ≡ read_chart (flat_text text) bytes
 within text bytes h = ap (λ b. cond b (too_long Flat) (read_chart (flat_text text) bytes)) (le-ltb _ _ h)

@@ -66,7 +66,7 @@ verdict_means : {f : Problem} {bytes : Option (List ℕ)} {o : Outcome} {table :
 verdict_means {f = f} {o = o} flat h = subst (λ (t : Option (List ℕ)). TableMeans f o.verdict t) (sym h.last)
     (table_means f (last_table h.lines) (ends h.lines) o.verdict h.verdict (says_all f h.lines flat h.fit h.valid).permitted (λ c e. optimal f h.lines c flat h.fit h.valid (sym h.verdict ∙ e)) (λ e. infeasible f h.lines flat h.fit h.valid (sym h.verdict ∙ e)))
 
--- what is shown is so, and so is the bound
+-- what is shown is true, and so is the bound
 pub last_means : {f : Problem} {bytes : Option (List ℕ)} {o : Outcome} {table : Option (List ℕ)} → IsFlat f → IsLastShown f bytes o table → OutcomeMeans f o table
 last_means {f = f} flat h = record {
   means = verdict_means flat h;

@@ -23,7 +23,7 @@ use Rattle.hw_clash_command.specs.ExplainPort.{IsExplanation, ExplainPortSays, e
 pub explain_stops : {x y z : DeskState} {r : Report} {s : Status} (instance table : List ℕ) → StopsAtPort instance table x y r → Ends (r ∷ []) y z s → Carries (explain_port_task instance table) x z s
 explain_stops {x = x} {r = r} instance table h ends = stops_carries (explain_port_task instance table) [] h refl (λ feed given. given) (by_fault (x.held instance) (x.held table) (λ (r : Report). ExplainPortSays instance table x (Some r)) r (λ bad. bad) (λ fault bad. bad) (λ fault bad. bad) (λ bad. bad) (λ bad. bad)) ends
 
--- there was no memory for the text
+-- memory ran out for the text
 pub memory_meets : {x y z : DeskState} {s : Status} {p : Parts} {t : TideParts} {f : Problem} (instance table : List ℕ) → ReadsPortProblem instance table x y p t f → Ends (no_memory ∷ []) y z s → Carries (explain_port_task instance table) x z s
 memory_meets {y = y} instance table h ends = record {
   mid = y;

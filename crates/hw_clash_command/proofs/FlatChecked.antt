@@ -1,4 +1,4 @@
--- What a clash text of a flat text and its certificate come to.
+-- A clash text of a flat text is checked, with its certificate.
 use Rattle.std.proofs.Common.{◌≡◌, ◌≤◌, ◌∙◌, ℕ, cond, List, [], ◌∷◌, length, Option, Some, None, Result, Ok, Err, false, refl, sym, ap, subst}
 use Rattle.std.specs.Prelude.{IfSome}
 use Rattle.std.proofs.lemmas.Bool.{le-ltb, lt-ltb}
@@ -30,7 +30,7 @@ use Rattle.hw_command.specs.declared.outcome.CertStop.TheVariants.{Fault, NoMemo
 use Rattle.hw_command.specs.declared.status.Status.{Status}
 use Rattle.hw_command.proofs.Begun.{entered_on}
 use Rattle.hw_command.proofs.CertWorks.{cert_works}
-use Rattle.hw_command.proofs.Checked.{told_map}
+use Rattle.hw_command.proofs.Told.{told_all, told_map}
 use Rattle.hw_command.proofs.FlatForms.{by_line, gives_problem}
 use Rattle.hw_command.proofs.Meanings.{shown_by}
 use Rattle.hw_command.proofs.Stops.{stops_carries}
@@ -41,11 +41,6 @@ use Rattle.hw_clash_command.proofs.Irreducible.{irreducible}
 use Rattle.hw_clash_command.proofs.Planned.{plan_stops}
 
 -- ---- the report by the bytes
-
--- what holds of all bytes holds of those that are told
-told_all : {Q : List ℕ → Type 0} (o : Option (List ℕ)) → ((x : List ℕ) → Q x) → IfSome o Q
-told_all None h = tt
-told_all (Some x) h = h x
 
 -- three texts that are told
 abbrev Told : Option (List ℕ) → Option (List ℕ) → Option (List ℕ) → Report → Type 0

@@ -1,4 +1,4 @@
--- What a clash text of a port and its certificate come to.
+-- A clash text of a port is checked, with its certificate.
 use Rattle.std.proofs.Common.{◌≡◌, ◌∙◌, ℕ, List, [], ◌∷◌, Option, Some, None, Result, Ok, Err, false, refl, ap, subst}
 use Rattle.hw_model.specs.Limits.{IsFlat}
 use Rattle.hw_model.specs.Problem.{Problem}

@@ -9,7 +9,7 @@ use Rattle.hw_command.specs.declared.outcome.CertOutcome.TheVariants.{Shows, Wro
 use Rattle.hw_command.specs.declared.outcome.CertStop.{CertStop}
 use Rattle.hw_command.specs.declared.outcome.CertStop.TheVariants as stops
 
--- that the kept restrictions can't be met together is that the clash holds
+-- the report of a verdict: the clash holds if the kept restrictions can't be met together
 abbrev pub report_of_part_verdict : Verdict → Report
 report_of_part_verdict verdicts.Infeasible = clash_holds
 report_of_part_verdict (verdicts.Optimal c) = checked (verdicts.Optimal c) by_number

@@ -35,7 +35,7 @@ pub fn read_part<D: Desk>(
     };
     match part(alloc, flat, &clash.kept) {
         Ok(made) => {
-            // The call tells that the part is within the limits.
+            // The call shows that the part is within the limits.
             let _shape = made.shape();
             Ok(made)
         }

@@ -18,7 +18,7 @@ use hw_turns::{Crewed, crew};
 use std::alloc::Global;
 
 /// Makes Proof under a name and lets a crew search, each line sent there as it is found. A failed make
-/// and a failed header are told as a log that failed.
+/// and a failed header count as a log that failed.
 pub fn crew_to<D: Desk>(
     alloc: Global,
     desk: &mut D,

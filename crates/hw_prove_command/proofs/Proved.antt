@@ -1,6 +1,6 @@
 -- A search with prices whose lines go to Proof.
 use Rattle.std.proofs.Common.{◌≡◌, ◌++◌, ◌∙◌, ℕ, List, [], true, false, Option, Some, None, Result, Ok, Err, inr, refl, sym, ap, subst, arith, append-nil}
-use Rattle.std.specs.Prelude.{IfSome, is_some, is_err, option_and_then}
+use Rattle.std.specs.Prelude.{IfSome, is_err, option_and_then}
 use Rattle.hw_model.specs.Problem.{Problem}
 use Rattle.hw_model.specs.Timetables.{cargo}
 use Rattle.hw_desk.specs.State.{DeskState, Rose}
@@ -15,6 +15,7 @@ use Rattle.hw_cert.specs.declared.version.Version.TheVariants.{Three}
 use Rattle.hw_cert.specs.Logs.{LogTold, outside_of, Outside}
 use Rattle.hw_cert.specs.Texts.{cert_text}
 use Rattle.hw_cert.specs.Told.{header_of, told_under, is_told_under, log_under, IsTextUnder}
+use Rattle.hw_cert.proofs.Telling.{some_told}
 use Rattle.hw_cert.proofs.ToldText.{each_text_told}
 use Rattle.hw_progress.specs.declared.outcome.Solved.{Solved}
 use Rattle.hw_progress.specs.declared.outcome.Solved.TheVariants.{Optimal, Infeasible, Unfinished, NoMemory, LogFailed}
@@ -29,10 +30,6 @@ use Rattle.hw_prove_command.specs.Priced.{ArePriced, IsPricedCertificate}
 use Rattle.hw_prove_command.specs.Proving.{ProveLeaves, ProvesTo}
 
 -- ---- what was told of the log
-
-some_told : (o : Option LogTold) → is_some o ≡ true → (told : LogTold) × (o ≡ Some told)
-some_told None e = absurd (cc)
-some_told (Some told) e = (told, refl)
 
 -- what holds of the lines told holds of the bytes told
 by_lines : {P : LogTold → Type 0} {Q : List ℕ → Type 0} (sent : Option (List ℕ)) → is_told_under Three sent ≡ true → IfSome (option_and_then (told_under Three) sent) P → ((told : LogTold) (bytes : List ℕ) → IsTextUnder Three told bytes → P told → Q bytes) → IfSome sent Q
@@ -99,7 +96,7 @@ leaves {f = f} {budget = budget} LogFailed bound x y z before told m kept = (
     rose : Rose y.write_faults z.write_faults → Rose x.write_faults z.write_faults
     rose h = omega (arith, before)
 
--- ---- the search was had
+-- ---- the search has run
 
 ends_well : {x y z w : DeskState} {name : List ℕ} {f : Problem} {budget : ℕ} {E F : Type 0} {u v : Unit {0}} (answer : Solved) (bound : Option ℕ) → Makes {E = E} Proof name x y (Ok u) → SendsText {E = F} Proof (header_of Three) y z (Ok v) → outside_of w ≡ outside_of z → is_told_under Three (w.trays Proof).sent ≡ true → ProveMeets f budget (log_under Three z) answer bound (log_under Three w) → SolvedKeepsFaults answer (log_under Three z) (log_under Three w) → ProvesTo f budget name x w answer bound
 ends_well {x = x} {z = z} {w = w} {name = name} answer bound h k same told m kept = record {

@@ -18,7 +18,7 @@ use Rattle.hw_command.specs.Scope.{named, MakesProof}
 use Rattle.hw_command.specs.Values.{IsPortOf, PortGives}
 use Rattle.hw_prove_command.specs.Priced.{IsPricedCertificate, IsPricedCutShort}
 
--- a port with its tide, that of the instance and of the table where they are told, what a head says of it, and a bound that no timetable passes that the port permits. Proof was made, and holds what shows these, where it is told: lines speak of the port's restrictions by their numbers in its flat problem
+-- a port with its tide, that of the instance and of the table where they are told, what a head says of it, and a bound that no timetable permitted by the port passes. Proof was made, and holds what shows these, where it is told: lines speak of the port's restrictions by their numbers in its flat problem
 pub record ProvesPort (instance table : Option (List ℕ)) (budget : ℕ) (proof : List ℕ) (old new : DeskState) (head : Head) (f : Problem) (p : Parts) (h : TideParts) (plan : Option (List ℕ)) (bound : Option ℕ) : Type 0 where
   pub reads : IsPortOf instance table p h
   pub problem : f ≡ flattened p h
@@ -35,7 +35,7 @@ pub record ProvePortBreaks (instance table : Option (List ℕ)) (budget : ℕ) (
   pub reads : IsPortOf instance table port tide
   pub cut : IsPricedCutShort (flattened port tide) budget new
 
--- what a report says of the instance and of the table, each where it is told, and of Proof; none is a write fault on Proof. Where these are told, and but for want of memory, no two reports hold together; no other is given
+-- what a report says of the instance and of the table, each where it is told, and of Proof; none is a write fault on Proof. Apart from out of memory, no two reports hold together where these are told; no other is given
 abbrev pub ProvesPortTexts : Option (List ℕ) → Option (List ℕ) → ℕ → List ℕ → DeskState → DeskState → Option Report → Type 0
 ProvesPortTexts instance table budget proof old new None = ProvePortBreaks instance table budget new
 ProvesPortTexts instance table budget proof old new (Some (proved head f (by_name p h) plan bound)) = ProvesPort instance table budget proof old new head f p h plan bound

@@ -20,7 +20,7 @@ use hw_search::{Proved, Solved, prove};
 use std::alloc::Global;
 
 /// Makes Proof under a name and searches with prices, each line sent there as it is found. A failed make
-/// and a failed header are told as a log that failed.
+/// and a failed header count as a log that failed.
 pub(crate) fn prove_to<D: Desk>(
     alloc: Global,
     desk: &mut D,
@@ -64,8 +64,8 @@ fn prove_on<D: Desk>(alloc: Global, desk: &mut D, flat: &Flat, budget: u32) -> P
     prove(alloc, flat, budget, PricingAdviser::new(budget), &mut log)
 }
 
-/// The report of what a search with prices found, and none where its log failed: nothing more is sent
-/// then. After want of memory it has the best timetable that was found.
+/// The report of what a search with prices found, or none if its log failed: then nothing more is sent.
+/// If memory ran out, the report has the best timetable that was found.
 pub(crate) fn prove_report<'a>(
     flat: &'a Flat,
     names: Names<'a>,

@@ -1,6 +1,5 @@
 -- The bytes of a plan and of a certificate decide the report, of a problem that is known.
-use Rattle.std.proofs.Common.{◌≡◌, ◌≤◌, ◌∙◌, ℕ, cond, List, length, Option, Some, None, Ok, Err, sym, ap}
-use Rattle.std.specs.Prelude.{IfSome}
+use Rattle.std.proofs.Common.{◌≡◌, ◌≤◌, ◌∙◌, ℕ, cond, List, length, Ok, Err, sym, ap}
 use Rattle.std.proofs.lemmas.Bool.{le-ltb, lt-ltb}
 use Rattle.hw_model.specs.Problem.{Problem}
 use Rattle.hw_desk.specs.declared.desk.Feed.TheVariants as feeds
@@ -16,11 +15,6 @@ use Rattle.hw_repair.specs.declared.plan.Wish.{Wish}
 use Rattle.hw_repair_command.specs.CheckRepair.{planned_report, plan_report}
 use Rattle.hw_repair_command.specs.Plans.{IsPlanText}
 use Rattle.hw_repair_command.specs.Reports.{recheck_of}
-
--- what holds of all bytes holds of those that are told
-pub told_all : {Q : List ℕ → Type 0} (o : Option (List ℕ)) → ((x : List ℕ) → Q x) → IfSome o Q
-told_all None h = tt
-told_all (Some x) h = h x
 
 within : (names : Naming) (f : Problem) (plan bytes : List ℕ) → length plan ≤ most_bytes → plan_report names f plan bytes ≡ planned_report names f (plan_text f plan) bytes
 within names f plan bytes h = ap (λ b. cond b (too_long feeds.Plan) (planned_report names f (plan_text f plan) bytes)) (le-ltb _ _ h)

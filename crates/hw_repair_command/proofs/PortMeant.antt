@@ -1,4 +1,4 @@
--- What is said of a plan by a port's flat problem is so by the port's own rules.
+-- What is said of a plan by a port's flat problem is true by the port's own rules.
 use Rattle.std.proofs.Common.{◌≡◌, ◌∙◌, ℕ, List, Option, Some, None, sym}
 use Rattle.std.specs.Prelude.{IfSome}
 use Rattle.hw_model.specs.Timetables.{cargo}

@@ -22,7 +22,7 @@ use Rattle.hw_command.specs.declared.outcome.CertOutcome.TheVariants.{Shows, Wro
 use Rattle.hw_command.specs.declared.outcome.CertStop.{CertStop}
 use Rattle.hw_command.specs.declared.outcome.CertStop.TheVariants.{Fault, NoMemory}
 use Rattle.hw_command.specs.declared.status.Status.{Status}
-use Rattle.hw_command.proofs.Checked.{told_map}
+use Rattle.hw_command.proofs.Told.{told_all, told_map}
 use Rattle.hw_command.proofs.Meanings.{shown_by}
 use Rattle.hw_command.proofs.PortForms.{by_fault, port_given, gives_tide}
 use Rattle.hw_command.proofs.Stops.{stops_carries}
@@ -35,7 +35,7 @@ use Rattle.hw_repair_command.specs.RepairPort.{port_repaired}
 use Rattle.hw_repair_command.specs.Reports.{recheck_of, report_of_recheck}
 use Rattle.hw_repair_command.specs.declared.plan_input.PlanStop.{PlanStop}
 use Rattle.hw_repair_command.specs.declared.plan_input.Repair.{Repair}
-use Rattle.hw_repair_command.proofs.Decided.{told_all, outcome_is, wrong_is, long_is}
+use Rattle.hw_repair_command.proofs.Decided.{outcome_is, wrong_is, long_is}
 use Rattle.hw_repair_command.proofs.Meant.{outcome_means, repair_flat}
 use Rattle.hw_repair_command.proofs.PlanForms.{still_held}
 use Rattle.hw_repair_command.proofs.PortMeant.{outcome_of_port}

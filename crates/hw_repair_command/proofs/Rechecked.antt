@@ -23,7 +23,7 @@ use Rattle.hw_command.specs.declared.outcome.CertStop.{CertStop}
 use Rattle.hw_command.specs.declared.outcome.CertStop.TheVariants.{Fault, NoMemory}
 use Rattle.hw_command.specs.declared.status.Status.{Status}
 use Rattle.hw_command.proofs.Begun.{entered_on, answers, refuses, wants_memory, rose_on}
-use Rattle.hw_command.proofs.Checked.{told_map}
+use Rattle.hw_command.proofs.Told.{told_all, told_map}
 use Rattle.hw_command.proofs.FlatForms.{by_line, gives_problem}
 use Rattle.hw_command.proofs.Meanings.{shown_by}
 use Rattle.hw_command.proofs.Stops.{stops_carries}
@@ -37,7 +37,7 @@ use Rattle.hw_repair_command.specs.Plans.{IsPlanText, NoPlan}
 use Rattle.hw_repair_command.specs.Reports.{recheck_of, report_of_recheck}
 use Rattle.hw_repair_command.specs.declared.plan_input.PlanStop.{PlanStop}
 use Rattle.hw_repair_command.specs.declared.plan_input.Repair.{Repair}
-use Rattle.hw_repair_command.proofs.Decided.{told_all, outcome_is, wrong_is, long_is}
+use Rattle.hw_repair_command.proofs.Decided.{outcome_is, wrong_is, long_is}
 use Rattle.hw_repair_command.proofs.Meant.{outcome_means, repair_flat}
 use Rattle.hw_repair_command.proofs.PlanForms.{plan_of, still_held}
 use Rattle.hw_repair_command.proofs.Repaired.{flat_gives, by_plan, both_entered, gives_plan, no_plan}

@@ -26,7 +26,7 @@ use Rattle.hw_command.specs.Works.{Stops}
 use Rattle.hw_command.specs.declared.status.Status.{Status}
 use Rattle.hw_command.proofs.Begun.{entered_on}
 use Rattle.hw_command.proofs.FlatForms.{by_line, gives_problem}
-use Rattle.hw_command.proofs.SearchWorks.{made, found_works, broken_works}
+use Rattle.hw_command.proofs.SearchWorks.{made, found_works, broken_works, can_print}
 use Rattle.hw_command.proofs.Stops.{stops_carries}
 use Rattle.hw_repair.specs.Repaired.{repaired}
 use Rattle.hw_repair.specs.Wishes.{PlanFits, PermitsPlan}
@@ -84,12 +84,8 @@ same_length LogFailed fits k = tt
 
 -- the report of an answer, if there is one, can be printed
 pub printed : {A : Type 0} {f : Problem} {wishes : List Wish} {budget : ℕ} {name : List ℕ} {y z : DeskState} (seen : A → Report) (report : Option A) (names : Naming) (answer : Solved) → option_map seen report ≡ report_of_repair budget f names wishes answer → PlanFits f wishes → SearchesTo (repaired f wishes) budget name y z answer → AreNamesOf f names → IfSome report (λ r. CanPrint (seen r))
-printed {A = A} {f = f} {wishes = wishes} {budget = budget} {name = name} {y = y} {z = z} seen report names answer e fits k are = given report (subst (λ (o : Option Report). IfSome o CanPrint) (sym e) (told answer k))
+printed {A = A} {f = f} {wishes = wishes} {budget = budget} {name = name} {y = y} {z = z} seen report names answer e fits k are = can_print seen report (subst (λ (o : Option Report). IfSome o CanPrint) (sym e) (told answer k))
   where
-    given : (o : Option A) → IfSome (option_map seen o) CanPrint → IfSome o (λ r. CanPrint (seen r))
-    given None can = tt
-    given (Some r) can = can
-
     listed : (o : Option (List ℕ)) → IfSome o (PermitsPlan f wishes) → IsTableOf f o
     listed None meets = tt
     listed (Some table) meets = meets.permitted.listed

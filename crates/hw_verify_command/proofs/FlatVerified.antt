@@ -24,7 +24,7 @@ use Rattle.hw_command.specs.declared.outcome.CertStop.{CertStop}
 use Rattle.hw_command.specs.declared.outcome.CertStop.TheVariants.{Fault, NoMemory}
 use Rattle.hw_command.specs.declared.status.Status.{Status}
 use Rattle.hw_command.proofs.Begun.{entered_on, answers, refuses, wants_memory, rose_on}
-use Rattle.hw_command.proofs.Checked.{told_map}
+use Rattle.hw_command.proofs.Told.{told_all, told_map}
 use Rattle.hw_command.proofs.FlatForms.{by_line, gives_problem}
 use Rattle.hw_command.proofs.Stops.{stops_carries}
 use Rattle.hw_verify_command.specs.Bounded.{any_outcome, cert_bound}
@@ -47,11 +47,6 @@ verify_works {before = before} {cert = cert} names (Err Fault) h read new give m
 verify_works {before = before} {cert = cert} names (Err NoMemory) h read new give m = wants_memory None (before ++ named Certificate cert ∷ []) [] (sym (append-nil _)) (entered_on before h m.enters new) give (m.verifies ∙ read)
 
 -- ---- by the bytes
-
--- what holds of all bytes holds of those that are told
-told_all : {Q : List ℕ → Type 0} (o : Option (List ℕ)) → ((x : List ℕ) → Q x) → IfSome o Q
-told_all None h = tt
-told_all (Some x) h = h x
 
 within : (text bytes : List ℕ) → length text ≤ most_bytes → texts_verified text bytes ≡ read_verified (flat_text text) bytes
 within text bytes h = ap (λ b. cond b (too_long Flat) (read_verified (flat_text text) bytes)) (le-ltb _ _ h)

@@ -1,29 +1,53 @@
 -- A certificate whose last bound and last timetable are kept.
-use Rattle.std.proofs.Common.{◌≡◌, ◌∙◌, ℕ, List, [], Option, Result, Ok, Err, subst}
+use Rattle.std.proofs.Common.{◌≡◌, ◌∙◌, ℕ, List, [], ◌∷◌, ◌++◌, Option, Result, Ok, Err, sym, ap, subst}
+use Rattle.std.specs.Prelude.{IfSome, IsSomeAnd}
 use Rattle.hw_model.specs.Problem.{Problem, shape_of}
 use Rattle.hw_desk.specs.State.{DeskState}
 use Rattle.hw_desk.specs.Calls.{Moves}
 use Rattle.hw_desk.specs.declared.desk.Feed.TheVariants.{Certificate}
 use Rattle.hw_lines.specs.declared.line.Line.{Line}
+use Rattle.hw_lines.specs.Lines.{last_table, table_after}
 use Rattle.hw_lines.specs.Tolled.{bound_of}
+use Rattle.hw_lines.proofs.Pushed.{last_push}
 use Rattle.hw_cert.specs.declared.version.Version.TheVariants.{Three}
 use Rattle.hw_cert.specs.Nexts.{rest_of}
 use Rattle.hw_cert.specs.Reader.{ReaderModel}
 use Rattle.hw_cert.specs.Stream.{Position, CertLines, cert_stream_to}
 use Rattle.hw_check.specs.States.{CheckState}
-use Rattle.hw_command.specs.Checking.{rest_outcome, ComesOrStops, IsOpen, OpensCert}
+use Rattle.hw_command.specs.Checking.{Reached, rest_outcome, ComesOrStops, IsOpen, OpensCert}
 use Rattle.hw_command.specs.Keeping.{rest_read, StepReads}
-use Rattle.hw_command.specs.declared.cert.CertStep.TheVariants.{Ended}
+use Rattle.hw_command.specs.declared.cert.CertStep.TheVariants.{Further, Ended}
 use Rattle.hw_command.specs.declared.cert.OpenCert.{OpenCert}
 use Rattle.hw_command.specs.declared.outcome.CertOutcome.{CertOutcome}
 use Rattle.hw_command.specs.declared.outcome.CertStop.{CertStop}
 use Rattle.hw_command.specs.declared.outcome.CertStop.TheVariants.{Fault, NoMemory}
 use Rattle.hw_command.proofs.Begun.{rose_on}
+use Rattle.hw_command.proofs.Chained.{goes_on, reached_on}
 use Rattle.hw_command.proofs.Kept.{kept_behind, enters_on}
-use Rattle.hw_command.proofs.Tabled.{Taken}
 use Rattle.hw_verify_command.specs.Bounded.{any_outcome}
 use Rattle.hw_verify_command.specs.Verifying.{Verifies, VerifiesOrStops, VerifiesCert}
 use Rattle.hw_verify_command.specs.declared.verified.VerifiedCert.{VerifiedCert}
+
+-- these lines were taken by now, they are the first that are read, and this is their last timetable
+pub record Taken (f : Problem) (told : Option (List ℕ)) (outcome : List ℕ → CertOutcome) (read : List ℕ → CertLines) (all : List Line) (table : Option (List ℕ)) (reader : ReaderModel) (checker : CheckState) (now : DeskState) : Type 0 where
+  pub reached : Reached f told outcome all reader checker now
+  pub reads : IfSome told (λ bytes. IsSomeAnd (rest_of reader now) (λ rest. read bytes ≡ rest_read f all reader.at rest))
+  pub last : table ≡ last_table all
+
+-- one line more
+pub taken_on : {f : Problem} {told : Option (List ℕ)} {outcome : List ℕ → CertOutcome} {read : List ℕ → CertLines} {before : List Line} {table next : Option (List ℕ)} {r s : ReaderModel} {c d : CheckState} (line : Line) (x y : DeskState)
+    → Taken f told outcome read before table r c x → next ≡ table_after table line
+    → Reached c.problem (rest_of r x) (rest_outcome c.problem before r.at) (before ++ line ∷ []) s d y → StepReads c.problem before r x y (Further s d line)
+    → Taken f told outcome read (before ++ line ∷ []) next s d y
+taken_on {f = f} {told = told} {read = is_read} {before = before} {r = r} {s = s} {d = d} line x y h e step reads =
+    let all = before ++ line ∷ [] in
+    let now = subst (λ (p : Problem). Reached p (rest_of r x) (rest_outcome p before r.at) all s d y) h.reached.problem step in
+    let one = subst (λ (p : Problem). StepReads p before r x y (Further s d line)) h.reached.problem reads in
+    record {
+      reached = reached_on h.reached now;
+      reads = goes_on is_read (rest_read f before r.at) (rest_read f all s.at) told (rest_of r x) (rest_of s y) h.reads one;
+      last = e ∙ ap (λ (t : Option (List ℕ)). table_after t line) h.last ∙ sym (last_push before line);
+    }
 
 -- what is found after lines that were taken
 pub verified_behind : {f : Problem} {told : Option (List ℕ)} {outcome : List ℕ → CertOutcome} {read : List ℕ → CertLines} {all : List Line} {table : Option (List ℕ)} {r : ReaderModel} {c : CheckState} (x y z : DeskState) (o : CertOutcome) (bound : Option ℕ)

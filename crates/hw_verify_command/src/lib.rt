@@ -1,6 +1,6 @@
 //! `verify flat` and `verify port`: what a certificate of any version shows, with its bound.
 //!
-//! The lines are checked one by one as by `check`, in the memory of those that a later line may name.
+//! The lines are checked one by one as by `check`. Memory holds only those that a later line may name.
 #![tactic(auto)]
 
 mod flat;

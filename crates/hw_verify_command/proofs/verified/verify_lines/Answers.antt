@@ -1,7 +1,6 @@
 use Rattle.std.proofs.Common.{◌++◌, ◌∷◌, ◌∙◌, [], refl}
 use Rattle.hw_desk.proofs.Chain.{moves_on}
-use Rattle.hw_command.proofs.Tabled.{taken_on}
-use Rattle.hw_verify_command.proofs.Followed.{verified_behind}
+use Rattle.hw_verify_command.proofs.Followed.{taken_on, verified_behind}
 use Rattle.hw_verify_command.proofs.verified.verify_lines.Goals as goal
 
 pub steps-preserved : goal.steps-preserved

@@ -5,7 +5,7 @@ use Rattle.hw_cert.specs.Nexts.{rest_of}
 use Rattle.hw_lines.specs.declared.line.Line.{Line}
 use Rattle.hw_command.specs.Checking.{IsReady, rest_outcome}
 use Rattle.hw_command.specs.Keeping.{rest_read}
-use Rattle.hw_command.proofs.Tabled.{Taken}
+use Rattle.hw_verify_command.proofs.Followed.{Taken}
 use Rattle.hw_verify_command.proofs.verified.verify_lines.Given as goal
 
 abbrev pub invariant-steps : goal.invariant-steps
