@@ -18,7 +18,7 @@ use Rattle.hw_command.specs.declared.status.Status.TheVariants.{Optimal, NoMemor
 use Rattle.hw_host.specs.Info.{info_of, info_text}
 use Rattle.hw_host.specs.declared.info.Info.{Info}
 
--- the words after the program's name; none where the command line is no text; memory ran out for them at the latest where it ran out for the command line
+-- the words after the program's name; none where the command line is no text; if memory ran out for the command line, it ran out for them
 pub record AreWordsOf (args : Result (IntoIter (String Global) Global) Error) (words : Result (Vec (String Global) Global) AllocError) : Type 0 where
   pub text : IfOk words (λ some. MatchResult args (λ all. some.items ≡ drop 1 (into_iter_items all)) (λ _. some.items ≡ []))
   pub memory : IfErr args (λ e. error_kind e ≡ OutOfMemory → IsErr words)

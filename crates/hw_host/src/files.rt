@@ -17,7 +17,7 @@ pub struct FileId {
     pub inode: u64,
 }
 
-/// The file of a feed or of Proof: not asked for, failed where it was to be opened, or open.
+/// The file of a feed or of Proof: not asked for, failed to open, or open.
 #[derive(Drop)]
 pub enum HostFile {
     Fresh,

@@ -28,8 +28,8 @@ fn words_after(alloc: Global, mut args: Args) -> Result<Vec<String>, AllocError>
     Ok(words)
 }
 
-/// The words of a command line without the program's name. A line that isn't text has none, and where
-/// memory ran out for the line it ran out for its words.
+/// The words of a command line without the program's name. A line that isn't text has none, and if
+/// memory ran out for the line, it ran out for its words.
 fn words_of(alloc: Global, args: io::Result<Args>) -> Result<Vec<String>, AllocError>
     ensures { AreWordsOf args result }
 {

@@ -1,4 +1,4 @@
-//! A case: its name, its desk, and what its runs came to beside what is wanted of them.
+//! A case: its name, its desk, and the outcomes of its runs beside what is wanted of them.
 
 use crate::compared::Compared;
 use crate::setup::Setup;
@@ -13,7 +13,7 @@ pub struct Case {
     /// The last run, until a line comes that isn't wanted of it.
     run: Option<Compared>,
     has_run: bool,
-    /// What is printed for the runs that came to something else than is wanted.
+    /// What is printed for the runs whose outcome is not the one that is wanted.
     differences: Vec<u8>,
 }
 

@@ -1,11 +1,11 @@
-//! A run, with the lines that it came to and the lines that are wanted of it.
+//! A run, with the lines that came of it and the lines that are wanted of it.
 
 ghost use Rattle.std.specs.Prelude.{◌≤◌, length};
 
 use hw_text::{cut_line, put_number};
 use std::alloc::{AllocError, Global};
 
-/// A run, with the lines that it came to and the lines that are wanted of it.
+/// A run, with the lines that came of it and the lines that are wanted of it.
 #[derive(Drop)]
 pub struct Compared {
     /// The line that asked for it, and the number of that line.
@@ -70,7 +70,7 @@ fn is_printed(line: &str) -> bool {
 }
 
 impl Compared {
-    /// A run that came to these lines, of which none is wanted so far.
+    /// A run of which these lines came. None is wanted so far.
     pub fn new(
         alloc: Global,
         number: u64,

@@ -8,8 +8,8 @@
 //!     file NAME         a file of the desk, whose lines follow
 //!     |TEXT             a line of it
 //!     +TEXT             bytes of it without a line end
-//!     *COUNT TEXT       a line of it, so many times
-//!     -COUNT TEXT       bytes of it without a line end, so many times
+//!     *COUNT TEXT       a line of it, COUNT times
+//!     -COUNT TEXT       bytes of it without a line end, COUNT times
 //!     most N ..         how many bytes a call moves at most (4096); one run for each number
 //!     room N            how many bytes a tray takes (65536)
 //!     fail CALL PLACE   a call that fails, by its kind and its place among those, from 1
@@ -31,7 +31,7 @@
 //! where it is brief, `status CODE` alone. Where there are several runs, `runs I to J` stands before what
 //! is wanted of all of these.
 //!
-//! For a case one line is printed, `ok NAME`. Where a run came to something else than is wanted it is
+//! For a case one line is printed, `ok NAME`. Where the outcome of a run is not the one wanted it is
 //! `differs NAME`, and for each such run there follow its line with its number in the file, what is wanted
 //! and didn't come, each line after `-`, and what came and isn't wanted, each line after `+`.
 #![tactic(auto)]

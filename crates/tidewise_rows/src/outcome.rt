@@ -1,4 +1,4 @@
-//! What comes of one run.
+//! The outcome of one run.
 
 use crate::shown::put_lines;
 use hw_desk::{CalmDesk, MemoryDesk, Tray};
@@ -32,7 +32,7 @@ impl Outcome {
         })
     }
 
-    /// Whether two runs came to the same, Proof aside where that is wanted.
+    /// Whether two runs have the same outcome, Proof aside where that is wanted.
     pub fn is_same(&self, other: &Outcome, brief: bool) -> bool {
         let same = self.code == other.code && self.report == other.report;
         same && (brief || self.proof == other.proof)
@@ -43,8 +43,8 @@ impl Outcome {
         self.proof
     }
 
-    /// Appends the lines that are printed for the run. Where that is brief, those of Proof are left out,
-    /// and of the report so many are printed at most.
+    /// Appends the lines that are printed for the run. If `brief` is given, those of Proof are left out,
+    /// and at most this many of the report are printed.
     pub fn put(&self, brief: Option<u32>, out: &mut Vec<u8>) -> Result<(), AllocError> {
         put_lines(out, &self.report, brief.unwrap_or(u32::MAX))?;
         out.extend_from_slice(b"status ")?;

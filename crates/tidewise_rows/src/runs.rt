@@ -5,7 +5,7 @@ use hw_desk::NamedBytes;
 use hw_text::put_number;
 use std::alloc::{AllocError, Global};
 
-/// Runs, numbered from 1, of which those next to each other that come to the same are printed once.
+/// Runs, numbered from 1, of which neighbours with the same outcome are printed once.
 #[derive(Drop)]
 pub struct Runs {
     several: bool,
@@ -16,8 +16,8 @@ pub struct Runs {
 }
 
 impl Runs {
-    /// No runs yet. Their numbers are printed where there may be several. Where that is brief, what they
-    /// sent to Proof is not printed, and of each report so many lines at most.
+    /// No runs yet. Their numbers are printed where there may be several. If `brief` is given, what they
+    /// sent to Proof is not printed, and at most this many lines of each report are.
     pub fn new(several: bool, brief: Option<u32>) -> Runs {
         Runs {
             several,
@@ -28,7 +28,7 @@ impl Runs {
         }
     }
 
-    /// Adds a run, and appends the ones before it where they came to something else.
+    /// Adds a run, and appends the ones before it if their outcome is another one.
     pub fn add(&mut self, outcome: Outcome, out: &mut Vec<u8>) -> Result<(), AllocError> {
         let same = match &self.last {
             Some(last) => last.is_same(&outcome, self.brief.is_some()),
@@ -58,7 +58,7 @@ impl Runs {
         }
     }
 
-    /// Appends what the last runs came to.
+    /// Appends the outcome of the last runs.
     pub fn put(&self, out: &mut Vec<u8>) -> Result<(), AllocError> {
         if self.several {
             out.extend_from_slice(b"runs ")?;

@@ -108,8 +108,8 @@ fn new_memory(
     MemoryDesk::new(alloc, files, most.max(1), room, fails)
 }
 
-/// The exit code of a run. It says nothing of the desk, so that nothing of it is proved at each
-/// kind of desk again.
+/// The exit code of a run. It says nothing of the desk, so that nothing of it is proved again for
+/// each kind of desk.
 fn code_of_run<D: Desk>(alloc: Global, words: &[String], desk: &mut D) -> u8
     requires { IsNew (D.state desk.old) }
 {
@@ -177,7 +177,7 @@ impl Setup {
         Ok(true)
     }
 
-    /// Adds bytes with an end to the last file, so many times.
+    /// Adds bytes with an end to the last file, this many times.
     fn put_many(&mut self, text: &[u8], end: &[u8], count: u32) -> Result<bool, AllocError> {
         let Some(file) = self.files.last_mut() else {
             return Ok(false);
@@ -268,7 +268,7 @@ impl Setup {
         }
     }
 
-    /// Runs the words for each number of bytes at once, and appends what the runs came to.
+    /// Runs the words for each number of bytes at once, and appends the outcomes of the runs.
     pub fn run_all(
         &mut self,
         alloc: Global,

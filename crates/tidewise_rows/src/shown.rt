@@ -63,8 +63,8 @@ fn put_shown(out: &mut Vec<u8>, bytes: &[u8]) -> Result<(), AllocError> {
     Ok(())
 }
 
-/// Appends a line for each line of the bytes, behind `|`, and one for what has no line end, behind
-/// `+`, up to so many lines with an end.
+/// Appends a line for each line of the bytes, after `|`, and one for what has no line end, after `+`,
+/// up to this many lines with an end.
 pub fn put_lines(out: &mut Vec<u8>, bytes: &[u8], most: u32) -> Result<(), AllocError> {
     let mut rest = bytes;
     let mut left = most;

@@ -9,9 +9,9 @@ use std::io;
 pub enum Stop {
     /// A line of a file has no form.
     Line { file: String, number: u64 },
-    /// Memory was wanting.
+    /// Memory ran out.
     NoMemory,
-    /// A file couldn't be read, or what came of it not be printed.
+    /// A file couldn't be read, or the outcome couldn't be printed.
     Io(io::Error),
 }
 
