@@ -9,7 +9,7 @@ use hw_tolls::{Tariff, Toll};
 use std::alloc::Global;
 
 /// Where a search stands.
-#[derive(Clone, Copy, Debug, PartialEq, Eq)]
+#[derive(Clone, Copy, PartialEq, Eq)]
 pub struct Standing {
     /// How many lemmas it has found.
     pub lemmas: u32,

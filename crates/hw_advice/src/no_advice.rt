@@ -5,7 +5,7 @@ use hw_model::{Lit, NoMemory};
 use std::alloc::Global;
 
 /// Says nothing, knows no bound and prefers no literal.
-#[derive(Clone, Copy, Debug, PartialEq, Eq)]
+#[derive(Clone, Copy, PartialEq, Eq)]
 pub struct NoAdvice;
 
 impl Adviser for NoAdvice {

@@ -5,7 +5,7 @@ use hw_command::PortNames;
 use hw_crew_command::Order;
 
 /// What a run is to do. The names are those of a desk's feeds and of Proof, and a budget is in lemmas.
-#[derive(Clone, Copy, Debug)]
+#[derive(Clone, Copy)]
 pub enum Command<'w> {
     SolveFlat {
         name: &'w str,

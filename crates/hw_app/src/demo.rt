@@ -29,7 +29,7 @@ use hw_search::{Solved, solve};
 use std::alloc::Global;
 
 /// Which demonstration is drawn: its number, of 1 to 40 ships and 1 to 512 slots.
-#[derive(Clone, Copy, Debug)]
+#[derive(Clone, Copy)]
 pub struct Draw {
     pub number: u32,
     pub ships: u32,

@@ -7,7 +7,7 @@ use hw_command::MOST_BUDGET;
 use hw_desk::Feed;
 
 /// A form of a command.
-#[derive(Clone, Copy, Debug, PartialEq, Eq)]
+#[derive(Clone, Copy, PartialEq, Eq)]
 pub enum Form {
     /// `solve flat NAME BUDGET PROOF` searches for a best timetable of a flat text, up to BUDGET lemmas.
     SolveFlat,
@@ -64,7 +64,7 @@ pub enum Form {
 }
 
 /// A word that stands for itself.
-#[derive(Clone, Copy, Debug, PartialEq, Eq)]
+#[derive(Clone, Copy, PartialEq, Eq)]
 pub enum Keyword {
     Solve,
     Prove,
@@ -84,7 +84,7 @@ pub enum Keyword {
 }
 
 /// What a number of a form counts.
-#[derive(Clone, Copy, Debug, PartialEq, Eq)]
+#[derive(Clone, Copy, PartialEq, Eq)]
 pub enum Quantity {
     /// Nothing: it names a demonstration.
     Demonstration,
@@ -97,7 +97,7 @@ pub enum Quantity {
 }
 
 /// What a word of a form has to be.
-#[derive(Clone, Copy, Debug, PartialEq, Eq)]
+#[derive(Clone, Copy, PartialEq, Eq)]
 pub enum Wanted {
     Keyword(Keyword),
     /// The name of an input.

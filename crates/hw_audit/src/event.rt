@@ -4,7 +4,7 @@ use hw_model::{ShipId, Slot};
 use std::marker::Model;
 
 /// Something that happens while a plan is being sailed.
-#[derive(Clone, Copy, Debug, PartialEq, Eq)]
+#[derive(Clone, Copy, PartialEq, Eq)]
 pub enum PortEvent {
     /// The ship sailed in this slot.
     Sailed { ship: ShipId, slot: Slot },
@@ -17,7 +17,7 @@ pub enum PortEvent {
 }
 
 /// Events in the order in which they happened. Contracts see their list.
-#[derive(Debug, Drop)]
+#[derive(Drop)]
 pub struct Events {
     pub items: Vec<PortEvent>,
 }

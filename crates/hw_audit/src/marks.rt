@@ -11,7 +11,7 @@ use hw_model::{Rule, ShipId, Slot};
 use hw_rules::allowed_pair;
 
 /// The rules that may have begun or ceased to hold.
-#[derive(Clone, Copy, Debug)]
+#[derive(Clone, Copy)]
 pub(crate) enum Concern {
     /// Every rule: none was tested yet.
     Every,

@@ -18,7 +18,7 @@ use hw_tolls::{Block, Blocks, Weights};
 use std::alloc::{AllocError, Global};
 
 /// Why a line can't be read.
-#[derive(Clone, Copy, Debug, PartialEq, Eq)]
+#[derive(Clone, Copy, PartialEq, Eq)]
 pub enum LineFault {
     Bad(FormWord),
     NoMemory,

@@ -4,7 +4,7 @@ use hw_flat::Timetable;
 use std::marker::Model;
 
 /// Kept restrictions, ascending, and for each of them a timetable that meets the others.
-#[derive(Debug, Drop)]
+#[derive(Drop)]
 pub struct ClashText {
     pub kept: Vec<u32>,
     pub drops: Vec<Timetable>,

@@ -17,14 +17,14 @@ use hw_tide::{Tide, TideFault, read_tides};
 use std::alloc::Global;
 
 /// The names under which a port's instance and its tide table are begun.
-#[derive(Clone, Copy, Debug)]
+#[derive(Clone, Copy)]
 pub struct PortNames<'n> {
     pub instance: &'n str,
     pub tides: &'n str,
 }
 
 /// Why there is no port.
-#[derive(Clone, Copy, Debug, PartialEq, Eq)]
+#[derive(Clone, Copy, PartialEq, Eq)]
 pub enum InstanceStop {
     /// The instance wasn't read to its end.
     Input(ReadStop),
@@ -35,7 +35,7 @@ pub enum InstanceStop {
 }
 
 /// Why there is no tide.
-#[derive(Clone, Copy, Debug, PartialEq, Eq)]
+#[derive(Clone, Copy, PartialEq, Eq)]
 pub enum TideStop {
     /// The table wasn't read to its end.
     Input(ReadStop),

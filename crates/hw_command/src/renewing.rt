@@ -19,7 +19,7 @@ use hw_report::{Names, Report};
 use std::alloc::Global;
 
 /// What comes of a certificate that is to be renewed.
-#[derive(Clone, Copy, Debug, PartialEq, Eq)]
+#[derive(Clone, Copy, PartialEq, Eq)]
 pub enum Renewal {
     /// The answer of its check. If it shows something, its renewed lines were sent to Proof; otherwise
     /// Proof wasn't made.

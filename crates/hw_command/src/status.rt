@@ -8,7 +8,7 @@ use hw_cert::Verdict;
 use hw_report::{Head, Report};
 
 /// How a run ends.
-#[derive(Clone, Copy, Debug, PartialEq, Eq)]
+#[derive(Clone, Copy, PartialEq, Eq)]
 pub enum Status {
     /// A best timetable was found.
     Optimal,

@@ -11,7 +11,7 @@ pub const MOST_TURNS: usize = 64;
 
 /// The branching rules of 1 to 64 turns. After the last turn the first one comes again. It takes no
 /// memory.
-#[derive(Clone, Copy, Debug)]
+#[derive(Clone, Copy)]
 pub struct Order {
     rules: [Branching; MOST_TURNS],
     count: usize,

@@ -5,7 +5,7 @@ ghost use Rattle.hw_desk.specs.State.{DeskState, IsFresh, IsBounded, CanSend};
 ghost use Rattle.hw_desk.specs.Calls.{Begins, Reads, Makes, Writes};
 
 /// An input of the program.
-#[derive(Clone, Copy, Debug, PartialEq, Eq)]
+#[derive(Clone, Copy, PartialEq, Eq)]
 pub enum Feed {
     /// The flat text of a problem.
     Flat,
@@ -22,7 +22,7 @@ pub enum Feed {
 }
 
 /// An output of the program.
-#[derive(Clone, Copy, Debug, PartialEq, Eq)]
+#[derive(Clone, Copy, PartialEq, Eq)]
 pub enum Tray {
     /// What a run prints. It needs no make.
     Report,
@@ -31,7 +31,7 @@ pub enum Tray {
 }
 
 /// A call of a desk failed.
-#[derive(Clone, Copy, Debug, PartialEq, Eq)]
+#[derive(Clone, Copy, PartialEq, Eq)]
 pub struct DeskFailed;
 
 /// The outside world: files held under names, feeds that are read from them, and trays.

@@ -11,7 +11,7 @@ use hw_model::NoMemory;
 use std::alloc::Global;
 
 /// A file in memory.
-#[derive(Debug, Drop)]
+#[derive(Drop)]
 pub struct NamedBytes {
     pub name: String,
     pub bytes: Vec<u8>,

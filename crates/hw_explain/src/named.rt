@@ -4,7 +4,7 @@ use hw_model::ShipId;
 use std::marker::Model;
 
 /// Places of a port's sections, seen as their list.
-#[derive(Debug, Drop)]
+#[derive(Drop)]
 pub struct Places {
     pub items: Vec<u32>,
 }
@@ -19,7 +19,7 @@ impl Model for Places {
 
 /// A restriction in a port's words. Ships and sections are places in the port's lists, and
 /// distances in time are counted in slots.
-#[derive(Debug, Drop)]
+#[derive(Drop)]
 pub enum Named {
     /// A ship has a value in its slot, or stays and may.
     Window {

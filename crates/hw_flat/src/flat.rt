@@ -12,7 +12,7 @@ use std::marker::Model;
 /// It has 1 to 40 ships and 1 to 512 slots in which ships sail. Where `stay` is true, `slots`
 /// counts one more slot, the last one, which means that a ship stays. Values are in tenths of a
 /// tonne, at most 1,000,000,000,000, and at most 1 in the slot that means staying.
-#[derive(Debug, Drop)]
+#[derive(Drop)]
 pub struct Flat {
     pub ships: u32,
     pub slots: u32,

@@ -15,7 +15,7 @@ use std::marker::Model;
 /// A room: a range of slots for each ship, and for each two ships an order that is set or not.
 ///
 /// No range is empty.
-#[derive(Debug, Drop)]
+#[derive(Drop)]
 pub struct Room {
     ships: u32,
     slots: u32,

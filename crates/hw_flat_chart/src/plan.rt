@@ -13,7 +13,7 @@ use std::marker::Model;
 /// A timetable, and a flag for each ship and slot: whether the ship alone could sail in that slot.
 ///
 /// Flags stand ship by ship, 512 for each of 40 ships, so that no flag's place depends on the problem.
-#[derive(Debug, Drop)]
+#[derive(Drop)]
 pub struct Plan {
     table: Timetable,
     flags: Vec<bool>,

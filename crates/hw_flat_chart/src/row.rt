@@ -19,7 +19,7 @@ use hw_model::ShipId;
 use hw_svg::put_svg_end;
 
 /// A row: its ship, its place among the rows, how many slots the picture shows, and what the timetable says of the ship.
-#[derive(Clone, Copy, Debug, PartialEq, Eq)]
+#[derive(Clone, Copy, PartialEq, Eq)]
 pub struct Row {
     pub ship: ShipId,
     pub rank: u32,

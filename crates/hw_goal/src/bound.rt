@@ -17,7 +17,7 @@ use std::alloc::Global;
 
 /// The goal: more cargo than the best. It keeps each ship's greatest value in its range, and
 /// their sum.
-#[derive(Debug, Drop)]
+#[derive(Drop)]
 pub struct GoalBound {
     figures: Figures,
     ships: Vec<ShipId>,

@@ -13,7 +13,7 @@ use hw_model::{Lit, NoMemory};
 use std::alloc::Global;
 
 /// A slot and its value, in tenths of a tonne; none counts 0.
-#[derive(Clone, Copy, Debug)]
+#[derive(Clone, Copy)]
 pub struct Peak {
     pub slot: Slot,
     pub value: u64,
@@ -21,7 +21,7 @@ pub struct Peak {
 
 /// What is kept of a ship: the range that it was last seen with, the slot there that has the
 /// greatest value, and the greatest value of all its slots.
-#[derive(Clone, Copy, Debug)]
+#[derive(Clone, Copy)]
 pub struct Top {
     pub low: Slot,
     pub high: Slot,
@@ -30,7 +30,7 @@ pub struct Top {
 }
 
 /// What is kept of each ship, and the sum of the greatest values in their ranges.
-#[derive(Debug, Drop)]
+#[derive(Drop)]
 pub struct Figures {
     pub tops: Vec<Top>,
     pub sum: u64,

@@ -11,7 +11,7 @@ use std::os::unix::fs::MetadataExt;
 use std::{fs, io};
 
 /// Which file of the system it is, under whatever name or link it was opened.
-#[derive(Clone, Copy, Debug, PartialEq, Eq)]
+#[derive(Clone, Copy, PartialEq, Eq)]
 pub struct FileId {
     pub device: u64,
     pub inode: u64,

@@ -3,7 +3,7 @@
 use crate::clause::Clause;
 
 /// What was found in a room: nothing, or a clause that is not quiet there.
-#[derive(Debug, Drop)]
+#[derive(Drop)]
 pub enum Found {
     Quiet,
     Clause(Clause),

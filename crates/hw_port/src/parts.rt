@@ -6,7 +6,7 @@ ghost use Rattle.hw_port.specs.Rules.{outgoing};
 use std::marker::Model;
 
 /// A text, seen as the list of its bytes.
-#[derive(Debug, Drop)]
+#[derive(Drop)]
 pub struct Text {
     pub items: Vec<u8>,
 }
@@ -20,20 +20,20 @@ impl Model for Text {
 }
 
 /// A place on a route, with its charted depth in centimetres.
-#[derive(Debug, Drop)]
+#[derive(Drop)]
 pub struct Waypoint {
     pub name: Text,
     pub depth: i64,
 }
 
 /// A stretch of the channel that is used in one direction at a time.
-#[derive(Debug, Drop)]
+#[derive(Drop)]
 pub struct Section {
     pub name: Text,
 }
 
 /// The slots between a first ship of one class and second ships of each class, seen as their list.
-#[derive(Debug, Drop)]
+#[derive(Drop)]
 pub struct Row {
     pub items: Vec<i64>,
 }
@@ -47,7 +47,7 @@ impl Model for Row {
 }
 
 /// For how many slots tugs are held after a job, by the direction of the ship.
-#[derive(Clone, Copy, Debug)]
+#[derive(Clone, Copy)]
 pub struct Turnaround {
     pub outgoing: i64,
     pub incoming: i64,
@@ -55,7 +55,7 @@ pub struct Turnaround {
 
 /// A waypoint on a ship's route: its place, how many slots after sailing it is passed, and the
 /// clearance below the keel in centimetres.
-#[derive(Clone, Copy, Debug)]
+#[derive(Clone, Copy)]
 pub struct Pass {
     pub waypoint: i64,
     pub offset: i64,
@@ -64,7 +64,7 @@ pub struct Pass {
 
 /// A section that a ship uses, by its place, and the slots after sailing from which and up to
 /// which it is occupied.
-#[derive(Clone, Copy, Debug)]
+#[derive(Clone, Copy)]
 pub struct Stretch {
     pub section: i64,
     pub enter: i64,
@@ -75,7 +75,7 @@ pub struct Stretch {
 /// draft in centimetres, its tugs and the slots of their job.
 ///
 /// Seen as a record of the same fields.
-#[derive(Debug, Drop)]
+#[derive(Drop)]
 pub struct Ship {
     pub name: Text,
     pub direction: Text,
@@ -111,7 +111,7 @@ impl Ship {
 
 /// An outgoing ship that clears a berth, the incoming ship that takes it, and how many slots later
 /// at least.
-#[derive(Clone, Copy, Debug)]
+#[derive(Clone, Copy)]
 pub struct BerthPair {
     pub outgoing: i64,
     pub incoming: i64,
@@ -119,7 +119,7 @@ pub struct BerthPair {
 }
 
 /// All parts of a port. Seen as a record of the same fields.
-#[derive(Debug, Drop)]
+#[derive(Drop)]
 pub struct PortParts {
     pub version: i64,
     pub slots: i64,

@@ -10,7 +10,7 @@ use crate::parts::PortParts;
 use std::marker::Model;
 
 /// A port whose parts keep every meaning rule. Seen as its parts.
-#[derive(Debug, Drop)]
+#[derive(Drop)]
 pub struct Port {
     parts: PortParts,
 }

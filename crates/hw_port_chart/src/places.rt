@@ -7,7 +7,7 @@ ghost use Rattle.hw_port_chart.specs.Heads.{places as places_of_port, places_of}
 use hw_port::PortParts;
 
 /// How far down the rows of ships begin, the lanes of sections and the panel of tugs, and where the panels end.
-#[derive(Clone, Copy, Debug, PartialEq, Eq)]
+#[derive(Clone, Copy, PartialEq, Eq)]
 pub struct Places {
     pub rows: u32,
     pub lanes: u32,

@@ -4,7 +4,7 @@ use hw_flat::Timetable;
 use hw_story::Why;
 
 /// How a search decides in a quiet room.
-#[derive(Clone, Copy, Debug, PartialEq, Eq)]
+#[derive(Clone, Copy, PartialEq, Eq)]
 pub enum Branching {
     /// The first of the ships with several slots left whose range has the greatest value. It sails
     /// in the first slot of that value or later, or in just that slot if it is the ship's lowest.
@@ -16,7 +16,7 @@ pub enum Branching {
 }
 
 /// How settling ends: every source and every stored lemma is quiet, or a clause has no literal left.
-#[derive(Debug, Drop)]
+#[derive(Drop)]
 pub enum Settled {
     Quiet,
     /// The clause has no literal left: a stored lemma, or one that its source refutes when denied.
@@ -24,7 +24,7 @@ pub enum Settled {
 }
 
 /// What a turn did. After the last three the search is over.
-#[derive(Clone, Copy, Debug, PartialEq, Eq)]
+#[derive(Clone, Copy, PartialEq, Eq)]
 pub enum Turn {
     /// All was quiet, and a literal was decided.
     Decided,
@@ -41,7 +41,7 @@ pub enum Turn {
 }
 
 /// What the call for a lower bound did. After the last two the search is over.
-#[derive(Clone, Copy, Debug, PartialEq, Eq)]
+#[derive(Clone, Copy, PartialEq, Eq)]
 pub enum Bounded {
     /// A lower bound was written.
     Lower,
@@ -54,7 +54,7 @@ pub enum Bounded {
 }
 
 /// How solving ends. `table` is the best timetable found, if there is one.
-#[derive(Debug, Drop)]
+#[derive(Drop)]
 pub enum Solved {
     /// No permitted timetable carries more than `cargo`, in tenths of a tonne.
     Optimal { table: Timetable, cargo: u64 },
@@ -69,7 +69,7 @@ pub enum Solved {
 }
 
 /// How solving with advice ends.
-#[derive(Debug, Drop)]
+#[derive(Drop)]
 pub struct Proved {
     pub solved: Solved,
     /// In tenths of a tonne: no permitted timetable carries more.

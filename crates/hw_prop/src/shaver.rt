@@ -18,7 +18,7 @@ use std::alloc::Global;
 
 /// What trying works on: a room of the problem's size, and the ships and pairs of which the
 /// source speaks, ascending.
-#[derive(Debug, Drop)]
+#[derive(Drop)]
 pub struct Trial {
     pub room: Room,
     pub ships: Vec<ShipId>,
@@ -76,7 +76,7 @@ pub fn shaved(alloc: Global, test: &BySource<'_>, room: &Room) -> Result<Found, 
 /// The plain propagator of any source: it tries each reduction of the room. It keeps no figures.
 ///
 /// Its first step makes the room to try in and keeps it: from then on a quiet step takes no memory.
-#[derive(Debug, Drop)]
+#[derive(Drop)]
 pub struct Shaver {
     source: Source,
     trial: Option<Trial>,

@@ -6,7 +6,7 @@ ghost use Rattle.hw_read.specs.Places.{path, deeper};
 use hw_port::{Path, Place};
 
 /// The numbers of the list items on the way to a place, the outer one first.
-#[derive(Clone, Copy, Debug)]
+#[derive(Clone, Copy)]
 pub struct Stars {
     pub first: Option<u32>,
     pub second: Option<u32>,

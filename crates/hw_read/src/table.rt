@@ -8,7 +8,7 @@ use hw_lexicon::Lexicon;
 use hw_port::Place;
 
 /// The kinds of objects.
-#[derive(Clone, Copy, Debug)]
+#[derive(Clone, Copy)]
 pub enum Names {
     Port,
     Waypoint,
@@ -20,7 +20,7 @@ pub enum Names {
 }
 
 /// The version of an instance, which its table goes by: in the second ships may stay.
-#[derive(Clone, Copy, Debug)]
+#[derive(Clone, Copy)]
 pub enum Version {
     First,
     Second,

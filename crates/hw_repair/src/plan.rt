@@ -4,7 +4,7 @@ use hw_model::Slot;
 use std::marker::Model;
 
 /// What a plan says of a ship.
-#[derive(Clone, Copy, Debug, PartialEq, Eq)]
+#[derive(Clone, Copy, PartialEq, Eq)]
 pub enum Wish {
     /// The ship has sailed in this slot.
     Kept { slot: Slot },
@@ -13,7 +13,7 @@ pub enum Wish {
 }
 
 /// A wish for each ship, ship 0 first. Contracts see the list of the wishes.
-#[derive(Debug, Drop)]
+#[derive(Drop)]
 pub struct Plan {
     pub items: Vec<Wish>,
 }

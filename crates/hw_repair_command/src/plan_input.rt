@@ -21,7 +21,7 @@ pub struct Repair {
 }
 
 /// Why there is no plan.
-#[derive(Clone, Copy, Debug, PartialEq, Eq)]
+#[derive(Clone, Copy, PartialEq, Eq)]
 pub enum PlanStop {
     /// The plan couldn't be read to its end.
     Input(ReadStop),

@@ -5,7 +5,7 @@ use hw_flat::Timetable;
 /// What a walk through the lists of slots finds.
 ///
 /// `cargo` is in tenths of a tonne.
-#[derive(Debug, Drop)]
+#[derive(Drop)]
 pub enum Walked {
     /// All lists were looked at: the first permitted one of greatest cargo.
     Best { table: Timetable, cargo: u64 },

@@ -16,7 +16,7 @@ use hw_tugs::TugProfile;
 use std::alloc::Global;
 
 /// A propagator of one of the kinds.
-#[derive(Debug, Drop)]
+#[derive(Drop)]
 pub enum AnyPropagator {
     Shaver(Shaver),
     Channel(Channel),

@@ -8,7 +8,7 @@ use hw_tolls::{Tariff, Toll};
 use std::alloc::Global;
 
 /// The tolls that were declared, in order, the tariff in force on them, and the last bound.
-#[derive(Debug, Drop)]
+#[derive(Drop)]
 pub struct Declared {
     pub tolls: Vec<Toll>,
     pub tariff: Option<Tariff>,

@@ -26,7 +26,7 @@ use hw_story::Why;
 
 /// What asking brought: all that was asked is quiet, a literal was implied, or a clause has no
 /// literal left.
-#[derive(Debug, Drop)]
+#[derive(Drop)]
 pub enum Asked {
     Quiet,
     Cut,

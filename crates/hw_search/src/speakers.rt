@@ -18,7 +18,7 @@ use std::marker::Model;
 /// Which sources speak of a ship or of a pair: their places, in lists that are made once.
 ///
 /// At 40 ships there are 780 pairs and some 10,000 sources, with 32,000 places in all.
-#[derive(Debug, Drop)]
+#[derive(Drop)]
 pub struct Speakers {
     ships: u32,
     by_ship: Vec<Places>,

@@ -9,7 +9,7 @@ use hw_flat::Room;
 use hw_model::{Lit, ShipId, Slot};
 
 /// How many ships and slots there are, by which the buckets are numbered.
-#[derive(Clone, Copy, Debug)]
+#[derive(Clone, Copy)]
 pub struct BucketMap {
     /// At most 40.
     pub ships: u32,

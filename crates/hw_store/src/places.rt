@@ -7,7 +7,7 @@ use std::alloc::Global;
 use std::marker::Model;
 
 /// Places in another list, seen as their list.
-#[derive(Debug, Drop)]
+#[derive(Drop)]
 pub struct Places {
     pub(crate) items: Vec<u32>,
 }

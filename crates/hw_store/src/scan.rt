@@ -11,7 +11,7 @@ use std::alloc::Global;
 use std::marker::Model;
 
 /// Clauses in the order in which they were added. Each step looks at every one of them.
-#[derive(Debug, Drop)]
+#[derive(Drop)]
 pub struct ScanStore {
     ships: u32,
     held: Vec<Stored>,

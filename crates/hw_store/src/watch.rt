@@ -22,7 +22,7 @@ use std::marker::Model;
 
 /// Clauses with two watched literals each. A step looks only at the clauses that lost a watched
 /// literal, and at those that it has not yet seen to be quiet.
-#[derive(Debug, Drop)]
+#[derive(Drop)]
 pub struct WatchStore {
     // the clauses, by ascending numbers
     held: Vec<Stored>,
@@ -45,7 +45,7 @@ impl Model for WatchStore {
 }
 
 // What was seen of the next due clause.
-#[derive(Clone, Copy, Debug, PartialEq, Eq)]
+#[derive(Clone, Copy, PartialEq, Eq)]
 enum Next {
     Found(Held),
     Went,

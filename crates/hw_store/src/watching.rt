@@ -18,7 +18,7 @@ use std::alloc::Global;
 use std::marker::Model;
 
 /// What is watched of a clause.
-#[derive(Clone, Copy, Debug, PartialEq, Eq)]
+#[derive(Clone, Copy, PartialEq, Eq)]
 pub enum Watch {
     /// Nothing: the clause is due, which means that a step has to look at it.
     Due,
@@ -29,7 +29,7 @@ pub enum Watch {
 }
 
 /// The buckets in whose lists a clause's place is known to stand.
-#[derive(Clone, Copy, Debug, PartialEq, Eq)]
+#[derive(Clone, Copy, PartialEq, Eq)]
 pub struct Buckets {
     pub first: Option<usize>,
     pub second: Option<usize>,
@@ -60,7 +60,7 @@ impl Places {
 }
 
 /// What is watched of each clause, by the clauses' places.
-#[derive(Debug, Drop)]
+#[derive(Drop)]
 pub struct Watched {
     buckets: BucketMap,
     watches: Vec<Watch>,

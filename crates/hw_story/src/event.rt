@@ -4,7 +4,7 @@ use hw_lits::Clause;
 use hw_model::{Lit, Source};
 
 /// Why a literal was implied: its clause had this literal Free and all others False.
-#[derive(Debug, Drop)]
+#[derive(Drop)]
 pub enum Why {
     /// The stored lemma of this number, which is the number of its line.
     Lemma { id: u32, clause: Clause },
@@ -16,7 +16,7 @@ pub enum Why {
 }
 
 /// A literal that was Free and became true, and by which the room was cut.
-#[derive(Debug, Drop)]
+#[derive(Drop)]
 pub struct Event {
     pub lit: Lit,
     /// How many decisions there were up to this event: 0 before the first one.

@@ -15,7 +15,7 @@ use std::alloc::Global;
 use std::marker::Model;
 
 /// The heights at one slot, one for each waypoint. Seen as a record of the same fields.
-#[derive(Debug, Drop)]
+#[derive(Drop)]
 pub struct Levels {
     pub slot: u32,
     pub heights: Vec<i32>,

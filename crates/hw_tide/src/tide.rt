@@ -10,7 +10,7 @@ use std::marker::Model;
 /// column for each waypoint.
 ///
 /// It has 1 to 2048 rows, and heights from -2000 to 2000.
-#[derive(Debug, Drop)]
+#[derive(Drop)]
 pub struct Tide {
     pub rows: u32,
     pub columns: u32,

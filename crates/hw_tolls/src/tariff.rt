@@ -3,7 +3,7 @@
 use std::marker::Model;
 
 /// A price on a toll.
-#[derive(Clone, Copy, Debug, PartialEq, Eq)]
+#[derive(Clone, Copy, PartialEq, Eq)]
 pub struct Due {
     /// The toll's place in a list, counted from 0.
     pub toll: u32,
@@ -12,7 +12,7 @@ pub struct Due {
 }
 
 /// Dues, seen as their list.
-#[derive(Debug, Drop)]
+#[derive(Drop)]
 pub struct Dues {
     pub items: Vec<Due>,
 }
@@ -27,7 +27,7 @@ impl Model for Dues {
 }
 
 /// Prices on tolls, and the scale of their parts.
-#[derive(Debug, Drop)]
+#[derive(Drop)]
 pub struct Tariff {
     /// How many parts make a tenth of a tonne, at most 1,000,000. With a scale of 0 cargo counts
     /// nothing, and the tolls alone must refute.
@@ -39,7 +39,7 @@ pub struct Tariff {
 /// What ships gain in their slots, and what they pay there for what they take, both in parts.
 ///
 /// There is no difference of the two, so no number is below 0: two balances are compared crosswise.
-#[derive(Clone, Copy, Debug, PartialEq, Eq)]
+#[derive(Clone, Copy, PartialEq, Eq)]
 pub struct Balance {
     pub gain: u128,
     pub cost: u128,

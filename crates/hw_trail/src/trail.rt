@@ -22,7 +22,7 @@ use std::marker::Model;
 /// The events so far, the level, and the room that they leave.
 ///
 /// Room for all events that can come is reserved from the start.
-#[derive(Debug, Drop)]
+#[derive(Drop)]
 pub struct Trail {
     ships: u32,
     slots: u32,

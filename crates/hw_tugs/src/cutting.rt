@@ -11,7 +11,7 @@ use hw_flat::{Job, Room, Slot};
 use hw_prop::Reduction;
 
 /// A reduction of a room, and a slot in which it exceeds the fleet.
-#[derive(Clone, Copy, Debug)]
+#[derive(Clone, Copy)]
 pub struct Cut {
     pub reduction: Reduction,
     pub slot: Slot,

@@ -14,7 +14,7 @@ use std::alloc::Global;
 
 /// For each job the range of its ship that was last seen, and for each slot of the horizon the tugs
 /// that the jobs hold wherever in these ranges their ships sail.
-#[derive(Debug, Drop)]
+#[derive(Drop)]
 pub struct Figures {
     pub seen: Vec<(Slot, Slot)>,
     pub load: Vec<u64>,

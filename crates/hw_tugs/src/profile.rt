@@ -21,7 +21,7 @@ use std::alloc::Global;
 /// A quiet step takes no memory, and at most one step for each slot in which a job may hold its tugs.
 /// `undone` compares one range for each job, and takes a step for each slot that a job certainly
 /// holds where its range differs. `changed` looks for the one job.
-#[derive(Debug, Drop)]
+#[derive(Drop)]
 pub struct TugProfile {
     source: Source,
     ships: Vec<ShipId>,

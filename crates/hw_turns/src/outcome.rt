@@ -3,7 +3,7 @@
 use hw_flat::Timetable;
 
 /// How a crew ends. `table` is the best timetable found, if there is one.
-#[derive(Debug, Drop)]
+#[derive(Drop)]
 pub enum Crewed {
     /// No permitted timetable carries more than `cargo`, in tenths of a tonne.
     Optimal { table: Timetable, cargo: u64 },

@@ -5,7 +5,7 @@ use std::alloc::AllocError;
 use std::io;
 
 /// Why the cases weren't all run.
-#[derive(Debug, Drop)]
+#[derive(Drop)]
 pub enum Stop {
     /// A line of a file has no form.
     Line { file: String, number: u64 },
