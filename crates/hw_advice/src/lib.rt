@@ -1,6 +1,7 @@
-//! What prices advise a search: one more clause, where its sources and lemmas are quiet.
+//! What an adviser may tell a search whose sources and lemmas are quiet: a clause of prices, a bound on
+//! the cargo, or a literal to decide.
 //!
-//! It is found by the same trying and loosening as the clause of a source.
+//! The trait's clauses say that each clause and each bound is right, whoever answers.
 #![tactic(auto)]
 
 mod adviser;

@@ -32,7 +32,7 @@ pub record ChecksText (text bytes : Option (List ℕ)) (o : CertOutcome) : Type 
   pub outcome : IfSome bytes (λ bs. o ≡ cert_outcome problem bs)
   pub shown : ShownBy problem o
 
--- what a report says of the text and of the certificate, each as far as it is told. Apart from out of memory, no two reports hold together where these are told; no other is given
+-- what a report says of the text and of the certificate, each as far as it is told. For the same told bytes at most one report but `memory` is right, and nothing else is printed
 abbrev pub ChecksTexts : Option (List ℕ) → Option (List ℕ) → Report → Type 0
 ChecksTexts text bytes (checked v names) = (names ≡ by_number) × ChecksText text bytes (Shows v)
 ChecksTexts text bytes (refused number word hint) = ChecksText text bytes (Wrong number word hint)

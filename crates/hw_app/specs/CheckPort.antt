@@ -27,7 +27,7 @@ pub record ChecksSomePort (instance table bytes : Option (List ℕ)) (o : CertOu
   pub tide : TideParts
   pub checks : ChecksPort instance table bytes port tide o
 
--- what a report says of the instance, of the table and of the certificate, each where it is told. Apart from out of memory, no two reports hold together where these are told; no other is given
+-- what a report says of the instance, of the table and of the certificate, each where it is told. For the same told bytes at most one report but `memory` is right, and nothing else is printed
 abbrev pub ChecksPortTexts : Option (List ℕ) → Option (List ℕ) → Option (List ℕ) → Option Report → Type 0
 ChecksPortTexts instance table bytes None = ⊥
 ChecksPortTexts instance table bytes (Some (checked v (by_name p h))) = ChecksPort instance table bytes p h (Shows v)

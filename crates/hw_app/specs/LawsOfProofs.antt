@@ -46,7 +46,7 @@ verdict_with f head table = head_verdict head (option_and_then (cargo f) table)
 abbrev pub PassesLimit : Problem → List ℕ → Type 0
 PassesLimit f bytes = (cert_stream_to Three (shape_of f) bytes).stop ≡ overlong
 
--- of the bytes that `prove` wrote `verify` tells the verdict of its head, and its bound, unless they pass a limit, a call fails or memory runs out
+-- `verify` of what `prove` wrote reports the same verdict and bound, unless the bytes pass a limit, a call fails or memory runs out
 pub record VerifiedAsProved : Type 0 where
   pub flat : (text bytes : List ℕ) (head : Head) (f : Problem) (table : Option (List ℕ)) (bound : Option ℕ) (r : Report) → ProvedFlat text bytes head f table bound → VerifiesFlat (Some text) (Some bytes) r → PassesLimit f bytes ⊎ (r ≡ verified (verdict_with f head table) bound by_number)
   pub port : (instance tides bytes : List ℕ) (head : Head) (p : Parts) (h : TideParts) (plan : Option (List ℕ)) (bound : Option ℕ) (r : Report) → ProvedPort instance tides bytes head p h plan bound → VerifiesPortTexts (Some instance) (Some tides) (Some bytes) (Some r) → PassesLimit (flattened p h) bytes ⊎ (r ≡ verified (verdict_with (flattened p h) head plan) bound (by_name p h))

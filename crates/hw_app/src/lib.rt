@@ -1,7 +1,8 @@
-//! The top call: the words of a command, its work over a desk, and its report.
+//! The top call: the words of a command line become a command, whose work over a desk ends in a report.
 //!
-//! The forms of a command are a table. What every command keeps is said and proved in `hw_command`;
-//! each command has a file of definitions for what its answer says, and a file of code.
+//! The forms of the commands are a table. `solve`, `check`, `renew`, `flatten` and `demo` stand here,
+//! the other commands in crates of their own; what every command keeps is said and proved in
+//! `hw_command`.
 #![tactic(auto)]
 
 mod calm;

@@ -52,7 +52,7 @@ decided f table held withdrawn (Pair v w holes) = rule_holds f table (Pair v w h
 decided f table held withdrawn (After v w gap) = rule_holds f table (After v w gap)
 decided f table held withdrawn (Tugs fleet jobs) = list_all (λ tugs. nat_le tugs (fleet - withdrawn)) held
 
--- a rule may have begun or ceased to hold: every one before any test; one on tugs, or on the ship, where a ship has another slot; one on tugs where the fleet has other tugs
+-- which rules to test again: all at first; after a ship moved, its own and those on tugs; after the fleet changed, those on tugs
 abbrev pub concerns : Concern → Rule → Bool
 concerns Every rule = true
 concerns (Ship ship) (Pair v w holes) = v == ship || w == ship

@@ -40,8 +40,8 @@ fn first_refused(audit: &mut Audit, events: &[PortEvent]) -> Option<(u64, AuditW
     None
 }
 
-/// Tries all events, and then watches the timetable from before them again. An error is the line of
-/// the first event that is refused, or that memory ran out.
+/// Checks that all events can be applied, and resets the audit to its state before them. Fails with
+/// the line of the first event that is refused, or where memory runs out.
 pub(crate) fn try_events(
     alloc: Global,
     problem: &PortProblem,

@@ -40,8 +40,7 @@ pub fn port_rows_read_back()
     ensures { PortRowsReadBack }
 {}
 
-/// Rows of a flat problem's ships that are written alike show ships that carry the same at most, and in each slot values
-/// of one class.
+/// Two rows that look the same have the same greatest value and, slot by slot, values of the same class.
 pub fn flat_rows_read_back()
     ensures { FlatRowsReadBack }
 {}

@@ -138,7 +138,7 @@ impl<'f> Checker<'f> {
     ///
     /// It costs the size of a room, the literals of the line and of its hints, the search for each
     /// hint among the live clauses, and what a table or a source costs that is tested. A deletion
-    /// costs a search for each of its numbers, and giving back, which is paid for by what died. A
+    /// looks up each of its numbers; compacting the store is amortised over the clauses that died. A
     /// toll is tested once, a tariff charges each ship's slots once, and a line judged by prices
     /// costs a step for each slot of its room's ranges.
     pub fn borrowed_line(mut self, line: &Line) -> Result<Checker<'f>, CheckStop>

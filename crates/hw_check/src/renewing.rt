@@ -18,8 +18,8 @@ use std::alloc::Global;
 /// later line has, and one of its own number if no later line has it. Nothing follows a clause line
 /// without literals.
 ///
-/// The lines are moved, and lost if memory runs out. It costs one pass over them and over their
-/// hints, the sort of each line's hints that it is the last to have, and a mark for each number.
+/// The lines are moved, and lost if memory runs out. Cost: one pass over the lines and their hints,
+/// a bit for each number, and a sort of each line's last-used hints.
 pub fn renewed(alloc: Global, lines: Vec<Line>) -> Result<Vec<Line>, NoMemory>
     requires numbered { renewal.IsNumbered lines.items }
     ensures value { IfOk result (λ made. made.items ≡ renewal.renewed lines.items) }
@@ -29,7 +29,7 @@ pub fn renewed(alloc: Global, lines: Vec<Line>) -> Result<Vec<Line>, NoMemory>
     Ok(made)
 }
 
-/// The same, the last line first.
+/// The renewed lines in reverse order.
 fn renewed_backwards(alloc: Global, mut lines: Vec<Line>) -> Result<Vec<Line>, NoMemory>
     requires numbered { renewal.IsNumbered lines.items }
     ensures value { IfOk result (λ made. made.items ≡ reverse (renewal.renewed lines.items)) }

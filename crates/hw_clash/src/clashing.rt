@@ -28,8 +28,8 @@ pub enum Clashed {
         table: Timetable,
         proof: MemoryLog,
     },
-    /// The budget was spent in this step, and this is the step's certificate. A step after the
-    /// first one is spent only where nothing is permitted.
+    /// The budget was spent in this step, and this is the step's certificate. From the second step
+    /// on the problem is known to be infeasible.
     Spent {
         step: u32,
         proof: MemoryLog,

@@ -67,7 +67,7 @@ pub record FlatBadClash (text plan : Option (List ℕ)) (number : ℕ) (word : L
   pub reads : IfSome text (IsTextOf problem)
   pub bad : IsBadClash plan problem number word
 
--- what a report says of the flat text, of the clash text and of the certificate, each as far as it is told. Apart from out of memory, no two reports hold together where these are told; no other is given
+-- what a report says of the flat text, of the clash text and of the certificate, each as far as it is told. For the same told bytes at most one report but `memory` is right, and nothing else is printed
 abbrev pub ChecksClashTexts : Option (List ℕ) → Option (List ℕ) → Option (List ℕ) → Report → Type 0
 ChecksClashTexts text plan bytes clash_holds = ChecksClash text plan bytes (Shows verdicts.Infeasible)
 ChecksClashTexts text plan bytes (checked v names) = (names ≡ by_number) × (v ≢ verdicts.Infeasible) × ChecksClash text plan bytes (Shows v)

@@ -47,7 +47,7 @@ pub record PortBadClash (instance table plan : Option (List ℕ)) (number : ℕ)
   pub reads : IsPortOf instance table port tide
   pub bad : IsBadClash plan (flattened port tide) number word
 
--- what a report says of the instance, of the table, of the clash text and of the certificate, each where it is told. Apart from out of memory, no two reports hold together where these are told; no other is given
+-- what a report says of the instance, of the table, of the clash text and of the certificate, each where it is told. For the same told bytes at most one report but `memory` is right, and nothing else is printed
 abbrev pub ChecksPortClashTexts : Option (List ℕ) → Option (List ℕ) → Option (List ℕ) → Option (List ℕ) → Option Report → Type 0
 ChecksPortClashTexts instance table plan bytes None = ⊥
 ChecksPortClashTexts instance table plan bytes (Some clash_holds) = ChecksPortClash instance table plan bytes (Shows verdicts.Infeasible)

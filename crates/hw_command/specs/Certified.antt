@@ -20,7 +20,7 @@ use Rattle.hw_progress.specs.Living.{FewLiveThroughout}
 use Rattle.hw_report.specs.declared.report.Head.{Head}
 use Rattle.hw_report.specs.declared.report.Head.TheVariants.{Optimal, Infeasible, Unfinished, Memory}
 
--- what a head says of the problem, whether Proof is told or not: the timetable is a best one; none is permitted; the whole budget was spent, which is no more than the most lemmas that there are to find. Out of memory says nothing
+-- what a head says of the problem, whether Proof is told or not: the timetable is a best one; none is permitted; the budget was used up, and is no larger than the number of lemmas that can exist. `memory` promises nothing
 abbrev pub HeadMeans : Problem → ℕ → ℕ → Head → Option (List ℕ) → Type 0
 HeadMeans f budget most (Optimal c) None = ⊥
 HeadMeans f budget most (Optimal c) (Some table) = IsBest f table c

@@ -8,7 +8,7 @@ use Rattle.hw_port_rules.specs.Permitted.{PortPermits, port_cargo, IsPortBest, N
 use Rattle.hw_report.specs.declared.report.Head.{Head}
 use Rattle.hw_report.specs.declared.report.Head.TheVariants.{Optimal, Infeasible, Unfinished, Memory}
 
--- what a head says of the port, whether Proof is told or not: the timetable is a best one that it permits; it permits none; the whole budget was spent, which is no more than the most lemmas that there are to find. Out of memory says nothing
+-- what a head says of the port, whether Proof is told or not: the timetable is a best one that it permits; it permits none; the budget was used up, and is no larger than the number of lemmas that can exist. `memory` promises nothing
 abbrev pub HeadMeansOfPort : Parts → TideParts → ℕ → ℕ → Head → Option (List ℕ) → Type 0
 HeadMeansOfPort p h budget most (Optimal c) None = ⊥
 HeadMeansOfPort p h budget most (Optimal c) (Some table) = IsPortBest p h table c

@@ -83,7 +83,7 @@ pub record IsBadTable (instance table : Option (List ℕ)) (fault : TideFault) :
   pub is_fault : fault ≢ tide.NoMemory
   pub table_reads : IfSome table (IsTable port (Err fault))
 
--- what a report says of an instance and a table that give no port with its tide, each where it is told. Apart from out of memory, no two reports hold together where these are told; no other is given
+-- what a report says of an instance and a table that give no port with its tide, each where it is told. For the same told bytes at most one report but `memory` is right, and nothing else is printed
 abbrev pub NoPort : Option (List ℕ) → Option (List ℕ) → Report → Type 0
 NoPort instance table bad_json = IfSome instance (IsInstance (Err read.NotJson))
 NoPort instance table (bad_field fault) = IfSome instance (IsInstance (Err (read.Field fault)))

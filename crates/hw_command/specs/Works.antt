@@ -80,7 +80,7 @@ is_common (read_fault feed) = true
 is_common no_memory = true
 is_common r = false
 
--- these inputs, the first ones of a command, give nothing to go on with: the work up to a report, which is no answer, and why, where its cause isn't common to all commands
+-- reading stopped at one of these inputs: what was done until the report, and its cause if the command has one of its own
 pub record Stops (inputs : List Named) (Gives : Feed → Type 0) (Why : Report → Type 0) (old new : DeskState) (r : Report) : Type 0 where
   pub works : Works inputs Gives None old new r
   pub early : speaks r ≢ of_answer

@@ -48,7 +48,7 @@ pub fn open_cert<'f, D: Desk>(
     open_cert_to(alloc, desk, flat, name, Version::Two)
 }
 
-/// Begins a certificate of a version up to this one under its name.
+/// Opens a certificate by name and reads its header. Versions later than this one are refused.
 pub fn open_cert_to<'f, D: Desk>(
     alloc: Global,
     desk: &mut D,

@@ -29,7 +29,7 @@ pub record CrewBreaks (text : Option (List ℕ)) (order : List Branching) (budge
   pub reads : IfSome text (IsTextOf problem)
   pub cut : IsCutShort problem budget (CrewLines problem order) new
 
--- what a report says of the text, where it is told, and of Proof; none is a write fault on Proof. Apart from out of memory, no two reports hold together where these are told; no other is given
+-- what a report says of the text, where it is told, and of Proof; none is a write fault on Proof. For the same told bytes at most one report but `memory` is right, and nothing else is printed
 abbrev pub CrewsText : Option (List ℕ) → List Branching → ℕ → List ℕ → DeskState → DeskState → Option Report → Type 0
 CrewsText text order budget proof old new None = CrewBreaks text order budget new
 CrewsText text order budget proof old new (Some (solved head f names table)) = Crews text order budget proof old new head f names table

@@ -34,7 +34,7 @@ pub record CrewPortBreaks (instance table : Option (List ℕ)) (order : List Bra
   pub reads : IsPortOf instance table port tide
   pub cut : IsCutShort (flattened port tide) budget (CrewLines (flattened port tide) order) new
 
--- what a report says of the instance and of the table, each where it is told, and of Proof; none is a write fault on Proof. Apart from out of memory, no two reports hold together where these are told; no other is given
+-- what a report says of the instance and of the table, each where it is told, and of Proof; none is a write fault on Proof. For the same told bytes at most one report but `memory` is right, and nothing else is printed
 abbrev pub CrewsPortTexts : Option (List ℕ) → Option (List ℕ) → List Branching → ℕ → List ℕ → DeskState → DeskState → Option Report → Type 0
 CrewsPortTexts instance table order budget proof old new None = CrewPortBreaks instance table order budget new
 CrewsPortTexts instance table order budget proof old new (Some (solved head f (by_name p h) plan)) = CrewsPort instance table order budget proof old new head f p h plan

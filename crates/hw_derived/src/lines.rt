@@ -19,8 +19,8 @@ pub fn line_of<W: Copy>(bytes: &[u8], number: u64, word: W) -> Result<(&[u8], &[
     }
 }
 
-/// The bytes after a line that is just this text. For any other line, or none, the fault has this
-/// number and this word. It takes no memory.
+/// Expects exactly this line and returns the bytes after it; otherwise fails at line `number` with
+/// `word`. It takes no memory.
 pub fn only<'b, W: Copy>(
     bytes: &'b [u8],
     number: u64,

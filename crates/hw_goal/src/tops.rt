@@ -19,8 +19,7 @@ pub struct Peak {
     pub value: u64,
 }
 
-/// What is kept of a ship: the range that it was last seen with, the slot there that has the
-/// greatest value, and the greatest value of all its slots.
+/// Cached for a ship: its last range, the best slot in it, and its best value anywhere.
 #[derive(Clone, Copy)]
 pub struct Top {
     pub low: Slot,

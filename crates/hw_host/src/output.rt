@@ -12,8 +12,8 @@ use std::{fs, io};
 /// Whether the numbers of the standard streams are kept from files that are opened later.
 ///
 /// Where a standard stream is closed, the next file that is opened takes its number, and what is meant
-/// for standard output would go there. The three files that are kept open here take those numbers
-/// first. They are the root directory, which is everywhere, and which takes no bytes.
+/// for standard output would go there. So `/` is opened three times first and kept open: it always
+/// exists and can't be written.
 #[derive(Drop)]
 pub enum Output {
     Kept {

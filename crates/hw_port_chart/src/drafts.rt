@@ -103,7 +103,7 @@ pub fn window(chart: &Chart, ship: &Ship, y: u32) -> Sailings
     }
 }
 
-/// Puts with which draft a ship may sail in each slot, by that full draft.
+/// Draws the sailing draft in each slot, relative to the full draft.
 fn put_draft_steps_by<W: Writer>(
     out: &mut W,
     chart: &Chart,

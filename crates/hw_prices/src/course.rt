@@ -8,10 +8,10 @@ pub(crate) const FULL_PACE: i64 = 1_024;
 /// After this many steps without a better total the pace falls.
 const PATIENCE: u32 = 12;
 
-/// A better total counts as progress from this part of the way to the target on.
+/// A gain of less than 1/2000 of the gap to the target doesn't count as progress.
 const PROGRESS: i64 = 2_000;
 
-/// The target is at least this part of the best total below it.
+/// The target stays at least 1/50 below the best total.
 const DISTANCE: i64 = 50;
 
 /// What to do in a room.

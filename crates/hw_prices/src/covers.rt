@@ -1,5 +1,5 @@
-//! Ships of which the fleet can serve only a few together, and which overfill that with the slots
-//! that they chose.
+//! Cover cuts: jobs of which the fleet can serve at most k at once, violated by the slots chosen so
+//! far.
 
 use crate::finds::Finds;
 use crate::separation::{Choices, OVERFILLED};

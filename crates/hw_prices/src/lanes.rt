@@ -71,7 +71,7 @@ impl Lane {
         Ok(())
     }
 
-    /// Takes of no row any more.
+    /// Forgets all rows.
     pub(crate) fn forget_shares(&mut self) {
         self.taken = None;
         for shares in self.shares.iter_mut() {
@@ -92,7 +92,7 @@ impl Lane {
         earned
     }
 
-    /// Whether the ship chose another slot than the one in which it takes.
+    /// Whether the choice changed since its usage was counted.
     pub(crate) fn is_elsewhere(&self) -> bool {
         self.taken != Some(self.chosen)
     }

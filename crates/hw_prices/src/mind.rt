@@ -272,8 +272,8 @@ impl Mind {
         Ok(answer)
     }
 
-    /// What the whole problem carries at most under the prices for the whole room, where that is less
-    /// than it answered before. They are then in force. A last look at them may find better ones.
+    /// A new upper bound on the cargo, if below the last one returned; its prices come into force. If
+    /// `last`, the prices are improved once more first.
     pub(crate) fn bound(
         &mut self,
         alloc: Global,

@@ -108,8 +108,8 @@ impl Pricer {
         }
     }
 
-    /// Drops the rows without a price in the last rooms, this many or more, but for those with a price
-    /// in `kept`. Returns the new place of each row, `u32::MAX` where it was dropped.
+    /// Drops each row unpriced in the last `rooms` rooms, unless `kept` prices it. Returns the new
+    /// place of each row, `u32::MAX` where it was dropped.
     ///
     /// It takes a step for each slot of each row that stays.
     pub(crate) fn drop_idle(
@@ -139,8 +139,8 @@ impl Pricer {
         Ok(places)
     }
 
-    /// Moves the prices so that a room earns less, and leaves the best ones that it met. Gives what
-    /// the room earns under these, with what they give back, in parts.
+    /// Runs the subgradient method in a room. Leaves the best prices met and returns their bound, in
+    /// parts.
     pub(crate) fn improve(&mut self, room: &Room, course: Course) -> Result<i64, NoMemory> {
         self.begin(room)?;
         let mut bout = Bout::new(course);

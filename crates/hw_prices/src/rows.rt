@@ -21,8 +21,7 @@ pub(crate) struct Row {
     pub(crate) idle: u32,
 }
 
-/// Units that a ship takes in some slots, by the places of these among the slots of all ships: from one
-/// on and before another.
+/// Units taken in the slots `from..end`, counted over all ships.
 #[derive(Clone, Copy)]
 pub(crate) struct Part {
     pub(crate) from: u32,

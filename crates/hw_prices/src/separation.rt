@@ -11,7 +11,7 @@ use std::alloc::Global;
 /// A slot counts from this part of the steps on, in hundredths.
 const OFTEN: i64 = 1;
 
-/// A row is overfilled from this part of the steps above its capacity on, in hundredths.
+/// A row counts as violated if its average usage exceeds the capacity by this many hundredths.
 pub(crate) const OVERFILLED: i64 = 2;
 
 /// How often a ship chose a slot.

@@ -28,7 +28,7 @@ pub record ProveBreaks (text : Option (List ℕ)) (budget : ℕ) (new : DeskStat
   pub reads : IfSome text (IsTextOf problem)
   pub cut : IsPricedCutShort problem budget new
 
--- what a report says of the text, where it is told, and of Proof; none is a write fault on Proof. Apart from out of memory, no two reports hold together where these are told; no other is given
+-- what a report says of the text, where it is told, and of Proof; none is a write fault on Proof. For the same told bytes at most one report but `memory` is right, and nothing else is printed
 abbrev pub ProvesText : Option (List ℕ) → ℕ → List ℕ → DeskState → DeskState → Option Report → Type 0
 ProvesText text budget proof old new None = ProveBreaks text budget new
 ProvesText text budget proof old new (Some (proved head f names table bound)) = Proves text budget proof old new head f names table bound

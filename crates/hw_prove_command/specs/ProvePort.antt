@@ -35,7 +35,7 @@ pub record ProvePortBreaks (instance table : Option (List ℕ)) (budget : ℕ) (
   pub reads : IsPortOf instance table port tide
   pub cut : IsPricedCutShort (flattened port tide) budget new
 
--- what a report says of the instance and of the table, each where it is told, and of Proof; none is a write fault on Proof. Apart from out of memory, no two reports hold together where these are told; no other is given
+-- what a report says of the instance and of the table, each where it is told, and of Proof; none is a write fault on Proof. For the same told bytes at most one report but `memory` is right, and nothing else is printed
 abbrev pub ProvesPortTexts : Option (List ℕ) → Option (List ℕ) → ℕ → List ℕ → DeskState → DeskState → Option Report → Type 0
 ProvesPortTexts instance table budget proof old new None = ProvePortBreaks instance table budget new
 ProvesPortTexts instance table budget proof old new (Some (proved head f (by_name p h) plan bound)) = ProvesPort instance table budget proof old new head f p h plan bound

@@ -68,7 +68,7 @@ pub record ShowsPlan (text plan bytes : Option (List ℕ)) (v : Verdict) (ships 
   pub by_numbers : names ≡ by_number
   pub checks : ChecksPlan text plan bytes problem (Shows v)
 
--- what a report says of the text, of the plan and of the certificate, each as far as it is told. Apart from out of memory, no two reports hold together where these are told; no other is given
+-- what a report says of the text, of the plan and of the certificate, each as far as it is told. For the same told bytes at most one report but `memory` is right, and nothing else is printed
 abbrev pub RechecksTexts : Option (List ℕ) → Option (List ℕ) → Option (List ℕ) → Report → Type 0
 RechecksTexts text plan bytes (rechecked v ships names) = ShowsPlan text plan bytes v ships names
 RechecksTexts text plan bytes (refused number word hint) = ChecksSomePlan text plan bytes (Wrong number word hint)

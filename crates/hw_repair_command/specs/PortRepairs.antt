@@ -42,7 +42,7 @@ pub record IsPortRepair (p : Parts) (h : TideParts) (f : Problem) (wishes : List
   pub meets : PortPermitsPlan p h wishes table
   pub carries : (c : ℕ) × (port_cargo p h table ≡ Some c) × (cargo f table ≡ Some c)
 
--- what a printed head says of the plan, whether Proof is told or not: the timetable is a best repair; none meets the plan; the whole budget was spent, which is no more than the most lemmas that there are to find. Out of memory says nothing
+-- what a printed head says of the plan, whether Proof is told or not: the timetable is a best repair; none meets the plan; the budget was used up, and is no larger than the number of lemmas that can exist. `memory` promises nothing
 abbrev pub PortRepairMeans : Parts → TideParts → List Wish → ℕ → ℕ → Head → Option (List ℕ) → Type 0
 PortRepairMeans p h wishes budget most (Optimal c) None = ⊥
 PortRepairMeans p h wishes budget most (Optimal c) (Some table) = IsBestPortRepair p h wishes table c

@@ -40,7 +40,7 @@ pub record RepairBreaks (text plan : Option (List ℕ)) (budget : ℕ) (new : De
   pub planned : IsPlanOf plan problem wishes
   pub cut : IsCutShort (repaired problem wishes) budget (SolveLines (repaired problem wishes)) new
 
--- what a report says of the text and of the plan, each where it is told, and of Proof; none is a write fault on Proof. Apart from out of memory, no two reports hold together where these are told; no other is given
+-- what a report says of the text and of the plan, each where it is told, and of Proof; none is a write fault on Proof. For the same told bytes at most one report but `memory` is right, and nothing else is printed
 abbrev pub RepairsTexts : Option (List ℕ) → Option (List ℕ) → ℕ → List ℕ → DeskState → DeskState → Option Report → Type 0
 RepairsTexts text plan budget proof old new None = RepairBreaks text plan budget new
 RepairsTexts text plan budget proof old new (Some (repaired_report head f names table count)) = Repairs text plan budget proof old new head f names table count

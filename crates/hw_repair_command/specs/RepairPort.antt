@@ -47,7 +47,7 @@ pub record RepairPortBreaks (instance table plan : Option (List ℕ)) (budget : 
   pub planned : IsPlanOf plan (flattened port tide) wishes
   pub cut : IsCutShort (port_repaired port tide wishes) budget (SolveLines (port_repaired port tide wishes)) new
 
--- what a report says of the instance, of the table and of the plan, each where it is told, and of Proof; none is a write fault on Proof. Apart from out of memory, no two reports hold together where these are told; no other is given
+-- what a report says of the instance, of the table and of the plan, each where it is told, and of Proof; none is a write fault on Proof. For the same told bytes at most one report but `memory` is right, and nothing else is printed
 abbrev pub RepairsPortTexts : Option (List ℕ) → Option (List ℕ) → Option (List ℕ) → ℕ → List ℕ → DeskState → DeskState → Option Report → Type 0
 RepairsPortTexts instance table plan budget proof old new None = RepairPortBreaks instance table plan budget new
 RepairsPortTexts instance table plan budget proof old new (Some (repaired_report head f (by_name p h) slots count)) = RepairsPort instance table plan budget proof old new head f p h slots count

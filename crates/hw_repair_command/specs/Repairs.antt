@@ -18,7 +18,7 @@ searched_head ships count Infeasible = Infeasible
 searched_head ships count (Unfinished budget) = Unfinished budget
 searched_head ships count Memory = Memory
 
--- what a printed head says of the plan, whether Proof is told or not: the timetable is a best repair; none meets the plan; the whole budget was spent, which is no more than the most lemmas that there are to find. Out of memory says nothing
+-- what a printed head says of the plan, whether Proof is told or not: the timetable is a best repair; none meets the plan; the budget was used up, and is no larger than the number of lemmas that can exist. `memory` promises nothing
 abbrev pub RepairMeans : Problem → List Wish → ℕ → ℕ → Head → Option (List ℕ) → Type 0
 RepairMeans f wishes budget most (Optimal c) None = ⊥
 RepairMeans f wishes budget most (Optimal c) (Some table) = IsBestRepair f wishes table c

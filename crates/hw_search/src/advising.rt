@@ -17,8 +17,7 @@ use hw_progress::{Settled, Turn};
 use hw_prop::Propagator;
 use hw_store::Store;
 
-/// No adviser is asked any more once clauses of prices have implied this many literals, so that each line
-/// of the certificate has a number.
+/// After this many clauses of prices the adviser is no longer asked, so line numbers stay below 2^32.
 const MOST_PRICED: u32 = 1_000_000_000;
 
 impl<'f, S: Store + Drop, P: Propagator + Drop> Engine<'f, S, P> {

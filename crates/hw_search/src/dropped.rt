@@ -86,7 +86,7 @@ fn is_among(numbers: &[u32], number: u32) -> bool
     false
 }
 
-// Whether a number is kept; `met` is false where it is no earlier one.
+// Whether a line is still needed. If `met` is false no earlier event names it, so the scan is skipped.
 fn is_kept<S: Store>(store: &S, earlier: &[u32], met: bool, number: u32) -> bool
     requires apart { MatchBool met ⊤ (Contains earlier.now number → ⊥) }
     ensures value { result ≡ is_kept (S.clauses store.now) earlier.now number }

@@ -145,8 +145,8 @@ impl<'f, S: Store + Drop, P: Propagator + Drop> Engine<'f, S, P> {
         }
     }
 
-    /// Declares the tolls of advice, puts its tariff in force, and takes the literal that its clause
-    /// has left, or tells that it has none.
+    /// Declares the tolls of advice, puts its tariff in force, and implies the clause's last free
+    /// literal, or returns the clause as a conflict.
     pub fn heed<L: Log>(&mut self, advice: Advice, log: &mut L) -> Result<Asked, LogStop>
         requires advice { IsAdviceFor self.old.search advice }
         requires going { self.old.search.over ≡ false }

@@ -7,8 +7,8 @@ use hw_model::NoMemory;
 use std::alloc::Global;
 use std::marker::Model;
 
-/// The numbers of the clause lines that a search wrote. Its calls write the lines of a lemma, each in
-/// a file of its own: the reasons and the conflict that are named, the lemma, the deletion after it.
+/// The numbers of the clause lines that a search wrote. Its methods write what surrounds a lemma:
+/// reasons and conflict (naming.rt), the lemma (writing.rt), deletions (going_back.rt).
 /// The numbers of the stored lemmas are the store's.
 ///
 /// No reason stands under a number that wasn't given. There is memory for the events of a whole

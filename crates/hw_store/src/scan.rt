@@ -55,7 +55,8 @@ impl Store for ScanStore {
         Ok(())
     }
 
-    /// It takes no memory, and so always answers.
+    /// Looks at each clause up to the first one that isn't quiet. It takes no memory, and so always
+    /// answers.
     fn step(&mut self, room: &Room) -> Result<Held, NoMemory>
         requires ready { ScanReady self.old room.now }
         ensures same { scan_clauses self.new ≡ scan_clauses self.old }
@@ -67,6 +68,7 @@ impl Store for ScanStore {
         Ok(first_active(&self.held, room))
     }
 
+    // A binary search.
     fn clause(&self, id: u32) -> Option<&Clause> {
         find(&self.held, id)
     }

@@ -175,8 +175,9 @@ impl Store for WatchStore {
         Ok(())
     }
 
-    // It copies the room and looks once at each due clause, up to the first one that isn't quiet. It
-    // allocates only where a watched bucket's list grows.
+    // It copies the room and looks once at each due clause, up to the first one that isn't quiet. Due
+    // are clauses that were added, or of which a watched literal became False, since they were last
+    // seen to be quiet. It allocates only where a watched bucket's list grows.
     fn step(&mut self, room: &Room) -> Result<Held, NoMemory> {
         self.seen.copy_from(room);
         loop {

@@ -85,7 +85,7 @@ pub fn best_balance(flat: &Flat, tolls: &[Toll], tariff: &Tariff, range: Block) 
     most
 }
 
-/// The same by costs, one for each slot of the problem, which are overwritten.
+/// Like `best_balance`, but faster. `costs` is scratch space, one number for each slot of the problem.
 ///
 /// Each due costs one look at its toll's blocks or jobs, and a step for each slot of the range that
 /// they charge.
@@ -205,7 +205,7 @@ pub fn best_balances(flat: &Flat, tolls: &[Toll], tariff: &Tariff, room: &Room) 
     sum
 }
 
-/// The same by costs, one for each slot of the problem, which are overwritten.
+/// Like `best_balances`, but faster. `costs` is scratch space, one number for each slot of the problem.
 ///
 /// Each due costs one look at its toll's blocks or jobs for each ship, and a step for each slot of
 /// the ranges that they charge.

@@ -24,12 +24,11 @@ pub fn is_toll(alloc: Global, flat: &Flat, toll: &Toll) -> Result<bool, NoMemory
     is_toll_by(alloc, flat, &mut RulesByPair::none(alloc), toll)
 }
 
-/// The same by where the problem's rules stand, for many tolls of one problem.
+/// The same by an index of the problem's rules, for many tolls of one problem.
 ///
-/// Where a rule on the very ships of two blocks keeps them apart, none but the rules on these two
-/// ships are asked. Else the rule that was found last among the others is asked, then those on tugs that
-/// may do so, and then all: for blocks that aren't apart that happens once. A room's memory is taken. An
-/// error says that memory ran out.
+/// Asks the rules on the two blocks' ships first, then the rule that last separated a pair, then the
+/// tug rules that could, then all. The last pass happens at most once, for a toll that is refused. A
+/// room's memory is taken. An error says that memory ran out.
 pub fn is_toll_by(
     alloc: Global,
     flat: &Flat,

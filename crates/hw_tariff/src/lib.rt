@@ -1,7 +1,8 @@
 //! Exact tests of tolls and of prices on them.
 //!
-//! They say whether a toll is one of a problem, what a ship takes and pays in a slot, and whether
-//! prices leave a room no more than the best. The parts are public too, each equal to its
+//! They say whether a toll is one of a problem, whether prices leave a room no more than the best, and
+//! what the whole problem carries at most under them. `PriceBook` keeps what a certificate has declared
+//! so far, `InForce` a tariff charged once for many rooms. The parts are public too, each equal to its
 //! definition, for a search that keeps figures.
 #![tactic(auto)]
 

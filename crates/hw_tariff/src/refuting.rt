@@ -40,7 +40,7 @@ pub fn prices_refute(
     falls_short(allowed, aimed, best_balances(flat, tolls, tariff, room))
 }
 
-/// The same by costs, one for each slot of the problem, which are overwritten.
+/// Like `prices_refute`, but faster. `costs` is scratch space, one number for each slot of the problem.
 ///
 /// Each due costs one look at its toll's blocks or jobs for each ship, and a step for each slot of
 /// the ranges that they charge.

@@ -113,8 +113,7 @@ fn clause_text(alloc: Global, line: &Line) -> Result<Option<String>, Fail> {
     }
 }
 
-/// What is compared of lines: the tables that are better than those before, and the clauses. The
-/// numbers by which lines name others aren't the same in a searcher's own log.
+/// Only improving tables and clauses are compared: own logs number lines differently.
 #[derive(Drop)]
 struct Compared {
     best: Option<Timetable>,
