@@ -1,6 +1,6 @@
 //! `chart flat NAME CERT`: the plan that a certificate of a flat text shows.
 
-ghost use Rattle.std.specs.Prelude.{◌∷◌, [], IfSome, option_map};
+ghost use Rattle.std.specs.Prelude.{◌≡◌, ◌∷◌, [], IfSome, None, option_map};
 ghost use Rattle.hw_model.specs.Problem.{IsTimetable};
 ghost use Rattle.hw_desk.specs.State.{IsNew};
 ghost use Rattle.hw_desk.specs.Whole.{SendsText};
@@ -43,7 +43,8 @@ pub fn chart_flat<D: Desk>(alloc: Global, desk: &mut D, name: &str, cert: &str) 
 /// Finds the moves of the timetable, if there is one, and sends the picture.
 fn draw<D: Desk>(alloc: Global, desk: &mut D, flat: &Flat, shown: Shown) -> Status
     requires listed { IfSome shown.table (IsTimetable flat.now) }
-    ensures { EndsUnlessMemory (flat_report flat.now shown.table shown.outcome) (D.state desk.old) (D.state desk.new) result }
+    ensures ends { EndsUnlessMemory (flat_report flat.now shown.table shown.outcome) (D.state desk.old) (D.state desk.new) result }
+    ensures without { shown.table ≡ None → Ends (flat_report flat.now None shown.outcome ∷ []) (D.state desk.old) (D.state desk.new) result }
 {
     let Shown { outcome, table } = shown;
     match table {

@@ -1,6 +1,6 @@
 //! `chart port INSTANCE TIDES CERT`: the plan that a certificate of a port shows.
 
-ghost use Rattle.std.specs.Prelude.{◌≡◌, ◌∷◌, [], IfSome, length, option_map};
+ghost use Rattle.std.specs.Prelude.{◌≡◌, ◌∷◌, [], IfSome, None, length, option_map};
 ghost use Rattle.hw_model.specs.Problem.{IsTimetable};
 ghost use Rattle.hw_port_rules.specs.Flattened.{flattened};
 ghost use Rattle.hw_desk.specs.State.{IsNew};
@@ -45,7 +45,8 @@ fn draw<D: Desk>(alloc: Global, desk: &mut D, problem: &PortProblem, shown: Show
     requires columns { problem.now.tide.columns ≡ length problem.now.port.waypoints }
     requires flat { problem.now.flat ≡ flattened problem.now.port problem.now.tide }
     requires listed { IfSome shown.table (IsTimetable problem.now.flat) }
-    ensures { EndsUnlessMemory (port_report problem.now shown.table shown.outcome) (D.state desk.old) (D.state desk.new) result }
+    ensures ends { EndsUnlessMemory (port_report problem.now shown.table shown.outcome) (D.state desk.old) (D.state desk.new) result }
+    ensures without { shown.table ≡ None → Ends (port_report problem.now None shown.outcome ∷ []) (D.state desk.old) (D.state desk.new) result }
 {
     let Shown { outcome, table } = shown;
     match table {

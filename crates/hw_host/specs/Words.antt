@@ -1,5 +1,5 @@
 -- What the program does with its command line.
-use Rattle.std.specs.Prelude.{◌≡◌, ℕ, List, [], Result, Ok, Err, Option, Some, None, IfErr, IfOk, IsErr, MatchResult, codes, drop, map, String, string_bytes, Vec}
+use Rattle.std.specs.Prelude.{◌≡◌, ◌≢◌, ℕ, List, [], Result, Ok, Err, Option, Some, None, IfErr, IfOk, IsErr, IsOk, MatchResult, codes, drop, map, String, string_bytes, Vec}
 use Rattle.std.specs.IoError.{error_kind}
 use Rattle.std.specs.Vec.Iter.{into_iter_items}
 use Rattle.std.specs.declared.alloc.AllocError.{AllocError}
@@ -18,10 +18,11 @@ use Rattle.hw_command.specs.declared.status.Status.TheVariants.{Optimal, NoMemor
 use Rattle.hw_host.specs.Info.{info_of, info_text}
 use Rattle.hw_host.specs.declared.info.Info.{Info}
 
--- the words after the program's name; none where the command line is no text; if memory ran out for the command line, it ran out for them
+-- the words after the program's name; none where the command line is no text, for which no memory is taken; if memory ran out for the command line, it ran out for them
 pub record AreWordsOf (args : Result (IntoIter (String Global) Global) Error) (words : Result (Vec (String Global) Global) AllocError) : Type 0 where
   pub text : IfOk words (λ some. MatchResult args (λ all. some.items ≡ drop 1 (into_iter_items all)) (λ _. some.items ≡ []))
   pub memory : IfErr args (λ e. error_kind e ≡ OutOfMemory → IsErr words)
+  pub no_text : IfErr args (λ e. error_kind e ≢ OutOfMemory → IsOk words)
 
 -- the status after a text was sent whole, or not all of it
 abbrev pub sent_status : Status → Result Unit DeskFailed → Status

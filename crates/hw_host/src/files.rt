@@ -2,7 +2,7 @@
 
 ghost use Rattle.std.specs.Prelude.{◌≡◌, ◌≤◌, ◌<◌, ◌↔◌, length, true, IfOk, IsOk, IsErr, IsTrue, OnErr, OnOk, MatchResult};
 ghost use Rattle.hw_desk.specs.State.{Rose};
-ghost use Rattle.hw_host.specs.Opened.{IsApart, IsFeed, IsOpenAs, was_opened};
+ghost use Rattle.hw_host.specs.Opened.{IsApart, IsFeed, IsOpen, IsOpenAs, was_opened};
 
 use hw_desk::{DeskFailed, Feeds};
 use std::fs::{File, Metadata, OpenOptions};
@@ -37,7 +37,7 @@ impl HostFile {
     }
 }
 
-fn id_of(metadata: &Metadata) -> FileId {
+pub fn id_of(metadata: &Metadata) -> FileId {
     FileId {
         device: metadata.dev(),
         inode: metadata.ino(),
@@ -58,18 +58,24 @@ fn is_feed(feeds: &Feeds<HostFile>, id: FileId) -> bool
 
 /// Opens a file to be read.
 fn open_file(rt: &HostRuntime, name: &str) -> io::Result<HostFile>
-    ensures { IfOk result (λ opened. was_opened opened ≡ true) }
+    ensures { IfOk result IsOpen }
 {
     let file = fs::open(rt, name)?;
     let id = id_of(&file.metadata()?);
     Ok(HostFile::Open { file, id })
 }
 
-/// Makes a file for writing, or empties the one that is there. A file that a feed is read from is left
-/// as it is, and that is an error: no file is emptied before it is known to be another one.
-fn make_file(rt: &HostRuntime, feeds: &Feeds<HostFile>, name: &str) -> io::Result<HostFile>
-    ensures made { IfOk result (λ made. was_opened made ≡ true) }
-    ensures apart { IfOk result (λ made. IsApart feeds.now made) }
+/// Makes a file for writing, or empties the one that is there. A file that a feed is read from, or that
+/// standard output goes to, is left as it is, and that is an error: no file is emptied before it is known
+/// to be another one.
+fn make_file(
+    rt: &HostRuntime,
+    feeds: &Feeds<HostFile>,
+    output: Option<FileId>,
+    name: &str,
+) -> io::Result<HostFile>
+    ensures made { IfOk result IsOpen }
+    ensures apart { IfOk result (λ made. IsApart feeds.now output made) }
 {
     let file = OpenOptions::new()
         .write(true)
@@ -78,7 +84,7 @@ fn make_file(rt: &HostRuntime, feeds: &Feeds<HostFile>, name: &str) -> io::Resul
         .open(rt, name)?;
     let metadata = file.metadata()?;
     let id = id_of(&metadata);
-    if is_feed(feeds, id) {
+    if is_feed(feeds, id) || output == Some(id) {
         return Err(io::Error::from(ErrorKind::PermissionDenied));
     }
     // Pipes and devices hold nothing, and can't be emptied.
@@ -105,6 +111,7 @@ pub fn open_feed(
     faults: &mut u64,
 ) -> Result<(), DeskFailed>
     ensures begun { was_opened feed.new ≡ true }
+    ensures open { OnOk result (IsOpen feed.new) }
     ensures later { faults.old ≤ faults.new }
     ensures cause { OnErr result (Rose faults.old faults.new) }
     ensures kept { OnOk result (faults.new ≡ faults.old) }
@@ -168,21 +175,24 @@ pub fn count_write(answer: io::Result<usize>, faults: &mut u64) -> Result<usize,
     }
 }
 
-/// Makes the file of Proof, which no feed is read from, or counts a fault.
+/// Makes the file of Proof, which no feed is read from and standard output doesn't go to, or counts a
+/// fault.
 pub fn make_proof(
     rt: &HostRuntime,
     feeds: &Feeds<HostFile>,
+    output: Option<FileId>,
     proof: &mut HostFile,
     name: &str,
     faults: &mut u64,
 ) -> Result<(), DeskFailed>
     ensures made { was_opened proof.new ≡ true }
-    ensures apart { IsApart feeds.now proof.new }
+    ensures open { OnOk result (IsOpen proof.new) }
+    ensures apart { IsApart feeds.now output proof.new }
     ensures later { faults.old ≤ faults.new }
     ensures cause { OnErr result (Rose faults.old faults.new) }
     ensures kept { OnOk result (faults.new ≡ faults.old) }
 {
-    match make_file(rt, feeds, name) {
+    match make_file(rt, feeds, output, name) {
         Ok(file) => {
             *proof = file;
             Ok(())

@@ -80,7 +80,14 @@ impl Desk for HostDesk<'_> {
             }
             Tray::Proof => {
                 let faults = &mut self.write_faults;
-                make_proof(rt, &self.feeds, &mut self.proof, name, faults)
+                make_proof(
+                    rt,
+                    &self.feeds,
+                    self.output.file(),
+                    &mut self.proof,
+                    name,
+                    faults,
+                )
             }
         }
     }

@@ -3,7 +3,7 @@
 ghost use Rattle.std.specs.Prelude.{◌≡◌, ◌≤◌, ◌<◌, length, IfOk, OnErr, OnOk};
 ghost use Rattle.hw_desk.specs.State.{Rose};
 
-use crate::files::{count_write, failed};
+use crate::files::{FileId, count_write, failed, id_of};
 use hw_desk::DeskFailed;
 use std::fs::File;
 use std::io::Write;
@@ -20,9 +20,20 @@ pub enum Output {
         first: File,
         second: File,
         third: File,
+        /// The ordinary file that standard output goes to; none where it goes elsewhere, or the system
+        /// doesn't tell.
+        file: Option<FileId>,
     },
     /// One of them couldn't be opened, so nothing is written.
     Lost,
+}
+
+/// Pipes, terminals and devices aren't ordinary files: what is written there is written over nothing.
+fn output_file(rt: &HostRuntime) -> Option<FileId> {
+    match fs::metadata(rt, "/dev/stdout") {
+        Ok(metadata) if metadata.is_file() => Some(id_of(&metadata)),
+        _ => None,
+    }
 }
 
 impl Output {
@@ -32,8 +43,17 @@ impl Output {
                 first,
                 second,
                 third,
+                file: output_file(rt),
             },
             _ => Output::Lost,
+        }
+    }
+
+    /// The ordinary file that standard output goes to, if it goes to one.
+    pub fn file(&self) -> Option<FileId> {
+        match self {
+            Output::Kept { file, .. } => *file,
+            Output::Lost => None,
         }
     }
 

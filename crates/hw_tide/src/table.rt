@@ -1,6 +1,6 @@
 //! A tide table: its header, and the records after it.
 
-ghost use Rattle.std.specs.Prelude.{◌≡◌, ◌≤◌, ◌∷◌, length, map, drop, true, ◌+◌, bytes_eq};
+ghost use Rattle.std.specs.Prelude.{◌≡◌, ◌≢◌, ◌≤◌, ◌∷◌, length, map, drop, true, ◌+◌, bytes_eq, IfErr};
 ghost use Rattle.csv.specs.Records.{fields_of};
 ghost use Rattle.hw_tide.specs.Coming.{IsReading, ReadsComing};
 ghost use Rattle.hw_tide.specs.Table.{Gives, kind_word, wrong_column, header_of, not_empty, table_of};
@@ -65,7 +65,8 @@ fn test_header(
     header: &ByteRecord,
 ) -> Result<(), TideFault>
     requires { length waypoints.now ≤ 16 }
-    ensures { Gives (λ _. true) result (header_of (wrong_column 0 (kind_word kind ∷ map (λ w. w.name) waypoints.now) (drop 0 (fields_of header.now)))) }
+    ensures tests { Gives (λ _. true) result (header_of (wrong_column 0 (kind_word kind ∷ map (λ w. w.name) waypoints.now) (drop 0 (fields_of header.now)))) }
+    ensures told { IfErr result (λ fault. fault ≢ TideFault.NoMemory) }
 {
     match wrong_of(kind, waypoints, header) {
         None => Ok(()),
@@ -74,7 +75,8 @@ fn test_header(
 }
 
 fn some_levels(levels: Vec<Levels>) -> Result<Vec<Levels>, TideFault>
-    ensures { Gives (λ v. v.items) result (not_empty levels.items) }
+    ensures tests { Gives (λ v. v.items) result (not_empty levels.items) }
+    ensures told { IfErr result (λ fault. fault ≢ TideFault.NoMemory) }
 {
     if levels.is_empty() {
         Err(TideFault::Few)
