@@ -61,7 +61,7 @@ pub record IsSpentAt (f : Problem) (budget step : ℕ) (all : List Line) : Type 
   pub unclosed : is_closed all ≡ false
   pub few : budget ≤ room_count f
 
--- what each answer says; memory may run out at any time. No two of the others hold together
+-- what each answer says; memory may run out at any time. A clash and a permitted timetable exclude each other
 abbrev pub ClashMeets : Problem → ℕ → Clashed → Type 0
 ClashMeets f budget (Clash kept drops proof) = IsClashFound f kept.items drops.items proof
 ClashMeets f budget (Met table proof) = IsMet f table proof
