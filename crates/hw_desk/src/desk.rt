@@ -5,7 +5,7 @@ ghost use Rattle.hw_desk.specs.State.{DeskState, IsFresh, IsBounded, CanSend};
 ghost use Rattle.hw_desk.specs.Calls.{Begins, Reads, Makes, Writes};
 
 /// An input of the program.
-#[derive(Clone, Copy, PartialEq, Eq)]
+#[derive(Clone, Copy, Debug, PartialEq, Eq)]
 pub enum Feed {
     /// The flat text of a problem.
     Flat,

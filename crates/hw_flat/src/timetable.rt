@@ -7,7 +7,7 @@ use std::alloc::Global;
 use std::marker::Model;
 
 /// A slot for each ship, seen as the list of the slots.
-#[derive(Drop)]
+#[derive(Debug, Drop)]
 pub struct Timetable {
     slots: Vec<Slot>,
 }

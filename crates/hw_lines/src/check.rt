@@ -1,7 +1,7 @@
 //! Why a line isn't valid, and what valid lines prove.
 
 /// Why a line isn't valid after those before it.
-#[derive(Clone, Copy, PartialEq, Eq)]
+#[derive(Clone, Copy, Debug, PartialEq, Eq)]
 pub enum CheckWord {
     /// An earlier clause line has no literals.
     Ended,
@@ -31,14 +31,14 @@ pub enum CheckWord {
 }
 
 /// The word of a line that isn't valid, with the number that it names.
-#[derive(Clone, Copy, PartialEq, Eq)]
+#[derive(Clone, Copy, Debug, PartialEq, Eq)]
 pub struct Refusal {
     pub word: CheckWord,
     pub hint: Option<u32>,
 }
 
 /// What valid lines prove. Cargo is in tenths of a tonne.
-#[derive(Clone, Copy, PartialEq, Eq)]
+#[derive(Clone, Copy, Debug, PartialEq, Eq)]
 pub enum Verdict {
     /// The last timetable is a best one, with this cargo.
     Optimal(u64),

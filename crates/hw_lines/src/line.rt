@@ -9,7 +9,7 @@ use std::alloc::Global;
 use std::marker::Model;
 
 /// Numbers of clause lines, which count from 1.
-#[derive(Drop)]
+#[derive(Debug, Drop)]
 pub struct Hints {
     pub items: Vec<u32>,
 }
@@ -33,7 +33,7 @@ impl Hints {
 }
 
 /// A price on a toll that an earlier line declares.
-#[derive(Clone, Copy, PartialEq, Eq)]
+#[derive(Clone, Copy, Debug, PartialEq, Eq)]
 pub struct Price {
     /// The toll's number, which counts from 1 in the order of the lines that declare tolls.
     pub toll: u32,
@@ -42,7 +42,7 @@ pub struct Price {
 }
 
 /// Prices on tolls, seen as their list.
-#[derive(Drop)]
+#[derive(Debug, Drop)]
 pub struct Prices {
     pub items: Vec<Price>,
 }
@@ -68,7 +68,7 @@ impl Prices {
 
 /// A line of a certificate. Explanations, orders, goals, lemmas and priced lines are clause lines,
 /// numbered in order; the lines that declare tolls have numbers of their own.
-#[derive(Drop)]
+#[derive(Debug, Drop)]
 pub enum Line {
     /// A permitted timetable with more cargo than the one before.
     Table(Timetable),

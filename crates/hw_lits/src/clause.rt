@@ -15,7 +15,7 @@ use std::marker::Model;
 /// Bounds of ships come first, ascending by ship, then orders, ascending by pair. A ship has at
 /// most one lower bound and one upper one, which leave some slots between them out, and a pair at
 /// most one order. So there are at most 860 literals.
-#[derive(Drop)]
+#[derive(Debug, Drop)]
 pub struct Clause {
     lits: Vec<Lit>,
 }

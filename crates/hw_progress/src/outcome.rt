@@ -54,7 +54,7 @@ pub enum Bounded {
 }
 
 /// How solving ends. `table` is the best timetable found, if there is one.
-#[derive(Drop)]
+#[derive(Debug, Drop)]
 pub enum Solved {
     /// No permitted timetable carries more than `cargo`, in tenths of a tonne.
     Optimal { table: Timetable, cargo: u64 },

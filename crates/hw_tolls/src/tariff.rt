@@ -3,7 +3,7 @@
 use std::marker::Model;
 
 /// A price on a toll.
-#[derive(Clone, Copy, PartialEq, Eq)]
+#[derive(Clone, Copy, Debug, PartialEq, Eq)]
 pub struct Due {
     /// The toll's place in a list, counted from 0.
     pub toll: u32,
@@ -12,7 +12,7 @@ pub struct Due {
 }
 
 /// Dues, seen as their list.
-#[derive(Drop)]
+#[derive(Debug, Drop)]
 pub struct Dues {
     pub items: Vec<Due>,
 }
@@ -27,7 +27,7 @@ impl Model for Dues {
 }
 
 /// Prices on tolls, and the scale of their parts.
-#[derive(Drop)]
+#[derive(Debug, Drop)]
 pub struct Tariff {
     /// How many parts make a tenth of a tonne, at most 1,000,000. With a scale of 0 cargo counts
     /// nothing, and the tolls alone must refute.

@@ -4,7 +4,7 @@ use hw_model::{ShipId, Slot};
 use std::marker::Model;
 
 /// A range of slots of a ship, both ends taken in.
-#[derive(Clone, Copy, PartialEq, Eq)]
+#[derive(Clone, Copy, Debug, PartialEq, Eq)]
 pub struct Block {
     pub ship: ShipId,
     pub low: Slot,
@@ -12,7 +12,7 @@ pub struct Block {
 }
 
 /// Blocks, seen as their list.
-#[derive(Drop)]
+#[derive(Debug, Drop)]
 pub struct Blocks {
     pub items: Vec<Block>,
 }
@@ -27,7 +27,7 @@ impl Model for Blocks {
 }
 
 /// A weight for each job of a rule, seen as their list.
-#[derive(Drop)]
+#[derive(Debug, Drop)]
 pub struct Weights {
     pub items: Vec<u32>,
 }
@@ -41,7 +41,7 @@ impl Model for Weights {
 }
 
 /// A resource of which every permitted timetable takes at most a given amount.
-#[derive(Drop)]
+#[derive(Debug, Drop)]
 pub enum Toll {
     /// At most one ship lies in its block: of each two blocks some rule of the problem refutes that
     /// both ships lie in theirs. There are 1 to 40 blocks, of ascending ships.
