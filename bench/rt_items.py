@@ -8,7 +8,7 @@ GHOST_USE = re.compile(r"\bghost use\b[^;]*;")
 USE = re.compile(r"^\s*(?:pub(?:\(crate\))? )?use\b([^;]*);", re.M)
 ITEM = re.compile(r"^(pub(?:\(crate\))? )?(?:const |unsafe )*(fn|struct|enum|const|trait|static|type|impl|macro_rules!)\b(.*)", re.M)
 METHOD = re.compile(r"^    (pub(?:\(crate\))? )?(?:const )*fn (\w+)", re.M)
-TOKEN = re.compile(r"[A-Za-z_]\w*|::|\S")
+TOKEN = re.compile(r"[A-Za-z_]\w*|::|\.\.=?|\S")
 BOUND = re.compile(r"\b(?:let|for|mut|ref)\s+(?:mut )?(\w+)|\b(\w+)\s*:(?!:)|\|\s*(\w+)\s*\|")
 CONST = re.compile(r"\bpub(?:\(crate\))? const (\w+): (?:u|i)\w+ = ([\d_]+|1 << \d+);")
 NUMBER = re.compile(r"(?<![\w.])\d[\d_]*(?![\w.]|\.\d)")
@@ -69,7 +69,7 @@ class Item:
     def is_called(self, before, owners):
         """Whether a method may be the one that is called behind a dot, or behind a type's name."""
         if before == ".":
-            return "self" in self.text.partition(")")[0]
+            return "self" in self.text.partition(f"fn {self.name}")[2].partition(")")[0]
         return before in (self.owner, "Self") or before not in owners
 
     def spelled(self):
@@ -100,15 +100,16 @@ class Sources:
             elif it.name:
                 by_method.setdefault(it.name, []).append(it)
             else:
-                by_owner.setdefault((it.crate, it.owner), []).append(it)
-        seen, todo = set(), [it for it in self.items if is_start(it)]
+                by_owner.setdefault(it.owner, []).append(it)
+        declared = {it.name for it in self.items if it.owner is None}
+        seen, todo = set(), [it for it in self.items if is_start(it) or it.owner and not it.name and it.owner not in declared]
         while todo:
             it = todo.pop()
             if it in seen:
                 continue
             seen.add(it)
             if it.owner is None:
-                todo += by_owner.get((it.crate, it.name), [])
+                todo += by_owner.get(it.name, [])
             for before, word in it.cited:
                 if before != ".":
                     todo += by_name.get((it.crate, word), [])
