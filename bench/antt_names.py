@@ -5,7 +5,7 @@ is doubtful counts as cited."""
 import re
 
 COMMENT = re.compile(r"--.*")
-USE = re.compile(r"\buse\s+Rattle\.([\w.-]+?)(?:\.\{([^}]*)\}|\.([^\s{};.]*◌[^\s{};]*))?(?:\s+as\s+([^\s;]+))?\s*(?=[;\n]|$)")
+USE = re.compile(r"\buse\s+Rattle\.([\w.-]+?)(?:\.\{([^}]*)\}|\.([^\s{};.]*◌[^\s{};]*))?(?: +as +([^\s;]+))?[ \t]*(?=[;\n]|$)")
 ATTRIBUTE = re.compile(r"\b(\w+)::((?:specs|proofs)(?:::\w+)+)")
 TOKEN = re.compile(r"[^\s(){}\[\];,.\"]+(?:\.[^\s(){}\[\];,.\"]+)*|\[\]")
 SECTION = re.compile(r"(module\b.*where|(abbrev )?mutual)$")
