@@ -1,8 +1,8 @@
 //! Exact tests of tolls and of prices on them.
 //!
-//! They say whether a toll is one of a problem, what a ship takes and pays in a slot, and whether
-//! prices leave a room no more than the best. The parts are public too, each equal to its
-//! definition, for a search that keeps figures.
+//! They say whether a toll is one of a problem, what a ship pays in its slots, and whether prices
+//! leave a room no more than the best. The parts are public too, each equal to its definition, for a
+//! search that keeps figures.
 #![tactic(auto)]
 
 mod balancing;
@@ -18,7 +18,7 @@ mod refuting;
 mod taking;
 mod weighing;
 
-pub use balancing::{balance, best_balance, best_balances, best_charged, better, charged_balances};
+pub use balancing::{best_charged, better, charged_balances};
 pub use by_pair::RulesByPair;
 pub use charging::charge;
 pub use fitting::tariff_fits;
@@ -26,6 +26,6 @@ pub use in_force::InForce;
 pub use judging::{is_toll, is_toll_by};
 pub use laws::charged_stays;
 pub use price_book::PriceBook;
-pub use refuting::{charged_refute, prices_bound, prices_refute};
-pub use taking::{allowance_of, capacity_of, pays, takes};
+pub use refuting::charged_refute;
+pub use taking::{allowance_of, capacity_of};
 pub use weighing::heaviest;
