@@ -1,7 +1,5 @@
 //! Whoever advises a search by prices.
 
-ghost use Rattle.std.specs.Prelude.{◌≡◌, true, None};
-
 use hw_flat::{Flat, Room};
 use hw_lits::Clause;
 use hw_model::{Lit, NoMemory};
@@ -61,33 +59,24 @@ pub struct Bounding {
 /// The search asks it again whenever all is quiet, until it has nothing more to say. Its answers are
 /// right whatever it was asked before. It looks at no clock.
 pub trait Adviser {
-    ghost use Rattle.std.specs.Prelude.{◌≡◌, Bool, true, IfOk, IfSome, Ok, None};
+    ghost use Rattle.std.specs.Prelude.{IfOk, IfSome};
     ghost use Rattle.hw_model.specs.Rooms.{RoomFits};
     ghost use Rattle.hw_advice.specs.Advisers.{IsAdviceIn, IsBoundIn, IsOpenIn, IsScene};
-
-    /// It never says anything.
-    ghost silent: { Self → Bool };
 
     /// A clause that cuts the room, or that has no literal left there; none if there is nothing to say.
     /// An error says that memory ran out.
     fn advise(&mut self, alloc: Global, scene: &Scene<'_>) -> Result<Option<Advice>, NoMemory>
         requires { IsScene scene.now }
-        ensures advice { IfOk result (λ answer. IfSome answer (IsAdviceIn scene.now)) }
-        ensures silence { silent self.old ≡ true → result ≡ Ok None }
-        ensures same { silent self.new ≡ silent self.old };
+        ensures advice { IfOk result (λ answer. IfSome answer (IsAdviceIn scene.now)) };
 
     /// A bound of what any permitted timetable carries; none if it knows none. The room plays no part.
     /// An error says that memory ran out.
     fn bound(&mut self, alloc: Global, scene: &Scene<'_>) -> Result<Option<Bounding>, NoMemory>
         requires { IsScene scene.now }
-        ensures bound { IfOk result (λ answer. IfSome answer (IsBoundIn scene.now)) }
-        ensures silence { silent self.old ≡ true → result ≡ Ok None }
-        ensures same { silent self.new ≡ silent self.old };
+        ensures bound { IfOk result (λ answer. IfSome answer (IsBoundIn scene.now)) };
 
     /// A literal that the room leaves open, by which to decide; none if it prefers none.
     fn prefer(&mut self, scene: &Scene<'_>) -> Option<Lit>
         requires room { RoomFits scene.now.flat.now scene.now.room.now }
-        ensures open { IfSome result (IsOpenIn scene.now.flat.now scene.now.room.now) }
-        ensures silence { silent self.old ≡ true → result ≡ None }
-        ensures same { silent self.new ≡ silent self.old };
+        ensures open { IfSome result (IsOpenIn scene.now.flat.now scene.now.room.now) };
 }

@@ -6,8 +6,6 @@
 
 mod adviser;
 mod no_advice;
-mod pricing;
 
 pub use adviser::{Advice, Adviser, Bounding, Scene, Standing};
 pub use no_advice::NoAdvice;
-pub use pricing::{ByPrices, find_priced};

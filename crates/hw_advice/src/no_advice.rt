@@ -9,10 +9,6 @@ use std::alloc::Global;
 pub struct NoAdvice;
 
 impl Adviser for NoAdvice {
-    ghost use Rattle.std.specs.Prelude.{true};
-
-    ghost silent = { λ _. true };
-
     fn advise(&mut self, _alloc: Global, _scene: &Scene<'_>) -> Result<Option<Advice>, NoMemory> {
         Ok(None)
     }

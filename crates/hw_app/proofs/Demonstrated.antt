@@ -1,5 +1,5 @@
 -- A demonstration that is solved, checked and sent.
-use Rattle.std.proofs.Common.{◌≡◌, ◌<◌, ◌+◌, ◌∙◌, ◌++◌, ◌∷◌, ℕ, List, [], Bool, true, false, Option, Some, None, Ok, Err, length, drop, get_or, drop-cons, add-one, refl, sym, ap, subst, append_assoc, append-nil, arith}
+use Rattle.std.proofs.Common.{◌≡◌, ◌<◌, ◌+◌, ◌∙◌, ◌++◌, ◌∷◌, ℕ, List, [], Bool, true, false, Option, Some, None, Ok, Err, length, drop, get_or, drop-cons, add-one, refl, sym, ap, subst, append_assoc, arith}
 use Rattle.std.specs.Prelude.{IfSome, All}
 use Rattle.hw_model.specs.Problem.{Problem}
 use Rattle.hw_model.specs.Rooms.{room_count}
@@ -37,9 +37,6 @@ use Rattle.hw_command.proofs.Searched.{well, verdict_of, optimal_says, infeasibl
 use Rattle.hw_command.proofs.SentWorks.{made, sent_works, broken_works}
 
 -- ---- what was solved
-
-pub solve_writes : {f : Problem} {budget : ℕ} {answer : Solved} {all : List Line} → SolveMeets f budget (memory_log []) answer (memory_log all) → SolveWrites f budget answer 0 0 all
-solve_writes h = h.writes
 
 -- a log in memory doesn't fail
 pub never_failed : {f : Problem} {budget : ℕ} {answer : Solved} {all : List Line} → SolveMeets f budget (memory_log []) answer (memory_log all) → answer ≡ LogFailed → ⊥
@@ -141,12 +138,6 @@ one_taken {f = f} {all = all} {more = more} {line = line} h cut same follows = r
   valid = (subst (ValidFrom f h.before) cut h.valid).1;
   whole = append_assoc h.before (line ∷ []) more ∙ (ap (λ (ls : List Line). h.before ++ ls) (sym cut) ∙ h.whole);
 }
-
--- all lines were taken
-pub all_taken : {f : Problem} {all left : List Line} {c : CheckState} {v : Verdict} → Checked f all left c → left ≡ [] → ((before : List Line) → Follows c before → v ≡ verdict c.problem before) → v ≡ verdict f all
-all_taken {f = f} {all = all} {c = c} h none tells =
-    let same : h.before ≡ all = sym (append-nil h.before) ∙ (ap (λ (ls : List Line). h.before ++ ls) (sym none) ∙ h.whole) in
-    tells h.before h.follows ∙ (ap (λ (g : Problem). verdict g h.before) h.problem ∙ ap (verdict f) same)
 
 -- ---- the command
 

@@ -12,7 +12,7 @@ use Rattle.hw_model.specs.declared.rule.Rule.TheVariants.{Pair, After, Tugs}
 use Rattle.hw_model.specs.Problem.{Problem, horizon, value_at}
 use Rattle.hw_model.specs.Rules.{held_by, pair_holds}
 use Rattle.hw_model.specs.Timetables.{restriction_holds, holds_at}
-use Rattle.hw_audit.specs.declared.marks.Concern.TheVariants.{Every, Ship, Fleet}
+use Rattle.hw_audit.specs.declared.marks.Concern.TheVariants.{Ship, Fleet}
 use Rattle.hw_audit.specs.Watching.{lessened, lessened_rule}
 use Rattle.hw_audit.specs.Keeping.{TugsComeLast, jobs_of, last_jobs, AreHeld, holds_now, decided, concerns, AreMarks, AreOtherMarks, kept_holds}
 
@@ -58,9 +58,6 @@ no_tugs : (f : Problem) (table : List ℕ) (was withdrawn : ℕ) (rule : Rule) �
 no_tugs f table was withdrawn (Pair v w holes) e = refl
 no_tugs f table was withdrawn (After v w gap) e = refl
 no_tugs f table was withdrawn (Tugs fleet jobs) e = absurd cc
-
-pub others_first : (f : Problem) (table : List ℕ) (withdrawn : ℕ) (holds : List Bool) → length holds ≡ length f.rules → AreOtherMarks f table withdrawn Every holds
-others_first f table withdrawn holds size = record { each_rule = size; told = λ place rule e none. absurd cc }
 
 pub others_moved : (f : Problem) (table : List ℕ) (withdrawn ship slot : ℕ) (holds : List Bool) → AreMarks f table withdrawn holds → AreOtherMarks f (set table ship slot) withdrawn (Ship ship) holds
 others_moved f table withdrawn ship slot holds marks = record {

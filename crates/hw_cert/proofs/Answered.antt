@@ -1,7 +1,7 @@
 -- What a reader answers, by what it took.
 use Rattle.std.proofs.Common.{◌≡◌, ◌≤◌, ◌+◌, ◌^◌, ◌||◌, nat_lt, ℕ, Bool, true, false, List, ◌++◌, length, Option, Some, None, Result, Ok, Err, IsErrOf, refl, sym, ap, ◌∙◌, subst, arith, length-append}
 use Rattle.std.proofs.lemmas.Bool.{ltb-false}
-use Rattle.std.specs.Prelude.{IfSome, IfOk, IsSome, IsSomeAnd, is_some, ⊤, is_none, if◌then◌else◌}
+use Rattle.std.specs.Prelude.{IfSome, IfOk, IsSome, IsSomeAnd, is_some, is_none, if◌then◌else◌}
 use Rattle.std.specs.Io.KnownBytes.{prepend_known}
 use Rattle.hw_desk.specs.State.{DeskState, Rose}
 use Rattle.hw_desk.specs.Calls.{Moves}
@@ -122,16 +122,6 @@ header_taken {line = line} {pending = pending} {x = x} {y = y} r version none le
   kept = λ none. h.kept (λ e. absurd (cc));
 }
 
--- no header, and so no line
-pub header_stops : {x y : DeskState} (r : ReaderModel) (stop : LineStop) → TakesHeader r x y (Err stop) → Takes r x y (Err stop)
-header_stops r stop h = record {
-  moved = (h.moved.0, h.moved.1, h.moved.2);
-  next = h.moved.3;
-  line = tt;
-  fault = λ e. h.fault (err_same stop stops.Fault e);
-  kept = λ none. h.kept (λ e. none (err_same stop stops.Fault e));
-}
-
 found_both : {P Q : List ℕ → Type 0} (o : Option (List ℕ)) → IsSomeAnd o P → IfSome o Q → (x : List ℕ) × P x × Q x
 found_both None p q = absurd p
 found_both (Some x) p q = (x, p, q)
@@ -190,15 +180,6 @@ line_stopped {line = line} {pending = pending} {x = x} {y = y} r version stop na
   kept = λ none. h.kept (λ e. none (err_same stop stops.Fault e));
 }
 
-pub line_ends : {line pending : List ℕ} {x y : DeskState} (r : ReaderModel) (version : Version) → r.at.version ≡ Some version → r.at.taken ≤ 2 ^ 40 → TakesLine r.feed r.at.taken r.pending pending line x y (Ok Nothing) → Takes r x y (Ok nexts.End)
-line_ends {line = line} {pending = pending} {x = x} {y = y} r version named le h = record {
-  moved = (h.moved.0, h.moved.1, h.moved.2);
-  next = told_map (rest_of r x) (λ rest c. at_line r version rest named ∙ ap (line_next r.shape r.at.most version r.at.number r.at.taken) c) (told_cut h le);
-  line = tt;
-  fault = λ e. absurd (cc);
-  kept = λ none. h.kept (λ e. absurd (cc));
-}
-
 pub line_unended : {line pending : List ℕ} {x y : DeskState} (r : ReaderModel) (version : Version) → r.at.version ≡ Some version → r.at.taken ≤ 2 ^ 40 → TakesLine r.feed r.at.taken r.pending pending line x y (Ok Unended) → Takes r x y (Err (stops.Form r.at.number Form))
 line_unended {line = line} {pending = pending} {x = x} {y = y} r version named le h = record {
   moved = (h.moved.0, h.moved.1, h.moved.2);
@@ -225,20 +206,6 @@ line_bad {line = line} {pending = pending} {x = x} {y = y} r version word named 
     is_bad : (rest : List ℕ) (left : Option (List ℕ)) → IsSomeAnd left (λ more. next_line r rest ≡ line_by r.at.number (behind r.at.most version r.at.number r.at.taken line) (parts_of 10 more) (line_read r.shape version line)) → next_line r rest ≡ bad r.at.number word
     is_bad rest None c = absurd c
     is_bad rest (Some more) c = c ∙ ap (line_by r.at.number (behind r.at.most version r.at.number r.at.taken line) (parts_of 10 more)) wrong
-
--- memory ran out for the line
-pub line_unread : {line pending : List ℕ} {x y : DeskState} (r : ReaderModel) → TakesLine r.feed r.at.taken r.pending pending line x y (Ok Whole) → Takes r x y (Err stops.NoMemory)
-line_unread {line = line} {pending = pending} {x = x} {y = y} r h = record {
-  moved = (h.moved.0, h.moved.1, h.moved.2);
-  next = told_map {P = λ _. ⊤} (rest_of r x) (λ rest c. tt) (anything (rest_of r x));
-  line = tt;
-  fault = λ e. absurd (cc);
-  kept = λ none. h.kept (λ e. absurd (cc));
-}
-  where
-    anything : (o : Option (List ℕ)) → IfSome o (λ _. ⊤)
-    anything None = tt
-    anything (Some rest) = tt
 
 within : (taken size : ℕ) → passes taken size 1 ≡ false → taken + size + 1 ≤ 2 ^ 40
 within taken size h = both_off (nat_lt (2 ^ 20) size) (nat_lt (2 ^ 40) (taken + size + 1)) h (λ k. omega (arith, ltb-false (2 ^ 40) (taken + size + 1) k))

@@ -22,7 +22,6 @@ pub mod Formed
 pub mod WholeCerts
 pub mod Wordings
 pub mod Telling
-pub mod Logging
 pub mod FormText
 pub mod SmallNumbers
 pub mod TollLimits

@@ -60,7 +60,3 @@ scanned_part self block read old new at used end view same le few s =
     let short : length (take (end - at) (drop at read)) ≤ end - at = grind (arith, common_steps) in
     let rest : drop used (take (end - at) (drop at read)) ≡ take (end - (at + used)) (drop (at + used) block) = rest_used read at used end (omega arith) ∙ ap (λ (bs : List ℕ). take (end - (at + used)) (drop (at + used) bs)) same in
     (s.0, sym e ∙ s.1 ∙ ap (λ (bs : List ℕ). s.0 ++ 10 ∷ bs) rest, s.2, s.3)
-
--- what was read into the front
-pub front_read : (room size : ℕ) (given block : List ℕ) → length given ≡ room → length block ≡ size → room ≤ size → take room (take size (given ++ drop (length given) block)) ≡ given
-front_read room size given block e s le = grind (arith, common_steps)

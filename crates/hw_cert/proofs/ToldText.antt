@@ -1,23 +1,22 @@
 -- Bytes that tell lines are the text of these lines.
-use Rattle.std.proofs.Common.{◌≡◌, ◌==◌, cond, ℕ, Bool, true, false, List, [], ◌∷◌, ◌++◌, map, Option, Some, None, refl, sym, ap, ◌∙◌, subst, append_assoc, append-nil, inl, inr, arith}
+use Rattle.std.proofs.Common.{◌≡◌, ◌==◌, cond, ℕ, Bool, true, false, List, [], ◌∷◌, ◌++◌, map, Some, None, refl, sym, ap, ◌∙◌, subst, append_assoc, inl, inr, arith}
 use Rattle.std.proofs.lemmas.Bool.{and_parts}
 use Rattle.std.proofs.lemmas.List.Splits.{join_with_byte-slice_split}
 use Rattle.std.proofs.lemmas.Slice.Eq.{bytes_eq-Decides}
-use Rattle.std.specs.Prelude.{bytes_eq, codes, option_and_then, IfSome}
+use Rattle.std.specs.Prelude.{bytes_eq, codes}
 use Rattle.std.specs.List.{list_all, join_with_byte}
 use Rattle.hw_text.specs.Parts.{parts_of, lacks, ended_lines}
 use Rattle.hw_text.proofs.Joins.{parts_lack}
 use Rattle.hw_lines.specs.declared.line.Line.{Line}
 use Rattle.hw_lines.specs.declared.line.Line.TheVariants.{Table, Delete, Narrows}
-use Rattle.hw_cert.specs.declared.version.Version.{Version}
 use Rattle.hw_cert.specs.declared.version.Version.TheVariants.{Two, Three}
-use Rattle.hw_cert.specs.Texts.{line_text, header_text, cert_text}
+use Rattle.hw_cert.specs.Texts.{line_text, header_text}
 use Rattle.hw_cert.specs.Spelled.{spelled}
 use Rattle.hw_cert.specs.Logs.{LogTold}
-use Rattle.hw_cert.specs.Told.{header_of, behind_text, line_told, parts_told, lines_told, told_under, is_told_under, IsTextUnder, TextTold, EachTextTold}
+use Rattle.hw_cert.specs.Told.{header_of, behind_text, line_told, parts_told, lines_told, TextTold, EachTextTold}
 use Rattle.hw_cert.proofs.FormText.{form_read}
 use Rattle.hw_cert.proofs.ReadBack.{chained, chosen}
-use Rattle.hw_cert.proofs.Telling.{with_both, some_told}
+use Rattle.hw_cert.proofs.Telling.{with_both}
 
 -- a part that tells a line is its text
 told_back : (part : List ℕ) (line : Line) → line_told part ≡ Some line → part ≡ line_text line
@@ -78,14 +77,3 @@ each_text_told version bytes told h =
 
 pub text_told : TextTold
 text_told = each_text_told Two
-
--- what holds of the lines told holds of the bytes told
-pub by_lines_told : {P : LogTold → Type 0} {Q : List ℕ → Type 0} (version : Version) (sent : Option (List ℕ)) → is_told_under version sent ≡ true → IfSome (option_and_then (told_under version) sent) P → ((told : LogTold) (bytes : List ℕ) → IsTextUnder version told bytes → P told → Q bytes) → IfSome sent Q
-by_lines_told version None told h k = tt
-by_lines_told {P = P} version (Some bytes) told h k =
-    let t = some_told (told_under version bytes) told in
-    k t.0 bytes (each_text_told version bytes t.0 t.1) (subst (λ (o : Option LogTold). IfSome o P) t.1 h)
-
--- the text of whole lines
-pub whole_text_told : {version : Version} {told : LogTold} {bytes : List ℕ} → IsTextUnder version told bytes → told.behind ≡ [] → bytes ≡ cert_text version told.lines
-whole_text_told {version = version} {told = told} t e = t.text ∙ ap (λ (behind : List ℕ). cert_text version told.lines ++ behind) e ∙ append-nil (cert_text version told.lines)

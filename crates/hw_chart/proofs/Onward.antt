@@ -1,9 +1,8 @@
 -- Marks on an axis, one after another.
-use Rattle.std.proofs.Common.{◌≡◌, ◌≤◌, ◌<◌, ◌+◌, ◌-◌, ◌*◌, ◌++◌, ℕ, suc, [], max, add-one, ap, arith}
+use Rattle.std.proofs.Common.{◌≡◌, ◌≤◌, ◌<◌, ◌+◌, ◌-◌, ◌*◌, ◌++◌, ℕ, suc, [], ap, arith}
 use Rattle.std.specs.Int.{div_ceil}
 use Rattle.std.proofs.Math.Nat.{mul-le-mul_left}
 use Rattle.std.proofs.lemmas.Grind.{div_ceil_times}
-use Rattle.hw_chart.specs.Figures.{greatest_level}
 use Rattle.hw_chart.specs.Grids.{line_path, line_paths, mark, marks}
 use Rattle.hw_chart.specs.declared.grid.Axis.{Axis}
 
@@ -34,6 +33,3 @@ mark_below total step i some lt =
     let more : suc i ≤ div_ceil total step = omega (arith, lt) in
     let wide = mul-le-mul_left step more in
     omega (arith, times, wide)
-
-pub greatest_next : (level : ℕ → ℕ) (end : ℕ) → greatest_level level (end + 1) ≡ max (level end) (greatest_level level end)
-greatest_next level end = ap (greatest_level level) (add-one end)

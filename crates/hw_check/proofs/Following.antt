@@ -1,5 +1,5 @@
 -- What a checker keeps says all that later lines need of those before them.
-use Rattle.std.proofs.Common.{◌≡◌, ℕ, ◌<◌, Bool, true, false, cond, List, [], ◌∷◌, ◌++◌, Option, Some, None, length, Result, Ok, Err, IfOk, IfErr, IfSome, All, refl, sym, ap, ◌∙◌, subst, append_assoc, append-nil}
+use Rattle.std.proofs.Common.{◌≡◌, ℕ, ◌<◌, Bool, true, false, cond, List, [], ◌∷◌, ◌++◌, Option, Some, None, length, Result, Ok, Err, IfOk, IfErr, IfSome, All, sym, ap, ◌∙◌, subst, append_assoc, append-nil}
 use Rattle.std.proofs.lemmas.Bool.{ltb-true}
 use Rattle.std.proofs.lemmas.List.{length-map}
 use Rattle.std.proofs.lemmas.List.Elements.{All-nil, All-cons, All-append}
@@ -26,7 +26,7 @@ use Rattle.hw_verdict.specs.Laws.{IsBound}
 use Rattle.hw_verdict.proofs.Bounded.{bounds}
 use Rattle.hw_verdict.proofs.Priced.{toll_from}
 use Rattle.hw_verdict.proofs.Refused.{can_judge, valid_from}
-use Rattle.hw_check.specs.States.{CheckState, ClauseStore, kept_in, no_lines}
+use Rattle.hw_check.specs.States.{CheckState, ClauseStore, kept_in}
 use Rattle.hw_check.specs.declared.stop.CheckStop.{CheckStop}
 use Rattle.hw_check.specs.declared.stop.CheckStop.TheVariants as stops
 use Rattle.hw_check.specs.Follows.{Follows, Answers, Stops}
@@ -34,9 +34,6 @@ use Rattle.hw_check.specs.Follows.{Follows, Answers, Stops}
 pub valid_push : (f : Problem) (more before : List Line) (line : Line) → ValidFrom f before more → ValidAfter f (before ++ more) line → ValidFrom f before (more ++ line ∷ [])
 valid_push f [] before line valid after = (subst (λ all. ValidAfter f all line) (append-nil before) after, tt)
 valid_push f (first ∷ more) before line valid after = (valid.0, valid_push f more (before ++ first ∷ []) line valid.1 (subst (λ all. ValidAfter f all line) (sym (append_assoc before (first ∷ []) more)) after))
-
-pub follows_none : (f : Problem) → Follows (no_lines f) []
-follows_none f = record { fit = All-nil (LineFits f); valid = tt; kept = refl }
 
 -- a line that has a number and follows no end is refused by its own claim alone
 pub claimed : (f : Problem) (kept : Kept) (line : Line) → kept.closed ≡ false → is_past kept.next (clause_of line) ≡ false → kept_refusal f kept line ≡ claim_refusal f kept line

@@ -1,5 +1,5 @@
 -- How certificates are renewed from the last line back.
-use Rattle.std.proofs.Common.{◌≡◌, ℕ, ◌+◌, ◌<◌, ◌≤◌, Bool, true, false, ◌||◌, ◌&&◌, not, List, [], ◌∷◌, ◌++◌, reverse, Option, Some, None, is_some, length, get_or, take, drop, filter, max, fold, All, refl, sym, ap, ◌∙◌, subst, arith, append_assoc, length-append}
+use Rattle.std.proofs.Common.{◌≡◌, ℕ, ◌+◌, ◌<◌, ◌≤◌, Bool, true, false, ◌&&◌, not, List, [], ◌∷◌, ◌++◌, reverse, Option, Some, None, is_some, length, get_or, take, drop, filter, max, fold, All, refl, sym, ap, ◌∙◌, subst, arith, append_assoc, length-append}
 use Rattle.std.proofs.lemmas.Bool.{and_parts}
 use Rattle.std.proofs.lemmas.List.{take_more, take_all, take-append-drop, take-append-le, reverse-append}
 use Rattle.std.proofs.lemmas.List.Elements.{All-head, All-tail, All-weaker, filter_map-append}
@@ -44,19 +44,6 @@ last_unmarked line later marked kept ids within marks is ascends same = same_asc
         with_false : (b : Bool) → (b && false) ≡ false
         with_false true = refl
         with_false false = refl
-
--- ---- marks
-
-pub marks_more : (line : Line) (later : List Line) (before marked : List Bool) → length marked ≡ length before → Marks before later → ((id : ℕ) → id < length before → get_or marked id false ≡ (get_or before id false || among id (hints_of line))) → Marks marked (line ∷ later)
-marks_more line later before marked long marks more = λ id lt.
-    let within : id < length before = omega (arith, lt, long) in
-    more id within ∙ ap (λ b. b || among id (hints_of line)) (marks id within) ∙ swapped (is_hint_of later id) (among id (hints_of line))
-  where
-    swapped : (a b : Bool) → (a || b) ≡ (b || a)
-    swapped true true = refl
-    swapped true false = refl
-    swapped false true = refl
-    swapped false false = refl
 
 -- ---- clause lines
 

@@ -1,15 +1,15 @@
 -- What the type of a list of clauses keeps, through each change.
-use Rattle.std.proofs.Common.{◌≡◌, ℕ, zero, suc, ◌+◌, ◌-◌, ◌*◌, ◌<◌, ◌≤◌, ◌==◌, ◌||◌, Bool, true, false, not, cond, List, [], ◌∷◌, ◌++◌, Some, None, length, get_or, set, take, drop, map, filter, All, refl, sym, ap, ◌∙◌, arith, length-append, append_assoc, append-nil}
+use Rattle.std.proofs.Common.{◌≡◌, ℕ, zero, suc, ◌+◌, ◌-◌, ◌<◌, ◌≤◌, ◌==◌, ◌||◌, Bool, true, false, not, cond, List, [], ◌∷◌, ◌++◌, Some, None, length, get_or, set, take, drop, map, filter, All, refl, sym, ap, ◌∙◌, arith, length-append, append_assoc, append-nil}
 use Rattle.std.specs.List.{cons_option, list_any}
 use Rattle.std.proofs.lemmas.List.Folds.{list_any-append}
-use Rattle.std.proofs.lemmas.List.{drop_more, drop_all, take_all, get_or-map, get_or_default, length-map, length-set, map_push, take_more}
+use Rattle.std.proofs.lemmas.List.{drop_more, get_or-map, get_or_default, length-map, length-set, map_push, take_more}
 use Rattle.std.proofs.lemmas.List.Elements.{All-nil, All-cons, All-append, All-set, All-filter, filter_more}
 use Rattle.std.proofs.lemmas.List.Kept.{AllPairs-filter}
 use Rattle.std.proofs.lemmas.List.Quantifiers.{all_pairs_push}
 use Rattle.hw_model.specs.declared.lit.Lit.{Lit}
 use Rattle.hw_lines.specs.Kept.{NumberedClause, without}
 use Rattle.hw_check.specs.declared.place.Place.{Place}
-use Rattle.hw_check.specs.States.{ClauseStore, IsBounded, literals, needed}
+use Rattle.hw_check.specs.States.{ClauseStore, IsBounded, literals}
 use Rattle.hw_check.specs.Places.{lits_at, clauses_at, new_place, PlaceFits, Ascends, StandsAt, IsStored, Gathers}
 use Rattle.hw_check.proofs.Places.{clauses_few, pushed_at, literals_push, one_less, literals_less, removed_at, IsRead}
 
@@ -30,19 +30,6 @@ given_same : (xs ys : List Place) (count : ℕ) → map (λ place. place.id) xs 
 given_same xs ys count e all = λ k d lt.
     let size : length xs ≡ length ys = same_length xs ys e in
     omega (arith, same_number xs ys k d e lt (omega (arith, size, lt)), all k d (omega (arith, size, lt)))
-
--- ---- no clauses
-
-pub stored_none : IsStored [] [] 0 0 0
-stored_none = record {
-  fit = All-nil (PlaceFits 0);
-  ascend = λ i j d lt within. absurd (omega (arith, within));
-  given = All-nil (λ (place : Place). place.id ≤ 0);
-  few = omega arith;
-  counted = refl;
-  weighed = refl;
-  among = omega arith;
-}
 
 -- ---- one more
 
@@ -100,9 +87,6 @@ pub record IsGathering (lits : List Lit) (places : List Place) (new_lits : List 
   pub no_other : length new_places ≡ length (clauses_at new_lits new_places)
   pub no_more : length new_lits ≡ literals (clauses_at new_lits new_places)
 
-pub gathering_none : (lits : List Lit) (places : List Place) → IsGathering lits places [] [] 0
-gathering_none lits places = record { same = refl; numbers = refl; fit = All-nil (PlaceFits 0); no_other = refl; no_more = refl }
-
 -- a dead place is passed over
 pub gathering_dead : (lits : List Lit) (places : List Place) (new_lits : List Lit) (new_places : List Place) (i : ℕ) (d : Place) → i < length places → (get_or places i d).is_live ≡ false → IsGathering lits places new_lits new_places i → IsGathering lits places new_lits new_places (i + 1)
 gathering_dead lits places new_lits new_places i d lt is_dead is = record {
@@ -129,17 +113,6 @@ gathering_live lits places new_lits new_places i d lt live is =
       no_more = size ∙ ap (λ n. n + length part) is.no_more ∙ sym (ap literals added ∙ literals_push (clauses_at new_lits new_places) p.id part);
     }
 
-pub gathering_all : (lits : List Lit) (places : List Place) (new_lits : List Lit) (new_places : List Place) (i : ℕ) → length places ≤ i → IsGathering lits places new_lits new_places i → Gathers lits places new_lits new_places
-gathering_all lits places new_lits new_places i le is =
-    let same : clauses_at new_lits new_places ≡ clauses_at lits places = sym (append-nil (clauses_at new_lits new_places)) ∙ sym (ap (λ ps. clauses_at new_lits new_places ++ clauses_at lits ps) (drop_all i places le)) ∙ is.same in
-    record {
-      same = same;
-      numbers = is.numbers ∙ ap (λ ps. map (λ (place : Place). place.id) (filter (λ (place : Place). place.is_live) ps)) (take_all i places le);
-      fit = is.fit;
-      no_other = is.no_other ∙ ap length same;
-      no_more = is.no_more ∙ ap literals same;
-    }
-
 pub stored_gathered : (lits : List Lit) (places : List Place) (new_lits : List Lit) (new_places : List Place) (count held live_lits : ℕ) → Gathers lits places new_lits new_places → IsStored lits places count held live_lits → IsStored new_lits new_places count held live_lits
 stored_gathered lits places new_lits new_places count held live_lits all is = record {
   fit = all.fit;
@@ -151,9 +124,6 @@ stored_gathered lits places new_lits new_places count held live_lits all is = re
   among = omega (arith, is.weighed, all.no_more);
 }
 
-pub bounded_gathered : (lits : List Lit) (places : List Place) (new_lits : List Lit) (new_places : List Place) → Gathers lits places new_lits new_places → length new_lits + length new_places ≤ 2 * needed (clauses_at new_lits new_places)
-bounded_gathered lits places new_lits new_places all = omega (arith, all.no_other, all.no_more, ap length all.same, ap literals all.same)
-
 -- ---- the list of clauses as it is seen
 
 -- the live numbers are no more than the numbers given
@@ -163,9 +133,6 @@ held_few lits places count held live_lits is = omega (arith, is.counted, clauses
 -- no more is needed than is kept
 pub needed_few : (lits : List Lit) (places : List Place) (count held live_lits : ℕ) → IsStored lits places count held live_lits → live_lits + held ≤ length lits + length places
 needed_few lits places count held live_lits is = omega (arith, is.counted, clauses_few lits places, is.among)
-
-pub needed_is : (lits : List Lit) (places : List Place) (count held live_lits : ℕ) → IsStored lits places count held live_lits → needed (clauses_at lits places) ≡ live_lits + held
-needed_is lits places count held live_lits is = omega (arith, is.counted, is.weighed)
 
 abbrev pub seen : List Lit → List Place → ℕ → ClauseStore
 seen lits places count = record { live = clauses_at lits places; next = count + 1; kept_lits = length lits; kept_places = length places }

@@ -5,7 +5,6 @@ pub mod Irreducible
 mod Worked
 pub mod Lines
 pub mod Said
-pub mod Asked
 pub mod Reducing
 pub mod Written
 pub mod Spelled

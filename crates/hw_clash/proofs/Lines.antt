@@ -1,31 +1,12 @@
 -- Reading a clash text, one line after the other, as loops do.
-use Rattle.std.proofs.Common.{◌≡◌, ℕ, zero, suc, ◌+◌, ◌-◌, ◌≤◌, ◌<◌, List, [], ◌∷◌, ◌++◌, drop, drop-cons, get_or, length, Option, Some, None, Result, Ok, Err, option_map, is_none, refl, sym, ap, ◌∙◌, append_assoc, arith}
+use Rattle.std.proofs.Common.{◌≡◌, ℕ, zero, suc, ◌+◌, ◌≤◌, ◌<◌, List, [], ◌∷◌, ◌++◌, drop, drop-cons, get_or, length, Result, Ok, Err, refl, sym, ap, ◌∙◌, append_assoc, arith}
 use Rattle.std.proofs.lemmas.List.{append-nil}
-use Rattle.hw_derived.proofs.Listed.{with_front, regroup}
-use Rattle.hw_text.specs.Numbers.{number_from_to}
 use Rattle.hw_model.specs.Problem.{Problem}
-use Rattle.hw_model.specs.Timetables.{breach, first_broken}
 use Rattle.hw_derived.specs.declared.fault.LineFault.{LineFault}
 use Rattle.hw_derived.specs.declared.fault.LineFault.TheVariants as faults
 use Rattle.hw_derived.specs.Reading.{Fault, ◌>>=◌, Fails}
 use Rattle.hw_clash.specs.declared.fault.ClashWord.{ClashWord}
-use Rattle.hw_clash.specs.Text.{ids_from, drop_at, drops_at}
-
--- ---- ids
-
-pub ids_go_on : (front : List ℕ) (least many id : ℕ) (word : List ℕ) (words : List (List ℕ)) (total : Option (List ℕ)) → number_from_to least (many - 1) word ≡ Some id
-    → with_front front (ids_from least many (word ∷ words)) ≡ total → with_front (front ++ id ∷ []) (ids_from (id + 1) many words) ≡ total
-ids_go_on front least many id word words total e so_far =
-    let one : with_front front (ids_from least many (word ∷ words)) ≡ with_front (front ++ id ∷ []) (ids_from (id + 1) many words) = rw e (regroup front id (ids_from (id + 1) many words)) in
-    sym one ∙ so_far
-
-pub ids_fail : (front : List ℕ) (least many : ℕ) (word : List ℕ) (words : List (List ℕ)) (total : Option (List ℕ)) → number_from_to least (many - 1) word ≡ None
-    → with_front front (ids_from least many (word ∷ words)) ≡ total → None ≡ total
-ids_fail front least many word words total e so_far = rw e at so_far
-
-pub ids_done : (front : List ℕ) (least many : ℕ) (words : List (List ℕ)) (total : Option (List ℕ)) → words ≡ [] → with_front front (ids_from least many words) ≡ total → Some front ≡ total
-ids_done front least many words total e so_far =
-    ap (λ (xs : List ℕ). Some xs) (sym (append-nil front)) ∙ (rw e at so_far)
+use Rattle.hw_clash.specs.Text.{drop_at, drops_at}
 
 -- ---- timetables
 
@@ -69,15 +50,6 @@ drops_done f kept front i parts total none so_far =
     sym so_far ∙ one
 
 -- ---- a timetable that is met
-
-pub no_breach : {B : Type 0} (f : Problem) (table : List ℕ) (o : Option B) (g : B → ℕ × Option ℕ) → option_map g o ≡ breach f table → is_none o ≡ is_none (first_broken f table)
-no_breach {B} f table o g e = by_options o (first_broken f table) _ e
-  where
-    by_options : (o : Option B) (p : Option ℕ) (h : ℕ → ℕ × Option ℕ) → option_map g o ≡ option_map h p → is_none o ≡ is_none p
-    by_options None None h e = refl
-    by_options None (Some n) h e = absurd cc
-    by_options (Some b) None h e = absurd cc
-    by_options (Some b) (Some n) h e = refl
 
 pub drop_all : (xs : List ℕ) (i : ℕ) → length xs ≤ i → drop i xs ≡ []
 drop_all [] zero le = refl

@@ -2,7 +2,7 @@
 use Rattle.std.proofs.Common.{◌≡◌, ◌==◌, ℕ, suc, ◌+◌, ◌-◌, ◌<◌, ◌≤◌, Bool, true, not, cond, List, [], ◌∷◌, ◌++◌, Some, All, slice_get, length, refl, sym, ap, subst, ◌∙◌, append_assoc, arith, inl, inr}
 use Rattle.std.proofs.lemmas.Bool.{eq-eqb, ne_eqb, cases_lt}
 use Rattle.std.proofs.lemmas.List.{append-nil, length_push}
-use Rattle.std.proofs.lemmas.List.Elements.{All-nil, All-head, All-tail, All-push, All-weaker, All-from_get_or, All-filter, filter-append}
+use Rattle.std.proofs.lemmas.List.Elements.{All-head, All-tail, All-push, All-weaker, All-from_get_or, All-filter, filter-append}
 use Rattle.std.proofs.lemmas.List.Kept.{IsStrictlyIncreasing-filter}
 use Rattle.std.proofs.lemmas.List.FromFn.{length-range_with_len, get_or-range_with_len}
 use Rattle.std.proofs.lemmas.Option.{same_Some}
@@ -55,16 +55,6 @@ pub record Reducing (f : Problem) (n : ℕ) (kept : List ℕ) (drops : List (Lis
   pub is : kept ≡ front ++ range_with_len n (restriction_count f - n)
   pub each : length drops ≡ length front
   pub met : (place m : ℕ) (table : List ℕ) → slice_get kept place ≡ Some m → slice_get drops place ≡ Some table → Permits (part f (without m kept)) table
-
-pub none_yet : (f : Problem) (kept : List ℕ) → kept ≡ all_numbers f → Reducing f 0 kept []
-none_yet f kept e = record {
-  left = e;
-  front = [];
-  below = All-nil (λ m. m < 0);
-  is = e ∙ ap (range_with_len 0) (let d : restriction_count f ≡ restriction_count f - 0 = omega arith in d);
-  each = refl;
-  met = λ place m table p q. absurd cc;
-}
 
 next_left : (f : Problem) (n : ℕ) (kept : List ℕ) → IsLeft f (suc n) kept → IsLeft f (n + 1) kept
 next_left f n kept h = let e : suc n ≡ n + 1 = omega arith in subst (λ k. IsLeft f k kept) e h
@@ -174,18 +164,6 @@ met_at_once f numbers table all e fits' =
       shown = fits.shown.2 ∙ ap (λ c. Optimal c) (sym nought);
       last = fits.last;
     }
-
-pub spent_at_once : (f : Problem) (numbers : List ℕ) (budget : ℕ) (all : List Line) → numbers ≡ all_numbers f → SpentAt (part f numbers) budget all → IsSpentAt f budget 0 all
-spent_at_once f numbers budget all e spent = record {
-  numbered = omega arith;
-  later = tt;
-  asked = numbers;
-  asks = e;
-  proof = spent.proof;
-  lemmas = spent.lemmas;
-  unclosed = spent.unclosed;
-  few = spent.few;
-}
 
 -- the timetable of a part without a number, by the list that is asked about
 pub fits_without : (f : Problem) (n : ℕ) (kept others : List ℕ) (table : List ℕ) (all : List Line) → others ≡ without n kept → FitsAt (part f others) table all → Permits (part f (without n kept)) table

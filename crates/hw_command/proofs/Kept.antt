@@ -1,5 +1,5 @@
 -- A certificate whose lines are kept.
-use Rattle.std.proofs.Common.{◌≡◌, ◌∙◌, ◌+◌, ◌-◌, ℕ, true, arith, List, [], ◌∷◌, ◌++◌, Option, Some, None, Result, Ok, Err, All, refl, sym, ap, subst, append-nil, append_assoc}
+use Rattle.std.proofs.Common.{◌≡◌, ◌∙◌, ◌+◌, ◌-◌, ℕ, true, arith, List, [], ◌∷◌, ◌++◌, Option, Some, None, Result, Ok, Err, All, refl, sym, ap, subst, append_assoc}
 use Rattle.std.proofs.lemmas.List.Elements.{All-weaker}
 use Rattle.std.specs.Prelude.{IfSome, IsSome, IsSomeAnd, is_none, if◌then◌else◌}
 use Rattle.hw_model.specs.Problem.{Problem, shape_of}
@@ -14,11 +14,11 @@ use Rattle.hw_lines.specs.Valid.{LineFits, Valid}
 use Rattle.hw_lines.specs.Tolled.{is_plain}
 use Rattle.hw_cert.specs.Laws.{has_form}
 use Rattle.hw_cert.proofs.Formed.{plain_forms}
-use Rattle.hw_cert.specs.Nexts.{rest_of, next_line, Behind}
+use Rattle.hw_cert.specs.Nexts.{rest_of, Behind}
 use Rattle.hw_cert.specs.Reader.{ReaderModel}
 use Rattle.hw_cert.specs.declared.version.Version.{Version}
 use Rattle.hw_cert.specs.declared.version.Version.TheVariants.{Two}
-use Rattle.hw_cert.specs.Stream.{Position, start_to, CertLines, ends, stream_of, cert_stream}
+use Rattle.hw_cert.specs.Stream.{Position, start_to, CertLines, stream_of, cert_stream}
 use Rattle.hw_check.specs.Follows.{Follows}
 use Rattle.hw_check.specs.States.{CheckState, no_lines}
 use Rattle.hw_command.specs.Certificates.{cert_outcome}
@@ -45,10 +45,6 @@ line_read_on x y r reader line f before same next =
     let left : CertLines = stream_of (shape_of f) reader.at (parts_of 10 more) in
     ap (before_lines before) (streamed f r rest _ same e)
     ∙ ap (λ (all : List Line). record { lines = all; stop = left.stop }) (sym (append_assoc before (line ∷ []) left.lines)))) next
-
--- nothing comes next
-pub all_read : (r : ReaderModel) (f : Problem) (before : List Line) (known : Option (List ℕ)) → r.shape ≡ shape_of f → IfSome known (λ rest. next_line r rest ≡ ends) → IfSome known (λ rest. rest_read f before r.at rest ≡ whole_lines before)
-all_read r f before known same = told_map known (λ rest e. ap (before_lines before) (streamed f r rest ends same e) ∙ ap whole_lines (append-nil before))
 
 -- what is read to the end of the lines left is what was to be read
 read_back : {A : Type 0} (a c : List ℕ → A) (b : A) (told rest : Option (List ℕ)) → IfSome told (λ x. IsSomeAnd rest (λ y. a x ≡ c y)) → IfSome rest (λ y. c y ≡ b) → IfSome told (λ x. a x ≡ b)

@@ -6,15 +6,6 @@ use Rattle.hw_desk.specs.declared.desk.Feed.{Feed}
 use Rattle.hw_desk.specs.declared.desk.Feed.TheVariants.{Flat, Instance, Tides, Certificate, Plan, Events}
 use Rattle.hw_desk.specs.declared.feeds.Feeds.{Feeds}
 
--- the value put at a feed is found there
-pub place_put : {A : Type 0} (v : Feeds A) (feed : Feed) (x : A) → place (with_place v feed x) feed ≡ x
-place_put v Flat x = refl
-place_put v Instance x = refl
-place_put v Tides x = refl
-place_put v Certificate x = refl
-place_put v Plan x = refl
-place_put v Events x = refl
-
 -- where each value is seen another way, so is the value of a feed
 pub place_map : {A B : Type 0} (g : A → B) (v : Feeds A) (feed : Feed) → place (map_feeds g v) feed ≡ g (place v feed)
 place_map g v Flat = refl

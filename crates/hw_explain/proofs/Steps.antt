@@ -6,11 +6,10 @@ use Rattle.hw_port.specs.declared.parts.Stretch.{Stretch}
 use Rattle.hw_port.specs.Parts.{ShipParts}
 use Rattle.hw_port.specs.Whole.{Parts}
 use Rattle.hw_port_rules.specs.Numbers.{whole}
-use Rattle.hw_flat.specs.TextWritten.{led}
 use Rattle.hw_explain.specs.declared.named.Named.{Named}
 use Rattle.hw_explain.specs.declared.named.Named.TheVariants.{Window}
 use Rattle.hw_explain.specs.Restrictions.{uses, shared_sections, pair_named, named_with, has_tugs, tugs_named}
-use Rattle.hw_explain.specs.Lines.{section_name, slashed, names_text, named_line, named_lines}
+use Rattle.hw_explain.specs.Lines.{section_name, slashed}
 
 -- one more window
 pub more_windows : (front list : List Named) (n : ℕ) → list ≡ front ++ map (λ v. Window v) (range_with_len 0 n) → list ++ Window n ∷ [] ≡ front ++ map (λ v. Window v) (range_with_len 0 (n + 1))
@@ -55,27 +54,7 @@ more_sections p sections front total i lt told =
     ∙ (append_assoc front (codes " / ") (name ++ rest)
     ∙ (ap (λ xs. front ++ xs) (sym (append_assoc (codes " / ") name rest) ∙ sym (ap (λ xs. slashed (map (section_name p) xs)) cut)) ∙ told))
 
--- one more line
-pub more_lines : (p : Parts) (list : List Named) (front total : List ℕ) (i : ℕ) (d : Named) → i < length list → d ≡ get_or list i d → front ++ named_lines p i (drop i list) ≡ total
-    → ((front ++ named_line p i d) ++ 10 ∷ []) ++ named_lines p (i + 1) (drop (i + 1) list) ≡ total
-more_lines p list front total i d lt at told =
-    let cut : drop i list ≡ get_or list i d ∷ drop (i + 1) list = rw add-one (drop-cons list i d lt) in
-    let rest : List ℕ = named_lines p (i + 1) (drop (i + 1) list) in
-    let one : named_lines p i (drop i list) ≡ named_line p i d ++ 10 ∷ rest = ap (named_lines p i) cut ∙ ap (λ x. named_line p i x ++ 10 ∷ rest) (sym at) in
-    append_assoc (front ++ named_line p i d) (10 ∷ []) rest
-    ∙ (append_assoc front (named_line p i d) (10 ∷ rest) ∙ (ap (λ xs. front ++ xs) (sym one) ∙ told))
-
 -- ---- the parts of a line
-
-pub line_put : (out number kind : List ℕ) (numbers names : List (List ℕ)) → ((out ++ number ++ 32 ∷ kind) ++ led numbers) ++ names_text names ≡ out ++ (number ++ 32 ∷ kind ++ led numbers ++ names_text names)
-line_put out number kind numbers names =
-    ap (λ t. (t ++ led numbers) ++ names_text names) (append_assoc out number (32 ∷ kind))
-    ∙ (ap (λ t. t ++ names_text names) (append_assoc out (number ++ 32 ∷ kind) (led numbers)) ∙ append_assoc out (number ++ 32 ∷ kind ++ led numbers) (names_text names))
-
-pub pair_names : (first second : List ℕ) (more : List (List ℕ)) → names_text (first ∷ second ∷ []) ++ slashed more ≡ names_text (first ∷ second ∷ more)
-pair_names first second more =
-    let tail : codes " / " ++ second ++ [] ++ slashed more ≡ codes " / " ++ second ++ slashed more = ap (λ t. t ++ slashed more) (append-nil (codes " / " ++ second)) in
-    append_assoc (codes " " ++ first) (codes " / " ++ second ++ []) (slashed more) ∙ ap (λ t. codes " " ++ first ++ t) tail
 
 -- no ship has tugs
 pub no_tugs : (p : Parts) (front : List Named) → list_any has_tugs p.ships ≡ false → front ≡ front ++ tugs_named p

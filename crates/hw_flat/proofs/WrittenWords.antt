@@ -52,11 +52,6 @@ rows_more out more sailing slots left next values row rest total k first others 
     rw (k, grown, first, others) (sym (line_more out (row_text sailing (take slots values)) (map (row_text sailing) (rows_in next slots (drop slots values))))) in
     sym one ∙ so_far
 
-pub rows_end : (out : List ℕ) (sailing slots left : ℕ) (values : List (Option ℕ)) (total : List ℕ) → left ≡ 0 → out ++ ended_lines (map (row_text sailing) (rows_in left slots values)) ≡ total → out ≡ total
-rows_end out sailing slots left values total k so_far =
-    let one : out ++ ended_lines (map (row_text sailing) (rows_in left slots values)) ≡ out = rw k (append-nil out) in
-    sym one ∙ so_far
-
 -- the whole text
 pub text_put : (out head rows rules : List ℕ) (a b : List ℕ) (rs us : List (List ℕ)) → head ≡ out ++ ended_lines (a ∷ b ∷ []) → rows ≡ head ++ ended_lines rs → rules ≡ rows ++ ended_lines us → rules ++ codes "end\n" ≡ out ++ ended_lines (a ∷ b ∷ (rs ++ us ++ codes "end" ∷ []))
 text_put out head rows rules a b rs us p q r =

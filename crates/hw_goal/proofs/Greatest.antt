@@ -1,5 +1,5 @@
 -- The greatest value of a range: what bounds it, and a slot that has it.
-use Rattle.std.proofs.Common.{◌≡◌, ℕ, zero, suc, ◌+◌, ◌-◌, ◌<◌, ◌≤◌, max, fold, zero-le, sym, ◌∙◌, ap, subst, arith, inl, inr}
+use Rattle.std.proofs.Common.{◌≡◌, ℕ, zero, suc, ◌+◌, ◌-◌, ◌<◌, ◌≤◌, max, fold, zero-le, sym, ◌∙◌, arith, inl, inr}
 use Rattle.std.proofs.lemmas.Bool.{cases_lt}
 use Rattle.std.specs.List.{range_with_len}
 use Rattle.hw_model.specs.Problem.{Problem}
@@ -8,7 +8,7 @@ use Rattle.hw_laws.proofs.Alikes.{values_alike}
 use Rattle.hw_laws.proofs.Sound.{value_le}
 use Rattle.hw_goal.specs.declared.tops.Peak.{Peak}
 use Rattle.hw_goal.specs.declared.tops.Top.{Top}
-use Rattle.hw_goal.specs.Kept.{worth, IsPeak, IsHigher, IsTop}
+use Rattle.hw_goal.specs.Kept.{worth, IsPeak, IsTop}
 
 range_le : (h : ℕ → ℕ) (a n m most : ℕ) → m ≤ most → ((k : ℕ) → a ≤ k → k < a + n → h k ≤ most) → fold (λ best k. max best (h k)) m (range_with_len a n) ≤ most
 range_le h a zero m most le each = le
@@ -41,41 +41,6 @@ peak_is f ship low high peak p =
     let le : greatest_value f ship low high ≤ peak.value = greatest_le f ship low high peak.value p.most in
     let ge : worth f ship peak.slot ≤ greatest_value f ship low high = value_le f ship low high peak.slot p.above p.below in
     omega (arith, le, ge, p.told)
-
--- one more slot below
-pub peak_more : (f : Problem) (ship at high k : ℕ) (here peak new : Peak) → k + 1 ≡ at → IsPeak f ship at high peak → here.slot ≡ k → here.value ≡ worth f ship k → IsHigher here peak new → IsPeak f ship k high new
-peak_more f ship at high k here peak new next p slot value h = elim h [
-  | inl e ↦ subst (IsPeak f ship k high) (sym e.0) (record {
-    above = omega (arith, slot);
-    below = omega (arith, slot, next, p.above, p.below);
-    told = ap (worth f ship) slot ∙ sym value;
-    most = λ s from upto. elim (cases_lt k s) [
-      | inl lt ↦ omega (arith, e.1, p.most s (omega (arith, next, lt)) upto)
-      | inr le ↦ first s (omega (arith, from, le))
-    ];
-  })
-  | inr e ↦ subst (IsPeak f ship k high) (sym e.0) (record {
-    above = omega (arith, next, p.above);
-    below = p.below;
-    told = p.told;
-    most = λ s from upto. elim (cases_lt k s) [
-      | inl lt ↦ p.most s (omega (arith, next, lt)) upto
-      | inr le ↦ omega (arith, e.1, first s (omega (arith, from, le)))
-    ];
-  })
-]
-  where
-    first : (s : ℕ) → s ≡ k → worth f ship s ≤ here.value
-    first s e = let same : worth f ship s ≡ worth f ship k = ap (worth f ship) e in omega (arith, same, value)
-
--- a narrower range that has the peak's slot
-pub peak_narrower : (f : Problem) (ship low high low' high' : ℕ) (peak : Peak) → IsPeak f ship low high peak → low ≤ low' → high' ≤ high → low' ≤ peak.slot → peak.slot ≤ high' → IsPeak f ship low' high' peak
-peak_narrower f ship low high low' high' peak p a b from upto = record {
-  above = from;
-  below = upto;
-  told = p.told;
-  most = λ s over under. p.most s (omega (arith, a, over)) (omega (arith, b, under));
-}
 
 -- what is kept of a ship
 pub top_value : (f : Problem) (ship low high : ℕ) (top : Top) → IsTop f ship top → top.low ≡ low → top.high ≡ high → top.peak.value ≡ greatest_value f ship low high

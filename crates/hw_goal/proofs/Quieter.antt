@@ -1,5 +1,5 @@
 -- Where the goal is quiet, by the kept figures.
-use Rattle.std.proofs.Common.{◌≡◌, ℕ, ◌+◌, ◌<◌, ◌≤◌, Some, None, sym, ap, subst, arith}
+use Rattle.std.proofs.Common.{◌≡◌, ℕ, ◌+◌, ◌<◌, ◌≤◌, Some, sym, ap, subst, arith}
 use Rattle.hw_model.specs.declared.source.Source.TheVariants.{Goal}
 use Rattle.hw_model.specs.Problem.{Problem}
 use Rattle.hw_model.specs.Rooms.{RoomModel, RoomFits, low_of, high_of}
@@ -14,10 +14,6 @@ use Rattle.hw_goal.specs.Kept.{worth, AreKept, SeenIn, top_at}
 use Rattle.hw_goal.specs.Calm.{CalmAt, CutAt}
 use Rattle.hw_goal.proofs.Greatest.{top_value}
 use Rattle.hw_goal.proofs.Sums.{kept_sum}
-
--- without a best the goal is quiet
-pub none_quiet : (f : Problem) (room : RoomModel) → IsQuiet (Refutes f Goal None) room
-none_quiet f room c may h = h
 
 module _ (f : Problem) (figures : Figures) (room : RoomModel) (kept : AreKept f f.ships figures) (fits : RoomFits f room) (seen : SeenIn room f.ships figures) where
   -- the sum with a ship in one slot: less its greatest value, plus the slot's

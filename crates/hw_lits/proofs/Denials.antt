@@ -1,7 +1,6 @@
 -- The room while a normal clause is denied, literal by literal: what the loop of a denial keeps.
-use Rattle.std.proofs.Common.{drop, ◌≡◌, ℕ, ◌+◌, ◌<◌, ◌≤◌, true, List, ◌∷◌, Option, Some, None, length, get_or, refl, sym, ap, ◌∙◌, subst, arith, nat_lt, nat_le}
+use Rattle.std.proofs.Common.{drop, ◌≡◌, ℕ, ◌+◌, ◌<◌, ◌≤◌, true, List, ◌∷◌, Option, Some, None, length, get_or, refl, sym, subst, arith, nat_lt, nat_le}
 use Rattle.std.proofs.lemmas.Bool.{and_parts, ltb-true}
-use Rattle.std.proofs.lemmas.List.{drop_all}
 use Rattle.hw_model.specs.Lits.{IsLitOf, negation, lit_fits, keeps_form, first_bad_from, IsClause}
 use Rattle.hw_flat.specs.Opened.{shape_in, opened}
 use Rattle.hw_lits.specs.Cuts.{LeavesSlots}
@@ -71,6 +70,3 @@ denying_more shape all place room lit d at lt e =
       normal = good.2;
       rest = subst (λ rest. denied_from room rest ≡ denied shape all) split at.rest;
     }
-
-pub denying_ends : (shape : Shape) (all : List Lit) (place : ℕ) (room : RoomModel) → IsDenyingAt shape all place room → length all ≤ place → room ≡ denied shape all
-denying_ends shape all place room d le = sym (ap (denied_from room) (drop_all place all le)) ∙ d.rest

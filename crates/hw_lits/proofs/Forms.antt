@@ -2,12 +2,11 @@
 use Rattle.std.proofs.Common.{◌≡◌, ℕ, ◌+◌, ◌<◌, ◌≤◌, Bool, true, false, cond, not, nat_lt, nat_le, List, [], ◌∷◌, Option, Some, None, length, drop, get_or, refl, sym, ap, ◌∙◌, subst, arith, suc, add-one, All}
 use Rattle.std.proofs.Math.Seq.{drop-cons}
 use Rattle.std.proofs.lemmas.Bool.{and_parts, and_from, ltb-true, lt-ltb}
-use Rattle.std.proofs.lemmas.List.{drop_all}
 use Rattle.std.proofs.lemmas.List.Elements.{All-nil, All-cons}
 use Rattle.hw_model.specs.declared.lit.Lit.{Lit}
 use Rattle.hw_model.specs.declared.lit.Lit.TheVariants as lits
 use Rattle.hw_model.specs.declared.shape.Shape.{Shape}
-use Rattle.hw_model.specs.Lits.{lit_fits, keeps_form, BadLit, out_of_range, not_normal, first_bad_from, first_bad, IsClause, IsLitOf}
+use Rattle.hw_model.specs.Lits.{lit_fits, keeps_form, BadLit, first_bad_from, first_bad, IsClause, IsLitOf}
 use Rattle.hw_laws.proofs.Denials.{lit_of, no_bad}
 use Rattle.hw_lits.proofs.Ranks.{rank_after, FitsBefore, after_small, after_more}
 
@@ -27,25 +26,10 @@ next_of all place lit d lt e = rw add-one (drop-cons all place d lt ∙ ap (λ l
 next : (shape : Shape) (all : List Lit) (place : ℕ) (before : Option Lit) (lit d : Lit) → IsTested shape all place before → place < length all → lit ≡ get_or all place d → first_bad_from shape place before (lit ∷ drop (place + 1) all) ≡ first_bad shape all
 next shape all place before lit d t lt e = subst (λ rest. first_bad_from shape place before rest ≡ first_bad shape all) (next_of all place lit d lt e) t.rest
 
-by_range : (a b : Bool) (x y : BadLit) (z : Option BadLit) → a ≡ false → cond (not a) (Some x) (cond (not b) (Some y) z) ≡ Some x
-by_range false b x y z e = refl
-by_range true b x y z e = absurd cc
-
-by_form : (a b : Bool) (x y : BadLit) (z : Option BadLit) → a ≡ true → b ≡ false → cond (not a) (Some x) (cond (not b) (Some y) z) ≡ Some y
-by_form true false x y z e f = refl
-by_form true true x y z e f = absurd cc
-by_form false b x y z e f = absurd cc
-
 by_rest : (a b : Bool) (x y : BadLit) (z : Option BadLit) → a ≡ true → b ≡ true → cond (not a) (Some x) (cond (not b) (Some y) z) ≡ z
 by_rest true true x y z e f = refl
 by_rest true false x y z e f = absurd cc
 by_rest false b x y z e f = absurd cc
-
-pub out_of_range_at : (shape : Shape) (all : List Lit) (place : ℕ) (before : Option Lit) (lit d : Lit) → IsTested shape all place before → place < length all → lit ≡ get_or all place d → lit_fits shape lit ≡ false → first_bad shape all ≡ Some (out_of_range place)
-out_of_range_at shape all place before lit d t lt e bad = sym (next shape all place before lit d t lt e) ∙ by_range (lit_fits shape lit) (keeps_form before lit) _ _ _ bad
-
-pub not_normal_at : (shape : Shape) (all : List Lit) (place : ℕ) (before : Option Lit) (lit d : Lit) → IsTested shape all place before → place < length all → lit ≡ get_or all place d → lit_fits shape lit ≡ true → keeps_form before lit ≡ false → first_bad shape all ≡ Some (not_normal place)
-not_normal_at shape all place before lit d t lt e fits bad = sym (next shape all place before lit d t lt e) ∙ by_form (lit_fits shape lit) (keeps_form before lit) _ _ _ fits bad
 
 pub tested_more : (shape : Shape) (all : List Lit) (place : ℕ) (before : Option Lit) (lit d : Lit) → shape.ships ≤ 40 → IsTested shape all place before → place < length all → lit ≡ get_or all place d → lit_fits shape lit ≡ true → keeps_form before lit ≡ true → IsTested shape all (place + 1) (Some lit)
 tested_more shape all place before lit d few t lt e fits keeps = record {
@@ -53,9 +37,6 @@ tested_more shape all place before lit d few t lt e fits keeps = record {
   few = omega (arith, t.few, after_more shape before lit few t.fits fits keeps);
   fits = fits;
 }
-
-pub tested_all : (shape : Shape) (all : List Lit) (place : ℕ) (before : Option Lit) → IsTested shape all place before → length all ≤ place → IsClause shape all
-tested_all shape all place before t le = sym t.rest ∙ ap (first_bad_from shape place before) (drop_all place all le)
 
 -- ---- wider shapes
 

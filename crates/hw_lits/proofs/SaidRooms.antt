@@ -1,8 +1,7 @@
 -- The literals that a room says, side by side, deny just the room.
-use Rattle.std.proofs.Common.{◌≡◌, ◌≢◌, ◌⊎◌, ℕ, ◌+◌, ◌-◌, ◌*◌, ◌<◌, ◌≤◌, min, max, Bool, true, false, not, cond, ◌==◌, ◌&&◌, nat_lt, nat_le, List, [], ◌∷◌, ◌++◌, Option, Some, None, All, length, get_or, replicate, refl, sym, ap, ◌∙◌, subst, arith, inl, inr}
+use Rattle.std.proofs.Common.{◌≡◌, ◌≢◌, ◌⊎◌, ℕ, ◌+◌, ◌-◌, ◌<◌, ◌≤◌, min, max, Bool, true, false, not, cond, ◌==◌, ◌&&◌, nat_lt, nat_le, List, [], ◌∷◌, ◌++◌, Option, Some, None, All, length, get_or, refl, sym, ap, ◌∙◌, subst, arith, inl, inr}
 use Rattle.std.proofs.lemmas.Bool.{and_from, or_left, or_right, ltb-true, ltb-false, lt-ltb, le-leb, eqb-true, cases_Bool, cases_eq, cases_lt}
-use Rattle.std.proofs.lemmas.List.{get_or-replicate, get_or_past, length-replicate}
-use Rattle.std.proofs.lemmas.List.Elements.{All-nil, All-push, All-weaker, All-head, All-tail, All-get_or, All-from_get_or}
+use Rattle.std.proofs.lemmas.List.Elements.{All-push, All-weaker, All-head, All-tail, All-get_or, All-from_get_or}
 use Rattle.hw_model.specs.declared.lit.Lit.{Lit}
 use Rattle.hw_model.specs.declared.lit.Lit.TheVariants as lits
 use Rattle.hw_model.specs.declared.order.Order.{Order}
@@ -11,11 +10,11 @@ use Rattle.hw_model.specs.declared.shape.Shape.{Shape}
 use Rattle.hw_model.specs.Lits.{negation, lit_fits, place_of, is_earlier, leaves_some, may_follow, keeps_form, BadLit, first_bad_from, IsClause}
 use Rattle.hw_model.specs.Rooms.{RoomModel, IsRoom, low_of, high_of, order_of, whole_room}
 use Rattle.hw_model.specs.Narrowing.{cut, with_range, with_order, denied_from, denied}
-use Rattle.hw_model.proofs.Kept.{whole_no_pair, with_order_no_pair}
+use Rattle.hw_model.proofs.Kept.{with_order_no_pair}
 use Rattle.hw_flat.specs.Opened.{shape_in}
 use Rattle.hw_laws.proofs.Bounds.{low_new, high_new, low_other, high_other}
 use Rattle.hw_laws.proofs.Cuts.{full_cut, same_ships}
-use Rattle.hw_laws.proofs.Denials.{no_bad, whole_full}
+use Rattle.hw_laws.proofs.Denials.{no_bad}
 use Rattle.hw_laws.proofs.Places.{from_earlier, earlier_trans}
 use Rattle.hw_laws.proofs.Ranges.{IsFull, new_order, other_order, cases_pair}
 use Rattle.hw_laws.proofs.Same.{same_room}
@@ -117,39 +116,6 @@ pub record Said (room : RoomModel) (highs lows v w : ℕ) (place : ℕ × ℕ ×
   pub high : Ends high_of (room.slots - 1) room left highs
   pub low : Ends low_of 0 room left lows
   pub pairs : Pairs room left v w
-
-whole_bound : (shape : Shape) (ship : ℕ) → ship < shape.ships → (low_of (whole_room shape) ship ≡ 0) × (high_of (whole_room shape) ship ≡ shape.slots - 1)
-whole_bound shape ship lt =
-    let range : ℕ × ℕ = (0, shape.slots - 1) in
-    let e : get_or (replicate shape.ships range) ship (0, 0) ≡ range = get_or-replicate shape.ships ship range (0, 0) lt in
-    (ap (λ (p : ℕ × ℕ). p.0) e, ap (λ (p : ℕ × ℕ). p.1) e)
-
-whole_unset : (shape : Shape) (v w : ℕ) → order_of (whole_room shape) v w ≡ Unset
-whole_unset shape v w = elim (cases_lt (v * shape.ships + w) (shape.ships * shape.ships)) [
-  | inl lt ↦ get_or-replicate (shape.ships * shape.ships) (v * shape.ships + w) Unset Unset lt
-  | inr past ↦ get_or_past (replicate (shape.ships * shape.ships) Unset) (v * shape.ships + w) Unset (omega (arith, past, length-replicate (shape.ships * shape.ships) Unset))
-]
-
-pub said_nothing : (room : RoomModel) → Said room 0 0 0 0 (0, 0, 0) []
-said_nothing room = record {
-  before = All-nil (λ l. is_earlier (place_of l) (0, 0, 0) ≡ true);
-  left = whole_room (shape_in room);
-  leaves = record {
-    normal = refl;
-    above = All-nil (AboveRoom room);
-    denies = refl;
-    full = whole_full (shape_in room);
-    ships = refl;
-    slots = refl;
-    no_pair = λ a b le lt. whole_no_pair (shape_in room) a b le lt;
-  };
-  high = record { said = λ s lt less. absurd (omega (arith, less)); rest = λ s lt le. (whole_bound (shape_in room) s lt).1 };
-  low = record { said = λ s lt less. absurd (omega (arith, less)); rest = λ s lt le. (whole_bound (shape_in room) s lt).0 };
-  pairs = record {
-    said = λ a b ab lt passed. elim passed [ inl less ↦ absurd (omega (arith, less)) | inr p ↦ absurd (omega (arith, p.1)) ];
-    rest = λ a b ab lt p. whole_unset (shape_in room) a b;
-  };
-}
 
 -- what stands before a place stands before a later one
 later : (p q : ℕ × ℕ × ℕ) (out : List Lit) → is_earlier p q ≡ true → All (λ l. is_earlier (place_of l) p ≡ true) out → All (λ l. is_earlier (place_of l) q ≡ true) out
@@ -263,21 +229,6 @@ said_ship room v out is lt s =
     said_if (nat_lt 0 (low_of room v)) _ _ (Said room (v + 1) (v + 1) 0 0 (0, v + 1, 0)) (λ t. below_add room v _ lt le inside t half) (λ t. below_skip room v _ lt t half)
 
 -- ---- orders
-
-pub said_ships : (room : RoomModel) (v : ℕ) (out : List Lit) → v ≡ room.ships → Said room v v 0 0 (0, v, 0) out → Said room room.ships room.ships 0 0 (1, 0, 0) out
-said_ships room v out e s = subst (λ k. Said room k k 0 0 (1, 0, 0) out) e (said_on (0, v, 0) (1, 0, 0) (from_earlier (0, v, 0) (1, 0, 0) (inl (omega arith))) s s.high s.low s.pairs)
-
--- another pair up to which the same orders were said
-moved : (room left : RoomModel) (v w x y : ℕ) → ((a b : ℕ) → a < b → b < room.ships → Passed a b x y → Passed a b v w) → ((a b : ℕ) → a < b → b < room.ships → Open a b x y → Open a b v w) → Pairs room left v w → Pairs room left x y
-moved room left v w x y passed rest s = record { said = λ a b ab lt p. s.said a b ab lt (passed a b ab lt p); rest = λ a b ab lt p. s.rest a b ab lt (rest a b ab lt p) }
-
-pub said_row : (room : RoomModel) (k v : ℕ) (out : List Lit) → Said room k k v 0 (1, v, 0) out → Said room k k v (v + 1) (1, v, v + 1) out
-said_row room k v out s =
-    said_on (1, v, 0) (1, v, v + 1) (up_in 1 v 0 (v + 1) (omega arith)) s s.high s.low (moved room s.left v 0 v (v + 1) (λ a b ab lt p. grind arith) (λ a b ab lt p. grind arith) s.pairs)
-
-pub said_rows : (room : RoomModel) (k v w : ℕ) (out : List Lit) → room.ships ≤ w → Said room k k v w (1, v, w) out → Said room k k (v + 1) 0 (1, v + 1, 0) out
-said_rows room k v w out le s =
-    said_on (1, v, w) (1, v + 1, 0) (up_past 1 v w) s s.high s.low (moved room s.left v w (v + 1) 0 (λ a b ab lt p. grind arith) (λ a b ab lt p. grind arith) s.pairs)
 
 still : (a b v w : ℕ) → ((a ≡ v) × (b ≡ w) → ⊥) → Passed a b v (w + 1) → Passed a b v w
 still a b v w other p = elim p [

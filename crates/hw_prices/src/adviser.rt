@@ -40,10 +40,6 @@ impl PricingAdviser {
 }
 
 impl Adviser for PricingAdviser {
-    ghost use Rattle.std.specs.Prelude.{false};
-
-    ghost silent = { λ _. false };
-
     fn advise(&mut self, alloc: Global, scene: &Scene<'_>) -> Result<Option<Advice>, NoMemory> {
         if scene.standing.lemmas < FIRST || scene.room.is_point() {
             return Ok(None);

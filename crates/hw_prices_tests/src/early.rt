@@ -30,10 +30,6 @@ fn later(standing: Standing, ahead: u32) -> Standing {
 }
 
 impl Adviser for Early {
-    ghost use Rattle.std.specs.Prelude.{false};
-
-    ghost silent = { λ _. false };
-
     fn advise(&mut self, alloc: Global, scene: &Scene<'_>) -> Result<Option<Advice>, NoMemory> {
         let standing = later(scene.standing, self.ahead);
         self.adviser.advise(alloc, &Scene { standing, ..*scene })

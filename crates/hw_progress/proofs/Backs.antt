@@ -199,10 +199,6 @@ unkept_inside before s n lt = elim (cases_Bool (list_any (λ x. x == n) (unkept 
   | inr n' ↦ n'
 ]
 
-or_false : (b : Bool) → (b || false) ≡ b
-or_false true = refl
-or_false false = refl
-
 -- the fit after the deletion
 pub deleted_open : (before : List Line) (s : SearchModel) (ids : List ℕ) → unkept before s ≡ ids → FitsOpen before s → FitsOpen (before ++ lines.Delete ids ∷ []) s
 deleted_open before s ids e fit =

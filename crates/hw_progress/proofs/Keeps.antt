@@ -72,13 +72,6 @@ each_take (suc n) [] P h k = tt
 each_take (suc n) (x ∷ es) P h zero = h zero
 each_take (suc n) (x ∷ es) P h (suc k) = each_take n es P (λ i. h (suc i)) k
 
-reasons_by : (es : List Event) (P Q : Why → Type 0) → ((why : Why) → P why → Q why) → (k : ℕ) → IfSome (option_and_then (λ (event : Event). event.why) (slice_get es k)) P → IfSome (option_and_then (λ (event : Event). event.why) (slice_get es k)) Q
-reasons_by es P Q h k p = by (option_and_then (λ (event : Event). event.why) (slice_get es k)) p
-  where
-    by : (o : Option Why) → IfSome o P → IfSome o Q
-    by None p = tt
-    by (Some why) p = h why p
-
 pub if_why : (o : Option Why) (P Q : Why → Type 0) → ((why : Why) → P why → Q why) → IfSome o P → IfSome o Q
 if_why None P Q h p = tt
 if_why (Some why) P Q h p = h why p

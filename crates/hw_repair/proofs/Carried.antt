@@ -1,5 +1,5 @@
 -- What a timetable carries by the problem of a repair.
-use Rattle.std.proofs.Common.{◌≡◌, ◌==◌, ℕ, suc, ◌+◌, ◌*◌, ◌<◌, ◌≤◌, Bool, true, false, not, cond, List, [], ◌∷◌, Option, Some, None, option_map, slice_get, count_by, zip, length, get_or, drop, drop-cons, refl, sym, ap, ◌∙◌, arith}
+use Rattle.std.proofs.Common.{◌≡◌, ◌==◌, ℕ, suc, ◌+◌, ◌*◌, ◌≤◌, Bool, true, false, not, cond, List, [], ◌∷◌, Option, Some, None, option_map, slice_get, count_by, zip, length, refl, sym, ap, ◌∙◌, arith}
 use Rattle.std.proofs.lemmas.List.Sums.{count_by-le-length}
 use Rattle.std.proofs.lemmas.Option.{same_Some}
 use Rattle.std.proofs.lemmas.List.Recursion.{is_count_by}
@@ -83,13 +83,3 @@ carries f r ship (w ∷ ws) (x ∷ xs) c same at e =
       counted = ap (λ n. (parts.first * (f.ships + 1) + one) + more.sum + n) (count_cons (w, x) (zip ws xs))
           ∙ (step_sum (f.ships + 1) parts.first parts.others c more.sum (moved ws xs) one (cond (not (x == wished w)) (1 + moved ws xs) (moved ws xs)) (length xs) parts.sum (kept_or_moved (x == wished w) (moved ws xs)) more.counted ∙ omega arith);
     }
-
--- ---- moved ships, as a loop counts them
-
-pub moved_at : (plan : List Wish) (table : List ℕ) (i : ℕ) (w : Wish) → i < length plan → i < length table
-    → moved (drop i plan) (drop i table) ≡ cond (not (get_or table i 0 == wished (get_or plan i w))) (1 + moved (drop (i + 1) plan) (drop (i + 1) table)) (moved (drop (i + 1) plan) (drop (i + 1) table))
-moved_at plan table i w p q =
-    let one : i + 1 ≡ suc i = omega arith in
-    let wishes : drop i plan ≡ get_or plan i w ∷ drop (i + 1) plan = drop-cons plan i w p ∙ ap (λ n. get_or plan i w ∷ drop n plan) (sym one) in
-    let slots : drop i table ≡ get_or table i 0 ∷ drop (i + 1) table = drop-cons table i 0 q ∙ ap (λ n. get_or table i 0 ∷ drop n table) (sym one) in
-    ap (λ ws. moved ws (drop i table)) wishes ∙ (ap (λ xs. moved (get_or plan i w ∷ drop (i + 1) plan) xs) slots ∙ count_cons (get_or plan i w, get_or table i 0) (zip (drop (i + 1) plan) (drop (i + 1) table)))

@@ -1,9 +1,8 @@
 -- What a certified search of a repair says of a flat text and its plan.
-use Rattle.std.proofs.Common.{◌≡◌, ◌∙◌, ℕ, List, [], ◌∷◌, length, Option, Some, None, Err, Ok, refl, sym, subst}
+use Rattle.std.proofs.Common.{◌≡◌, ◌∙◌, ℕ, List, [], ◌∷◌, Option, Some, None, Err, Ok, refl, sym, subst}
 use Rattle.std.specs.Prelude.{IfSome}
 use Rattle.hw_model.specs.Problem.{Problem}
 use Rattle.hw_model.specs.Rooms.{room_count}
-use Rattle.hw_model.specs.Timetables.{Permits}
 use Rattle.hw_desk.specs.State.{DeskState}
 use Rattle.hw_desk.specs.declared.desk.Feed.{Feed}
 use Rattle.hw_desk.specs.declared.desk.Feed.TheVariants as feeds
@@ -34,7 +33,7 @@ use Rattle.hw_repair.specs.declared.plan.Wish.{Wish}
 use Rattle.hw_repair_command.specs.PlanInputs.{ReadsRepair, report_of_plan}
 use Rattle.hw_repair_command.specs.Plans.{PlanGives, GivesPlan, NoPlan}
 use Rattle.hw_repair_command.specs.RepairFlat.{RepairFlatSays, repair_flat_task}
-use Rattle.hw_repair_command.specs.Reports.{moved_of, table_in, report_of_repair}
+use Rattle.hw_repair_command.specs.Reports.{moved_of, report_of_repair}
 use Rattle.hw_repair_command.specs.declared.plan_input.PlanStop.{PlanStop}
 use Rattle.hw_repair_command.specs.declared.plan_input.Repair.{Repair}
 use Rattle.hw_repair_command.proofs.Meant.{own_head, repair_means, head_is, table_meets}
@@ -69,18 +68,6 @@ pub no_plan : {name plan : List ℕ} {x y z : DeskState} {f : Problem} (stop : P
 no_plan {f = f} stop h k = plan_stops stop h.entered h.read_faults refl (gives_problem h, tt) (λ long. (gives_problem h, long)) (λ number word bad. record { problem = f; limits = h.limits; text_reads = h.reads; wrong = record { kind = word; named = refl; reads = bad } }) k
 
 -- ---- the search
-
-of_table : (f : Problem) (wishes : List Wish) (table : Option (List ℕ)) → PlanFits f wishes → IfSome table (Permits (repaired f wishes)) → IfSome table (λ slots. length wishes ≡ length slots)
-of_table f wishes None fits permitted = tt
-of_table f wishes (Some table) fits permitted = fits.each_ship ∙ sym permitted.listed.each_ship
-
--- the timetables that were found have a slot for each wish
-pub same_length : {f : Problem} {wishes : List Wish} {budget : ℕ} {name : List ℕ} {y z : DeskState} (answer : Solved) → PlanFits f wishes → SearchesTo (repaired f wishes) budget name y z answer → IfSome (table_in answer) (λ slots. length wishes ≡ length slots)
-same_length {f = f} {wishes = wishes} (Optimal table d) fits k = of_table f wishes (Some table) fits k.leaves.1.permitted
-same_length Infeasible fits k = tt
-same_length {f = f} {wishes = wishes} (Unfinished table) fits k = of_table f wishes table fits k.leaves.1.permitted
-same_length {f = f} {wishes = wishes} (NoMemory table) fits k = of_table f wishes table fits k.leaves.1.permitted
-same_length LogFailed fits k = tt
 
 -- the report of an answer, if there is one, can be printed
 pub printed : {A : Type 0} {f : Problem} {wishes : List Wish} {budget : ℕ} {name : List ℕ} {y z : DeskState} (seen : A → Report) (report : Option A) (names : Naming) (answer : Solved) → option_map seen report ≡ report_of_repair budget f names wishes answer → PlanFits f wishes → SearchesTo (repaired f wishes) budget name y z answer → AreNamesOf f names → IfSome report (λ r. CanPrint (seen r))

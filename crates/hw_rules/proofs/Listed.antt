@@ -2,7 +2,7 @@
 use Rattle.std.proofs.Common.{◌≡◌, ap, ℕ, ◌+◌, ◌<◌, ◌≤◌, List, [], ◌∷◌, ◌++◌, refl, sym, subst, arith, inl, inr, length, get_or}
 use Rattle.std.specs.Prelude.{◌⊎◌, AllPairs, Contains}
 use Rattle.std.proofs.lemmas.Bool.{cases_lt}
-use Rattle.std.proofs.lemmas.List.Elements.{All-nil, All-push, All-weaker, Contains-append_left, Contains-push}
+use Rattle.std.proofs.lemmas.List.Elements.{All-push, All-weaker, Contains-append_left, Contains-push}
 use Rattle.std.proofs.lemmas.List.Quantifiers.{all_pairs_push}
 use Rattle.hw_model.specs.declared.source.Source.{Source}
 use Rattle.hw_model.specs.declared.source.Source.TheVariants as sources
@@ -32,19 +32,6 @@ pushed f s q list is back on here h = record {
 }
 
 -- ---- windows
-
-pub none_yet : (f : Problem) → AreSourcesBefore f (sources.Window 0) []
-none_yet f = record {
-  each = λ t is before. absurd (first t is before);
-  only = All-nil (λ t. IsSourceOf f t × ComesBefore t (sources.Window 0));
-  order = λ i j d lt in'. absurd (omega (arith, lt, in'));
-}
-  where
-    first : (t : Source) → IsSourceOf f t → ComesBefore t (sources.Window 0) → ⊥
-    first (sources.Window a) is h = omega (arith, h)
-    first (sources.Rule a) is h = h
-    first (sources.Order a b c) is h = h
-    first sources.Goal is h = h
 
 pub windows_more : (f : Problem) (n : ℕ) (list : List Source) → n < f.ships → AreSourcesBefore f (sources.Window n) list → AreSourcesBefore f (sources.Window (n + 1)) (list ++ sources.Window n ∷ [])
 windows_more f n list lt h = pushed f (sources.Window n) (sources.Window (n + 1)) list lt back on (omega arith) h
@@ -174,19 +161,6 @@ orders_end f v list all h = moved f (sources.Order v (v + 1) (v + 1 + 1)) source
     on sources.Goal is before = before
 
 -- ---- all of them
-
-pub goal_last : (f : Problem) (list : List Source) → AreSourcesBefore f sources.Goal list → AreSourcesOf f (list ++ sources.Goal ∷ [])
-goal_last f list h = record {
-  each = each;
-  only = All-push (IsSourceOf f) list sources.Goal (All-weaker (λ t. IsSourceOf f t × ComesBefore t sources.Goal) (IsSourceOf f) (λ t k. k.0) list h.only) tt;
-  order = all_pairs_push ComesBefore list sources.Goal h.order (λ k d lt. (h.only k d lt).1);
-}
-  where
-    each : (t : Source) → IsSourceOf f t → Contains (list ++ sources.Goal ∷ []) t
-    each (sources.Window a) is = Contains-append_left list (sources.Goal ∷ []) (sources.Window a) (h.each (sources.Window a) is tt)
-    each (sources.Rule a) is = Contains-append_left list (sources.Goal ∷ []) (sources.Rule a) (h.each (sources.Rule a) is tt)
-    each (sources.Order a b c) is = Contains-append_left list (sources.Goal ∷ []) (sources.Order a b c) (h.each (sources.Order a b c) is tt)
-    each sources.Goal is = Contains-push list sources.Goal
 
 never_itself : (s : Source) → ComesBefore s s → ⊥
 never_itself (sources.Window a) h = omega (arith, h)

@@ -3,7 +3,7 @@ use Rattle.std.proofs.Common.{◌≡◌, ◌↔◌, Result, Ok, Err, IfOk, slice
 use Rattle.std.proofs.lemmas.Bool.{cases_lt, ltb-true, ltb-false}
 use Rattle.hw_model.specs.Problem.{Problem, IsTimetable, value_at}
 use Rattle.hw_model.specs.Timetables.{Permits, NonePermitted, cargo, beats}
-use Rattle.hw_model.specs.Walk.{rank, table_count, NoneBefore, FirstBest}
+use Rattle.hw_model.specs.Walk.{rank, table_count, FirstBest}
 use Rattle.hw_laws.proofs.Cargoes.{cargo_above}
 use Rattle.hw_laws.proofs.Rank.{rank_lt, same_rank, first_is_best, none_of_all}
 use Rattle.hw_rules.specs.declared.outcome.Walked.{Walked}
@@ -95,9 +95,6 @@ no_better f cur best (Some m) t under h = record {
 pub rank_zeros : (s n : ℕ) → rank s (replicate n 0) ≡ 0
 rank_zeros s zero = refl
 rank_zeros s (suc n) = omega (arith, rank_zeros s n)
-
-pub nothing_before : (f : Problem) → NoneBefore f 0
-nothing_before f u g lt = omega (arith, lt)
 
 pub few : (f : Problem) (cur : List ℕ) → IsTimetable f cur → rank f.slots cur < table_count f
 few f cur t = let h = rank_lt f.slots cur t.each_slot in rw t.each_ship at h

@@ -1,8 +1,8 @@
 -- Places of sources are added to the lists of what these speak of.
-use Rattle.std.proofs.Common.{◌≡◌, ◌≢◌, ℕ, ◌+◌, ◌*◌, ◌<◌, Bool, true, false, ◌&&◌, ◌||◌, List, [], ◌∷◌, ◌++◌, length, get_or, refl, sym, ap, ◌∙◌, subst, arith, append-nil, take, All, zero-add}
-use Rattle.std.specs.Prelude.{◌==◌, slice_set, nat_lt, AllPairs, Contains, filter, slice_get, Some}
+use Rattle.std.proofs.Common.{◌≡◌, ◌≢◌, ℕ, ◌+◌, ◌*◌, ◌<◌, Bool, true, false, ◌&&◌, ◌||◌, List, [], ◌∷◌, ◌++◌, length, get_or, refl, sym, ap, ◌∙◌, subst, arith, append-nil, take, zero-add}
+use Rattle.std.specs.Prelude.{◌==◌, slice_set, AllPairs, Contains, filter, slice_get, Some}
 use Rattle.std.specs.List.{list_any, range_with_len}
-use Rattle.std.proofs.lemmas.Bool.{and_parts, and_from, eqb-true, eq-eqb, ltb-true}
+use Rattle.std.proofs.lemmas.Bool.{and_parts, and_from, eqb-true, eq-eqb}
 use Rattle.std.proofs.lemmas.Bool.Decides.{nat_tests}
 use Rattle.std.proofs.lemmas.List.{get_or-set_same, get_or-set_other, get_or_default, get_or-take, length-take}
 use Rattle.std.proofs.lemmas.List.Folds.{list_any_more, Any-from_list_any}
@@ -18,7 +18,7 @@ use Rattle.hw_model.specs.declared.source.Source.{Source}
 use Rattle.hw_model.specs.Problem.{Problem}
 use Rattle.hw_model.specs.Lits.{IsLitOf}
 use Rattle.hw_model.specs.Quiet.{names_ship, names_order, names_lit}
-use Rattle.hw_search.specs.Speaking.{SpeakersModel, ship_places, pair_places, speakers_of, names_at, added, Adds, KeepsLists, TellsSpeakers}
+use Rattle.hw_search.specs.Speaking.{SpeakersModel, ship_places, pair_places, speakers_of, names_at, added, Adds, TellsSpeakers}
 
 -- a list that was added to has one more place
 one_set : (lists : List (List ℕ)) (at i place : ℕ) (before after : List ℕ) (b : Bool) → at < length lists → before ≡ get_or lists at before → after ≡ before ++ place ∷ [] → ((b ≡ true) → i ≡ at) → ((b ≡ false) → i ≢ at) → get_or (slice_set lists at after) i [] ≡ get_or lists i [] ++ added b place
@@ -71,33 +71,12 @@ same_added place n m o q a b h e f = record {
   pairs = λ v w vw lt. h.pairs v w vw lt ∙ ap (λ t. pair_places a v w ++ added t place) (f v w);
 }
 
--- nothing was added
-pub none_added : (place : ℕ) (a : SpeakersModel) → Adds place (λ u. false) (λ v w. false) a a
-none_added place a = record {
-  same_ships = refl;
-  ships = λ u lt. sym (append-nil (ship_places a u));
-  pairs = λ v w vw lt. sym (append-nil (pair_places a v w));
-}
-
 -- the same where a value's fields are known by its view
 pub pair_pushed : (inside old : SpeakersModel) (v w place : ℕ) (before after : List ℕ) → inside ≡ old → length inside.by_pair ≡ inside.ships * inside.ships → v < w → w < old.ships → before ≡ get_or inside.by_pair (v * inside.ships + w) before → after ≡ before ++ place ∷ []
     → Adds place (λ u. false) (λ a b. a == v && b == w) old (record inside { by_pair = slice_set inside.by_pair (v * inside.ships + w) after })
 pair_pushed inside old v w place before after same long up lt was e =
     let P : SpeakersModel → Type 0 = λ m. w < m.ships → Adds place (λ u. false) (λ a b. a == v && b == w) m (record inside { by_pair = slice_set inside.by_pair (v * inside.ships + w) after }) in
     subst P same (λ k. pair_added inside v w place before after long up k was e) lt
-
--- ---- ship after ship
-
-lt_more : (u n : ℕ) → (nat_lt u n || u == n) ≡ nat_lt u (n + 1)
-lt_more u n = grind (arith, nat_tests)
-
-pub next_ship : (place n : ℕ) (a b c : SpeakersModel) → Adds place (λ u. nat_lt u n) (λ v w. false) a b → Adds place (λ u. u == n) (λ v w. false) b c → Adds place (λ u. nat_lt u (n + 1)) (λ v w. false) a c
-next_ship place n a b c first second =
-    same_added place (λ u. nat_lt u n || u == n) (λ u. nat_lt u (n + 1)) (λ v w. false) (λ v w. false) a c
-    (then_added place (λ u. nat_lt u n) (λ u. u == n) (λ v w. false) (λ v w. false) a b c first second
-    (λ u x y. let p = ltb-true u n x in let q = eqb-true u n y in omega (arith, p, q))
-    (λ v w x y. let z : false ≡ true = x in cc))
-    (λ u lt. lt_more u n) (λ v w. refl)
 
 -- ---- job after job
 
@@ -147,13 +126,6 @@ next_listed f sources n place source old new same here at upto adds lit fits =
     let now : p n ≡ names_lit f source lit = ap (names_at f lit) at in
     let step : filter p (range_with_len 0 (n + 1)) ≡ filter p (range_with_len 0 n) ++ added (p n) n = filter_range p n in
     one_listed f source n old new same h lit fits ∙ ap (λ xs. xs ++ added (names_lit f source lit) n) (upto lit fits) ∙ ap (λ t. filter p (range_with_len 0 n) ++ added t n) (sym now) ∙ sym step
-
--- no source is listed of no ship and of no pair
-pub none_listed : (f : Problem) (sources : List Source) (s : SpeakersModel) → KeepsLists s → s.ships ≡ f.ships → All (λ (places : List ℕ). places ≡ []) s.by_ship → All (λ (places : List ℕ). places ≡ []) s.by_pair → ListedUpto f sources 0 s
-none_listed f sources s keeps same ships pairs (lits.AtOrAfter ship slot) fits = ships ship [] (omega (arith, keeps.each_ship, same, fits.0))
-none_listed f sources s keeps same ships pairs (lits.Before ship slot) fits = ships ship [] (omega (arith, keeps.each_ship, same, fits.0))
-none_listed f sources s keeps same ships pairs (lits.First v w) fits = pairs (v * s.ships + w) [] (omega (arith, keeps.each_pair, mul-add-lt v s.ships w s.ships (omega (arith, same, fits.0, fits.1)) (omega (arith, same, fits.1))))
-none_listed f sources s keeps same ships pairs (lits.NotFirst v w) fits = pairs (v * s.ships + w) [] (omega (arith, keeps.each_pair, mul-add-lt v s.ships w s.ships (omega (arith, same, fits.0, fits.1)) (omega (arith, same, fits.1))))
 
 any_contains : (xs : List ℕ) (n : ℕ) → list_any (λ x. x == n) xs ≡ true → Contains xs n
 any_contains xs n e =

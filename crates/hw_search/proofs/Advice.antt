@@ -27,7 +27,7 @@ use Rattle.hw_progress.proofs.Told.{grown}
 use Rattle.hw_search.specs.declared.settling.Asked.{Asked}
 use Rattle.hw_search.specs.declared.settling.Asked.TheVariants as asked
 use Rattle.hw_search.specs.Handing.{TakesAll, StopsAfter, StopsWithin}
-use Rattle.hw_search.specs.Heeding.{HeedStops, HeedMeets, HeedGains, ConsultMeets}
+use Rattle.hw_search.specs.Heeding.{HeedStops, HeedGains, ConsultMeets}
 use Rattle.hw_search.specs.Turning.{turn_of}
 use Rattle.hw_search.proofs.Handed.{grown_with, grown_to, grows_by}
 
@@ -178,10 +178,6 @@ stops_on s mid after stop old here new a h = record {
   later = h.later;
   cause = subst (λ f. StopsBy f (turn_of stop) h.then new) (same_problem s mid old here a) h.cause;
 }
-
-pub meets_on : {A : Type 0} (s mid after : SearchModel) (old here new : LogModel) (result : Result A LogStop) → Heeds s mid old here → HeedMeets mid after here new result → HeedMeets s after old new result
-meets_on s mid after old here new (Ok done) a h = heeds_both s mid after old here new a h
-meets_on s mid after old here new (Err stop) a h = stops_on s mid after stop old here new a h
 
 pub gains_on : (s mid after : SearchModel) (old here new : LogModel) → Heeds s mid old here → HeedGains mid after here new → HeedGains s after old new
 gains_on s mid after old here new a h = record { heeds = heeds_both s mid after old here new a h.heeds; more = omega (arith, no_fewer s mid old here a, h.more) }

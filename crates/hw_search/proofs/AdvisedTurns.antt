@@ -1,5 +1,5 @@
 -- A turn with advice, part by part.
-use Rattle.std.proofs.Common.{◌≡◌, ℕ, ◌-◌, ◌<◌, ◌≤◌, true, false, List, [], Option, Some, None, All, Bor, IfSome, length, refl, sym, ap, ◌∙◌, subst, arith, append-nil}
+use Rattle.std.proofs.Common.{◌≡◌, ℕ, ◌-◌, ◌<◌, ◌≤◌, false, List, [], Option, Some, None, All, Bor, IfSome, length, refl, sym, ap, ◌∙◌, subst, arith, append-nil}
 use Rattle.std.proofs.lemmas.List.Elements.{All-nil}
 use Rattle.std.specs.Option.{option_copied}
 use Rattle.hw_model.specs.declared.lit.Lit.{Lit}
@@ -9,8 +9,6 @@ use Rattle.hw_lines.specs.Valid.{LineFits}
 use Rattle.hw_lines.specs.Lemmas.{IsNew}
 use Rattle.hw_story.specs.declared.event.Why.{Why}
 use Rattle.hw_story.specs.Trails.{most_events}
-use Rattle.hw_cert.specs.declared.log.LogStop.{LogStop}
-use Rattle.hw_cert.specs.declared.log.LogStop.TheVariants as stops
 use Rattle.hw_cert.specs.Logs.{LogModel, WhereTold}
 use Rattle.hw_tolls.specs.declared.tariff.Tariff.{Tariff}
 use Rattle.hw_tolls.specs.declared.toll.Toll.{Toll}
@@ -24,10 +22,10 @@ use Rattle.hw_progress.specs.declared.outcome.Turn.TheVariants as turns
 use Rattle.hw_progress.specs.Searches.{SearchModel, IsSearch, LogFits, room_in}
 use Rattle.hw_progress.specs.Settling.{AllQuiet, Implies, IsConflict, Settles}
 use Rattle.hw_progress.specs.Turns.{TurnMeets}
-use Rattle.hw_progress.specs.Advised.{HeedWrites, Heeds, StopsBy, FollowsAdvice}
+use Rattle.hw_progress.specs.Advised.{HeedWrites, Heeds, FollowsAdvice}
 use Rattle.hw_search.specs.Faults.{TurnKeepsFaults}
-use Rattle.hw_search.specs.Heeding.{AdvisedTurn, HeedStops, HeedGains, HeedFails, RoundMeets}
-use Rattle.hw_search.specs.Turning.{Begins, Decides, TurnsFrom, decided_by, turn_of}
+use Rattle.hw_search.specs.Heeding.{AdvisedTurn, HeedGains, HeedFails, RoundMeets}
+use Rattle.hw_search.specs.Turning.{Begins, Decides, TurnsFrom, decided_by}
 use Rattle.hw_search.proofs.Advice.{heeds_none, heeds_both, heeds_fit, gains_on, same_problem}
 use Rattle.hw_search.proofs.Answering.{mid_fits, decided_meets}
 use Rattle.hw_search.proofs.Ending.{turned}
@@ -115,23 +113,6 @@ pub rule_ends : (s : SearchModel) (log : LogModel) (after : SearchModel) → IsS
 rule_ends s log after is going few fits q wide d =
     let settles : Settles s s Quiet = record { implies = implies_none s; kept = is; ends = q } in
     turn_ends s log turns.Decided after log is fits (turned s log log turns.Decided turns.Decided (decided_by s d.0) after refl d.2 (decided_meets s s d.0 log (begins s log is going few fits) settles wide d.1)) refl
-
-stop_faults : (f : Problem) (stop : LogStop) (old then new : LogModel) → then.faults ≡ old.faults → StopsBy f (turn_of stop) then new → TurnKeepsFaults (turn_of stop) old new
-stop_faults f stops.Failed old then new e h = tt
-stop_faults f stops.NoMemory old then new e h = ap (λ (x : LogModel). x.faults) h ∙ e
-
--- by a stop
-pub stop_ends : (s mid : SearchModel) (stop : LogStop) (old new : LogModel) (turn : Turn) (after : SearchModel) → HeedStops s mid old stop new → turn ≡ turn_of stop → after ≡ record mid { over = true } → AdvisedTurn s old turn after new
-stop_ends s mid stop old new turn after h is e =
-    subst (λ x. AdvisedTurn s old x after new) (sym is) (record {
-      meets = record {
-        mid = mid;
-        then = h.then;
-        heeds = h.heeds;
-        follows = FollowsAdvice.by_stop (record { over = e; later = h.later; cause = subst (λ f. StopsBy f (turn_of stop) h.then new) (sym (same_problem s mid old h.then h.heeds)) h.cause });
-      };
-      kept = stop_faults s.problem stop old h.then new h.heeds.same_faults h.cause;
-    })
 
 -- ---- one part after another
 

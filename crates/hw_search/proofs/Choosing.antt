@@ -1,11 +1,11 @@
 -- Which literal a branching rule chooses.
-use Rattle.std.proofs.Common.{◌≡◌, ℕ, zero, suc, ◌+◌, ◌<◌, ◌≤◌, Bool, true, false, not, cond, nat_lt, nat_le, ◌&&◌, List, [], ◌∷◌, ◌++◌, Option, Some, None, find, filter, refl, sym, ap, ◌∙◌, subst, arith, inl, inr, append-nil}
+use Rattle.std.proofs.Common.{◌≡◌, ℕ, zero, suc, ◌+◌, ◌<◌, ◌≤◌, Bool, true, false, not, cond, nat_lt, nat_le, ◌&&◌, List, [], ◌∷◌, ◌++◌, Option, Some, None, find, filter, refl, sym, ap, ◌∙◌, subst, arith, inl, inr}
 use Rattle.std.specs.List.{list_all, range_with_len}
-use Rattle.std.proofs.lemmas.Bool.{cases_lt, and_parts, and_from, leb-true, lt-ltb, le-leb, le-ltb}
+use Rattle.std.proofs.lemmas.Bool.{cases_lt, and_parts, and_from, leb-true, lt-ltb, le-leb}
 use Rattle.std.proofs.lemmas.List.Folds.{list_all-append}
 use Rattle.hw_model.specs.Problem.{Problem}
 use Rattle.hw_model.specs.Rooms.{RoomModel, low_of, high_of}
-use Rattle.hw_progress.specs.Branches.{greatest_in, greatest_ship}
+use Rattle.hw_progress.specs.Branches.{greatest_in}
 use Rattle.hw_search.specs.Branching.{BestAmong}
 use Rattle.hw_search.proofs.Ranges.{filter_range}
 
@@ -98,18 +98,6 @@ next room ship = cond (nat_lt (low_of room ship) (high_of room ship)) (ship ∷ 
 
 one_more : (room : RoomModel) (ship : ℕ) → low_of room ship < high_of room ship → next room ship ≡ ship ∷ []
 one_more room ship lt = ap (λ b. cond b (ship ∷ []) []) (lt-ltb (low_of room ship) (high_of room ship) lt)
-
-no_more : (room : RoomModel) (ship : ℕ) → high_of room ship ≤ low_of room ship → next room ship ≡ []
-no_more room ship le = ap (λ b. cond b (ship ∷ []) []) (le-ltb (low_of room ship) (high_of room ship) le)
-
-pub stays_narrow : (f : Problem) (room : RoomModel) (ship : ℕ) (best : Option (ℕ × ℕ)) → high_of room ship ≤ low_of room ship → (ships : List ℕ) → BestAmong f room ships best → BestAmong f room (ships ++ next room ship) best
-stays_narrow f room ship best le ships h = subst (λ xs. BestAmong f room xs best) (sym (ap (λ xs. ships ++ xs) (no_more room ship le) ∙ append-nil ships)) h
-
-pub first_best : (f : Problem) (room : RoomModel) (ship value : ℕ) → low_of room ship < high_of room ship → ship < f.ships → value ≡ greatest_in f room ship → (ships : List ℕ) → ships ≡ [] → BestAmong f room (ships ++ next room ship) (Some (ship, value))
-first_best f room ship value wide lt is ships none =
-    let g = greatest_in f room in
-    let alone : greatest_ship f room (ship ∷ []) ≡ Some ship = ap (λ b. cond (b && true) (Some ship) None) (le-leb (g ship) (g ship) (omega arith)) in
-    subst (λ xs. BestAmong f room xs (Some (ship, value))) (sym (ap (λ xs. xs ++ next room ship) none ∙ one_more room ship wide)) (alone, is, lt)
 
 pub stays_best : (f : Problem) (room : RoomModel) (ship value : ℕ) (best : ℕ × ℕ) → low_of room ship < high_of room ship → value ≡ greatest_in f room ship → value ≤ best.1 → (ships : List ℕ) → BestAmong f room ships (Some best) → BestAmong f room (ships ++ next room ship) (Some best)
 stays_best f room ship value best wide is le ships h =

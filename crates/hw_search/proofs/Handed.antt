@@ -1,12 +1,12 @@
 -- What is told of a log that took lines one after another.
 use Rattle.std.proofs.Common.{◌≡◌, ℕ, zero, suc, ◌+◌, ◌≤◌, List, [], ◌∷◌, ◌++◌, Option, Some, None, IfSome, IsSomeAnd, length, take, slice_get, refl, sym, ap, ◌∙◌, subst, arith, append-nil, append_assoc}
-use Rattle.std.specs.Prelude.{Result, Ok, Err}
+use Rattle.std.specs.Prelude.{Ok, Err}
 use Rattle.hw_desk.specs.State.{Rose}
 use Rattle.hw_lines.specs.declared.line.Line.{Line}
 use Rattle.hw_cert.specs.declared.log.LogStop.{LogStop}
 use Rattle.hw_cert.specs.declared.log.LogStop.TheVariants as stops
 use Rattle.hw_cert.specs.Logs.{LogTold, LogModel, WhereTold, Grows, IsWhole, TellsLine, TakesLine, IsBegunLine}
-use Rattle.hw_search.specs.Handing.{TakesAll, StopCause, StopBehind, StopsAfter, StopsWithin, Hands}
+use Rattle.hw_search.specs.Handing.{TakesAll, StopCause, StopBehind, StopsAfter, StopsWithin}
 
 -- ---- what is told
 
@@ -180,10 +180,6 @@ one_stopped line stop old new whole t = record {
   cause = one_cause line stop old new t;
   told = grown_with old new (TellsLine line (Err stop)) (λ was now. (count : ℕ) × (count ≤ 0) × StopsAfter stop (line ∷ []) count was now) (λ told. told.behind ≡ []) (λ was now w h. (0, omega arith, one_tells line stop was now w h)) whole t.lines;
 }
-
-pub one_line : (line : Line) (old new : LogModel) (result : Result Unit LogStop) → IsWhole old → TakesLine line old new result → Hands (line ∷ []) old new result
-one_line line old new (Ok done) whole t = one_taken line old new done t
-one_line line old new (Err stop) whole t = stop_more stop (line ∷ []) 0 1 old new (omega arith) (one_stopped line stop old new whole t)
 
 -- nothing was handed, since memory ran out
 pub no_memory : (plan : List Line) (log : LogModel) → IsWhole log → StopsWithin stops.NoMemory plan 0 log log

@@ -1,5 +1,5 @@
 -- Advice that an engine heeds, in the words of its calls. `e` is what the fields say, `u` what the call sees.
-use Rattle.std.proofs.Common.{◌≡◌, ℕ, ◌+◌, ◌<◌, ◌≤◌, ◌^◌, true, false, List, [], ◌∷◌, ◌++◌, Option, Some, All, length, get_or, refl, sym, ap, ◌∙◌, subst, arith, append-nil, append_assoc, length-append}
+use Rattle.std.proofs.Common.{◌≡◌, ℕ, ◌+◌, ◌<◌, ◌≤◌, ◌^◌, true, false, List, [], ◌∷◌, ◌++◌, Some, All, length, get_or, refl, sym, ap, ◌∙◌, subst, arith, append-nil, append_assoc, length-append}
 use Rattle.std.proofs.lemmas.List.Elements.{All-push}
 use Rattle.hw_model.specs.declared.lit.Lit.{Lit}
 use Rattle.hw_model.specs.declared.lit.LitTruth.TheVariants.{Free, False}
@@ -15,11 +15,10 @@ use Rattle.hw_tolls.specs.Prices.{TariffFits}
 use Rattle.hw_lines.specs.declared.line.Line.TheVariants as lines
 use Rattle.hw_story.specs.declared.event.Why.TheVariants as whys
 use Rattle.hw_story.specs.Trails.{TrailModel, trail_shape, implied}
-use Rattle.hw_advice.specs.Advisers.{IsAdvice}
 use Rattle.hw_cert.specs.declared.log.LogStop.{LogStop}
 use Rattle.hw_cert.specs.Logs.{LogModel, WhereTold}
 use Rattle.hw_progress.specs.Prices.{ArePrices, toll_line, tariff_line, with_toll, with_tariff, DuesAscend}
-use Rattle.hw_progress.specs.Searches.{SearchModel, IsSearch, LogFits, PricesShow, best_cargo, room_in}
+use Rattle.hw_progress.specs.Searches.{SearchModel, IsSearch, LogFits, PricesShow, room_in}
 use Rattle.hw_progress.specs.Advised.{Heeds, with_priced}
 use Rattle.hw_progress.proofs.Bounds.{few_numbers}
 use Rattle.hw_progress.proofs.Priced.{true_reason, priced, priced_good, priced_search}
@@ -27,7 +26,7 @@ use Rattle.hw_progress.proofs.Tolled.{toll, tariff, tariff_more, price_search}
 use Rattle.hw_store.specs.declared.store.Stored.{Stored}
 use Rattle.hw_search.specs.Engines.{EngineModel}
 use Rattle.hw_search.specs.Handing.{TakesAll, StopsWithin}
-use Rattle.hw_search.specs.Heeding.{priced_by, with_tolls, with_given, HeedStops, HeedFails}
+use Rattle.hw_search.specs.Heeding.{priced_by, with_tolls, HeedStops, HeedFails}
 use Rattle.hw_search.specs.Ledgers.{LedgerModel}
 use Rattle.hw_search.proofs.Advice.{heeds_none, prices_heeded, priced_heeded, line_stops}
 
@@ -142,8 +141,3 @@ priced_fails s clause log is fits shows none told = record {
   heeds = heeds_none s log is told;
   conflict = record { fits = fits; all_false = none; holds = true_reason s clause is fits shows; shown = shows };
 }
-
-pub advice_shows : (s : SearchModel) (more : List Toll) (tariff : Option Tariff) (clause : List Lit) (mid after : SearchModel) → IsAdvice s.problem s.prices.tolls s.prices.tariff (best_cargo s) (room_in s) more tariff clause → mid ≡ After s more → after ≡ priced_by mid (with_given mid.prices tariff)
-    → PricesShow after clause
-advice_shows s more tariff clause mid after a e f =
-    subst (λ x. PricesShow x clause) (sym (f ∙ ap (λ (x : SearchModel). priced_by x (with_given x.prices tariff)) e)) (record { refuted = a.refuted; speaks = a.speaks })

@@ -17,13 +17,11 @@ use Rattle.hw_progress.specs.Laws.{lemma_lines}
 use Rattle.hw_progress.specs.Searches.{SearchModel, IsSearch, IsReason, why_at}
 use Rattle.hw_progress.specs.Settling.{Settles}
 use Rattle.hw_progress.specs.Turns.{TurnMeets}
-use Rattle.hw_progress.proofs.Stops.{stop_keeps}
-use Rattle.hw_search.specs.Engines.{EngineModel, KeepsEngine}
+use Rattle.hw_search.specs.Engines.{EngineModel}
 use Rattle.hw_search.specs.GoingBack.{NextLevel, Tidies, TidiesBy}
 use Rattle.hw_search.specs.Handing.{TakesAll}
-use Rattle.hw_search.specs.Ledgers.{LedgerModel, GivesAtMost, with_events}
+use Rattle.hw_search.specs.Ledgers.{LedgerModel, with_events}
 use Rattle.hw_search.specs.Naming.{EachOfProblem, HandsLearnt, IsOfProblem, WritesLearnt, own_after, taught, Taught}
-use Rattle.hw_search.specs.Speaking.{SpeakersModel}
 use Rattle.hw_search.specs.Turning.{Teaches, TurnsFrom, turn_of, halted}
 use Rattle.hw_search.specs.declared.writing.WrittenLemma.{WrittenLemma}
 use Rattle.hw_search.proofs.Answering.{same_mid}
@@ -70,22 +68,6 @@ numbers_of s reserved = record { written = s.written; clause_lines = s.clause_li
 
 settled_here : (e u : EngineModel) (mid : SearchModel) (why : Why) → e ≡ u → Settles mid u.search (Conflict why) → Settles mid e.search (Conflict why)
 settled_here e u mid why same settles = subst (λ (x : EngineModel). Settles mid x.search (Conflict why)) (sym same) settles
-
--- a search that is over keeps what it kept
-pub kept_over : (e : EngineModel) (table : SpeakersModel) (goal : ℕ) (worth : Option ℕ) (reserved most lemmas : ℕ) (l : LedgerModel) → KeepsEngine e table goal worth reserved → GivesAtMost most (numbers_of e.search reserved) l
-    → KeepsEngine (record { search = ended e.search l.written l.clause_lines lemmas; sources = e.sources; marks = e.marks }) table goal worth l.reserved
-kept_over e table goal worth reserved most lemmas l k g = record {
-  search = (stop_keeps e.search k.search).before l.written l.clause_lines lemmas g.long g.stay g.low;
-  once = k.once;
-  of_problem = k.of_problem;
-  each_mark = k.each_mark;
-  quiet = k.quiet;
-  quiet_below = k.quiet_below;
-  speakers = k.speakers;
-  goal_at = k.goal_at;
-  worth_is = k.worth_is;
-  room = omega (arith, k.room, g.reserved);
-}
 
 pub lemma_stopped_here : (e u : EngineModel) (why : Why) (learnt : Learnt) (reserved : ℕ) (l : LedgerModel) (stop : LogStop) (turn : Turn) (old new : LogModel) → e ≡ u → TeachesOf u.search why learnt → HandsLearnt {A = WrittenLemma} e.search.problem e.search.trail (numbers_of e.search reserved) why learnt old new (Err stop) → turn ≡ turn_of stop
     → TurnsFrom (Conflict why) u.search old turn (halted e.search l.written l.clause_lines) new

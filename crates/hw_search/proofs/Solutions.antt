@@ -118,18 +118,6 @@ solve_writes f budget answer before now all w closed tells few spent = record {
   spent = spent;
 }
 
--- memory ran out before the first turn
-pub no_search : (f : Problem) (budget : ℕ) (log : LogModel) → IsEmpty log → SolveMeets f budget log (answers.NoMemory None) log
-no_search f budget log empty = record {
-  later = omega arith;
-  writes = told_same log (λ told. (told.lines ≡ []) × (told.behind ≡ [])) (λ was now. SolveWrites f budget (answers.NoMemory None) log.faults log.faults now.lines) empty (λ now e.
-      subst (λ xs. SolveWrites f budget (answers.NoMemory None) log.faults log.faults xs) (sym e.0) (solve_writes f budget (answers.NoMemory None) log.faults log.faults [] (no_line f) refl refl (omega arith) (λ a b c. refl)));
-  permitted = tt;
-  worth = tt;
-  means = tt;
-  ends = where_so log (λ told. (told.lines ≡ []) × (told.behind ≡ [])) (λ told. told.behind ≡ []) empty (λ told a. a.1);
-}
-
 -- memory ran out in a turn
 pub stopped : (f : Problem) (budget : ℕ) (s u : SearchModel) (old here now : LogModel) → IsSearch s → Going f budget s old here → s.lemmas < budget → TurnMeets s here turns.NoMemory u now → SolveMeets f budget old (answers.NoMemory u.best) now
 stopped f budget s u old here now is g lt t =

@@ -14,12 +14,11 @@ use Rattle.hw_model.specs.Problem.{Problem, shape_of}
 use Rattle.hw_model.specs.Replay.{narrowing}
 use Rattle.hw_story.specs.declared.event.Event.{Event}
 use Rattle.hw_story.specs.declared.event.Why.{Why}
-use Rattle.hw_story.specs.declared.event.Why.TheVariants as whys
 use Rattle.hw_story.specs.Trails.{trail_shape, clause_of, most_events}
 use Rattle.hw_story.specs.Walks.{In}
 use Rattle.hw_story.proofs.Denials.{in_fits}
 use Rattle.hw_progress.specs.Searches.{SearchModel, IsSearch, IsReason, HasLine, room_in}
-use Rattle.hw_progress.specs.Settling.{Implies, IsShown, with_events}
+use Rattle.hw_progress.specs.Settling.{Implies, with_events}
 use Rattle.hw_progress.proofs.Holds.{problem_clause}
 use Rattle.hw_progress.proofs.Keeps.{implied_search}
 use Rattle.hw_search.proofs.Kept.{few_in}
@@ -86,12 +85,6 @@ gains_one s after lit why is fits clause free only reason line e =
       };
       more = omega (arith, ap (λ (x : SearchModel). length x.trail.events) e, length-append s.trail.events (event ∷ []));
     }
-
--- a clause that needs no line of its own is shown
-pub unpriced_shown : (s : SearchModel) (why : Why) → HasLine None why → IsShown s why
-unpriced_shown s (whys.Lemma number clause) h = tt
-unpriced_shown s (whys.Source source clause) h = tt
-unpriced_shown s (whys.Priced clause) h = absurd cc
 
 -- ---- what is left to come
 

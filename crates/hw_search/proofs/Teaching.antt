@@ -195,10 +195,6 @@ same_gone u back = by (is_due u)
     by true = record { problem = refl; branching = refl; stored = refl; best = refl; prices = refl; clause_lines = refl; lemmas = refl; over = refl }
     by false = record { problem = refl; branching = refl; stored = refl; best = refl; prices = refl; clause_lines = refl; lemmas = refl; over = refl }
 
--- the search as it was taught, but for numbers
-same_taught : (s mid : SearchModel) (told : LogTold) (why : Why) (lemma : List Lit) (back : ℕ) (places : List ℕ) → Known s mid told why lemma back places → (taught mid why places).search ≡ record mid { written = (taught mid why places).search.written; clause_lines = (taught mid why places).search.clause_lines }
-same_taught s mid told why lemma back places k = k.prepared.same
-
 -- the deletion that comes after the lemma, where lines are told
 abbrev pub Deletes : SearchModel → SearchModel → Why → List Lit → ℕ → List ℕ → List ℕ → LogTold → Type 0
 Deletes s mid why lemma back places ids was = ids ≡ unkept (was.lines ++ lemma_lines (taught mid why places) lemma) (gone mid why lemma back places)

@@ -1,5 +1,5 @@
 -- A bound that is told after tolls and a tariff.
-use Rattle.std.proofs.Common.{◌≡◌, ℕ, ◌≤◌, true, List, [], ◌∷◌, ◌++◌, Option, Some, None, IfSome, IsSomeAnd, refl, sym, ap, ◌∙◌, subst}
+use Rattle.std.proofs.Common.{◌≡◌, ℕ, ◌≤◌, List, [], ◌∷◌, ◌++◌, Option, Some, None, IsSomeAnd, refl, sym, ap, ◌∙◌, subst}
 use Rattle.hw_model.specs.Timetables.{Permits, cargo}
 use Rattle.hw_tolls.specs.declared.tariff.Tariff.{Tariff}
 use Rattle.hw_tolls.specs.declared.toll.Toll.{Toll}
@@ -8,18 +8,16 @@ use Rattle.hw_tolls.proofs.Sound.{bounded as sound_bound}
 use Rattle.hw_advice.specs.Advisers.{IsBoundAdvice}
 use Rattle.hw_lines.specs.declared.line.Line.TheVariants as lines
 use Rattle.hw_cert.specs.declared.log.LogStop.{LogStop}
-use Rattle.hw_cert.specs.declared.log.LogStop.TheVariants as stops
-use Rattle.hw_cert.specs.Logs.{LogTold, LogModel, WhereTold, Grows}
+use Rattle.hw_cert.specs.Logs.{LogTold, LogModel, WhereTold}
 use Rattle.hw_progress.specs.Prices.{with_bound, NoneAbove}
 use Rattle.hw_progress.specs.Searches.{SearchModel, IsSearch, LogFits}
-use Rattle.hw_progress.specs.declared.outcome.Turn.TheVariants as turns
-use Rattle.hw_progress.specs.Advised.{HeedWrites, Heeds, Lowers, BoundMeets, StopsBy}
+use Rattle.hw_progress.specs.Advised.{HeedWrites, Heeds}
 use Rattle.hw_progress.proofs.Tolled.{bound}
 use Rattle.hw_search.specs.Engines.{EngineModel, KeepsEngine}
 use Rattle.hw_search.specs.Speaking.{SpeakersModel}
 use Rattle.hw_search.specs.Handing.{TakesAll, StopsWithin}
 use Rattle.hw_search.specs.Heeding.{HeedStops, priced_by, with_tolls, with_given}
-use Rattle.hw_search.specs.Bounding.{IsBelow, ShowsBound, TellsBound, IsBounded, bounded_by}
+use Rattle.hw_search.specs.Bounding.{IsBelow, ShowsBound, TellsBound, IsBounded}
 use Rattle.hw_search.proofs.Advice.{one_writes, line_stops, same_problem}
 use Rattle.hw_search.proofs.Handed.{grown_with, grows_by}
 
@@ -62,15 +60,6 @@ kept_bound e table goal worth reserved new k of = record {
   room = k.room;
 }
 
--- both of two things told of two logs
-grows_both : (old new : LogModel) (P Q : LogTold → LogTold → Type 0) → Grows old new P → Grows old new Q → Grows old new (λ was now. P was now × Q was now)
-grows_both old new P Q p q = by old.told new.told p q
-  where
-    by : (a c : Option LogTold) → IfSome c (λ now. IsSomeAnd a (λ was. P was now)) → IfSome c (λ now. IsSomeAnd a (λ was. Q was now)) → IfSome c (λ now. IsSomeAnd a (λ was. P was now × Q was now))
-    by a None p q = tt
-    by None (Some now) p q = absurd p
-    by (Some was) (Some now) p q = (p, q)
-
 -- what prices show is a bound
 shown_bounds : (s : SearchModel) (new : ℕ) → IsSearch s → ShowsBound s new → NoneAbove s.problem new
 shown_bounds s new is shown table c permits worth = by s.prices.tariff shown
@@ -94,24 +83,3 @@ bounded s mid after new old here log below shown h t = record {
   heeds = h;
   tells = t;
 }
-
--- ---- the answers
-
-pub lowered : (s after : SearchModel) (new : ℕ) (old log : LogModel) → IsBounded s new after old log → Lowers s after old log
-lowered s after new old log b = record {
-  mid = b.mid;
-  then = b.then;
-  heeds = b.heeds;
-  bound = new;
-  lower = b.below;
-  line = record {
-    kept = b.tells.kept;
-    same_faults = b.tells.same_faults;
-    writes = grows_both b.then log (λ was now. now.lines ≡ was.lines ++ lines.Bound new ∷ []) (HeedWrites b.mid after) b.tells.line b.tells.writes;
-  };
-  after_is = b.tells.search;
-}
-
-pub bound_halts : (s mid after : SearchModel) (stop : LogStop) (old log : LogModel) → HeedStops s mid old stop log → after ≡ record mid { over = true } → BoundMeets s old (bounded_by stop) after log
-bound_halts s mid after stops.Failed old log h e = record { mid = mid; then = h.then; heeds = h.heeds; stopped = record { over = e; later = h.later; cause = subst (λ f. StopsBy f turns.LogFailed h.then log) (sym (same_problem s mid old h.then h.heeds)) h.cause } }
-bound_halts s mid after stops.NoMemory old log h e = record { mid = mid; then = h.then; heeds = h.heeds; stopped = record { over = e; later = h.later; cause = h.cause } }

@@ -1,20 +1,19 @@
 -- One more clause in a store that watches literals, and a store without clauses.
-use Rattle.std.proofs.Common.{◌≡◌, ◌⊎◌, ℕ, zero, suc, ◌+◌, ◌^◌, ◌<◌, ◌≤◌, List, [], ◌∷◌, ◌++◌, length, get_or, refl, sym, ap, ◌∙◌, subst, arith, All, Contains, inl, inr, length-append}
+use Rattle.std.proofs.Common.{◌≡◌, ℕ, zero, suc, ◌+◌, ◌^◌, ◌<◌, ◌≤◌, List, [], ◌∷◌, ◌++◌, length, get_or, refl, sym, ap, ◌∙◌, subst, arith, All, Contains, inl, inr, length-append}
 use Rattle.std.proofs.lemmas.List.{get_or_append_left, get_or_push}
 use Rattle.std.proofs.lemmas.List.Elements.{All-push, All-weaker, Contains-append_left, Contains-push}
 use Rattle.std.proofs.lemmas.Bool.{cases_eq}
 use Rattle.hw_model.specs.Lits.{IsLitOf}
-use Rattle.hw_model.specs.Rooms.{RoomModel}
 use Rattle.hw_store.specs.declared.store.Stored.{Stored}
 use Rattle.hw_store.specs.declared.watching.Watch.{Watch}
 use Rattle.hw_store.specs.declared.watching.Watch.TheVariants.{Due}
 use Rattle.hw_store.specs.Stores.{Ascends, KeepsClauses}
 use Rattle.hw_store.specs.Numbering.{bucket_count}
-use Rattle.hw_store.specs.Watches.{WatchModel, WatchedModel, count_due, Watches, Listed, Shows, ShowsAll, KeepsDue, KeepsBuckets, KeepsSeen, IsOneMore, KeepsWatches}
-use Rattle.hw_store.proofs.Holding.{keeps_more, keeps_none}
+use Rattle.hw_store.specs.Watches.{WatchModel, WatchedModel, count_due, Watches, Listed, KeepsDue, KeepsBuckets, KeepsSeen, IsOneMore, KeepsWatches}
+use Rattle.hw_store.proofs.Holding.{keeps_more}
 use Rattle.hw_store.proofs.Keeping.{numbers}
-use Rattle.hw_store.proofs.Standing.{stand_more, stand_none}
-use Rattle.hw_store.proofs.Seen.{seen_add, seen_none}
+use Rattle.hw_store.proofs.Standing.{stand_more}
+use Rattle.hw_store.proofs.Seen.{seen_add}
 
 -- a number is at least its clause's place
 rank : (held : List Stored) (d : Stored) (i : ℕ) → Ascends held → i < length held → i ≤ (get_or held i d).number
@@ -88,39 +87,3 @@ keeps_add s one w k above fits m =
       known = subst (KeepsBuckets s.lists) (sym m.stands) (stand_more s.lists s.watched.stands k.known);
       seen = by (λ ships slots. KeepsSeen ships s.seen w.watches) (subst (KeepsSeen s.watched.ships s.seen) (sym m.watches) (seen_add s.watched.ships s.seen ws k.seen));
     }
-
-pub shows_add : (room : RoomModel) (ws : List Watch) → ShowsAll room ws → ShowsAll room (ws ++ Due ∷ [])
-shows_add room ws h = All-push (Shows room) ws Due h tt
-
-none_listed : (lists : List (List ℕ)) → All (λ (l : List ℕ). l ≡ []) lists → (bucket p : ℕ) → Contains (get_or lists bucket []) p → ⊥
-none_listed lists h bucket p c = by (order_of_bucket bucket (length lists))
-  where
-    order_of_bucket : (a b : ℕ) → (a < b) ⊎ (b ≤ a)
-    order_of_bucket zero zero = inr (omega arith)
-    order_of_bucket zero (suc b) = inl (omega arith)
-    order_of_bucket (suc a) zero = inr (omega arith)
-    order_of_bucket (suc a) (suc b) = elim (order_of_bucket a b) [ inl l ↦ inl (omega (arith, l)) | inr l ↦ inr (omega (arith, l)) ]
-
-    past : (ls : List (List ℕ)) (n : ℕ) → length ls ≤ n → get_or ls n [] ≡ []
-    past [] n le = refl
-    past (l ∷ ls) zero le = absurd (omega (arith, le))
-    past (l ∷ ls) (suc n) le = past ls n (omega (arith, le))
-
-    empty : get_or lists bucket [] ≡ [] → ⊥
-    empty e = let lt = (subst (λ l. Contains l p) e c).1 in absurd (omega (arith, lt))
-
-    by : (bucket < length lists) ⊎ (length lists ≤ bucket) → ⊥
-    by (inl lt) = empty (h bucket [] lt)
-    by (inr le) = empty (past lists bucket le)
-
-pub keeps_new : (ships slots : ℕ) (lists : List (List ℕ)) (seen : RoomModel) → length lists ≡ bucket_count ships slots → All (λ (l : List ℕ). l ≡ []) lists → seen.ships ≡ ships → KeepsWatches (record { held = []; watched = record { ships = ships; slots = slots; watches = []; stands = []; due = [] }; lists = lists; seen = seen })
-keeps_new ships slots lists seen n empty same = record {
-  clauses = keeps_none ships;
-  each_clause = refl;
-  each_bucket = n;
-  among = λ bucket p h. absurd (none_listed lists empty bucket p h);
-  watched = λ i d lt. absurd (omega (arith, lt));
-  listed = λ i lt. absurd (omega (arith, lt));
-  known = stand_none lists;
-  seen = seen_none ships seen same;
-}

@@ -5,7 +5,7 @@ use Rattle.std.proofs.lemmas.List.{get_or_append_left, get_or_push, get_or_defau
 use Rattle.std.proofs.lemmas.Bool.{cases_eq}
 use Rattle.hw_model.specs.Lits.{IsLitOf}
 use Rattle.hw_store.specs.declared.store.Stored.{Stored}
-use Rattle.hw_store.specs.Stores.{Ascends, FitsShips, KeepsClauses, IsClauseOf}
+use Rattle.hw_store.specs.Stores.{Ascends, KeepsClauses, IsClauseOf}
 
 pub ascends_more : (held : List Stored) (one : Stored) → Ascends held → All (λ (s : Stored). s.number < one.number) held → Ascends (held ++ one ∷ [])
 ascends_more held one a h i j d lt lt2 = elim (cases_eq j (length held)) [
@@ -28,9 +28,6 @@ keeps_more ships held one k h f = record {
   fits = All-push (λ (s : Stored). All (IsLitOf ships) s.clause) held one k.fits f;
   ascends = ascends_more held one k.ascends h;
 }
-
-pub keeps_none : (ships : ℕ) → KeepsClauses ships []
-keeps_none ships = record { fits = λ k d lt. absurd (omega (arith, lt)); ascends = λ i j d lt lt2. absurd (omega (arith, lt2)) }
 
 below_or_above : (k p : ℕ) → k ≢ p → (k < p) ⊎ (p < k)
 below_or_above zero zero n = absurd (n refl)
@@ -62,9 +59,6 @@ only_one held place one a lt e = (
 
 -- ---- passes over the clauses
 
-pub at_clause : (held : List Stored) (place : ℕ) (one : Stored) (ships : ℕ) → FitsShips ships held → place < length held → one ≡ get_or held place one → All (IsLitOf ships) one.clause
-at_clause held place one ships f lt e = subst (λ (s : Stored). All (IsLitOf ships) s.clause) (sym e) (f place one lt)
-
 pub all_more : (P : Stored → Type 0) (held : List Stored) (place : ℕ) (one : Stored) → place < length held → one ≡ get_or held place one → All P (take place held) → P one → All P (take (place + 1) held)
 all_more P held place one lt e h p = All-more P held place one lt h (subst P e p)
 
@@ -94,15 +88,3 @@ above_half held id m one a lt e more i d le inside = elim (cases_eq i m) [
   | inl q ↦ (let r = read_at held m one lt e d in subst (λ n. id < (get_or held n d).number) (sym q) (omega (arith, r, more)))
   | inr n ↦ (let r = read_at held m one lt e d in let up = a m i d (omega (arith, le, n)) inside in omega (arith, r, more, up))
 ]
-
-pub not_held : (held : List Stored) (id low high : ℕ) → high ≤ low → AllBelow held id low → AllAbove held id high → All (λ (one : Stored). one.number ≢ id) held
-not_held held id low high le below above i d inside same = elim (cases_lt i low) [
-  | inl lt ↦ (let h = below i d lt inside in absurd (omega (arith, h, same)))
-  | inr ge ↦ (let h = above i d (omega (arith, le, ge)) inside in absurd (omega (arith, h, same)))
-]
-  where
-    cases_lt : (a b : ℕ) → (a < b) ⊎ (b ≤ a)
-    cases_lt zero zero = inr (omega arith)
-    cases_lt zero (suc b) = inl (omega arith)
-    cases_lt (suc a) zero = inr (omega arith)
-    cases_lt (suc a) (suc b) = elim (cases_lt a b) [ inl l ↦ inl (omega (arith, l)) | inr l ↦ inr (omega (arith, l)) ]

@@ -1,15 +1,11 @@
 -- What a cut, and a look at the watches, leave of what is watched.
-use Rattle.std.proofs.Common.{◌≡◌, ℕ, ◌<◌, List, [], length, get_or, refl, sym, ◌∙◌, subst, All, Contains}
+use Rattle.std.proofs.Common.{◌≡◌, ℕ, ◌<◌, List, [], length, get_or, sym, ◌∙◌, subst, All, Contains}
 use Rattle.std.proofs.lemmas.List.{get_or_default}
 use Rattle.hw_store.specs.Watches.{WatchedModel, WatchModel, Marks, KeepsWatches}
 use Rattle.hw_store.specs.Numbering.{bucket_count}
 use Rattle.hw_store.proofs.Keeping.{numbers}
-use Rattle.hw_store.proofs.Drops.{drops_none}
 use Rattle.hw_store.proofs.Sifting.{drops_twice}
-use Rattle.hw_store.proofs.Standing.{forgets_none, forgets_twice}
-
-pub marks_none : (s : WatchedModel) → Marks s s
-marks_none s = record { same_ships = refl; same_slots = refl; drops = drops_none s.watches; forgets = forgets_none s.stands }
+use Rattle.hw_store.proofs.Standing.{forgets_twice}
 
 pub marks_twice : (a b c : WatchedModel) → Marks a b → Marks b c → Marks a c
 marks_twice a b c m n = record {

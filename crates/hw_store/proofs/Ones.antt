@@ -85,9 +85,6 @@ stay_shown room w v h f = record { each = λ i e. ap is_one (f i (h i e)) ∙ e 
 
 -- ---- the list of them
 
-pub ones_none : KeepsOnes [] []
-ones_none = record { has = λ i e. absurd (false_true e); among = λ i d lt. absurd (omega (arith, lt)); few = omega arith }
-
 pub ones_drop : (w v : List Watch) (ones : List ℕ) → KeepsOnes w ones → DropsSome w v → OnesStay w v → KeepsOnes v ones
 ones_drop w v ones k d stay = record {
   has = λ i e. elim (d.each i) [

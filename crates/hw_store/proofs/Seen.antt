@@ -27,9 +27,6 @@ watch_around inner outer (Two a b) is e h fits o = (open_around inner outer a is
 
 -- ---- the room that was seen
 
-pub seen_none : (ships : ℕ) (seen : RoomModel) → seen.ships ≡ ships → KeepsSeen ships seen []
-seen_none ships seen e = record { same_ships = e; open_all = λ i. tt }
-
 pub seen_drop : (ships : ℕ) (seen : RoomModel) (w v : List Watch) → KeepsSeen ships seen w → DropsSome w v → KeepsSeen ships seen v
 seen_drop ships seen w v k d = record { same_ships = k.same_ships; open_all = λ i. dropped (IsOpen seen) w v i d tt (k.open_all i) }
 

@@ -38,16 +38,6 @@ pub record Sifting (ships slots bucket : ℕ) (cutting : Lit) (ws : List Watch) 
   pub stays : (i : ℕ) → i < at → is_on ships slots bucket (get_or ws (get_or old i 0) Due) ≡ true → (j : ℕ) × (j < kept) × (get_or now j 0 ≡ get_or old i 0)
   pub only : (j : ℕ) → j < kept → (i : ℕ) × (i < at) × (get_or old i 0 ≡ get_or now j 0)
 
-pub sift_starts : (ships slots bucket : ℕ) (cutting : Lit) (ws : List Watch) (old : List ℕ) → Sifting ships slots bucket cutting ws old old 0 0
-sift_starts ships slots bucket cutting ws old = record {
-  same_length = refl;
-  few = omega arith;
-  behind = λ i le. refl;
-  missed = λ i lt. absurd (omega (arith, lt));
-  stays = λ i lt on. absurd (omega (arith, lt));
-  only = λ j lt. absurd (omega (arith, lt));
-}
-
 missed_more : (cutting : Lit) (w v : List Watch) (old : List ℕ) (at : ℕ) → DropsSome w v → is_hit cutting (get_or v (get_or old at 0) Due) ≡ false → ((i : ℕ) → i < at → is_hit cutting (get_or w (get_or old i 0) Due) ≡ false) → (i : ℕ) → i < at + 1 → is_hit cutting (get_or v (get_or old i 0) Due) ≡ false
 missed_more cutting w v old at d here before i lt = elim (cases_eq i at) [
   | inl e ↦ subst (λ n. is_hit cutting (get_or v (get_or old n 0) Due) ≡ false) (sym e) here

@@ -1,9 +1,9 @@
 -- The buckets in whose lists a clause's place is known to stand.
-use Rattle.std.proofs.Common.{◌≡◌, ◌≢◌, ◌⊎◌, ℕ, zero, suc, ◌+◌, ◌<◌, ◌≤◌, ◌==◌, ◌||◌, Bool, true, false, Option, Some, None, List, [], ◌∷◌, ◌++◌, length, take, get_or, set, refl, sym, ap, ◌∙◌, subst, arith, Contains, inl, inr, cond, length-set, get_or-set_same, get_or-set_other, get_or-take, length-take-le}
+use Rattle.std.proofs.Common.{◌≡◌, ◌≢◌, ◌⊎◌, ℕ, zero, suc, ◌+◌, ◌<◌, ◌≤◌, ◌==◌, ◌||◌, Bool, true, false, Some, List, [], ◌∷◌, ◌++◌, length, take, get_or, set, refl, sym, ap, ◌∙◌, subst, arith, Contains, inl, inr, get_or-set_same, get_or-set_other, get_or-take, length-take-le}
 use Rattle.std.proofs.lemmas.List.{get_or_default}
 use Rattle.std.proofs.lemmas.Bool.{cases_eq, eqb-true}
 use Rattle.hw_store.specs.declared.watching.Buckets.{Buckets}
-use Rattle.hw_store.specs.Watches.{is_bucket, is_among, other_bucket, without, nowhere, StandsAt, KeepsBuckets, Forgets, Leaves, Grows}
+use Rattle.hw_store.specs.Watches.{is_among, nowhere, StandsAt, KeepsBuckets, Forgets, Leaves, Grows}
 
 false_true : false ≡ true → ⊥
 false_true e = cc
@@ -14,67 +14,10 @@ either : (a b : Bool) → a || b ≡ true → (a ≡ true) ⊎ (b ≡ true)
 either true b e = inl refl
 either false b e = inr e
 
-left : (a b : Bool) → a ≡ true → a || b ≡ true
-left true b e = refl
-left false b e = absurd (false_true e)
-
-right : (a b : Bool) → b ≡ true → a || b ≡ true
-right true b e = refl
-right false b e = e
-
-neither : (a b : Bool) → a ≡ false → b ≡ false → a || b ≡ false
-neither true b e f = e
-neither false b e f = f
-
-bucket_stays : (one : Option ℕ) (bucket n : ℕ) → is_bucket (other_bucket one bucket) n ≡ true → is_bucket one n ≡ true
-bucket_stays None bucket n e = e
-bucket_stays (Some s) bucket n e = by (s == bucket) e
-  where
-    by : (b : Bool) → is_bucket (cond b None (Some s)) n ≡ true → s == n ≡ true
-    by true x = absurd (false_true x)
-    by false x = x
-
-bucket_gone : (one : Option ℕ) (bucket : ℕ) → is_bucket (other_bucket one bucket) bucket ≡ false
-bucket_gone None bucket = refl
-bucket_gone (Some s) bucket = by (s == bucket) refl
-  where
-    by : (b : Bool) → s == bucket ≡ b → is_bucket (cond b None (Some s)) bucket ≡ false
-    by true x = refl
-    by false x = x
-
-without_stays : (buckets : Buckets) (bucket n : ℕ) → is_among (without buckets bucket) n ≡ true → is_among buckets n ≡ true
-without_stays buckets bucket n e = elim (either (is_bucket (other_bucket buckets.first bucket) n) (is_bucket (other_bucket buckets.second bucket) n) e) [
-  | inl x ↦ left (is_bucket buckets.first n) (is_bucket buckets.second n) (bucket_stays buckets.first bucket n x)
-  | inr x ↦ right (is_bucket buckets.first n) (is_bucket buckets.second n) (bucket_stays buckets.second bucket n x)
-]
-
-without_gone : (buckets : Buckets) (bucket : ℕ) → is_among (without buckets bucket) bucket ≡ false
-without_gone buckets bucket = neither (is_bucket (other_bucket buckets.first bucket) bucket) (is_bucket (other_bucket buckets.second bucket) bucket) (bucket_gone buckets.first bucket) (bucket_gone buckets.second bucket)
-
 -- ---- all records
-
-pub forgets_none : (stands : List Buckets) → Forgets stands stands
-forgets_none stands = record { same_length = refl; only = λ i n e. e }
 
 pub forgets_twice : (a b c : List Buckets) → Forgets a b → Forgets b c → Forgets a c
 forgets_twice a b c f g = record { same_length = g.same_length ∙ f.same_length; only = λ i n e. f.only i n (g.only i n e) }
-
-pub forgets_at : (stands : List Buckets) (place bucket : ℕ) → place < length stands → Forgets stands (set stands place (without (get_or stands place nowhere) bucket))
-forgets_at stands place bucket lt =
-    let new : Buckets = without (get_or stands place nowhere) bucket in
-    record {
-      same_length = length-set stands place new;
-      only = λ i n e. elim (cases_eq i place) [
-        | inl q ↦ subst (λ m. is_among (get_or stands m nowhere) n ≡ true) (sym q)
-            (without_stays (get_or stands place nowhere) bucket n (subst (λ x. is_among x n ≡ true) (ap (λ m. get_or (set stands place new) m nowhere) q ∙ get_or-set_same stands place new nowhere lt) e))
-        | inr q ↦ subst (λ x. is_among x n ≡ true) (get_or-set_other stands place i new nowhere q) e
-      ];
-    }
-
-pub gone_at : (stands : List Buckets) (place bucket : ℕ) → place < length stands → is_among (get_or (set stands place (without (get_or stands place nowhere) bucket)) place nowhere) bucket ≡ false
-gone_at stands place bucket lt =
-    let new : Buckets = without (get_or stands place nowhere) bucket in
-    subst (λ x. is_among x bucket ≡ false) (sym (get_or-set_same stands place new nowhere lt)) (without_gone (get_or stands place nowhere) bucket)
 
 -- what is known stays so where places are forgotten
 pub forgotten : (lists : List (List ℕ)) (a b : List Buckets) → Forgets a b → KeepsBuckets lists a → KeepsBuckets lists b
@@ -104,17 +47,11 @@ stand_more lists stands k i n e = k i n (subst (λ x. is_among x n ≡ true) (pu
     pushed (x ∷ xs) zero = refl
     pushed (x ∷ xs) (suc i) = pushed xs i
 
-pub stand_none : (lists : List (List ℕ)) → KeepsBuckets lists []
-stand_none lists i n e = absurd (false_true e)
-
 -- ---- a list gone through
 
 -- up to a place of the old list, each stays among the first `kept` of the new one, or isn't known to stand there
 abbrev pub Leaving : ℕ → List Buckets → List ℕ → List ℕ → ℕ → ℕ → Type 0
 Leaving bucket stands old now at kept = (i : ℕ) → i < at → ((j : ℕ) × (j < kept) × (get_or now j 0 ≡ get_or old i 0)) ⊎ (is_among (get_or stands (get_or old i 0) nowhere) bucket ≡ false)
-
-pub leave_starts : (bucket : ℕ) (stands : List Buckets) (old : List ℕ) → Leaving bucket stands old old 0 0
-leave_starts bucket stands old i lt = absurd (omega (arith, lt))
 
 pub leave_keeps : (bucket : ℕ) (stands : List Buckets) (old now : List ℕ) (at kept : ℕ) → kept < length now → Leaving bucket stands old now at kept → Leaving bucket stands old (set now kept (get_or old at 0)) (at + 1) (kept + 1)
 leave_keeps bucket stands old now at kept within h i lt = elim (cases_eq i at) [

@@ -8,23 +8,8 @@ use Rattle.hw_store.specs.declared.watching.Watch.{Watch}
 use Rattle.hw_store.specs.declared.watching.Watch.TheVariants.{Due, One, Two}
 use Rattle.hw_store.specs.Watches.{WatchedModel, IsWatchOf, is_one, KeepsDue, DropsSome, OnesStay, KeepsWatched, IsLast, nowhere}
 use Rattle.hw_store.proofs.Drops.{drops_fit}
-use Rattle.hw_store.proofs.Ones.{ones_none, ones_drop, ones_add, ones_one, ones_other, last_not_one}
+use Rattle.hw_store.proofs.Ones.{ones_drop, ones_add, ones_one, ones_other, last_not_one}
 use Rattle.hw_store.proofs.Adding.{due_push}
-
-pub keeps_nothing : (ships slots due_capacity ones_capacity : ℕ) → KeepsWatched (record { ships = ships; slots = slots; watches = []; stands = []; due = [] }) [] due_capacity ones_capacity
-keeps_nothing ships slots due_capacity ones_capacity = record {
-  fits = λ i d lt. absurd (omega (arith, lt));
-  beside = refl;
-  due = record {
-    has = λ i lt e. absurd (omega (arith, lt));
-    among = λ i d lt. absurd (omega (arith, lt));
-    few = omega arith;
-    reserved = omega arith;
-    small = omega arith;
-  };
-  ones = ones_none;
-  reserved = omega arith;
-}
 
 -- watches became Due
 pub keeps_dropped : (s : WatchedModel) (ones : List ℕ) (room many room' : ℕ) (ws : List Watch) (due : List ℕ) → KeepsWatched s ones room many → DropsSome s.watches ws → OnesStay s.watches ws → KeepsDue ws due room' → KeepsWatched (record s { watches = ws; due = due }) ones room' many

@@ -172,9 +172,6 @@ abbrev pub other_bucket : Option ℕ → ℕ → Option ℕ
 other_bucket None n = None
 other_bucket (Some bucket) n = cond (bucket == n) None (Some bucket)
 
-abbrev pub without : Buckets → ℕ → Buckets
-without buckets n = record { first = other_bucket buckets.first n; second = other_bucket buckets.second n }
-
 abbrev pub nowhere : Buckets
 nowhere = record { first = None; second = None }
 

@@ -85,11 +85,6 @@ width range = range.1 - range.0
 abbrev left_open : RoomModel → ℕ
 left_open room = sum_by width room.ranges + unset_in room (pairs room.ships)
 
-unset_most : (o : Order) → unset o ≤ 1
-unset_most orders.Unset = omega arith
-unset_most orders.First = omega arith
-unset_most orders.NotFirst = omega arith
-
 -- a set order counts no more
 set_one : (room : RoomModel) (v w a b : ℕ) (o : Order) → IsFull room → v < w → w < room.ships → b < room.ships → unset o ≡ 0 → unset (order_of (with_order room v w o) a b) ≤ unset (order_of room a b)
 set_one room v w a b o full vw lt lb z = elim (cases_pair a b v w) [

@@ -1,5 +1,5 @@
 -- A literal is denied, and the greatest literal that a room knows of a side.
-use Rattle.std.proofs.Common.{◌≡◌, ℕ, ◌<◌, ◌≤◌, ◌+◌, true, false, refl, arith, ◌⊎◌, inl, inr, nat_le, nat_lt, sym, ap, subst}
+use Rattle.std.proofs.Common.{◌≡◌, ℕ, ◌<◌, ◌≤◌, ◌+◌, true, false, refl, arith, inl, inr, nat_le, nat_lt, sym, ap, subst}
 use Rattle.std.proofs.lemmas.Bool.{or_cases, or_right, and_from, le-leb, lt-ltb, cases_Bool, and_parts, leb-true}
 use Rattle.hw_model.specs.declared.order.Order.{Order}
 use Rattle.hw_model.specs.declared.order.Order.TheVariants as orders
@@ -12,7 +12,6 @@ use Rattle.hw_model.specs.RefutingComputed.{is_first, is_not_first}
 use Rattle.hw_model.specs.Lits.{IsLitOf}
 use Rattle.hw_laws.proofs.Cuts.{full_room, no_order_set}
 use Rattle.hw_story.specs.Sides.{implies, one, floor, roof}
-use Rattle.hw_story.specs.Replays.{Facts}
 use Rattle.hw_story.specs.Knowing.{knows, always}
 use Rattle.hw_story.specs.Passes.{DeniesOne, MostOf, NothingOf}
 use Rattle.hw_story.proofs.Sides.{SameSide, implied_from, same_parts, same_from, neg_neg}
@@ -36,9 +35,6 @@ denies_cut r i l f out free =
       known = inl seen;
       sources = λ m y. elim (or_cases _ _ (cut_out r (full_room r i) (negation l) f' m y)) [ inl p ↦ inr (p, seen) | inr q ↦ inl q ];
     }
-
-pub denies_nothing : (r : Facts) (l : Lit) → (r (negation l) ≡ true) ⊎ (r l ≡ true) → DeniesOne r r l
-denies_nothing r l k = record { keeps = λ m y. y; known = k; sources = λ m y. inl y }
 
 -- THE GREATEST LITERAL OF A SIDE
 low_end : (r : RoomModel) (v k : ℕ) (m : Lit) → SameSide (AtOrAfter v k) m → knows r m ≡ true → (s : ℕ) → s ≡ low_of r v → (one m ≡ v) × (one m < r.ships) × (floor m ≤ s) × (roof m ≡ 0)
@@ -116,9 +112,6 @@ not_first_floor v w (NotFirst x y) p = (let a : v ≡ x = p.ones in let b : w �
 not_first_floor v w (AtOrAfter x y) p = absurd (omega (arith, p.kinds))
 not_first_floor v w (Before x y) p = absurd (omega (arith, p.kinds))
 not_first_floor v w (First x y) p = absurd (omega (arith, p.kinds))
-
-is_first_when : (o : Order) → o ≡ orders.First → is_first o ≡ true
-is_first_when o e = ap is_first e
 
 first_when : (o : Order) → is_first o ≡ true → o ≡ orders.First
 first_when orders.Unset h = absurd cc

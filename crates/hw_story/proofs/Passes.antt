@@ -1,5 +1,5 @@
 -- A step of the walk back: a miss, a hit that stays, one that is resolved; and where the walk begins.
-use Rattle.std.proofs.Common.{◌≡◌, ℕ, zero, suc, ◌<◌, ◌≤◌, ◌+◌, ◌-◌, Bool, true, false, refl, arith, ◌⊎◌, inl, inr, ◌∙◌, sym, ap, subst, cond, List, [], ◌∷◌, ◌++◌, length, get_or, Some, None, add-one}
+use Rattle.std.proofs.Common.{◌≡◌, ℕ, zero, suc, ◌<◌, ◌≤◌, ◌-◌, Bool, true, false, refl, arith, ◌⊎◌, inl, inr, ◌∙◌, sym, subst, cond, List, [], ◌∷◌, ◌++◌, Some, None}
 use Rattle.std.specs.Prelude.{MatchBool}
 use Rattle.std.proofs.lemmas.Bool.{cases_Bool, cases_lt, or_cases, or_left}
 use Rattle.hw_model.specs.declared.lit.Lit.{Lit}
@@ -39,9 +39,6 @@ pub in_last : (xs : List Lit) (l : Lit) → In l (xs ++ l ∷ [])
 in_last [] l = inl refl
 in_last (x ∷ xs) l = inr (in_last xs l)
 
-pub denies_none : (r : Facts) (e : Lit) → DeniesOthers r r [] e
-denies_none r e = record { keeps = λ m y. y; known = λ l i. absurd i; sources = λ m y. inl y }
-
 pub denies_skip : (old new : Facts) (c : List Lit) (e x : Lit) → DeniesOthers old new c e → x ≡ e → DeniesOthers old new (c ++ x ∷ []) e
 denies_skip old new c e x d same = record {
   keeps = d.keeps;
@@ -77,21 +74,9 @@ denies_more old mid new c e x d ne o = record {
   ];
 }
 
--- EVENTS
-pub same_default : {A : Type 0} (xs : List A) (i : ℕ) (d e : A) → i < length xs → get_or xs i d ≡ get_or xs i e
-same_default [] i d e lt = absurd (omega arith)
-same_default (x ∷ xs) zero d e lt = refl
-same_default (x ∷ xs) (suc i) d e lt = same_default xs i d e (omega arith)
-
 pub match_by : (b : Bool) (P Q : Type 0) → (b ≡ true → P) → (b ≡ false → Q) → MatchBool b P Q
 match_by true P Q f g = f refl
 match_by false P Q f g = g refl
-
-pub known_at : (t : Story) (n : ℕ) → IsStory t n → (i upto : ℕ) (m : Lit) → i < upto → implies (t.at i).lit m ≡ true → room_at t upto m ≡ true
-known_at t n s i upto m lt h = room_grows t (suc i) upto lt m (or_left _ _ h)
-
-pub grows_to : (t : Story) (i upto : ℕ) (m : Lit) → i < upto → implies (t.at i).lit m ≡ true → true ≡ room_at t upto m
-grows_to t i upto m lt h = sym (room_grows t (suc i) upto lt m (or_left _ _ h))
 
 -- HIT OR MISS
 pub hit_from : (t : Story) (p : ℕ) (b : Facts) (x : Lit) → MostOf t.start b (t.at p).lit x → room_at t p x ≡ false → room_at t (suc p) x ≡ true → Hit t p b
@@ -111,18 +96,6 @@ miss_before t n s p lt b x m known y h side = inl ((room_world t n s p (omega ar
 
 pub miss_after : (t : Story) (p : ℕ) (b : Facts) (x : Lit) → MostOf t.start b (t.at p).lit x → room_at t (suc p) x ≡ false → Miss t p b
 miss_after t p b x m later y h side = inr (record { by = x; known = m.known; implied = m.greatest y h side; later = later })
-
-pub hit_answer : (t : Story) (n : ℕ) → IsStory t n → (p : ℕ) → p < n → (b : Facts) (x : Lit) → MostOf t.start b (t.at p).lit x → (after : Bool) → false ≡ room_at t p x → after ≡ room_at t (p + 1) x
-    → MatchBool after (Hit t p b) (Miss t p b)
-hit_answer t n s p lt b x m after old new =
-    let e : after ≡ room_at t (suc p) x = new ∙ ap (λ k. room_at t k x) (add-one p) in
-    match_by after _ _ (λ y. hit_from t p b x m (sym old) (sym e ∙ y)) (λ y. miss_after t p b x m (sym e ∙ y))
-
-pub none_more : (t : Story) (first q : ℕ) (b : Facts) → NoHit t first q b → Miss t q b → NoHit t first (q + 1) b
-none_more t first q b none miss k from below = elim (cases_lt k q) [
-  | inl y ↦ none k from y
-  | inr y ↦ let e : q ≡ k = omega arith in subst (λ (j : ℕ). Miss t j b) e miss
-]
 
 -- WHETHER ANOTHER IS OPEN
 pub another_open : (t : Story) (n : ℕ) → IsStory t n → (first p : ℕ) → p < n → (b : Facts) → Hit t p b → HitBefore t first p b → Narrower (room_at t first) (dropping (t.at p).lit b) → ⊥
@@ -256,10 +229,6 @@ pub walks_on : (t : Story) (n top first p : ℕ) (start old new : Facts) (places
 walks_on t n top first p start old new places resolved some le w keeps base k bs begin =
     let e : p ≡ suc (p - 1) = omega arith in
     keeps n base k places (omega arith) bs (subst (λ (q : ℕ). Walk t n top first base k q old places) e (w base k bs begin))
-
--- THE START
-pub all_none : (r : Facts) → DeniesAll r r []
-all_none r = record { keeps = λ m y. y; known = λ l i. absurd i; sources = λ m y. inl y }
 
 pub all_more : (old mid new : Facts) (c : List Lit) (x : Lit) → DeniesAll old mid c → DeniesOne mid new x → DeniesAll old new (c ++ x ∷ [])
 all_more old mid new c x d o = record {

@@ -8,34 +8,8 @@ ghost use Rattle.hw_tolls.specs.Computed as computed;
 ghost use Rattle.hw_tolls.specs.Computed.{BalanceFits};
 
 use crate::charging::charge;
-use crate::taking::pays;
-use hw_flat::{Flat, Room, ShipId, Slot};
+use hw_flat::{Flat, Room, Slot};
 use hw_tolls::{Balance, Block, Tariff, Toll};
-
-/// The balance of a ship in a slot, or none where it has no value there. Each due costs one look
-/// at its toll's blocks or jobs.
-pub fn balance(
-    flat: &Flat,
-    tolls: &[Toll],
-    tariff: &Tariff,
-    ship: ShipId,
-    slot: Slot,
-) -> Option<Balance>
-    requires tolls { All (IsToll flat.now) tolls.now }
-    requires fits { TariffFits (length tolls.now) tariff.now }
-    requires ship_in { ship < flat.now.ships }
-    requires slot_in { slot < flat.now.slots }
-    ensures value { result ≡ computed.balance flat.now tolls.now tariff.now ship slot }
-    ensures small { IfSome result (BalanceFits 1) }
-{
-    match flat.value(ship, slot) {
-        None => None,
-        Some(value) => Some(Balance {
-            gain: scaled(tariff.scale, value),
-            cost: pays(flat, tolls, &tariff.dues.items, ship, slot),
-        }),
-    }
-}
 
 /// A value, in tenths of a tonne, as parts.
 fn scaled(scale: u32, value: u64) -> u128
@@ -67,25 +41,8 @@ pub fn better(first: Option<Balance>, second: Option<Balance>) -> Option<Balance
     }
 }
 
-/// The best balance of a ship in a range of its slots, or none where it has no value there.
-///
-/// Each slot of the range costs one look at each due's blocks or jobs.
-pub fn best_balance(flat: &Flat, tolls: &[Toll], tariff: &Tariff, range: Block) -> Option<Balance>
-    requires tolls { All (IsToll flat.now) tolls.now }
-    requires fits { TariffFits (length tolls.now) tariff.now }
-    requires ship_in { range.ship < flat.now.ships }
-    requires slot_in { range.high < flat.now.slots }
-    ensures value { result ≡ computed.best_balance flat.now tolls.now tariff.now range.ship range.low range.high }
-    ensures small { IfSome result (BalanceFits 1) }
-{
-    let mut most: Option<Balance> = None;
-    for slot in range.low..behind(flat, range.high) {
-        most = better(most, balance(flat, tolls, tariff, range.ship, slot));
-    }
-    most
-}
-
-/// Like `best_balance`, but faster. `costs` is scratch space, one number for each slot of the problem.
+/// The best balance of a ship in a range of its slots, or none where it has no value there. `costs`
+/// is scratch space, one number for each slot of the problem.
 ///
 /// Each due costs one look at its toll's blocks or jobs, and a step for each slot of the range that
 /// they charge.
@@ -182,30 +139,7 @@ pub(crate) fn together(sum: Option<Balance>, next: Option<Balance>) -> Option<Ba
 }
 
 /// The ships' best balances in their ranges together, or none where a ship has no value in its
-/// range.
-///
-/// Each slot of the ranges costs one look at each due's blocks or jobs.
-pub fn best_balances(flat: &Flat, tolls: &[Toll], tariff: &Tariff, room: &Room) -> Option<Balance>
-    requires tolls { All (IsToll flat.now) tolls.now }
-    requires fits { TariffFits (length tolls.now) tariff.now }
-    requires room { RoomFits flat.now room.now }
-    ensures value { result ≡ computed.best_balances flat.now tolls.now tariff.now room.now }
-    ensures small { IfSome result (BalanceFits 40) }
-    ensures limits { IsFlat flat.now }
-{
-    let mut sum: Option<Balance> = Some(Balance { gain: 0, cost: 0 });
-    for ship in 0..flat.shape().ships {
-        let range = Block {
-            ship,
-            low: room.low(ship),
-            high: room.high(ship),
-        };
-        sum = together(sum, best_balance(flat, tolls, tariff, range));
-    }
-    sum
-}
-
-/// Like `best_balances`, but faster. `costs` is scratch space, one number for each slot of the problem.
+/// range. `costs` is scratch space, one number for each slot of the problem.
 ///
 /// Each due costs one look at its toll's blocks or jobs for each ship, and a step for each slot of
 /// the ranges that they charge.

@@ -85,7 +85,7 @@ impl InForce {
     }
 
     /// Whether the prices refute the room under the best, in tenths of a tonne, exactly as
-    /// [`prices_refute`](crate::prices_refute) says. The tolls are those for which the tariff was
+    /// [`charged_refute`](crate::charged_refute) says. The tolls are those for which the tariff was
     /// charged, or these and more after them.
     ///
     /// It takes no memory, a step for each ship, and one for each slot of the ranges that aren't

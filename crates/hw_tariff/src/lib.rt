@@ -19,7 +19,7 @@ mod refuting;
 mod taking;
 mod weighing;
 
-pub use balancing::{balance, best_balance, best_balances, best_charged, better, charged_balances};
+pub use balancing::{best_charged, better, charged_balances};
 pub use by_pair::RulesByPair;
 pub use charging::charge;
 pub use fitting::tariff_fits;
@@ -27,6 +27,6 @@ pub use in_force::InForce;
 pub use judging::{is_toll, is_toll_by};
 pub use laws::charged_stays;
 pub use price_book::PriceBook;
-pub use refuting::{charged_refute, prices_bound, prices_refute};
-pub use taking::{allowance_of, capacity_of, pays, takes};
+pub use refuting::charged_refute;
+pub use taking::{allowance_of, capacity_of};
 pub use weighing::heaviest;

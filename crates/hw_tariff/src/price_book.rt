@@ -139,11 +139,4 @@ impl PriceBook {
     {
         self.tolls.len()
     }
-
-    /// The tolls, in order.
-    pub fn tolls(&self) -> &[Toll]
-        ensures value { result.now ≡ self.now.tolls }
-    {
-        &self.tolls
-    }
 }

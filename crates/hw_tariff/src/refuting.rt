@@ -1,49 +1,27 @@
 //! Whether prices leave a room, or the whole problem, no more than a given cargo.
-ghost use Rattle.std.specs.Prelude.{◌≡◌, ◌↔◌, ◌*◌, ◌≤◌, length, All, IfOk, IfSome, IsTrue};
+ghost use Rattle.std.specs.Prelude.{◌≡◌, ◌↔◌, ◌*◌, ◌≤◌, length, All, IfSome, IsTrue};
 ghost use Rattle.hw_model.specs.Rooms.{RoomFits};
 ghost use Rattle.hw_tolls.specs.Tolls.{IsToll};
 ghost use Rattle.hw_tolls.specs.Prices as prices;
-ghost use Rattle.hw_tolls.specs.Prices.{TariffFits, PricesRefute, PricesBound};
+ghost use Rattle.hw_tolls.specs.Prices.{TariffFits, PricesRefute};
 ghost use Rattle.hw_tolls.specs.Computed as computed;
 ghost use Rattle.hw_tolls.specs.Computed.{BalanceFits};
 
-use crate::balancing::{best_balances, charged_balances};
+use crate::balancing::charged_balances;
 use crate::taking::allowance_of;
 use hw_flat::{Flat, Room};
-use hw_model::NoMemory;
 use hw_tolls::{Balance, Tariff, Toll};
-use std::alloc::Global;
 
-/// Whether the prices refute the room under the best, in tenths of a tonne.
+/// Whether the prices refute the room under the best, in tenths of a tonne. `costs` is scratch space,
+/// one number for each slot of the problem.
 ///
 /// Each list of slots of the ranges, permitted or not, in which each ship has a value must stay
 /// below the aim: what it gains, less what it pays, with the allowance added. Orders play no part.
 /// Then a permitted timetable inside, which pays no more than the allowance, carries no more than
 /// the best, and without a best there is none inside.
 ///
-/// It takes no memory. Each slot of the ranges costs one look at each due's blocks or jobs.
-pub fn prices_refute(
-    flat: &Flat,
-    tolls: &[Toll],
-    tariff: &Tariff,
-    best: Option<u64>,
-    room: &Room,
-) -> bool
-    requires tolls { All (IsToll flat.now) tolls.now }
-    requires fits { TariffFits (length tolls.now) tariff.now }
-    requires room { RoomFits flat.now room.now }
-    ensures computed { result ≡ computed.prices_refute flat.now tolls.now tariff.now best room.now }
-    ensures means { IsTrue result ↔ PricesRefute flat.now tolls.now tariff.now best room.now }
-{
-    let allowed = allowance_of(tolls, &tariff.dues.items);
-    let aimed = aim(tariff.scale, best);
-    falls_short(allowed, aimed, best_balances(flat, tolls, tariff, room))
-}
-
-/// Like `prices_refute`, but faster. `costs` is scratch space, one number for each slot of the problem.
-///
-/// Each due costs one look at its toll's blocks or jobs for each ship, and a step for each slot of
-/// the ranges that they charge.
+/// It takes no memory. Each due costs one look at its toll's blocks or jobs for each ship, and a
+/// step for each slot of the ranges that they charge.
 pub fn charged_refute(
     flat: &Flat,
     tolls: &[Toll],
@@ -63,25 +41,6 @@ pub fn charged_refute(
     let aimed = aim(tariff.scale, best);
     let balance = charged_balances(flat, tolls, tariff, room, costs);
     falls_short(allowed, aimed, balance)
-}
-
-/// Whether the prices leave the whole problem no more than the bound, in tenths of a tonne: then no
-/// permitted timetable carries more.
-///
-/// It takes the memory of a room. An error says that memory ran out.
-pub fn prices_bound(
-    alloc: Global,
-    flat: &Flat,
-    tolls: &[Toll],
-    tariff: &Tariff,
-    bound: u64,
-) -> Result<bool, NoMemory>
-    requires tolls { All (IsToll flat.now) tolls.now }
-    requires fits { TariffFits (length tolls.now) tariff.now }
-    ensures means { IfOk result (λ yes. IsTrue yes ↔ PricesBound flat.now tolls.now tariff.now bound) }
-{
-    let room = Room::whole(alloc, flat.shape())?;
-    Ok(prices_refute(flat, tolls, tariff, Some(bound), &room))
 }
 
 /// The least that a timetable above the best gains, in parts; nothing without a best.

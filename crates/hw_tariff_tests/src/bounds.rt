@@ -1,8 +1,8 @@
 //! What prices leave the whole problem.
 
 use crate::problem::{TWO_APART, late_alone, tariff_of};
-use hw_flat::Flat;
-use hw_tariff::{prices_bound, tariff_fits};
+use hw_flat::{Flat, Room};
+use hw_tariff::{InForce, tariff_fits};
 use std::alloc::Global;
 use std::test::Fail;
 
@@ -34,7 +34,9 @@ fn bounded(
     if !tariff_fits(tolls.len(), &tariff) {
         return Ok(None);
     }
-    Ok(Some(prices_bound(alloc, &flat, &tolls, &tariff, bound)?))
+    let room = Room::whole(alloc, flat.shape())?;
+    let prices = InForce::new(alloc, &flat, &tolls, tariff)?;
+    Ok(Some(prices.refutes(&flat, &tolls, Some(bound), &room)))
 }
 
 #[test]

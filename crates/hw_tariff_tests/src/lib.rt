@@ -1,9 +1,6 @@
-//! Tests of the calls of tolls and prices that take memory, of the tariff in force, and of the clauses
-//! that prices give.
+//! Tests of the calls of tolls and prices that take memory, and of the tariff in force.
 #![tactic(auto)]
 
-#[cfg(test)]
-mod advice;
 #[cfg(test)]
 mod books;
 #[cfg(test)]

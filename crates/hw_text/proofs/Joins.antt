@@ -1,5 +1,5 @@
 -- Parts and the text in which they are joined.
-use Rattle.std.proofs.Common.{◌≡◌, ℕ, ◌≤◌, ◌==◌, ◌&&◌, Bool, true, false, cond, not, List, [], ◌∷◌, ◌++◌, length, refl, sym, ap, ◌∙◌, arith}
+use Rattle.std.proofs.Common.{◌≡◌, ℕ, ◌≤◌, ◌==◌, Bool, true, false, cond, not, List, [], ◌∷◌, ◌++◌, length, refl, sym, ap, ◌∙◌, arith}
 use Rattle.std.proofs.lemmas.Bool.{and_parts}
 use Rattle.std.proofs.lemmas.Bool.Decides.{nat_tests}
 use Rattle.std.proofs.lemmas.List.Splits.{join_with_byte-slice_split}
@@ -9,10 +9,6 @@ use Rattle.hw_text.specs.Parts.{parts_of, lacks, ended_lines}
 is_off : (b : Bool) → not b ≡ true → b ≡ false
 is_off true h = sym h
 is_off false h = refl
-
-both_on : (a b : Bool) → a ≡ true → b ≡ true → (a && b) ≡ true
-both_on true b p q = q
-both_on false b p q = p
 
 same_test : (c : ℕ) → (c == c) ≡ true
 same_test c = grind (arith, nat_tests)

@@ -64,9 +64,6 @@ none_taken old new place text at step =
 abbrev pub Through : Records → List (List (List ℕ)) → Records → Type 0
 Through from done now = IsReading now × ((coming : List (List (List ℕ))) → AreComing now coming → AreComing from (done ++ coming))
 
-pub at_first : (records : Records) → IsReading records → Through records [] records
-at_first records at = (at, λ coming all. all)
-
 pub one_further : (from now new : Records) (done : List (List (List ℕ))) (row : Row) → Through from done now → Takes now (Ok (Some row)) new → Through from (done ++ fields_of row ∷ []) new
 one_further from now new done row so_far takes = (takes.0, λ coming all. subst (AreComing from) (sym (append_assoc done (fields_of row ∷ []) coming)) (so_far.1 (fields_of row ∷ coming) (takes.1 coming all)))
 

@@ -7,7 +7,6 @@ pub mod OneList
 pub mod Listed
 pub mod ComingRecords
 pub mod TideRead
-pub mod Causes
 pub mod ToldTables
 pub mod ToldTides
 pub mod ToldFaults

@@ -68,11 +68,6 @@ some_at [] place lt = absurd (omega (arith, lt))
 some_at (m ∷ ms) zero lt = (m, refl)
 some_at (m ∷ ms) (suc place) lt = some_at ms place (omega (arith, lt))
 
-within : (levels : List LevelsParts) (place : ℕ) (l : LevelsParts) → slice_get levels place ≡ Some l → place < length levels
-within [] place l is = absurd cc
-within (m ∷ ms) zero l is = omega arith
-within (m ∷ ms) (suc place) l is = let rest = within ms place l is in omega (arith, rest)
-
 by_place : (w : LevelsParts) (ws : List LevelsParts) (place : ℕ) (l : LevelsParts) → Rise Heights (w ∷ ws) → slice_get (w ∷ ws) place ≡ Some l → l.slot ≡ w.slot + place
 by_place w ws zero l rise is = let same : w.slot ≡ l.slot = ap (λ (x : LevelsParts). x.slot) (same_Some w l is) in omega (arith, same)
 by_place w [] (suc place) l rise is = absurd cc

@@ -15,7 +15,7 @@ use Rattle.hw_story.specs.declared.event.Event.{Event}
 use Rattle.hw_story.specs.Sides.{implies}
 use Rattle.hw_story.specs.Knowing.{knows}
 use Rattle.hw_story.specs.Stories.{room_at}
-use Rattle.hw_story.specs.Trails.{TrailModel, trail_shape, room_by, room_before, room_of, with_event, decided, back_to, most_events, IsTrail}
+use Rattle.hw_story.specs.Trails.{TrailModel, trail_shape, room_by, room_before, room_of, with_event, decided, back_to, IsTrail}
 use Rattle.hw_story.specs.Learning.{event_of}
 use Rattle.hw_story.specs.Laws.{IsEventOf}
 use Rattle.hw_story.specs.Bridge.{idle, event_at, story_of}
@@ -117,14 +117,6 @@ made_here t p bound e lit is f lt at same = (into, out)
 abbrev pub NoneFrom : TrailModel → Lit → ℕ → Type 0
 NoneFrom t lit place = (p : ℕ) → place ≤ p → p < length t.events → event_of t lit ≡ Some p → ⊥
 
-pub none_earlier : (t : TrailModel) (lit : Lit) (place : ℕ) → NoneFrom t lit (place + 1) → (event_of t lit ≡ Some place → ⊥) → NoneFrom t lit place
-none_earlier t lit place h n p le lt e = elim (cases_lt place p) [
-  | inl later ↦ h p (omega (arith, later)) lt e
-  | inr at ↦
-      let same : p ≡ place = omega (arith, at, le) in
-      n (e ∙ ap (λ q. Some q) same)
-]
-
 pub none_at_all : (t : TrailModel) (lit : Lit) → IsTrail t → lit_fits (trail_shape t) lit ≡ true → NoneFrom t lit 0 → None ≡ event_of t lit
 none_at_all t lit is f h = by (event_of t lit) refl
   where
@@ -141,9 +133,6 @@ none_where t lit is f n = none_at_all t lit is f (λ p le lt e. n (
     some_in o p e lt = subst (λ x. IsSomeAnd x (λ place. place < length t.events)) (sym e) lt
 
 -- ---- one more event, and fewer
-
-pub bounds_none : (ships slots capacity : ℕ) → most_events ships slots ≤ capacity → KeepsBounds (record { ships = ships; slots = slots; events = []; level = 0 }) [] capacity
-bounds_none ships slots capacity room = record { same_length = refl; each = λ p lt. absurd (omega (arith, lt)); reserved = room }
 
 pub bounds_more : (t : TrailModel) (bounds items : List ℕ) (bound capacity capacity' : ℕ) (e : Event) (events : List Event) → KeepsBounds t bounds capacity → bound ≡ bound_of (room_of t) e.lit → items ≡ bounds ++ bound ∷ [] → events ≡ t.events ++ e ∷ [] → capacity' ≡ capacity → KeepsBounds (record { ships = t.ships; slots = t.slots; events = events; level = e.level }) items capacity'
 bounds_more t bounds items bound capacity capacity' e events k is i es c =

@@ -12,7 +12,7 @@ use Rattle.hw_model.specs.Narrowing.{with_range}
 use Rattle.hw_model.specs.Refuting.{forced_by}
 use Rattle.hw_prop.specs.Plain.{range_of}
 use Rattle.hw_prop.proofs.Reading.{range_put, range_put_other}
-use Rattle.hw_tugs.specs.Held.{held_for, held_for_sure, IsLoad, Sees, SeesFirst, IsForced, NoneOf, HasShip}
+use Rattle.hw_tugs.specs.Held.{held_for, held_for_sure, IsLoad, Sees, IsForced, HasShip}
 
 -- ---- how much is held
 cond_most : (b : Bool) (n : ℕ) → cond b n 0 ≤ n
@@ -71,26 +71,6 @@ forced_load room jobs seen load same sees forced = record {
 -- ---- what was seen
 same_ship : (jobs : List Job) (place : ℕ) (d e : Job) → place < length jobs → (get_or jobs place d).ship ≡ (get_or jobs place e).ship
 same_ship jobs place d e lt = ap (λ (j : Job). j.ship) (get_or_default jobs place d e lt)
-
-upto : (k place : ℕ) → k < place + 1 → k ≢ place → k < place
-upto k place lt ne = grind arith
-
-pub sees_more : (room : RoomModel) (jobs : List Job) (seen : List (ℕ × ℕ)) (place : ℕ) (d : Job) (range : ℕ × ℕ) → place < length jobs → length seen ≡ length jobs → SeesFirst place room jobs seen → range ≡ range_of room (get_or jobs place d).ship → SeesFirst (place + 1) room jobs (set seen place range)
-sees_more room jobs seen place d range lt same first is k job below =
-    elim (cases_eq k place) [
-      | inl e ↦
-          let here : get_or (set seen place range) place (0, 0) ≡ range = get_or-set_same seen place range (0, 0) (omega (arith, lt, same)) in
-          let at : get_or (set seen place range) k (0, 0) ≡ range = ap (λ i. get_or (set seen place range) i (0, 0)) e ∙ here in
-          let ship : (get_or jobs place d).ship ≡ (get_or jobs k job).ship = same_ship jobs place d job lt ∙ ap (λ i. (get_or jobs i job).ship) (sym e) in
-          at ∙ is ∙ ap (range_of room) ship
-      | inr ne ↦ get_or-set_other seen place k range (0, 0) ne ∙ first k job (upto k place below ne)
-    ]
-
-pub sees_all : (room : RoomModel) (jobs : List Job) (seen : List (ℕ × ℕ)) (many : ℕ) → length jobs ≤ many → SeesFirst many room jobs seen → Sees room jobs seen
-sees_all room jobs seen many le first place job lt = first place job (omega (arith, le, lt))
-
-pub sees_else : (room : RoomModel) (jobs : List Job) (seen : List (ℕ × ℕ)) (ship low high : ℕ) → NoneOf ship jobs → Sees room jobs seen → Sees (with_range room ship low high) jobs seen
-sees_else room jobs seen ship low high none sees place job lt = sees place job lt ∙ sym (range_put_other room ship low high (get_or jobs place job).ship (none place job lt))
 
 -- the ships of ascending jobs differ
 apart : (jobs : List Job) (i k : ℕ) (d e : Job) → AllPairs (λ a b. a.ship < b.ship) jobs → i < length jobs → k < length jobs → k ≢ i → (get_or jobs k e).ship ≢ (get_or jobs i d).ship

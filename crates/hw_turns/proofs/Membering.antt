@@ -58,15 +58,6 @@ own_more f own more own' e w m = subst (OwnWell f) (sym e) (record {
   new = m.new w.new;
 })
 
--- ---- nothing was offered
-
-take_whole : (xs : List Line) → take (length xs) xs ≡ xs
-take_whole [] = refl
-take_whole (x ∷ xs) = ap (λ zs. x ∷ zs) (take_whole xs)
-
-pub caught_none : (f : Problem) (s : SearchModel) (own : List Line) → Working f s own → Caught f s own s own
-caught_none f s own w = record { working = w; front = take_whole own; count = refl; lemmas = refl; nearer = λ budget. omega arith }
-
 -- ---- a table was offered
 
 rank_le : (c : ℕ) (b : Option ℕ) → IsTrue (beats c b) → rank b ≤ c + 1
@@ -158,23 +149,6 @@ turns_own f s own turn u own' going w is t =
 -- a log in memory has no faults
 never_rose : Rose 0 0 → ⊥
 never_rose h = absurd (omega (arith, h))
-
--- an offer to a search on such a log is taken, or memory runs out
-abbrev pub is_offers : Turn → Bool
-is_offers turns.Decided = false
-is_offers turns.Better = true
-is_offers turns.Lemma = false
-is_offers turns.Ended = false
-is_offers turns.NoMemory = true
-is_offers turns.LogFailed = false
-
-pub no_other_answer : (s : SearchModel) (row : List ℕ) (own own' : List Line) (turn : Turn) (u : SearchModel) → OfferMeets s row (memory_log own) turn u (memory_log own') → is_offers turn ≡ true
-no_other_answer s row own own' turns.Decided u t = absurd t.does
-no_other_answer s row own own' turns.Better u t = refl
-no_other_answer s row own own' turns.Lemma u t = absurd t.does
-no_other_answer s row own own' turns.Ended u t = absurd t.does
-no_other_answer s row own own' turns.NoMemory u t = refl
-no_other_answer s row own own' turns.LogFailed u t = absurd (never_rose t.does.cause)
 
 pub turns_by : (f : Problem) (s : SearchModel) (own : List Line) (turn : Turn) (u : SearchModel) (own' : List Line) → Working f s own → IsSearch u → TurnMeets s (memory_log own) turn u (memory_log own') → UnlessStopped turn (TurnsOwn f s own turn u own')
 turns_by f s own turns.Decided u own' w is t = turns_own f s own turns.Decided u own' refl w is t

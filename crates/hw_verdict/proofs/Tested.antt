@@ -10,10 +10,6 @@ use Rattle.hw_lines.specs.Refusals.{table_refusal, lemma_refusal, replay_refusal
 
 -- ---- tables
 
-none_is : (o : Option ℕ) → o ≡ None → is_none o ≡ true
-none_is None e = refl
-none_is (Some x) e = absurd cc
-
 pub table_from : (o c best : Option ℕ) → table_refusal (is_none o) c best ≡ None → (o ≡ None) × IsSomeAnd c (λ d. IsTrue (beats d best))
 table_from (Some x) c best e = absurd cc
 table_from None None best e = absurd cc
