@@ -1,5 +1,6 @@
 -- The flat text, over the list of its lines.
 use Rattle.std.specs.Prelude.{◌≡◌, ℕ, zero, suc, ◌+◌, ◌-◌, Bool, List, [], ◌∷◌, ◌++◌, length, Option, Some, None, Result, Ok, Err, codes, bytes_eq, if◌then◌else◌}
+use Rattle.hw_model.specs.declared.limits.TheConstants.{MOST_RULES}
 use Rattle.hw_model.specs.declared.rule.Rule.{Rule}
 use Rattle.hw_model.specs.Problem.{Problem}
 use Rattle.hw_text.specs.Parts.{parts_of, first_part, at_end}
@@ -72,7 +73,7 @@ text_of parts = do
   second ← line_at 2 words.Size first.1
   size ← formed 2 words.Size (size_form second.0)
   rows ← rows_at stay size.1 3 size.0 second.1
-  rules ← rules_at size.0 (3 + size.0) 4_000 rows.1
+  rules ← rules_at size.0 (3 + size.0) MOST_RULES rows.1
   if at_end rules.1 then Ok (problem_of stay size rows.0 rules.0) else fault (4 + size.0 + length rules.0) words.Tail
 
 -- what a text says: a problem, or the first line that isn't of the form demanded at its place

@@ -1,5 +1,6 @@
 -- The forms of the lines of a flat text, each over the words of the line.
 use Rattle.std.specs.Prelude.{ℕ, zero, suc, ◌+◌, Bool, true, false, ◌&&◌, ◌||◌, List, [], ◌∷◌, ◌++◌, Option, Some, None, option_map, codes, bytes_eq, nat_le, nat_lt, int_le, if◌then◌else◌}
+use Rattle.hw_model.specs.declared.limits.TheConstants.{MOST_SHIPS, MOST_SLOTS, MOST_VALUE, MOST_HOLES, MOST_DIFFERENCE, MOST_FLEET, MOST_TUGS, MOST_HOLD}
 use Rattle.hw_model.specs.declared.rule.Hole.{Hole}
 use Rattle.hw_model.specs.declared.rule.Job.{Job}
 use Rattle.hw_model.specs.declared.rule.Rule.{Rule}
@@ -25,7 +26,7 @@ both m n = m >>= λ m'. n >>= λ n'. Some (m', n')
 
 abbrev pub size_words : List (List ℕ) → Option (ℕ × ℕ)
 size_words (key ∷ ships ∷ slots ∷ []) =
-    if bytes_eq key (codes "size") then both (number_from_to 1 40 ships) (number_from_to 1 512 slots) else None
+    if bytes_eq key (codes "size") then both (number_from_to 1 MOST_SHIPS ships) (number_from_to 1 MOST_SLOTS slots) else None
 size_words _ = None
 
 -- `size SHIPS SLOTS`, where SLOTS counts the slots in which ships sail
@@ -44,7 +45,7 @@ with_front front (Some xs) = Some (front ++ xs)
 
 -- a value, or `-` for none
 abbrev pub value_word : List ℕ → Option (Option ℕ)
-value_word word = if bytes_eq word (codes "-") then Some None else option_map (λ n. Some n) (number_up_to 1_000_000_000_000 word)
+value_word word = if bytes_eq word (codes "-") then Some None else option_map (λ n. Some n) (number_up_to MOST_VALUE word)
 
 -- `y` where the ship may stay, which carries nothing, and `n` where it may not
 abbrev pub stay_word : List ℕ → Option (Option ℕ)
@@ -97,7 +98,7 @@ hole_form word = hole_parts (parts_of 58 word)
 
 abbrev pub job_parts : ℕ → List (List ℕ) → Option Job
 job_parts ships (ship ∷ tugs ∷ hold ∷ []) =
-    ship_word ships ship >>= λ ship'. number_from_to 1 64 tugs >>= λ tugs'. number_from_to 1 1_024 hold >>= λ hold'.
+    ship_word ships ship >>= λ ship'. number_from_to 1 MOST_TUGS tugs >>= λ tugs'. number_from_to 1 MOST_HOLD hold >>= λ hold'.
     Some (record { ship = ship'; tugs = tugs'; hold = hold' })
 job_parts ships _ = None
 
@@ -113,21 +114,21 @@ ascend_from least (job ∷ jobs) = nat_le least job.ship && ascend_from (job.shi
 -- `V W LO:HI ..` with V below W
 abbrev pub pair_words : ℕ → List (List ℕ) → Option Rule
 pair_words ships (v ∷ w ∷ words) =
-    ship_word ships v >>= λ v'. ship_word ships w >>= λ w'. some_items hole_form 8 words >>= λ holes.
+    ship_word ships v >>= λ v'. ship_word ships w >>= λ w'. some_items hole_form MOST_HOLES words >>= λ holes.
     kept_if (nat_lt v' w') (Pair v' w' holes)
 pair_words ships _ = None
 
 -- `V W GAP` with V other than W
 abbrev pub after_words : ℕ → List (List ℕ) → Option Rule
 after_words ships (v ∷ w ∷ gap ∷ []) =
-    ship_word ships v >>= λ v'. ship_word ships w >>= λ w'. number_up_to 512 gap >>= λ gap'.
+    ship_word ships v >>= λ v'. ship_word ships w >>= λ w'. number_up_to MOST_SLOTS gap >>= λ gap'.
     kept_if (nat_lt v' w' || nat_lt w' v') (After v' w' gap')
 after_words ships _ = None
 
 -- `FLEET SHIP:TUGS:HOLD ..` with ascending ships
 abbrev pub tugs_words : ℕ → List (List ℕ) → Option Rule
 tugs_words ships (fleet ∷ words) =
-    number_up_to 1_000 fleet >>= λ fleet'. some_items (job_form ships) 40 words >>= λ jobs.
+    number_up_to MOST_FLEET fleet >>= λ fleet'. some_items (job_form ships) MOST_SHIPS words >>= λ jobs.
     kept_if (ascend_from 0 jobs) (Tugs fleet' jobs)
 tugs_words ships _ = None
 

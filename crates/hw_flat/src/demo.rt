@@ -7,7 +7,7 @@ ghost use Rattle.hw_flat.specs.TextWritten.{IsWritable};
 ghost use Rattle.hw_flat.specs.Demonstration.{generator, draw, and_then, in_turn, from_to, rise, value_drawn, row_drawn, values_drawn, pair_drawn, pairs_of_drawn, pairs_drawn, job_drawn, jobs_drawn, rules_drawn, demonstration};
 
 use crate::flat::Flat;
-use hw_model::{Hole, Holes, Job, Jobs, NoMemory, Rule, ShipId, Slot};
+use hw_model::{Hole, Holes, Job, Jobs, MOST_SHIPS, MOST_SLOTS, NoMemory, Rule, ShipId, Slot};
 use rand_pcg::Lcg64Xsh32;
 use rand_pcg::rand_core::utils::NextWord;
 use std::alloc::{AllocError, Global};
@@ -84,8 +84,8 @@ fn draw_values(
     ships: u32,
     slots: u32,
 ) -> Result<Vec<Option<u64>>, AllocError>
-    requires few_ships { ships ≤ 40 }
-    requires few_slots { slots ≤ 512 }
+    requires few_ships { ships ≤ MOST_SHIPS }
+    requires few_slots { slots ≤ MOST_SLOTS }
     ensures { IfOk result (λ values. (values.items, words.new) ≡ values_drawn ships slots words.old) }
 {
     let mut values = Vec::with_capacity(alloc, (ships * slots) as usize)?;
@@ -173,7 +173,7 @@ fn draw_jobs(alloc: Global, words: &mut Lcg64Xsh32, ships: u32) -> Result<Vec<Jo
 
 /// The rules of each two ships, and after them the rule on tugs.
 fn draw_rules(alloc: Global, words: &mut Lcg64Xsh32, ships: u32) -> Result<Vec<Rule>, AllocError>
-    requires few { ships ≤ 40 }
+    requires few { ships ≤ MOST_SHIPS }
     ensures { IfOk result (λ rules. rules.items ≡ rules_drawn ships words.old) }
 {
     let pairs = ships * ships / 2;
@@ -186,14 +186,14 @@ fn draw_rules(alloc: Global, words: &mut Lcg64Xsh32, ships: u32) -> Result<Vec<R
     Ok(rules)
 }
 
-/// The demonstration of this number, with 1 to 40 ships and 1 to 512 slots: values that rise and
-/// fall with the tide, a rule of each two ships, and one on four tugs. The same number gives the
-/// same problem.
+/// The demonstration of this number, with 1 to `MOST_SHIPS` ships and 1 to `MOST_SLOTS` slots:
+/// values that rise and fall with the tide, a rule of each two ships, and one on four tugs. The same
+/// number gives the same problem.
 pub fn make_demo(alloc: Global, number: u32, ships: u32, slots: u32) -> Result<Flat, NoMemory>
     requires some_ship { 1 ≤ ships }
-    requires few_ships { ships ≤ 40 }
+    requires few_ships { ships ≤ MOST_SHIPS }
     requires some_slot { 1 ≤ slots }
-    requires few_slots { slots ≤ 512 }
+    requires few_slots { slots ≤ MOST_SLOTS }
     ensures problem { IfOk result (λ flat. flat ≡ demonstration number ships slots) }
     ensures writable { IfOk result (λ flat. IsWritable flat) }
 {

@@ -4,14 +4,14 @@ ghost use Rattle.std.specs.Prelude.{◌≡◌, ◌<◌, ◌≤◌, unwrap_or, le
 ghost use Rattle.hw_model.specs.Problem.{Problem, shape_of, horizon, value_at};
 ghost use Rattle.hw_model.specs.Limits.{IsFlat, ShapeFits};
 
-use hw_model::{Rule, Shape, ShipId, Slot};
+use hw_model::{MOST_VALUE, Rule, Shape, ShipId, Slot};
 use std::marker::Model;
 
 /// A flat problem: a value or none per ship and slot, row by row, and a list of rules.
 ///
-/// It has 1 to 40 ships and 1 to 512 slots in which ships sail. Where `stay` is true, `slots`
-/// counts one more slot, the last one, which means that a ship stays. Values are in tenths of a
-/// tonne, at most 1,000,000,000,000, and at most 1 in the slot that means staying.
+/// It has 1 to `MOST_SHIPS` ships and 1 to `MOST_SLOTS` slots in which ships sail. Where `stay` is
+/// true, `slots` counts one more slot, the last one, which means that a ship stays. Values are in
+/// tenths of a tonne, at most `MOST_VALUE`, and at most 1 in the slot that means staying.
 #[derive(Drop)]
 pub struct Flat {
     pub ships: u32,
@@ -70,7 +70,7 @@ impl Flat {
         requires ship_in { ship < self.now.ships }
         requires slot_in { slot < self.now.slots }
         ensures value { result ≡ value_at self.now ship slot }
-        ensures small { unwrap_or result 0 ≤ 1_000_000_000_000 }
+        ensures small { unwrap_or result 0 ≤ MOST_VALUE }
     {
         self.values[(ship * self.slots + slot) as usize]
     }

@@ -3,6 +3,7 @@
 ghost use Rattle.std.specs.Prelude.{◌≡◌, ◌≤◌, true, [], ◌∷◌, IfOk, IfSome, option_map};
 ghost use Rattle.hw_flat.specs.TextForms.{header_form, size_form, value_word, stay_word, last_values, row_values, row_form, with_front};
 
+use hw_model::{MOST_SHIPS, MOST_SLOTS, MOST_VALUE};
 use hw_text::{Words, is_text, read_number, read_small};
 use std::alloc::{AllocError, Global};
 
@@ -22,8 +23,8 @@ pub fn header_of(line: &[u8]) -> Option<bool>
 /// `size SHIPS SLOTS`.
 pub fn size_of(line: &[u8]) -> Option<(u32, u32)>
     ensures form { result ≡ size_form line.now }
-    ensures few_ships { IfSome result (λ size. size.0 ≤ 40) }
-    ensures few_slots { IfSome result (λ size. size.1 ≤ 512) }
+    ensures few_ships { IfSome result (λ size. size.0 ≤ MOST_SHIPS) }
+    ensures few_slots { IfSome result (λ size. size.1 ≤ MOST_SLOTS) }
 {
     let mut words = Words::of(line);
     let key = words.word()?;
@@ -33,8 +34,8 @@ pub fn size_of(line: &[u8]) -> Option<(u32, u32)>
     if !is_text(key, b"size") {
         return None;
     }
-    let ships = read_small(ships, 1, 40)?;
-    let slots = read_small(slots, 1, 512)?;
+    let ships = read_small(ships, 1, MOST_SHIPS)?;
+    let slots = read_small(slots, 1, MOST_SLOTS)?;
     Some((ships, slots))
 }
 
@@ -45,7 +46,7 @@ fn value_of(word: &[u8]) -> Option<Option<u64>>
     if is_text(word, b"-") {
         return Some(None);
     }
-    match read_number(word, 1_000_000_000_000) {
+    match read_number(word, MOST_VALUE) {
         Some(value) => Some(Some(value)),
         None => None,
     }

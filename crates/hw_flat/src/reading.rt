@@ -9,11 +9,9 @@ use crate::fault::{FlatFault, FlatWord};
 use crate::flat::Flat;
 use crate::forms::{header_of, row_of, size_of};
 use crate::rules::rule_of;
-use hw_model::Rule;
+use hw_model::{MOST_RULES, MOST_SLOTS, Rule};
 use hw_text::{cut_line, is_end, is_text};
 use std::alloc::Global;
-
-const MOST_RULES: usize = 4000;
 
 /// The next line and the bytes after it.
 fn line_of(bytes: &[u8], number: u64, word: FlatWord) -> Result<(&[u8], &[u8]), FlatFault>
@@ -74,7 +72,7 @@ fn rules_of(
     first: u64,
 ) -> Result<(Vec<Rule>, &[u8]), FlatFault>
     requires { first ≤ 50 }
-    ensures { Gives (λ x. (x.0.items, parts_of 10 x.1.now)) result (rules_at ships first 4_000 (parts_of 10 bytes.now)) }
+    ensures { Gives (λ x. (x.0.items, parts_of 10 x.1.now)) result (rules_at ships first MOST_RULES (parts_of 10 bytes.now)) }
 {
     let mut rules = Vec::new(alloc);
     let mut rest = bytes;
@@ -106,7 +104,7 @@ fn rules_of(
 
 /// The problem of these numbers and lists. Where ships may stay, it has one more slot.
 fn flat_of(ships: u32, slots: u32, stay: bool, values: Vec<Option<u64>>, rules: Vec<Rule>) -> Flat
-    requires few { slots ≤ 512 }
+    requires few { slots ≤ MOST_SLOTS }
     requires limits { IsFlat (problem_of stay (ships, slots) values.items rules.items) }
     ensures { result ≡ problem_of stay (ships, slots) values.items rules.items }
 {

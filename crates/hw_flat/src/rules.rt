@@ -3,13 +3,14 @@
 ghost use Rattle.std.specs.Prelude.{◌≡◌, ◌<◌, IfOk, IfSome, option_map};
 ghost use Rattle.hw_flat.specs.TextForms.{ship_word, hole_form, job_form, some_items, ascend_from, pair_words, after_words, tugs_words, rule_form};
 
-use hw_model::{Hole, Holes, Job, Jobs, Rule, ShipId};
+use hw_model::{
+    Hole, Holes, Job, Jobs, MOST_DIFFERENCE, MOST_FLEET, MOST_HOLD, MOST_HOLES, MOST_SHIPS,
+    MOST_SLOTS, MOST_TUGS, Rule, ShipId,
+};
 use hw_text::{Words, is_text, read_signed, read_small};
 use std::alloc::{AllocError, Global};
 
-const MOST_HOLES: usize = 8;
-
-const MOST_JOBS: usize = 40;
+const MOST_JOBS: usize = MOST_SHIPS as usize;
 
 /// A ship of the problem.
 fn ship_of(word: &[u8], ships: u32) -> Option<ShipId>
@@ -30,8 +31,8 @@ fn hole_of(word: &[u8]) -> Option<Hole>
     let lo = parts.word()?;
     let hi = parts.word()?;
     parts.end()?;
-    let lo = read_signed(lo, 1023)?;
-    let hi = read_signed(hi, 1023)?;
+    let lo = read_signed(lo, MOST_DIFFERENCE)?;
+    let hi = read_signed(hi, MOST_DIFFERENCE)?;
     if lo <= hi {
         Some(Hole { lo, hi })
     } else {
@@ -39,9 +40,9 @@ fn hole_of(word: &[u8]) -> Option<Hole>
     }
 }
 
-/// Holes, of which there are 1 to 8.
+/// Holes, of which there are 1 to `MOST_HOLES`.
 fn holes_of(alloc: Global, mut words: Words<'_>) -> Result<Option<Vec<Hole>>, AllocError>
-    ensures { IfOk result (λ o. option_map (λ v. v.items) o ≡ some_items hole_form 8 words.entry) }
+    ensures { IfOk result (λ o. option_map (λ v. v.items) o ≡ some_items hole_form MOST_HOLES words.entry) }
 {
     let mut holes = Vec::new(alloc);
     while let Some(word) = words.word() {
@@ -69,14 +70,14 @@ fn job_of(word: &[u8], ships: u32) -> Option<Job>
     let hold = parts.word()?;
     parts.end()?;
     let ship = ship_of(ship, ships)?;
-    let tugs = read_small(tugs, 1, 64)?;
-    let hold = read_small(hold, 1, 1024)?;
+    let tugs = read_small(tugs, 1, MOST_TUGS)?;
+    let hold = read_small(hold, 1, MOST_HOLD)?;
     Some(Job { ship, tugs, hold })
 }
 
-/// Jobs, of which there are 1 to 40.
+/// Jobs, of which there are 1 to `MOST_SHIPS`.
 fn jobs_of(alloc: Global, mut words: Words<'_>, ships: u32) -> Result<Option<Vec<Job>>, AllocError>
-    ensures { IfOk result (λ o. option_map (λ v. v.items) o ≡ some_items (job_form ships) 40 words.entry) }
+    ensures { IfOk result (λ o. option_map (λ v. v.items) o ≡ some_items (job_form ships) MOST_SHIPS words.entry) }
 {
     let mut jobs = Vec::new(alloc);
     while let Some(word) = words.word() {
@@ -138,7 +139,7 @@ fn after_of(mut words: Words<'_>, ships: u32) -> Option<Rule>
     words.end()?;
     let v = ship_of(v, ships)?;
     let w = ship_of(w, ships)?;
-    let gap = read_small(gap, 0, 512)?;
+    let gap = read_small(gap, 0, MOST_SLOTS)?;
     if v < w || w < v {
         Some(Rule::After { v, w, gap })
     } else {
@@ -153,7 +154,7 @@ fn tugs_of(alloc: Global, mut words: Words<'_>, ships: u32) -> Result<Option<Rul
     let Some(fleet) = words.word() else {
         return Ok(None);
     };
-    let Some(fleet) = read_small(fleet, 0, 1000) else {
+    let Some(fleet) = read_small(fleet, 0, MOST_FLEET) else {
         return Ok(None);
     };
     let Some(items) = jobs_of(alloc, words, ships)? else {

@@ -2,7 +2,7 @@
 
 ghost use Rattle.std.specs.Prelude.{◌≡◌, ◌≤◌, ◌<◌, length, IfOk, slice_index};
 
-use hw_model::{NoMemory, ShipId, Slot};
+use hw_model::{MOST_SHIPS, NoMemory, ShipId, Slot};
 use std::alloc::Global;
 use std::marker::Model;
 
@@ -14,18 +14,19 @@ pub struct Timetable {
 
 impl Model for Timetable {
     ghost use Rattle.std.specs.Prelude.{List, ℕ, ◌≤◌, length};
+    ghost use Rattle.hw_model.specs.declared.limits.TheConstants.{MOST_SHIPS};
 
     ghost Value = { List ℕ };
 
     ghost view = { λ t. t.slots.items };
 
-    ghost invariant = { λ t. length t.slots.items ≤ 40 };
+    ghost invariant = { λ t. length t.slots.items ≤ MOST_SHIPS };
 }
 
 impl Timetable {
-    /// The timetable of these slots, of at most 40 ships.
+    /// The timetable of these slots, of at most `MOST_SHIPS` ships.
     pub fn from_slots(alloc: Global, slots: &[Slot]) -> Result<Timetable, NoMemory>
-        requires few { length slots.now ≤ 40 }
+        requires few { length slots.now ≤ MOST_SHIPS }
         ensures value { IfOk result (λ t. t ≡ slots.now) }
     {
         let slots = Vec::from_slice(alloc, slots)?;
@@ -35,7 +36,7 @@ impl Timetable {
     /// The number of its slots, one for each ship.
     pub fn len(&self) -> u32
         ensures value { result ≡ length self.now }
-        ensures few { result ≤ 40 }
+        ensures few { result ≤ MOST_SHIPS }
     {
         self.slots.len() as u32
     }

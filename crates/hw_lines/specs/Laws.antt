@@ -4,6 +4,7 @@ use Rattle.std.specs.List.{cons_option, list_any}
 use Rattle.hw_model.specs.declared.lit.Lit.{Lit}
 use Rattle.hw_model.specs.Problem.{Problem}
 use Rattle.hw_model.specs.Timetables.{cargo}
+use Rattle.hw_tolls.specs.declared.limits.TheConstants.{MOST_TOLLS}
 use Rattle.hw_tolls.specs.declared.toll.Toll.{Toll}
 use Rattle.hw_tolls.specs.Prices.{TariffFits}
 use Rattle.hw_tolls.specs.Tolls.{IsToll}
@@ -118,10 +119,10 @@ pub record BoundAdded (f : Problem) (before after : List Line) (bound : ℕ) : T
 abbrev pub BoundPushed : Type 0
 BoundPushed = (f : Problem) (before : List Line) (bound : ℕ) → BoundAdded f before (before ++ lines.Bound bound ∷ []) bound
 
--- the tolls are of the problem and at most 10,000, and the tariff in force fits them where the lines fit
+-- the tolls are of the problem and at most `MOST_TOLLS`, and the tariff in force fits them where the lines fit
 pub record TollsAreGood (f : Problem) (all : List Line) : Type 0 where
   pub tolls : All (IsToll f) (tolls_of f all)
-  pub few : length (tolls_of f all) ≤ 10_000
+  pub few : length (tolls_of f all) ≤ MOST_TOLLS
   pub tariff : All (LineFits f) all → IfSome (tariff_of all) (TariffFits (length (tolls_of f all)))
 
 -- valid lines declare tolls of the problem alone, and put prices in force on these alone

@@ -37,7 +37,7 @@ impl Hints {
 pub struct Price {
     /// The toll's number, which counts from 1 in the order of the lines that declare tolls.
     pub toll: u32,
-    /// What one unit costs, at most 1,000,000,000,000,000,000 parts.
+    /// What one unit costs, at most `MOST_PRICE` parts.
     pub price: u64,
 }
 
@@ -106,14 +106,14 @@ pub enum Line {
         /// The number of the rule on tugs, counted as in an explanation.
         restriction: u32,
         slot: Slot,
-        /// At most 2,560.
+        /// At most `MOST_HELD`.
         most: u32,
-        /// A weight for each job of the rule, at most 64 each.
+        /// A weight for each job of the rule, at most `MOST_TUGS` each.
         weights: Weights,
     },
     /// These prices are in force from here on.
     Tariff {
-        /// How many parts make a tenth of a tonne, at most 1,000,000.
+        /// How many parts make a tenth of a tonne, at most `MOST_SCALE`.
         scale: u32,
         prices: Prices,
     },

@@ -6,15 +6,18 @@ ghost use Rattle.hw_lits.specs.Normal.{IsNormal};
 
 use crate::fault::ClauseFault;
 use crate::form::test_form;
-use hw_model::{Lit, NoMemory, Shape};
+use hw_model::{Lit, MOST_SHIPS, NoMemory, Shape};
 use std::alloc::Global;
 use std::marker::Model;
+
+/// Literals of a clause: two bounds of each ship and an order of each pair.
+pub const MOST_LITERALS: u32 = 2 * MOST_SHIPS + MOST_SHIPS * (MOST_SHIPS - 1) / 2;
 
 /// A clause in normal form, seen as the list of its literals.
 ///
 /// Bounds of ships come first, ascending by ship, then orders, ascending by pair. A ship has at
 /// most one lower bound and one upper one, which leave some slots between them out, and a pair at
-/// most one order. So there are at most 860 literals.
+/// most one order. So there are at most `MOST_LITERALS` literals.
 #[derive(Debug, Drop)]
 pub struct Clause {
     lits: Vec<Lit>,
@@ -37,7 +40,7 @@ impl Clause {
 
     /// The clause of these literals, in one pass. Otherwise the first bad one from the left.
     pub fn from_lits(alloc: Global, shape: Shape, lits: &[Lit]) -> Result<Clause, ClauseFault>
-        requires few_ships { shape.ships ≤ 40 }
+        requires few_ships { shape.ships ≤ MOST_SHIPS }
         ensures value { IfOk result (λ clause. clause ≡ lits.now) }
         ensures normal { OnOk result (IsClause shape lits.now) }
         ensures refused { IfErr result (λ fault. TellsBad fault (first_bad shape lits.now)) }
@@ -49,7 +52,7 @@ impl Clause {
 
     /// The same of a list that it takes, in one pass and without a copy.
     pub fn from_list(shape: Shape, lits: Vec<Lit>) -> Result<Clause, ClauseFault>
-        requires few_ships { shape.ships ≤ 40 }
+        requires few_ships { shape.ships ≤ MOST_SHIPS }
         ensures value { IfOk result (λ clause. clause ≡ lits.items) }
         ensures normal { OnOk result (IsClause shape lits.items) }
         ensures refused { IfErr result (λ fault. TellsBad fault (first_bad shape lits.items)) }
@@ -79,7 +82,7 @@ impl Clause {
     /// The number of its literals.
     pub fn len(&self) -> u32
         ensures value { result ≡ length self.now }
-        ensures few { result ≤ 860 }
+        ensures few { result ≤ MOST_LITERALS }
         ensures normal { IsNormal self.now }
     {
         self.lits.len() as u32

@@ -5,7 +5,7 @@ ghost use Rattle.hw_model.specs.Lits.{lit_fits, place_of, is_earlier, leaves_som
 ghost use Rattle.hw_lits.specs.Faults.{TellsBad};
 
 use crate::fault::ClauseFault;
-use hw_model::{Lit, Shape};
+use hw_model::{Lit, MOST_SHIPS, Shape};
 
 // Whether a literal's ships are there, its slot is one from 1 on, and its pair ascends.
 fn is_in_range(shape: Shape, lit: Lit) -> bool
@@ -58,7 +58,7 @@ fn follows(before: Option<Lit>, lit: Lit) -> bool
 
 /// The first bad literal from the left, if there is one. One pass, which takes no memory.
 pub fn test_form(shape: Shape, lits: &[Lit]) -> Result<(), ClauseFault>
-    requires few_ships { shape.ships ≤ 40 }
+    requires few_ships { shape.ships ≤ MOST_SHIPS }
     ensures normal { MatchResult result (λ _. IsClause shape lits.now) (λ fault. TellsBad fault (first_bad shape lits.now)) }
     ensures no_memory { IfErr result (λ fault. fault ≢ ClauseFault.NoMemory) }
 {

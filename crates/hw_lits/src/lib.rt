@@ -12,7 +12,7 @@ mod laws;
 mod spelling;
 mod stepping;
 
-pub use clause::Clause;
+pub use clause::{Clause, MOST_LITERALS};
 pub use cutting::{cut, truth};
 pub use denying::deny;
 pub use fault::ClauseFault;

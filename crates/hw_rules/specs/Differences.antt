@@ -2,6 +2,7 @@
 use Rattle.std.specs.Prelude.{◌≡◌, ℕ, ◌<◌, ◌≤◌, ℤ, pos, neg_ℤ, ◌-ℤ◌, ◌≤ℤ◌, Bool, false, ◌||◌, nat_le, List, ⊤}
 use Rattle.std.specs.List.{list_all, Contains}
 use Rattle.std.specs.Int.{int_max, int_min}
+use Rattle.hw_model.specs.declared.limits.TheConstants.{MOST_DIFFERENCE}
 use Rattle.hw_model.specs.declared.order.Order.{Order}
 use Rattle.hw_model.specs.declared.order.Order.TheVariants.{Unset, First, NotFirst}
 use Rattle.hw_model.specs.declared.rule.Hole.{Hole}
@@ -19,8 +20,8 @@ two_at room v w = record { low_v = low_of room v; high_v = high_of room v; low_w
 pub record HasSlots (t : Two) : Type 0 where
   pub some_v : t.low_v ≤ t.high_v
   pub some_w : t.low_w ≤ t.high_w
-  pub few_v : t.high_v < 1_023
-  pub few_w : t.high_w < 1_023
+  pub few_v : t.high_v < MOST_DIFFERENCE
+  pub few_w : t.high_w < MOST_DIFFERENCE
 
 -- the slots of the lesser and the greater ship agree with their order, if it is set
 abbrev pub Agrees : Order → ℕ → ℕ → Type 0
@@ -82,8 +83,8 @@ pub record HoleAt (holes : List Hole) (d : ℤ) (hole : Hole) : Type 0 where
 
 -- a gap from the lesser ship to the greater as a hole of their differences
 abbrev pub hole_above : ℕ → Hole
-hole_above gap = record { lo = neg_ℤ (pos 1_023); hi = pos gap -ℤ pos 1 }
+hole_above gap = record { lo = neg_ℤ (pos MOST_DIFFERENCE); hi = pos gap -ℤ pos 1 }
 
 -- a gap from the greater ship to the lesser
 abbrev pub hole_below : ℕ → Hole
-hole_below gap = record { lo = pos 1 -ℤ pos gap; hi = pos 1_023 }
+hole_below gap = record { lo = pos 1 -ℤ pos gap; hi = pos MOST_DIFFERENCE }

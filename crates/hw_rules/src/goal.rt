@@ -10,6 +10,7 @@ ghost use Rattle.hw_model.specs.RefutingComputed.{at_most_best};
 
 use crate::window::behind;
 use hw_flat::{Flat, Room, ShipId, Slot, Timetable};
+use hw_model::{MOST_CARGO, MOST_VALUE};
 
 /// Whether a cargo is above the best so far, or there is none yet. One comparison.
 pub fn beats(cargo: u64, best: Option<u64>) -> bool
@@ -26,7 +27,7 @@ pub fn beats(cargo: u64, best: Option<u64>) -> bool
 pub fn cargo(flat: &Flat, table: &Timetable) -> Option<u64>
     requires listed { IsTimetable flat.now table.now }
     ensures value { result ≡ cargo flat.now table.now }
-    ensures small { IfSome result (λ c. c ≤ 40_000_000_000_000) }
+    ensures small { IfSome result (λ c. c ≤ MOST_CARGO) }
 {
     cargo_of(flat, table.as_slice())
 }
@@ -34,7 +35,7 @@ pub fn cargo(flat: &Flat, table: &Timetable) -> Option<u64>
 pub(crate) fn cargo_of(flat: &Flat, table: &[Slot]) -> Option<u64>
     requires listed { IsTimetable flat.now table.now }
     ensures value { result ≡ cargo flat.now table.now }
-    ensures small { IfSome result (λ c. c ≤ 40_000_000_000_000) }
+    ensures small { IfSome result (λ c. c ≤ MOST_CARGO) }
 {
     let mut sum: u64 = 0;
     for ship in 0..flat.shape().ships {
@@ -63,7 +64,7 @@ pub fn greatest_value(flat: &Flat, ship: ShipId, low: Slot, high: Slot) -> u64
     requires ship_in { ship < flat.now.ships }
     requires slot_in { high < flat.now.slots }
     ensures value { result ≡ refuting.greatest_value flat.now ship low high }
-    ensures small { result ≤ 1_000_000_000_000 }
+    ensures small { result ≤ MOST_VALUE }
 {
     let mut greatest: u64 = 0;
     for slot in low..behind(flat, high) {
@@ -77,7 +78,7 @@ fn greatest_of(flat: &Flat, ship: ShipId, room: &Room) -> u64
     requires room { RoomFits flat.now room.now }
     requires ship_in { ship < flat.now.ships }
     ensures value { result ≡ refuting.greatest_value flat.now ship (low_of room.now ship) (high_of room.now ship) }
-    ensures small { result ≤ 1_000_000_000_000 }
+    ensures small { result ≤ MOST_VALUE }
 {
     greatest_value(flat, ship, room.low(ship), room.high(ship))
 }
@@ -86,7 +87,7 @@ fn greatest_of(flat: &Flat, ship: ShipId, room: &Room) -> u64
 pub fn greatest_sum(flat: &Flat, room: &Room) -> u64
     requires room { RoomFits flat.now room.now }
     ensures value { result ≡ refuting.greatest_sum flat.now room.now }
-    ensures small { result ≤ 40_000_000_000_000 }
+    ensures small { result ≤ MOST_CARGO }
 {
     let mut sum: u64 = 0;
     for ship in 0..flat.shape().ships {

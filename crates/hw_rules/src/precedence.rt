@@ -12,6 +12,7 @@ ghost use Rattle.hw_rules.specs.OneHole.{one_hole};
 
 use crate::spacing::{Freeing, sailing_slots, two_of, two_refuted};
 use hw_flat::{Flat, Hole, Room, ShipId, Slot};
+use hw_model::{MOST_DIFFERENCE, MOST_SLOTS};
 
 /// A precedence as a rule on the difference of two ships' slots, the greater ship's less the
 /// lesser's, with one hole.
@@ -39,7 +40,7 @@ pub(crate) fn precedence_refuted(flat: &Flat, v: ShipId, w: ShipId, gap: u32, ro
     requires first_in { v < flat.now.ships }
     requires second_in { w < flat.now.ships }
     requires two_ships { v ≢ w }
-    requires short_gap { gap ≤ 512 }
+    requires short_gap { gap ≤ MOST_SLOTS }
     ensures value { result ≡ none_meets flat.now room.now (rules.After v w gap) v w }
 {
     let horizon = sailing_slots(flat);
@@ -54,10 +55,10 @@ pub(crate) fn precedence_refuted(flat: &Flat, v: ShipId, w: ShipId, gap: u32, ro
 }
 
 /// A precedence from `v` to `w` as a rule with one hole. It holds of the same slots, as long as
-/// these are below 1,023.
+/// these are below `MOST_DIFFERENCE`.
 pub fn one_hole(v: ShipId, w: ShipId, gap: u32) -> OneHole
     requires two_ships { v ≢ w }
-    requires short_gap { gap ≤ 512 }
+    requires short_gap { gap ≤ MOST_SLOTS }
     ensures value { result ≡ one_hole v w gap }
     ensures lesser { result.lesser ≡ min v w }
     ensures greater { result.greater ≡ max v w }
@@ -83,22 +84,22 @@ pub fn one_hole(v: ShipId, w: ShipId, gap: u32) -> OneHole
 /// The differences that a gap forbids, of the greater ship's slot less the lesser's, where the
 /// lesser ship sails first.
 pub fn forbidden_above(gap: u32) -> Hole
-    requires short_gap { gap ≤ 512 }
+    requires short_gap { gap ≤ MOST_SLOTS }
     ensures value { result ≡ hole_above gap }
 {
     Hole {
-        lo: -1_023,
+        lo: -(MOST_DIFFERENCE as i32),
         hi: gap as i32 - 1,
     }
 }
 
 /// The same where the greater ship sails first.
 pub fn forbidden_below(gap: u32) -> Hole
-    requires short_gap { gap ≤ 512 }
+    requires short_gap { gap ≤ MOST_SLOTS }
     ensures value { result ≡ hole_below gap }
 {
     Hole {
         lo: 1 - gap as i32,
-        hi: 1_023,
+        hi: MOST_DIFFERENCE as i32,
     }
 }

@@ -6,6 +6,7 @@ ghost use Rattle.hw_model.specs.Rules.{misses};
 ghost use Rattle.hw_rules.specs.Differences.{HasSlots, AreSlots, NonePasses, frees, passes, least, greatest, Covered, HoleAt, two_at};
 
 use hw_flat::{Flat, Hole, Order, Room, ShipId, Slot};
+use hw_model::{MOST_DIFFERENCE, MOST_SLOTS};
 
 /// The ranges of two ships and what is set of their order; `v` is the lesser ship, `w` the greater.
 #[derive(Clone, Copy)]
@@ -28,17 +29,17 @@ pub enum Freeing {
 /// The number of slots in which ships sail: all but the one that means staying.
 pub fn sailing_slots(flat: &Flat) -> Slot
     ensures value { result ≡ horizon flat.now }
-    ensures few { result ≤ 512 }
+    ensures few { result ≤ MOST_SLOTS }
     ensures last { flat.now.slots ≤ result + 1 }
 {
     flat.horizon()
 }
 
-/// What a room says of two of its ships, of a problem with at most 1,023 slots.
+/// What a room says of two of its ships, of a problem with at most `MOST_DIFFERENCE` slots.
 pub fn two_of(room: &Room, v: ShipId, w: ShipId) -> Two
     requires ascends { v < w }
     requires ship_in { w < room.now.ships }
-    requires few_slots { room.now.slots ≤ 1_023 }
+    requires few_slots { room.now.slots ≤ MOST_DIFFERENCE }
     ensures value { result ≡ two_at room.now v w }
     ensures slots { HasSlots result }
     ensures in_slots { result.high_w < room.now.slots }

@@ -7,11 +7,11 @@ ghost use Rattle.hw_model.specs.Limits.{RuleFits, JobFits};
 ghost use Rattle.hw_model.specs.Refuting.{forced_by};
 
 use hw_flat::{Flat, Room, Timetable};
-use hw_model::{Job, Rule, Slot};
+use hw_model::{Job, MOST_HELD, MOST_SHIPS, Rule, Slot};
 
 /// The tugs that a rule's jobs hold in a slot; none for a rule on two ships.
 ///
-/// It looks at 40 jobs at most.
+/// It looks at `MOST_SHIPS` jobs at most.
 pub fn busy(rule: &Rule, table: &Timetable, slot: Slot) -> u64
     requires rule_fits { RuleFits (length table.now) rule.now }
     ensures value { result ≡ busy rule.now table.now slot }
@@ -24,10 +24,10 @@ pub fn busy(rule: &Rule, table: &Timetable, slot: Slot) -> u64
 
 /// The tugs that jobs hold in a slot.
 pub(crate) fn held(jobs: &[Job], table: &[Slot], slot: Slot) -> u64
-    requires few { length jobs.now ≤ 40 }
+    requires few { length jobs.now ≤ MOST_SHIPS }
     requires fit { All (JobFits (length table.now)) jobs.now }
     ensures value { result ≡ sum_by (held_by table.now slot) jobs.now }
-    ensures small { result ≤ 2_560 }
+    ensures small { result ≤ MOST_HELD }
 {
     let mut sum: u64 = 0;
     for job in jobs {
@@ -42,7 +42,7 @@ pub(crate) fn held(jobs: &[Job], table: &[Slot], slot: Slot) -> u64
 
 /// The first slot of the horizon in which jobs hold more tugs than there are.
 pub(crate) fn overfull(flat: &Flat, fleet: u32, jobs: &[Job], table: &[Slot]) -> Option<Slot>
-    requires few { length jobs.now ≤ 40 }
+    requires few { length jobs.now ≤ MOST_SHIPS }
     requires fit { All (JobFits (length table.now)) jobs.now }
     ensures value { result ≡ find (λ slot. nat_lt fleet (sum_by (held_by table.now slot) jobs.now)) (range_with_len 0 (horizon flat.now)) }
 {
@@ -51,20 +51,20 @@ pub(crate) fn overfull(flat: &Flat, fleet: u32, jobs: &[Job], table: &[Slot]) ->
 
 /// Whether the jobs hold no more tugs than there are in each slot of the horizon.
 pub(crate) fn fleet_holds(flat: &Flat, fleet: u32, jobs: &[Job], table: &[Slot]) -> bool
-    requires few { length jobs.now ≤ 40 }
+    requires few { length jobs.now ≤ MOST_SHIPS }
     requires fit { All (JobFits (length table.now)) jobs.now }
     ensures value { result ≡ list_all (λ slot. nat_le (sum_by (held_by table.now slot) jobs.now) fleet) (range_with_len 0 (horizon flat.now)) }
 {
     (0..flat.horizon()).all(|slot| held(jobs, table, slot) <= u64::from(fleet))
 }
 
-/// The tugs that the jobs hold in a slot wherever their ships sail in their ranges. It looks at 40
-/// jobs at most.
+/// The tugs that the jobs hold in a slot wherever their ships sail in their ranges. It looks at
+/// `MOST_SHIPS` jobs at most.
 pub fn forced_tugs(jobs: &[Job], room: &Room, slot: Slot) -> u64
-    requires few { length jobs.now ≤ 40 }
+    requires few { length jobs.now ≤ MOST_SHIPS }
     requires fit { All (JobFits room.now.ships) jobs.now }
     ensures value { result ≡ sum_by (forced_by room.now slot) jobs.now }
-    ensures small { result ≤ 2_560 }
+    ensures small { result ≤ MOST_HELD }
 {
     let mut sum: u64 = 0;
     for job in jobs {
@@ -79,7 +79,7 @@ pub fn forced_tugs(jobs: &[Job], room: &Room, slot: Slot) -> u64
 /// Whether these tugs exceed the fleet in some slot of the horizon. It takes at most as many
 /// steps as the horizon has slots, times the jobs.
 pub(crate) fn tugs_refuted(flat: &Flat, fleet: u32, jobs: &[Job], room: &Room) -> bool
-    requires few { length jobs.now ≤ 40 }
+    requires few { length jobs.now ≤ MOST_SHIPS }
     requires fit { All (JobFits room.now.ships) jobs.now }
     ensures value { result ≡ list_any (λ slot. nat_lt fleet (sum_by (forced_by room.now slot) jobs.now)) (range_with_len 0 (horizon flat.now)) }
 {

@@ -12,7 +12,7 @@ use crate::lists::{advance, first_list};
 use crate::outcome::Walked;
 use crate::timetables::is_permitted;
 use hw_flat::{Flat, Timetable};
-use hw_model::{NoMemory, Slot};
+use hw_model::{MOST_SHIPS, NoMemory, Slot};
 use std::alloc::Global;
 
 /// Goes through the lists of slots in lexicographic order, ship 0 first, and keeps the first
@@ -82,7 +82,7 @@ fn better_cargo(flat: &Flat, current: &[Slot], most: Option<u64>) -> Option<u64>
 
 /// The outcome of a walk that looked at all of the lists, or only at some.
 fn outcome(alloc: Global, whole: bool, best: &[Slot], most: Option<u64>) -> Result<Walked, NoMemory>
-    requires few { length best.now ≤ 40 }
+    requires few { length best.now ≤ MOST_SHIPS }
     ensures { IfOk result (λ w. w ≡ answer whole best.now most) }
 {
     match most {

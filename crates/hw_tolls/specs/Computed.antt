@@ -3,6 +3,7 @@ use Rattle.std.specs.Prelude.{ℕ, ◌+◌, ◌-◌, ◌*◌, ◌≤◌, Bool, t
 use Rattle.std.specs.List.{range_with_len}
 use Rattle.hw_model.specs.Problem.{Problem, value_at}
 use Rattle.hw_model.specs.Rooms.{RoomModel, low_of, high_of}
+use Rattle.hw_tolls.specs.declared.limits.TheConstants.{MOST_GAIN, MOST_COST}
 use Rattle.hw_tolls.specs.declared.tariff.Balance.{Balance}
 use Rattle.hw_tolls.specs.declared.tariff.Due.{Due}
 use Rattle.hw_tolls.specs.declared.tariff.Tariff.{Tariff}
@@ -30,8 +31,8 @@ balance f tolls tariff ship slot = option_map (λ v. record { gain = tariff.scal
 
 -- the limits of the balance of this many ships
 pub record BalanceFits (ships : ℕ) (b : Balance) : Type 0 where
-  pub small_gain : b.gain ≤ 1_000_000_000_000_000_000 * ships
-  pub small_cost : b.cost ≤ 256_000_000_000_000_000_000_000_000 * ships
+  pub small_gain : b.gain ≤ MOST_GAIN * ships
+  pub small_cost : b.cost ≤ MOST_COST * ships
 
 -- the first of two balances unless the second is better
 abbrev pub better : Option Balance → Option Balance → Option Balance

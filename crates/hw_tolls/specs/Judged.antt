@@ -1,6 +1,7 @@
 -- Whether a toll is one of a problem, as a test that computes.
 use Rattle.std.specs.Prelude.{ℕ, Bool, true, false, nat_le, nat_lt, ◌==◌, ◌&&◌, List, [], ◌∷◌, Option, None, Some, length, slice_get}
 use Rattle.std.specs.List.{list_all, list_any, range_with_len}
+use Rattle.hw_model.specs.declared.limits.TheConstants.{MOST_SHIPS, MOST_TUGS, MOST_HELD}
 use Rattle.hw_model.specs.declared.rule.Rule.{Rule}
 use Rattle.hw_model.specs.declared.rule.Rule.TheVariants as rules
 use Rattle.hw_model.specs.declared.source.Source.TheVariants as sources
@@ -24,9 +25,9 @@ abbrev pub all_apart : Problem → List Block → Bool
 all_apart f [] = true
 all_apart f (block ∷ blocks) = list_all (are_apart f block) blocks && all_apart f blocks
 
--- 1 to 40 blocks, each two of them apart
+-- 1 to `MOST_SHIPS` blocks, each two of them apart
 abbrev pub narrows_fit : Problem → List Block → Bool
-narrows_fit f blocks = (nat_le 1 (length blocks) && nat_le (length blocks) 40) && (list_all (block_fits f) blocks && all_apart f blocks)
+narrows_fit f blocks = (nat_le 1 (length blocks) && nat_le (length blocks) MOST_SHIPS) && (list_all (block_fits f) blocks && all_apart f blocks)
 
 -- the rule is one on tugs with a weight for each job, and jobs that its fleet can serve together have at most this weight
 abbrev pub weighs_up_to : List ℕ → ℕ → Option Rule → Bool
@@ -37,7 +38,7 @@ weighs_up_to weights most (Some (rules.Tugs fleet jobs)) = length weights == len
 
 -- such a rule, a slot of the horizon, and small numbers
 abbrev pub tugs_fit : Problem → ℕ → ℕ → List ℕ → ℕ → Bool
-tugs_fit f place slot weights most = weighs_up_to weights most (slice_get f.rules place) && (nat_lt slot (horizon f) && (list_all (λ weight. nat_le weight 64) weights && nat_le most 2_560))
+tugs_fit f place slot weights most = weighs_up_to weights most (slice_get f.rules place) && (nat_lt slot (horizon f) && (list_all (λ weight. nat_le weight MOST_TUGS) weights && nat_le most MOST_HELD))
 
 -- the toll is one of the problem
 abbrev pub is_toll : Problem → Toll → Bool

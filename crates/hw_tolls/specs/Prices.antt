@@ -3,6 +3,7 @@ use Rattle.std.specs.Prelude.{◌≡◌, ℕ, ◌+◌, ◌*◌, ◌<◌, ◌≤�
 use Rattle.hw_model.specs.Problem.{Problem, shape_of}
 use Rattle.hw_model.specs.Timetables.{cargo}
 use Rattle.hw_model.specs.Rooms.{RoomModel, InRange, whole_room}
+use Rattle.hw_tolls.specs.declared.limits.TheConstants.{MOST_DUES, MOST_PRICE, MOST_SCALE}
 use Rattle.hw_tolls.specs.declared.tariff.Due.{Due}
 use Rattle.hw_tolls.specs.declared.tariff.Tariff.{Tariff}
 use Rattle.hw_tolls.specs.declared.toll.Toll.{Toll}
@@ -11,12 +12,12 @@ use Rattle.hw_tolls.specs.Tolls.{usage, capacity}
 -- the limits of a due; its toll is one of this many
 pub record DueFits (tolls : ℕ) (due : Due) : Type 0 where
   pub toll_in : due.toll < tolls
-  pub small_price : due.price ≤ 1_000_000_000_000_000_000
+  pub small_price : due.price ≤ MOST_PRICE
 
 -- the limits of a tariff on this many tolls. A scale of 0 is allowed: then the tolls alone must refute
 pub record TariffFits (tolls : ℕ) (tariff : Tariff) : Type 0 where
-  pub small_scale : tariff.scale ≤ 1_000_000
-  pub few_dues : length tariff.dues ≤ 100_000
+  pub small_scale : tariff.scale ≤ MOST_SCALE
+  pub few_dues : length tariff.dues ≤ MOST_DUES
   pub each_due : All (DueFits tolls) tariff.dues
 
 -- what a timetable takes of the toll at a place, nothing where there is none

@@ -5,6 +5,7 @@
 #![tactic(auto)]
 
 mod laws;
+mod limits;
 mod tariff;
 mod toll;
 
@@ -13,5 +14,6 @@ pub use laws::{
     rising_prices, sound_bound, sound_prices, teams_are_tolls, toll_judged, toll_kept, toll_rows,
     toll_usage, wider_prices, without_dues,
 };
+pub use limits::{MOST_COST, MOST_DUES, MOST_GAIN, MOST_PRICE, MOST_SCALE, MOST_TOLLS};
 pub use tariff::{Balance, Due, Dues, Tariff};
 pub use toll::{Block, Blocks, Charge, Toll, Weights};

@@ -7,7 +7,7 @@ use std::marker::Model;
 pub struct Due {
     /// The toll's place in a list, counted from 0.
     pub toll: u32,
-    /// What one unit costs, at most 1,000,000,000,000,000,000 parts.
+    /// What one unit costs, at most `MOST_PRICE` parts.
     pub price: u64,
 }
 
@@ -29,10 +29,10 @@ impl Model for Dues {
 /// Prices on tolls, and the scale of their parts.
 #[derive(Debug, Drop)]
 pub struct Tariff {
-    /// How many parts make a tenth of a tonne, at most 1,000,000. With a scale of 0 cargo counts
-    /// nothing, and the tolls alone must refute.
+    /// How many parts make a tenth of a tonne, at most `MOST_SCALE`. With a scale of 0 cargo
+    /// counts nothing, and the tolls alone must refute.
     pub scale: u32,
-    /// At most 100,000.
+    /// At most `MOST_DUES`.
     pub dues: Dues,
 }
 

@@ -44,7 +44,7 @@ impl Model for Weights {
 #[derive(Debug, Drop)]
 pub enum Toll {
     /// At most one ship lies in its block: of each two blocks some rule of the problem refutes that
-    /// both ships lie in theirs. There are 1 to 40 blocks, of ascending ships.
+    /// both ships lie in theirs. There are 1 to `MOST_SHIPS` blocks, of ascending ships.
     Narrows {
         blocks: Blocks,
     },
@@ -56,9 +56,9 @@ pub enum Toll {
         place: u32,
         /// A slot of the horizon.
         slot: Slot,
-        /// At most 64 each.
+        /// At most `MOST_TUGS` each.
         weights: Weights,
-        /// At most 2,560.
+        /// At most `MOST_HELD`.
         most: u32,
     },
 }
