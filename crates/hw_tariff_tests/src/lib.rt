@@ -1,14 +1,9 @@
-//! Tests of the calls of tolls and prices that take memory, of the tariff in force, and of the clauses
-//! that prices give.
+//! Tests of the clauses that prices give, and of what prices leave the whole problem.
 #![tactic(auto)]
 
 #[cfg(test)]
 mod advice;
 #[cfg(test)]
-mod books;
-#[cfg(test)]
 mod bounds;
 #[cfg(test)]
 mod problem;
-#[cfg(test)]
-mod tolls;

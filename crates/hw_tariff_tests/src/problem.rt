@@ -6,7 +6,7 @@ ghost use Rattle.hw_tolls.specs.Tolls.{IsToll};
 use hw_flat::Flat;
 use hw_model::NoMemory;
 use hw_tariff::is_toll;
-use hw_tolls::{Block, Blocks, Due, Dues, Tariff, Toll, Weights};
+use hw_tolls::{Block, Blocks, Due, Dues, Tariff, Toll};
 use std::alloc::Global;
 use std::test::Fail;
 
@@ -15,55 +15,24 @@ use std::test::Fail;
 pub const TWO_APART: &[u8] =
     b"flat 1\nsize 2 3\nv 10 20 30\nv 10 20 -\np 0 1 -1:1\nu 3 0:2:2 1:2:2\nend\n";
 
-/// The same ships, which may stay.
-pub const STAYING: &[u8] =
-    b"flat 2\nsize 2 3\nv 10 20 30 y\nv 10 20 - y\np 0 1 -1:1\nu 3 0:2:2 1:2:2\nend\n";
-
-/// Two ships with two tugs each for two slots, of three tugs, and no rule on the two.
-pub const TUGS_ALONE: &[u8] = b"flat 1\nsize 2 3\nv 10 20 30\nv 10 20 -\nu 3 0:2:2 1:2:2\nend\n";
-
-/// Three ships, of which the first two alone sail two slots apart.
-pub const ONE_RULE: &[u8] =
-    b"flat 1\nsize 3 3\nv 10 20 30\nv 10 20 -\nv 10 20 -\np 0 1 -1:1\nend\n";
-
-/// The same with too few slots for the first two.
-pub const NO_SLOTS: &[u8] = b"flat 1\nsize 3 2\nv 10 20\nv 10 20\nv 10 20\np 0 1 -1:1\nend\n";
-
 /// One of the two ships at most sails in the second or the third slot.
-pub const LATE: &[(u32, u32, u32)] = &[(0, 1, 2), (1, 1, 2)];
+const LATE: [Block; 2] = [
+    Block {
+        ship: 0,
+        low: 1,
+        high: 2,
+    },
+    Block {
+        ship: 1,
+        low: 1,
+        high: 2,
+    },
+];
 
-/// Narrows of these blocks, each a ship with its first and its last slot.
-pub fn narrows(alloc: Global, blocks: &[(u32, u32, u32)]) -> Result<Toll, NoMemory> {
-    let mut items = Vec::new(alloc);
-    for (ship, low, high) in blocks {
-        items.push(Block {
-            ship: *ship,
-            low: *low,
-            high: *high,
-        })?;
-    }
+fn late_slots(alloc: Global) -> Result<Toll, NoMemory> {
+    let items = Vec::from_slice(alloc, &LATE)?;
     Ok(Toll::Narrows {
         blocks: Blocks { items },
-    })
-}
-
-/// Weights of the jobs of the rule at a place, in a slot.
-pub fn tugs(
-    alloc: Global,
-    place: u32,
-    slot: u32,
-    weights: &[u32],
-    most: u32,
-) -> Result<Toll, NoMemory> {
-    let mut items = Vec::new(alloc);
-    for weight in weights {
-        items.push(*weight)?;
-    }
-    Ok(Toll::Tugs {
-        place,
-        slot,
-        weights: Weights { items },
-        most,
     })
 }
 
@@ -71,7 +40,7 @@ pub fn tugs(
 pub fn late_alone(alloc: Global, flat: &Flat) -> Result<Option<Vec<Toll>>, Fail>
     ensures tolls { IfOk result (λ found. IfSome found (λ tolls. All (IsToll flat.now) tolls.items)) }
 {
-    let late = narrows(alloc, LATE)?;
+    let late = late_slots(alloc)?;
     if !is_toll(alloc, flat, &late)? {
         return Ok(None);
     }
