@@ -1,14 +1,11 @@
-//! Tests of crews through the public calls: rows worked out by hand, every certificate checked, and the
-//! same turns played one by one.
+//! Tests of crews through the public calls: the same turns played one by one, and what `solve` writes.
 #![tactic(auto)]
 
 #[cfg(test)]
-mod checked;
+mod alone;
 #[cfg(test)]
 mod played;
 #[cfg(test)]
 mod player;
 #[cfg(test)]
 mod problems;
-#[cfg(test)]
-mod rows;

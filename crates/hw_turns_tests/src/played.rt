@@ -6,7 +6,7 @@ ghost use Rattle.hw_progress.specs.Turns.{is_last};
 ghost use Rattle.hw_turns.specs.Members.{Working};
 
 use crate::player::{Player, is_timetable};
-use crate::problems::{APART, CLIMB, NONE_FITS, TUGS, crew_of};
+use crate::problems::{APART, CLIMB, NONE_FITS, TUGS, crew_lines};
 use hw_cert::Line;
 use hw_flat::{Flat, NoMemory, Timetable, make_demo};
 use hw_rules::cargo;
@@ -236,7 +236,7 @@ fn played(alloc: Global, flat: &Flat, order: &[Branching], budget: u32) -> Resul
 /// Those of the crew itself.
 fn handed(alloc: Global, flat: &Flat, order: &[Branching], budget: u32) -> Result<String, Fail> {
     let mut compared = Compared::new(alloc);
-    if let Some((_crewed, lines)) = crew_of(alloc, flat, order, budget) {
+    if let Some(lines) = crew_lines(alloc, flat, order, budget) {
         compared.add_all(alloc, flat, &lines, 0)?;
     }
     Ok(compared.text)

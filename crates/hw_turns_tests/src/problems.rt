@@ -1,16 +1,10 @@
 //! Small problems, and the crews on them.
 
-ghost use Rattle.std.specs.Prelude.{All, IfSome};
-ghost use Rattle.hw_lines.specs.Valid.{LineFits};
-
 use hw_cert::{Line, MemoryLog};
 use hw_flat::Flat;
 use hw_search::Branching;
-use hw_turns::{Crewed, crew};
+use hw_turns::crew;
 use std::alloc::Global;
-
-/// One ship, whose last slot is its best.
-pub const ONE: &[u8] = b"flat 1\nsize 1 3\nv - 5 9\nend\n";
 
 /// Two ships that sail two slots apart: in the first and the last slot.
 pub const APART: &[u8] = b"flat 1\nsize 2 3\nv 10 20 30\nv 10 20 30\np 0 1 -1:1\nend\n";
@@ -25,22 +19,17 @@ pub const TUGS: &[u8] = b"flat 1\nsize 2 6\nv 0 1 5 9 5 1\nv 0 1 5 9 5 1\nu 3 0:
 pub const CLIMB: &[u8] =
     b"flat 1\nsize 1 64\nv 0 1 2 3 4 5 6 7 8 9 10 11 12 13 14 15 16 17 18 19 20 21 22 23 24 25 26 27 28 29 30 31 32 33 34 35 36 37 38 39 40 41 42 43 44 45 46 47 48 49 50 51 52 53 54 55 56 57 58 59 60 61 62 63\nend\n";
 
-/// Greatest value first, earliest slot first, latest slot first.
-pub const RULES: [Branching; 3] = [Branching::Greatest, Branching::Earliest, Branching::Latest];
-
-/// What a crew answers, and its lines. An order without turns is none.
-pub fn crew_of(
+/// The lines of a crew. An order without turns is none.
+pub fn crew_lines(
     alloc: Global,
     flat: &Flat,
     order: &[Branching],
     budget: u32,
-) -> Option<(Crewed, Vec<Line>)>
-    ensures fit { IfSome result (λ both. All (LineFits flat.now) both.1.items) }
-{
+) -> Option<Vec<Line>> {
     if order.is_empty() {
         return None;
     }
     let mut log = MemoryLog::new(alloc);
-    let crewed = crew(alloc, flat, order, budget.clamp(1, 100_000), &mut log);
-    Some((crewed, log.into_lines()))
+    crew(alloc, flat, order, budget.clamp(1, 100_000), &mut log);
+    Some(log.into_lines())
 }
