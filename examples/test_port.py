@@ -1,0 +1,299 @@
+#!/usr/bin/env python3
+"""Tests port.py, and compares instance.schema.json with the table of places in docs/FORMATS.md.
+
+    python3 test_port.py [PROGRAM]
+
+With the path of a built program the made instance is planned too, and the limits of the schema are those of the program.
+"""
+import copy
+import csv
+import glob
+import io
+import json
+import os
+import re
+import subprocess
+import sys
+import tempfile
+import unittest
+
+import port
+
+HERE = os.path.dirname(os.path.abspath(__file__))
+PROGRAM = None
+LIMITS = r"([0-9]+) to ([0-9]+)(?: (cm|slots|tugs|tenths of a tonne for a centimetre of draft))?(?:, (?:at least|above|from) .*)?"
+
+
+def text_of(name):
+    with open(os.path.join(HERE, name), encoding="utf-8") as file:
+        return file.read()
+
+
+SHIPS = text_of("ships.csv")
+BASE = text_of("port.json")
+DAY = json.loads(text_of("day.json"))
+
+
+def made(ships=SHIPS, base=BASE, order=None):
+    return port.instance_of(("ships.csv", ships), ("port.json", base), order)
+
+
+def edited(column, text, row=2):
+    """The table of ships with another cell."""
+    table = [line.split(",") for line in SHIPS.splitlines()]
+    table[row - 1][table[0].index(column)] = text
+    return "\n".join(map(",".join, table)) + "\n"
+
+
+def with_column(name, cells):
+    lines = SHIPS.splitlines()
+    return "\n".join(f"{line},{cell}" for line, cell in zip(lines, [name, *cells])) + "\n"
+
+
+class Made(unittest.TestCase):
+    def test_day(self):
+        self.assertEqual(made(), DAY)
+        done = subprocess.run([sys.executable, "port.py", "ships.csv", "port.json"], cwd=HERE, capture_output=True, text=True,
+                              check=True)
+        self.assertEqual((json.loads(done.stdout), done.stderr), (DAY, ""))
+
+    def test_tables(self):
+        rows = list(csv.reader(io.StringIO(SHIPS)))
+        self.assertEqual(made("\r\n".join(";".join(row) for row in rows) + "\r\n;;;\r\n\r\n"), DAY)
+        self.assertEqual(made("\n".join(",".join(f'" {cell} "' for cell in row[::-1]) for row in rows)), DAY)
+        with tempfile.TemporaryDirectory() as room:
+            name = os.path.join(room, "marked.csv")
+            with open(name, "w", encoding="utf-8") as file:
+                file.write("\ufeff" + SHIPS)
+            self.assertEqual(port.read_text(name), (name, SHIPS))
+        other = re.sub(r"2027-03-14 ([0-9:]+)", r"14.03.2027 \1:00", SHIPS)
+        self.assertEqual(made(other, order="dmy"), DAY)
+
+    def test_times(self):
+        # Slot 0 begins at 03:40, and slot 8 at 05:40.
+        for column, row, text, slot in [
+                ("earliest", 2, "2027-03-14 05:40", 8), ("earliest", 2, "2027-03-14 05:41", 9),
+                ("earliest", 2, "2027-03-14T05:40:01", 9), ("earliest", 2, "2027-03-13 23:00", 0),
+                ("latest", 2, "2027-03-14 05:40", 8), ("latest", 2, "2027-03-14 05:54:59", 8),
+                ("latest", 2, "2027-03-14 05:55", 9), ("latest", 2, "2027-03-20 00:00", 95), ("latest", 2, "", 95)]:
+            self.assertEqual(made(edited(column, text, row))["ships"][row - 2][column], slot)
+
+    def test_may_stay(self):
+        instance = made(with_column("may_stay", ["yes", "No"] + ["no"] * 8))
+        self.assertEqual(instance["version"], 2)
+        self.assertEqual([ship["may_stay"] for ship in instance["ships"]], [True] + [False] * 9)
+
+    def test_incoming(self):
+        ship = made(edited("deep", "", 8).replace("07:30,,900", "07:30,,"))["ships"][6]
+        self.assertEqual([ship[column] for column in ("tpc", "light", "deep")], [0, 1050, 1050])
+
+    def test_berths(self):
+        self.assertEqual(made(edited("berth", ""))["berths"], DAY["berths"][1:])
+        without = "\n".join(re.sub("(East|North|West|berth),", "", line) for line in SHIPS.splitlines())
+        self.assertEqual(made(re.sub(r",,([0-9],[0-9])(\n|$)", r",\1\2", without))["berths"], [])
+
+    def test_program(self):
+        if not PROGRAM:
+            self.skipTest("no built program was named")
+        with tempfile.TemporaryDirectory() as room:
+            with open(os.path.join(room, "made.json"), "w", encoding="utf-8") as file:
+                file.write(port.text_of(made()))
+            done = subprocess.run([PROGRAM, "solve", "port", "made.json", os.path.join(HERE, "day-tides.csv"), "1000", "p"],
+                                  cwd=room, capture_output=True, text=True, check=True)
+        self.assertEqual(done.stdout.splitlines()[0], "optimal 308296.0")
+
+
+class Refused(unittest.TestCase):
+    def refused(self, cause, **texts):
+        with self.assertRaises(port.Refused) as raised:
+            made(**texts)
+        self.assertEqual(str(raised.exception), cause)
+
+    def test_cells(self):
+        for column, row, text, cause in [
+                ("name", 2, "", '"" is no name of 1 to 40 plain characters'),
+                ("name", 3, "Albatross", "there is a ship of this name already"),
+                ("direction", 2, "out", """"out" is none of ['outgoing', 'incoming']"""),
+                ("class", 2, "barge", '"barge" is no class of the port'),
+                ("route", 2, "", '"" is no route of the port'),
+                ("berth", 2, "South", '"South" is no berth of the port'),
+                ("berth", 4, "East", "a second outgoing ship of this berth"),
+                ("earliest", 4, "05:30", "05:30 is no date and time, such as 2027-03-14 03:40"),
+                ("earliest", 4, "2027-02-29 05:30", "the date 2027-02-29 doesn't exist"),
+                ("earliest", 4, "2027-03-14 25:30", "the time 25:30 doesn't exist"),
+                ("earliest", 4, "2027-03-15 03:26", "no slot is left: it is after the last slot"),
+                ("latest", 4, "2027-03-14 03:39", "it is before slot 0"),
+                ("latest", 4, "2027-03-14 05:30", "7 is below earliest, which is 8"),
+                ("tpc", 2, "100.0", '"100.0" is no whole number'),
+                ("tpc", 2, "", '"" is no whole number'),
+                ("tpc", 2, "3001", "3001 isn't from 0 to 3000"),
+                ("deep", 2, "1099", "1099 is below light, which is 1100"),
+                ("job", 2, "0", "0 isn't from 1 to 512")]:
+            self.refused(f"ships.csv, row {row}, column {column}: {cause}", ships=edited(column, text, row))
+        self.refused("ships.csv, row 4, column may_stay: it is neither yes nor no",
+                     ships=with_column("may_stay", ["yes", "no", "", *["no"] * 7]))
+
+    def test_tables(self):
+        header = SHIPS.splitlines()[0]
+        for old, new, cause in [
+                ("berth", "quay", "row 1, column quay: this column isn't known, or stands there twice"),
+                ("berth", "job", "row 1, column job: this column isn't known, or stands there twice"),
+                ("class,", "", "row 1, column class: this column is missing"),
+                ("East,3,4", "East,3,4,5", "row 2, column 13: there are more cells than columns")]:
+            self.refused(f"ships.csv, {cause}", ships=SHIPS.replace(old, new, 1))
+        self.refused("ships.csv, row 1, column name: this column is missing", ships="")
+        self.refused("ships.csv, row 2, column name: there are 0 ships, and not 1 to 40", ships=header)
+        many = header + "".join(f"\nA{number},incoming,cape,,,,900,,in,,1,4" for number in range(41))
+        self.refused("ships.csv, row 2, column name: there are 41 ships, and not 1 to 40", ships=many)
+
+    def test_base(self):
+        for old, new, cause in [
+                ('"fleet":9,', "", "fleet: this member is missing"),
+                ('"fleet":9', '"fleet":1001', "fleet: 1001 isn't from 0 to 1000"),
+                ('"fleet":9', '"fleet":9.0', "fleet: 9.0 is no integer"),
+                ('"fleet":9', '"fleet":true', "fleet: true is no integer"),
+                ('"fleet":9', '"fleet":9,"tugs":9', "tugs: there is no such member"),
+                ("03:40", "3h40", 'start: "2027-03-14 3h40" is no time such as 2027-03-14 03:40'),
+                ('["cape","panamax"]', '["cape"]', "separation: there are 2 items, and 1 classes"),
+                ("[2,2]", "[2]", "separation.1: there are 1 items, and 2 classes"),
+                ('"panamax"', '"cape"', 'classes.1: "cape" stands there twice'),
+                ('"waypoint":"Bar"', '"waypoint":"Sill"', 'routes.0.route.1.waypoint: "Sill" is no waypoint'),
+                ('"section":"Narrows"', '"section":"Neck"', 'routes.0.channel.0.section: "Neck" is no section'),
+                ('"enter":1', '"enter":3', "routes.0.channel.0.leave: it isn't above enter"),
+                ('"offset":4', '"offset":1024', "routes.0.route.1.offset: 1024 isn't from 0 to 1023"),
+                ('"clear":4', '"clear":0', "berths.0.clear: 0 isn't from 1 to 512")]:
+            self.refused(f"port.json, {cause}", base=BASE.replace(old, new, 1))
+        self.refused("port.json, line 1: Expecting value", base="")
+        self.refused("port.json, root: [] is no object", base="[]")
+
+    def test_words(self):
+        for words, cause in [([], "usage: port.py [--dates dmy|mdy|ymd] SHIPS.csv PORT.json"),
+                             (["none.csv", "port.json"], "none.csv: No such file or directory"),
+                             (["ships.csv", "ships.csv"], "ships.csv, line 1: Expecting value")]:
+            done = subprocess.run([sys.executable, "port.py", *words], cwd=HERE, capture_output=True, text=True, check=False)
+            self.assertEqual((done.returncode, done.stdout, done.stderr), (1, "", cause + "\n"))
+
+
+def places():
+    """The rows of the table of places: place, kind and meaning."""
+    with open(os.path.join(HERE, "..", "docs", "FORMATS.md"), encoding="utf-8") as file:
+        return [(place, kind, meaning.strip()) for place, kind, meaning in
+                re.findall(r"^\| [0-9]+ \| `([a-z_.*]+)` \| ([a-z ]+) \|(.*)\|$", file.read(), re.MULTILINE)]
+
+
+def resolved(schema):
+    return port.SCHEMA["definitions"][schema["$ref"].rpartition("/")[2]] if "$ref" in schema else schema
+
+
+def schema_at(place):
+    """The part of the schema for a place."""
+    schema = port.SCHEMA
+    for word in [] if place == "root" else place.split("."):
+        schema = resolved(schema["items"] if word == "*" else schema["properties"][word])
+    return schema
+
+
+def range_of(meaning):
+    """The least and the greatest number that a meaning in the table allows, whatever the rest of the instance."""
+    found = re.fullmatch(LIMITS, meaning)
+    if found:
+        return int(found[1]), int(found[2])
+    lists = {"a slot": "slots", "one of the classes": "separation", "the place of a waypoint": "waypoints",
+             "the place of a section": "sections", "the place of an outgoing ship": "ships",
+             "the place of an incoming ship": "ships"}
+    place = lists[meaning.partition(",")[0]]
+    schema = schema_at(place)
+    return 0, schema.get("maxItems", schema.get("maximum")) - 1
+
+
+class Schema(unittest.TestCase):
+    def test_kinds(self):
+        kinds = {"object": "object", "list": "array", "text": "string", "number": "integer", "truth value": "boolean"}
+        self.assertEqual(len(places()), 45)
+        for place, kind, _ in places():
+            self.assertEqual(schema_at(place)["type"], kinds[kind], place)
+
+    def test_members(self):
+        for place, kind, _ in places():
+            if kind == "object":
+                front = "" if place == "root" else place + "."
+                members = {other[len(front):] for other, _, _ in places()
+                           if other.startswith(front) and other != "root" and "." not in other[len(front):]}
+                schema = schema_at(place)
+                self.assertEqual(set(schema["properties"]), members, place)
+                self.assertEqual(set(schema["required"]), members - {"may_stay"}, place)
+                self.assertIs(schema["additionalProperties"], False)
+
+    def test_limits(self):
+        for place, kind, meaning in places():
+            schema = schema_at(place)
+            if place == "version":
+                self.assertEqual((schema["enum"], meaning), ([1, 2], "1, or 2 where ships may stay"))
+            elif kind == "number":
+                self.assertEqual((schema["minimum"], schema["maximum"]), range_of(meaning), place)
+            elif place == "separation.*":
+                outer = schema_at("separation")
+                self.assertEqual((schema["minItems"], schema["maxItems"]), (outer["minItems"], outer["maxItems"]))
+            elif kind == "list":
+                found = re.match("([0-9]+) to ([0-9]+) items", meaning)
+                self.assertEqual((schema["minItems"], schema["maxItems"]), (int(found[1]), int(found[2])), place)
+            elif place.endswith("direction"):
+                self.assertEqual(schema["enum"], re.findall("`([a-z]+)`", meaning))
+            elif kind == "text":
+                self.assertTrue(meaning.startswith("a name "))
+                self.assertIs(schema, port.SCHEMA["definitions"]["name"])
+
+    def test_names(self):
+        pattern = port.SCHEMA["definitions"]["name"]["pattern"]
+        for name, good in [("a", True), ("~", True), ("a b", True), ("a" * 40, True), ("a" * 41, False), ("", False),
+                           (" a", False), ("a ", False), ("\xe9", False), ("a\n", False), ("a\tb", False)]:
+            self.assertEqual(bool(re.fullmatch(pattern, name)), good, name)
+
+    def test_examples(self):
+        count = 0
+        for name in glob.glob(os.path.join(HERE, "*.json")):
+            with open(name, encoding="utf-8") as file:
+                instance = json.load(file)
+            if "version" in instance:
+                port.check(instance, port.SCHEMA)
+                count += 1
+        self.assertGreater(count, 8)
+        for change, place in [({"slots": 2.0}, "slots"), ({"version": 2}, "ships.0.may_stay"), ({"version": 3}, "version"),
+                              ({"ships": [{**DAY["ships"][0], "may_stay": True}]}, "ships.0.may_stay")]:
+            with self.assertRaises(port.Fault) as raised:
+                port.check({**DAY, **change}, port.SCHEMA)
+            self.assertEqual(".".join(map(str, raised.exception.place)), place)
+
+    def test_program(self):
+        if not PROGRAM:
+            self.skipTest("no built program was named")
+        for place, kind, meaning in places():
+            if kind == "number" and place != "version":
+                schema = schema_at(place)
+                numbers = [(schema["minimum"] - 1, True), (schema["minimum"], False), (schema["maximum"] + 1, True)]
+                # The greatest number of a place is allowed in this day too, unless it depends on other members.
+                numbers += [(schema["maximum"], False)] if re.fullmatch(LIMITS, meaning) else []
+                for number, refused in numbers:
+                    self.assertEqual(self.out_of_range(place.replace("*", "0"), number), refused, (place, number))
+
+    def out_of_range(self, place, number):
+        """Whether the program finds this number out of its range there."""
+        instance = copy.deepcopy(DAY)
+        *front, last = [int(word) if word.isdigit() else word for word in place.split(".")]
+        item = instance
+        for word in front:
+            item = item[word]
+        item[last] = number
+        with tempfile.TemporaryDirectory() as room:
+            name = os.path.join(room, "instance.json")
+            with open(name, "w", encoding="utf-8") as file:
+                json.dump(instance, file)
+            done = subprocess.run([PROGRAM, "explain", "port", name, os.path.join(HERE, "day-tides.csv")],
+                                  capture_output=True, text=True, check=False)
+        return done.stdout == f"bad instance {place} range\n"
+
+
+if __name__ == "__main__":
+    if len(sys.argv) > 1 and not sys.argv[1].startswith("-"):
+        PROGRAM = os.path.abspath(sys.argv.pop(1))
+    unittest.main()

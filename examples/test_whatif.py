@@ -1,0 +1,141 @@
+#!/usr/bin/env python3
+"""Tests whatif.py with a program that only seems to plan, and, where the path of a built one is given, with that.
+
+    python3 test_whatif.py [PROGRAM]
+"""
+import json
+import os
+import subprocess
+import sys
+import tempfile
+import unittest
+
+HERE = os.path.dirname(os.path.abspath(__file__))
+PROGRAM = None
+# What it reports depends on the fleet alone, or else on all depths, slots and separations.
+FAKE = """#!/usr/bin/env python3
+import json
+import sys
+form, port, instance, tides, budget, proof = sys.argv[1:]
+assert (form, port, tides, budget) == ("prove", "port", "tides.csv", "20")
+day = json.load(open(instance))
+open(proof, "w").write("cert 3\\n")
+reports = {1: "infeasible", 2: "unfinished 20 none\\nbound 900.5", 3: "unfinished 20 best 700.0\\nbound 812.5",
+           5: "unfinished 20 best 700.0", 6: "bad instance fleet range", 7: "memory none"}
+cargo = (sum(item["depth"] for item in day["waypoints"]) + sum(map(sum, day["separation"]))
+         - sum(ship["earliest"] for ship in day["ships"]))
+print(reports.get(day["fleet"], f"optimal {cargo}.0"), "end", sep="\\n")
+sys.exit(0 if day["fleet"] not in reports else 2)
+"""
+DAY = {"waypoints": [{"name": "Berth", "depth": 400}, {"name": "Bar", "depth": 350}], "separation": [[1, 3], [2, 2]],
+       "fleet": 4, "ships": [{"name": "Albatross", "earliest": 2}, {"name": "Curlew", "earliest": 5}]}
+
+
+class WhatIf(unittest.TestCase):
+    def setUp(self):
+        room = tempfile.TemporaryDirectory()
+        self.addCleanup(room.cleanup)
+        self.room = room.name
+        self.put("fake", FAKE)
+        os.chmod(os.path.join(self.room, "fake"), 0o755)
+        self.put("day.json", json.dumps(DAY))
+        self.put("day.csv", "water,Berth,Bar\n0,10,10\n")
+
+    def put(self, name, text):
+        with open(os.path.join(self.room, name), "w", encoding="utf-8") as file:
+            file.write(text)
+
+    def run_it(self, *words):
+        return subprocess.run([sys.executable, os.path.join(HERE, "whatif.py"), *words], cwd=self.room, capture_output=True,
+                              text=True, check=False)
+
+    def rows(self, *words):
+        """The rows that are printed, by the columns of the header and without the seconds."""
+        done = self.run_it(*words)
+        self.assertEqual((done.returncode, done.stderr), (0, ""))
+        header, *lines = done.stdout.splitlines()
+        # Two columns are flush left, the others flush right.
+        result = header.index("result")
+        ends = [result + max(len(line[result:].split("  ")[0]) for line in [header, *lines])]
+        ends += [header.index(name) + len(name) for name in ("tonnes", "bound", "difference")]
+        starts = [0, result, *ends]
+        return [[line[begin:end].strip() for begin, end in zip(starts, starts[1:])] for line in lines]
+
+    def test_default(self):
+        self.assertEqual(self.rows("--program", "fake", "--budget", "20", "day.json", "day.csv"), [
+            ["as it is", "optimal", "751.0", "", ""],
+            ["fleet 2", "unfinished", "", "900.5", "at most +149.5"],
+            ["fleet 3", "unfinished", "700.0", "812.5", "-51.0 to +61.5"],
+            ["fleet 5", "unfinished", "700.0", "", "at least -51.0"],
+            ["fleet 6", "bad instance fleet range", "", "", ""],
+            ["Berth 10 cm deeper", "optimal", "761.0", "", "+10.0"],
+            ["Bar 10 cm deeper", "optimal", "761.0", "", "+10.0"],
+            ["Albatross 4 slots later", "optimal", "747.0", "", "-4.0"],
+            ["Curlew 4 slots later", "optimal", "747.0", "", "-4.0"],
+            ["separation 1 less", "optimal", "748.0", "", "-3.0"]])
+
+    def test_named(self):
+        words = ["--program", "fake", "--budget", "20", "--at-once", "2", "--keep", "kept", "day.json", "day.csv", "fleet=7",
+                 "fleet=1..1", "deeper=Bar:25", "later=Curlew:3"]
+        self.assertEqual(self.rows(*words), [
+            ["as it is", "optimal", "751.0", "", ""],
+            ["fleet 7", "memory", "", "", ""],
+            ["fleet 1", "infeasible", "", "", ""],
+            ["Bar 25 cm deeper", "optimal", "776.0", "", "+25.0"],
+            ["Curlew 3 slots later", "optimal", "748.0", "", "-3.0"]])
+        with open(os.path.join(self.room, "kept", "3.json"), encoding="utf-8") as file:
+            self.assertEqual(json.load(file)["waypoints"], [DAY["waypoints"][0], {"name": "Bar", "depth": 375}])
+        self.assertTrue(os.path.exists(os.path.join(self.room, "kept", "3.cert")))
+        # What is there isn't written over.
+        self.assertEqual(self.run_it(*words).stderr, "whatif.py: kept: File exists\n")
+
+    def test_slurm(self):
+        words = ["--program", "fake", "--budget", "20", "day.json", "day.csv", "fleet=3", "separation=-1"]
+        done = self.run_it("--slurm", "array", *words)
+        self.assertEqual((done.returncode, done.stdout, done.stderr), (0, "", ""))
+        folder = os.path.join(self.room, "array")
+        with open(os.path.join(folder, "array.sh"), encoding="utf-8") as file:
+            self.assertIn("\n#SBATCH --array=0-2\n", file.read())
+        # The second job is still waiting.
+        for number in (0, 2):
+            subprocess.run(["bash", os.path.join(folder, "array.sh")], check=True,
+                           env={**os.environ, "SLURM_ARRAY_TASK_ID": str(number)})
+        rows = self.rows(*words)
+        self.assertEqual(self.rows("--table", "array"), [rows[0], ["fleet 3", "no report", "", "", ""], rows[2]])
+
+    def test_refused(self):
+        for word, cause in [("tugs=3", "tugs=3 is no variant"), ("fleet", "fleet is no variant"),
+                            ("fleet=x", "fleet=x is no number of tugs, as 7 or 4..8"),
+                            ("deeper=Quay:3", "Quay:3: the day has no such name"),
+                            ("later=Curlew", "Curlew: a number is missing"),
+                            ("separation=1", "separation=1 is no number of slots less, as -1")]:
+            done = self.run_it("--program", "fake", "day.json", "day.csv", word)
+            self.assertEqual((done.returncode, done.stdout, done.stderr), (1, "", f"whatif.py: {cause}\n"))
+        for words, cause in [(["day.csv", "day.csv"], "day.csv is no instance: the program tells the first fault"),
+                             (["none.json", "day.csv"], "none.json: No such file or directory"),
+                             (["--program", "none", "day.json", "day.csv"], "none can't be run")]:
+            done = self.run_it("--program", "fake", *words)
+            self.assertEqual((done.returncode, done.stdout, done.stderr), (1, "", f"whatif.py: {cause}\n"))
+
+    def test_program(self):
+        if not PROGRAM:
+            self.skipTest("no built program was named")
+        # PLANNING says what the shortage of tugs costs there: with 8 all three ships have theirs in slot 22.
+        rows = self.rows("--program", PROGRAM, *(os.path.join(HERE, name) for name in ("tugs.json", "tide.csv")), "fleet=8",
+                         "fleet=4", "fleet=2", "later=Curlew:4")
+        self.assertEqual(rows[:2], [["as it is", "optimal", "106780.0", "", ""],
+                                    ["fleet 8", "optimal", "108300.0", "", "+1520.0"]])
+        self.assertEqual(rows[3:], [["fleet 2", "infeasible", "", "", ""],
+                                    ["Curlew 4 slots later", "bad instance ships.2.latest order", "", "", ""]])
+
+        day = self.rows("--program", PROGRAM, *(os.path.join(HERE, name) for name in ("day.json", "day-tides.csv")),
+                        "deeper=Bar:10")
+        self.assertEqual(day[1], ["Bar 10 cm deeper", "optimal", "311956.0", "", "+3660.0"])
+        with open(os.path.join(HERE, "..", "docs", "PLANNING.md"), encoding="utf-8") as file:
+            self.assertTrue(" 3660.0 tonnes" in file.read())
+
+
+if __name__ == "__main__":
+    if len(sys.argv) > 1 and not sys.argv[1].startswith("-"):
+        PROGRAM = os.path.abspath(sys.argv.pop(1))
+    unittest.main()
