@@ -37,7 +37,7 @@ in_force old None = old
 in_force old (Some tariff) = Some tariff
 
 -- tolls of the problem that bring the declared ones to at most 10,000, and a tariff on all of them whose dues are on ascending tolls
-pub record ArePriced (f : Problem) (declared more : List Toll) (tariff : Option Tariff) : Type 0 where
+pub record AreFurtherPrices (f : Problem) (declared more : List Toll) (tariff : Option Tariff) : Type 0 where
   pub tolls : All (IsToll f) more
   pub few : length (declared ++ more) ≤ 10_000
   pub fits : IfSome tariff (TariffFits (length (declared ++ more)))
@@ -45,7 +45,7 @@ pub record ArePriced (f : Problem) (declared more : List Toll) (tariff : Option 
 
 -- a clause that is active in the room, that names no order, and whose denied room the prices refute, with these tolls after the declared ones
 pub record IsAdvice (f : Problem) (declared : List Toll) (last : Option Tariff) (best : Option ℕ) (room : RoomModel) (more : List Toll) (tariff : Option Tariff) (clause : List Lit) : Type 0 where
-  pub prices : ArePriced f declared more tariff
+  pub prices : AreFurtherPrices f declared more tariff
   pub refuted : IsSomeAnd (in_force last tariff) (λ t. PricesRefute f (declared ++ more) t best (denied (shape_of f) clause))
   pub normal : IsClause (shape_of f) clause
   pub active : IsActive clause room
@@ -53,7 +53,7 @@ pub record IsAdvice (f : Problem) (declared : List Toll) (last : Option Tariff) 
 
 -- a bound of the whole problem by the prices, with these tolls after the declared ones
 pub record IsBoundAdvice (f : Problem) (declared : List Toll) (last : Option Tariff) (more : List Toll) (tariff : Option Tariff) (bound : ℕ) : Type 0 where
-  pub prices : ArePriced f declared more tariff
+  pub prices : AreFurtherPrices f declared more tariff
   pub bounded : IsSomeAnd (in_force last tariff) (λ t. (1 ≤ t.scale) × PricesBound f (declared ++ more) t bound)
   pub small : bound ≤ 40_000_000_000_000
 

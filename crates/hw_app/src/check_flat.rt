@@ -1,6 +1,6 @@
 //! `check flat NAME CERT`: a certificate of a flat text.
 
-ghost use Rattle.hw_desk.specs.State.{IsNew};
+ghost use Rattle.hw_desk.specs.State.{IsNewDesk};
 ghost use Rattle.hw_command.specs.Carries.{Carries};
 ghost use Rattle.hw_app.specs.CheckFlat.{check_flat_task};
 
@@ -11,7 +11,7 @@ use std::alloc::Global;
 
 /// Reads the flat text, checks the certificate of it, and reports.
 pub fn check_flat<D: Desk>(alloc: Global, desk: &mut D, name: &str, cert: &str) -> Status
-    requires fresh { IsNew (D.state desk.old) }
+    requires fresh { IsNewDesk (D.state desk.old) }
     ensures { Carries (check_flat_task name.now cert.now) (D.state desk.old) (D.state desk.new) result }
 {
     let flat = match read_flat(alloc, desk, name) {

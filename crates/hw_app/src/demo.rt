@@ -3,7 +3,7 @@
 ghost use Rattle.std.specs.Prelude.{◌≡◌, ◌≤◌, ◌∷◌, ◌++◌, [], All, IfOk, List, None, length, true};
 ghost use Rattle.hw_cert.specs.Logs.{memory_log};
 ghost use Rattle.hw_check.specs.Follows.{Follows};
-ghost use Rattle.hw_desk.specs.State.{IsNew};
+ghost use Rattle.hw_desk.specs.State.{IsNewDesk};
 ghost use Rattle.hw_flat.specs.Demonstration.{demonstration};
 ghost use Rattle.hw_lines.specs.Lemmas.{lemmas_of};
 ghost use Rattle.hw_lines.specs.Refusals.{kept_refusal};
@@ -52,7 +52,7 @@ pub fn demo<D: Desk>(alloc: Global, desk: &mut D, draw: Draw, budget: u32, proof
     requires draw { CanDraw draw.ships draw.slots }
     requires least { 1 ≤ budget }
     requires most { budget ≤ most_budget }
-    requires fresh { IsNew (D.state desk.old) }
+    requires fresh { IsNewDesk (D.state desk.old) }
     ensures { Carries (demo_task (demonstration draw.number draw.ships draw.slots) budget proof.now) (D.state desk.old) (D.state desk.new) result }
 {
     let shown = match show(alloc, draw, budget) {

@@ -1,7 +1,7 @@
 //! `flatten INSTANCE TIDES`: the flat text of a port.
 
 ghost use Rattle.std.specs.Prelude.{◌≡◌, IfOk};
-ghost use Rattle.hw_desk.specs.State.{IsNew};
+ghost use Rattle.hw_desk.specs.State.{IsNewDesk};
 ghost use Rattle.hw_flat.specs.TextWritten.{IsWritable, problem_text};
 ghost use Rattle.hw_report.specs.Printing.{CanPrint};
 ghost use Rattle.hw_report.specs.Reports.{whole_text};
@@ -19,7 +19,7 @@ use std::alloc::Global;
 /// Reads the instance and then its tide table, and sends the flat text of the port. The whole text
 /// stands in memory before the first byte is sent: up to some 400,000 bytes.
 pub fn flatten_port<D: Desk>(alloc: Global, desk: &mut D, port: PortNames) -> Status
-    requires fresh { IsNew (D.state desk.old) }
+    requires fresh { IsNewDesk (D.state desk.old) }
     ensures { Carries (flatten_task port.entry.instance.now port.entry.tides.now) (D.state desk.old) (D.state desk.new) result }
 {
     let problem = match read_port_problem(alloc, desk, port) {

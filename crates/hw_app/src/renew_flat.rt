@@ -1,6 +1,6 @@
 //! `renew flat NAME CERT PROOF`: a certificate of a flat text, written again.
 
-ghost use Rattle.hw_desk.specs.State.{IsNew};
+ghost use Rattle.hw_desk.specs.State.{IsNewDesk};
 ghost use Rattle.hw_command.specs.Carries.{Carries};
 ghost use Rattle.hw_app.specs.RenewFlat.{renew_flat_task};
 
@@ -18,7 +18,7 @@ pub fn renew_flat<D: Desk>(
     cert: &str,
     proof: &str,
 ) -> Status
-    requires fresh { IsNew (D.state desk.old) }
+    requires fresh { IsNewDesk (D.state desk.old) }
     ensures { Carries (renew_flat_task name.now cert.now proof.now) (D.state desk.old) (D.state desk.new) result }
 {
     let flat = match read_flat(alloc, desk, name) {

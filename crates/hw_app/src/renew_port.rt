@@ -1,6 +1,6 @@
 //! `renew port INSTANCE TIDES CERT PROOF`: a certificate of a port, written again.
 
-ghost use Rattle.hw_desk.specs.State.{IsNew};
+ghost use Rattle.hw_desk.specs.State.{IsNewDesk};
 ghost use Rattle.hw_command.specs.Carries.{Carries};
 ghost use Rattle.hw_app.specs.RenewPort.{renew_port_task};
 
@@ -20,7 +20,7 @@ pub fn renew_port<D: Desk>(
     cert: &str,
     proof: &str,
 ) -> Status
-    requires fresh { IsNew (D.state desk.old) }
+    requires fresh { IsNewDesk (D.state desk.old) }
     ensures { Carries (renew_port_task port.entry.instance.now port.entry.tides.now cert.now proof.now) (D.state desk.old) (D.state desk.new) result }
 {
     let problem = match read_port_problem(alloc, desk, port) {

@@ -2,7 +2,7 @@
 //! promise.
 
 ghost use Rattle.std.specs.Prelude.{map, string_bytes};
-ghost use Rattle.hw_desk.specs.State.{IsNew};
+ghost use Rattle.hw_desk.specs.State.{IsNewDesk};
 ghost use Rattle.hw_app.specs.Run.{RunMeets};
 
 use crate::check_flat::check_flat;
@@ -31,7 +31,7 @@ use std::alloc::Global;
 ///
 /// After every status but `WriteFault` the whole report was sent, and after that one a proper prefix.
 pub fn run<D: Desk>(alloc: Global, words: &[String], desk: &mut D) -> Status
-    requires { IsNew (D.state desk.old) }
+    requires { IsNewDesk (D.state desk.old) }
     ensures { RunMeets (map string_bytes words.now) (D.state desk.old) (D.state desk.new) result }
 {
     let command = match read_command(words) {

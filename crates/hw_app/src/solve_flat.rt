@@ -1,7 +1,7 @@
 //! `solve flat NAME BUDGET PROOF`: a certified search of a flat text.
 
 ghost use Rattle.std.specs.Prelude.{◌≤◌};
-ghost use Rattle.hw_desk.specs.State.{IsNew};
+ghost use Rattle.hw_desk.specs.State.{IsNewDesk};
 ghost use Rattle.hw_command.specs.Budgets.{most_budget};
 ghost use Rattle.hw_command.specs.Carries.{Carries};
 ghost use Rattle.hw_app.specs.SolveFlat.{solve_flat_task};
@@ -22,7 +22,7 @@ pub fn solve_flat<D: Desk>(
 ) -> Status
     requires least { 1 ≤ budget }
     requires most { budget ≤ most_budget }
-    requires fresh { IsNew (D.state desk.old) }
+    requires fresh { IsNewDesk (D.state desk.old) }
     ensures { Carries (solve_flat_task name.now budget proof.now) (D.state desk.old) (D.state desk.new) result }
 {
     let flat = match read_flat(alloc, desk, name) {

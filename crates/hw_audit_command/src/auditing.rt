@@ -1,6 +1,6 @@
 //! `audit port INSTANCE TIDES PLAN EVENTS`: a port's plan is watched through events.
 
-ghost use Rattle.hw_desk.specs.State.{IsNew};
+ghost use Rattle.hw_desk.specs.State.{IsNewDesk};
 ghost use Rattle.hw_command.specs.Carries.{Carries};
 ghost use Rattle.hw_audit_command.specs.AuditPort.{audit_port_task};
 
@@ -24,7 +24,7 @@ pub fn audit_port<D: Desk>(
     plan: &str,
     events: &str,
 ) -> Status
-    requires fresh { IsNew (D.state desk.old) }
+    requires fresh { IsNewDesk (D.state desk.old) }
     ensures { Carries (audit_port_task port.entry.instance.now port.entry.tides.now plan.now events.now) (D.state desk.old) (D.state desk.new) result }
 {
     let problem = match read_port_problem(alloc, desk, port) {

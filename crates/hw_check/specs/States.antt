@@ -5,7 +5,7 @@ use Rattle.hw_model.specs.Problem.{Problem}
 use Rattle.hw_model.specs.Rooms.{RoomModel, RoomFits}
 use Rattle.hw_model.specs.Lits.{IsLitOf}
 use Rattle.hw_lines.specs.Kept.{NumberedClause, Kept, none_kept}
-use Rattle.hw_tariff.specs.PriceStates.{PriceState, AreGood, tariff_of}
+use Rattle.hw_tariff.specs.PriceStates.{PriceState, AreGood, tariff_in_force}
 
 -- what is kept of the lines that were taken, and how many literals and places are kept for it, including those of dead clauses
 pub record CheckState : Type 0 where
@@ -39,7 +39,7 @@ with_next store lits = record { live = store.live ++ (record { id = store.next; 
 
 -- what is kept, by the clauses, the tolls and prices, the best cargo, and whether a clause line had no literals
 abbrev pub kept_in : ClauseStore → PriceState → Option ℕ → Bool → Kept
-kept_in store prices best closed = record { live = store.live; next = store.next; best = best; closed = closed; tolls = prices.tolls; tariff = tariff_of prices; bound = prices.bound }
+kept_in store prices best closed = record { live = store.live; next = store.next; best = best; closed = closed; tolls = prices.tolls; tariff = tariff_in_force prices; bound = prices.bound }
 
 -- each clause speaks only of this many ships
 abbrev pub LitsFit : ℕ → List NumberedClause → Type 0

@@ -6,7 +6,7 @@ ghost use Rattle.hw_model.specs.Problem.{shape_of};
 ghost use Rattle.hw_model.specs.Lits.{IsClause};
 ghost use Rattle.hw_model.specs.Rooms.{RoomFits, whole_room};
 ghost use Rattle.hw_lines.specs.Refusals as refusals;
-ghost use Rattle.hw_tariff.specs.PriceStates.{AreGood, tariff_of};
+ghost use Rattle.hw_tariff.specs.PriceStates.{AreGood, tariff_in_force};
 
 use crate::refusing::{deny_in, refused, refused_at};
 use hw_flat::{Flat, Room};
@@ -65,7 +65,7 @@ pub(crate) fn priced_refusal(
     requires clause { IsClause (shape_of flat.now) clause.now }
     requires good { AreGood flat.now prices.now }
     requires room { RoomFits flat.now room.old }
-    ensures value { result ≡ refusals.priced_refusal flat.now prices.now.tolls best clause.now (tariff_of prices.now) }
+    ensures value { result ≡ refusals.priced_refusal flat.now prices.now.tolls best clause.now (tariff_in_force prices.now) }
     ensures room { RoomFits flat.now room.new }
 {
     deny_in(flat, clause, room);
@@ -85,7 +85,7 @@ pub(crate) fn bound_refusal(
 ) -> Option<Refusal>
     requires good { AreGood flat.now prices.now }
     requires room { RoomFits flat.now room.old }
-    ensures value { result ≡ refusals.bound_refusal flat.now prices.now.tolls bound prices.now.bound (tariff_of prices.now) }
+    ensures value { result ≡ refusals.bound_refusal flat.now prices.now.tolls bound prices.now.bound (tariff_in_force prices.now) }
     ensures room { RoomFits flat.now room.new }
 {
     open(flat, room);
@@ -116,7 +116,7 @@ fn bounds(flat: &Flat, prices: &PriceBook, bound: u64, whole: &Room) -> Option<b
     requires good { AreGood flat.now prices.now }
     requires whole { whole.now ≡ whole_room (shape_of flat.now) }
     requires room { RoomFits flat.now whole.now }
-    ensures value { result ≡ option_map (λ tariff. refusals.bounds flat.now prices.now.tolls tariff bound) (tariff_of prices.now) }
+    ensures value { result ≡ option_map (λ tariff. refusals.bounds flat.now prices.now.tolls tariff bound) (tariff_in_force prices.now) }
 {
     match (prices.scale(), prices.refutes(flat, Some(bound), whole)) {
         (Some(scale), Some(refuted)) => Some(0 < scale && refuted),

@@ -1,7 +1,7 @@
 //! `explain port INSTANCE TIDES`: a port's restrictions in the port's own words.
 
 ghost use Rattle.std.specs.Prelude.{◌≡◌};
-ghost use Rattle.hw_desk.specs.State.{IsNew};
+ghost use Rattle.hw_desk.specs.State.{IsNewDesk};
 ghost use Rattle.hw_report.specs.Printing.{CanPrint};
 ghost use Rattle.hw_report.specs.Reports.{whole_text};
 ghost use Rattle.hw_report.specs.Seen.{report_seen};
@@ -18,7 +18,7 @@ use std::alloc::Global;
 /// its number in the port's flat problem. The whole text stands in memory before the first byte is
 /// sent.
 pub fn explain_port<D: Desk>(alloc: Global, desk: &mut D, port: PortNames) -> Status
-    requires fresh { IsNew (D.state desk.old) }
+    requires fresh { IsNewDesk (D.state desk.old) }
     ensures { Carries (explain_port_task port.entry.instance.now port.entry.tides.now) (D.state desk.old) (D.state desk.new) result }
 {
     let problem = match read_port_problem(alloc, desk, port) {

@@ -1,6 +1,6 @@
 //! `check clash NAME PLAN CERT`: a clash of a flat text, and its certificate.
 
-ghost use Rattle.hw_desk.specs.State.{IsNew};
+ghost use Rattle.hw_desk.specs.State.{IsNewDesk};
 ghost use Rattle.hw_command.specs.Carries.{Carries};
 ghost use Rattle.hw_clash_command.specs.CheckClash.{check_clash_task};
 
@@ -19,7 +19,7 @@ pub fn check_clash<D: Desk>(
     plan: &str,
     cert: &str,
 ) -> Status
-    requires fresh { IsNew (D.state desk.old) }
+    requires fresh { IsNewDesk (D.state desk.old) }
     ensures { Carries (check_clash_task name.now plan.now cert.now) (D.state desk.old) (D.state desk.new) result }
 {
     let flat = match read_flat(alloc, desk, name) {

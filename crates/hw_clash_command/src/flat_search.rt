@@ -1,7 +1,7 @@
 //! `clash flat NAME BUDGET PROOF`: why a flat text permits nothing.
 
 ghost use Rattle.std.specs.Prelude.{◌≤◌};
-ghost use Rattle.hw_desk.specs.State.{IsNew};
+ghost use Rattle.hw_desk.specs.State.{IsNewDesk};
 ghost use Rattle.hw_command.specs.Budgets.{most_budget};
 ghost use Rattle.hw_command.specs.Carries.{Carries};
 ghost use Rattle.hw_clash_command.specs.ClashFlat.{clash_flat_task};
@@ -24,7 +24,7 @@ pub fn clash_flat<D: Desk>(
 ) -> Status
     requires least { 1 ≤ budget }
     requires most { budget ≤ most_budget }
-    requires fresh { IsNew (D.state desk.old) }
+    requires fresh { IsNewDesk (D.state desk.old) }
     ensures { Carries (clash_flat_task name.now budget proof.now) (D.state desk.old) (D.state desk.new) result }
 {
     let flat = match read_flat(alloc, desk, name) {

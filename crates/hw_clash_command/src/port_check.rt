@@ -1,6 +1,6 @@
 //! `check clash port INSTANCE TIDES PLAN CERT`: a clash of a port, and its certificate.
 
-ghost use Rattle.hw_desk.specs.State.{IsNew};
+ghost use Rattle.hw_desk.specs.State.{IsNewDesk};
 ghost use Rattle.hw_command.specs.Carries.{Carries};
 ghost use Rattle.hw_clash_command.specs.CheckClashPort.{check_clash_port_task};
 
@@ -19,7 +19,7 @@ pub fn check_clash_port<D: Desk>(
     plan: &str,
     cert: &str,
 ) -> Status
-    requires fresh { IsNew (D.state desk.old) }
+    requires fresh { IsNewDesk (D.state desk.old) }
     ensures { Carries (check_clash_port_task port.entry.instance.now port.entry.tides.now plan.now cert.now) (D.state desk.old) (D.state desk.new) result }
 {
     let problem = match read_port_problem(alloc, desk, port) {

@@ -1,7 +1,7 @@
 //! Reading a port: its instance, its tide table, and its flat problem.
 
 ghost use Rattle.std.specs.Prelude.{◌≡◌, IfErr, IfOk, false};
-ghost use Rattle.hw_desk.specs.State.{IsNew};
+ghost use Rattle.hw_desk.specs.State.{IsNewDesk};
 ghost use Rattle.hw_command.specs.PortInputs.{ReadsInstance, ReadsNamed, ReadsTide, StopsNamed, report_of_instance, report_of_tide, stop_of_instance, stop_of_tide};
 ghost use Rattle.hw_report.specs.Printing.{CanPrint};
 ghost use Rattle.hw_report.specs.Seen.{report_seen};
@@ -58,7 +58,7 @@ pub fn read_port_problem<D: Desk>(
     desk: &mut D,
     names: PortNames,
 ) -> Result<PortProblem, Report<'static>>
-    requires { IsNew (D.state desk.old) }
+    requires { IsNewDesk (D.state desk.old) }
     ensures problem { IfOk result (λ read. ReadsNamed names.entry (D.state desk.old) (D.state desk.new) read) }
     ensures no_problem { IfErr result (λ report. StopsNamed names.entry (D.state desk.old) (D.state desk.new) (report_seen report)) }
     ensures printed { IfErr result (λ report. CanPrint (report_seen report)) }

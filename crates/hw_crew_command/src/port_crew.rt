@@ -1,7 +1,7 @@
 //! `crew port INSTANCE TIDES ORDER BUDGET PROOF`: a certified search of a port by several searchers.
 
 ghost use Rattle.std.specs.Prelude.{◌≤◌};
-ghost use Rattle.hw_desk.specs.State.{IsNew};
+ghost use Rattle.hw_desk.specs.State.{IsNewDesk};
 ghost use Rattle.hw_command.specs.Budgets.{most_budget};
 ghost use Rattle.hw_command.specs.Carries.{Carries};
 ghost use Rattle.hw_crew_command.specs.CrewPort.{crew_port_task};
@@ -26,7 +26,7 @@ pub fn crew_port<D: Desk>(
 ) -> Status
     requires least { 1 ≤ budget }
     requires most { budget ≤ most_budget }
-    requires fresh { IsNew (D.state desk.old) }
+    requires fresh { IsNewDesk (D.state desk.old) }
     ensures { Carries (crew_port_task port.entry.instance.now port.entry.tides.now order.now budget proof.now) (D.state desk.old) (D.state desk.new) result }
 {
     let problem = match read_port_problem(alloc, desk, port) {

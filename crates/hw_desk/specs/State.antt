@@ -80,6 +80,6 @@ abbrev pub CanSend : Tray → DeskState → Type 0
 CanSend tray s = can_send tray s ≡ true
 
 -- no feed was begun, and no tray made
-pub record IsNew (s : DeskState) : Type 0 where
+pub record IsNewDesk (s : DeskState) : Type 0 where
   pub feeds : (f : Feed) → (s.feeds f).begun ≡ false
   pub trays : (t : Tray) → (s.trays t).made ≡ false

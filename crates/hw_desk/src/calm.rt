@@ -122,13 +122,13 @@ impl Model for CalmDesk {
 }
 
 impl CalmDesk {
-    ghost use Rattle.hw_desk.specs.State.{IsNew};
+    ghost use Rattle.hw_desk.specs.State.{IsNewDesk};
     ghost use Rattle.hw_desk.specs.Calm.{calm_state, new_calm};
 
     /// A desk with these files, on which nothing was begun or made. It takes 1,048,576 bytes for each
     /// tray and 256 bytes for each name; of two files of one name the first is read.
     pub fn new(alloc: Global, files: Vec<NamedBytes>) -> Result<CalmDesk, NoMemory>
-        ensures fresh { IfOk result (λ desk. IsNew (calm_state desk)) }
+        ensures fresh { IfOk result (λ desk. IsNewDesk (calm_state desk)) }
         ensures value { IfOk result (λ desk. desk ≡ new_calm files.items) }
     {
         Ok(CalmDesk {

@@ -199,7 +199,7 @@ fn send_or_fail(
 }
 
 impl MemoryDesk {
-    ghost use Rattle.hw_desk.specs.State.{IsNew};
+    ghost use Rattle.hw_desk.specs.State.{IsNewDesk};
     ghost use Rattle.hw_desk.specs.Memory.{memory_state, new_memory};
     ghost use Rattle.std.specs.Prelude.{Some};
 
@@ -214,7 +214,7 @@ impl MemoryDesk {
         fails: Vec<FailAt>,
     ) -> Result<MemoryDesk, NoMemory>
         requires { 1 ≤ most }
-        ensures fresh { IfOk result (λ desk. IsNew (memory_state desk)) }
+        ensures fresh { IfOk result (λ desk. IsNewDesk (memory_state desk)) }
         ensures value { IfOk result (λ desk. desk ≡ new_memory files.items most room fails.items) }
     {
         Ok(MemoryDesk {

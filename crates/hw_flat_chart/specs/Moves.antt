@@ -4,12 +4,12 @@ use Rattle.hw_model.specs.Problem.{Problem, IsTimetable, horizon}
 use Rattle.hw_model.specs.Timetables.{Permits, first_broken}
 
 -- the timetable with another slot for one ship; all other ships stay where they are
-abbrev pub moved : List ℕ → ℕ → ℕ → List ℕ
-moved table ship slot = slice_set table ship slot
+abbrev pub with_move : List ℕ → ℕ → ℕ → List ℕ
+with_move table ship slot = slice_set table ship slot
 
 -- no restriction is broken with this slot for the ship
 abbrev pub is_open : Problem → List ℕ → ℕ → ℕ → Bool
-is_open f table ship slot = is_none (first_broken f (moved table ship slot))
+is_open f table ship slot = is_none (first_broken f (with_move table ship slot))
 
 -- the top of a window one unit tall where the slot is open, and otherwise its foot
 abbrev pub open_level : Problem → List ℕ → ℕ → ℕ → ℕ
@@ -21,7 +21,7 @@ flag_place ship slot = ship * 512 + slot
 
 -- a flag is set exactly where the problem permits the timetable with that slot for the ship
 abbrev pub Tells : Problem → List ℕ → ℕ → ℕ → Bool → Type 0
-Tells f table ship slot flag = (flag ≡ true) ↔ Permits f (moved table ship slot)
+Tells f table ship slot flag = (flag ≡ true) ↔ Permits f (with_move table ship slot)
 
 -- the flag at a place tells that of the ship and the slot whose place it is
 abbrev pub TellsAt : Problem → List ℕ → ℕ → Bool → Type 0
@@ -44,4 +44,4 @@ pub record IsPlan (f : Problem) (plan : PlanModel) : Type 0 where
 
 -- a level is 0 exactly where the problem permits the timetable with that slot for the ship
 abbrev pub MovesArePermitted : Type 0
-MovesArePermitted = (f : Problem) (table : List ℕ) (ship slot : ℕ) → IsTimetable f table → slot < f.slots → (open_level f table ship slot ≡ 0) ↔ Permits f (moved table ship slot)
+MovesArePermitted = (f : Problem) (table : List ℕ) (ship slot : ℕ) → IsTimetable f table → slot < f.slots → (open_level f table ship slot ≡ 0) ↔ Permits f (with_move table ship slot)

@@ -3,7 +3,7 @@
 ghost use Rattle.std.specs.Prelude.{◌≡◌, ◌↔◌, ◌<◌, ℕ, IfOk, true, false, length, slice_index_or};
 ghost use Rattle.hw_model.specs.Problem.{IsTimetable, horizon};
 ghost use Rattle.hw_model.specs.Timetables.{Permits};
-ghost use Rattle.hw_flat_chart.specs.Moves.{TellAll, Tells, TellsAt, flag_place, moved};
+ghost use Rattle.hw_flat_chart.specs.Moves.{TellAll, Tells, TellsAt, flag_place, with_move};
 
 use hw_flat::{Flat, Timetable};
 use hw_model::{NoMemory, ShipId, Slot};
@@ -11,9 +11,14 @@ use hw_rules::broken;
 use std::alloc::Global;
 
 /// The timetable with another slot for one ship.
-fn moved(alloc: Global, table: &Timetable, ship: ShipId, slot: Slot) -> Result<Timetable, NoMemory>
+fn with_move(
+    alloc: Global,
+    table: &Timetable,
+    ship: ShipId,
+    slot: Slot,
+) -> Result<Timetable, NoMemory>
     requires { ship < length table.now }
-    ensures { IfOk result (λ other. other ≡ moved table.now ship slot) }
+    ensures { IfOk result (λ other. other ≡ with_move table.now ship slot) }
 {
     let mut slots = Vec::from_slice(alloc, table.as_slice())?;
     let _few = table.len();
@@ -38,7 +43,7 @@ fn is_move(
     if flat.value(ship, slot).is_none() {
         return Ok(false);
     }
-    let other = moved(alloc, table, ship, slot)?;
+    let other = with_move(alloc, table, ship, slot)?;
     Ok(broken(flat, &other).is_none())
 }
 

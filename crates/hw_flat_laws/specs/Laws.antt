@@ -23,7 +23,7 @@ IsRefused bytes number word = flat_text bytes ≡ fault number word
 
 -- nothing before the line is wrong, no text that has it too reads, a text that stops there ends too early, and the place
 -- tells the word
-pub record BadLine (bytes : List ℕ) (number : ℕ) (word : FlatWord) : Type 0 where
+pub record BadFlatLine (bytes : List ℕ) (number : ℕ) (word : FlatWord) : Type 0 where
   pub counted : 1 ≤ number
   pub begins : GoesOn (number - 1) bytes
   pub dead_end : (others : List ℕ) → SameLines number bytes others → IsRefused others number word
@@ -32,7 +32,7 @@ pub record BadLine (bytes : List ℕ) (number : ℕ) (word : FlatWord) : Type 0 
 
 -- where a text is refused at a line, that is a first bad line
 abbrev pub FirstBadLine : Type 0
-FirstBadLine = (bytes : List ℕ) (number : ℕ) (word : FlatWord) → IsRefused bytes number word → BadLine bytes number word
+FirstBadLine = (bytes : List ℕ) (number : ℕ) (word : FlatWord) → IsRefused bytes number word → BadFlatLine bytes number word
 
 -- where the lines before begin a text that reads and the line isn't what is wanted, the text is refused there, since that is
 -- missing

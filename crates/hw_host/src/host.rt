@@ -34,12 +34,12 @@ fn fresh_files() -> Feeds<HostFile>
 }
 
 impl<'r> HostDesk<'r> {
-    ghost use Rattle.hw_desk.specs.State.{IsNew};
+    ghost use Rattle.hw_desk.specs.State.{IsNewDesk};
     ghost use Rattle.hw_host.specs.Host.{host_state};
 
     /// A desk on which nothing was begun or made.
     pub fn new(rt: &'r HostRuntime) -> HostDesk<'r>
-        ensures { IsNew (host_state result) }
+        ensures { IsNewDesk (host_state result) }
     {
         HostDesk {
             rt,

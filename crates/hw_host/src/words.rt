@@ -3,7 +3,7 @@
 ghost use Rattle.std.specs.Prelude.{◌≡◌, IfOk, codes, drop, map, string_bytes};
 ghost use Rattle.std.specs.Process.{exit_status};
 ghost use Rattle.std.specs.Vec.Iter.{into_iter_items};
-ghost use Rattle.hw_desk.specs.State.{IsNew};
+ghost use Rattle.hw_desk.specs.State.{IsNewDesk};
 ghost use Rattle.hw_command.specs.Statuses.{code_of};
 ghost use Rattle.hw_host.specs.Info.{info_text};
 ghost use Rattle.hw_host.specs.Words.{AreWordsOf, EndsBy, EndsSending, ProgramEnds, sent_status};
@@ -74,7 +74,7 @@ fn end_without_words<D: Desk>(desk: &mut D) -> ExitCode
 
 /// Answers words that ask about the program itself, and runs all others.
 fn end_of_words<D: Desk>(alloc: Global, words: &[String], desk: &mut D) -> ExitCode
-    requires { IsNew (D.state desk.old) }
+    requires { IsNewDesk (D.state desk.old) }
     ensures { EndsBy (map string_bytes words.now) (D.state desk.old) (D.state desk.new) (exit_status result) }
 {
     match info_of(words) {
@@ -89,7 +89,7 @@ fn end_of_words<D: Desk>(alloc: Global, words: &[String], desk: &mut D) -> ExitC
 /// `--help` and `--version`, each alone, are answered here. All other words are run, and where memory
 /// ran out for them `memory` is reported.
 pub fn end_of<D: Desk>(alloc: Global, args: io::Result<Args>, desk: &mut D) -> ExitCode
-    requires { IsNew (D.state desk.old) }
+    requires { IsNewDesk (D.state desk.old) }
     ensures { ProgramEnds args (D.state desk.old) (D.state desk.new) (exit_status result) }
 {
     match words_of(alloc, args) {

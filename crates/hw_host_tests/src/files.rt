@@ -1,6 +1,6 @@
 //! Files that are read, made, written over and left as they are.
 
-ghost use Rattle.hw_desk.specs.State.{IsNew};
+ghost use Rattle.hw_desk.specs.State.{IsNewDesk};
 
 use hw_desk::{Desk, DeskFailed, Feed, Tray, read_whole, write_all};
 use hw_host::HostDesk;
@@ -23,7 +23,7 @@ fn make_long(rt: &HostRuntime) -> Result<(), Fail> {
 
 /// The bytes of a file that is begun and read whole, or none where a call fails.
 fn read_on<D: Desk>(alloc: Global, desk: &mut D, name: &str) -> Option<Vec<u8>>
-    requires { IsNew (D.state desk.old) }
+    requires { IsNewDesk (D.state desk.old) }
 {
     desk.begin(Feed::Flat, name).ok()?;
     read_whole(alloc, desk, Feed::Flat, 100_000).ok()
@@ -31,7 +31,7 @@ fn read_on<D: Desk>(alloc: Global, desk: &mut D, name: &str) -> Option<Vec<u8>>
 
 /// Makes a file and writes the text to it.
 fn write_on<D: Desk>(desk: &mut D, name: &str) -> Result<(), DeskFailed>
-    requires { IsNew (D.state desk.old) }
+    requires { IsNewDesk (D.state desk.old) }
 {
     desk.make(Tray::Proof, name)?;
     write_all(desk, Tray::Proof, TEXT.as_bytes())
@@ -44,7 +44,7 @@ fn make_beside<D: Desk>(
     input: &str,
     proof: &str,
 ) -> Result<(), DeskFailed>
-    requires { IsNew (D.state desk.old) }
+    requires { IsNewDesk (D.state desk.old) }
 {
     desk.begin(feed, input)?;
     desk.make(Tray::Proof, proof)

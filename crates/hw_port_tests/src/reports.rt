@@ -1,7 +1,7 @@
 //! A report longer than the writer's buffer of 8192 bytes.
 
 ghost use Rattle.std.specs.Prelude.{◌≤◌};
-ghost use Rattle.hw_desk.specs.State.{IsNew};
+ghost use Rattle.hw_desk.specs.State.{IsNewDesk};
 ghost use Rattle.hw_report.specs.Printing.{CanPrint};
 ghost use Rattle.hw_report.specs.Seen.{report_seen};
 
@@ -58,7 +58,7 @@ fn clash_text(alloc: Global) -> Result<Vec<u8>, NoMemory> {
 
 /// Whether the report was sent whole.
 fn prints<D: Desk>(desk: &mut D, report: &Report) -> bool
-    requires new { IsNew (D.state desk.old) }
+    requires new { IsNewDesk (D.state desk.old) }
     requires can { CanPrint (report_seen report.now) }
 {
     print_report(desk, report).is_ok()

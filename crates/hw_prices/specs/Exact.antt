@@ -20,7 +20,7 @@ pub record IsTested (f : Problem) (tolls : List Toll) (tariff : Tariff) (best : 
   pub speaks : SpeaksOnlyOf f Goal clause
 
 -- a bound within its limit, which the prices leave the whole problem
-pub record IsBound (f : Problem) (tolls : List Toll) (tariff : Tariff) (bound : ℕ) : Type 0 where
+pub record IsTariffBound (f : Problem) (tolls : List Toll) (tariff : Tariff) (bound : ℕ) : Type 0 where
   pub scaled : 1 ≤ tariff.scale
   pub bounded : PricesBound f tolls tariff bound
   pub small : bound ≤ 40_000_000_000_000

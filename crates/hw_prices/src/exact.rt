@@ -11,8 +11,8 @@ ghost use Rattle.hw_lits.specs.Active.{IsActive};
 ghost use Rattle.hw_tolls.specs.Tolls.{IsToll, capacity};
 ghost use Rattle.hw_tolls.specs.Prices.{PricesRefute, TariffFits};
 ghost use Rattle.hw_tariff.specs.InForce.{IsCharged};
-ghost use Rattle.hw_advice.specs.Advisers.{ArePriced};
-ghost use Rattle.hw_prices.specs.Exact.{IsBound, IsTested};
+ghost use Rattle.hw_advice.specs.Advisers.{AreFurtherPrices};
+ghost use Rattle.hw_prices.specs.Exact.{IsTariffBound, IsTested};
 
 use crate::rows::copy;
 use hw_advice::Scene;
@@ -61,7 +61,7 @@ pub(crate) fn are_priced(
     tariff: &Tariff,
 ) -> Result<bool, NoMemory>
     requires few { length scene.now.tolls.now ≤ 10_000 }
-    ensures value { IfOk result (λ yes. IsTrue yes → ArePriced scene.now.flat.now scene.now.tolls.now more.now (Some tariff.now)) }
+    ensures value { IfOk result (λ yes. IsTrue yes → AreFurtherPrices scene.now.flat.now scene.now.tolls.now more.now (Some tariff.now)) }
 {
     let declared = scene.tolls.len();
     if MOST_TOLLS - declared < more.len() {
@@ -189,7 +189,7 @@ pub(crate) fn bound_of(
 ) -> Result<Option<u64>, NoMemory>
     requires tolls { All (IsToll flat.now) tolls.now }
     requires fits { TariffFits (length tolls.now) tariff.now }
-    ensures value { IfOk result (λ found. IfSome found (IsBound flat.now tolls.now tariff.now)) }
+    ensures value { IfOk result (λ found. IfSome found (IsTariffBound flat.now tolls.now tariff.now)) }
 {
     let shape = flat.shape();
     let whole = Room::whole(alloc, shape)?;

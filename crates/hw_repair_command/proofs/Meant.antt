@@ -21,7 +21,7 @@ use Rattle.hw_repair.specs.Repaired.{repaired, own_cargo, own_moved, MeetsPlan}
 use Rattle.hw_repair.specs.Wishes.{PlanFits, PermitsPlan, moved}
 use Rattle.hw_repair.specs.declared.plan.Wish.{Wish}
 use Rattle.hw_repair.proofs.Repairs.{repaired_fits, repaired_permits, repaired_cargo, repaired_meets, best_repair, none_repair}
-use Rattle.hw_repair_command.specs.Repairs.{searched_head, RepairMeans, VerdictMeans, OutcomeMeans}
+use Rattle.hw_repair_command.specs.Repairs.{searched_head, RepairMeans, VerdictMeans, RepairOutcomeMeans}
 use Rattle.hw_repair_command.specs.Reports.{moved_of}
 
 -- the head that is printed, by that of the repair's problem
@@ -84,7 +84,7 @@ verdict_means f wishes (verdicts.Unfinished (Some d)) flat fits shown =
     last_meets f wishes (last_table shown.lines) d fits says.permitted (best_is (ends shown.lines) (best_of (repaired f wishes) shown.lines) d shown.verdict)
 
 -- what an outcome says of it
-pub outcome_means : (f : Problem) (wishes : List Wish) (o : CertOutcome) → IsFlat (repaired f wishes) → PlanFits f wishes → ShownBy (repaired f wishes) o → OutcomeMeans f wishes o
+pub outcome_means : (f : Problem) (wishes : List Wish) (o : CertOutcome) → IsFlat (repaired f wishes) → PlanFits f wishes → ShownBy (repaired f wishes) o → RepairOutcomeMeans f wishes o
 outcome_means f wishes (Shows v) flat fits shown = verdict_means f wishes v flat fits shown
 outcome_means f wishes (Wrong number word hint) flat fits shown = tt
 outcome_means f wishes TooLong flat fits shown = tt

@@ -17,8 +17,8 @@ use Rattle.hw_command.specs.declared.outcome.CertOutcome.TheVariants.{Shows, Wro
 use Rattle.hw_repair.specs.Repaired.{IsBestRepair, NoRepair}
 use Rattle.hw_repair.specs.Wishes.{PermitsPlan}
 use Rattle.hw_repair.specs.declared.plan.Wish.{Wish}
-use Rattle.hw_repair_command.specs.PortRepairs.{PortPermitsPlan, IsBestPortRepair, NoPortRepair, IsPortRepair, PortRepairMeans, PortVerdictMeans, PortOutcomeMeans}
-use Rattle.hw_repair_command.specs.Repairs.{RepairMeans, VerdictMeans, OutcomeMeans}
+use Rattle.hw_repair_command.specs.PortRepairs.{PortPermitsPlan, IsBestPortRepair, NoPortRepair, IsPortRepair, PortRepairMeans, PortVerdictMeans, PortRepairOutcomeMeans}
+use Rattle.hw_repair_command.specs.Repairs.{RepairMeans, VerdictMeans, RepairOutcomeMeans}
 
 -- a timetable meets the plan by the flat problem exactly where it does by the port
 to_port : (p : Parts) (h : TideParts) (wishes : List Wish) (table : List ℕ) → PortKept p → PermitsPlan (flattened p h) wishes table → PortPermitsPlan p h wishes table
@@ -76,7 +76,7 @@ verdict_of_port p h wishes (verdicts.Unfinished (Some d)) kept m =
     (m.0, record { meets = meets; worth = to_cargo p h m.0 _ kept meets.permitted m.1.worth; moves = m.1.moves })
 
 -- what an outcome says
-pub outcome_of_port : (p : Parts) (h : TideParts) (wishes : List Wish) (o : CertOutcome) → PortKept p → OutcomeMeans (flattened p h) wishes o → PortOutcomeMeans p h wishes o
+pub outcome_of_port : (p : Parts) (h : TideParts) (wishes : List Wish) (o : CertOutcome) → PortKept p → RepairOutcomeMeans (flattened p h) wishes o → PortRepairOutcomeMeans p h wishes o
 outcome_of_port p h wishes (Shows v) kept m = verdict_of_port p h wishes v kept m
 outcome_of_port p h wishes (Wrong number word hint) kept m = tt
 outcome_of_port p h wishes TooLong kept m = tt

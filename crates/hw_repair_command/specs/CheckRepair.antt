@@ -21,7 +21,7 @@ use Rattle.hw_repair.specs.Text.{plan_text}
 use Rattle.hw_repair.specs.Words.{word_text}
 use Rattle.hw_repair.specs.declared.plan.Wish.{Wish}
 use Rattle.hw_repair_command.specs.Plans.{IsPlanOf, PlanGives, NoPlan}
-use Rattle.hw_repair_command.specs.Repairs.{OutcomeMeans}
+use Rattle.hw_repair_command.specs.Repairs.{RepairOutcomeMeans}
 use Rattle.hw_repair_command.specs.Reports.{recheck_of}
 
 -- ---- the report of the bytes
@@ -54,7 +54,7 @@ pub record ChecksPlan (text plan bytes : Option (List ℕ)) (f : Problem) (o : C
   pub planned : IsPlanOf plan f wishes
   pub outcome : IfSome bytes (λ bs. o ≡ cert_outcome (repaired f wishes) bs)
   pub shown : ShownBy (repaired f wishes) o
-  pub means : OutcomeMeans f wishes o
+  pub means : RepairOutcomeMeans f wishes o
 
 -- the same of some problem
 pub record ChecksSomePlan (text plan bytes : Option (List ℕ)) (o : CertOutcome) : Type 0 where

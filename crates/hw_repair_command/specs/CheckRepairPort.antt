@@ -18,7 +18,7 @@ use Rattle.hw_repair.specs.declared.plan.Wish.{Wish}
 use Rattle.hw_repair_command.specs.CheckRepair.{plan_report}
 use Rattle.hw_repair_command.specs.Plans.{IsPlanOf}
 use Rattle.hw_repair_command.specs.PortPlans.{PortPlanGives, NoPortPlan}
-use Rattle.hw_repair_command.specs.PortRepairs.{PortOutcomeMeans}
+use Rattle.hw_repair_command.specs.PortRepairs.{PortRepairOutcomeMeans}
 use Rattle.hw_repair_command.specs.RepairPort.{port_repaired}
 
 -- a port with its tide and a plan of it, those of the texts where they are told, the outcome of the certificate of the repair, where that is told, and what this says of the plan by the port's rules
@@ -28,7 +28,7 @@ pub record ChecksPortPlan (instance table plan bytes : Option (List ℕ)) (p : P
   pub planned : IsPlanOf plan (flattened p h) wishes
   pub outcome : IfSome bytes (λ bs. o ≡ cert_outcome (port_repaired p h wishes) bs)
   pub shown : ShownBy (port_repaired p h wishes) o
-  pub means : PortOutcomeMeans p h wishes o
+  pub means : PortRepairOutcomeMeans p h wishes o
 
 -- the same of some port with its tide
 pub record ChecksSomePortPlan (instance table plan bytes : Option (List ℕ)) (o : CertOutcome) : Type 0 where

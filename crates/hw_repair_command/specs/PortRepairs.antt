@@ -58,6 +58,6 @@ PortVerdictMeans p h wishes (verdicts.Unfinished None) = ⊤
 PortVerdictMeans p h wishes (verdicts.Unfinished (Some d)) = (table : List ℕ) × PortMeetsPlan p h wishes table (own_cargo (length p.ships) d) (own_moved (length p.ships) d)
 
 -- what an outcome says
-abbrev pub PortOutcomeMeans : Parts → TideParts → List Wish → CertOutcome → Type 0
-PortOutcomeMeans p h wishes (Shows v) = PortVerdictMeans p h wishes v
-PortOutcomeMeans p h wishes outcome = ⊤
+abbrev pub PortRepairOutcomeMeans : Parts → TideParts → List Wish → CertOutcome → Type 0
+PortRepairOutcomeMeans p h wishes (Shows v) = PortVerdictMeans p h wishes v
+PortRepairOutcomeMeans p h wishes outcome = ⊤

@@ -34,6 +34,6 @@ VerdictMeans f wishes (verdicts.Unfinished None) = ⊤
 VerdictMeans f wishes (verdicts.Unfinished (Some d)) = (table : List ℕ) × MeetsPlan f wishes table (own_cargo f.ships d) (own_moved f.ships d)
 
 -- what an outcome says
-abbrev pub OutcomeMeans : Problem → List Wish → CertOutcome → Type 0
-OutcomeMeans f wishes (Shows v) = VerdictMeans f wishes v
-OutcomeMeans f wishes outcome = ⊤
+abbrev pub RepairOutcomeMeans : Problem → List Wish → CertOutcome → Type 0
+RepairOutcomeMeans f wishes (Shows v) = VerdictMeans f wishes v
+RepairOutcomeMeans f wishes outcome = ⊤

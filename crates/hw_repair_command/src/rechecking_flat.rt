@@ -1,6 +1,6 @@
 //! `check repair NAME PLAN CERT`: a certificate of the repair of a flat text's plan is checked.
 
-ghost use Rattle.hw_desk.specs.State.{IsNew};
+ghost use Rattle.hw_desk.specs.State.{IsNewDesk};
 ghost use Rattle.hw_command.specs.Carries.{Carries};
 ghost use Rattle.hw_repair_command.specs.CheckRepair.{check_repair_task};
 
@@ -20,7 +20,7 @@ pub fn check_repair<D: Desk>(
     plan: &str,
     cert: &str,
 ) -> Status
-    requires fresh { IsNew (D.state desk.old) }
+    requires fresh { IsNewDesk (D.state desk.old) }
     ensures { Carries (check_repair_task name.now plan.now cert.now) (D.state desk.old) (D.state desk.new) result }
 {
     let flat = match read_flat(alloc, desk, name) {

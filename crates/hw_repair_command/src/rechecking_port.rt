@@ -1,7 +1,7 @@
 //! `check repair port INSTANCE TIDES PLAN CERT`: a certificate of the repair of a port's plan is
 //! checked.
 
-ghost use Rattle.hw_desk.specs.State.{IsNew};
+ghost use Rattle.hw_desk.specs.State.{IsNewDesk};
 ghost use Rattle.hw_command.specs.Carries.{Carries};
 ghost use Rattle.hw_repair_command.specs.CheckRepairPort.{check_repair_port_task};
 
@@ -21,7 +21,7 @@ pub fn check_repair_port<D: Desk>(
     plan: &str,
     cert: &str,
 ) -> Status
-    requires fresh { IsNew (D.state desk.old) }
+    requires fresh { IsNewDesk (D.state desk.old) }
     ensures { Carries (check_repair_port_task port.entry.instance.now port.entry.tides.now plan.now cert.now) (D.state desk.old) (D.state desk.new) result }
 {
     let problem = match read_port_problem(alloc, desk, port) {

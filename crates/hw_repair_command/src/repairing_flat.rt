@@ -1,7 +1,7 @@
 //! `repair flat NAME PLAN BUDGET PROOF`: a plan of a flat text is repaired by a certified search.
 
 ghost use Rattle.std.specs.Prelude.{◌≤◌};
-ghost use Rattle.hw_desk.specs.State.{IsNew};
+ghost use Rattle.hw_desk.specs.State.{IsNewDesk};
 ghost use Rattle.hw_command.specs.Budgets.{most_budget};
 ghost use Rattle.hw_command.specs.Carries.{Carries};
 ghost use Rattle.hw_repair_command.specs.RepairFlat.{repair_flat_task};
@@ -25,7 +25,7 @@ pub fn repair_flat<D: Desk>(
 ) -> Status
     requires least { 1 ≤ budget }
     requires most { budget ≤ most_budget }
-    requires fresh { IsNew (D.state desk.old) }
+    requires fresh { IsNewDesk (D.state desk.old) }
     ensures { Carries (repair_flat_task name.now plan.now budget proof.now) (D.state desk.old) (D.state desk.new) result }
 {
     let flat = match read_flat(alloc, desk, name) {

@@ -2,7 +2,7 @@
 //! search.
 
 ghost use Rattle.std.specs.Prelude.{◌≤◌};
-ghost use Rattle.hw_desk.specs.State.{IsNew};
+ghost use Rattle.hw_desk.specs.State.{IsNewDesk};
 ghost use Rattle.hw_command.specs.Budgets.{most_budget};
 ghost use Rattle.hw_command.specs.Carries.{Carries};
 ghost use Rattle.hw_repair_command.specs.RepairPort.{repair_port_task};
@@ -26,7 +26,7 @@ pub fn repair_port<D: Desk>(
 ) -> Status
     requires least { 1 ≤ budget }
     requires most { budget ≤ most_budget }
-    requires fresh { IsNew (D.state desk.old) }
+    requires fresh { IsNewDesk (D.state desk.old) }
     ensures { Carries (repair_port_task port.entry.instance.now port.entry.tides.now plan.now budget proof.now) (D.state desk.old) (D.state desk.new) result }
 {
     let problem = match read_port_problem(alloc, desk, port) {

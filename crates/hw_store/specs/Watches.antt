@@ -272,5 +272,5 @@ NextIs old new room (nexts.Found found) = Finds old.held room found
 NextIs old new room nexts.Went = length new.watched.due < length old.watched.due
 
 -- without clauses, and ready for every room
-abbrev pub IsNew : ℕ → WatchModel → Type 0
-IsNew ships s = (s.watched.ships ≡ ships) × (s.held ≡ []) × ((room : RoomModel) → room.ships ≡ ships → WatchReady s room)
+abbrev pub IsNewWatch : ℕ → WatchModel → Type 0
+IsNewWatch ships s = (s.watched.ships ≡ ships) × (s.held ≡ []) × ((room : RoomModel) → room.ships ≡ ships → WatchReady s room)

@@ -5,7 +5,7 @@ ghost use Rattle.hw_model.specs.Rooms.{RoomModel};
 ghost use Rattle.hw_model.specs.Lits.{IsLitOf};
 ghost use Rattle.hw_store.specs.declared.store.Stored.{Stored as StoredOf};
 ghost use Rattle.hw_store.specs.Numbering.{bucket};
-ghost use Rattle.hw_store.specs.Watches.{WatchModel, WatchReady, SameClauses, IsNew, NextIs, Watches, IsWatchOf, IsOpen};
+ghost use Rattle.hw_store.specs.Watches.{WatchModel, WatchReady, SameClauses, IsNewWatch, NextIs, Watches, IsWatchOf, IsOpen};
 ghost use Rattle.hw_store.specs.Watches.{Grows, SiftsOne, MissedRun, Marks, IsLast, GetsWatch};
 
 use crate::buckets::BucketMap;
@@ -55,7 +55,7 @@ impl WatchStore {
     /// A store without clauses, ready for every room. It makes a room, and an empty list for each slot of
     /// either bound of a ship and for each two ships: 4,800 lists for 40 ships and 40 slots.
     pub fn new(alloc: Global, flat: &Flat) -> Result<WatchStore, NoMemory>
-        ensures value { IfOk result (λ store. IsNew flat.now.ships store) }
+        ensures value { IfOk result (λ store. IsNewWatch flat.now.ships store) }
     {
         let shape = flat.shape();
         let buckets = BucketMap {

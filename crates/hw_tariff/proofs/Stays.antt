@@ -11,7 +11,7 @@ use Rattle.hw_tolls.specs.Prices.{DueFits}
 use Rattle.hw_tolls.specs.Computed.{balance, best_balance, better, prices_refute}
 use Rattle.hw_tolls.proofs.More.{same_allowance, same_pays, fits_more}
 use Rattle.hw_tariff.specs.InForce.{Charged, IsCharged}
-use Rattle.hw_tariff.specs.PriceStates.{PriceState, AreGood, tariff_of}
+use Rattle.hw_tariff.specs.PriceStates.{PriceState, AreGood, tariff_in_force}
 use Rattle.hw_tariff.proofs.Charged.{balance_by}
 
 -- passes with equal steps end equal
@@ -55,9 +55,9 @@ one_more_toll f state tolls pushed o bound toll view is good one below =
 
 -- what the tariff in force refutes
 pub in_force_refutes : (f : Problem) (state : PriceState) (tolls given : List Toll) (o : Option Charged) (bound best : Option ℕ) (room : RoomModel) (prices : Charged) (b : Bool) → record { tolls = tolls; charged = o; bound = bound } ≡ state → given ≡ tolls → o ≡ Some prices
-    → b ≡ prices_refute f given prices.tariff best room → Some b ≡ option_map (λ t. prices_refute f state.tolls t best room) (tariff_of state)
+    → b ≡ prices_refute f given prices.tariff best room → Some b ≡ option_map (λ t. prices_refute f state.tolls t best room) (tariff_in_force state)
 in_force_refutes f state tolls given o bound best room prices b view same at is =
     let told : Some b ≡ option_map (λ t. prices_refute f tolls t best room) (option_map (λ (c : Charged). c.tariff) o) =
     ap Some (is ∙ ap (λ ts. prices_refute f ts prices.tariff best room) same) ∙ ap (λ x. option_map (λ t. prices_refute f tolls t best room) (option_map (λ (c : Charged). c.tariff) x)) (sym at)
     in
-    subst (λ (s : PriceState). Some b ≡ option_map (λ t. prices_refute f s.tolls t best room) (tariff_of s)) view told
+    subst (λ (s : PriceState). Some b ≡ option_map (λ t. prices_refute f s.tolls t best room) (tariff_in_force s)) view told

@@ -6,8 +6,8 @@ use Rattle.hw_model.specs.Rooms.{RoomModel}
 use Rattle.hw_model.specs.Refuting.{Refutes}
 
 -- there is a rule at this place, and it refutes the room
-abbrev pub RuleRefutes : Problem → ℕ → RoomModel → Type 0
-RuleRefutes f place room = (place < length f.rules) × Refutes f (sources.Rule place) None room
+abbrev pub PlaceRefutes : Problem → ℕ → RoomModel → Type 0
+PlaceRefutes f place room = (place < length f.rules) × Refutes f (sources.Rule place) None room
 
 -- some rule refutes the room
 abbrev pub SomeRuleRefutes : Problem → RoomModel → Type 0

@@ -13,8 +13,8 @@ pub record PriceState : Type 0 where
   pub bound : Option ℕ
 
 -- the tariff in force
-abbrev pub tariff_of : PriceState → Option Tariff
-tariff_of state = option_map (λ c. c.tariff) state.charged
+abbrev pub tariff_in_force : PriceState → Option Tariff
+tariff_in_force state = option_map (λ c. c.tariff) state.charged
 
 -- no tolls, no tariff and no bound
 abbrev pub no_prices : PriceState

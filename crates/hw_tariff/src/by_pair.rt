@@ -2,7 +2,7 @@
 
 ghost use Rattle.std.specs.Prelude.{◌≡◌, ◌↔◌, IfSome, IsTrue, is_some};
 ghost use Rattle.hw_model.specs.Rooms.{RoomFits};
-ghost use Rattle.hw_tariff.specs.Asked.{RuleRefutes, SomeRuleRefutes};
+ghost use Rattle.hw_tariff.specs.Asked.{PlaceRefutes, SomeRuleRefutes};
 
 use hw_flat::{Flat, Room, ShipId, Slot, Source};
 use hw_model::{Job, NoMemory, Rule};
@@ -220,7 +220,7 @@ fn place_refutes(flat: &Flat, room: &Room, place: u32) -> bool
 fn first_refuting(flat: &Flat, room: &Room) -> Option<u32>
     requires room { RoomFits flat.now room.now }
     ensures value { IsTrue (is_some result) ↔ SomeRuleRefutes flat.now room.now }
-    ensures place { IfSome result (λ place. RuleRefutes flat.now place room.now) }
+    ensures place { IfSome result (λ place. PlaceRefutes flat.now place room.now) }
 {
     for place in 0..flat.shape().rules {
         if refuted(flat, Source::Rule { place }, None, room) {

@@ -7,7 +7,7 @@ ghost use Rattle.hw_tolls.specs.Tolls.{IsToll};
 ghost use Rattle.hw_tolls.specs.Prices.{TariffFits, PricesRefute};
 ghost use Rattle.hw_tolls.specs.Computed as computed;
 ghost use Rattle.hw_tolls.specs.Judged as judged;
-ghost use Rattle.hw_tariff.specs.PriceStates.{AreGood, no_prices, tariff_of};
+ghost use Rattle.hw_tariff.specs.PriceStates.{AreGood, no_prices, tariff_in_force};
 
 use crate::by_pair::RulesByPair;
 use crate::in_force::InForce;
@@ -83,7 +83,7 @@ impl PriceBook {
     ) -> Result<(), NoMemory>
         requires good { AreGood flat.now self.old }
         requires fits { TariffFits (length self.old.tolls) tariff }
-        ensures tariff { OnOk result (tariff_of self.new ≡ Some tariff) }
+        ensures tariff { OnOk result (tariff_in_force self.new ≡ Some tariff) }
         ensures tolls { self.new.tolls ≡ self.old.tolls }
         ensures bound { self.new.bound ≡ self.old.bound }
         ensures kept { OnErr result (self.new ≡ self.old) }
@@ -99,8 +99,8 @@ impl PriceBook {
     pub fn refutes(&self, flat: &Flat, best: Option<u64>, room: &Room) -> Option<bool>
         requires good { AreGood flat.now self.now }
         requires room { RoomFits flat.now room.now }
-        ensures computed { result ≡ option_map (λ t. computed.prices_refute flat.now self.now.tolls t best room.now) (tariff_of self.now) }
-        ensures means { IfSome result (λ yes. IsTrue yes ↔ IsSomeAnd (tariff_of self.now) (λ t. PricesRefute flat.now self.now.tolls t best room.now)) }
+        ensures computed { result ≡ option_map (λ t. computed.prices_refute flat.now self.now.tolls t best room.now) (tariff_in_force self.now) }
+        ensures means { IfSome result (λ yes. IsTrue yes ↔ IsSomeAnd (tariff_in_force self.now) (λ t. PricesRefute flat.now self.now.tolls t best room.now)) }
     {
         match &self.in_force {
             None => None,
@@ -110,7 +110,7 @@ impl PriceBook {
 
     /// How many parts make a tenth of a tonne under the tariff in force; none where there is none.
     pub fn scale(&self) -> Option<u32>
-        ensures value { result ≡ option_map (λ t. t.scale) (tariff_of self.now) }
+        ensures value { result ≡ option_map (λ t. t.scale) (tariff_in_force self.now) }
     {
         match &self.in_force {
             None => None,

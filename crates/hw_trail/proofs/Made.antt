@@ -27,7 +27,7 @@ use Rattle.hw_story.proofs.Levels.{at_false, false_at}
 use Rattle.hw_story.proofs.Decisions.{event_is}
 use Rattle.hw_story.proofs.Kept.{decided_kept, take_take}
 use Rattle.hw_story.proofs.Many.{few_events}
-use Rattle.hw_trail.specs.Bounds.{bound_of, knew, makes, KeepsBounds}
+use Rattle.hw_trail.specs.Bounds.{range_end, knew, makes, KeepsBounds}
 use Rattle.hw_trail.proofs.Finds.{found, read}
 
 -- ---- what a room knows of an open literal's side
@@ -36,7 +36,7 @@ both : (a b : Bool) → a ≡ true → (a && b) ≡ b
 both true b e = refl
 both false b e = absurd cc
 
-knew_is : (r : RoomModel) → IsRoom r → (e m : Lit) → IsLitOf r.ships e → implies e m ≡ true → truth r e ≡ Free → knows r m ≡ knew (bound_of r e) m
+knew_is : (r : RoomModel) → IsRoom r → (e m : Lit) → IsLitOf r.ships e → implies e m ≡ true → truth r e ≡ Free → knows r m ≡ knew (range_end r e) m
 knew_is r is (AtOrAfter v k) (AtOrAfter w j) f h free =
     let p = implied_parts (AtOrAfter v k) (AtOrAfter w j) h in
     let lt : w < r.ships = omega (arith, f.0, p.ones) in
@@ -66,7 +66,7 @@ knew_is r is (NotFirst v k) (First w j) f h free = absurd (let p = implied_parts
 
 -- ---- the event that made a literal False
 
-knew_at : (t : TrailModel) → IsTrail t → (p : ℕ) → p < length t.events → (m : Lit) → implies (event_at t p).lit m ≡ true → knows (room_before t p) m ≡ knew (bound_of (room_before t p) (event_at t p).lit) m
+knew_at : (t : TrailModel) → IsTrail t → (p : ℕ) → p < length t.events → (m : Lit) → implies (event_at t p).lit m ≡ true → knows (room_before t p) m ≡ knew (range_end (room_before t p) (event_at t p).lit) m
 knew_at t is p lt m h =
     let k = room_known t is p (omega (arith, lt)) in
     let e = told_at t is p lt in
@@ -82,7 +82,7 @@ not_is b e = ap not e
 clash : (b : Bool) → b ≡ true → b ≡ false → ⊥
 clash b y n = cc
 
-pub made_here : (t : TrailModel) (p bound : ℕ) (e : Event) (lit : Lit) → IsTrail t → lit_fits (trail_shape t) lit ≡ true → p < length t.events → e ≡ get_or t.events p e → bound ≡ bound_of (room_before t p) (event_at t p).lit → (makes e.lit bound (negation lit) ≡ true) ↔ (event_of t lit ≡ Some p)
+pub made_here : (t : TrailModel) (p bound : ℕ) (e : Event) (lit : Lit) → IsTrail t → lit_fits (trail_shape t) lit ≡ true → p < length t.events → e ≡ get_or t.events p e → bound ≡ range_end (room_before t p) (event_at t p).lit → (makes e.lit bound (negation lit) ≡ true) ↔ (event_of t lit ≡ Some p)
 made_here t p bound e lit is f lt at same = (into, out)
   where
     event : e ≡ event_at t p
@@ -134,7 +134,7 @@ none_where t lit is f n = none_at_all t lit is f (λ p le lt e. n (
 
 -- ---- one more event, and fewer
 
-pub bounds_more : (t : TrailModel) (bounds items : List ℕ) (bound capacity capacity' : ℕ) (e : Event) (events : List Event) → KeepsBounds t bounds capacity → bound ≡ bound_of (room_of t) e.lit → items ≡ bounds ++ bound ∷ [] → events ≡ t.events ++ e ∷ [] → capacity' ≡ capacity → KeepsBounds (record { ships = t.ships; slots = t.slots; events = events; level = e.level }) items capacity'
+pub bounds_more : (t : TrailModel) (bounds items : List ℕ) (bound capacity capacity' : ℕ) (e : Event) (events : List Event) → KeepsBounds t bounds capacity → bound ≡ range_end (room_of t) e.lit → items ≡ bounds ++ bound ∷ [] → events ≡ t.events ++ e ∷ [] → capacity' ≡ capacity → KeepsBounds (record { ships = t.ships; slots = t.slots; events = events; level = e.level }) items capacity'
 bounds_more t bounds items bound capacity capacity' e events k is i es c =
     subst (λ (xs : List Event). KeepsBounds (record { ships = t.ships; slots = t.slots; events = xs; level = e.level }) items capacity') (sym es)
     (subst (λ xs. KeepsBounds (with_event t e) xs capacity') (sym i) (record {
@@ -143,19 +143,19 @@ bounds_more t bounds items bound capacity capacity' e events k is i es c =
       reserved = omega (arith, k.reserved, c);
     }))
   where
-    each : (p : ℕ) → p < length (t.events ++ e ∷ []) → get_or (bounds ++ bound ∷ []) p 0 ≡ bound_of (room_by (trail_shape t) (take p (t.events ++ e ∷ []))) (get_or (t.events ++ e ∷ []) p idle).lit
+    each : (p : ℕ) → p < length (t.events ++ e ∷ []) → get_or (bounds ++ bound ∷ []) p 0 ≡ range_end (room_by (trail_shape t) (take p (t.events ++ e ∷ []))) (get_or (t.events ++ e ∷ []) p idle).lit
     each p lt = elim (cases_lt p (length t.events)) [
       | inl early ↦
           let a : get_or (bounds ++ bound ∷ []) p 0 ≡ get_or bounds p 0 = get_or_append_left bounds (bound ∷ []) 0 p (omega (arith, early, k.same_length)) in
           let b : take p (t.events ++ e ∷ []) ≡ take p t.events = take-append-le p t.events (e ∷ []) (omega (arith, early)) in
           let d : get_or (t.events ++ e ∷ []) p idle ≡ get_or t.events p idle = get_or_append_left t.events (e ∷ []) idle p early in
-          a ∙ k.each p early ∙ sym (ap (λ xs. bound_of (room_by (trail_shape t) xs) (get_or (t.events ++ e ∷ []) p idle).lit) b ∙ ap (λ (x : Event). bound_of (room_before t p) x.lit) d)
+          a ∙ k.each p early ∙ sym (ap (λ xs. range_end (room_by (trail_shape t) xs) (get_or (t.events ++ e ∷ []) p idle).lit) b ∙ ap (λ (x : Event). range_end (room_before t p) x.lit) d)
       | inr late ↦
           let at : length t.events ≡ p = omega (arith, late, lt, length-append t.events (e ∷ [])) in
           let a : get_or (bounds ++ bound ∷ []) p 0 ≡ bound = get_or_push bounds bound 0 p (k.same_length ∙ at) in
           let b : take p (t.events ++ e ∷ []) ≡ t.events = take-append-le p t.events (e ∷ []) (omega (arith, at)) ∙ ap (λ n. take n t.events) (sym at) ∙ take_all t.events in
           let d : get_or (t.events ++ e ∷ []) p idle ≡ e = get_or_push t.events e idle p at in
-          a ∙ is ∙ sym (ap (λ xs. bound_of (room_by (trail_shape t) xs) (get_or (t.events ++ e ∷ []) p idle).lit) b ∙ ap (λ (x : Event). bound_of (room_of t) x.lit) d)
+          a ∙ is ∙ sym (ap (λ xs. range_end (room_by (trail_shape t) xs) (get_or (t.events ++ e ∷ []) p idle).lit) b ∙ ap (λ (x : Event). range_end (room_of t) x.lit) d)
     ]
 
 -- the first events' bounds
@@ -167,7 +167,7 @@ bounds_first t bounds capacity capacity' level count k le c = record {
       let a : get_or (take count bounds) p 0 ≡ get_or bounds p 0 = get_or-take count bounds p 0 in' in
       let b : take p (take count t.events) ≡ take p t.events = take_take p count t.events (omega (arith, in')) in
       let d : get_or (take count t.events) p idle ≡ get_or t.events p idle = get_or-take count t.events p idle in' in
-      a ∙ k.each p (omega (arith, in', le)) ∙ sym (ap (λ xs. bound_of (room_by (trail_shape t) xs) (get_or (take count t.events) p idle).lit) b ∙ ap (λ (x : Event). bound_of (room_before t p) x.lit) d);
+      a ∙ k.each p (omega (arith, in', le)) ∙ sym (ap (λ xs. range_end (room_by (trail_shape t) xs) (get_or (take count t.events) p idle).lit) b ∙ ap (λ (x : Event). range_end (room_before t p) x.lit) d);
   reserved = omega (arith, k.reserved, c);
 }
 

@@ -8,11 +8,11 @@ use Rattle.hw_story.specs.Bridge.{event_at}
 use Rattle.hw_story.specs.Trails.{TrailModel, room_before, most_events}
 
 -- the bound of the literal's ship that the literal moves, 0 for an order
-abbrev pub bound_of : RoomModel → Lit → ℕ
-bound_of room (lits.AtOrAfter v k) = low_of room v
-bound_of room (lits.Before v k) = high_of room v
-bound_of room (lits.First v w) = 0
-bound_of room (lits.NotFirst v w) = 0
+abbrev pub range_end : RoomModel → Lit → ℕ
+range_end room (lits.AtOrAfter v k) = low_of room v
+range_end room (lits.Before v k) = high_of room v
+range_end room (lits.First v w) = 0
+range_end room (lits.NotFirst v w) = 0
 
 -- the literal is true under its side's bound; an order isn't before it is set
 abbrev pub knew : ℕ → Lit → Bool
@@ -28,5 +28,5 @@ makes event bound lit = implies event lit && not (knew bound lit)
 -- each event's bound is that of the room before it, and there is room for those of all events that can come
 pub record KeepsBounds (t : TrailModel) (bounds : List ℕ) (capacity : ℕ) : Type 0 where
   pub same_length : length bounds ≡ length t.events
-  pub each : (place : ℕ) → place < length t.events → slice_index bounds place ≡ bound_of (room_before t place) (event_at t place).lit
+  pub each : (place : ℕ) → place < length t.events → slice_index bounds place ≡ range_end (room_before t place) (event_at t place).lit
   pub reserved : most_events t.ships t.slots ≤ capacity

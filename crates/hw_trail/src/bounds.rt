@@ -2,16 +2,16 @@
 
 ghost use Rattle.std.specs.Prelude.{◌≡◌};
 ghost use Rattle.hw_model.specs.Lits.{IsLitOf};
-ghost use Rattle.hw_trail.specs.Bounds.{bound_of, knew, makes};
+ghost use Rattle.hw_trail.specs.Bounds.{range_end, knew, makes};
 
 use crate::implied::implied;
 use hw_flat::Room;
 use hw_model::Lit;
 
 /// The bound that a literal moves, as the room has it; 0 for an order.
-pub fn bound_of(lit: Lit, room: &Room) -> u32
+pub fn range_end(lit: Lit, room: &Room) -> u32
     requires fits { IsLitOf room.now.ships lit }
-    ensures value { result ≡ bound_of room.now lit }
+    ensures value { result ≡ range_end room.now lit }
 {
     match lit {
         Lit::AtOrAfter { ship, .. } => room.low(ship),

@@ -16,27 +16,27 @@ use Rattle.hw_prop.specs.Reductions.{reduced, IsQuiet, IsCut}
 use Rattle.hw_prop.specs.declared.reduction.Reduction.{Reduction}
 use Rattle.hw_prop.specs.declared.reduction.Reduction.TheVariants.{Here, Lowest, Highest, First, NotFirst}
 use Rattle.hw_prop.proofs.Reading.{range_put, range_put_other}
-use Rattle.hw_tugs.specs.Held.{part, held_for, IsForced}
+use Rattle.hw_tugs.specs.Held.{tugs_within, held_for, IsForced}
 use Rattle.hw_tugs.specs.Over.{OverAt, Exceeding, IsCalm, Overfills}
 
--- ---- one job's part where its range is reduced to an end
-lowest_more : (low high hold tugs s : ℕ) → low ≤ s → s < high → s < low + hold → part low (low + hold) tugs s ≡ part high (low + hold) tugs s + tugs
+-- ---- one job's tugs_within where its range is reduced to an end
+lowest_more : (low high hold tugs s : ℕ) → low ≤ s → s < high → s < low + hold → tugs_within low (low + hold) tugs s ≡ tugs_within high (low + hold) tugs s + tugs
 lowest_more low high hold tugs s p q l = grind (arith, nat_tests)
 
-lowest_same : (low high hold tugs s : ℕ) → low ≤ high → (s < low) ⊎ ((high ≤ s) ⊎ (low + hold ≤ s)) → part low (low + hold) tugs s ≡ part high (low + hold) tugs s
+lowest_same : (low high hold tugs s : ℕ) → low ≤ high → (s < low) ⊎ ((high ≤ s) ⊎ (low + hold ≤ s)) → tugs_within low (low + hold) tugs s ≡ tugs_within high (low + hold) tugs s
 lowest_same low high hold tugs s p (inl a) = grind (arith, nat_tests)
 lowest_same low high hold tugs s p (inr (inl a)) = grind (arith, nat_tests)
 lowest_same low high hold tugs s p (inr (inr a)) = grind (arith, nat_tests)
 
-highest_more : (low high hold tugs s : ℕ) → high ≤ s → low + hold ≤ s → s < high + hold → part high (high + hold) tugs s ≡ part high (low + hold) tugs s + tugs
+highest_more : (low high hold tugs s : ℕ) → high ≤ s → low + hold ≤ s → s < high + hold → tugs_within high (high + hold) tugs s ≡ tugs_within high (low + hold) tugs s + tugs
 highest_more low high hold tugs s p q l = grind (arith, nat_tests)
 
-highest_same : (low high hold tugs s : ℕ) → low ≤ high → (s < high) ⊎ ((s < low + hold) ⊎ (high + hold ≤ s)) → part high (high + hold) tugs s ≡ part high (low + hold) tugs s
+highest_same : (low high hold tugs s : ℕ) → low ≤ high → (s < high) ⊎ ((s < low + hold) ⊎ (high + hold ≤ s)) → tugs_within high (high + hold) tugs s ≡ tugs_within high (low + hold) tugs s
 highest_same low high hold tugs s p (inl a) = grind (arith, nat_tests)
 highest_same low high hold tugs s p (inr (inl a)) = grind (arith, nat_tests)
 highest_same low high hold tugs s p (inr (inr a)) = grind (arith, nat_tests)
 
-none_held : (from to tugs s : ℕ) → (from ≤ s → s < to → ⊥) → part from to tugs s ≡ 0
+none_held : (from to tugs s : ℕ) → (from ≤ s → s < to → ⊥) → tugs_within from to tugs s ≡ 0
 none_held from to tugs s none = elim (cases_lt s from) [
   | inl a ↦ none_before from to tugs s a
   | inr a ↦ elim (cases_lt s to) [
@@ -45,10 +45,10 @@ none_held from to tugs s none = elim (cases_lt s from) [
   ]
 ]
   where
-    none_before : (from to tugs s : ℕ) → s < from → part from to tugs s ≡ 0
+    none_before : (from to tugs s : ℕ) → s < from → tugs_within from to tugs s ≡ 0
     none_before from to tugs s a = grind (arith, nat_tests)
 
-    none_behind : (from to tugs s : ℕ) → to ≤ s → part from to tugs s ≡ 0
+    none_behind : (from to tugs s : ℕ) → to ≤ s → tugs_within from to tugs s ≡ 0
     none_behind from to tugs s a = grind (arith, nat_tests)
 
 -- ---- the load of a room where one range is set
@@ -132,10 +132,10 @@ module _ (jobs : List Job) (load : List ℕ) (fleet : ℕ) (room : RoomModel) (i
   abbrev at_high : Job → ℕ → ℕ
   at_high job s = sum_by (forced_by (reduced (Highest job.ship) room) s) jobs
 
-  low_load : (place : ℕ) (job : Job) (s : ℕ) → slice_get jobs place ≡ Some job → at_low job s + part (high_of room job.ship) (low_of room job.ship + job.hold) job.tugs s ≡ now s + part (low_of room job.ship) (low_of room job.ship + job.hold) job.tugs s
+  low_load : (place : ℕ) (job : Job) (s : ℕ) → slice_get jobs place ≡ Some job → at_low job s + tugs_within (high_of room job.ship) (low_of room job.ship + job.hold) job.tugs s ≡ now s + tugs_within (low_of room job.ship) (low_of room job.ship + job.hold) job.tugs s
   low_load place job s at = put_load jobs room place job (low_of room job.ship) (low_of room job.ship) s up at (ship_in place job at)
 
-  high_load : (place : ℕ) (job : Job) (s : ℕ) → slice_get jobs place ≡ Some job → at_high job s + part (high_of room job.ship) (low_of room job.ship + job.hold) job.tugs s ≡ now s + part (high_of room job.ship) (high_of room job.ship + job.hold) job.tugs s
+  high_load : (place : ℕ) (job : Job) (s : ℕ) → slice_get jobs place ≡ Some job → at_high job s + tugs_within (high_of room job.ship) (low_of room job.ship + job.hold) job.tugs s ≡ now s + tugs_within (high_of room job.ship) (high_of room job.ship + job.hold) job.tugs s
   high_load place job s at = put_load jobs room place job (high_of room job.ship) (high_of room job.ship) s up at (ship_in place job at)
 
   -- 1. what a job overfills is a cut

@@ -6,12 +6,12 @@ use Rattle.hw_model.specs.Refuting.{forced_by}
 use Rattle.hw_prop.specs.Plain.{range_of}
 
 -- tugs that are held from one slot on, before another
-abbrev pub part : ℕ → ℕ → ℕ → ℕ → ℕ
-part from to tugs slot = if nat_le from slot && nat_lt slot to then tugs else 0
+abbrev pub tugs_within : ℕ → ℕ → ℕ → ℕ → ℕ
+tugs_within from to tugs slot = if nat_le from slot && nat_lt slot to then tugs else 0
 
 -- the tugs that a job holds in a slot wherever in this range its ship sails
 abbrev pub held_for : Job → ℕ × ℕ → ℕ → ℕ
-held_for job range slot = part range.1 (range.0 + job.hold) job.tugs slot
+held_for job range slot = tugs_within range.1 (range.0 + job.hold) job.tugs slot
 
 -- the tugs that jobs hold in a slot wherever in these ranges, one for each job, their ships sail
 abbrev pub held_for_sure : List Job → List (ℕ × ℕ) → ℕ → ℕ

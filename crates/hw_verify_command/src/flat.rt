@@ -1,6 +1,6 @@
 //! `verify flat NAME CERT`: a certificate of a flat text, with its bound.
 
-ghost use Rattle.hw_desk.specs.State.{IsNew};
+ghost use Rattle.hw_desk.specs.State.{IsNewDesk};
 ghost use Rattle.hw_command.specs.Carries.{Carries};
 ghost use Rattle.hw_verify_command.specs.VerifyFlat.{verify_flat_task};
 
@@ -12,7 +12,7 @@ use std::alloc::Global;
 
 /// Reads the flat text, checks a certificate of it of any version, and reports.
 pub fn verify_flat<D: Desk>(alloc: Global, desk: &mut D, name: &str, cert: &str) -> Status
-    requires fresh { IsNew (D.state desk.old) }
+    requires fresh { IsNewDesk (D.state desk.old) }
     ensures { Carries (verify_flat_task name.now cert.now) (D.state desk.old) (D.state desk.new) result }
 {
     let flat = match read_flat(alloc, desk, name) {

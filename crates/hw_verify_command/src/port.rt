@@ -1,6 +1,6 @@
 //! `verify port INSTANCE TIDES CERT`: a certificate of a port, with its bound.
 
-ghost use Rattle.hw_desk.specs.State.{IsNew};
+ghost use Rattle.hw_desk.specs.State.{IsNewDesk};
 ghost use Rattle.hw_command.specs.Carries.{Carries};
 ghost use Rattle.hw_verify_command.specs.VerifyPort.{verify_port_task};
 
@@ -13,7 +13,7 @@ use std::alloc::Global;
 /// Reads the instance and then its tide table, checks a certificate of the port of any version, and
 /// reports in tonnes.
 pub fn verify_port<D: Desk>(alloc: Global, desk: &mut D, port: PortNames, cert: &str) -> Status
-    requires fresh { IsNew (D.state desk.old) }
+    requires fresh { IsNewDesk (D.state desk.old) }
     ensures { Carries (verify_port_task port.entry.instance.now port.entry.tides.now cert.now) (D.state desk.old) (D.state desk.new) result }
 {
     let problem = match read_port_problem(alloc, desk, port) {

@@ -1,7 +1,7 @@
 //! What the desk of a case holds, how it works, and runs over such desks.
 
 ghost use Rattle.std.specs.Prelude.{◌≡◌, ◌∷◌, [], codes, IfOk};
-ghost use Rattle.hw_desk.specs.State.{IsNew};
+ghost use Rattle.hw_desk.specs.State.{IsNewDesk};
 ghost use Rattle.hw_desk.specs.Calm.{calm_state};
 ghost use Rattle.hw_desk.specs.Memory.{memory_state};
 
@@ -103,7 +103,7 @@ fn new_memory(
     room: u32,
     fails: Vec<FailAt>,
 ) -> Result<MemoryDesk, NoMemory>
-    ensures { IfOk result (λ desk. IsNew (memory_state desk)) }
+    ensures { IfOk result (λ desk. IsNewDesk (memory_state desk)) }
 {
     MemoryDesk::new(alloc, files, most.max(1), room, fails)
 }
@@ -111,14 +111,14 @@ fn new_memory(
 /// The exit code of a run. It says nothing of the desk, so that nothing of it is proved again for
 /// each kind of desk.
 fn code_of_run<D: Desk>(alloc: Global, words: &[String], desk: &mut D) -> u8
-    requires { IsNew (D.state desk.old) }
+    requires { IsNewDesk (D.state desk.old) }
 {
     run(alloc, words, desk).code()
 }
 
 /// The same over the desk whose calls never fail.
 fn code_of_calm(alloc: Global, words: &[String], desk: &mut CalmDesk) -> u8
-    requires { IsNew (calm_state desk.old) }
+    requires { IsNewDesk (calm_state desk.old) }
 {
     run_calm(alloc, words, desk).code()
 }

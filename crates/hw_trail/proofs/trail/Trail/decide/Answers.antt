@@ -4,7 +4,7 @@ use Rattle.hw_model.specs.Lits.{lit_fits}
 use Rattle.hw_model.specs.Narrowing.{truth}
 use Rattle.hw_story.specs.Trails.{TrailModel, trail_shape, room_of}
 use Rattle.hw_trail.proofs.Few.{level_small, one_more, lit_in_room, decide_keeps, of_view}
-use Rattle.hw_trail.specs.Bounds.{bound_of}
+use Rattle.hw_trail.specs.Bounds.{range_end}
 use Rattle.hw_trail.proofs.Made.{one_bound, bounds_more}
 use Rattle.hw_trail.proofs.trail.Trail.decide.Goals as goal
 
@@ -30,5 +30,5 @@ push_reserved-requires-2 c =
 pub invariant_of-self : goal.invariant_of-self
 invariant_of-self c = (
   decide_keeps _ _ _ _ _ c.args.lit _ c.self.invariant.0 (of_view _ _ (λ (t : TrailModel). lit_fits (trail_shape t) c.args.lit ≡ true) c.self.view_is c.requires.fits) (of_view _ _ (λ (t : TrailModel). truth (room_of t) c.args.lit ≡ Free) c.self.view_is c.requires.free) c.push_reserved-2.ensures.items c.cut.ensures.room c.push_reserved-2.ensures.capacity,
-  bounds_more _ _ _ _ _ _ _ _ c.self.invariant.1 (c.bound_of.ensures.value ∙ ap (λ r. bound_of r c.args.lit) c.self.invariant.0.same_room) c.push_reserved.ensures.items c.push_reserved-2.ensures.items c.push_reserved.ensures.capacity,
+  bounds_more _ _ _ _ _ _ _ _ c.self.invariant.1 (c.bound_of.ensures.value ∙ ap (λ r. range_end r c.args.lit) c.self.invariant.0.same_room) c.push_reserved.ensures.items c.push_reserved-2.ensures.items c.push_reserved.ensures.capacity,
 )

@@ -6,7 +6,7 @@ use Rattle.hw_model.specs.Narrowing.{truth}
 use Rattle.hw_model.specs.Replay.{narrowing}
 use Rattle.hw_story.specs.Trails.{TrailModel, trail_shape, clause_of, room_of}
 use Rattle.hw_trail.proofs.Few.{one_more, lit_in_room, imply_keeps, of_view}
-use Rattle.hw_trail.specs.Bounds.{bound_of}
+use Rattle.hw_trail.specs.Bounds.{range_end}
 use Rattle.hw_trail.proofs.Made.{one_bound, bounds_more}
 use Rattle.hw_trail.proofs.trail.Trail.imply.Goals as goal
 
@@ -34,5 +34,5 @@ invariant_of-self c = (
       (of_view _ _ (λ (t : TrailModel). truth (room_of t) c.args.lit ≡ Free) c.self.view_is c.requires.free)
       (of_view _ _ (λ (t : TrailModel). narrowing (clause_of c.args.why) (room_of t) ≡ Cut c.args.lit) c.self.view_is c.requires.only)
       c.push_reserved-2.ensures.items c.cut.ensures.room c.push_reserved-2.ensures.capacity,
-  bounds_more _ _ _ _ _ _ _ _ c.self.invariant.1 (c.bound_of.ensures.value ∙ ap (λ r. bound_of r c.args.lit) c.self.invariant.0.same_room) c.push_reserved.ensures.items c.push_reserved-2.ensures.items c.push_reserved.ensures.capacity,
+  bounds_more _ _ _ _ _ _ _ _ c.self.invariant.1 (c.bound_of.ensures.value ∙ ap (λ r. range_end r c.args.lit) c.self.invariant.0.same_room) c.push_reserved.ensures.items c.push_reserved-2.ensures.items c.push_reserved.ensures.capacity,
 )
