@@ -89,7 +89,7 @@ abbrev pub ship_word : ℕ → List ℕ → Option ℕ
 ship_word ships word = number_up_to ships word >>= λ ship. kept_if (nat_lt ship ships) ship
 
 abbrev pub hole_parts : List (List ℕ) → Option Hole
-hole_parts (lo ∷ hi ∷ []) = signed_up_to 1_023 lo >>= λ lo'. signed_up_to 1_023 hi >>= λ hi'. kept_if (int_le lo' hi') (record { lo = lo'; hi = hi' })
+hole_parts (lo ∷ hi ∷ []) = signed_up_to MOST_DIFFERENCE lo >>= λ lo'. signed_up_to MOST_DIFFERENCE hi >>= λ hi'. kept_if (int_le lo' hi') (record { lo = lo'; hi = hi' })
 hole_parts _ = None
 
 -- `LO:HI`

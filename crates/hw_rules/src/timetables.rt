@@ -16,7 +16,7 @@ use hw_model::{Rule, Slot};
 
 /// Whether a rule holds where the first of its two ships has the slot `x` and the second `y`.
 ///
-/// It does for every rule on tugs. It looks at 8 holes at most.
+/// It does for every rule on tugs. It looks at `MOST_HOLES` holes at most.
 pub fn allowed_pair(flat: &Flat, rule: &Rule, x: Slot, y: Slot) -> bool
     requires rule_fits { RuleFits flat.now.ships rule.now }
     requires first_in { x < flat.now.slots }
