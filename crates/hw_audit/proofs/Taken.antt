@@ -3,6 +3,7 @@ use Rattle.std.proofs.Common.{◌≡◌, ℕ, ◌+◌, ◌-◌, ◌<◌, ◌≤�
 use Rattle.std.proofs.lemmas.Bool.{ltb-true, ltb-false}
 use Rattle.std.proofs.lemmas.List.Elements.{All-set}
 use Rattle.hw_model.specs.Problem.{Problem, IsTimetable, horizon, stays}
+use Rattle.hw_laws.proofs.Horizon.{horizon_le as horizon_within}
 use Rattle.hw_audit.specs.declared.event.PortEvent.TheVariants.{Sailed, Delayed, Withdrawn, Back}
 use Rattle.hw_audit.specs.declared.fault.AuditWord.{AuditWord}
 use Rattle.hw_audit.specs.declared.fault.AuditWord.TheVariants as words
@@ -23,13 +24,6 @@ passes true true c d e = absurd cc
 passes true false true d e = absurd cc
 passes true false false false e = absurd cc
 passes true false false true e = record { there = refl; at_sea = refl; moves = refl; sails = refl }
-
-pub horizon_within : (f : Problem) → horizon f ≤ f.slots
-horizon_within f = by_stay f.stay
-  where
-    by_stay : (b : Bool) → cond b (f.slots - 1) f.slots ≤ f.slots
-    by_stay true = omega arith
-    by_stay false = omega arith
 
 table_set : (f : Problem) (table : List ℕ) (ship slot : ℕ) → IsTimetable f table → slot < horizon f → IsTimetable f (set table ship slot)
 table_set f table ship slot is lt =

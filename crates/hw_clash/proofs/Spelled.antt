@@ -18,11 +18,12 @@ use Rattle.hw_clash.specs.declared.fault.ClashWord.TheVariants as words
 use Rattle.hw_clash.specs.Clashes.{Clash}
 use Rattle.hw_derived.proofs.Reading.{bind_ok, formed_ok}
 use Rattle.hw_derived.specs.Reading.{Fault, ◌>>=◌, fault, formed, line_at, only_at, ended_at}
+use Rattle.hw_cert.proofs.SmallNumbers.{few_slots}
 use Rattle.hw_clash.specs.Text.{ids_from, some_ids, keep_words, keep_form, drop_words, drop_form, keep_at, drop_at, drops_at, clash_by, clash_of}
 use Rattle.hw_clash.specs.Written.{keep_line, drop_line, drop_lines, clash_lines}
 use Rattle.hw_clash.specs.Laws.{OneClashText}
 use Rattle.hw_clash.proofs.Said.{keep_read, put_some, put_parts, by_key, kept_and, after_keep, after_form, after_line, after_more, after_first, unbroken}
-use Rattle.hw_clash.proofs.Written.{few_restrictions, few_slots}
+use Rattle.hw_clash.proofs.Written.{few_restrictions}
 
 abbrev Parts : Type 0
 Parts = List (List ℕ)

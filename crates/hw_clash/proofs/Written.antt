@@ -1,5 +1,5 @@
 -- A clash that is written reads as itself.
-use Rattle.std.proofs.Common.{◌≡◌, ℕ, zero, suc, ◌+◌, ◌-◌, ◌<◌, ◌≤◌, ◌^◌, Bool, true, false, cond, List, [], ◌∷◌, ◌++◌, map, Some, Ok, slice_get, All, length, get_or, codes, decimal, refl, sym, ap, subst, ◌∙◌, append_assoc, arith}
+use Rattle.std.proofs.Common.{◌≡◌, ℕ, zero, suc, ◌+◌, ◌-◌, ◌<◌, ◌≤◌, ◌^◌, true, false, List, [], ◌∷◌, ◌++◌, map, Some, Ok, slice_get, All, length, get_or, codes, decimal, refl, sym, ap, subst, ◌∙◌, append_assoc, arith}
 use Rattle.std.proofs.lemmas.Bool.{and_from}
 use Rattle.std.proofs.lemmas.List.Elements.{All-head, All-tail, All-from_get_or, All-weaker}
 use Rattle.std.proofs.lemmas.List.Folds.{list_all-append}
@@ -17,6 +17,7 @@ use Rattle.hw_laws.proofs.Broken.{from_permits}
 use Rattle.hw_model.specs.Limits.{IsFlat}
 use Rattle.hw_model.specs.Problem.{Problem, IsTimetable}
 use Rattle.hw_model.specs.Timetables.{Permits, restriction_count}
+use Rattle.hw_cert.proofs.SmallNumbers.{few_slots}
 use Rattle.hw_clash.specs.Clashes.{Clash}
 use Rattle.hw_clash.specs.Parts.{part}
 use Rattle.hw_clash.specs.Clashing.{without}
@@ -70,13 +71,6 @@ some_ids_back many (n ∷ kept) few some below increasing = ids_back 0 many (n �
 
 pub few_restrictions : (f : Problem) → IsFlat f → restriction_count f ≤ 4_040
 few_restrictions f flat = omega (arith, flat.few_ships, flat.few_rules)
-
-pub few_slots : (f : Problem) → IsFlat f → f.slots ≤ 513
-few_slots f flat = by_stay f.stay flat.few_slots
-  where
-    by_stay : (b : Bool) → cond b (f.slots - 1) f.slots ≤ 512 → f.slots ≤ 513
-    by_stay true h = omega (arith, h)
-    by_stay false h = omega (arith, h)
 
 keep_back : (f : Problem) (clash : Clash) → IsFlat f → SaysClash f clash → keep_form f (keep_line clash.kept) ≡ Some clash.kept
 keep_back f clash flat says =

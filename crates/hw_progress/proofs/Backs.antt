@@ -17,6 +17,7 @@ use Rattle.hw_lines.specs.declared.line.Line.TheVariants as lines
 use Rattle.hw_lines.specs.Lines.{clause_count, clause_at, live, deletes, is_closed}
 use Rattle.hw_lines.specs.Valid.{LineFits, ValidAfter}
 use Rattle.hw_lines.proofs.Pushed.{one_more, last_push, numbers_deleted}
+use Rattle.hw_lines.proofs.Deleted.{live_in as live_inside}
 use Rattle.hw_story.specs.declared.event.Event.{Event}
 use Rattle.hw_story.specs.Trails.{TrailModel, reason, IsTrail, back_to}
 use Rattle.hw_story.specs.Learning.{reason_at}
@@ -27,7 +28,7 @@ use Rattle.hw_progress.specs.Searches.{SearchModel, FitsOpen, LiveKept, written_
 use Rattle.hw_progress.specs.Settling.{with_events}
 use Rattle.hw_progress.specs.Turns.{unkept}
 use Rattle.hw_progress.proofs.Numbers.{WrittenAt, get_within, contains_here, contains_there, flat_behind, flat_front}
-use Rattle.hw_progress.proofs.Lines.{stored_cases, kept_stored, kept_written, if_some, some_reason, live_stays, live_inside, live_parts, at_stays, same_lemmas, any_push, of_some, prices_on}
+use Rattle.hw_progress.proofs.Lines.{stored_cases, kept_stored, kept_written, if_some, some_reason, live_stays, live_parts, at_stays, same_lemmas, any_push, of_some, prices_on}
 
 -- ---- a search that keeps some of the numbers
 

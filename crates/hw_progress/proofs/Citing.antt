@@ -20,6 +20,7 @@ use Rattle.hw_lines.specs.Lines.{clause_count, clause_at, live, best_of}
 use Rattle.hw_lines.specs.Valid.{LineFits, PricedHolds, ValidFrom, denied_room, hinted}
 use Rattle.hw_lines.specs.Lemmas.{LeanFrom}
 use Rattle.hw_lines.proofs.Pushed.{one_more}
+use Rattle.hw_lines.proofs.Deleted.{live_in as live_inside}
 use Rattle.hw_story.specs.declared.event.Event.{Event}
 use Rattle.hw_story.specs.declared.event.Why.{Why}
 use Rattle.hw_story.specs.declared.event.Why.TheVariants as whys
@@ -29,10 +30,11 @@ use Rattle.hw_story.specs.Bridge.{event_at}
 use Rattle.hw_story.proofs.Trails.{told_at}
 use Rattle.hw_story.proofs.Learnt.{reason_is, reason_fits}
 use Rattle.hw_store.specs.declared.store.Stored.{Stored}
+use Rattle.hw_verdict.proofs.Naming.{some_live as live_is}
 use Rattle.hw_progress.specs.Searches.{SearchModel, IsReason, HasLine, NumbersStay, PricesShow, IsSearch, FitsOpen, LiveKept, best_cargo, written_at, why_at}
 use Rattle.hw_progress.specs.Settling.{IsConflict}
 use Rattle.hw_progress.specs.Turns.{source_line, why_lines, with_written, Cited, cite_by, cite, cited, cite_conflict}
-use Rattle.hw_progress.proofs.Lines.{IsClauseLine, source_is, why_is, why_no_lemma, live_is, live_stays, live_inside, new_live, of_some, kept_stored, kept_written, reason_open, reason_kept, one_line, line_open}
+use Rattle.hw_progress.proofs.Lines.{IsClauseLine, source_is, why_is, why_no_lemma, live_stays, new_live, of_some, kept_stored, kept_written, reason_open, reason_kept, one_line, line_open}
 use Rattle.hw_progress.proofs.Numbers.{contains_here, contains_there, set_stay}
 use Rattle.hw_progress.proofs.Holds.{Writes, source_writes, plain_tariff, priced_writes, priced_holds, valid_push, lean_push, best_same, trail_clause}
 

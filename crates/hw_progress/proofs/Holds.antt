@@ -40,10 +40,10 @@ use Rattle.hw_model.specs.Rooms.{IsRoomOf}
 use Rattle.hw_story.proofs.Trails.{room_known, room_end}
 use Rattle.hw_story.proofs.Quiets.{not_within, none_within}
 use Rattle.hw_story.specs.Walks.{In}
+use Rattle.hw_verdict.proofs.Naming.{some_live as live_is}
 use Rattle.hw_progress.specs.Searches.{SearchModel, IsReason, OfBetter, PricesShow, FitsOpen, room_in, lemmas_in, best_cargo}
 use Rattle.hw_progress.specs.Settling.{AllQuiet}
 use Rattle.hw_progress.specs.Turns.{source_line}
-use Rattle.hw_progress.proofs.Lines.{live_is}
 use Rattle.hw_progress.proofs.Shapes.{denied_same, clause_same}
 
 -- ---- lists of lines

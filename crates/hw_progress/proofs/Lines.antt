@@ -16,6 +16,7 @@ use Rattle.hw_lines.specs.Lines.{clause_of, clauses_of, clause_count, clause_at,
 use Rattle.hw_lines.specs.Lemmas.{lemma_of, lemmas_of}
 use Rattle.hw_lines.specs.Laws.{PricesStay}
 use Rattle.hw_lines.proofs.Pushed.{one_more, last_push, clauses_push, clause_prices, table_added}
+use Rattle.hw_lines.proofs.Deleted.{live_in as live_inside}
 use Rattle.hw_story.specs.declared.event.Why.{Why}
 use Rattle.hw_story.specs.declared.event.Why.TheVariants as whys
 use Rattle.hw_story.specs.Trails.{clause_of as why_clause}
@@ -71,15 +72,6 @@ pub at_stays : (before : List Line) (line : Line) (n : ℕ) (clause : List Lit) 
 at_stays before line zero clause e = absurd cc
 at_stays before line (suc n) clause e = ap (λ xs. slice_get xs n) (clauses_push before line) ∙ get_within (clauses_of before) (cons_option (clause_of line) []) n clause e
 
-inside_by : {A : Type 0} (xs : List A) (n : ℕ) → IsSome (slice_get xs n) → n < length xs
-inside_by [] n h = absurd cc
-inside_by (x ∷ xs) zero h = omega arith
-inside_by (x ∷ xs) (suc n) h = omega (arith, inside_by xs n h)
-
-at_inside : (before : List Line) (n : ℕ) → IsSome (clause_at before n) → n ≤ clause_count before
-at_inside before zero h = omega arith
-at_inside before (suc n) h = omega (arith, inside_by (clauses_of before) n h)
-
 live_by : (b : Bool) (o : Option (List Lit)) → IsSome (cond b None o) → (b ≡ false) × IsSome o
 live_by true o h = absurd cc
 live_by false o h = (refl, h)
@@ -90,13 +82,6 @@ by_live false o e = refl
 
 pub live_parts : (before : List Line) (n : ℕ) → IsSome (live before n) → (list_any (deletes n) before ≡ false) × IsSome (clause_at before n)
 live_parts before n h = live_by (list_any (deletes n) before) (clause_at before n) h
-
--- the live clause of a number is the one that stands there
-pub live_is : (before : List Line) (n : ℕ) → IsSome (live before n) → live before n ≡ clause_at before n
-live_is before n h = by_live (list_any (deletes n) before) (clause_at before n) (live_parts before n h).0
-
-pub live_inside : (before : List Line) (n : ℕ) → IsSome (live before n) → n ≤ clause_count before
-live_inside before n h = at_inside before n (live_parts before n h).1
 
 pub live_stays : (f : Problem) (before : List Line) (line : Line) (n : ℕ) → deletes n line ≡ false → IsSome (live before n) → IsSome (live (before ++ line ∷ []) n)
 live_stays f before line n e h = subst IsSome (sym ((one_more f before line).earlier n (live_inside before n h) e)) h

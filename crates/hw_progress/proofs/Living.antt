@@ -22,13 +22,14 @@ use Rattle.hw_progress.specs.Settling.{IsConflict}
 use Rattle.hw_progress.specs.Turns.{source_line, why_lines, Cited, cite_by, cite, cited, cite_conflict, with_lemma, gone_back, unkept, deletion}
 use Rattle.hw_progress.specs.Living.{FewLive, FewLiveFrom, FewLiveThroughout}
 use Rattle.hw_progress.specs.Laws.{lemma_lines, LemmaMeets, LiveTurn}
-use Rattle.hw_progress.proofs.Lines.{IsClauseLine, source_is, priced_is, lemma_is, source_no_lemma, same_lemmas, lemmas_push, live_back, live_inside}
+use Rattle.hw_progress.proofs.Lines.{IsClauseLine, source_is, priced_is, lemma_is, source_no_lemma, same_lemmas, lemmas_push, live_back}
 use Rattle.hw_progress.proofs.Backs.{contains_any, in_filter, from_filter, in_range, some_live}
 use Rattle.hw_progress.proofs.Bounds.{rises_filter, few_members, written_few, few_reasons, few_numbers, live_few}
 use Rattle.hw_progress.proofs.Citing.{Citing, cite_one, cites, same_problem}
 use Rattle.hw_progress.proofs.LemmaTurn.{gone_problem}
 use Rattle.hw_lines.proofs.Pushed.{one_more}
 use Rattle.hw_lines.specs.Lines.{clause_of as clause_in, clauses_of}
+use Rattle.hw_lines.proofs.Deleted.{live_in as live_inside}
 use Rattle.hw_progress.proofs.Turned.{lemma_meets, few_for}
 
 -- ---- one line

@@ -11,14 +11,6 @@ use Rattle.hw_search.proofs.Ranges.{filter_range}
 
 -- ---- the first of a range that passes
 
-pub find_none : (p : ℕ → Bool) (a n : ℕ) → ((k : ℕ) → a ≤ k → k < a + n → p k ≡ false) → find p (range_with_len a n) ≡ None
-find_none p a zero h = refl
-find_none p a (suc n) h = by (p a) (h a (omega arith) (omega arith)) (find_none p (a + 1) n (λ k le lt. h k (omega (arith, le)) (omega (arith, lt))))
-  where
-    by : (b : Bool) → b ≡ false → find p (range_with_len (a + 1) n) ≡ None → cond b (Some a) (find p (range_with_len (a + 1) n)) ≡ None
-    by true e k = absurd cc
-    by false e k = k
-
 pub find_at : (p : ℕ → Bool) (a n k : ℕ) → a ≤ k → k < a + n → ((j : ℕ) → a ≤ j → j < k → p j ≡ false) → p k ≡ true → find p (range_with_len a n) ≡ Some k
 find_at p a zero k le lt h e = absurd (omega (arith, le, lt))
 find_at p a (suc n) k le lt h e = elim (cases_lt a k) [

@@ -2,15 +2,8 @@
 use Rattle.std.proofs.Common.{◌≡◌, ℕ, zero, suc, ◌+◌, ◌≤◌, List, [], ◌∷◌, Option, Some, None, All, IfSome, take, sym, ◌∙◌, refl, subst, arith, length-set}
 use Rattle.std.specs.Prelude.{slice_set}
 use Rattle.std.proofs.lemmas.List.Elements.{All-cons, All-head, All-tail, All-take, All-weaker}
-use Rattle.hw_progress.specs.Searches.{NumbersStay}
+use Rattle.hw_progress.proofs.Numbers.{set_stay as stay_set}
 use Rattle.hw_search.specs.Ledgers.{LedgerModel, with_line, with_reason, GivesAtMost}
-
-stay_set : (ws : List (Option ℕ)) (place n : ℕ) → NumbersStay ws (slice_set ws place (Some n))
-stay_set [] place n q h = h
-stay_set (w ∷ ws) zero n zero h = refl
-stay_set (w ∷ ws) zero n (suc q) h = h
-stay_set (w ∷ ws) (suc place) n zero h = h
-stay_set (w ∷ ws) (suc place) n (suc q) h = stay_set ws place n q h
 
 pub gives_none : (l : LedgerModel) (most : ℕ) → GivesAtMost most l l
 gives_none l most = record { long = refl; stay = λ q h. h; reserved = refl; low = omega arith; high = omega arith }

@@ -1,5 +1,5 @@
 -- What a searcher's own lines are after an offer, and after its turn.
-use Rattle.std.proofs.Common.{◌≡◌, ℕ, zero, suc, ◌+◌, ◌-◌, ◌*◌, ◌<◌, ◌≤◌, Bool, true, false, List, [], ◌∷◌, ◌++◌, Option, Some, None, length, take, option_and_then, IfSome, IsTrue, refl, sym, ap, ◌∙◌, subst, arith, length-append, append_assoc, append-nil}
+use Rattle.std.proofs.Common.{◌≡◌, ℕ, zero, suc, ◌+◌, ◌-◌, ◌*◌, ◌<◌, ◌≤◌, Bool, true, false, List, [], ◌∷◌, ◌++◌, Option, Some, None, length, take, option_and_then, IfSome, IsTrue, refl, sym, ap, ◌∙◌, subst, arith, length-append}
 use Rattle.std.proofs.lemmas.Bool.{ltb-true}
 use Rattle.std.proofs.lemmas.List.{length-take}
 use Rattle.std.proofs.lemmas.List.Elements.{All-append, filter_map-append}
@@ -10,8 +10,8 @@ use Rattle.hw_lines.specs.declared.line.Line.{Line}
 use Rattle.hw_lines.specs.declared.line.Line.TheVariants as lines
 use Rattle.hw_lines.specs.Tolled.{is_plain}
 use Rattle.hw_lines.specs.Lines.{clause_of, clauses_of, clause_count, is_closed}
-use Rattle.hw_lines.specs.Valid.{LineFits, ValidFrom}
-use Rattle.hw_lines.specs.Lemmas.{lemmas_of, LeanFrom}
+use Rattle.hw_lines.specs.Valid.{LineFits}
+use Rattle.hw_lines.specs.Lemmas.{lemmas_of}
 use Rattle.hw_lines.proofs.Pushed.{table_added}
 use Rattle.hw_story.specs.Trails.{most_events}
 use Rattle.hw_cert.specs.Logs.{LogTold, memory_log}
@@ -24,6 +24,7 @@ use Rattle.hw_progress.proofs.Turned.{table}
 use Rattle.hw_search.specs.Going.{rank, most_cargo, turns_left}
 use Rattle.hw_search.proofs.Answering.{tells}
 use Rattle.hw_progress.proofs.OneLemma.{few_lemmas}
+use Rattle.hw_progress.proofs.Heeded.{valid_append, lean_append}
 use Rattle.hw_search.proofs.Counting.{nearer}
 use Rattle.hw_search.proofs.Plain.{plain_tariff}
 use Rattle.hw_turns.specs.Crewing.{OwnWell}
@@ -40,14 +41,6 @@ pub take_here : (xs ys : List Line) → take (length xs) (xs ++ ys) ≡ xs
 take_here [] [] = refl
 take_here [] (y ∷ ys) = refl
 take_here (x ∷ xs) ys = ap (λ zs. x ∷ zs) (take_here xs ys)
-
-valid_append : (f : Problem) (before a b : List Line) → ValidFrom f before a → ValidFrom f (before ++ a) b → ValidFrom f before (a ++ b)
-valid_append f before [] b v w = subst (λ xs. ValidFrom f xs b) (append-nil before) w
-valid_append f before (line ∷ a) b v w = (v.0, valid_append f (before ++ line ∷ []) a b v.1 (subst (λ xs. ValidFrom f xs b) (sym (append_assoc before (line ∷ []) a)) w))
-
-lean_append : (f : Problem) (before a b : List Line) → LeanFrom f before a → LeanFrom f (before ++ a) b → LeanFrom f before (a ++ b)
-lean_append f before [] b v w = subst (λ xs. LeanFrom f xs b) (append-nil before) w
-lean_append f before (line ∷ a) b v w = (v.0, lean_append f (before ++ line ∷ []) a b v.1 (subst (λ xs. LeanFrom f xs b) (sym (append_assoc before (line ∷ []) a)) w))
 
 own_more : (f : Problem) (own more own' : List Line) → own' ≡ own ++ more → OwnWell f own → WritesWell f own more → OwnWell f own'
 own_more f own more own' e w m = subst (OwnWell f) (sym e) (record {

@@ -1,5 +1,5 @@
 -- What two lists of lines have in common, and what both say of live clauses.
-use Rattle.std.proofs.Common.{◌≡◌, ℕ, zero, suc, ◌<◌, ◌==◌, Bool, true, false, ◌||◌, cond, List, [], ◌∷◌, ◌++◌, None, slice_get, All, IsSome, refl, sym, ap, ◌∙◌, subst, append-nil}
+use Rattle.std.proofs.Common.{◌≡◌, ℕ, zero, suc, ◌<◌, ◌==◌, true, false, ◌||◌, cond, List, [], ◌∷◌, ◌++◌, None, slice_get, All, IsSome, refl, sym, ap, ◌∙◌, subst, append-nil}
 use Rattle.std.proofs.lemmas.Bool.{or_from, ne_eqb}
 use Rattle.std.proofs.lemmas.List.Elements.{All-head, All-tail, All-weaker}
 use Rattle.std.proofs.lemmas.List.Folds.{list_any-append, list_any_none}
@@ -10,7 +10,7 @@ use Rattle.hw_lines.specs.declared.line.Line.TheVariants as lines
 use Rattle.hw_lines.specs.Lines.{clause_of, clauses_of, clause_count, clause_at, deletes, live, table_after, last_table, is_end, is_closed}
 use Rattle.hw_lines.specs.Tolled.{toll_of, tolls_of, tariff_after, tariff_of, bound_after, bound_of}
 use Rattle.hw_lines.specs.Valid.{hinted}
-use Rattle.hw_lines.proofs.Pushed.{last_push, clauses_push, tolls_push, same_tolls, tariff_push, bound_push}
+use Rattle.hw_lines.proofs.Pushed.{last_push, clauses_push, tolls_push, same_tolls, tariff_push, bound_push, or_false}
 use Rattle.hw_verdict.specs.Renewing.{is_hint_of, deletion}
 use Rattle.hw_verdict.proofs.Naming.{some_live}
 
@@ -39,10 +39,6 @@ same_chain a b c first second = record {
   tariff = second.tariff ∙ first.tariff;
   bound = second.bound ∙ first.bound;
 }
-
-or_false : (b : Bool) → (b || false) ≡ b
-or_false true = refl
-or_false false = refl
 
 pub closed_push : (before : List Line) (line : Line) → is_closed (before ++ line ∷ []) ≡ (is_closed before || is_end (clause_of line))
 closed_push before line = list_any-append (λ line. is_end (clause_of line)) before (line ∷ []) ∙ ap (λ b. is_closed before || b) (or_false (is_end (clause_of line)))

@@ -1,7 +1,8 @@
 use Rattle.std.proofs.Common.{◌<◌, nat_lt, sym, arith}
 use Rattle.std.proofs.lemmas.Bool.{lt-ltb}
 use Rattle.hw_model.specs.Rooms.{low_of, high_of}
-use Rattle.hw_search.proofs.Choosing.{find_none, find_at}
+use Rattle.hw_laws.proofs.Searches.{found_none as find_none}
+use Rattle.hw_search.proofs.Choosing.{find_at}
 use Rattle.hw_search.proofs.branching.first_wide.Goals as goal
 
 pub returns-then-low-high-clause-value : goal.returns-then-low-high-clause-value

@@ -4,7 +4,8 @@ use Rattle.std.specs.List.{range_with_len}
 use Rattle.std.proofs.lemmas.Bool.{eq-eqb}
 use Rattle.hw_model.specs.Problem.{value_at}
 use Rattle.hw_model.specs.Rooms.{low_of, high_of}
-use Rattle.hw_search.proofs.Choosing.{find_none, find_at}
+use Rattle.hw_laws.proofs.Searches.{found_none as find_none}
+use Rattle.hw_search.proofs.Choosing.{find_at}
 use Rattle.hw_search.proofs.branching.greatest_slot.Goals as goal
 
 pub returns-then-unwrap_or-most-clause-value : goal.returns-then-unwrap_or-most-clause-value
