@@ -10,7 +10,7 @@ ghost use Rattle.hw_model.specs.Problem.{shape_of};
 ghost use Rattle.hw_story.specs.Trails.{IsTrail, trail_shape, clause_of, room_of, no_events, decided, implied, back_to};
 ghost use Rattle.hw_story.specs.Learning.{event_of};
 
-use crate::bounds::{bound_of, makes};
+use crate::bounds::{makes, range_end};
 use crate::cuts::{count_upto, cut_all};
 use hw_flat::{Flat, Room};
 use hw_lits::{cut, truth};
@@ -77,7 +77,7 @@ impl Trail {
         ensures value { self.new ≡ decided self.old lit }
     {
         self.level += 1;
-        self.bounds.push_reserved(bound_of(lit, &self.room));
+        self.bounds.push_reserved(range_end(lit, &self.room));
         cut(lit, &mut self.room);
         self.events.push_reserved(Event {
             lit,
@@ -95,7 +95,7 @@ impl Trail {
         requires only { narrowing (clause_of why) (room_of self.old) ≡ Cut lit }
         ensures value { self.new ≡ implied self.old lit why }
     {
-        self.bounds.push_reserved(bound_of(lit, &self.room));
+        self.bounds.push_reserved(range_end(lit, &self.room));
         cut(lit, &mut self.room);
         self.events.push_reserved(Event {
             lit,
