@@ -12,8 +12,8 @@ import csv, io, itertools, json, re, sys
 NUMBER = "(?:0|[1-9][0-9]{0,18})"  # "decimal digits without sign, and without a leading zero unless it is `0` itself"
 SIGNED = "(?:0|-?[1-9][0-9]{0,18})"  # "A signed number may have one `-` before a number other than 0"
 
-def ints(text):
-    return [int(digits) for digits in re.findall("-?[0-9]+", text)]
+def ints(text): return [int(digits) for digits in re.findall("-?[0-9]+", text)]
+def ascend(items): return all(one < other for one, other in zip(items, items[1:]))
 
 class Ends(Exception):
     """The line and the status with which the run ends; of a certificate's line, the word alone that it is refused by."""
@@ -21,9 +21,6 @@ class Ends(Exception):
 def expect(good, *end):
     if not good:
         raise Ends(*end)
-
-def ascend(items):
-    return all(one < other for one, other in zip(items, items[1:]))
 
 class Problem:
     """A flat problem. Its rules are ("p", V, W, holes), ("s", V, W, holes) and ("u", fleet, jobs), a job being (ship, tugs, hold).
@@ -187,7 +184,9 @@ def tide_heights(data, names):
     return rows + [waters[-1][1:]]
 
 def ship_value(p, heights, ship, slot):
-    """What a ship carries in a slot, or None. Here and below: the section `From a port to its problem`."""
+    # "A ship has a value in a slot from `earliest` to `latest` if all its passing slots are in the tide table and the allowed draft is
+    # at least `light`. For an outgoing ship it is the lesser of allowed draft and `deep`, less `light`, times `tpc`; for an incoming one
+    # 0"; "the least, along the route, of depth plus height in the passing slot less clearance"
     passes = [(leg, leg["waypoint"], slot + leg["offset"]) for leg in ship["route"]]
     if not ship["earliest"] <= slot <= ship["latest"] or any(at >= len(heights) for _, _, at in passes):
         return None
@@ -197,16 +196,17 @@ def ship_value(p, heights, ship, slot):
 
 def port_problem(p, heights):
     ships, apart, rules, stay = p["ships"], p["separation"], [], any(ship.get("may_stay") for ship in p["ships"])
-    values = [[ship_value(p, heights, ship, slot) for slot in range(p["slots"])] + [0 if ship.get("may_stay") else None] * stay
-              for ship in ships]
+    values = [[ship_value(p, heights, one, slot) for slot in range(p["slots"])] + [0 if one.get("may_stay") else None] * stay for one in ships]
     for (v, one), (w, other) in itertools.combinations(enumerate(ships), 2):
         if one["direction"] == other["direction"]:
+            # "from 1 less the separation of W before V to the separation of V before W less 1"
             holes = [(1 - apart[other["class"]][one["class"]], apart[one["class"]][other["class"]] - 1)]
-        else:
+        else:  # "from `enter` of V less `leave` of W plus 1 to `leave` of V less `enter` of W less 1"
             holes = [(a["enter"] - b["leave"] + 1, a["leave"] - b["enter"] - 1)
                      for a in one["channel"] for b in other["channel"] if a["section"] == b["section"]]
         rules += [("p", v, w, holes)] * bool(holes)
     rules += [("s", berth["outgoing"], berth["incoming"], [(-9999, berth["clear"] - 1)]) for berth in p["berths"]]
+    # "on all ships with tugs, if there are any: each has its `tugs` for `job` slots and the turnaround of its direction"
     jobs = [(v, ship["tugs"], ship["job"] + p["turnaround"][ship["direction"]]) for v, ship in enumerate(ships) if ship["tugs"]]
     return Problem(p["slots"], stay, values, rules + [("u", p["fleet"], jobs)] * bool(jobs))
 
@@ -316,12 +316,11 @@ class Checker:
         for (v, v_low, v_high), (w, w_low, w_high) in itertools.combinations(blocks, 2):
             room = self.problem.denied_room([])
             room[0][v], room[1][v], room[0][w], room[1][w] = v_low, v_high, w_low, w_high
-            expect(any(self.problem.refutes(rule, room) for rule in self.problem.rules), "toll")
+            expect(any(self.problem.refutes(rule, room) for rule in sorted(self.problem.rules, key=lambda one: one[1:3] != (v, w))), "toll")
         return 1, [(*block, 1) for block in blocks]
 
     def tugs_toll(self, restriction, slot, most, weights):
-        """"The jobs of this rule on tugs that hold their tugs in SLOT weigh at most MOST together, since any jobs that the fleet can
-        serve together do; a weight for each job"."""
+        """"The jobs of this rule on tugs that hold their tugs in SLOT weigh at most MOST together, since any jobs that .. do"."""
         letter, fleet, *jobs = self.problem.restrictions[restriction]
         expect(letter == "u" and slot < self.problem.horizon and len(weights) == len(jobs[0]), "toll")
         heaviest = [0] * (fleet + 1)  # the most that jobs weigh which so many tugs can serve together
