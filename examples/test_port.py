@@ -21,7 +21,9 @@ import port
 
 HERE = os.path.dirname(os.path.abspath(__file__))
 PROGRAM = None
-LIMITS = r"([0-9]+) to ([0-9]+)(?: (cm|slots|tugs|tenths of a tonne for a centimetre of draft))?(?:, (?:at least|above|from) .*)?"
+# A range of numbers in the table of places, with its unit and what it depends on.
+LIMITS = (r"([0-9]+) to ([0-9]+)(?: (cm|slots|tugs|tenths of a tonne for a centimetre of draft))?"
+          r"(?:, (?:at least|above|from) .*)?")
 
 
 def text_of(name):

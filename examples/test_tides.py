@@ -99,8 +99,8 @@ class Heights(Room):
         # From 0.58 the water rises by 373 cm in 6 h 12 min: by 31.08 cm in the first 62 minutes, then by 62.17, by 93.25
         # twice, by 62.17 and by 31.08. So at the sixths it is 89.08, 151.25, 244.5, 337.75 and 399.92 high.
         self.assertEqual(self.heights(FROM_LOW, minutes="62")[:7], [58, 89, 151, 244, 337, 399, 431])
-        # After 15, 30, 45 and 60 minutes 65.52, 73.04, 80.56 and 88.08; after 75, 13 minutes into the second sixth,
-        # 89.08 + 62.17 * 13 / 62 = 102.12.
+        # After 15, 30, 45 and 60 minutes it is 65.52, 73.04, 80.56 and 88.08 high; after 75, 13 minutes into the second
+        # sixth, 89.08 + 62.17 * 13 / 62 = 102.12.
         self.assertEqual(self.heights(FROM_LOW)[:6], [58, 65, 73, 80, 88, 102])
         # Slot 25 begins at 09:55. Of the 357 cm that it falls, 29.75 fall in the first 62.17 minutes, 1.44 in 3: 429.56.
         # Of a table by the nearest slots this slot had high water, 431.
@@ -242,6 +242,7 @@ class Refusals(Room):
                 (["Bar =waters.txt"], f"Bar =waters.txt: {plain}"),
                 (["waters.txt"], "waters.txt isn't NAME=FILE"),
                 (["Bar=other.txt"], "other.txt: No such file or directory"),
+                ([f"Bar=waters.txt*{'9' * 5000}"], f"Bar=waters.txt*{'9' * 5000}: {'9' * 5000} is no number of times"),
                 (["Bar=waters.txt*0"], "Bar=waters.txt*0: the factor must be above 0"),
                 (["Bar=waters.txt*1.2.3"], "Bar=waters.txt*1.2.3: 1.2.3 is no number of times"),
                 (["Bar=waters.txt*9"], "waters.txt, line 2: the height must be from -20 to 20 metres"),
@@ -251,6 +252,8 @@ class Refusals(Room):
                 ([], "usage: tides.py [OPTION ..] START MINUTES NAME=FILE .."),
                 (["2027-03-14", "15", "Bar=waters.txt"],
                  'START is a date and a time, as "2027-03-14 03:40", and not 2027-03-14'),
+                (["2027-02-29 03:40", "15", "Bar=waters.txt"],
+                 'START is a date and a time, as "2027-03-14 03:40", and not 2027-02-29 03:40'),
                 ([START, "0", "Bar=waters.txt"], "MINUTES is a number from 1 to 1440, and not 0"),
                 (["--dates", "ydm", START, "15", "Bar=waters.txt"],
                  "--dates is no option, or the order of dates isn't dmy, mdy or ymd")]:

@@ -103,6 +103,12 @@ class WhatIf(unittest.TestCase):
         rows = self.rows(*words)
         self.assertEqual(self.rows("--table", "array"), [rows[0], ["fleet 3", "no report", "", "", ""], rows[2]])
 
+    def test_no_day(self):
+        self.put("day.json", json.dumps({**DAY, "fleet": 6}))
+        done = self.run_it("--program", "fake", "--budget", "20", "day.json", "day.csv", "fleet=4")
+        self.assertEqual((done.returncode, done.stderr), (1, "whatif.py: the day as it is: bad instance fleet range\n"))
+        self.assertEqual(len(done.stdout.splitlines()), 3)
+
     def test_refused(self):
         for word, cause in [("tugs=3", "tugs=3 is no variant"), ("fleet", "fleet is no variant"),
                             ("fleet=x", "fleet=x is no number of tugs, as 7 or 4..8"),

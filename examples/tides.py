@@ -67,7 +67,7 @@ class Refused(Exception):
 
 def number_of(text, unit):
     """The exact value of a decimal number, with a dot or a comma."""
-    if not re.fullmatch(r"[+-]?[0-9]+([.,][0-9]+)?", text):
+    if not re.fullmatch(r"[+-]?[0-9]{1,9}([.,][0-9]{1,9})?", text):
         raise Refused(f"{text} is no number of {unit}")
     return Fraction(text.replace(",", "."))
 
@@ -236,7 +236,7 @@ def waypoint_of(word):
     # The program's names, without what a CSV file would have to quote.
     if not re.fullmatch(r'[ -~]{1,40}', name) or name != name.strip() or "," in name or '"' in name:
         raise Refused(f"{word}: a waypoint's name has 1 to 40 plain characters, no comma, no quote, and no space at an end")
-    found = re.fullmatch(r"(.+?)([+-][0-9]+m)?(\*[0-9.,]+)?([+-][0-9.,]+(?:cm|ft))?", rest, re.DOTALL)
+    found = re.fullmatch(r"(.+?)([+-][0-9]{1,6}m)?(\*[0-9.,]+)?([+-][0-9.,]+(?:cm|ft))?", rest, re.DOTALL)
     if not found:
         raise Refused(f"{word} isn't NAME=FILE")
     file, later, factor, added = found.groups()
@@ -268,15 +268,20 @@ def options_of(words):
     return options, words
 
 
+def start_of(text):
+    try:
+        day, clock = text.split()
+        return minute_of(day, clock)
+    except (Refused, ValueError):
+        raise Refused(f'START is a date and a time, as "2027-03-14 03:40", and not {text}') from None
+
+
 def lines_of(words):
     """The lines of the table that these words ask for."""
     options, words = options_of(words)
     if len(words) < 3:
         raise Refused("usage: tides.py [OPTION ..] START MINUTES NAME=FILE ..")
-    when = words[0].split()
-    if len(when) != 2:
-        raise Refused(f'START is a date and a time, as "2027-03-14 03:40", and not {words[0]}')
-    start = minute_of(*when)
+    start = start_of(words[0])
     if not re.fullmatch(r"[0-9]{1,4}", words[1]) or not 1 <= int(words[1]) <= 1440:
         raise Refused(f"MINUTES is a number from 1 to 1440, and not {words[1]}")
     minutes = int(words[1])

@@ -39,6 +39,7 @@ from concurrent.futures import ThreadPoolExecutor
 HERE = os.path.dirname(os.path.abspath(__file__))
 BUILT = os.path.join(HERE, "..", "crates", "tidewise", "out", "tidewise")
 COLUMNS = ["variant", "result", "tonnes", "bound", "difference", "seconds"]
+WORDS = ["optimal", "infeasible", "unfinished", "memory"]
 ARRAY = """#!/bin/bash
 #SBATCH --job-name=whatif
 #SBATCH --array=0-{last}
@@ -197,16 +198,20 @@ def rows_of(folder):
     for number, (name, result) in enumerate(zip(names, results)):
         word, best, most = result
         spent = read(folder, number, "ms").strip()
-        yield [name, word, tonnes(best), "" if best == most else tonnes(most), difference(results[0], result) if number else "",
+        yield [name, word, tonnes(best), "" if best == most else tonnes(most),
+               difference(results[0], result) if number else "",
                f"{int(spent) // 1000}.{int(spent) % 1000 // 100}" if spent else ""]
 
 
 def show(folder):
+    """Prints the table; without a result for the day as it is, there is nothing to compare with."""
     rows = list(rows_of(folder))
     widths = [max(len(row[column]) for row in rows) for column in range(len(COLUMNS))]
     for row in rows:
         print("  ".join(cell.ljust(width) if column < 2 else cell.rjust(width)
                         for column, (cell, width) in enumerate(zip(row, widths))).rstrip())
+    if rows[1][1] not in WORDS:
+        refuse(f"the day as it is: {rows[1][1]}")
 
 
 def run_all(folder, count, given):
@@ -231,7 +236,8 @@ def main():
         parser.add_argument(option)
     given = parser.parse_args()
     if given.table:
-        return show(given.table)
+        show(given.table)
+        return
     if len(given.words) < 2:
         refuse("an instance and a tide table are needed")
     instance, tides, *words = given.words
@@ -249,13 +255,12 @@ def main():
         with open(os.path.join(kept, "array.sh"), "w", encoding="utf-8") as file:
             file.write(ARRAY.format(last=len(variants) - 1, program=shlex.quote(given.program), form=given.form,
                                     budget=given.budget))
-        return None
+        return
     with tempfile.TemporaryDirectory() as room:
         if not kept:
             prepare(room, variants, tides)
         run_all(kept or room, len(variants), given)
         show(kept or room)
-    return None
 
 
 if __name__ == "__main__":
