@@ -89,6 +89,7 @@ impl RulesByPair {
     fn another_refuting(&self, flat: &Flat, room: &Room, v: ShipId, w: ShipId) -> Option<u32>
         requires room { RoomFits flat.now room.now }
         ensures value { IsTrue (is_some result) ↔ SomeRuleRefutes flat.now room.now }
+        ensures place { IfSome result (λ place. PlaceRefutes flat.now place room.now) }
     {
         match self.tugs_refuting(flat, room, v, w) {
             None => first_refuting(flat, room),
@@ -112,6 +113,7 @@ impl RulesByPair {
     fn tugs_refuting(&self, flat: &Flat, room: &Room, v: ShipId, w: ShipId) -> Option<u32>
         requires room { RoomFits flat.now room.now }
         ensures sound { IfSome result (λ place. SomeRuleRefutes flat.now room.now) }
+        ensures place { IfSome result (λ place. PlaceRefutes flat.now place room.now) }
     {
         for place in &self.tugs {
             if may_refute(flat, room, *place, v, w) && place_refutes(flat, room, *place) {
@@ -212,6 +214,7 @@ fn one_refutes(flat: &Flat, room: &Room, places: &[u32]) -> bool
 fn place_refutes(flat: &Flat, room: &Room, place: u32) -> bool
     requires room { RoomFits flat.now room.now }
     ensures sound { IsTrue result → SomeRuleRefutes flat.now room.now }
+    ensures place { IsTrue result → PlaceRefutes flat.now place room.now }
 {
     place < flat.shape().rules && refuted(flat, Source::Rule { place }, None, room)
 }

@@ -1,7 +1,8 @@
-use Rattle.std.proofs.Common.{◌≡◌, length, ap, arith}
+use Rattle.std.proofs.Common.{◌≡◌, ◌<◌, length, ap, arith}
 use Rattle.hw_tariff.proofs.by_pair.place_refutes.Goals as goal
 
 pub returns-then-place-shape : goal.returns-then-place-shape
 returns-then-place-shape c =
     let rules : c.shape.result.rules ≡ length c.args.flat.now.rules = ap (λ s. s.rules) c.shape.ensures.value in
-    record { sound = λ t. (c.args.place, omega (arith, c.if-place-shape.true, rules), c.refuted.ensures.means.0 t) }
+    let inside : c.args.place < length c.args.flat.now.rules = omega (arith, c.if-place-shape.true, rules) in
+    record { sound = λ t. (c.args.place, inside, c.refuted.ensures.means.0 t); place = λ t. (inside, c.refuted.ensures.means.0 t) }
