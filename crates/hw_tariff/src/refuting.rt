@@ -10,8 +10,8 @@ ghost use Rattle.hw_tolls.specs.Computed.{BalanceFits};
 use crate::balancing::{best_balances, charged_balances};
 use crate::taking::allowance_of;
 use hw_flat::{Flat, Room};
-use hw_model::NoMemory;
-use hw_tolls::{Balance, Tariff, Toll};
+use hw_model::{MOST_SHIPS, NoMemory};
+use hw_tolls::{Balance, MOST_COST, MOST_SCALE, Tariff, Toll};
 use std::alloc::Global;
 
 /// Whether the prices refute the room under the best, in tenths of a tonne.
@@ -86,7 +86,7 @@ pub fn prices_bound(
 
 /// The least that a timetable above the best gains, in parts; nothing without a best.
 pub(crate) fn aim(scale: u32, best: Option<u64>) -> u128
-    requires small_scale { scale ≤ 1_000_000 }
+    requires small_scale { scale ≤ MOST_SCALE }
     ensures value { result ≡ prices.aim scale best }
     ensures small { result ≤ 18_446_744_073_709_551_616_000_000 }
 {
@@ -99,9 +99,9 @@ pub(crate) fn aim(scale: u32, best: Option<u64>) -> u128
 /// Whether a balance with the allowance added stays below the aim. A room without a balance has no
 /// list of slots that could reach it.
 pub(crate) fn falls_short(allowed: u128, aimed: u128, balance: Option<Balance>) -> bool
-    requires small_allowance { allowed ≤ 256_000_000_000_000_000_000_000_000 }
+    requires small_allowance { allowed ≤ MOST_COST }
     requires small_aim { aimed ≤ 18_446_744_073_709_551_616_000_000 }
-    requires small_balance { IfSome balance (BalanceFits 40) }
+    requires small_balance { IfSome balance (BalanceFits MOST_SHIPS) }
     ensures value { result ≡ computed.falls_short allowed aimed balance }
 {
     match balance {

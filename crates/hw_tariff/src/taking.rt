@@ -8,14 +8,14 @@ ghost use Rattle.hw_tolls.specs.Prices.{DueFits, allowance};
 ghost use Rattle.hw_tolls.specs.Computed as computed;
 
 use hw_flat::{Flat, ShipId, Slot};
-use hw_model::{Job, Rule};
-use hw_tolls::{Block, Due, Toll};
+use hw_model::{Job, MOST_HELD, MOST_SHIPS, MOST_TUGS, Rule};
+use hw_tolls::{Block, Due, MOST_COST, MOST_DUES, MOST_PRICE, Toll};
 
-/// What a ship that sails in a slot takes of a toll. It looks at 40 blocks or jobs at most.
+/// What a ship that sails in a slot takes of a toll. It looks at `MOST_SHIPS` blocks or jobs at most.
 pub fn takes(flat: &Flat, toll: &Toll, ship: ShipId, slot: Slot) -> u64
     requires toll { IsToll flat.now toll.now }
     ensures value { result ≡ computed.takes_at flat.now (Some toll.now) ship slot }
-    ensures small { result ≤ 2_560 }
+    ensures small { result ≤ MOST_HELD }
 {
     match toll {
         Toll::Narrows { blocks } => of_blocks(&blocks.items, ship, slot),
@@ -36,9 +36,9 @@ pub fn takes(flat: &Flat, toll: &Toll, ship: ShipId, slot: Slot) -> u64
 
 /// How many of the blocks are the ship's and hold the slot.
 fn of_blocks(blocks: &[Block], ship: ShipId, slot: Slot) -> u64
-    requires few { length blocks.now ≤ 40 }
+    requires few { length blocks.now ≤ MOST_SHIPS }
     ensures value { result ≡ sum_by (computed.takes ship slot) (map block_charge blocks.now) }
-    ensures small { result ≤ 2_560 }
+    ensures small { result ≤ MOST_HELD }
 {
     let mut sum: u64 = 0;
     for block in blocks {
@@ -51,11 +51,11 @@ fn of_blocks(blocks: &[Block], ship: ShipId, slot: Slot) -> u64
 
 /// What the ship takes of a rule's jobs, nothing of another rule.
 fn of_rule(rule: &Rule, weights: &[u32], ship: ShipId, slot: Slot, busy: Slot) -> u64
-    requires fits { RuleFits 40 rule.now }
-    requires weighed { WeighsUpTo weights.now 2_560 rule.now }
-    requires small { All (λ weight. weight ≤ 64) weights.now }
+    requires fits { RuleFits MOST_SHIPS rule.now }
+    requires weighed { WeighsUpTo weights.now MOST_HELD rule.now }
+    requires small { All (λ weight. weight ≤ MOST_TUGS) weights.now }
     ensures value { result ≡ sum_by (computed.takes ship slot) (rule_charges busy weights.now (Some rule.now)) }
-    ensures small { result ≤ 2_560 }
+    ensures small { result ≤ MOST_HELD }
 {
     match rule {
         Rule::Pair { .. } | Rule::After { .. } => 0,
@@ -65,12 +65,12 @@ fn of_rule(rule: &Rule, weights: &[u32], ship: ShipId, slot: Slot, busy: Slot) -
 
 /// The weights of the ship's jobs that hold their tugs in the slot `busy`, if it sails in `slot`.
 fn of_jobs(jobs: &[Job], weights: &[u32], ship: ShipId, slot: Slot, busy: Slot) -> u64
-    requires few { length jobs.now ≤ 40 }
+    requires few { length jobs.now ≤ MOST_SHIPS }
     requires each_job { length weights.now ≡ length jobs.now }
-    requires fit { All (JobFits 40) jobs.now }
-    requires small { All (λ weight. weight ≤ 64) weights.now }
+    requires fit { All (JobFits MOST_SHIPS) jobs.now }
+    requires small { All (λ weight. weight ≤ MOST_TUGS) weights.now }
     ensures value { result ≡ sum_by (computed.takes ship slot) (job_charges busy weights.now jobs.now) }
-    ensures small { result ≤ 2_560 }
+    ensures small { result ≤ MOST_HELD }
 {
     let mut sum: u64 = 0;
     for (place, job) in jobs.iter().enumerate() {
@@ -95,9 +95,9 @@ fn of_job(job: Job, weight: u32, ship: ShipId, slot: Slot, busy: Slot) -> u64
 
 /// How much a permitted timetable takes of a toll at most.
 pub fn capacity_of(toll: &Toll) -> u64
-    requires small { capacity toll.now ≤ 2_560 }
+    requires small { capacity toll.now ≤ MOST_HELD }
     ensures value { result ≡ capacity toll.now }
-    ensures small { result ≤ 2_560 }
+    ensures small { result ≤ MOST_HELD }
 {
     match toll {
         Toll::Narrows { .. } => 1,
@@ -107,10 +107,10 @@ pub fn capacity_of(toll: &Toll) -> u64
 
 /// The price of this many units, in parts.
 fn priced(price: u64, units: u64) -> u128
-    requires small_price { price ≤ 1_000_000_000_000_000_000 }
-    requires few_units { units ≤ 2_560 }
+    requires small_price { price ≤ MOST_PRICE }
+    requires few_units { units ≤ MOST_HELD }
     ensures value { result ≡ price * units }
-    ensures small { result ≤ 2_560_000_000_000_000_000_000 }
+    ensures small { result ≤ MOST_HELD * MOST_PRICE }
 {
     u128::from(price) * u128::from(units)
 }
@@ -119,10 +119,10 @@ fn priced(price: u64, units: u64) -> u128
 /// jobs.
 pub fn pays(flat: &Flat, tolls: &[Toll], dues: &[Due], ship: ShipId, slot: Slot) -> u128
     requires tolls { All (IsToll flat.now) tolls.now }
-    requires few { length dues.now ≤ 100_000 }
+    requires few { length dues.now ≤ MOST_DUES }
     requires fit { All (DueFits (length tolls.now)) dues.now }
     ensures value { result ≡ computed.pays flat.now tolls.now dues.now ship slot }
-    ensures small { result ≤ 256_000_000_000_000_000_000_000_000 }
+    ensures small { result ≤ MOST_COST }
 {
     let mut sum: u128 = 0;
     for due in dues {
@@ -136,11 +136,11 @@ pub fn pays(flat: &Flat, tolls: &[Toll], dues: &[Due], ship: ShipId, slot: Slot)
 
 /// What a permitted timetable pays for the dues at most, in parts.
 pub fn allowance_of(tolls: &[Toll], dues: &[Due]) -> u128
-    requires small { All (λ toll. capacity toll ≤ 2_560) tolls.now }
-    requires few { length dues.now ≤ 100_000 }
+    requires small { All (λ toll. capacity toll ≤ MOST_HELD) tolls.now }
+    requires few { length dues.now ≤ MOST_DUES }
     requires fit { All (DueFits (length tolls.now)) dues.now }
     ensures value { result ≡ allowance tolls.now dues.now }
-    ensures small { result ≤ 256_000_000_000_000_000_000_000_000 }
+    ensures small { result ≤ MOST_COST }
 {
     let mut sum: u128 = 0;
     for due in dues {
