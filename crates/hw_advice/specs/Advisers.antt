@@ -3,6 +3,7 @@ use Rattle.std.specs.Prelude.{◌≡◌, ℕ, ◌≤◌, true, List, ◌++◌, O
 use Rattle.std.specs.List.Sorted.{IsStrictlyIncreasing}
 use Rattle.std.specs.Option.{option_copied}
 use Rattle.std.specs.Borrow.{Bor}
+use Rattle.hw_model.specs.declared.limits.TheConstants.{MOST_CARGO}
 use Rattle.hw_model.specs.declared.lit.Lit.{Lit}
 use Rattle.hw_model.specs.declared.lit.LitTruth.TheVariants.{Free}
 use Rattle.hw_model.specs.declared.source.Source.TheVariants.{Goal}
@@ -12,6 +13,7 @@ use Rattle.hw_model.specs.Narrowing.{truth, denied}
 use Rattle.hw_model.specs.Quiet.{SpeaksOnlyOf}
 use Rattle.hw_model.specs.Rooms.{RoomModel, RoomFits}
 use Rattle.hw_lits.specs.Active.{IsActive}
+use Rattle.hw_tolls.specs.declared.limits.TheConstants.{MOST_TOLLS}
 use Rattle.hw_tolls.specs.declared.tariff.Tariff.{Tariff}
 use Rattle.hw_tolls.specs.declared.toll.Toll.{Toll}
 use Rattle.hw_tolls.specs.Tolls.{IsToll}
@@ -24,7 +26,7 @@ use Rattle.hw_advice.specs.declared.adviser.Scene.{Scene}
 pub record SceneFits (f : Problem) (room : RoomModel) (tolls : List Toll) (tariff : Option (Bor Tariff)) : Type 0 where
   pub room_fits : RoomFits f room
   pub of_problem : All (IsToll f) tolls
-  pub few : length tolls ≤ 10_000
+  pub few : length tolls ≤ MOST_TOLLS
   pub tariff_fits : IfSome tariff (λ t. TariffFits (length tolls) t.now)
 
 -- what an adviser may be shown
@@ -39,7 +41,7 @@ in_force old (Some tariff) = Some tariff
 -- tolls of the problem that bring the declared ones to at most 10,000, and a tariff on all of them whose dues are on ascending tolls
 pub record AreFurtherPrices (f : Problem) (declared more : List Toll) (tariff : Option Tariff) : Type 0 where
   pub tolls : All (IsToll f) more
-  pub few : length (declared ++ more) ≤ 10_000
+  pub few : length (declared ++ more) ≤ MOST_TOLLS
   pub fits : IfSome tariff (TariffFits (length (declared ++ more)))
   pub ascend : IfSome tariff (λ t. IsStrictlyIncreasing (map (λ due. due.toll) t.dues))
 
@@ -55,7 +57,7 @@ pub record IsAdvice (f : Problem) (declared : List Toll) (last : Option Tariff) 
 pub record IsBoundAdvice (f : Problem) (declared : List Toll) (last : Option Tariff) (more : List Toll) (tariff : Option Tariff) (bound : ℕ) : Type 0 where
   pub prices : AreFurtherPrices f declared more tariff
   pub bounded : IsSomeAnd (in_force last tariff) (λ t. (1 ≤ t.scale) × PricesBound f (declared ++ more) t bound)
-  pub small : bound ≤ 40_000_000_000_000
+  pub small : bound ≤ MOST_CARGO
 
 -- advice in a scene: it holds of the scene's problem, tolls, tariff, best and room
 abbrev pub IsAdviceIn : Scene → Advice → Type 0

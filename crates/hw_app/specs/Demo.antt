@@ -1,5 +1,6 @@
 -- `demo NUMBER SHIPS SLOTS BUDGET PROOF`: a demonstration is solved, and its certificate is checked and sent to Proof.
 use Rattle.std.specs.Prelude.{◌≡◌, ◌≤◌, ℕ, List, [], Option, Some, None, IfSome, ⊤, length}
+use Rattle.hw_model.specs.declared.limits.TheConstants.{MOST_SHIPS, MOST_SLOTS}
 use Rattle.hw_model.specs.Problem.{Problem}
 use Rattle.hw_model.specs.Rooms.{room_count}
 use Rattle.hw_model.specs.Timetables.{Permits}
@@ -25,10 +26,10 @@ use Rattle.hw_command.specs.Sending.{IsCutOf}
 
 -- the limits of a demonstration
 abbrev pub most_ships : ℕ
-most_ships = 40
+most_ships = MOST_SHIPS
 
 abbrev pub most_slots : ℕ
-most_slots = 512
+most_slots = MOST_SLOTS
 
 -- a demonstration of this size can be drawn
 pub record CanDraw (ships slots : ℕ) : Type 0 where

@@ -5,6 +5,7 @@ ghost use Rattle.hw_app.specs.Forms.{keyword_text, least_of, most_of, words_of};
 
 use hw_command::MOST_BUDGET;
 use hw_desk::Feed;
+use hw_model::{MOST_SHIPS, MOST_SLOTS};
 
 /// A form of a command.
 #[derive(Clone, Copy, PartialEq, Eq)]
@@ -139,12 +140,6 @@ pub const FORMS: [Form; 26] = [
     Form::Flatten,
     Form::Demo,
 ];
-
-/// The most ships of a demonstration.
-const MOST_SHIPS: u32 = 40;
-
-/// The most slots of a demonstration.
-const MOST_SLOTS: u32 = 512;
 
 const SOLVE: Wanted = Wanted::Keyword(Keyword::Solve);
 

@@ -1,9 +1,11 @@
 -- The first bad word of a line that has its form, and what a line's bytes read as.
 use Rattle.std.specs.Prelude.{ℕ, ◌+◌, ◌==◌, Bool, true, ◌&&◌, nat_lt, nat_le, List, [], ◌∷◌, Option, Some, None, Result, Ok, Err, length, map, if◌then◌else◌}
 use Rattle.std.specs.List.{list_all}
+use Rattle.hw_model.specs.declared.limits.TheConstants.{MOST_CARGO, MOST_HELD, MOST_SHIPS, MOST_TUGS}
 use Rattle.hw_model.specs.declared.lit.Lit.{Lit}
 use Rattle.hw_model.specs.declared.shape.Shape.{Shape}
 use Rattle.hw_model.specs.Lits.{BadLit, out_of_range, not_normal, first_bad}
+use Rattle.hw_tolls.specs.declared.limits.TheConstants.{MOST_PRICE, MOST_SCALE}
 use Rattle.hw_tolls.specs.declared.toll.Block.{Block}
 use Rattle.hw_lines.specs.declared.line.Line.{Line}
 use Rattle.hw_lines.specs.declared.line.Line.TheVariants as lines
@@ -47,21 +49,21 @@ rises (n ∷ ns) = ascends n ns
 abbrev pub block_fits : Shape → Block → Bool
 block_fits shape block = nat_lt block.ship shape.ships && (nat_le block.low block.high && nat_lt block.high shape.slots)
 
--- 1 to 40 such blocks, of ascending ships
+-- 1 to `MOST_SHIPS` such blocks, of ascending ships
 abbrev pub blocks_fit : Shape → List Block → Bool
-blocks_fit shape blocks = nat_lt 0 (length blocks) && (nat_le (length blocks) 40 && (list_all (block_fits shape) blocks && rises (map (λ block. block.ship) blocks)))
+blocks_fit shape blocks = nat_lt 0 (length blocks) && (nat_le (length blocks) MOST_SHIPS && (list_all (block_fits shape) blocks && rises (map (λ block. block.ship) blocks)))
 
--- a sum of at most 2,560, and weights of at most 64
+-- a sum and weights within their limits
 abbrev pub weights_small : ℕ → List ℕ → Bool
-weights_small most weights = nat_le most 2_560 && list_all (λ weight. nat_le weight 64) weights
+weights_small most weights = nat_le most MOST_HELD && list_all (λ weight. nat_le weight MOST_TUGS) weights
 
--- the number of a rule, a slot of the problem, and at most 40 weights
+-- the number of a rule, a slot of the problem, and at most `MOST_SHIPS` weights
 abbrev pub weights_fit : Shape → ℕ → ℕ → List ℕ → Bool
-weights_fit shape n slot weights = nat_le shape.ships n && (nat_lt n (shape.ships + shape.rules) && (nat_lt slot shape.slots && nat_le (length weights) 40))
+weights_fit shape n slot weights = nat_le shape.ships n && (nat_lt n (shape.ships + shape.rules) && (nat_lt slot shape.slots && nat_le (length weights) MOST_SHIPS))
 
--- a scale of at most 1,000,000, and prices of at most 1,000,000,000,000,000,000
+-- a scale and prices within their limits
 abbrev pub prices_small : ℕ → List Price → Bool
-prices_small scale prices = nat_le scale 1_000_000 && list_all (λ due. nat_le due.price 1_000_000_000_000_000_000) prices
+prices_small scale prices = nat_le scale MOST_SCALE && list_all (λ due. nat_le due.price MOST_PRICE) prices
 
 -- a number above its limit, which is no form, or else the first bad word from the left, the count of slots last
 abbrev pub first_fault : Shape → Line → Option FormWord
@@ -75,7 +77,7 @@ first_fault shape (lines.Narrows blocks) = unless Range (blocks_fit shape blocks
 first_fault shape (lines.Tugs n slot most weights) = unless Form (weights_small most weights) or_else unless Range (weights_fit shape n slot weights)
 first_fault shape (lines.Tariff scale prices) = unless Form (prices_small scale prices) or_else unless Range (ascends 0 (map (λ due. due.toll) prices))
 first_fault shape (lines.Priced clause) = clause_fault shape clause
-first_fault shape (lines.Bound bound) = unless Form (nat_le bound 40_000_000_000_000)
+first_fault shape (lines.Bound bound) = unless Form (nat_le bound MOST_CARGO)
 
 -- a line, unless a word is bad
 abbrev pub refused_by : Line → Option FormWord → Result Line FormWord

@@ -4,6 +4,7 @@ use Rattle.std.specs.Io.KnownBytes.{IsAtEnd}
 use Rattle.hw_desk.specs.State.{DeskState}
 use Rattle.hw_desk.specs.Calls.{Moves, ReadCause, ReadKept}
 use Rattle.hw_desk.specs.declared.desk.Feed.{Feed}
+use Rattle.hw_model.specs.declared.limits.TheConstants.{MOST_SHIPS}
 use Rattle.hw_model.specs.declared.shape.Shape.{Shape}
 use Rattle.hw_text.specs.Parts.{lacks}
 use Rattle.hw_cert.specs.Spelled.{is_within}
@@ -38,7 +39,7 @@ pub record Fills {E : Type 0} (feed : Feed) (most : ℕ) (pending : List ℕ) (o
 
 -- what every reader keeps
 pub record ReaderKeeps (r : ReaderModel) : Type 0 where
-  pub few_ships : r.shape.ships ≤ 40
+  pub few_ships : r.shape.ships ≤ MOST_SHIPS
   pub named : IfSome r.at.version (λ version. is_within r.at.most version ≡ true)
   pub few_lines : r.at.number ≤ r.at.taken + 1
   pub short : r.at.taken ≤ 2 ^ 40

@@ -13,8 +13,8 @@ use crate::version::Version;
 use hw_flat::Timetable;
 use hw_lines::{Hints, Line, Price, Prices};
 use hw_lits::{Clause, ClauseFault};
-use hw_model::{Lit, NoMemory, Shape};
-use hw_tolls::{Block, Blocks, Weights};
+use hw_model::{Lit, MOST_CARGO, MOST_HELD, MOST_SHIPS, MOST_TUGS, NoMemory, Shape};
+use hw_tolls::{Block, Blocks, MOST_PRICE, MOST_SCALE, Weights};
 use std::alloc::{AllocError, Global};
 
 /// Why a line can't be read.
@@ -68,7 +68,7 @@ fn is_ascending(ids: &[u32]) -> bool
 
 /// The clause of the literals, which it takes, or the word of the first bad one.
 fn clause_of(shape: Shape, lits: Vec<Lit>) -> Result<Clause, LineFault>
-    requires few_ships { shape.ships ≤ 40 }
+    requires few_ships { shape.ships ≤ MOST_SHIPS }
     ensures { GivesClause result lits.items (clause_fault shape lits.items) }
 {
     match Clause::from_list(shape, lits) {
@@ -80,7 +80,7 @@ fn clause_of(shape: Shape, lits: Vec<Lit>) -> Result<Clause, LineFault>
 }
 
 fn table_line(alloc: Global, shape: Shape, slots: &[u32]) -> Result<Line, LineFault>
-    requires few_ships { shape.ships ≤ 40 }
+    requires few_ships { shape.ships ≤ MOST_SHIPS }
     ensures { Gives result (refused_by (Line.Table slots.now) (first_fault shape (Line.Table slots.now))) }
 {
     if !each_below(slots, shape.slots) || slots.len() != shape.ships as usize {
@@ -91,7 +91,7 @@ fn table_line(alloc: Global, shape: Shape, slots: &[u32]) -> Result<Line, LineFa
 }
 
 fn explain_line(shape: Shape, restriction: u32, lits: Vec<Lit>) -> Result<Line, LineFault>
-    requires few_ships { shape.ships ≤ 40 }
+    requires few_ships { shape.ships ≤ MOST_SHIPS }
     ensures { Gives result (refused_by (Line.Explain restriction lits.items) (first_fault shape (Line.Explain restriction lits.items))) }
 {
     if u64::from(restriction) >= u64::from(shape.ships) + u64::from(shape.rules) {
@@ -105,7 +105,7 @@ fn explain_line(shape: Shape, restriction: u32, lits: Vec<Lit>) -> Result<Line, 
 }
 
 fn order_line(shape: Shape, v: u32, w: u32, x: u32, lits: Vec<Lit>) -> Result<Line, LineFault>
-    requires few_ships { shape.ships ≤ 40 }
+    requires few_ships { shape.ships ≤ MOST_SHIPS }
     ensures { Gives result (refused_by (Line.Order v w x lits.items) (first_fault shape (Line.Order v w x lits.items))) }
 {
     if !(v < w && w < x && x < shape.ships) {
@@ -116,7 +116,7 @@ fn order_line(shape: Shape, v: u32, w: u32, x: u32, lits: Vec<Lit>) -> Result<Li
 }
 
 fn goal_line(shape: Shape, lits: Vec<Lit>) -> Result<Line, LineFault>
-    requires few_ships { shape.ships ≤ 40 }
+    requires few_ships { shape.ships ≤ MOST_SHIPS }
     ensures { Gives result (refused_by (Line.Goal lits.items) (first_fault shape (Line.Goal lits.items))) }
 {
     let clause = clause_of(shape, lits)?;
@@ -124,7 +124,7 @@ fn goal_line(shape: Shape, lits: Vec<Lit>) -> Result<Line, LineFault>
 }
 
 fn lemma_line(shape: Shape, lits: Vec<Lit>, hints: Vec<u32>) -> Result<Line, LineFault>
-    requires few_ships { shape.ships ≤ 40 }
+    requires few_ships { shape.ships ≤ MOST_SHIPS }
     ensures { Gives result (refused_by (Line.Lemma lits.items hints.items) (first_fault shape (Line.Lemma lits.items hints.items))) }
 {
     let clause = clause_of(shape, lits)?;
@@ -180,7 +180,10 @@ fn ships_rise(blocks: &[Block]) -> bool
 fn are_blocks(shape: Shape, blocks: &[Block]) -> bool
     ensures { result ≡ blocks_fit shape blocks.now }
 {
-    !blocks.is_empty() && blocks.len() <= 40 && each_fits(shape, blocks) && ships_rise(blocks)
+    !blocks.is_empty()
+        && blocks.len() <= MOST_SHIPS as usize
+        && each_fits(shape, blocks)
+        && ships_rise(blocks)
 }
 
 fn narrows_line(shape: Shape, blocks: Vec<Block>) -> Result<Line, LineFault>
@@ -195,25 +198,26 @@ fn narrows_line(shape: Shape, blocks: Vec<Block>) -> Result<Line, LineFault>
 }
 
 fn each_light(weights: &[u32]) -> bool
-    ensures { result ≡ list_all (λ weight. nat_le weight 64) weights.now }
+    ensures { result ≡ list_all (λ weight. nat_le weight MOST_TUGS) weights.now }
 {
-    weights.iter().all(|weight| *weight <= 64)
+    weights.iter().all(|weight| *weight <= MOST_TUGS)
 }
 
 fn are_small(most: u32, weights: &[u32]) -> bool
     ensures { result ≡ weights_small most weights.now }
 {
-    most <= 2_560 && each_light(weights)
+    most <= MOST_HELD && each_light(weights)
 }
 
-/// Whether the number is that of a rule, the slot one of the problem, and there are at most 40 weights.
+/// Whether the number is that of a rule, the slot one of the problem, and there are no more weights
+/// than ships may be.
 fn is_weighed(shape: Shape, restriction: u32, slot: u32, weights: &[u32]) -> bool
     ensures { result ≡ weights_fit shape restriction slot weights.now }
 {
     shape.ships <= restriction
         && u64::from(restriction) < u64::from(shape.ships) + u64::from(shape.rules)
         && slot < shape.slots
-        && weights.len() <= 40
+        && weights.len() <= MOST_SHIPS as usize
 }
 
 fn tugs_line(
@@ -240,17 +244,15 @@ fn tugs_line(
 }
 
 fn each_cheap(prices: &[Price]) -> bool
-    ensures { result ≡ list_all (λ due. nat_le due.price 1_000_000_000_000_000_000) prices.now }
+    ensures { result ≡ list_all (λ due. nat_le due.price MOST_PRICE) prices.now }
 {
-    prices
-        .iter()
-        .all(|due| due.price <= 1_000_000_000_000_000_000)
+    prices.iter().all(|due| due.price <= MOST_PRICE)
 }
 
 fn are_cheap(scale: u32, prices: &[Price]) -> bool
     ensures { result ≡ prices_small scale prices.now }
 {
-    scale <= 1_000_000 && each_cheap(prices)
+    scale <= MOST_SCALE && each_cheap(prices)
 }
 
 /// Whether the number of each toll is above the one before it, the first above 0.
@@ -283,7 +285,7 @@ fn tariff_line(shape: Shape, scale: u32, prices: Vec<Price>) -> Result<Line, Lin
 }
 
 fn priced_line(shape: Shape, lits: Vec<Lit>) -> Result<Line, LineFault>
-    requires few_ships { shape.ships ≤ 40 }
+    requires few_ships { shape.ships ≤ MOST_SHIPS }
     ensures { Gives result (refused_by (Line.Priced lits.items) (first_fault shape (Line.Priced lits.items))) }
 {
     let clause = clause_of(shape, lits)?;
@@ -291,9 +293,9 @@ fn priced_line(shape: Shape, lits: Vec<Lit>) -> Result<Line, LineFault>
 }
 
 fn bound_line(bound: u64) -> Result<Line, LineFault>
-    ensures { Gives result (refused_by (Line.Bound bound) (unless FormWord.Form (nat_le bound 40_000_000_000_000))) }
+    ensures { Gives result (refused_by (Line.Bound bound) (unless FormWord.Form (nat_le bound MOST_CARGO))) }
 {
-    if bound > 40_000_000_000_000 {
+    if bound > MOST_CARGO {
         return Err(LineFault::Bad(FormWord::Form));
     }
     Ok(Line::Bound { bound })
@@ -301,7 +303,7 @@ fn bound_line(bound: u64) -> Result<Line, LineFault>
 
 /// The line of this spelling, or its first bad word.
 fn fitted_line(alloc: Global, shape: Shape, spelling: Spelling) -> Result<Line, LineFault>
-    requires few_ships { shape.ships ≤ 40 }
+    requires few_ships { shape.ships ≤ MOST_SHIPS }
     ensures { Gives result (refused_by (spelling_view spelling) (first_fault shape (spelling_view spelling))) }
 {
     match spelling {
@@ -331,7 +333,7 @@ pub fn read_line(
     version: Version,
     bytes: &[u8],
 ) -> Result<Line, LineFault>
-    requires few_ships { shape.ships ≤ 40 }
+    requires few_ships { shape.ships ≤ MOST_SHIPS }
     ensures { Gives result (line_read shape version bytes.now) }
 {
     match spelling_of(alloc, version, bytes)? {

@@ -11,7 +11,7 @@ use crate::taking::{MOST_OF_LINE, TakenLine, take_line};
 use crate::version::Version;
 use hw_desk::{Desk, Feed, NoMemory};
 use hw_lines::Line;
-use hw_model::Shape;
+use hw_model::{MOST_SHIPS, Shape};
 use std::alloc::Global;
 use std::marker::Model;
 
@@ -64,7 +64,7 @@ impl LineReader {
     /// A reader of a certificate of version 1 or 2 for a problem of this shape, before its header.
     /// It takes one line's buffer and that of one read, which no call of the reader makes greater.
     pub fn new(alloc: Global, shape: Shape, feed: Feed) -> Result<LineReader, NoMemory>
-        requires few_ships { shape.ships ≤ 40 }
+        requires few_ships { shape.ships ≤ MOST_SHIPS }
         ensures value { IfOk result (λ r. r ≡ record { shape = shape; feed = feed; at = start; pending = [] }) }
     {
         LineReader::up_to(alloc, shape, feed, Version::Two)
@@ -77,7 +77,7 @@ impl LineReader {
         feed: Feed,
         most: Version,
     ) -> Result<LineReader, NoMemory>
-        requires few_ships { shape.ships ≤ 40 }
+        requires few_ships { shape.ships ≤ MOST_SHIPS }
         ensures value { IfOk result (λ r. r ≡ record { shape = shape; feed = feed; at = start_to most; pending = [] }) }
     {
         let pending = Pending::new(alloc)?;

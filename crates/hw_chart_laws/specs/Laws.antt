@@ -1,5 +1,6 @@
 -- What whole pictures are, and what they say.
 use Rattle.std.specs.Prelude.{◌≡◌, ◌↔◌, ◌<◌, ◌≤◌, ℕ, List, Option, Some, IsSome, slice_get}
+use Rattle.hw_model.specs.declared.limits.TheConstants.{MOST_SLOTS}
 use Rattle.hw_model.specs.Problem.{IsTimetable, Problem, horizon}
 use Rattle.hw_port.specs.Kept.{PortKept}
 use Rattle.hw_port.specs.Parts.{ShipParts}
@@ -24,7 +25,7 @@ PortPicturesAreTrees = (p : Parts) (h : TideParts) (table : Option (List ℕ)) (
 
 -- two timetables of a flat problem that have the same picture are the same, whatever was proved of them
 abbrev pub FlatPlansReadBack : Type 0
-FlatPlansReadBack = (f : Problem) (table other : List ℕ) (outcome later : Outcome) → horizon f ≤ 512 → IsTimetable f table → IsTimetable f other → flat_picture f (Some table) outcome ≡ flat_picture f (Some other) later → table ≡ other
+FlatPlansReadBack = (f : Problem) (table other : List ℕ) (outcome later : Outcome) → horizon f ≤ MOST_SLOTS → IsTimetable f table → IsTimetable f other → flat_picture f (Some table) outcome ≡ flat_picture f (Some other) later → table ≡ other
 
 -- and so are two timetables of a port
 abbrev pub PortPlansReadBack : Type 0

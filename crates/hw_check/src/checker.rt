@@ -25,7 +25,7 @@ use hw_lits::Clause;
 use hw_model::NoMemory;
 use hw_rules::cargo;
 use hw_tariff::PriceBook;
-use hw_tolls::Toll;
+use hw_tolls::{MOST_TOLLS, Toll};
 use std::alloc::Global;
 use std::marker::Model;
 
@@ -248,7 +248,7 @@ impl<'f> Checker<'f> {
     }
 
     fn with_toll(mut self, toll: Toll) -> Result<Checker<'f>, NoMemory>
-        requires few { length self.kept.tolls < 10_000 }
+        requires few { length self.kept.tolls < MOST_TOLLS }
         requires toll { IsToll self.problem toll }
         ensures state { IfOk result (λ c. c.kept ≡ with_toll self.entry.kept toll) }
         ensures problem { IfOk result (λ c. c.problem ≡ self.entry.problem) }

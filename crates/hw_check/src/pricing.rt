@@ -14,7 +14,7 @@ use hw_lines::{CheckWord, Price, Refusal};
 use hw_lits::Clause;
 use hw_model::NoMemory;
 use hw_tariff::PriceBook;
-use hw_tolls::Toll;
+use hw_tolls::{MOST_TOLLS, Toll};
 use std::alloc::Global;
 
 /// Why a line declares no toll after those that are declared. An error says that memory ran out.
@@ -27,7 +27,7 @@ pub(crate) fn toll_refusal(
     ensures value { IfOk result (λ refusal. refusal ≡ refusals.toll_refusal flat.now prices.old.tolls toll.now) }
     ensures same { prices.new ≡ prices.old }
 {
-    if prices.count() >= 10_000 {
+    if prices.count() >= MOST_TOLLS {
         return Ok(refused(CheckWord::Many));
     }
     if prices.is_toll(alloc, flat, toll)? {

@@ -11,6 +11,7 @@ ghost use Rattle.hw_clash.specs.Parts.{part};
 use crate::parting::part;
 use hw_cert::MemoryLog;
 use hw_flat::{Flat, Timetable};
+use hw_progress::MOST_BUDGET;
 use hw_search::{Solved, solve};
 use std::alloc::Global;
 
@@ -44,7 +45,7 @@ pub(crate) fn ask(alloc: Global, flat: &Flat, kept: &[u32], budget: u32) -> Aske
     requires numbered { All (λ n. n < restriction_count flat.now) kept.now }
     requires ascending { IsStrictlyIncreasing kept.now }
     requires least { 1 ≤ budget }
-    requires most { budget ≤ 100_000 }
+    requires most { budget ≤ MOST_BUDGET }
     ensures { AskMeets (part flat.now kept.now) budget result }
 {
     let Ok(made) = part(alloc, flat, kept) else {

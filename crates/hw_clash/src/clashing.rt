@@ -11,6 +11,7 @@ use crate::trying::without;
 use hw_cert::MemoryLog;
 use hw_flat::{Flat, Timetable};
 use hw_model::NoMemory;
+use hw_progress::MOST_BUDGET;
 use std::alloc::Global;
 
 /// The outcome of the search for a clash, with a certificate.
@@ -63,7 +64,7 @@ fn with_table(mut drops: Vec<Timetable>, table: Timetable) -> Option<Vec<Timetab
 /// Tries each restriction in order, and takes it away where the others can't be met together.
 fn reduce(alloc: Global, flat: &Flat, budget: u32, all: Vec<u32>, first: MemoryLog) -> Clashed
     requires least { 1 ≤ budget }
-    requires most { budget ≤ 100_000 }
+    requires most { budget ≤ MOST_BUDGET }
     requires all { all.items ≡ all_numbers flat.now }
     requires none { NoneAt (part flat.now (all_numbers flat.now)) first }
     ensures { ClashMeets flat.now budget result }
@@ -102,7 +103,7 @@ fn reduce(alloc: Global, flat: &Flat, budget: u32, all: Vec<u32>, first: MemoryL
 /// certificate is held in memory. It solves as many parts as there are restrictions, and one more.
 pub fn clash(alloc: Global, flat: &Flat, budget: u32) -> Clashed
     requires least { 1 ≤ budget }
-    requires most { budget ≤ 100_000 }
+    requires most { budget ≤ MOST_BUDGET }
     ensures { ClashMeets flat.now budget result }
 {
     let Ok(all) = all_numbers(alloc, flat) else {

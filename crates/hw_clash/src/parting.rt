@@ -8,7 +8,7 @@ ghost use Rattle.hw_clash.specs.Parts.{has, part_value, rules_in, part};
 
 use hw_derived::copy_rule;
 use hw_flat::Flat;
-use hw_model::{NoMemory, Rule, ShipId};
+use hw_model::{MOST_RULES, MOST_SHIPS, NoMemory, Rule, ShipId};
 use std::alloc::{AllocError, Global};
 
 /// Whether a restriction is kept, by a binary search.
@@ -64,8 +64,8 @@ fn values_of(alloc: Global, flat: &Flat, kept: &[u32]) -> Result<Vec<Option<u64>
 /// The kept rules, in order; the first one of these has the number `first`.
 fn rules_of(alloc: Global, rules: &[Rule], kept: &[u32], first: u32) -> Result<Vec<Rule>, NoMemory>
     requires ascending { IsStrictlyIncreasing kept.now }
-    requires few { length rules.now ≤ 4_000 }
-    requires small { first ≤ 40 }
+    requires few { length rules.now ≤ MOST_RULES }
+    requires small { first ≤ MOST_SHIPS }
     ensures { IfOk result (λ list. list.items ≡ rules_in kept.now first rules.now) }
 {
     let mut list = Vec::new(alloc);

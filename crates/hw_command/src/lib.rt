@@ -5,7 +5,6 @@
 //! says stands in a file of the command's own.
 #![tactic(auto)]
 
-mod budget;
 mod cert;
 mod finishing;
 mod input;
@@ -17,9 +16,9 @@ mod searching;
 mod sending;
 mod status;
 
-pub use budget::MOST_BUDGET;
 pub use cert::{CertStep, OpenCert, check_cert, check_line, check_report, open_cert, open_cert_to};
 pub use finishing::{finish, finish_with};
+pub use hw_progress::MOST_BUDGET;
 pub use input::{read_flat, read_input, stopped};
 pub use keeping::{KeptCert, keep_cert};
 pub use outcome::{CertOutcome, CertStop};

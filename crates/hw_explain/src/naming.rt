@@ -7,7 +7,7 @@ ghost use Rattle.hw_port_rules.specs.Numbers.{whole, alike as same_direction, se
 ghost use Rattle.hw_explain.specs.Restrictions.{windows, uses, shared_sections, sharing, separation as apart, pair_named, named_with, named_from, berth_named, has_tugs, tugs_named, named_restrictions};
 
 use crate::named::{Named, Places};
-use hw_model::{NoMemory, ShipId};
+use hw_model::{MOST_SHIPS, NoMemory, ShipId};
 use hw_port::{BerthPair, Port, PortParts, Row, Section, Ship, Stretch};
 use std::alloc::{AllocError, Global};
 
@@ -172,7 +172,7 @@ fn push_pairs_with(
     requires kept { PortKept parts.now }
     requires ship { ShipKept parts.now ship.now }
     requires rest { All (ShipKept parts.now) rest.now }
-    requires few { first + length rest.now ≤ 40 }
+    requires few { first + length rest.now ≤ MOST_SHIPS }
     ensures { OnOk result (list.new.items ≡ list.old.items ++ named_with parts.now v ship.now first rest.now) }
 {
     for (i, other) in rest.iter().enumerate() {
@@ -185,7 +185,7 @@ fn push_pairs_with(
 fn push_pairs(list: &mut Vec<Named>, parts: &PortParts, ships: &[Ship]) -> Result<(), AllocError>
     requires kept { PortKept parts.now }
     requires ships { All (ShipKept parts.now) ships.now }
-    requires few { length ships.now ≤ 40 }
+    requires few { length ships.now ≤ MOST_SHIPS }
     ensures { OnOk result (list.new.items ≡ list.old.items ++ named_from parts.now 0 ships.now) }
 {
     for (v, ship) in ships.iter().enumerate() {
@@ -207,7 +207,7 @@ fn push_windows(list: &mut Vec<Named>, ships: u32) -> Result<(), AllocError>
 
 /// What a berth pair asks for.
 fn berth(ships: &[Ship], pair: &BerthPair) -> Named
-    requires few { length ships.now ≤ 40 }
+    requires few { length ships.now ≤ MOST_SHIPS }
     requires pair { BerthKept ships.now pair.now }
     ensures { result ≡ berth_named pair.now }
 {
@@ -224,7 +224,7 @@ fn push_berths(
     ships: &[Ship],
     berths: &[BerthPair],
 ) -> Result<(), AllocError>
-    requires few { length ships.now ≤ 40 }
+    requires few { length ships.now ≤ MOST_SHIPS }
     requires berths { All (BerthKept ships.now) berths.now }
     ensures { OnOk result (list.new.items ≡ list.old.items ++ map berth_named berths.now) }
 {

@@ -12,7 +12,7 @@ use crate::row::{Row, row_y};
 use hw_chart::{put_bar, put_bars_begin};
 use hw_desk::Writer;
 use hw_flat::{Flat, Timetable};
-use hw_model::{Job, Rule, ShipId, Slot};
+use hw_model::{Job, MOST_SHIPS, Rule, ShipId, Slot};
 use hw_svg::put_svg_end;
 
 /// Puts how long a ship must wait for another by a rule.
@@ -79,7 +79,7 @@ fn put_fleet_bars<W: Writer>(out: &mut W, slot: Slot, ship: ShipId, fleets: Flee
 #[tactic(auto, unfolding(crate::specs::Rows::bars))]
 pub(crate) fn put_bars<W: Writer>(out: &mut W, flat: &Flat, table: &Timetable, row: Row, slot: Slot)
     requires listed { IsTimetable flat.now table.now }
-    requires few { row.rank ≤ 40 }
+    requires few { row.rank ≤ MOST_SHIPS }
     ensures { Puts (bars flat.now table.now row slot) (W.state out.old) (W.state out.new) }
 {
     put_bars_begin(out, row_y(row), row.span);

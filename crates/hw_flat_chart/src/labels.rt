@@ -12,7 +12,7 @@ use crate::values::{most, value};
 use hw_chart::Course;
 use hw_desk::Writer;
 use hw_flat::Flat;
-use hw_model::{ShipId, Slot};
+use hw_model::{MOST_SHIPS, ShipId, Slot};
 use hw_svg::{Piece, put_item_begin, put_line, put_pieces, put_title_end};
 
 /// What a ship carries in a slot, 0 where it may not sail.
@@ -64,7 +64,7 @@ pub(crate) fn put_row_title<W: Writer>(out: &mut W, flat: &Flat, row: Row)
 #[tactic(auto, unfolding(crate::specs::Rows::row_label))]
 pub(crate) fn put_row_label<W: Writer>(out: &mut W, flat: &Flat, row: Row)
     requires ship_in { row.ship < flat.now.ships }
-    requires few { row.rank ≤ 40 }
+    requires few { row.rank ≤ MOST_SHIPS }
     ensures { Puts (row_label flat.now row) (W.state out.old) (W.state out.new) }
 {
     let y = u64::from(row_y(row));
@@ -79,7 +79,7 @@ pub(crate) fn put_row_label<W: Writer>(out: &mut W, flat: &Flat, row: Row)
 pub(crate) fn put_figures<W: Writer>(out: &mut W, flat: &Flat, row: Row, slot: Slot)
     requires ship_in { row.ship < flat.now.ships }
     requires slot_in { slot < horizon flat.now }
-    requires few { row.rank ≤ 40 }
+    requires few { row.rank ≤ MOST_SHIPS }
     ensures { Puts (figures flat.now row slot) (W.state out.old) (W.state out.new) }
 {
     let y = u64::from(row_y(row));

@@ -6,7 +6,7 @@ ghost use Rattle.hw_flat_chart.specs.Moves.{IsPlan, flag_place};
 
 use crate::moves::flags;
 use hw_flat::{Flat, Timetable};
-use hw_model::{NoMemory, ShipId, Slot};
+use hw_model::{MOST_SHIPS, MOST_SLOTS, NoMemory, ShipId, Slot};
 use std::alloc::Global;
 use std::marker::Model;
 
@@ -51,8 +51,8 @@ impl Plan {
     /// Whether the ship alone could sail in a slot: its flag.
     pub fn is_move(&self, ship: ShipId, slot: Slot) -> bool
         requires each { length self.now.flags ≡ 20_480 }
-        requires ship { ship < 40 }
-        requires slot { slot < 512 }
+        requires ship { ship < MOST_SHIPS }
+        requires slot { slot < MOST_SLOTS }
         ensures value { result ≡ slice_index_or self.now.flags (flag_place ship slot) false }
     {
         self.flags[(ship * 512 + slot) as usize]

@@ -15,7 +15,7 @@ use hw_chart::{
 };
 use hw_desk::Writer;
 use hw_flat::Flat;
-use hw_model::ShipId;
+use hw_model::{MOST_SHIPS, ShipId};
 use hw_svg::put_svg_end;
 
 /// A row: its ship, its place among the rows, how many slots the picture shows, and what the timetable says of the ship.
@@ -29,7 +29,7 @@ pub struct Row {
 
 /// Where a row stands.
 pub(crate) fn row_y(row: Row) -> u32
-    requires { row.rank ≤ 40 }
+    requires { row.rank ≤ MOST_SHIPS }
     ensures value { result ≡ row_y row }
     ensures small { result ≤ 2_000 }
 {
@@ -39,7 +39,7 @@ pub(crate) fn row_y(row: Row) -> u32
 /// The window of a ship's values.
 fn value_window(flat: &Flat, row: Row) -> Sailings
     requires ship_in { row.ship < flat.now.ships }
-    requires few { row.rank ≤ 40 }
+    requires few { row.rank ≤ MOST_SHIPS }
     ensures { result ≡ value_window flat.now row }
 {
     Sailings {
@@ -54,7 +54,7 @@ fn value_window(flat: &Flat, row: Row) -> Sailings
 /// Puts what the ship may carry in each slot, and where that is the most.
 fn put_value_steps<W: Writer>(out: &mut W, flat: &Flat, row: Row)
     requires ship_in { row.ship < flat.now.ships }
-    requires few { row.rank ≤ 40 }
+    requires few { row.rank ≤ MOST_SHIPS }
     ensures { Puts (value_steps flat.now row) (W.state out.old) (W.state out.new) }
 {
     let window = value_window(flat, row);
@@ -67,7 +67,7 @@ fn put_value_steps<W: Writer>(out: &mut W, flat: &Flat, row: Row)
 /// Puts the mark of the slot in which the ship sails.
 fn put_value_mark<W: Writer>(out: &mut W, flat: &Flat, row: Row)
     requires ship_in { row.ship < flat.now.ships }
-    requires few { row.rank ≤ 40 }
+    requires few { row.rank ≤ MOST_SHIPS }
     requires before { SailsBefore (horizon flat.now) row.course }
     ensures { Puts (value_mark flat.now row row.course) (W.state out.old) (W.state out.new) }
 {
@@ -84,7 +84,7 @@ fn put_value_mark<W: Writer>(out: &mut W, flat: &Flat, row: Row)
 #[tactic(auto, unfolding(crate::specs::Rows::values_text))]
 fn put_values<W: Writer>(out: &mut W, flat: &Flat, row: Row)
     requires ship_in { row.ship < flat.now.ships }
-    requires few { row.rank ≤ 40 }
+    requires few { row.rank ≤ MOST_SHIPS }
     requires before { SailsBefore (horizon flat.now) row.course }
     ensures { Puts (values_text flat.now row) (W.state out.old) (W.state out.new) }
 {
@@ -98,7 +98,7 @@ fn put_values<W: Writer>(out: &mut W, flat: &Flat, row: Row)
 #[tactic(auto, unfolding(crate::specs::Rows::row_begin))]
 pub(crate) fn put_row_begin<W: Writer>(out: &mut W, flat: &Flat, row: Row)
     requires ship_in { row.ship < flat.now.ships }
-    requires few { row.rank ≤ 40 }
+    requires few { row.rank ≤ MOST_SHIPS }
     requires before { SailsBefore (horizon flat.now) row.course }
     ensures { Puts (row_begin flat.now row) (W.state out.old) (W.state out.new) }
 {

@@ -17,7 +17,7 @@ use crate::values::sails_nowhere;
 use hw_chart::{Course, course_at, put_moves_window, put_no_slot, put_pin, put_stays, rank};
 use hw_desk::Writer;
 use hw_flat::{Flat, Timetable};
-use hw_model::ShipId;
+use hw_model::{MOST_SHIPS, ShipId};
 use hw_svg::{Levels, put_group_end};
 
 /// The slots to which a ship alone could move.
@@ -51,7 +51,7 @@ impl Levels for Openings<'_> {
 fn put_course_parts<W: Writer>(out: &mut W, flat: &Flat, table: &Timetable, row: Row)
     requires listed { IsTimetable flat.now table.now }
     requires ship_in { row.ship < flat.now.ships }
-    requires few { row.rank ≤ 40 }
+    requires few { row.rank ≤ MOST_SHIPS }
     requires some { 0 < row.span }
     requires before { SailsBefore (horizon flat.now) row.course }
     ensures { Puts (course_parts flat.now table.now row row.course) (W.state out.old) (W.state out.new) }
@@ -71,7 +71,7 @@ fn put_course_parts<W: Writer>(out: &mut W, flat: &Flat, table: &Timetable, row:
 fn put_moves<W: Writer>(out: &mut W, flat: &Flat, plan: &Plan, row: Row)
     requires planned { IsPlan flat.now plan.now }
     requires ship_in { row.ship < flat.now.ships }
-    requires few { row.rank ≤ 40 }
+    requires few { row.rank ≤ MOST_SHIPS }
     ensures { Puts (moves_window (row_y row) row.span (open_level flat.now plan.now.table row.ship) (horizon flat.now)) (W.state out.old) (W.state out.new) }
 {
     let ship = row.ship;
@@ -84,7 +84,7 @@ fn put_moves<W: Writer>(out: &mut W, flat: &Flat, plan: &Plan, row: Row)
 fn put_planned_row<W: Writer>(out: &mut W, flat: &Flat, plan: &Plan, row: Row)
     requires planned { IsPlan flat.now plan.now }
     requires ship_in { row.ship < flat.now.ships }
-    requires few { row.rank ≤ 40 }
+    requires few { row.rank ≤ MOST_SHIPS }
     requires some { 0 < row.span }
     requires before { SailsBefore (horizon flat.now) row.course }
     ensures { Puts (planned_row_text flat.now plan.now.table row) (W.state out.old) (W.state out.new) }
@@ -101,7 +101,7 @@ fn planned_row(flat: &Flat, table: &Timetable, span: u32, ship: ShipId) -> Row
     requires ship_in { ship < flat.now.ships }
     requires span { span ≡ span_of flat.now (Some table.now) }
     ensures value { result ≡ planned_row flat.now table.now ship }
-    ensures few { result.rank ≤ 40 }
+    ensures few { result.rank ≤ MOST_SHIPS }
     ensures before { SailsBefore (horizon flat.now) result.course }
 {
     let _few = table.len();
@@ -128,7 +128,7 @@ pub(crate) fn put_planned_rows<W: Writer>(out: &mut W, flat: &Flat, plan: &Plan,
 /// Puts that a ship has no slot, where it has no value in any.
 fn put_nowhere<W: Writer>(out: &mut W, flat: &Flat, row: Row)
     requires ship_in { row.ship < flat.now.ships }
-    requires few { row.rank ≤ 40 }
+    requires few { row.rank ≤ MOST_SHIPS }
     ensures { Puts (nowhere_text flat.now row) (W.state out.old) (W.state out.new) }
 {
     if sails_nowhere(flat, row.ship) {
@@ -142,7 +142,7 @@ fn put_nowhere<W: Writer>(out: &mut W, flat: &Flat, row: Row)
 #[tactic(auto, unfolding(crate::specs::Rows::unplanned_row_text))]
 fn put_unplanned_row<W: Writer>(out: &mut W, flat: &Flat, row: Row)
     requires ship_in { row.ship < flat.now.ships }
-    requires few { row.rank ≤ 40 }
+    requires few { row.rank ≤ MOST_SHIPS }
     requires before { SailsBefore (horizon flat.now) row.course }
     ensures { Puts (unplanned_row_text flat.now row) (W.state out.old) (W.state out.new) }
 {
@@ -155,7 +155,7 @@ fn put_unplanned_row<W: Writer>(out: &mut W, flat: &Flat, row: Row)
 fn unplanned_row(flat: &Flat, ship: ShipId) -> Row
     requires { ship < flat.now.ships }
     ensures value { result ≡ unplanned_row flat.now ship }
-    ensures few { result.rank ≤ 40 }
+    ensures few { result.rank ≤ MOST_SHIPS }
     ensures before { SailsBefore (horizon flat.now) result.course }
 {
     Row {

@@ -7,12 +7,12 @@ ghost use Rattle.hw_flat_chart.specs.Fleets.{fleets_end, fleets_in, job_end, job
 
 use crate::fleets::{Fleets, fleets_of, jobs, next};
 use hw_flat::{Flat, Timetable};
-use hw_model::{Job, Slot};
+use hw_model::{Job, MOST_SLOTS, Slot};
 
 /// The end of a job of a ship that sails.
 fn job_end(slots: u32, table: &[Slot], job: &Job) -> u32
     requires fits { JobFits (length table.now) job.now }
-    requires few { slots ≤ 512 }
+    requires few { slots ≤ MOST_SLOTS }
     ensures value { result ≡ job_end slots table.now job.now }
     ensures small { result ≤ 1_535 }
 {
@@ -23,7 +23,7 @@ fn job_end(slots: u32, table: &[Slot], job: &Job) -> u32
 /// The last end of the jobs of ships that sail.
 fn jobs_end(slots: u32, table: &[Slot], jobs: &[Job]) -> u32
     requires fit { All (JobFits (length table.now)) jobs.now }
-    requires few { slots ≤ 512 }
+    requires few { slots ≤ MOST_SLOTS }
     ensures value { result ≡ jobs_end slots table.now jobs.now }
     ensures small { result ≤ 1_535 }
 {
@@ -36,7 +36,7 @@ fn jobs_end(slots: u32, table: &[Slot], jobs: &[Job]) -> u32
 /// The last end of the jobs of some fleets, and at least the number of slots in which ships sail.
 fn fleets_end(slots: u32, table: &Timetable, fleets: Fleets) -> u32
     requires fit { All (RuleFits (length table.now)) fleets.rules.now }
-    requires few { slots ≤ 512 }
+    requires few { slots ≤ MOST_SLOTS }
     ensures value { result ≡ fleets_end slots table.now (fleets_in fleets.entry) }
     ensures least { slots ≤ result }
     ensures small { result ≤ 1_535 }

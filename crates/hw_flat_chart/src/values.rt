@@ -6,7 +6,7 @@ ghost use Rattle.hw_flat_chart.specs.Values.{carried, most, most_level, sails_no
 
 use hw_chart::greatest;
 use hw_flat::Flat;
-use hw_model::{ShipId, Slot};
+use hw_model::{MOST_VALUE, ShipId, Slot};
 use hw_svg::Levels;
 
 /// What a ship carries in each slot.
@@ -33,7 +33,7 @@ pub(crate) fn value(flat: &Flat, ship: ShipId, slot: Slot) -> Option<u64>
     requires ship_in { ship < flat.now.ships }
     requires slot_in { slot < horizon flat.now }
     ensures value { result ≡ value_at flat.now ship slot }
-    ensures small { unwrap_or result 0 ≤ 1_000_000_000_000 }
+    ensures small { unwrap_or result 0 ≤ MOST_VALUE }
 {
     let _horizon = flat.horizon();
     flat.value(ship, slot)

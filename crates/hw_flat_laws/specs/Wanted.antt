@@ -1,5 +1,6 @@
 -- What is wanted at a line of a flat text, by the place of the line. A line that isn't there has no form.
 use Rattle.std.specs.Prelude.{◌≡◌, ◌≢◌, ℕ, ◌+◌, ◌-◌, ◌<◌, ◌≤◌, Bool, List, [], ◌∷◌, drop, Some, None, codes}
+use Rattle.hw_model.specs.declared.limits.TheConstants.{MOST_RULES}
 use Rattle.hw_model.specs.declared.rule.Rule.{Rule}
 use Rattle.hw_flat.specs.declared.fault.FlatWord.{FlatWord}
 use Rattle.hw_flat.specs.declared.fault.FlatWord.TheVariants as words
@@ -38,7 +39,7 @@ pub record WantsRule (parts : List (List ℕ)) (number : ℕ) : Type 0 where
   pub slots : ℕ
   pub said : SaysSize parts stay ships slots
   pub behind_ships : 3 + ships ≤ number
-  pub few_rules : number ≤ 3 + ships + 4_000
+  pub few_rules : number ≤ 3 + ships + MOST_RULES
   pub no_end_before : line_of parts (number - 1) ≢ Some (codes "end")
   pub no_end : line_of parts number ≢ Some (codes "end")
   pub wrong : (line_of parts number >>= rule_form ships) ≡ None
@@ -49,7 +50,7 @@ pub record WantsEnd (parts : List (List ℕ)) (number : ℕ) : Type 0 where
   pub ships : ℕ
   pub slots : ℕ
   pub said : SaysSize parts stay ships slots
-  pub behind_rules : number ≡ 3 + ships + 4_000
+  pub behind_rules : number ≡ 3 + ships + MOST_RULES
   pub no_end_before : line_of parts (number - 1) ≢ Some (codes "end")
   pub rule : Rule
   pub one_more : (line_of parts number >>= rule_form ships) ≡ Some rule
@@ -61,7 +62,7 @@ pub record WantsNoMore (parts : List (List ℕ)) (number : ℕ) : Type 0 where
   pub slots : ℕ
   pub said : SaysSize parts stay ships slots
   pub behind_ships : 3 + ships < number
-  pub few_rules : number ≤ 4 + ships + 4_000
+  pub few_rules : number ≤ 4 + ships + MOST_RULES
   pub end : line_of parts (number - 1) ≡ Some (codes "end")
   pub more : drop (number - 1) parts ≢ [] ∷ []
 

@@ -1,5 +1,6 @@
 -- What is kept of the ships' greatest values.
 use Rattle.std.specs.Prelude.{◌≡◌, ◌⊎◌, ℕ, ◌<◌, ◌≤◌, List, length, sum_by, slice_index_or, unwrap_or}
+use Rattle.hw_model.specs.declared.limits.TheConstants.{MOST_VALUE}
 use Rattle.hw_model.specs.Problem.{Problem, value_at}
 use Rattle.hw_model.specs.Rooms.{RoomModel, low_of, high_of}
 use Rattle.hw_goal.specs.declared.tops.Peak.{Peak}
@@ -27,7 +28,7 @@ pub record IsTop (f : Problem) (ship : ℕ) (top : Top) : Type 0 where
   pub in_slots : top.high < f.slots
   pub peak : IsPeak f ship top.low top.high top.peak
   pub row : (slot : ℕ) → slot < f.slots → worth f ship slot ≤ top.row
-  pub small : top.row ≤ 1_000_000_000_000
+  pub small : top.row ≤ MOST_VALUE
 
 -- what is kept of a ship
 abbrev pub top_at : List Top → ℕ → Top

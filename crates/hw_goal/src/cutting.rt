@@ -9,13 +9,14 @@ ghost use Rattle.hw_goal.specs.Calm.{CalmAt, CutAt};
 
 use crate::tops::{Figures, Top, worth};
 use hw_flat::{Flat, Room, ShipId};
+use hw_model::MOST_CARGO;
 use hw_prop::Reduction;
 
 fn ship_cut(flat: &Flat, ship: ShipId, top: Top, sum: u64, best: u64) -> Option<Reduction>
     requires ship_in { ship < flat.now.ships }
     requires top { IsTop flat.now ship top }
     requires part { top.peak.value ≤ sum }
-    requires small { sum ≤ 40_000_000_000_000 }
+    requires small { sum ≤ MOST_CARGO }
     ensures { MatchOption result (CalmAt flat.now best sum ship top) (CutAt flat.now best sum ship top) }
 {
     let others = sum - top.peak.value;

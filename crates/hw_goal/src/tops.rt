@@ -9,7 +9,7 @@ ghost use Rattle.hw_goal.specs.Kept as kept;
 ghost use Rattle.hw_goal.specs.Kept.{IsPeak, IsHigher, IsTop, top_at, AreKept, SeenAt, SeenIn};
 
 use hw_flat::{Flat, Room, ShipId, Slot};
-use hw_model::{Lit, NoMemory};
+use hw_model::{Lit, MOST_VALUE, NoMemory};
 use std::alloc::Global;
 
 /// A slot and its value, in tenths of a tonne; none counts 0.
@@ -40,7 +40,7 @@ pub(crate) fn worth(flat: &Flat, ship: ShipId, slot: Slot) -> u64
     requires ship_in { ship < flat.now.ships }
     requires slot_in { slot < flat.now.slots }
     ensures value { result ≡ kept.worth flat.now ship slot }
-    ensures small { result ≤ 1_000_000_000_000 }
+    ensures small { result ≤ MOST_VALUE }
 {
     flat.value(ship, slot).unwrap_or(0)
 }
@@ -57,7 +57,7 @@ fn peak_of(flat: &Flat, ship: ShipId, low: Slot, high: Slot) -> Peak
     requires ordered { low ≤ high }
     requires slot_in { high < flat.now.slots }
     ensures peak { IsPeak flat.now ship low high result }
-    ensures small { result.value ≤ 1_000_000_000_000 }
+    ensures small { result.value ≤ MOST_VALUE }
 {
     let mut at = high;
     let mut peak = Peak {

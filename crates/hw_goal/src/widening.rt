@@ -10,6 +10,7 @@ ghost use Rattle.hw_goal.specs.Kept.{IsTop, AreKept};
 
 use crate::tops::{Figures, Top, worth};
 use hw_flat::{Flat, Room, ShipId, Slot};
+use hw_model::{MOST_CARGO, MOST_VALUE};
 use hw_prop::Reduction;
 use hw_rules::greatest_value;
 
@@ -21,7 +22,7 @@ fn current(flat: &Flat, top: Top, room: &Room, ship: ShipId) -> u64
     requires ships { room.now.ships ≡ flat.now.ships }
     requires slots { room.now.slots ≡ flat.now.slots }
     ensures value { result ≡ refuting.greatest_value flat.now ship (low_of room.now ship) (high_of room.now ship) }
-    ensures small { result ≤ 1_000_000_000_000 }
+    ensures small { result ≤ MOST_VALUE }
     ensures row { result ≤ top.row }
 {
     let low = room.low(ship);
@@ -38,7 +39,7 @@ fn sum_in(flat: &Flat, figures: &Figures, room: &Room) -> u64
     requires ships { room.now.ships ≡ flat.now.ships }
     requires slots { room.now.slots ≡ flat.now.slots }
     ensures value { result ≡ refuting.greatest_sum flat.now room.now }
-    ensures small { result ≤ 40_000_000_000_000 }
+    ensures small { result ≤ MOST_CARGO }
 {
     let mut sum: u64 = 0;
     for ship in 0..flat.shape().ships {
@@ -68,7 +69,7 @@ fn open_ship(
     requires top { IsTop flat.now one.ship one.top }
     requires ships { denied.old.ships ≡ flat.now.ships }
     requires slots { denied.old.slots ≡ flat.now.slots }
-    requires small { spare ≤ 40_000_000_000_000 }
+    requires small { spare ≤ MOST_CARGO }
     requires explains { Explains (edge_of c) room.now denied.old }
     ensures ships { denied.new.ships ≡ flat.now.ships }
     ensures slots { denied.new.slots ≡ flat.now.slots }
@@ -138,7 +139,7 @@ fn widen_ship(
     requires top { IsTop flat.now one.ship one.top }
     requires ships { denied.old.ships ≡ flat.now.ships }
     requires slots { denied.old.slots ≡ flat.now.slots }
-    requires small { spare ≤ 40_000_000_000_000 }
+    requires small { spare ≤ MOST_CARGO }
     requires explains { Explains (edge_of c) room.now denied.old }
     ensures ships { denied.new.ships ≡ flat.now.ships }
     ensures slots { denied.new.slots ≡ flat.now.slots }
@@ -176,7 +177,7 @@ fn widen_cut(
     requires room { room.now.ships ≡ flat.now.ships }
     requires ships { denied.old.ships ≡ flat.now.ships }
     requires slots { denied.old.slots ≡ flat.now.slots }
-    requires small { spare ≤ 40_000_000_000_000 }
+    requires small { spare ≤ MOST_CARGO }
     requires explains { Explains (edge_of c) room.now denied.old }
     ensures ships { denied.new.ships ≡ flat.now.ships }
     ensures slots { denied.new.slots ≡ flat.now.slots }
@@ -217,7 +218,7 @@ pub(crate) fn widen(
     ensures explains { Explains (edge_of c) room.now denied.new }
 {
     let ships = flat.shape().ships;
-    let all = (best - sum_in(flat, figures, denied)).min(40_000_000_000_000);
+    let all = (best - sum_in(flat, figures, denied)).min(MOST_CARGO);
     let mut spare = widen_cut(flat, figures, c, room, denied, all);
     for ship in 0..ships {
         let top = figures.tops[ship as usize];

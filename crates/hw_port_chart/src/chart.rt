@@ -14,7 +14,7 @@ use crate::numbers::{natural, product};
 use crate::span::slot_of;
 use hw_chart::{Course, course_at};
 use hw_flat_chart::Plan;
-use hw_model::{ShipId, Slot};
+use hw_model::{MOST_SHIPS, ShipId, Slot};
 use hw_port::{Port, PortParts, Ship, Waypoint};
 use hw_tide::Tide;
 use std::marker::Model;
@@ -64,7 +64,7 @@ impl Chart<'_> {
     /// The ships.
     pub fn ships(&self) -> &[Ship]
         ensures value { result.now ≡ self.now.port.ships }
-        ensures few { length self.now.port.ships ≤ 40 }
+        ensures few { length self.now.port.ships ≤ MOST_SHIPS }
         ensures kept { All (ShipKept self.now.port) result.now }
     {
         &self.parts().ships

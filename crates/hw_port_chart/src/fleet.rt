@@ -14,7 +14,7 @@ use crate::places::places_of;
 use crate::span::hold;
 use hw_chart::{Panel, put_planned_panel, put_unplanned_panel};
 use hw_desk::Writer;
-use hw_model::Slot;
+use hw_model::{MOST_SHIPS, Slot};
 use hw_port::{PortParts, Ship};
 use hw_svg::Levels;
 
@@ -37,7 +37,7 @@ fn tugs_in(parts: &PortParts, ship: &Ship, at: Slot, slot: Slot) -> u64
 fn held_by_all(parts: &PortParts, ships: &[Ship], table: &[Slot], slot: Slot) -> u64
     requires kept { PortKept parts.now }
     requires ships { All (ShipKept parts.now) ships.now }
-    requires few { length ships.now ≤ 40 }
+    requires few { length ships.now ≤ MOST_SHIPS }
     ensures value { result ≡ sum_by (tugs_held parts.now slot) (zip ships.now table.now) }
     ensures few { result ≤ 64 * length ships.now }
 {

@@ -12,7 +12,7 @@ use crate::numbers::natural;
 use crate::places::places_of;
 use hw_chart::{Course, plot};
 use hw_desk::Writer;
-use hw_model::{ShipId, Slot};
+use hw_model::{MOST_SHIPS, MOST_SLOTS, ShipId, Slot};
 use hw_port::{Section, Ship, Stretch};
 use hw_svg::{
     Area, Piece, put_block, put_line, put_name_line, put_svg_end, put_titled, put_window_begin,
@@ -47,7 +47,7 @@ fn place_of(chart: &Chart, stretch: &Stretch) -> u32
 
 /// From when to when a ship that sails in a slot is in the section of a stretch.
 fn stay_of(chart: &Chart, ship: &Ship, slot: Slot, stretch: &Stretch) -> Stay
-    requires slot { slot < 512 }
+    requires slot { slot < MOST_SLOTS }
     requires stretch { StretchKept (pos (length chart.now.port.sections)) stretch.now }
     ensures value { result ≡ stay_of chart.now ship.now slot stretch.now }
     ensures lane { result.lane ≤ 1 }
@@ -111,7 +111,7 @@ fn put_stretch_mark<W: Writer>(
     slot: Slot,
     stretch: &Stretch,
 )
-    requires slot { slot < 512 }
+    requires slot { slot < MOST_SLOTS }
     requires stretch { StretchKept (pos (length chart.now.port.sections)) stretch.now }
     ensures { Puts (stay_mark ship.now lane.entry.name.now (stay_of chart.now ship.now slot stretch.now)) (W.state out.old) (W.state out.new) }
 {
@@ -127,7 +127,7 @@ fn put_stretch<W: Writer>(
     slot: Slot,
     stretch: &Stretch,
 )
-    requires slot { slot < 512 }
+    requires slot { slot < MOST_SLOTS }
     requires stretch { StretchKept (pos (length chart.now.port.sections)) stretch.now }
     ensures { Puts (stretch_mark chart.now lane.entry.place lane.entry.name.now ship.now slot stretch.now) (W.state out.old) (W.state out.new) }
 {
@@ -147,7 +147,7 @@ fn put_stretches<W: Writer>(
     slot: Slot,
     channel: &[Stretch],
 )
-    requires slot { slot < 512 }
+    requires slot { slot < MOST_SLOTS }
     requires channel { All (StretchKept (pos (length chart.now.port.sections))) channel.now }
     ensures { Puts (stretch_marks chart.now lane.entry.place lane.entry.name.now ship.now slot channel.now) (W.state out.old) (W.state out.new) }
 {
@@ -172,7 +172,7 @@ fn put_course<W: Writer>(out: &mut W, chart: &Chart, lane: Lane, ship: &Ship, co
 
 /// Puts when the ships from a number on are in this section.
 fn put_stays_from<W: Writer>(out: &mut W, chart: &Chart, lane: Lane, first: ShipId, ships: &[Ship])
-    requires few { first + length ships.now ≤ 40 }
+    requires few { first + length ships.now ≤ MOST_SHIPS }
     requires ships { All (ShipKept chart.now.port) ships.now }
     ensures { Puts (stays_from chart.now lane.entry.place lane.entry.name.now first ships.now) (W.state out.old) (W.state out.new) }
 {

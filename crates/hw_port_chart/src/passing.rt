@@ -14,7 +14,7 @@ use crate::chart::Chart;
 use crate::numbers::{mark_class, natural, tall_over};
 use hw_chart::Course;
 use hw_desk::Writer;
-use hw_model::{ShipId, Slot};
+use hw_model::{MOST_SHIPS, MOST_SLOTS, ShipId, Slot};
 use hw_port::{Pass, Ship};
 use hw_svg::{Area, Piece, put_titled};
 
@@ -75,7 +75,7 @@ fn water(chart: &Chart, strip: Strip, slot: Slot) -> i64
 
 /// The slot in which a ship that sails in a slot makes a pass.
 pub fn slot_of_pass(waypoints: usize, slot: Slot, pass: &Pass) -> Slot
-    requires slot { slot < 512 }
+    requires slot { slot < MOST_SLOTS }
     requires pass { PassKept (pos waypoints) pass.now }
     ensures { result ≡ passing_slot slot pass.now }
 {
@@ -118,7 +118,7 @@ pub fn place_of(chart: &Chart, pass: &Pass) -> u32
 /// How a ship that is under way makes a pass.
 fn passing_of(chart: &Chart, strip: Strip, ship: Underway, pass: &Pass) -> Passing
     requires place { strip.place < length chart.now.port.waypoints }
-    requires slot { ship.slot < 512 }
+    requires slot { ship.slot < MOST_SLOTS }
     requires pass { PassKept (pos (length chart.now.port.waypoints)) pass.now }
     ensures { result ≡ passing chart.now strip ship pass.now }
 {
@@ -197,7 +197,7 @@ fn put_pass_mark<W: Writer>(
     pass: &Pass,
 )
     requires place { strip.place < length chart.now.port.waypoints }
-    requires slot { underway.slot < 512 }
+    requires slot { underway.slot < MOST_SLOTS }
     requires pass { PassKept (pos (length chart.now.port.waypoints)) pass.now }
     ensures { Puts (mark_here chart.now strip underway ship.now pass.now) (W.state out.old) (W.state out.new) }
 {
@@ -216,7 +216,7 @@ fn put_pass<W: Writer>(
     pass: &Pass,
 )
     requires place { strip.place < length chart.now.port.waypoints }
-    requires slot { underway.slot < 512 }
+    requires slot { underway.slot < MOST_SLOTS }
     requires pass { PassKept (pos (length chart.now.port.waypoints)) pass.now }
     ensures { Puts (pass_mark chart.now strip underway ship.now pass.now) (W.state out.old) (W.state out.new) }
 {
@@ -237,7 +237,7 @@ fn put_passes<W: Writer>(
     route: &[Pass],
 )
     requires place { strip.place < length chart.now.port.waypoints }
-    requires slot { underway.slot < 512 }
+    requires slot { underway.slot < MOST_SLOTS }
     requires route { All (PassKept (pos (length chart.now.port.waypoints))) route.now }
     ensures { Puts (pass_marks chart.now strip underway ship.now route.now) (W.state out.old) (W.state out.new) }
 {
@@ -276,7 +276,7 @@ fn put_course<W: Writer>(
 /// Puts the marks of the passes at this waypoint of the ships from a number on.
 pub fn put_marks<W: Writer>(out: &mut W, chart: &Chart, strip: Strip, first: ShipId, ships: &[Ship])
     requires place { strip.place < length chart.now.port.waypoints }
-    requires few { first + length ships.now ≤ 40 }
+    requires few { first + length ships.now ≤ MOST_SHIPS }
     requires inside { first + length ships.now ≤ length chart.now.port.ships }
     requires ships { All (ShipKept chart.now.port) ships.now }
     ensures { Puts (marks_from chart.now strip first ships.now) (W.state out.old) (W.state out.new) }

@@ -4,6 +4,7 @@ ghost use Rattle.std.specs.Prelude.{◌≡◌, ◌≤◌};
 ghost use Rattle.hw_port.specs.Kept.{PortKept};
 ghost use Rattle.hw_port_chart.specs.Heads.{places as places_of_port, places_of};
 
+use hw_model::MOST_SHIPS;
 use hw_port::PortParts;
 
 /// How far down the rows of ships begin, the lanes of sections and the panel of tugs, and where the panels end.
@@ -18,7 +19,7 @@ pub struct Places {
 /// The places of the parts, by how many waypoints, ships and sections there are.
 fn places_for(waypoints: u32, ships: u32, sections: u32) -> Places
     requires waypoints { waypoints ≤ 16 }
-    requires ships { ships ≤ 40 }
+    requires ships { ships ≤ MOST_SHIPS }
     requires sections { sections ≤ 8 }
     ensures { result ≡ places_of waypoints ships sections }
 {

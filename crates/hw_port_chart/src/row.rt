@@ -25,7 +25,7 @@ use crate::sailing::sailing_of;
 use crate::title::put_row_title;
 use hw_chart::{Course, put_no_slot, put_pin, put_stays, put_stripe, rank};
 use hw_desk::Writer;
-use hw_model::{ShipId, Slot};
+use hw_model::{MOST_SHIPS, ShipId, Slot};
 use hw_port::Ship;
 use hw_svg::{
     Piece, put_group_end, put_item_begin, put_line, put_list_begin, put_name_line, put_pieces,
@@ -51,7 +51,7 @@ fn rank_of(chart: &Chart, number: ShipId) -> u32
 
 /// How far down a row begins.
 fn y_of(chart: &Chart, rank: u32) -> u32
-    requires { rank ≤ 40 }
+    requires { rank ≤ MOST_SHIPS }
     ensures value { result ≡ row_y chart.now rank }
     ensures few { result ≤ 10_000 }
 {
@@ -177,7 +177,7 @@ fn put_title<W: Writer>(out: &mut W, chart: &Chart, number: ShipId, ship: &Ship)
 
 /// Puts the stripe behind a row of even rank.
 fn put_stripe_of<W: Writer>(out: &mut W, chart: &Chart, rank: u32)
-    requires { rank ≤ 40 }
+    requires { rank ≤ MOST_SHIPS }
     ensures { Puts (stripe rank (row_y chart.now rank)) (W.state out.old) (W.state out.new) }
 {
     put_stripe(out, rank, y_of(chart, rank));
@@ -187,7 +187,7 @@ fn put_stripe_of<W: Writer>(out: &mut W, chart: &Chart, rank: u32)
 fn put_begin<W: Writer>(out: &mut W, chart: &Chart, number: ShipId, ship: &Ship, rank: u32)
     requires ship_in { number < length chart.now.port.ships }
     requires ship { ShipKept chart.now.port ship.now }
-    requires rank { rank ≤ 40 }
+    requires rank { rank ≤ MOST_SHIPS }
     ensures { Puts (row_begin chart.now number ship.now rank) (W.state out.old) (W.state out.new) }
 {
     put_item_begin(out);
@@ -337,7 +337,7 @@ fn put_rest<W: Writer>(out: &mut W, chart: &Chart, number: ShipId, ship: &Ship, 
 fn put_rest_of<W: Writer>(out: &mut W, chart: &Chart, number: ShipId, ship: &Ship, rank: u32)
     requires ship_in { number < length chart.now.port.ships }
     requires ship { ShipKept chart.now.port ship.now }
-    requires rank { rank ≤ 40 }
+    requires rank { rank ≤ MOST_SHIPS }
     ensures { Puts (row_rest chart.now number ship.now (row_y chart.now rank)) (W.state out.old) (W.state out.new) }
 {
     put_rest(out, chart, number, ship, y_of(chart, rank));
@@ -347,7 +347,7 @@ fn put_rest_of<W: Writer>(out: &mut W, chart: &Chart, number: ShipId, ship: &Shi
 fn put_row<W: Writer>(out: &mut W, chart: &Chart, number: ShipId, ship: &Ship, rank: u32)
     requires ship_in { number < length chart.now.port.ships }
     requires ship { ShipKept chart.now.port ship.now }
-    requires rank { rank ≤ 40 }
+    requires rank { rank ≤ MOST_SHIPS }
     ensures { Puts (row_at chart.now number ship.now rank) (W.state out.old) (W.state out.new) }
 {
     put_begin(out, chart, number, ship, rank);
@@ -365,7 +365,7 @@ fn put_ranked<W: Writer>(out: &mut W, chart: &Chart, number: ShipId, ship: &Ship
 
 /// Puts the rows of the ships from a number on.
 fn put_rows<W: Writer>(out: &mut W, chart: &Chart, first: ShipId, ships: &[Ship])
-    requires few { first + length ships.now ≤ 40 }
+    requires few { first + length ships.now ≤ MOST_SHIPS }
     requires inside { first + length ships.now ≤ length chart.now.port.ships }
     requires ships { All (ShipKept chart.now.port) ships.now }
     ensures { Puts (rows_from chart.now first ships.now) (W.state out.old) (W.state out.new) }

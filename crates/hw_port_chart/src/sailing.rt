@@ -9,7 +9,7 @@ ghost use Rattle.hw_port_chart.specs.Sailings.{control_among, control_by, decidi
 
 use crate::chart::Chart;
 use crate::passing::{clearance, place_of, slot_of_pass};
-use hw_model::{ShipId, Slot};
+use hw_model::{MOST_SLOTS, ShipId, Slot};
 use hw_port::{Pass, Ship};
 
 /// A sailing: its slot and how many minutes after slot 0 that begins, its draft and the draft that the slot allows, in
@@ -44,7 +44,7 @@ fn left(depth: i64, height: i32, clearance: i64) -> i64
 
 /// The draft that a pass leaves.
 fn draft_at(chart: &Chart, slot: Slot, pass: &Pass) -> i64
-    requires slot { slot < 512 }
+    requires slot { slot < MOST_SLOTS }
     requires pass { PassKept (pos (length chart.now.port.waypoints)) pass.now }
     ensures { result ≡ draft_left chart.now.port.waypoints chart.now.tide slot pass.now }
 {
@@ -56,7 +56,7 @@ fn draft_at(chart: &Chart, slot: Slot, pass: &Pass) -> i64
 
 /// Whether a pass leaves just this draft.
 fn leaves(chart: &Chart, slot: Slot, draft: i64, pass: &Pass) -> bool
-    requires slot { slot < 512 }
+    requires slot { slot < MOST_SLOTS }
     requires pass { PassKept (pos (length chart.now.port.waypoints)) pass.now }
     ensures { result ≡ int_eq (draft_left chart.now.port.waypoints chart.now.tide slot pass.now) draft }
 {
@@ -77,7 +77,7 @@ fn control_of(chart: &Chart, pass: &Pass) -> Control
 
 /// The first pass of a route that leaves just this draft.
 fn control_among(chart: &Chart, slot: Slot, draft: i64, route: &[Pass]) -> Control
-    requires slot { slot < 512 }
+    requires slot { slot < MOST_SLOTS }
     requires route { All (PassKept (pos (length chart.now.port.waypoints))) route.now }
     ensures { result ≡ control_among chart.now slot draft route.now }
 {

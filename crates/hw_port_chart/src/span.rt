@@ -10,7 +10,7 @@ ghost use Rattle.hw_port_chart.specs.Spans.{course_end, ends_from, held_for, las
 use crate::numbers::natural;
 use hw_chart::{Course, course_at};
 use hw_flat_chart::Plan;
-use hw_model::{ShipId, Slot};
+use hw_model::{MOST_SHIPS, MOST_SLOTS, ShipId, Slot};
 use hw_port::{Pass, Port, PortParts, Ship, Stretch};
 
 /// How many slots after sailing a ship makes the last pass of a route.
@@ -88,7 +88,7 @@ fn reach(parts: &PortParts, ship: &Ship) -> u32
 
 /// The slot up to which a course reaches, 0 where the ship doesn't sail.
 fn end(horizon: u32, course: Course, reach: u32) -> u32
-    requires horizon { horizon ≤ 512 }
+    requires horizon { horizon ≤ MOST_SLOTS }
     requires before { SailsBefore horizon course }
     requires few { reach ≤ 1_024 }
     ensures value { result ≡ course_end course reach }
@@ -112,7 +112,7 @@ pub fn slot_of(plan: Option<&Plan>, ship: ShipId) -> Option<Slot>
 fn ends(parts: &PortParts, plan: Option<&Plan>, first: ShipId, ships: &[Ship]) -> u32
     requires kept { PortKept parts.now }
     requires ships { All (ShipKept parts.now) ships.now }
-    requires few { first + length ships.now ≤ 40 }
+    requires few { first + length ships.now ≤ MOST_SHIPS }
     ensures value { result ≡ ends_from parts.now (option_map (λ plan. plan.now.table) plan.entry) first ships.now }
     ensures small { result ≤ 1_535 }
 {

@@ -1,5 +1,6 @@
 -- What the exact tests find of a clause.
 use Rattle.std.specs.Prelude.{ℕ, ◌≤◌, List, Option}
+use Rattle.hw_model.specs.declared.limits.TheConstants.{MOST_CARGO}
 use Rattle.hw_model.specs.declared.lit.Lit.{Lit}
 use Rattle.hw_model.specs.declared.source.Source.TheVariants.{Goal}
 use Rattle.hw_model.specs.Problem.{Problem, shape_of}
@@ -23,4 +24,4 @@ pub record IsTested (f : Problem) (tolls : List Toll) (tariff : Tariff) (best : 
 pub record IsTariffBound (f : Problem) (tolls : List Toll) (tariff : Tariff) (bound : ℕ) : Type 0 where
   pub scaled : 1 ≤ tariff.scale
   pub bounded : PricesBound f tolls tariff bound
-  pub small : bound ≤ 40_000_000_000_000
+  pub small : bound ≤ MOST_CARGO

@@ -10,7 +10,7 @@ use hw_advice::{Advice, Bounding, Scene};
 use hw_flat::Room;
 use hw_model::{Lit, NoMemory};
 use hw_tariff::{InForce, RulesByPair};
-use hw_tolls::{Tariff, Toll};
+use hw_tolls::{MOST_TOLLS, Tariff, Toll};
 use std::alloc::Global;
 
 /// A tariff, and the tolls that must be declared for it.
@@ -54,7 +54,7 @@ pub(crate) fn advice_anew(
 ) -> Result<Option<Advice>, NoMemory>
     requires room { RoomFits scene.now.flat.now scene.now.room.now }
     requires tolls { All (IsToll scene.now.flat.now) scene.now.tolls.now }
-    requires few { length scene.now.tolls.now ≤ 10_000 }
+    requires few { length scene.now.tolls.now ≤ MOST_TOLLS }
     ensures advice { IfOk result (λ answer. IfSome answer (IsAdviceIn scene.now)) }
 {
     let Offer { tolls, tariff } = offer;
@@ -81,7 +81,7 @@ pub(crate) fn bounding(
     offer: Offer,
 ) -> Result<Option<Bounding>, NoMemory>
     requires tolls { All (IsToll scene.now.flat.now) scene.now.tolls.now }
-    requires few { length scene.now.tolls.now ≤ 10_000 }
+    requires few { length scene.now.tolls.now ≤ MOST_TOLLS }
     ensures bound { IfOk result (λ answer. IfSome answer (IsBoundIn scene.now)) }
 {
     let Offer { tolls, tariff } = offer;

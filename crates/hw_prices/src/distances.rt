@@ -1,12 +1,12 @@
 //! How far apart rules keep two ships.
 
 use hw_flat::{Flat, ShipId};
-use hw_model::{Hole, NoMemory, Rule};
+use hw_model::{Hole, MOST_DIFFERENCE, NoMemory, Rule};
 use hw_tolls::Block;
 use std::alloc::Global;
 
 /// The greatest difference of two slots that a hole can name.
-const FARTHEST: i32 = 1_023;
+const FARTHEST: i32 = MOST_DIFFERENCE as i32;
 
 /// For each two ships the differences of their slots that one rule alone rules out.
 #[derive(Drop)]

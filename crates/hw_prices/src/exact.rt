@@ -18,18 +18,12 @@ use crate::rows::copy;
 use hw_advice::Scene;
 use hw_flat::{Flat, Room};
 use hw_lits::{Clause, deny, narrowing};
-use hw_model::{Lit, Narrowed, NoMemory};
+use hw_model::{Lit, MOST_CARGO, MOST_HELD, Narrowed, NoMemory};
 use hw_tariff::{
     InForce, RulesByPair, allowance_of, charged_balances, charged_refute, is_toll_by, tariff_fits,
 };
-use hw_tolls::{Balance, Due, Dues, Tariff, Toll};
+use hw_tolls::{Balance, Due, Dues, MOST_TOLLS, Tariff, Toll};
 use std::alloc::Global;
-
-/// The most tolls that a search declares.
-const MOST_TOLLS: usize = 10_000;
-
-/// No bound is greater: 40 ships with the greatest value.
-const GREATEST_BOUND: u64 = 40_000_000_000_000;
 
 /// The declared tolls and those that come after them.
 pub(crate) fn joined(alloc: Global, declared: &[Toll], more: &[Toll]) -> Result<Vec<Toll>, NoMemory>
@@ -60,7 +54,7 @@ pub(crate) fn are_priced(
     more: &[Toll],
     tariff: &Tariff,
 ) -> Result<bool, NoMemory>
-    requires few { length scene.now.tolls.now ≤ 10_000 }
+    requires few { length scene.now.tolls.now ≤ MOST_TOLLS }
     ensures value { IfOk result (λ yes. IsTrue yes → AreFurtherPrices scene.now.flat.now scene.now.tolls.now more.now (Some tariff.now)) }
 {
     let declared = scene.tolls.len();
@@ -199,7 +193,7 @@ pub(crate) fn bound_of(
         Some(balance) => least_bound(tolls, tariff, balance),
     };
     if 0 < tariff.scale
-        && bound <= GREATEST_BOUND
+        && bound <= MOST_CARGO
         && charged_refute(flat, tolls, tariff, Some(bound), &whole, &mut costs)
     {
         Ok(Some(bound))
@@ -210,7 +204,7 @@ pub(crate) fn bound_of(
 
 /// What a balance earns with what the prices give back, in whole tenths of a tonne.
 fn least_bound(tolls: &[Toll], tariff: &Tariff, balance: Balance) -> u64
-    requires small { All (λ toll. capacity toll ≤ 2_560) tolls.now }
+    requires small { All (λ toll. capacity toll ≤ MOST_HELD) tolls.now }
     requires fits { TariffFits (length tolls.now) tariff.now }
 {
     let allowed = allowance_of(tolls, &tariff.dues.items);

@@ -19,6 +19,7 @@ use hw_advice::{Advice, Bounding, Scene, Standing};
 use hw_flat::Room;
 use hw_model::{Lit, NoMemory};
 use hw_tariff::RulesByPair;
+use hw_tolls::MOST_TOLLS;
 use std::alloc::Global;
 
 /// Steps in a room, from the last prices.
@@ -250,7 +251,7 @@ impl Mind {
     ) -> Result<Option<Advice>, NoMemory>
         requires room { RoomFits scene.now.flat.now scene.now.room.now }
         requires tolls { All (IsToll scene.now.flat.now) scene.now.tolls.now }
-        requires few { length scene.now.tolls.now ≤ 10_000 }
+        requires few { length scene.now.tolls.now ≤ MOST_TOLLS }
         ensures advice { IfOk result (λ answer. IfSome answer (IsAdviceIn scene.now)) }
     {
         let Plan { table, lits, more } = plan;
@@ -281,7 +282,7 @@ impl Mind {
         last: bool,
     ) -> Result<Option<Bounding>, NoMemory>
         requires tolls { All (IsToll scene.now.flat.now) scene.now.tolls.now }
-        requires few { length scene.now.tolls.now ≤ 10_000 }
+        requires few { length scene.now.tolls.now ≤ MOST_TOLLS }
         ensures bound { IfOk result (λ answer. IfSome answer (IsBoundIn scene.now)) }
     {
         if last && self.sought != scene.best {

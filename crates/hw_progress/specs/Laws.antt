@@ -1,6 +1,7 @@
 -- The laws of a search: what it keeps, and that the lines it writes are valid, lean and new and fit it.
 use Rattle.std.specs.Prelude.{◌≡◌, ◌⊎◌, ℕ, ◌+◌, ◌-◌, ◌^◌, ◌<◌, ◌≤◌, true, false, List, [], ◌∷◌, ◌++◌, Option, Some, None, All, Contains, IfSome, IsSome, IsSomeAnd, IsTrue, length, map, take}
 use Rattle.std.specs.List.{range_with_len}
+use Rattle.hw_model.specs.declared.limits.TheConstants.{MOST_CARGO}
 use Rattle.hw_model.specs.declared.lit.Lit.{Lit}
 use Rattle.hw_model.specs.declared.lit.LitTruth.TheVariants.{Free}
 use Rattle.hw_model.specs.declared.narrowing.Narrowed.TheVariants.{Cut}
@@ -23,6 +24,7 @@ use Rattle.hw_story.specs.declared.event.Why.{Why}
 use Rattle.hw_story.specs.declared.event.Why.TheVariants as whys
 use Rattle.hw_story.specs.Trails.{trail_shape, clause_of, decided, most_events}
 use Rattle.hw_story.specs.Learning.{Learns, chain_of}
+use Rattle.hw_progress.specs.declared.limits.TheConstants.{MOST_BUDGET, MOST_PRICED}
 use Rattle.hw_progress.specs.declared.outcome.Branching.{Branching}
 use Rattle.hw_progress.specs.Luby.{luby}
 use Rattle.hw_progress.specs.Branches.{branch_literal}
@@ -35,6 +37,7 @@ use Rattle.hw_progress.specs.declared.outcome.Solved.{Solved}
 use Rattle.hw_progress.specs.declared.outcome.Solved.TheVariants as answers
 use Rattle.hw_progress.specs.declared.outcome.Turn.{Turn}
 use Rattle.hw_progress.specs.declared.outcome.Turn.TheVariants as turns
+use Rattle.hw_tolls.specs.declared.limits.TheConstants.{MOST_TOLLS}
 use Rattle.hw_tolls.specs.declared.tariff.Tariff.{Tariff}
 use Rattle.hw_tolls.specs.declared.toll.Toll.{Toll}
 use Rattle.hw_tolls.specs.Tolls.{IsToll}
@@ -102,7 +105,7 @@ pub record PriceTaken (s : SearchModel) (line : Line) (after : SearchModel) : Ty
 
 -- a toll of the problem is declared
 abbrev pub TollLine : Type 0
-TollLine = (s : SearchModel) (toll : Toll) → IsSearch s → IsToll s.problem toll → length s.prices.tolls < 10_000
+TollLine = (s : SearchModel) (toll : Toll) → IsSearch s → IsToll s.problem toll → length s.prices.tolls < MOST_TOLLS
     → PriceTaken s (toll_line s.problem toll) (record s { prices = with_toll s.prices toll })
 
 -- a tariff on the declared tolls comes into force
@@ -112,12 +115,12 @@ TariffLine = (s : SearchModel) (tariff : Tariff) → IsSearch s → TariffFits (
 
 -- a bound of the whole problem below the last one, by the tariff in force
 abbrev pub BoundLine : Type 0
-BoundLine = (s : SearchModel) (bound : ℕ) → IsSearch s → bound ≤ 40_000_000_000_000 → IfSome s.prices.bound (λ last. bound < last) → IsSomeAnd s.prices.tariff (λ tariff. (1 ≤ tariff.scale) × PricesBound s.problem s.prices.tolls tariff bound)
+BoundLine = (s : SearchModel) (bound : ℕ) → IsSearch s → bound ≤ MOST_CARGO → IfSome s.prices.bound (λ last. bound < last) → IsSomeAnd s.prices.tariff (λ tariff. (1 ≤ tariff.scale) × PricesBound s.problem s.prices.tolls tariff bound)
     → PriceTaken s (lines.Bound bound) (record s { prices = with_bound s.prices bound })
 
 -- a literal is implied by a clause that the prices in force show, and the clause is written
 abbrev pub PricedLine : Type 0
-PricedLine = (s : SearchModel) (clause : List Lit) (lit : Lit) → IsSearch s → IsClause (shape_of s.problem) clause → PricesShow s clause → lit_fits (trail_shape s.trail) lit ≡ true → truth (room_in s) lit ≡ Free → narrowing clause (room_in s) ≡ Cut lit → s.clause_lines + 1 < 2 ^ 32 → s.priced < 1_000_000_000
+PricedLine = (s : SearchModel) (clause : List Lit) (lit : Lit) → IsSearch s → IsClause (shape_of s.problem) clause → PricesShow s clause → lit_fits (trail_shape s.trail) lit ≡ true → truth (room_in s) lit ≡ Free → narrowing clause (room_in s) ≡ Cut lit → s.clause_lines + 1 < 2 ^ 32 → s.priced < MOST_PRICED
     → PriceTaken s (lines.Priced clause) (with_priced s lit clause)
 
 -- what the prices in force show is true of each permitted timetable that beats the best
@@ -214,7 +217,7 @@ pub record LemmaMeets (s : SearchModel) (before : List Line) (why : Why) (lemma 
   pub search : IsSearch after
 
 abbrev pub LemmaTurn : Type 0
-LemmaTurn = (s : SearchModel) (before : List Line) (why : Why) (lemma : List Lit) (back : ℕ) (places : List ℕ) → IsSearch s → s.over ≡ false → s.lemmas < 100000 → FitsOpen before s → LiveKept before s → IsConflict s why → 1 ≤ length (clause_of why) → Learns s.trail (clause_of why) lemma back places → 1 ≤ length lemma
+LemmaTurn = (s : SearchModel) (before : List Line) (why : Why) (lemma : List Lit) (back : ℕ) (places : List ℕ) → IsSearch s → s.over ≡ false → s.lemmas < MOST_BUDGET → FitsOpen before s → LiveKept before s → IsConflict s why → 1 ≤ length (clause_of why) → Learns s.trail (clause_of why) lemma back places → 1 ≤ length lemma
     → LemmaMeets s before why lemma back places (cite_conflict (cited s places) why) (gone_back (with_lemma (cite_conflict (cited s places) why).search lemma) back)
 
 -- a lemma without literals ends the certificate, and has such hints
@@ -226,7 +229,7 @@ pub record EndMeets (s : SearchModel) (before : List Line) (why : Why) (places :
 
 -- a lemma without literals ends the certificate, and its lines are written well
 abbrev pub LastTurn : Type 0
-LastTurn = (s : SearchModel) (before : List Line) (why : Why) (back : ℕ) (places : List ℕ) → IsSearch s → s.over ≡ false → s.lemmas < 100000 → FitsOpen before s → LiveKept before s → IsConflict s why → 1 ≤ length (clause_of why) → Learns s.trail (clause_of why) [] back places
+LastTurn = (s : SearchModel) (before : List Line) (why : Why) (back : ℕ) (places : List ℕ) → IsSearch s → s.over ≡ false → s.lemmas < MOST_BUDGET → FitsOpen before s → LiveKept before s → IsConflict s why → 1 ≤ length (clause_of why) → Learns s.trail (clause_of why) [] back places
     → EndMeets s before why places (cite_conflict (cited s places) why)
 
 -- ---- a turn that ended
@@ -285,7 +288,7 @@ pub record LiveTurn (s : SearchModel) (before : List Line) : Type 0 where
   pub table : (table : List ℕ) → FitsOpen (before ++ lines.Table table ∷ []) (record s { best = Some table }) → FewLiveFrom s.problem before (lines.Table table ∷ [])
 
 abbrev pub TurnLive : Type 0
-TurnLive = (s : SearchModel) (before : List Line) → IsSearch s → s.over ≡ false → s.lemmas < 100000 → FitsOpen before s → LiveKept before s → LiveTurn s before
+TurnLive = (s : SearchModel) (before : List Line) → IsSearch s → s.over ≡ false → s.lemmas < MOST_BUDGET → FitsOpen before s → LiveKept before s → LiveTurn s before
 
 -- few are live throughout: of no lines, and of lines followed by those of a turn
 abbrev pub LiveThroughout : Type 0
@@ -315,11 +318,11 @@ FewStored = (s : SearchModel) → IsSearch s → length s.stored ≤ room_count 
 
 -- a search with fewer than 100,000 lemmas has numbers left for a turn's lines
 abbrev pub FewNumbers : Type 0
-FewNumbers = (s : SearchModel) → IsSearch s → s.over ≡ false → s.lemmas < 100000 → s.clause_lines + most_events s.problem.ships s.problem.slots + 2 < 2 ^ 32
+FewNumbers = (s : SearchModel) → IsSearch s → s.over ≡ false → s.lemmas < MOST_BUDGET → s.clause_lines + most_events s.problem.ships s.problem.slots + 2 < 2 ^ 32
 
 -- and its restarts have numbers
 abbrev pub FewRestarts : Type 0
-FewRestarts = (s : SearchModel) → IsSearch s → s.over ≡ false → s.lemmas < 100000 → s.restarts + 1 ≤ 100000
+FewRestarts = (s : SearchModel) → IsSearch s → s.over ≡ false → s.lemmas < MOST_BUDGET → s.restarts + 1 ≤ MOST_BUDGET
 
 -- ---- branching and restarts
 

@@ -3,6 +3,7 @@ use Rattle.std.specs.Prelude.{◌≡◌, ℕ, ◌+◌, ◌≤◌, List, [], ◌�
 use Rattle.std.specs.List.Sorted.{IsStrictlyIncreasing}
 use Rattle.hw_model.specs.Problem.{Problem}
 use Rattle.hw_model.specs.Timetables.{Permits, cargo}
+use Rattle.hw_tolls.specs.declared.limits.TheConstants.{MOST_TOLLS}
 use Rattle.hw_tolls.specs.declared.tariff.Due.{Due}
 use Rattle.hw_tolls.specs.declared.tariff.Tariff.{Tariff}
 use Rattle.hw_tolls.specs.declared.toll.Toll.{Toll}
@@ -30,7 +31,7 @@ NoneAbove f bound = (table : List ℕ) (c : ℕ) → Permits f table → cargo f
 
 -- at most 10,000 tolls of the problem, a tariff that fits them, and a bound that no permitted timetable passes
 pub record ArePrices (f : Problem) (p : PriceModel) : Type 0 where
-  pub few : length p.tolls ≤ 10_000
+  pub few : length p.tolls ≤ MOST_TOLLS
   pub tolls : All (IsToll f) p.tolls
   pub tariff : IfSome p.tariff (TariffFits (length p.tolls))
   pub bound : IfSome p.bound (NoneAbove f)

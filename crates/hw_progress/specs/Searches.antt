@@ -20,6 +20,7 @@ use Rattle.hw_story.specs.declared.event.Why.{Why}
 use Rattle.hw_story.specs.declared.event.Why.TheVariants as whys
 use Rattle.hw_story.specs.Trails.{TrailModel, room_of, IsTrail, no_events, most_events}
 use Rattle.hw_story.specs.Learning.{reason_at, QuietBelow}
+use Rattle.hw_progress.specs.declared.limits.TheConstants.{MOST_PRICED}
 use Rattle.hw_progress.specs.declared.outcome.Branching.{Branching}
 use Rattle.hw_store.specs.declared.store.Stored.{Stored}
 use Rattle.hw_tolls.specs.Prices.{PricesRefute}
@@ -115,7 +116,7 @@ pub record IsSearch (s : SearchModel) : Type 0 where
   pub prices : ArePrices s.problem s.prices
   pub counted : s.over ≡ false → s.lemmas ≡ length s.stored
   pub few_lines : s.over ≡ false → s.clause_lines ≤ (most_events s.problem.ships s.problem.slots + 2) * s.lemmas + s.priced
-  pub few_priced : s.priced ≤ 1_000_000_000
+  pub few_priced : s.priced ≤ MOST_PRICED
   pub restarts_due : s.since < 32 * luby (s.restarts + 1)
   pub few_restarts : s.over ≡ false → s.restarts + s.since ≤ s.lemmas
   pub sound : OfBetter s (λ table. All (λ clause. IsTrue (clause_holds table clause)) (lemmas_in s))

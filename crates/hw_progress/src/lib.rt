@@ -6,6 +6,7 @@
 #![tactic(auto)]
 
 mod laws;
+mod limits;
 mod outcome;
 
 pub use laws::{
@@ -15,4 +16,5 @@ pub use laws::{
     point_table, priced_line, prices_true, proving_meets, reason_line, reason_rises, search_kept,
     solved_sound, sources_once, stop_kept, table_line, tariff_line, toll_line, turn_live,
 };
+pub use limits::{MOST_BUDGET, MOST_PRICED};
 pub use outcome::{Bounded, Branching, Proved, Settled, Solved, Turn};

@@ -16,7 +16,7 @@ use crate::refuter::{BySource, Refuter, Spoken};
 use crate::shaving::shave;
 use hw_flat::{Flat, Room, ShipId, Source};
 use hw_lits::{Clause, Found};
-use hw_model::NoMemory;
+use hw_model::{MOST_SHIPS, NoMemory};
 use std::alloc::Global;
 
 /// The clause of a refuted reduction of a room, loosened. `trial` is a copy of the room, and is
@@ -29,7 +29,7 @@ pub fn clause_of<R: Refuter>(
     trial: &mut Room,
     c: Reduction,
 ) -> Result<Clause, NoMemory>
-    requires few_ships { spoken.now.shape.ships ≤ 40 }
+    requires few_ships { spoken.now.shape.ships ≤ MOST_SHIPS }
     requires same { trial.old ≡ room.now }
     requires same_ships { room.now.ships ≡ spoken.now.shape.ships }
     requires same_slots { room.now.slots ≡ spoken.now.shape.slots }
@@ -61,7 +61,7 @@ pub fn find<R: Refuter>(
     room: &Room,
     trial: &mut Room,
 ) -> Result<Found, NoMemory>
-    requires few_ships { spoken.now.shape.ships ≤ 40 }
+    requires few_ships { spoken.now.shape.ships ≤ MOST_SHIPS }
     requires same_ships { room.now.ships ≡ spoken.now.shape.ships }
     requires same_slots { room.now.slots ≡ spoken.now.shape.slots }
     requires trial_ships { trial.old.ships ≡ spoken.now.shape.ships }

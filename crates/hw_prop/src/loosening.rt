@@ -13,7 +13,7 @@ use crate::refuter::{Refuter, Spoken};
 use crate::writing::plain;
 use hw_flat::{Order, Room, ShipId, Slot};
 use hw_lits::Clause;
-use hw_model::NoMemory;
+use hw_model::{MOST_SHIPS, NoMemory};
 use std::alloc::Global;
 
 /// The farthest that one test moves a bound, in slots: the greatest power of two that is at most 512,
@@ -195,7 +195,7 @@ pub fn explain<R: Refuter>(
     room: &Room,
     denied: &mut Room,
 ) -> Result<Clause, NoMemory>
-    requires few_ships { spoken.now.shape.ships ≤ 40 }
+    requires few_ships { spoken.now.shape.ships ≤ MOST_SHIPS }
     requires same_ships { denied.old.ships ≡ spoken.now.shape.ships }
     requires same_slots { denied.old.slots ≡ spoken.now.shape.slots }
     requires all_ships { All (λ v. v < denied.old.ships) spoken.now.ships.now }

@@ -1,6 +1,7 @@
 -- The text of a plan, over the list of its lines.
 use Rattle.std.specs.Prelude.{ℕ, zero, suc, ◌+◌, ◌*◌, Bool, List, [], ◌∷◌, Option, Some, None, Result, Ok, codes, bytes_eq, nat_lt, unwrap_or, if◌then◌else◌}
 use Rattle.std.specs.List.{list_any, range_with_len}
+use Rattle.hw_model.specs.declared.limits.TheConstants.{MOST_VALUE}
 use Rattle.hw_model.specs.Problem.{Problem, value_at}
 use Rattle.hw_derived.specs.Reading.{Fault, ◌>>=◌, fault, formed, line_at, only_at, ended_at}
 use Rattle.hw_derived.specs.Slots.{slot_form}
@@ -42,7 +43,7 @@ wish_form slots line = wish_words slots (words_of line)
 
 -- some value of the ship is too large to be repaired
 abbrev pub is_large : Problem → ℕ → Bool
-is_large f ship = list_any (λ slot. nat_lt 1_000_000_000_000 (unwrap_or (value_at f ship slot) 0 * (f.ships + 1) + 1)) (range_with_len 0 f.slots)
+is_large f ship = list_any (λ slot. nat_lt MOST_VALUE (unwrap_or (value_at f ship slot) 0 * (f.ships + 1) + 1)) (range_with_len 0 f.slots)
 
 -- ---- the lines of the text
 

@@ -1,5 +1,6 @@
 -- Plans: what each wish says, which timetables meet a plan, and how many ships they move.
 use Rattle.std.specs.Prelude.{◌≡◌, ◌==◌, ℕ, ◌+◌, ◌*◌, ◌<◌, ◌≤◌, Bool, not, nat_le, List, length, All, count_by, zip, unwrap_or, slice_get, slice_index, IfSome}
+use Rattle.hw_model.specs.declared.limits.TheConstants.{MOST_VALUE}
 use Rattle.hw_model.specs.Problem.{Problem}
 use Rattle.hw_model.specs.Timetables.{Permits}
 use Rattle.hw_repair.specs.declared.plan.Wish.{Wish}
@@ -27,7 +28,7 @@ WishFits slots (Planned planned from) = (planned < slots) × (from < slots)
 
 -- the value can be repaired: the most that it can become is within the limit of a value
 abbrev pub IsRepairable : ℕ → ℕ → Type 0
-IsRepairable ships value = value * (ships + 1) + 1 ≤ 1_000_000_000_000
+IsRepairable ships value = value * (ships + 1) + 1 ≤ MOST_VALUE
 
 -- a wish for each ship, with slots of the problem, and all values can be repaired
 pub record PlanFits (f : Problem) (plan : List Wish) : Type 0 where

@@ -6,7 +6,7 @@ ghost use Rattle.hw_repair.specs.Text.{kept_words, planned_words, wish_form, is_
 use crate::plan::Wish;
 use hw_derived::slot_of;
 use hw_flat::Flat;
-use hw_model::ShipId;
+use hw_model::{MOST_VALUE, ShipId};
 use hw_text::{Words, is_text};
 
 /// `SLOT`, of a ship that has sailed.
@@ -53,5 +53,5 @@ pub fn is_large(flat: &Flat, ship: ShipId) -> bool
 {
     let shape = flat.shape();
     let times = u64::from(shape.ships) + 1;
-    (0..shape.slots).any(|slot| flat.value(ship, slot).unwrap_or(0) * times + 1 > 1_000_000_000_000)
+    (0..shape.slots).any(|slot| flat.value(ship, slot).unwrap_or(0) * times + 1 > MOST_VALUE)
 }

@@ -9,7 +9,7 @@ ghost use Rattle.hw_repair.specs.Repaired.{repaired_value, value_by, repaired};
 use crate::plan::{Plan, Wish};
 use hw_derived::copy_rules;
 use hw_flat::Flat;
-use hw_model::{NoMemory, Rule, ShipId, Slot};
+use hw_model::{MOST_SHIPS, NoMemory, Rule, ShipId, Slot};
 use std::alloc::{AllocError, Global};
 
 /// Whether the wish grants a slot.
@@ -34,7 +34,7 @@ fn is_wished(wish: Wish, slot: Slot) -> bool
 
 /// The value of a ship in a slot, by the ship's wish and the problem's value there.
 fn repaired_value(ships: u32, wish: Wish, slot: Slot, value: Option<u64>) -> Option<u64>
-    requires few { ships ≤ 40 }
+    requires few { ships ≤ MOST_SHIPS }
     requires repairable { IsRepairable ships (unwrap_or value 0) }
     ensures { result ≡ repaired_value ships wish slot value }
 {

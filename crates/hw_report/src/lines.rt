@@ -17,6 +17,7 @@ use hw_cert::Verdict;
 use hw_desk::Writer;
 use hw_draft::{sailing, value};
 use hw_flat::{Flat, ShipId, Slot, Timetable};
+use hw_model::MOST_SLOTS;
 use hw_port::{Port, Ship};
 use hw_tide::Tide;
 
@@ -196,7 +197,7 @@ fn name<'s>(ships: &'s [Ship], ship: ShipId) -> &'s [u8]
 
 /// The minute in which a slot begins.
 fn minute(slot: Slot, slot_minutes: i64) -> u64
-    requires slot { slot ≤ 512 }
+    requires slot { slot ≤ MOST_SLOTS }
     requires minutes { Within (pos 1) (pos 1_440) slot_minutes }
     ensures { result ≡ slot * whole slot_minutes }
 {

@@ -1,6 +1,7 @@
 -- Which sources speak of a literal, by lists that are made once.
 use Rattle.std.specs.Prelude.{◌≡◌, ℕ, ◌+◌, ◌*◌, ◌<◌, ◌≤◌, Bool, true, false, List, [], ◌∷◌, ◌++◌, Option, Some, None, Contains, cond, filter, length, slice_get, slice_index_or}
 use Rattle.std.specs.List.{range_with_len}
+use Rattle.hw_model.specs.declared.limits.TheConstants.{MOST_SHIPS}
 use Rattle.hw_model.specs.declared.lit.Lit.{Lit}
 use Rattle.hw_model.specs.declared.lit.Lit.TheVariants as lits
 use Rattle.hw_model.specs.declared.source.Source.{Source}
@@ -39,7 +40,7 @@ speaking f sources lit = filter (λ place. names_at f lit (slice_get sources pla
 
 -- a list for each ship and for each two
 pub record KeepsLists (s : SpeakersModel) : Type 0 where
-  pub few : s.ships ≤ 40
+  pub few : s.ships ≤ MOST_SHIPS
   pub each_ship : length s.by_ship ≡ s.ships
   pub each_pair : length s.by_pair ≡ s.ships * s.ships
 

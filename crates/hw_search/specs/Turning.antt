@@ -7,6 +7,7 @@ use Rattle.hw_story.specs.Trails.{clause_of, decided}
 use Rattle.hw_cert.specs.declared.log.LogStop.{LogStop}
 use Rattle.hw_cert.specs.declared.log.LogStop.TheVariants.{Failed, NoMemory}
 use Rattle.hw_cert.specs.Logs.{LogModel, WhereTold}
+use Rattle.hw_progress.specs.declared.limits.TheConstants.{MOST_BUDGET}
 use Rattle.hw_progress.specs.declared.outcome.Turn.{Turn}
 use Rattle.hw_progress.specs.declared.outcome.Turn.TheVariants as turns
 use Rattle.hw_progress.specs.Searches.{SearchModel, IsSearch, LogFits}
@@ -19,7 +20,7 @@ use Rattle.hw_progress.specs.Turns.{TurnMeets}
 pub record Begins (s : SearchModel) (old : LogModel) : Type 0 where
   pub kept : IsSearch s
   pub going : s.over ≡ false
-  pub few : s.lemmas < 100000
+  pub few : s.lemmas < MOST_BUDGET
   pub fits : WhereTold old (λ told. LogFits told s)
 
 -- a turn that has settled at this answer, whatever search it began with

@@ -16,7 +16,7 @@ use hw_advice::Adviser;
 use hw_cert::Log;
 use hw_flat::{Flat, Room, Timetable};
 use hw_model::NoMemory;
-use hw_progress::{Bounded, Branching, Turn};
+use hw_progress::{Bounded, Branching, MOST_BUDGET, Turn};
 use hw_prop::Propagator;
 use hw_store::Store;
 use std::alloc::Global;
@@ -64,7 +64,7 @@ impl<'f, S: Store + Drop, P: Propagator + Drop, A: Adviser + Drop> Advised<'f, S
     /// `Ended`, `NoMemory` and `LogFailed` the search is over; what was written stays, and so does the
     /// best timetable.
     pub fn turn<L: Log>(&mut self, log: &mut L) -> Turn
-        requires few { self.old.lemmas < 100000 }
+        requires few { self.old.lemmas < MOST_BUDGET }
         requires going { self.old.over ≡ false }
         requires fits { WhereTold (L.state log.old) (λ told. LogFits told self.old) }
         ensures turns { AdvisedMeets self.old (L.state log.old) result self.new (L.state log.new) }

@@ -13,12 +13,9 @@ use crate::settling::Asked;
 use hw_advice::{Adviser, Scene, Standing};
 use hw_cert::{Log, LogStop};
 use hw_model::Lit;
-use hw_progress::{Settled, Turn};
+use hw_progress::{MOST_BUDGET, MOST_PRICED, Settled, Turn};
 use hw_prop::Propagator;
 use hw_store::Store;
-
-/// After this many clauses of prices the adviser is no longer asked, so line numbers stay below 2^32.
-const MOST_PRICED: u32 = 1_000_000_000;
 
 impl<'f, S: Store + Drop, P: Propagator + Drop> Engine<'f, S, P> {
     /// What an adviser looks at.
@@ -52,7 +49,7 @@ impl<'f, S: Store + Drop, P: Propagator + Drop> Engine<'f, S, P> {
         log: &mut L,
     ) -> Result<Asked, LogStop>
         requires going { self.old.search.over ≡ false }
-        requires few { self.old.search.lemmas < 100000 }
+        requires few { self.old.search.lemmas < MOST_BUDGET }
         requires fits { WhereTold (L.state log.old) (λ told. LogFits told self.old.search) }
         ensures meets { ConsultHeeds self.old.search self.new.search (L.state log.old) (L.state log.new) result }
         ensures same_reference { L.anchor log.new ≡ L.anchor log.old }
@@ -78,7 +75,7 @@ impl<'f, S: Store + Drop, P: Propagator + Drop> Engine<'f, S, P> {
     fn go_on<A: Adviser, L: Log>(&mut self, adviser: &mut A, log: &mut L) -> Turn
         requires quiet { AllQuiet self.old.search }
         requires going { self.old.search.over ≡ false }
-        requires few { self.old.search.lemmas < 100000 }
+        requires few { self.old.search.lemmas < MOST_BUDGET }
         requires fits { WhereTold (L.state log.old) (λ told. LogFits told self.old.search) }
         ensures turns { AdvisedTurn self.old.search (L.state log.old) result self.new.search (L.state log.new) }
         ensures same_reference { L.anchor log.new ≡ L.anchor log.old }
@@ -102,7 +99,7 @@ impl<'f, S: Store + Drop, P: Propagator + Drop> Engine<'f, S, P> {
     fn advise<A: Adviser, L: Log>(&mut self, adviser: &mut A, log: &mut L) -> Option<Turn>
         requires quiet { AllQuiet self.old.search }
         requires going { self.old.search.over ≡ false }
-        requires few { self.old.search.lemmas < 100000 }
+        requires few { self.old.search.lemmas < MOST_BUDGET }
         requires fits { WhereTold (L.state log.old) (λ told. LogFits told self.old.search) }
         ensures round { RoundMeets self.old.search self.new.search (L.state log.old) (L.state log.new) result }
         ensures same_reference { L.anchor log.new ≡ L.anchor log.old }
@@ -118,7 +115,7 @@ impl<'f, S: Store + Drop, P: Propagator + Drop> Engine<'f, S, P> {
     // Settles, and then asks an adviser or learns from a conflict. None where a literal was implied.
     fn round<A: Adviser, L: Log>(&mut self, adviser: &mut A, log: &mut L) -> Option<Turn>
         requires going { self.old.search.over ≡ false }
-        requires few { self.old.search.lemmas < 100000 }
+        requires few { self.old.search.lemmas < MOST_BUDGET }
         requires fits { WhereTold (L.state log.old) (λ told. LogFits told self.old.search) }
         ensures round { RoundMeets self.old.search self.new.search (L.state log.old) (L.state log.new) result }
         ensures same_reference { L.anchor log.new ≡ L.anchor log.old }
@@ -137,7 +134,7 @@ impl<'f, S: Store + Drop, P: Propagator + Drop> Engine<'f, S, P> {
     /// Rounds, until one is the last of the turn.
     pub fn advised_turn<A: Adviser, L: Log>(&mut self, adviser: &mut A, log: &mut L) -> Turn
         requires going { self.old.search.over ≡ false }
-        requires few { self.old.search.lemmas < 100000 }
+        requires few { self.old.search.lemmas < MOST_BUDGET }
         requires fits { WhereTold (L.state log.old) (λ told. LogFits told self.old.search) }
         ensures turns { AdvisedTurn self.old.search (L.state log.old) result self.new.search (L.state log.new) }
         ensures same_reference { L.anchor log.new ≡ L.anchor log.old }

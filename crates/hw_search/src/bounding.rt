@@ -10,6 +10,7 @@ use crate::engine::Engine;
 use crate::telling::hand_bound;
 use hw_advice::{Adviser, Bounding};
 use hw_cert::{Log, LogStop};
+use hw_model::MOST_CARGO;
 use hw_progress::Bounded;
 use hw_prop::Propagator;
 use hw_store::Store;
@@ -37,7 +38,7 @@ impl<'f, S: Store + Drop, P: Propagator + Drop> Engine<'f, S, P> {
 
     // Writes a bound that the prices in force show.
     fn tell_bound<L: Log>(&mut self, bound: u64, log: &mut L) -> Result<(), LogStop>
-        requires small { bound ≤ 40_000_000_000_000 }
+        requires small { bound ≤ MOST_CARGO }
         requires below { IsBelow self.old.search bound }
         requires shows { ShowsBound self.old.search bound }
         requires fits { WhereTold (L.state log.old) (λ told. LogFits told self.old.search) }

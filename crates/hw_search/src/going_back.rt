@@ -12,12 +12,13 @@ use crate::ledger::Ledger;
 use crate::restarts::luby;
 use crate::writing::{WrittenLemma, hand_deletion};
 use hw_cert::{Log, LogStop};
+use hw_progress::MOST_BUDGET;
 use hw_store::Store;
 use hw_trail::Trail;
 
 // Whether a restart comes after one more lemma.
 fn is_due(restarts: u32, since: u32) -> bool
-    requires few { restarts + since < 100000 }
+    requires few { restarts + since < MOST_BUDGET }
     ensures value { result ≡ due restarts since }
 {
     let next = since + 1;
@@ -30,7 +31,7 @@ fn is_due(restarts: u32, since: u32) -> bool
 /// The level to go back to: 0 where a restart is due, and the restart is then counted; else the one
 /// that was learnt.
 pub fn next_level(restarts: &mut u32, since: &mut u32, back: u32) -> u32
-    requires few { restarts.old + since.old < 100000 }
+    requires few { restarts.old + since.old < MOST_BUDGET }
     ensures next { NextLevel restarts.old since.old back restarts.new since.new result }
 {
     if is_due(*restarts, *since) {

@@ -26,16 +26,17 @@ use hw_advice::Advice;
 use hw_cert::{Log, LogStop};
 use hw_lits::{Clause, narrowing};
 use hw_model::{Lit, Narrowed};
+use hw_progress::{MOST_BUDGET, MOST_PRICED};
 use hw_prop::Propagator;
 use hw_store::Store;
 use hw_story::Why;
-use hw_tolls::{Tariff, Toll};
+use hw_tolls::{MOST_TOLLS, Tariff, Toll};
 
 impl<'f, S: Store + Drop, P: Propagator + Drop> Engine<'f, S, P> {
     // Declares a toll. Its memory is taken before its line is written.
     fn declare<L: Log>(&mut self, toll: Toll, log: &mut L) -> Result<(), LogStop>
         requires toll { IsToll self.old.search.problem toll }
-        requires few { length self.old.search.prices.tolls < 10_000 }
+        requires few { length self.old.search.prices.tolls < MOST_TOLLS }
         requires fits { WhereTold (L.state log.old) (λ told. LogFits told self.old.search) }
         ensures search { OnOk result (self.new.search ≡ priced_by self.old.search (with_toll self.old.search.prices toll)) }
         ensures heeds { HeedMeets self.old.search self.new.search (L.state log.old) (L.state log.new) result }
@@ -52,7 +53,7 @@ impl<'f, S: Store + Drop, P: Propagator + Drop> Engine<'f, S, P> {
     /// Declares tolls in order.
     pub fn declare_all<L: Log>(&mut self, tolls: Vec<Toll>, log: &mut L) -> Result<(), LogStop>
         requires tolls { All (IsToll self.old.search.problem) tolls.items }
-        requires few { length (self.old.search.prices.tolls ++ tolls.items) ≤ 10_000 }
+        requires few { length (self.old.search.prices.tolls ++ tolls.items) ≤ MOST_TOLLS }
         requires fits { WhereTold (L.state log.old) (λ told. LogFits told self.old.search) }
         ensures search { OnOk result (self.new.search ≡ priced_by self.old.search (with_tolls self.old.search.prices tolls.items)) }
         ensures heeds { HeedMeets self.old.search self.new.search (L.state log.old) (L.state log.new) result }
@@ -107,8 +108,8 @@ impl<'f, S: Store + Drop, P: Propagator + Drop> Engine<'f, S, P> {
         requires free { truth (room_in self.old.search) lit ≡ Free }
         requires only { narrowing clause (room_in self.old.search) ≡ CutBy lit }
         requires going { self.old.search.over ≡ false }
-        requires few { self.old.search.lemmas < 100000 }
-        requires few_priced { self.old.search.priced < 1_000_000_000 }
+        requires few { self.old.search.lemmas < MOST_BUDGET }
+        requires few_priced { self.old.search.priced < MOST_PRICED }
         requires fits { WhereTold (L.state log.old) (λ told. LogFits told self.old.search) }
         ensures search { OnOk result (self.new.search ≡ with_priced self.old.search lit clause) }
         ensures heeds { HeedMeets self.old.search self.new.search (L.state log.old) (L.state log.new) result }
@@ -129,8 +130,8 @@ impl<'f, S: Store + Drop, P: Propagator + Drop> Engine<'f, S, P> {
         requires active { IsActive clause (room_in self.old.search) }
         requires shows { PricesShow self.old.search clause }
         requires going { self.old.search.over ≡ false }
-        requires few { self.old.search.lemmas < 100000 }
-        requires few_priced { self.old.search.priced < 1_000_000_000 }
+        requires few { self.old.search.lemmas < MOST_BUDGET }
+        requires few_priced { self.old.search.priced < MOST_PRICED }
         requires fits { WhereTold (L.state log.old) (λ told. LogFits told self.old.search) }
         ensures meets { ConsultMeets ⊥ self.old.search self.new.search (L.state log.old) (L.state log.new) result }
         ensures same_reference { L.anchor log.new ≡ L.anchor log.old }
@@ -150,8 +151,8 @@ impl<'f, S: Store + Drop, P: Propagator + Drop> Engine<'f, S, P> {
     pub fn heed<L: Log>(&mut self, advice: Advice, log: &mut L) -> Result<Asked, LogStop>
         requires advice { IsAdviceFor self.old.search advice }
         requires going { self.old.search.over ≡ false }
-        requires few { self.old.search.lemmas < 100000 }
-        requires few_priced { self.old.search.priced < 1_000_000_000 }
+        requires few { self.old.search.lemmas < MOST_BUDGET }
+        requires few_priced { self.old.search.priced < MOST_PRICED }
         requires fits { WhereTold (L.state log.old) (λ told. LogFits told self.old.search) }
         ensures meets { ConsultMeets ⊥ self.old.search self.new.search (L.state log.old) (L.state log.new) result }
         ensures same_reference { L.anchor log.new ≡ L.anchor log.old }

@@ -14,7 +14,7 @@ use hw_advice::Adviser;
 use hw_cert::Log;
 use hw_flat::Flat;
 use hw_model::NoMemory;
-use hw_progress::{Bounded, Branching, Proved, Solved, Turn};
+use hw_progress::{Bounded, Branching, MOST_BUDGET, Proved, Solved, Turn};
 use hw_store::WatchStore;
 use std::alloc::Global;
 
@@ -88,7 +88,7 @@ fn run<'f, A: Adviser + Drop, L: Log>(
     log: &mut L,
 ) -> Proved
     requires new { search ≡ new_search flat.now Branching.Greatest }
-    requires most { budget ≤ 100_000 }
+    requires most { budget ≤ MOST_BUDGET }
     requires empty { IsEmpty (L.state log.old) }
     ensures proves { ProveMeets flat.now budget (L.state log.old) result.solved result.bound (L.state log.new) }
     ensures kept { SolvedKeepsFaults result.solved (L.state log.old) (L.state log.new) }
@@ -129,7 +129,7 @@ pub fn prove<A: Adviser + Drop, L: Log>(
     log: &mut L,
 ) -> Proved
     requires least { 1 ≤ budget }
-    requires most { budget ≤ 100_000 }
+    requires most { budget ≤ MOST_BUDGET }
     requires empty { IsEmpty (L.state log.old) }
     ensures proves { ProveMeets flat.now budget (L.state log.old) result.solved result.bound (L.state log.new) }
     ensures kept { SolvedKeepsFaults result.solved (L.state log.old) (L.state log.new) }

@@ -4,9 +4,11 @@ ghost use Rattle.std.specs.Prelude.{◌≡◌, ◌≤◌, ◌<◌};
 ghost use Rattle.hw_progress.specs.Luby.{luby};
 ghost use Rattle.hw_search.specs.Powers.{IsPowerAbove};
 
+use hw_progress::MOST_BUDGET;
+
 fn power_above(i: u64) -> u64
     requires some { 1 ≤ i }
-    requires few { i ≤ 100000 }
+    requires few { i ≤ MOST_BUDGET }
     ensures power { IsPowerAbove i result }
 {
     let mut power = 2;
@@ -21,7 +23,7 @@ fn power_above(i: u64) -> u64
 /// times 17 steps. It takes no memory.
 pub fn luby(i: u64) -> u64
     requires some { 1 ≤ i }
-    requires few { i ≤ 100000 }
+    requires few { i ≤ MOST_BUDGET }
     ensures value { result ≡ luby i }
 {
     let mut rest = i;

@@ -17,7 +17,7 @@ use crate::engine::Engine;
 use hw_cert::Log;
 use hw_flat::{Flat, Room, Timetable};
 use hw_model::{Lit, NoMemory};
-use hw_progress::{Branching, Settled, Turn};
+use hw_progress::{Branching, MOST_BUDGET, Settled, Turn};
 use hw_prop::Propagator;
 use hw_store::Store;
 use std::alloc::Global;
@@ -64,7 +64,7 @@ impl<'f, S: Store + Drop, P: Propagator + Drop> Search<'f, S, P> {
     /// the level are as before.
     pub fn settle(&mut self) -> Result<Settled, NoMemory>
         requires going { self.old.over ≡ false }
-        requires few { self.old.lemmas < 100000 }
+        requires few { self.old.lemmas < MOST_BUDGET }
         ensures meets { SettleMeets self.old self.new result }
     {
         self.engine.settle()
@@ -83,7 +83,7 @@ impl<'f, S: Store + Drop, P: Propagator + Drop> Search<'f, S, P> {
     /// this takes are handed to the log. After `Ended`, `NoMemory` and `LogFailed` the search is
     /// over; what was written stays, and so does the best timetable.
     pub fn turn<L: Log>(&mut self, log: &mut L) -> Turn
-        requires few { self.old.lemmas < 100000 }
+        requires few { self.old.lemmas < MOST_BUDGET }
         requires going { self.old.over ≡ false }
         requires fits { WhereTold (L.state log.old) (λ told. LogFits told self.old) }
         ensures turns { TurnMeets self.old (L.state log.old) result self.new (L.state log.new) }

@@ -17,7 +17,7 @@ use crate::search::Search;
 use hw_cert::Log;
 use hw_flat::{Flat, Timetable};
 use hw_model::NoMemory;
-use hw_progress::{Branching, Solved, Turn};
+use hw_progress::{Branching, MOST_BUDGET, Solved, Turn};
 use hw_prop::Propagator;
 use hw_rules::{cargo, sources};
 use hw_store::WatchStore;
@@ -73,7 +73,7 @@ fn run<'f, L: Log>(
     log: &mut L,
 ) -> Solved
     requires new { search ≡ new_search flat.now Branching.Greatest }
-    requires most { budget ≤ 100_000 }
+    requires most { budget ≤ MOST_BUDGET }
     requires empty { IsEmpty (L.state log.old) }
     ensures solves { SolveMeets flat.now budget (L.state log.old) result (L.state log.new) }
     ensures kept { SolvedKeepsFaults result (L.state log.old) (L.state log.new) }
@@ -104,7 +104,7 @@ fn run<'f, L: Log>(
 /// so far; then the lines that were written stay.
 pub fn solve<L: Log>(alloc: Global, flat: &Flat, budget: u32, log: &mut L) -> Solved
     requires least { 1 ≤ budget }
-    requires most { budget ≤ 100_000 }
+    requires most { budget ≤ MOST_BUDGET }
     requires empty { IsEmpty (L.state log.old) }
     ensures solves { SolveMeets flat.now budget (L.state log.old) result (L.state log.new) }
     ensures kept { SolvedKeepsFaults result (L.state log.old) (L.state log.new) }

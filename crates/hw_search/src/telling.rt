@@ -11,7 +11,7 @@ ghost use Rattle.hw_search.specs.Handing.{StopsWithin, TakesAll};
 use hw_cert::{Line, Log, LogStop, Price, Prices};
 use hw_flat::Flat;
 use hw_model::NoMemory;
-use hw_tolls::{Blocks, Due, Tariff, Toll, Weights};
+use hw_tolls::{Blocks, Due, MOST_TOLLS, Tariff, Toll, Weights};
 use std::alloc::Global;
 
 /// The line that declares a toll. It copies the toll's list.
@@ -63,7 +63,7 @@ pub fn hand_toll<L: Log>(
 
 // The prices by the numbers of tolls, which count from 1.
 fn prices_of(alloc: Global, dues: &[Due]) -> Result<Vec<Price>, NoMemory>
-    requires fit { All (DueFits 10_000) dues.now }
+    requires fit { All (DueFits MOST_TOLLS) dues.now }
     ensures value { IfOk result (λ prices. prices.items ≡ map price_of dues.now) }
 {
     let mut prices = Vec::new(alloc);
@@ -78,7 +78,7 @@ fn prices_of(alloc: Global, dues: &[Due]) -> Result<Vec<Price>, NoMemory>
 
 /// Hands the log the line that puts a tariff on declared tolls in force.
 pub fn hand_tariff<L: Log>(alloc: Global, tariff: &Tariff, log: &mut L) -> Result<(), LogStop>
-    requires fits { TariffFits 10_000 tariff.now }
+    requires fits { TariffFits MOST_TOLLS tariff.now }
     requires whole { IsWhole (L.state log.old) }
     ensures takes { OnOk result (TakesAll (tariff_line tariff.now ∷ []) (L.state log.old) (L.state log.new)) }
     ensures stops { IfErr result (λ stop. StopsWithin stop (tariff_line tariff.now ∷ []) 0 (L.state log.old) (L.state log.new)) }

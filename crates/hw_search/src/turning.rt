@@ -25,7 +25,7 @@ use hw_cert::{Log, LogStop};
 use hw_flat::Timetable;
 use hw_learn::{Learnt, learn};
 use hw_model::Lit;
-use hw_progress::{Settled, Turn};
+use hw_progress::{MOST_BUDGET, Settled, Turn};
 use hw_prop::Propagator;
 use hw_rules::cargo;
 use hw_store::Store;
@@ -163,7 +163,7 @@ impl<'f, S: Store + Drop, P: Propagator + Drop> Engine<'f, S, P> {
     // Writes the lemma that a conflict taught, and goes back. One without literals is the last line.
     fn write_learnt<L: Log>(&mut self, why: &Why, learnt: Learnt, log: &mut L) -> Turn
         requires teaches { Teaches self.old.search why.now learnt.lemma learnt.back learnt.places.items }
-        requires few { self.old.search.lemmas < 100000 }
+        requires few { self.old.search.lemmas < MOST_BUDGET }
         requires whole { IsWhole (L.state log.old) }
         ensures turns { TurnsFrom (Conflict why.now) self.old.search (L.state log.old) result self.new.search (L.state log.new) }
         ensures kept { TurnKeepsFaults result (L.state log.old) (L.state log.new) }
@@ -205,7 +205,7 @@ impl<'f, S: Store + Drop, P: Propagator + Drop> Engine<'f, S, P> {
         requires conflict { IsConflict self.old.search why.now }
         requires some { 1 ≤ length (clause_of why.now) }
         requires going { self.old.search.over ≡ false }
-        requires few { self.old.search.lemmas < 100000 }
+        requires few { self.old.search.lemmas < MOST_BUDGET }
         requires whole { IsWhole (L.state log.old) }
         ensures turns { TurnsFrom (Conflict why.now) self.old.search (L.state log.old) result self.new.search (L.state log.new) }
         ensures kept { TurnKeepsFaults result (L.state log.old) (L.state log.new) }
@@ -221,7 +221,7 @@ impl<'f, S: Store + Drop, P: Propagator + Drop> Engine<'f, S, P> {
     pub fn meet_conflict<L: Log>(&mut self, why: &Why, log: &mut L) -> Turn
         requires conflict { IsConflict self.old.search why.now }
         requires going { self.old.search.over ≡ false }
-        requires few { self.old.search.lemmas < 100000 }
+        requires few { self.old.search.lemmas < MOST_BUDGET }
         requires whole { IsWhole (L.state log.old) }
         ensures turns { TurnsFrom (Conflict why.now) self.old.search (L.state log.old) result self.new.search (L.state log.new) }
         ensures kept { TurnKeepsFaults result (L.state log.old) (L.state log.new) }
@@ -237,7 +237,7 @@ impl<'f, S: Store + Drop, P: Propagator + Drop> Engine<'f, S, P> {
     /// Settles, and then decides, writes a better table, or learns from a conflict. After `Ended`,
     /// `NoMemory` and `LogFailed` the search is over; what was written stays, and so does the best.
     pub fn turn<L: Log>(&mut self, log: &mut L) -> Turn
-        requires few { self.old.search.lemmas < 100000 }
+        requires few { self.old.search.lemmas < MOST_BUDGET }
         requires going { self.old.search.over ≡ false }
         requires fits { WhereTold (L.state log.old) (λ told. LogFits told self.old.search) }
         ensures turns { TurnMeets self.old.search (L.state log.old) result self.new.search (L.state log.new) }

@@ -1,6 +1,7 @@
 //! The numbers of the buckets: one for each slot of either bound of a ship and for each two ships.
 
 ghost use Rattle.std.specs.Prelude.{◌≡◌, ◌+◌, ◌*◌, ◌<◌, ◌≤◌};
+ghost use Rattle.hw_model.specs.declared.limits.TheConstants.{MOST_SHIPS, MOST_SLOTS};
 ghost use Rattle.hw_model.specs.Lits.{IsLitOf};
 ghost use Rattle.hw_model.specs.Rooms.{IsRoom};
 ghost use Rattle.hw_store.specs.Numbering.{in_row, pair_bucket, bucket, bucket_count, HitsWithin};
@@ -11,13 +12,13 @@ use hw_model::{Lit, ShipId, Slot};
 /// How many ships and slots there are, by which the buckets are numbered.
 #[derive(Clone, Copy)]
 pub struct BucketMap {
-    /// At most 40.
+    /// At most `MOST_SHIPS`.
     pub ships: u32,
-    /// 1 to 513.
+    /// 1 to `MOST_SLOTS`, and one more.
     pub slots: u32,
-    ghost few_ships: { ships ≤ 40 },
+    ghost few_ships: { ships ≤ MOST_SHIPS },
     ghost some_slots: { 1 ≤ slots },
-    ghost few_slots: { slots ≤ 513 },
+    ghost few_slots: { slots ≤ MOST_SLOTS + 1 },
 }
 
 impl BucketMap {

@@ -1,5 +1,6 @@
 -- What charging adds to costs.
 use Rattle.std.specs.Prelude.{◌≡◌, ℕ, ◌+◌, ◌*◌, ◌<◌, ◌≤◌, List, [], length, sum_by, slice_index, slice_index_or, if◌then◌else◌}
+use Rattle.hw_tolls.specs.declared.limits.TheConstants.{MOST_COST}
 use Rattle.hw_tolls.specs.declared.toll.Block.{Block}
 use Rattle.hw_tolls.specs.declared.toll.Charge.{Charge}
 use Rattle.hw_tolls.specs.Tolls.{lies_in}
@@ -7,7 +8,7 @@ use Rattle.hw_tolls.specs.Computed.{takes}
 
 -- the most that a ship pays in a slot, in parts
 abbrev pub most_paid : ℕ
-most_paid = 256_000_000_000_000_000_000_000_000
+most_paid = MOST_COST
 
 -- what a ship pays in a slot for charges at this price
 abbrev pub pays_for : ℕ → List Charge → ℕ → ℕ → ℕ

@@ -1,6 +1,7 @@
 -- A tariff in force: its allowance, what each ship pays in each slot, and its best balance, charged once.
 use Rattle.std.specs.Prelude.{◌≡◌, ℕ, ◌-◌, ◌<◌, ◌≤◌, List, [], ◌++◌, Option, None, length, slice_index, slice_index_or, All, IfSome}
 use Rattle.hw_model.specs.Problem.{Problem}
+use Rattle.hw_tolls.specs.declared.limits.TheConstants.{MOST_COST}
 use Rattle.hw_tolls.specs.declared.tariff.Balance.{Balance}
 use Rattle.hw_tolls.specs.declared.tariff.Due.{Due}
 use Rattle.hw_tolls.specs.declared.tariff.Tariff.{Tariff}
@@ -32,7 +33,7 @@ pub record AreTops (f : Problem) (tolls : List Toll) (tariff : Tariff) (tops : L
 
 -- the limits of an allowance and of the best balances
 pub record AreSmall (allowed : ℕ) (tops : List (Option Balance)) : Type 0 where
-  pub small_allowed : allowed ≤ 256_000_000_000_000_000_000_000_000
+  pub small_allowed : allowed ≤ MOST_COST
   pub small_tops : All (λ top. IfSome top (BalanceFits 1)) tops
 
 -- the tariff fits the tolls, the allowance is its own, the costs are what it makes ships pay, and the balances are the best ones

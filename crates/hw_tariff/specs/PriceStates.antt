@@ -1,6 +1,7 @@
 -- What is kept of tolls, tariffs and bounds that come one after another.
 use Rattle.std.specs.Prelude.{ℕ, ◌≤◌, List, [], Option, None, length, option_map, All, IfSome}
 use Rattle.hw_model.specs.Problem.{Problem}
+use Rattle.hw_tolls.specs.declared.limits.TheConstants.{MOST_TOLLS}
 use Rattle.hw_tolls.specs.declared.tariff.Tariff.{Tariff}
 use Rattle.hw_tolls.specs.declared.toll.Toll.{Toll}
 use Rattle.hw_tolls.specs.Tolls.{IsToll}
@@ -22,6 +23,6 @@ no_prices = record { tolls = []; charged = None; bound = None }
 
 -- at most 10,000 tolls, each one of the problem, and what is in force is charged for them
 pub record AreGood (f : Problem) (state : PriceState) : Type 0 where
-  pub few : length state.tolls ≤ 10_000
+  pub few : length state.tolls ≤ MOST_TOLLS
   pub tolls : All (IsToll f) state.tolls
   pub charged : IfSome state.charged (IsCharged f state.tolls)

@@ -9,14 +9,15 @@ ghost use Rattle.hw_tolls.specs.Computed.{BalanceFits};
 
 use crate::charging::charge;
 use hw_flat::{Flat, Room, Slot};
-use hw_tolls::{Balance, Block, Tariff, Toll};
+use hw_model::{MOST_SHIPS, MOST_VALUE};
+use hw_tolls::{Balance, Block, MOST_COST, MOST_GAIN, MOST_SCALE, Tariff, Toll};
 
 /// A value, in tenths of a tonne, as parts.
 fn scaled(scale: u32, value: u64) -> u128
-    requires small_scale { scale ≤ 1_000_000 }
-    requires small_value { value ≤ 1_000_000_000_000 }
+    requires small_scale { scale ≤ MOST_SCALE }
+    requires small_value { value ≤ MOST_VALUE }
     ensures value { result ≡ scale * value }
-    ensures small { result ≤ 1_000_000_000_000_000_000 }
+    ensures small { result ≤ MOST_GAIN }
 {
     u128::from(scale) * u128::from(value)
 }
@@ -78,7 +79,7 @@ pub(crate) fn best_by_costs(
     requires slot_in { range.high < flat.now.slots }
     requires each_slot { length costs.now ≡ flat.now.slots }
     requires told { (k : ℕ) → range.low ≤ k → k ≤ range.high → slice_index costs.now k ≡ computed.pays flat.now tolls.now tariff.now.dues range.ship k }
-    requires small { All (λ c. c ≤ 256_000_000_000_000_000_000_000_000) costs.now }
+    requires small { All (λ c. c ≤ MOST_COST) costs.now }
     ensures value { result ≡ computed.best_balance flat.now tolls.now tariff.now range.ship range.low range.high }
     ensures small { IfSome result (BalanceFits 1) }
 {
@@ -97,9 +98,9 @@ pub(crate) fn best_by_costs(
 
 /// The balance of a value and what is paid, or none without a value.
 fn costed(scale: u32, value: Option<u64>, cost: u128) -> Option<Balance>
-    requires small_scale { scale ≤ 1_000_000 }
-    requires small_value { unwrap_or value 0 ≤ 1_000_000_000_000 }
-    requires small_cost { cost ≤ 256_000_000_000_000_000_000_000_000 }
+    requires small_scale { scale ≤ MOST_SCALE }
+    requires small_value { unwrap_or value 0 ≤ MOST_VALUE }
+    requires small_cost { cost ≤ MOST_COST }
     ensures value { result ≡ option_map (λ v. record { gain = scale * v; cost = cost }) value }
     ensures small { IfSome result (BalanceFits 1) }
 {
@@ -155,7 +156,7 @@ pub fn charged_balances(
     requires room { RoomFits flat.now room.now }
     requires each_slot { length costs.old ≡ flat.now.slots }
     ensures value { result ≡ computed.best_balances flat.now tolls.now tariff.now room.now }
-    ensures small { IfSome result (BalanceFits 40) }
+    ensures small { IfSome result (BalanceFits MOST_SHIPS) }
     ensures limits { IsFlat flat.now }
 {
     let mut sum: Option<Balance> = Some(Balance { gain: 0, cost: 0 });

@@ -7,8 +7,8 @@ ghost use Rattle.hw_tolls.specs.Computed as computed;
 ghost use Rattle.hw_tariff.specs.Charging.{PaysMore, pays_for};
 
 use hw_flat::{Flat, Slot};
-use hw_model::{Job, Rule};
-use hw_tolls::{Block, Charge, Due, Toll};
+use hw_model::{Job, MOST_HELD, MOST_SHIPS, MOST_SLOTS, MOST_TUGS, Rule};
+use hw_tolls::{Block, Charge, Due, MOST_COST, MOST_DUES, MOST_PRICE, Toll};
 
 /// A ship's slots that are charged, and the price of a unit.
 #[derive(Clone, Copy)]
@@ -21,7 +21,7 @@ struct Span {
 pub(crate) fn add(costs: &mut [u128], from: usize, to: usize, amount: u128)
     requires inside { to ≤ length costs.old }
     requires small { All (λ c. c ≤ 1_000_000_000_000_000_000_000_000_000) costs.old }
-    requires small_amount { amount ≤ 64_000_000_000_000_000_000 }
+    requires small_amount { amount ≤ MOST_TUGS * MOST_PRICE }
     ensures value { (k : ℕ) → slice_index costs.new k ≡ slice_index costs.old k + (if nat_le from k && nat_lt k to then amount else 0) }
 {
     for k in from..to {
@@ -33,8 +33,8 @@ pub(crate) fn add(costs: &mut [u128], from: usize, to: usize, amount: u128)
 fn charge_one(costs: &mut [u128], span: Span, charge: Charge)
     requires inside { span.range.high < length costs.old }
     requires small { All (λ c. c ≤ 1_000_000_000_000_000_000_000_000_000) costs.old }
-    requires small_price { span.price ≤ 1_000_000_000_000_000_000 }
-    requires small_amount { charge.amount ≤ 64 }
+    requires small_price { span.price ≤ MOST_PRICE }
+    requires small_amount { charge.amount ≤ MOST_TUGS }
     ensures value { PaysMore span.range (λ k. span.price * computed.takes span.range.ship k charge) costs.old costs.new }
 {
     if charge.ship == span.range.ship {
@@ -48,9 +48,9 @@ fn charge_one(costs: &mut [u128], span: Span, charge: Charge)
 /// Adds what the ship pays in its slots for blocks.
 fn charge_blocks(costs: &mut [u128], span: Span, blocks: &[Block])
     requires inside { span.range.high < length costs.old }
-    requires small { All (λ c. c ≤ 256_000_000_000_000_000_000_000_000) costs.old }
-    requires small_price { span.price ≤ 1_000_000_000_000_000_000 }
-    requires few { length blocks.now ≤ 40 }
+    requires small { All (λ c. c ≤ MOST_COST) costs.old }
+    requires small_price { span.price ≤ MOST_PRICE }
+    requires few { length blocks.now ≤ MOST_SHIPS }
     ensures value { PaysMore span.range (pays_for span.price (map block_charge blocks.now) span.range.ship) costs.old costs.new }
 {
     for block in blocks {
@@ -73,13 +73,13 @@ pub(crate) fn charge_of(block: Block) -> Charge
 /// Adds what the ship pays in its slots for jobs with their weights.
 fn charge_jobs(costs: &mut [u128], span: Span, jobs: &[Job], weights: &[u32], busy: Slot)
     requires inside { span.range.high < length costs.old }
-    requires small { All (λ c. c ≤ 256_000_000_000_000_000_000_000_000) costs.old }
-    requires small_price { span.price ≤ 1_000_000_000_000_000_000 }
-    requires few { length jobs.now ≤ 40 }
+    requires small { All (λ c. c ≤ MOST_COST) costs.old }
+    requires small_price { span.price ≤ MOST_PRICE }
+    requires few { length jobs.now ≤ MOST_SHIPS }
     requires each_job { length weights.now ≡ length jobs.now }
-    requires fit { All (JobFits 40) jobs.now }
-    requires small_weights { All (λ weight. weight ≤ 64) weights.now }
-    requires in_slots { busy ≤ 512 }
+    requires fit { All (JobFits MOST_SHIPS) jobs.now }
+    requires small_weights { All (λ weight. weight ≤ MOST_TUGS) weights.now }
+    requires in_slots { busy ≤ MOST_SLOTS }
     ensures value { PaysMore span.range (pays_for span.price (job_charges busy weights.now jobs.now) span.range.ship) costs.old costs.new }
 {
     for (place, job) in jobs.iter().enumerate() {
@@ -89,7 +89,7 @@ fn charge_jobs(costs: &mut [u128], span: Span, jobs: &[Job], weights: &[u32], bu
 
 /// The charge of a job with its weight, in a slot.
 pub(crate) fn charge_for(job: Job, weight: u32, busy: Slot) -> Charge
-    requires in_slots { busy ≤ 512 }
+    requires in_slots { busy ≤ MOST_SLOTS }
     ensures value { result ≡ job_charge busy weight job }
 {
     Charge {
@@ -103,12 +103,12 @@ pub(crate) fn charge_for(job: Job, weight: u32, busy: Slot) -> Charge
 /// Adds what the ship pays in its slots for a rule's jobs; other rules have none.
 fn charge_rule(costs: &mut [u128], span: Span, rule: &Rule, weights: &[u32], busy: Slot)
     requires inside { span.range.high < length costs.old }
-    requires small { All (λ c. c ≤ 256_000_000_000_000_000_000_000_000) costs.old }
-    requires small_price { span.price ≤ 1_000_000_000_000_000_000 }
-    requires fits { RuleFits 40 rule.now }
-    requires weighed { WeighsUpTo weights.now 2_560 rule.now }
-    requires small_weights { All (λ weight. weight ≤ 64) weights.now }
-    requires in_slots { busy ≤ 512 }
+    requires small { All (λ c. c ≤ MOST_COST) costs.old }
+    requires small_price { span.price ≤ MOST_PRICE }
+    requires fits { RuleFits MOST_SHIPS rule.now }
+    requires weighed { WeighsUpTo weights.now MOST_HELD rule.now }
+    requires small_weights { All (λ weight. weight ≤ MOST_TUGS) weights.now }
+    requires in_slots { busy ≤ MOST_SLOTS }
     ensures value { PaysMore span.range (pays_for span.price (rule_charges busy weights.now (Some rule.now)) span.range.ship) costs.old costs.new }
 {
     match rule {
@@ -120,8 +120,8 @@ fn charge_rule(costs: &mut [u128], span: Span, rule: &Rule, weights: &[u32], bus
 /// Adds what the ship pays in its slots for a toll.
 fn charge_toll(costs: &mut [u128], span: Span, flat: &Flat, toll: &Toll)
     requires inside { span.range.high < length costs.old }
-    requires small { All (λ c. c ≤ 256_000_000_000_000_000_000_000_000) costs.old }
-    requires small_price { span.price ≤ 1_000_000_000_000_000_000 }
+    requires small { All (λ c. c ≤ MOST_COST) costs.old }
+    requires small_price { span.price ≤ MOST_PRICE }
     requires toll { IsToll flat.now toll.now }
     ensures value { PaysMore span.range (λ k. span.price * computed.takes_at flat.now (Some toll.now) span.range.ship k) costs.old costs.new }
 {
@@ -149,10 +149,10 @@ fn charge_toll(costs: &mut [u128], span: Span, flat: &Flat, toll: &Toll)
 pub fn charge(costs: &mut [u128], flat: &Flat, tolls: &[Toll], dues: &[Due], range: Block)
     requires inside { range.high < length costs.old }
     requires tolls { All (IsToll flat.now) tolls.now }
-    requires few { length dues.now ≤ 100_000 }
+    requires few { length dues.now ≤ MOST_DUES }
     requires fit { All (DueFits (length tolls.now)) dues.now }
     ensures value { (k : ℕ) → slice_index costs.new k ≡ (if lies_in range.low range.high k then computed.pays flat.now tolls.now dues.now range.ship k else 0) }
-    ensures small { All (λ c. c ≤ 256_000_000_000_000_000_000_000_000) costs.new }
+    ensures small { All (λ c. c ≤ MOST_COST) costs.new }
 {
     let _shape = flat.shape();
     clear(costs);

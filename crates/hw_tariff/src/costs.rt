@@ -10,8 +10,8 @@ ghost use Rattle.hw_tariff.specs.InForce.{AreCosts};
 
 use crate::charging::{add, charge_for, charge_of};
 use hw_flat::{Flat, Slot};
-use hw_model::{Job, NoMemory, Rule};
-use hw_tolls::{Block, Charge, Due, Toll};
+use hw_model::{Job, MOST_HELD, MOST_SLOTS, MOST_TUGS, NoMemory, Rule};
+use hw_tolls::{Block, Charge, Due, MOST_DUES, MOST_PRICE, Toll};
 use std::alloc::Global;
 use std::marker::Model;
 
@@ -54,7 +54,7 @@ impl Costs {
     /// Adds an amount to the cost of each slot from `from` on and below `to`.
     fn add(&mut self, from: usize, to: usize, amount: u128)
         requires inside { to ≤ length self.old }
-        requires small_amount { amount ≤ 64_000_000_000_000_000_000 }
+        requires small_amount { amount ≤ MOST_TUGS * MOST_PRICE }
         requires room { (k : ℕ) → from ≤ k → k < to → slice_index self.old k + amount ≤ most_paid }
         ensures long { length self.new ≡ length self.old }
         ensures value { (k : ℕ) → slice_index self.new k ≡ slice_index self.old k + (if nat_le from k && nat_lt k to then amount else 0) }
@@ -74,7 +74,7 @@ pub(crate) fn costs_of(
     dues: &[Due],
 ) -> Result<Vec<Costs>, NoMemory>
     requires tolls { All (IsToll flat.now) tolls.now }
-    requires few { length dues.now ≤ 100_000 }
+    requires few { length dues.now ≤ MOST_DUES }
     requires fit { All (DueFits (length tolls.now)) dues.now }
     ensures value { IfOk result (λ costs. AreCosts flat.now tolls.now dues.now costs.items) }
 {
@@ -102,7 +102,7 @@ fn charge_dues(rows: &mut [Costs], flat: &Flat, tolls: &[Toll], dues: &[Due])
     requires rows { AreRows flat.now.ships flat.now.slots rows.old }
     requires none { (ship slot : ℕ) → cost_at rows.old ship slot ≡ 0 }
     requires tolls { All (IsToll flat.now) tolls.now }
-    requires few { length dues.now ≤ 100_000 }
+    requires few { length dues.now ≤ MOST_DUES }
     requires fit { All (DueFits (length tolls.now)) dues.now }
     ensures charged { AllPayMore (computed.pays flat.now tolls.now dues.now) rows.old rows.new }
 {
@@ -115,7 +115,7 @@ fn charge_dues(rows: &mut [Costs], flat: &Flat, tolls: &[Toll], dues: &[Due])
 /// Adds what the ships pay for a toll at this price.
 fn charge_ships(rows: &mut [Costs], flat: &Flat, price: u64, toll: &Toll)
     requires rows { AreRows flat.now.ships flat.now.slots rows.old }
-    requires small_price { price ≤ 1_000_000_000_000_000_000 }
+    requires small_price { price ≤ MOST_PRICE }
     requires toll { IsToll flat.now toll.now }
     requires room { CanPay (λ ship slot. price * computed.takes_at flat.now (Some toll.now) ship slot) rows.old }
     ensures charged { AllPayMore (λ ship slot. price * computed.takes_at flat.now (Some toll.now) ship slot) rows.old rows.new }
@@ -140,7 +140,7 @@ fn charge_ships(rows: &mut [Costs], flat: &Flat, price: u64, toll: &Toll)
 /// Adds what the ships pay for blocks.
 fn charge_each_block(rows: &mut [Costs], price: u64, blocks: &[Block])
     requires inside { All (λ block. HasCost rows.old block.ship block.high) blocks.now }
-    requires small_price { price ≤ 1_000_000_000_000_000_000 }
+    requires small_price { price ≤ MOST_PRICE }
     requires room { CanPay (pays_for price (map block_charge blocks.now)) rows.old }
     ensures charged { AllPayMore (pays_for price (map block_charge blocks.now)) rows.old rows.new }
 {
@@ -153,10 +153,10 @@ fn charge_each_block(rows: &mut [Costs], price: u64, blocks: &[Block])
 fn charge_each_of_rule(rows: &mut [Costs], price: u64, rule: &Rule, weights: &[u32], busy: Slot)
     requires fits { RuleFits (length rows.old) rule.now }
     requires inside { All (λ row. busy < length row) rows.old }
-    requires weighed { WeighsUpTo weights.now 2_560 rule.now }
-    requires small_weights { All (λ weight. weight ≤ 64) weights.now }
-    requires small_price { price ≤ 1_000_000_000_000_000_000 }
-    requires in_slots { busy ≤ 512 }
+    requires weighed { WeighsUpTo weights.now MOST_HELD rule.now }
+    requires small_weights { All (λ weight. weight ≤ MOST_TUGS) weights.now }
+    requires small_price { price ≤ MOST_PRICE }
+    requires in_slots { busy ≤ MOST_SLOTS }
     requires room { CanPay (pays_for price (rule_charges busy weights.now (Some rule.now))) rows.old }
     ensures charged { AllPayMore (pays_for price (rule_charges busy weights.now (Some rule.now))) rows.old rows.new }
 {
@@ -170,9 +170,9 @@ fn charge_each_of_rule(rows: &mut [Costs], price: u64, rule: &Rule, weights: &[u
 fn charge_each_job(rows: &mut [Costs], price: u64, jobs: &[Job], weights: &[u32], busy: Slot)
     requires inside { All (λ job. HasCost rows.old job.ship busy) jobs.now }
     requires each_job { length weights.now ≡ length jobs.now }
-    requires small_weights { All (λ weight. weight ≤ 64) weights.now }
-    requires small_price { price ≤ 1_000_000_000_000_000_000 }
-    requires in_slots { busy ≤ 512 }
+    requires small_weights { All (λ weight. weight ≤ MOST_TUGS) weights.now }
+    requires small_price { price ≤ MOST_PRICE }
+    requires in_slots { busy ≤ MOST_SLOTS }
     requires room { CanPay (pays_for price (job_charges busy weights.now jobs.now)) rows.old }
     ensures charged { AllPayMore (pays_for price (job_charges busy weights.now jobs.now)) rows.old rows.new }
 {
@@ -184,8 +184,8 @@ fn charge_each_job(rows: &mut [Costs], price: u64, jobs: &[Job], weights: &[u32]
 /// Adds what the charged ship pays in its slots for a charge.
 fn charge_row(rows: &mut [Costs], price: u64, charge: Charge)
     requires inside { HasCost rows.old charge.ship charge.high }
-    requires small_price { price ≤ 1_000_000_000_000_000_000 }
-    requires small_amount { charge.amount ≤ 64 }
+    requires small_price { price ≤ MOST_PRICE }
+    requires small_amount { charge.amount ≤ MOST_TUGS }
     requires room { CanPay (λ ship slot. price * computed.takes ship slot charge) rows.old }
     ensures charged { AllPayMore (λ ship slot. price * computed.takes ship slot charge) rows.old rows.new }
 {

@@ -2,7 +2,7 @@
 ghost use Rattle.std.specs.Prelude.{◌↔◌, All, IsTrue};
 ghost use Rattle.hw_tolls.specs.Prices.{DueFits, TariffFits};
 
-use hw_tolls::{Due, Tariff};
+use hw_tolls::{Due, MOST_DUES, MOST_PRICE, MOST_SCALE, Tariff};
 
 /// Whether a tariff on this many tolls fits: its scale, the number of its dues and each price keep
 /// their limits, and each due names one of the tolls. It looks once at each due.
@@ -10,7 +10,7 @@ pub fn tariff_fits(tolls: usize, tariff: &Tariff) -> bool
     ensures value { IsTrue result ↔ TariffFits tolls tariff.now }
 {
     let dues = &tariff.dues.items;
-    tariff.scale <= 1_000_000 && dues.len() <= 100_000 && each_due_fits(tolls, dues)
+    tariff.scale <= MOST_SCALE && dues.len() <= MOST_DUES && each_due_fits(tolls, dues)
 }
 
 /// Whether each due names one of this many tolls, at a price within its limit.
@@ -29,5 +29,5 @@ fn each_due_fits(tolls: usize, dues: &[Due]) -> bool
 fn due_fits(tolls: usize, due: Due) -> bool
     ensures value { IsTrue result ↔ DueFits tolls due }
 {
-    (due.toll as usize) < tolls && due.price <= 1_000_000_000_000_000_000
+    (due.toll as usize) < tolls && due.price <= MOST_PRICE
 }

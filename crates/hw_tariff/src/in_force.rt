@@ -14,7 +14,7 @@ use crate::costs::{Costs, costs_of};
 use crate::refuting::{aim, falls_short};
 use crate::taking::allowance_of;
 use hw_flat::{Flat, Room};
-use hw_model::NoMemory;
+use hw_model::{MOST_SHIPS, NoMemory};
 use hw_tolls::{Balance, Block, Tariff, Toll};
 use std::alloc::Global;
 use std::marker::Model;
@@ -145,7 +145,7 @@ fn costed_balances(
     requires tops { AreTops flat.now tolls.now tariff.now tops.now }
     requires small { All (λ top. IfSome top (BalanceFits 1)) tops.now }
     ensures value { result ≡ computed.best_balances flat.now tolls.now tariff.now room.now }
-    ensures small { IfSome result (BalanceFits 40) }
+    ensures small { IfSome result (BalanceFits MOST_SHIPS) }
     ensures limits { IsFlat flat.now }
 {
     let mut sum: Option<Balance> = Some(Balance { gain: 0, cost: 0 });

@@ -7,9 +7,12 @@ ghost use Rattle.hw_tolls.specs.Judged as judged;
 use crate::by_pair::RulesByPair;
 use crate::weighing::heaviest;
 use hw_flat::{Flat, Room, Slot};
-use hw_model::{Job, NoMemory, Rule};
+use hw_model::{Job, MOST_FLEET, MOST_HELD, MOST_SHIPS, MOST_TUGS, NoMemory, Rule};
 use hw_tolls::{Block, Toll};
 use std::alloc::Global;
+
+/// Blocks of a toll, which are of different ships.
+const MOST_BLOCKS: usize = MOST_SHIPS as usize;
 
 /// Whether the toll is one of the problem: narrows of which each two blocks are apart, or tugs of a
 /// rule on tugs in a slot of the horizon, with a weight for each job, so that jobs which the fleet
@@ -62,7 +65,7 @@ fn tugs_fit(
 {
     if flat.shape().rules <= place
         || flat.horizon() <= slot
-        || 2_560 < most
+        || MOST_HELD < most
         || !are_small(weights)
     {
         return Ok(false);
@@ -72,16 +75,16 @@ fn tugs_fit(
 
 /// Whether each weight is within its limit.
 fn are_small(weights: &[u32]) -> bool
-    ensures value { IsTrue result ↔ All (λ weight. weight ≤ 64) weights.now }
+    ensures value { IsTrue result ↔ All (λ weight. weight ≤ MOST_TUGS) weights.now }
 {
-    weights.iter().all(|weight| *weight <= 64)
+    weights.iter().all(|weight| *weight <= MOST_TUGS)
 }
 
 /// Whether the rule is one on tugs, and the jobs that its fleet can serve together weigh at most
 /// `most`.
 fn weighs_up_to(alloc: Global, rule: &Rule, weights: &[u32], most: u32) -> Result<bool, NoMemory>
-    requires fits { RuleFits 40 rule.now }
-    requires small { All (λ weight. weight ≤ 64) weights.now }
+    requires fits { RuleFits MOST_SHIPS rule.now }
+    requires small { All (λ weight. weight ≤ MOST_TUGS) weights.now }
     ensures value { IfOk result (λ yes. IsTrue yes ↔ WeighsUpTo weights.now most rule.now) }
 {
     match rule {
@@ -99,9 +102,9 @@ fn jobs_weigh(
     weights: &[u32],
     most: u32,
 ) -> Result<bool, NoMemory>
-    requires few { length jobs.now ≤ 40 }
-    requires small { All (λ weight. weight ≤ 64) weights.now }
-    requires small_fleet { fleet ≤ 1_000 }
+    requires few { length jobs.now ≤ MOST_SHIPS }
+    requires small { All (λ weight. weight ≤ MOST_TUGS) weights.now }
+    requires small_fleet { fleet ≤ MOST_FLEET }
     ensures value { IfOk result (λ yes. IsTrue yes ↔ Weigh fleet jobs.now weights.now most) }
 {
     if weights.len() != jobs.len() {
@@ -111,7 +114,7 @@ fn jobs_weigh(
     Ok(heaviest <= most)
 }
 
-/// Whether there are 1 to 40 blocks, each two of them apart.
+/// Whether there are 1 to `MOST_SHIPS` blocks, each two of them apart.
 fn narrows_fit(
     alloc: Global,
     flat: &Flat,
@@ -133,7 +136,7 @@ fn blocks_fit(flat: &Flat, blocks: &[Block], room: &mut Room, rules: &mut RulesB
     if blocks.is_empty() {
         return false;
     }
-    if 40 < blocks.len() {
+    if blocks.len() > MOST_BLOCKS {
         return false;
     }
     if !each_fits(flat, blocks) {

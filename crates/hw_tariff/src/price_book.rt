@@ -14,7 +14,7 @@ use crate::in_force::InForce;
 use crate::judging::is_toll_by;
 use hw_flat::{Flat, Room};
 use hw_model::NoMemory;
-use hw_tolls::{Tariff, Toll};
+use hw_tolls::{MOST_TOLLS, Tariff, Toll};
 use std::alloc::Global;
 use std::marker::Model;
 
@@ -67,7 +67,7 @@ impl PriceBook {
     pub fn declare(&mut self, toll: Toll) -> Result<(), NoMemory>
         ensures added { OnOk result (self.new ≡ record self.old { tolls = self.old.tolls ++ toll ∷ [] }) }
         ensures kept { OnErr result (self.new ≡ self.old) }
-        ensures good { (f : Problem) → AreGood f self.old → IsToll f toll → length self.old.tolls < 10_000 → AreGood f self.new }
+        ensures good { (f : Problem) → AreGood f self.old → IsToll f toll → length self.old.tolls < MOST_TOLLS → AreGood f self.new }
     {
         self.tolls.push(toll)?;
         Ok(())

@@ -10,7 +10,8 @@ ghost use Rattle.hw_tolls.specs.Computed.{BalanceFits};
 use crate::balancing::charged_balances;
 use crate::taking::allowance_of;
 use hw_flat::{Flat, Room};
-use hw_tolls::{Balance, Tariff, Toll};
+use hw_model::MOST_SHIPS;
+use hw_tolls::{Balance, MOST_COST, MOST_SCALE, Tariff, Toll};
 
 /// Whether the prices refute the room under the best, in tenths of a tonne. `costs` is scratch space,
 /// one number for each slot of the problem.
@@ -45,7 +46,7 @@ pub fn charged_refute(
 
 /// The least that a timetable above the best gains, in parts; nothing without a best.
 pub(crate) fn aim(scale: u32, best: Option<u64>) -> u128
-    requires small_scale { scale ≤ 1_000_000 }
+    requires small_scale { scale ≤ MOST_SCALE }
     ensures value { result ≡ prices.aim scale best }
     ensures small { result ≤ 18_446_744_073_709_551_616_000_000 }
 {
@@ -58,9 +59,9 @@ pub(crate) fn aim(scale: u32, best: Option<u64>) -> u128
 /// Whether a balance with the allowance added stays below the aim. A room without a balance has no
 /// list of slots that could reach it.
 pub(crate) fn falls_short(allowed: u128, aimed: u128, balance: Option<Balance>) -> bool
-    requires small_allowance { allowed ≤ 256_000_000_000_000_000_000_000_000 }
+    requires small_allowance { allowed ≤ MOST_COST }
     requires small_aim { aimed ≤ 18_446_744_073_709_551_616_000_000 }
-    requires small_balance { IfSome balance (BalanceFits 40) }
+    requires small_balance { IfSome balance (BalanceFits MOST_SHIPS) }
     ensures value { result ≡ computed.falls_short allowed aimed balance }
 {
     match balance {

@@ -3,7 +3,7 @@ ghost use Rattle.std.specs.Prelude.{◌≡◌, ℕ, ◌+◌, ◌<◌, ◌≤◌,
 ghost use Rattle.hw_tolls.specs.Tolls as tolls;
 ghost use Rattle.hw_tariff.specs.Weighing.{heaviest_with};
 
-use hw_model::{Job, NoMemory};
+use hw_model::{Job, MOST_FLEET, MOST_SHIPS, MOST_TUGS, NoMemory};
 use std::alloc::Global;
 
 /// The greatest weight of jobs that together hold no more than this many tugs.
@@ -11,10 +11,10 @@ use std::alloc::Global;
 /// It takes a step for each job and each number of tugs, and memory for two numbers of each number
 /// of tugs. An error says that memory ran out.
 pub fn heaviest(alloc: Global, weights: &[u32], jobs: &[Job], tugs: u32) -> Result<u32, NoMemory>
-    requires few { length jobs.now ≤ 40 }
+    requires few { length jobs.now ≤ MOST_SHIPS }
     requires each_job { length weights.now ≡ length jobs.now }
-    requires small { All (λ weight. weight ≤ 64) weights.now }
-    requires small_fleet { tugs ≤ 1_000 }
+    requires small { All (λ weight. weight ≤ MOST_TUGS) weights.now }
+    requires small_fleet { tugs ≤ MOST_FLEET }
     ensures value { IfOk result (λ most. most ≡ tolls.heaviest weights.now jobs.now tugs) }
 {
     let most = heaviest_each(alloc, weights, jobs, tugs)?;
@@ -28,10 +28,10 @@ fn heaviest_each(
     jobs: &[Job],
     tugs: u32,
 ) -> Result<Vec<u32>, NoMemory>
-    requires few { length jobs.now ≤ 40 }
+    requires few { length jobs.now ≤ MOST_SHIPS }
     requires each_job { length weights.now ≡ length jobs.now }
-    requires small { All (λ weight. weight ≤ 64) weights.now }
-    requires small_fleet { tugs ≤ 1_000 }
+    requires small { All (λ weight. weight ≤ MOST_TUGS) weights.now }
+    requires small_fleet { tugs ≤ MOST_FLEET }
     ensures long { IfOk result (λ most. length most.items ≡ tugs + 1) }
     ensures value { IfOk result (λ most. (k : ℕ) → k < tugs + 1 → slice_index most.items k ≡ tolls.heaviest weights.now jobs.now k) }
 {
@@ -46,7 +46,7 @@ fn heaviest_each(
 
 /// The greatest weights for each number of tugs with one more job.
 fn with_job(alloc: Global, weight: u32, tugs: u32, most: &[u32]) -> Result<Vec<u32>, NoMemory>
-    requires small_weight { weight ≤ 64 }
+    requires small_weight { weight ≤ MOST_TUGS }
     requires small { All (λ m. m ≤ 2_496) most.now }
     ensures long { IfOk result (λ next. length next.items ≡ length most.now) }
     ensures value { IfOk result (λ next. (k : ℕ) → k < length most.now → slice_index next.items k ≡ heaviest_with weight tugs most.now k) }
@@ -60,7 +60,7 @@ fn with_job(alloc: Global, weight: u32, tugs: u32, most: &[u32]) -> Result<Vec<u
 
 /// The greater weight with one more job, or without it.
 fn heavier(weight: u32, tugs: usize, most: &[u32], k: usize) -> u32
-    requires small_weight { weight ≤ 64 }
+    requires small_weight { weight ≤ MOST_TUGS }
     requires small { All (λ m. m ≤ 2_496) most.now }
     requires inside { k < length most.now }
     ensures value { result ≡ heaviest_with weight tugs most.now k }

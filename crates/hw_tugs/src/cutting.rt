@@ -8,6 +8,7 @@ ghost use Rattle.hw_tugs.specs.Held.{IsForced};
 ghost use Rattle.hw_tugs.specs.Over.{IsOver, IsCalm, Overfills, Exceeding, CutsAt};
 
 use hw_flat::{Job, Room, Slot};
+use hw_model::MOST_SLOTS;
 use hw_prop::Reduction;
 
 /// A reduction of a room, and a slot in which it exceeds the fleet.
@@ -53,7 +54,7 @@ fn last_over(load: &[u64], fleet: u32, more: u32, from: usize, to: usize) -> Opt
 /// far as possible. It takes at most a step for each slot in which the job may hold its tugs.
 fn job_cut(job: Job, fleet: u32, room: &Room, load: &[u64]) -> Option<Cut>
     requires ship_in { job.ship < room.now.ships }
-    requires short { length load.now ≤ 512 }
+    requires short { length load.now ≤ MOST_SLOTS }
     requires small { (slot : ℕ) → slot < length load.now → slice_index load.now slot ≤ 10_000 }
     ensures found { MatchOption result (IsCalm load.now fleet room.now job) (λ cut. Overfills load.now fleet room.now job cut.reduction cut.slot) }
 {
@@ -88,7 +89,7 @@ fn job_cut(job: Job, fleet: u32, room: &Room, load: &[u64]) -> Option<Cut>
 pub(crate) fn tug_cut(jobs: &[Job], fleet: u32, room: &Room, load: &[u64]) -> Option<Cut>
     requires fit { All (JobFits room.now.ships) jobs.now }
     requires ascends { AllPairs (λ a b. a.ship < b.ship) jobs.now }
-    requires short { length load.now ≤ 512 }
+    requires short { length load.now ≤ MOST_SLOTS }
     requires small { (slot : ℕ) → slot < length load.now → slice_index load.now slot ≤ 10_000 }
     requires forced { IsForced jobs.now room.now load.now }
     ensures found { MatchOption result (IsQuiet (Exceeding fleet jobs.now (length load.now)) room.now) (CutsAt fleet jobs.now (length load.now) room.now) }

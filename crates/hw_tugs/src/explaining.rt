@@ -30,12 +30,13 @@ struct AtSlot<'f> {
 
 impl<'f> Refuter for AtSlot<'f> {
     ghost use Rattle.std.specs.Prelude.{◌≤◌, All, length};
+    ghost use Rattle.hw_model.specs.declared.limits.TheConstants.{MOST_SHIPS};
     ghost use Rattle.hw_model.specs.Limits.{JobFits};
     ghost use Rattle.hw_tugs.specs.Over.{OverAt};
 
     ghost refutes = { λ t room. OverAt t.fleet t.jobs.now t.slot room };
 
-    ghost serves = { λ t ships slots. (length t.jobs.now ≤ 40) × All (JobFits ships) t.jobs.now };
+    ghost serves = { λ t ships slots. (length t.jobs.now ≤ MOST_SHIPS) × All (JobFits ships) t.jobs.now };
 
     fn refuted(&self, room: &Room) -> bool {
         u64::from(self.fleet) < forced_tugs(self.jobs, room, self.slot)

@@ -8,7 +8,7 @@ ghost use Rattle.hw_tugs.specs.Held.{IsLoad, IsForced, Sees, HasShip, NoneOf};
 
 use crate::mending::{add, take_away};
 use hw_flat::{Job, Room, ShipId, Slot};
-use hw_model::{Lit, NoMemory};
+use hw_model::{Lit, MOST_SHIPS, MOST_TUGS, NoMemory};
 use hw_rules::forced_tugs;
 use std::alloc::Global;
 
@@ -35,7 +35,7 @@ fn ranges_of(alloc: Global, jobs: &[Job], room: &Room) -> Result<Vec<(Slot, Slot
 
 /// The tugs that the jobs certainly hold in each slot of the horizon.
 fn loads(alloc: Global, jobs: &[Job], room: &Room, horizon: u32) -> Result<Vec<u64>, NoMemory>
-    requires few { length jobs.now ≤ 40 }
+    requires few { length jobs.now ≤ MOST_SHIPS }
     requires fit { All (JobFits room.now.ships) jobs.now }
     ensures length { IfOk result (λ load. length load.items ≡ horizon) }
     ensures forced { IfOk result (λ load. IsForced jobs.now room.now load.items) }
@@ -62,8 +62,8 @@ fn place_of(jobs: &[Job], ship: ShipId) -> Option<usize>
 /// Updates the load where the job at a place has another range than the one seen: a step for each
 /// slot that the job certainly holds in either of the two.
 fn mend(load: &mut [u64], jobs: &[Job], seen: &[(Slot, Slot)], place: usize, range: (Slot, Slot))
-    requires few { length jobs.now ≤ 40 }
-    requires few_tugs { All (λ job. job.tugs ≤ 64) jobs.now }
+    requires few { length jobs.now ≤ MOST_SHIPS }
+    requires few_tugs { All (λ job. job.tugs ≤ MOST_TUGS) jobs.now }
     requires inside { place < length jobs.now }
     requires load { IsLoad jobs.now seen.now load.old }
     ensures length { length load.new ≡ length load.old }
@@ -84,7 +84,7 @@ impl Figures {
         room: &Room,
         horizon: u32,
     ) -> Result<Figures, NoMemory>
-        requires few { length jobs.now ≤ 40 }
+        requires few { length jobs.now ≤ MOST_SHIPS }
         requires fit { All (JobFits room.now.ships) jobs.now }
         ensures length { IfOk result (λ figures. length figures.load.items ≡ horizon) }
         ensures load { IfOk result (λ figures. IsLoad jobs.now figures.seen.items figures.load.items) }
@@ -98,8 +98,8 @@ impl Figures {
     /// The ship of the job at a place has another range: a step for each slot that the job certainly
     /// holds in either range, and none where the two are the same.
     fn set(&mut self, jobs: &[Job], place: usize, range: (Slot, Slot))
-        requires few { length jobs.now ≤ 40 }
-        requires few_tugs { All (λ job. job.tugs ≤ 64) jobs.now }
+        requires few { length jobs.now ≤ MOST_SHIPS }
+        requires few_tugs { All (λ job. job.tugs ≤ MOST_TUGS) jobs.now }
         requires inside { place < length jobs.now }
         requires load { IsLoad jobs.now self.old.seen.items self.old.load.items }
         ensures length { length self.new.load.items ≡ length self.old.load.items }
@@ -117,7 +117,7 @@ impl Figures {
     /// Makes them the figures of a room: a comparison for each job, and for each range that differs
     /// a step for each slot that its job certainly holds.
     pub(crate) fn follow(&mut self, jobs: &[Job], room: &Room)
-        requires few { length jobs.now ≤ 40 }
+        requires few { length jobs.now ≤ MOST_SHIPS }
         requires fit { All (JobFits room.now.ships) jobs.now }
         requires load { IsLoad jobs.now self.old.seen.items self.old.load.items }
         ensures length { length self.new.load.items ≡ length self.old.load.items }
@@ -131,7 +131,7 @@ impl Figures {
 
     /// A ship has another range than in the room: one job's part at most changes.
     fn set_ship(&mut self, jobs: &[Job], _room: &Room, ship: ShipId, range: (Slot, Slot))
-        requires few { length jobs.now ≤ 40 }
+        requires few { length jobs.now ≤ MOST_SHIPS }
         requires fit { All (JobFits _room.now.ships) jobs.now }
         requires ascends { AllPairs (λ a b. a.ship < b.ship) jobs.now }
         requires ship_in { ship < _room.now.ships }
@@ -149,7 +149,7 @@ impl Figures {
 
     /// Makes the figures of a room those of the room cut by a literal that is Free.
     pub(crate) fn narrow(&mut self, jobs: &[Job], before: &Room, lit: Lit)
-        requires few { length jobs.now ≤ 40 }
+        requires few { length jobs.now ≤ MOST_SHIPS }
         requires fit { All (JobFits before.now.ships) jobs.now }
         requires ascends { AllPairs (λ a b. a.ship < b.ship) jobs.now }
         requires literal { IsLitOf before.now.ships lit }

@@ -15,6 +15,7 @@ use crate::board::Board;
 use crate::handing::{OwnLines, hand_on};
 use hw_cert::{Log, LogStop, MemoryLog};
 use hw_flat::{Flat, NoMemory, Timetable};
+use hw_progress::MOST_BUDGET;
 use hw_rules::cargo;
 use hw_search::{AnyPropagator, Branching, Search, Turn, propagators};
 use hw_store::WatchStore;
@@ -108,7 +109,7 @@ impl<'f> Member<'f> {
     // The search's turn, on its own log, which never fails.
     fn search_turn(&mut self, flat: &Flat) -> Turn
         requires working { Working flat.now self.old.search self.old.log }
-        requires few { self.old.search.lemmas < 100000 }
+        requires few { self.old.search.lemmas < MOST_BUDGET }
         ensures turns { UnlessStopped result (TurnsOwn flat.now self.old.search self.old.log result self.new.search self.new.log) }
         ensures numbers { self.new.numbers ≡ self.old.numbers }
         ensures rule { self.new.rule ≡ self.old.rule }
@@ -123,7 +124,7 @@ impl<'f> Member<'f> {
     fn own_turn(&mut self, flat: &Flat, best: &Option<Timetable>) -> Turn
         requires working { Working flat.now self.old.search self.old.log }
         requires permitted { IfSome best.now (Permits flat.now) }
-        requires few { self.old.search.lemmas < 100000 }
+        requires few { self.old.search.lemmas < MOST_BUDGET }
         ensures turns { UnlessStopped result (TurnsOwn flat.now self.old.search self.old.log result self.new.search self.new.log) }
         ensures numbers { self.new.numbers ≡ self.old.numbers }
         ensures rule { self.new.rule ≡ self.old.rule }
@@ -144,7 +145,7 @@ impl<'f> Member<'f> {
         log: &mut L,
     ) -> Turn
         requires working { Working flat.now self.old.search self.old.log }
-        requires few_own { self.old.search.lemmas < 100000 }
+        requires few_own { self.old.search.lemmas < MOST_BUDGET }
         requires few { board.old.clause_lines + 21264 < 2 ^ 32 }
         requires few_lemmas { board.old.lemmas + 2 < 2 ^ 32 }
         requires permitted { IfSome board.old.best (Permits flat.now) }

@@ -8,6 +8,7 @@ use Rattle.hw_model.specs.Limits.{IsFlat}
 use Rattle.hw_model.specs.Timetables.{Permits, FirstBroken, cargo}
 use Rattle.hw_model.specs.Refuting.{Refutes, source_of}
 use Rattle.hw_model.specs.Replay.{replay, loose, no_conflict}
+use Rattle.hw_tolls.specs.declared.limits.TheConstants.{MOST_TOLLS}
 use Rattle.hw_tolls.specs.Prices.{PricesRefute}
 use Rattle.hw_tolls.specs.Tolls.{IsToll}
 use Rattle.hw_lines.specs.declared.check.CheckWord.{CheckWord}
@@ -104,7 +105,7 @@ pub record NotLower (f : Problem) (before : List Line) (line : Line) : Type 0 wh
 
 -- a clause line would have a number past the last one, or 10,000 tolls are declared before a line that declares one
 abbrev pub NoNumber : Problem → List Line → Line → Type 0
-NoNumber f before line = IsSomeAnd (clause_of line) (λ clause. 2 ^ 32 ≤ clause_count before + 1) ⊎ IsSomeAnd (toll_of f line) (λ toll. 10_000 ≤ length (tolls_of f before))
+NoNumber f before line = IsSomeAnd (clause_of line) (λ clause. 2 ^ 32 ≤ clause_count before + 1) ⊎ IsSomeAnd (toll_of f line) (λ toll. MOST_TOLLS ≤ length (tolls_of f before))
 
 -- the number is the first of these that isn't live
 pub record FirstDead (before : List Line) (ids : List ℕ) (id : ℕ) : Type 0 where

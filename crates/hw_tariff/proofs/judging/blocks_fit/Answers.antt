@@ -7,7 +7,7 @@ returns c = record {
   value = (
     λ t. record {
       some_block = not_empty _ c.is_empty.result c.is_empty.ensures c.if-is_empty.false;
-      few_blocks = omega (arith, c.if-blocks-gt40.false);
+      few_blocks = omega (arith, c.if-blocks-gt-MOST_BLOCKS.false);
       each_block = c.if-not-each_fits.ensures.value.0 refl;
       apart = c.all_apart.ensures.value.0 t;
     },
