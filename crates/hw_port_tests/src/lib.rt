@@ -1,17 +1,7 @@
-//! Tests of ports, instances, tide tables, drafts and reports through their public calls.
+//! Tests of reports longer than a buffer, and of tide tables of one kind, through public calls.
 #![tactic(auto)]
 
 #[cfg(test)]
-mod cases;
-#[cfg(test)]
-mod drafts;
-#[cfg(test)]
-mod instances;
-#[cfg(test)]
-mod ports;
-#[cfg(test)]
 mod reports;
-#[cfg(test)]
-mod texts;
 #[cfg(test)]
 mod tides;

@@ -1,113 +1,37 @@
-//! Cases of whole runs: each is run over a desk in memory, and what comes of it is compared with what
-//! the case wants.
-//!
-//! The arguments are files of cases, one file a topic. A file is lines. `case` begins a case, and what
-//! follows holds up to the next one:
-//!
-//!     case NAME ..      begins a case, named by what it shows
-//!     file NAME         a file of the desk, whose lines follow
-//!     |TEXT             a line of it
-//!     +TEXT             bytes of it without a line end
-//!     *COUNT TEXT       a line of it, COUNT times
-//!     -COUNT TEXT       bytes of it without a line end, COUNT times
-//!     most N ..         how many bytes a call moves at most (4096); one run for each number
-//!     room N            how many bytes a tray takes (65536)
-//!     fail CALL PLACE   a call that fails, by its kind and its place among those, from 1
-//!     each CALL         a run for each place, up to the run in which no call of the kind fails
-//!     calm              the desk whose calls never fail
-//!     brief             of a run the report and the status alone are wanted
-//!     brief N           the same, and of the report the first N lines alone
-//!     run WORD ..       runs the words, one space between two; `run` alone runs none. The lines that are
-//!                       wanted of it follow
-//!     then WORD ..      the same over a desk that also holds what the last run sent to Proof, under
-//!                       that run's last word
-//!
-//! A CALL is `begin`, `read`, `make`, `report` (a write to it) or `proof` (a write to it). In a TEXT
-//! `\` and two hexadecimal digits are a byte. An empty line says nothing, nor does one that begins
-//! with `#`.
-//!
-//! What is wanted of a run: the report, each line after `|`, and after `+` what has no line end; then
-//! `status CODE proof COUNT` with the number of bytes that Proof holds, and those bytes as the report's;
-//! where it is brief, `status CODE` alone. Where there are several runs, `runs I to J` stands before what
-//! is wanted of all of these.
-//!
-//! For a case one line is printed, `ok NAME`. Where the outcome of a run is not the one wanted it is
-//! `differs NAME`, and for each such run there follow its line with its number in the file, what is wanted
-//! and didn't come, each line after `-`, and what came and isn't wanted, each line after `+`.
+//! Cases of whole runs of the program, one file a topic, which the arguments name. `hw_cases` has the form
+//! of a case.
 #![tactic(auto)]
 
-mod case;
-mod compared;
-mod outcome;
-mod runs;
-mod setup;
-mod shown;
-mod stop;
+ghost use Rattle.hw_desk.specs.Calm.{calm_state};
+ghost use Rattle.hw_desk.specs.Memory.{memory_state};
+ghost use Rattle.hw_desk.specs.State.{IsNewDesk};
 
-use case::Case;
-use hw_desk::NoMemory;
+use hw_app::{run, run_calm};
+use hw_cases::{Runner, Stop, run_files};
+use hw_desk::{CalmDesk, Desk, MemoryDesk};
 use std::alloc::Global;
-use std::io::{BufRead, BufReader, Write};
-use std::{env, fs, io};
-use stop::Stop;
 
-/// Takes a line of a file, with its number, and says whether it has a form. Where it ends a case, what is
-/// printed for that is appended.
-fn take_line(
-    alloc: Global,
-    case: &mut Option<Case>,
-    number: u64,
-    line: &str,
-    out: &mut Vec<u8>,
-) -> Result<bool, NoMemory> {
-    if line.is_empty() || line.starts_with('#') {
-        return Ok(true);
-    }
-    if let Some(name) = line.strip_prefix("case ") {
-        end_case(alloc, case, out)?;
-        *case = Some(Case::new(alloc, String::from_str(alloc, name)?));
-        return Ok(true);
-    }
-    match case {
-        Some(case) => case.take(alloc, number, line),
-        None => Ok(false),
-    }
+/// The program as the cases run it.
+struct App;
+
+/// The exit code of a run. It says nothing of the desk, so that nothing of it is proved again for
+/// each kind of desk.
+fn code_of_run<D: Desk>(alloc: Global, words: &[String], desk: &mut D) -> u8
+    requires { IsNewDesk (D.state desk.old) }
+{
+    run(alloc, words, desk).code()
 }
 
-/// Ends the case, if there is one, and appends what is printed for it.
-fn end_case(alloc: Global, case: &mut Option<Case>, out: &mut Vec<u8>) -> Result<(), NoMemory> {
-    match case.take() {
-        Some(case) => Ok(case.finish(alloc, out)?),
-        None => Ok(()),
+impl Runner for App {
+    fn run(alloc: Global, words: &[String], desk: &mut MemoryDesk) -> u8 {
+        code_of_run(alloc, words, desk)
     }
-}
 
-/// Runs the cases of a file, and prints what comes of each.
-fn run_file(rt: &HostRuntime, name: &str) -> Result<(), Stop> {
-    let alloc = rt.alloc();
-    let mut case = None;
-    let mut number: u64 = 0;
-    for line in BufReader::new(alloc, fs::open(rt, name)?)?.lines(alloc) {
-        let line = line?;
-        number = number.saturating_add(1);
-        let mut out = Vec::new(alloc);
-        if !take_line(alloc, &mut case, number, line.as_str(), &mut out)? {
-            let file = String::from_str(alloc, name)?;
-            return Err(Stop::Line { file, number });
-        }
-        io::writer(rt).write_all(&out)?;
+    fn run_calm(alloc: Global, words: &[String], desk: &mut CalmDesk) -> u8 {
+        run_calm(alloc, words, desk).code()
     }
-    let mut out = Vec::new(alloc);
-    end_case(alloc, &mut case, &mut out)?;
-    io::writer(rt).write_all(&out)?;
-    Ok(())
 }
 
 fn main(rt: HostRuntime) -> Result<(), Stop> {
-    let mut names = env::args(&rt)?;
-    let _program = names.next();
-    for name in names {
-        run_file(&rt, name.as_str())?;
-    }
-    Ok(())
+    run_files::<App>(&rt)
 }

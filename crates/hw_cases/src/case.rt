@@ -1,6 +1,7 @@
 //! A case: its name, its desk, and the outcomes of its runs beside what is wanted of them.
 
 use crate::compared::Compared;
+use crate::runner::Runner;
 use crate::setup::Setup;
 use hw_desk::NoMemory;
 use std::alloc::{AllocError, Global};
@@ -30,7 +31,12 @@ impl Case {
     }
 
     /// Takes a line of the case, with its number in the file, and says whether it has a form.
-    pub fn take(&mut self, alloc: Global, number: u64, line: &str) -> Result<bool, NoMemory> {
+    pub fn take<R: Runner>(
+        &mut self,
+        alloc: Global,
+        number: u64,
+        line: &str,
+    ) -> Result<bool, NoMemory> {
         if let Some(run) = &mut self.run
             && run.want(line)?
         {
@@ -43,19 +49,19 @@ impl Case {
         };
         match key {
             "run" => {
-                self.begin_run(alloc, number, line, text)?;
+                self.begin_run::<R>(alloc, number, line, text)?;
                 Ok(true)
             }
             "then" => {
                 let is_kept = self.setup.keep_proof()?;
-                self.begin_run(alloc, number, line, text)?;
+                self.begin_run::<R>(alloc, number, line, text)?;
                 Ok(is_kept)
             }
             _ => Ok(self.setup.take(alloc, line)?),
         }
     }
 
-    fn begin_run(
+    fn begin_run<R: Runner>(
         &mut self,
         alloc: Global,
         number: u64,
@@ -63,7 +69,7 @@ impl Case {
         text: Option<&str>,
     ) -> Result<(), NoMemory> {
         let mut came = Vec::new(alloc);
-        self.setup.run_all(alloc, text, &mut came)?;
+        self.setup.run_all::<R>(alloc, text, &mut came)?;
         self.has_run = true;
         self.run = Some(Compared::new(alloc, number, line, came)?);
         Ok(())

@@ -2,14 +2,13 @@
 
 ghost use Rattle.std.specs.Prelude.{◌≡◌, ◌∷◌, [], codes, IfOk};
 ghost use Rattle.hw_desk.specs.State.{IsNewDesk};
-ghost use Rattle.hw_desk.specs.Calm.{calm_state};
 ghost use Rattle.hw_desk.specs.Memory.{memory_state};
 
 use crate::outcome::Outcome;
+use crate::runner::Runner;
 use crate::runs::Runs;
 use crate::shown::put_bytes;
-use hw_app::{run, run_calm};
-use hw_desk::{CalmDesk, Desk, DeskCall, FailAt, MemoryDesk, NamedBytes, NoMemory};
+use hw_desk::{CalmDesk, DeskCall, FailAt, MemoryDesk, NamedBytes, NoMemory};
 use hw_lexicon::{Lexicon, each_word};
 use hw_text::read_small;
 use std::alloc::{AllocError, Global};
@@ -106,21 +105,6 @@ fn new_memory(
     ensures { IfOk result (λ desk. IsNewDesk (memory_state desk)) }
 {
     MemoryDesk::new(alloc, files, most.max(1), room, fails)
-}
-
-/// The exit code of a run. It says nothing of the desk, so that nothing of it is proved again for
-/// each kind of desk.
-fn code_of_run<D: Desk>(alloc: Global, words: &[String], desk: &mut D) -> u8
-    requires { IsNewDesk (D.state desk.old) }
-{
-    run(alloc, words, desk).code()
-}
-
-/// The same over the desk whose calls never fail.
-fn code_of_calm(alloc: Global, words: &[String], desk: &mut CalmDesk) -> u8
-    requires { IsNewDesk (calm_state desk.old) }
-{
-    run_calm(alloc, words, desk).code()
 }
 
 impl Setup {
@@ -269,7 +253,7 @@ impl Setup {
     }
 
     /// Runs the words for each number of bytes at once, and appends the outcomes of the runs.
-    pub fn run_all(
+    pub fn run_all<R: Runner>(
         &mut self,
         alloc: Global,
         text: Option<&str>,
@@ -278,10 +262,10 @@ impl Setup {
         let words = words_in(alloc, text)?;
         let mut runs = Runs::new(self.each.is_some() || self.most.len() > 1, self.brief);
         if self.most.is_empty() {
-            self.run_most(alloc, &words, 4096, &mut runs, out)?;
+            self.run_most::<R>(alloc, &words, 4096, &mut runs, out)?;
         }
         for most in &self.most {
-            self.run_most(alloc, &words, *most, &mut runs, out)?;
+            self.run_most::<R>(alloc, &words, *most, &mut runs, out)?;
         }
         runs.put(out)?;
         self.proof = runs.into_proof(alloc, words.last().map(|word| word.as_str()))?;
@@ -289,7 +273,7 @@ impl Setup {
     }
 
     /// Runs the words once, or with a call of the kind failing at each place in turn.
-    fn run_most(
+    fn run_most<R: Runner>(
         &self,
         alloc: Global,
         words: &[String],
@@ -297,13 +281,13 @@ impl Setup {
         runs: &mut Runs,
         out: &mut Vec<u8>,
     ) -> Result<(), NoMemory> {
-        let whole = self.ran(alloc, words, most, None)?;
+        let whole = self.ran::<R>(alloc, words, most, None)?;
         let Some(call) = self.each else {
             runs.add(whole, out)?;
             return Ok(());
         };
         for place in 1..=MOST_PLACES {
-            let outcome = self.ran(alloc, words, most, Some(FailAt { call, place }))?;
+            let outcome = self.ran::<R>(alloc, words, most, Some(FailAt { call, place }))?;
             let last = outcome.is_same(&whole, self.brief.is_some());
             runs.add(outcome, out)?;
             if last {
@@ -314,7 +298,7 @@ impl Setup {
     }
 
     /// Runs the words over a new desk.
-    fn ran(
+    fn ran<R: Runner>(
         &self,
         alloc: Global,
         words: &[String],
@@ -322,20 +306,20 @@ impl Setup {
         fail: Option<FailAt>,
     ) -> Result<Outcome, NoMemory> {
         if self.calm {
-            self.over_calm(alloc, words)
+            self.over_calm::<R>(alloc, words)
         } else {
-            self.over_memory(alloc, words, most, fail)
+            self.over_memory::<R>(alloc, words, most, fail)
         }
     }
 
-    fn over_calm(&self, alloc: Global, words: &[String]) -> Result<Outcome, NoMemory> {
+    fn over_calm<R: Runner>(&self, alloc: Global, words: &[String]) -> Result<Outcome, NoMemory> {
         let files = copied(alloc, &self.files)?;
         let mut desk = CalmDesk::new(alloc, files)?;
-        let code = code_of_calm(alloc, words, &mut desk);
+        let code = R::run_calm(alloc, words, &mut desk);
         Ok(Outcome::of_calm(alloc, code, &desk)?)
     }
 
-    fn over_memory(
+    fn over_memory<R: Runner>(
         &self,
         alloc: Global,
         words: &[String],
@@ -345,7 +329,7 @@ impl Setup {
         let files = copied(alloc, &self.files)?;
         let fails = all_fails(alloc, &self.fails, fail)?;
         let mut desk = new_memory(alloc, files, most, self.room, fails)?;
-        let code = code_of_run(alloc, words, &mut desk);
+        let code = R::run(alloc, words, &mut desk);
         Ok(Outcome::of_memory(alloc, code, &desk)?)
     }
 }

@@ -1,5 +1,5 @@
 use Rattle.std.proofs.Common.{◌≤◌, ◌-◌}
-use Rattle.tidewise_rows.proofs.compared.same_start.Given as goal
+use Rattle.hw_cases.proofs.compared.same_start.Given as goal
 
 abbrev pub invariant-loop-count : goal.invariant-loop-count
 invariant-loop-count l = l.count ≤ l.most
