@@ -66,7 +66,7 @@ class Comparison:
             print(f"{' '.join(words)}: the program prints {shown}, and check.py {said}")
             if self.keep:
                 folder = os.path.join(self.keep, str(self.differences))
-                os.makedirs(folder)
+                os.makedirs(folder, exist_ok=True)
                 for name in words[1:]:
                     shutil.copy(name, folder)
 
@@ -124,10 +124,11 @@ def literals_drawn(r, problem):
     return "".join(" " + literal for _, literal in chosen)
 
 
-def line_drawn(r, problem, clauses, tolls):
-    """A line of some kind, that has its form and is about this problem."""
+def line_drawn(r, problem, lines):
+    """A line of some kind, which has its form and is about this problem, after these lines."""
     ships, slots, restrictions = problem.ships, problem.slots, problem.ships + len(problem.rules)
-    literals, letter = literals_drawn(r, problem), r.choice("tteeeeeogglldnnuuyyppbb")
+    clauses, tolls, priced = (sum(line[0] in letters for line in lines) for letters in ("eoglp", "nu", "y"))
+    literals, letter = literals_drawn(r, problem), r.choice("tteeeeeogglldnnuu" + "yyy" * (tolls > 0) + "ppppbb" * (priced > 0) + "ypb")
     if letter == "t":
         return "t " + " ".join(str(number_near(r, slots)) for _ in range(ships))
     if letter == "e":
@@ -286,10 +287,10 @@ def draws(comparison, r, count, folder):
         comparison.hold([kind, *files[:one], names[3], *files[one + 1:], names[2]])
         lines = text.split("\n")[:-1]
         for _ in range(5):
-            some = ["cert 3", *lines[1:r.randrange(1, len(lines) + 1)]]
-            for _ in range(r.randrange(1, 6)):
-                clauses, tolls = (sum(line[0] in letters for line in some[1:]) for letters in ("eoglp", "nu"))
-                some.append(line_drawn(r, problem, clauses, tolls))
+            some = lines[1:r.randrange(1, len(lines) + 1)]
+            for _ in range(r.randrange(1, 9)):
+                some.append(line_drawn(r, problem, some))
+            some.insert(0, "cert 3")
             written(names[3], "\n".join(some) + "\n")
             comparison.hold([kind, *files, names[3]])
 
