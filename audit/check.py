@@ -4,11 +4,12 @@
 usage: audit/check.py flat NAME CERT
        audit/check.py port INSTANCE TIDES CERT
 
-It was written from docs/FORMATS.md and the definitions in plain words, and shares nothing with the program. What stands in double
-quotes in a comment is a sentence of docs/FORMATS.md, and the test beside it is that sentence. Three reports aren't the same to the
-word: of a faulty instance it prints `bad instance` alone, it never says `memory`, and words that fit no line above get these lines.
+Written from docs/FORMATS.md and the definitions in plain words, it shares nothing with the program. What stands in double quotes in a
+comment is cited from that page. Three reports differ: a faulty instance is `bad instance` without the place, `memory` never comes, and
+words that fit no line above get these lines. What a later member of the same name replaces in an instance isn't looked at.
 """
 import csv, io, itertools, json, re, sys
+csv.field_size_limit(4194304)
 NUMBER = "(?:0|[1-9][0-9]{0,18})"  # "decimal digits without sign, and without a leading zero unless it is `0` itself"
 SIGNED = "(?:0|-?[1-9][0-9]{0,18})"  # "A signed number may have one `-` before a number other than 0"
 

@@ -66,7 +66,7 @@ class Comparison:
             print(f"{' '.join(words)}: the program prints {shown}, and check.py {said}")
             if self.keep:
                 folder = os.path.join(self.keep, str(self.differences))
-                os.makedirs(folder)
+                os.makedirs(folder, exist_ok=True)
                 for name in words[1:]:
                     shutil.copy(name, folder)
 
@@ -124,10 +124,29 @@ def literals_drawn(r, problem):
     return "".join(" " + literal for _, literal in chosen)
 
 
-def line_drawn(r, problem, clauses, tolls):
-    """A line of some kind, that has its form and is about this problem."""
+def lines_drawn(r, problem, lines):
+    """The lines, and then drawn ones: each holds, as check.py says, but perhaps the last one."""
+    checker, lines, letters = check.Checker(problem), list(lines), check.VERSIONS[b"cert 3\n"]
+    for line in lines:
+        checker.step(*check.line_read(problem, letters, line + "\n"))
+    for _ in range(r.randrange(1, 40)):
+        if checker.ended and r.randrange(4):
+            break
+        lines.append(line_drawn(r, problem, lines, checker))
+        try:
+            checker.step(*check.line_read(problem, letters, lines[-1] + "\n"))
+        except check.Ends:
+            if r.randrange(8) == 0:
+                break
+            lines.pop()
+    return lines
+
+
+def line_drawn(r, problem, lines, checker):
+    """A line of some kind, which has its form and is about this problem, after these lines."""
     ships, slots, restrictions = problem.ships, problem.slots, problem.ships + len(problem.rules)
-    literals, letter = literals_drawn(r, problem), r.choice("tteeeeeogglldnnuuyyppbb")
+    clauses, tolls, priced = (sum(line[0] in letters for line in lines) for letters in ("eoglp", "nu", "y"))
+    literals, letter = literals_drawn(r, problem), r.choice("tteeeeeogglldnnuu" + "yyy" * (tolls > 0) + "ppppbb" * (priced > 0) + "ypb")
     if letter == "t":
         return "t " + " ".join(str(number_near(r, slots)) for _ in range(ships))
     if letter == "e":
@@ -153,7 +172,11 @@ def line_drawn(r, problem, clauses, tolls):
     if letter == "y":
         some = sorted({1 + number_near(r, tolls) for _ in range(r.randrange(4))})
         return f"y {r.choice([0, 1, 1, 3])}" + "".join(f" {toll}:{r.randrange(60)}" for toll in some)
-    return f"b {r.randrange(200)}"
+    if not checker.scale or r.randrange(4) == 0:
+        return f"b {r.randrange(200)}"
+    # Near the least bound that the prices in force show.
+    gains = [max((gain for gain in row if gain is not None), default=0) for row in checker.earned]
+    return f"b {max(0, (checker.allowance + sum(gains)) // checker.scale + r.choice([-1, -1, 0, 0, 0, 1, 9]))}"
 
 
 def flat_drawn(r):
@@ -286,11 +309,8 @@ def draws(comparison, r, count, folder):
         comparison.hold([kind, *files[:one], names[3], *files[one + 1:], names[2]])
         lines = text.split("\n")[:-1]
         for _ in range(5):
-            some = ["cert 3", *lines[1:r.randrange(1, len(lines) + 1)]]
-            for _ in range(r.randrange(1, 6)):
-                clauses, tolls = (sum(line[0] in letters for line in some[1:]) for letters in ("eoglp", "nu"))
-                some.append(line_drawn(r, problem, clauses, tolls))
-            written(names[3], "\n".join(some) + "\n")
+            some = lines_drawn(r, problem, lines[1:r.randrange(1, len(lines) + 1)])
+            written(names[3], "\n".join(["cert 3", *some]) + "\n")
             comparison.hold([kind, *files, names[3]])
 
 
