@@ -49,7 +49,7 @@ SAME_KIND = 11 * 60, 14 * 60
 # The usual time from one water to the next, in minutes.
 HALF_TIDE = 372
 # By how much the time from one water to the next may differ from what it is a day earlier or later, in minutes.
-OF_A_DAY = 45
+OF_A_DAY = 40
 WATERS_OF_A_DAY = 4
 ASKED = "was the clock changed, or is a water missing? (--one-clock if neither)"
 
