@@ -283,9 +283,13 @@ def ships_of(text, port):
 def read_port(name, text, order):
     """What a base file says, or why it says nothing."""
     try:
-        return port_of(json.loads(text), order)
+        base = json.loads(text)
     except json.JSONDecodeError as fault:
         raise Refused(f"{name}, line {fault.lineno}: {fault.msg}") from None
+    except (ValueError, RecursionError):
+        raise Refused(f"{name}, root: a number is too long, or lists stand too deep in each other") from None
+    try:
+        return port_of(base, order)
     except Fault as fault:
         raise Refused(f"{name}, {'.'.join(map(str, fault.place)) or 'root'}: {fault.cause}") from None
 

@@ -167,6 +167,8 @@ class Refused(unittest.TestCase):
             self.refused(f"port.json, {cause}", base=BASE.replace(old, new, 1))
         self.refused("port.json, line 1: Expecting value", base="")
         self.refused("port.json, root: [] is no object", base="[]")
+        for text in ["[" * 100000, "9" * 5000]:
+            self.refused("port.json, root: a number is too long, or lists stand too deep in each other", base=text)
 
     def test_words(self):
         for words, cause in [([], "usage: port.py [--dates dmy|mdy|ymd] SHIPS.csv PORT.json"),

@@ -169,6 +169,10 @@ class Reading(Room):
         self.assertEqual(self.heights(FROM_LOW, minutes="372", source="waters.txt*0,5"), [29, 215, 37])
         self.assertEqual(self.heights(FROM_LOW, minutes="372", source="waters.txt+1ft"), [88, 461, 104])
 
+    def test_last_slot(self):
+        # In 2985 minutes, but a table has 2048 slots at most.
+        self.assertEqual(len(self.heights(TWO_DAYS, minutes="1")), 2048)
+
     def test_waypoints_end_together(self):
         self.put("long.txt", TWO_DAYS)
         self.put("short.txt", FROM_LOW)
@@ -246,6 +250,7 @@ class Refusals(Room):
                 (["Bar=waters.txt*0"], "Bar=waters.txt*0: the factor must be above 0"),
                 (["Bar=waters.txt*1.2.3"], "Bar=waters.txt*1.2.3: 1.2.3 is no number of times"),
                 (["Bar=waters.txt*9"], "waters.txt, line 2: the height must be from -20 to 20 metres"),
+                ([f"{number}=waters.txt" for number in range(17)], "there are more than 16 waypoints, or two of one name"),
                 (["Bar=waters.txt", "Bar=waters.txt"], "there are more than 16 waypoints, or two of one name")]:
             self.refused([START, "15", *words], cause)
         for words, cause in [

@@ -13,7 +13,7 @@ the datum of the depths.
 
 Times may lack the colon, and heights may have a comma. An empty line, or one that begins with #, says nothing. The first
 water must be at START or earlier. All times must be of one clock: where a list looks as if the clock was changed or a
-water is missing, it is refused.
+water is missing, it is refused. In a list of less than two days a change of an hour may not show.
 
     --dates dmy   dates are written day, month, year, as 14.03.2027 or 14/03/2027; so with mdy and ymd
     --feet        heights are in feet
@@ -49,7 +49,7 @@ SAME_KIND = 11 * 60, 14 * 60
 # The usual time from one water to the next, in minutes.
 HALF_TIDE = 372
 # By how much the time from one water to the next may differ from what it is a day earlier or later, in minutes.
-OF_A_DAY = 45
+OF_A_DAY = 40
 WATERS_OF_A_DAY = 4
 ASKED = "was the clock changed, or is a water missing? (--one-clock if neither)"
 

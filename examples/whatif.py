@@ -244,7 +244,7 @@ def main():
     try:
         with open(instance, encoding="utf-8") as file:
             variants = variants_of(json.load(file), words)
-    except (ValueError, KeyError, TypeError, AttributeError):
+    except (ValueError, KeyError, TypeError, AttributeError, RecursionError):
         refuse(f"{instance} is no instance: the program tells the first fault")
     given.program = shutil.which(os.path.abspath(given.program)) or refuse(f"{given.program} can't be run")
     kept = given.slurm or given.keep
