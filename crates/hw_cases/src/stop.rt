@@ -5,7 +5,7 @@ use std::alloc::AllocError;
 use std::io;
 
 /// Why the cases weren't all run.
-#[derive(Drop)]
+#[derive(Debug, Drop)]
 pub enum Stop {
     /// A line of a file has no form.
     Line { file: String, number: u64 },

@@ -14,8 +14,8 @@ overflow_add-self c = omega (arith, level_small _ _ _ c.self.invariant.0)
 pub cut-requires-clause-fits : goal.cut-requires-clause-fits
 cut-requires-clause-fits c = lit_in_room _ _ _ c.args.lit c.self.invariant.0 (of_view _ _ (λ (t : TrailModel). lit_fits (trail_shape t) c.args.lit ≡ true) c.self.view_is c.requires.fits)
 
-pub bound_of-requires : goal.bound_of-requires
-bound_of-requires c = record { fits = lit_in_room _ _ _ c.args.lit c.self.invariant.0 (of_view _ _ (λ (t : TrailModel). lit_fits (trail_shape t) c.args.lit ≡ true) c.self.view_is c.requires.fits) }
+pub range_end-requires : goal.range_end-requires
+range_end-requires c = record { fits = lit_in_room _ _ _ c.args.lit c.self.invariant.0 (of_view _ _ (λ (t : TrailModel). lit_fits (trail_shape t) c.args.lit ≡ true) c.self.view_is c.requires.fits) }
 
 pub push_reserved-requires : goal.push_reserved-requires
 push_reserved-requires c =
@@ -30,5 +30,5 @@ push_reserved-requires-2 c =
 pub invariant_of-self : goal.invariant_of-self
 invariant_of-self c = (
   decide_keeps _ _ _ _ _ c.args.lit _ c.self.invariant.0 (of_view _ _ (λ (t : TrailModel). lit_fits (trail_shape t) c.args.lit ≡ true) c.self.view_is c.requires.fits) (of_view _ _ (λ (t : TrailModel). truth (room_of t) c.args.lit ≡ Free) c.self.view_is c.requires.free) c.push_reserved-2.ensures.items c.cut.ensures.room c.push_reserved-2.ensures.capacity,
-  bounds_more _ _ _ _ _ _ _ _ c.self.invariant.1 (c.bound_of.ensures.value ∙ ap (λ r. range_end r c.args.lit) c.self.invariant.0.same_room) c.push_reserved.ensures.items c.push_reserved-2.ensures.items c.push_reserved.ensures.capacity,
+  bounds_more _ _ _ _ _ _ _ _ c.self.invariant.1 (c.range_end.ensures.value ∙ ap (λ r. range_end r c.args.lit) c.self.invariant.0.same_room) c.push_reserved.ensures.items c.push_reserved-2.ensures.items c.push_reserved.ensures.capacity,
 )

@@ -13,8 +13,8 @@ use Rattle.hw_trail.proofs.trail.Trail.imply.Goals as goal
 pub cut-requires-clause-fits : goal.cut-requires-clause-fits
 cut-requires-clause-fits c = lit_in_room _ _ _ c.args.lit c.self.invariant.0 (of_view _ _ (λ (t : TrailModel). lit_fits (trail_shape t) c.args.lit ≡ true) c.self.view_is c.requires.fits)
 
-pub bound_of-requires : goal.bound_of-requires
-bound_of-requires c = record { fits = lit_in_room _ _ _ c.args.lit c.self.invariant.0 (of_view _ _ (λ (t : TrailModel). lit_fits (trail_shape t) c.args.lit ≡ true) c.self.view_is c.requires.fits) }
+pub range_end-requires : goal.range_end-requires
+range_end-requires c = record { fits = lit_in_room _ _ _ c.args.lit c.self.invariant.0 (of_view _ _ (λ (t : TrailModel). lit_fits (trail_shape t) c.args.lit ≡ true) c.self.view_is c.requires.fits) }
 
 pub push_reserved-requires : goal.push_reserved-requires
 push_reserved-requires c =
@@ -34,5 +34,5 @@ invariant_of-self c = (
       (of_view _ _ (λ (t : TrailModel). truth (room_of t) c.args.lit ≡ Free) c.self.view_is c.requires.free)
       (of_view _ _ (λ (t : TrailModel). narrowing (clause_of c.args.why) (room_of t) ≡ Cut c.args.lit) c.self.view_is c.requires.only)
       c.push_reserved-2.ensures.items c.cut.ensures.room c.push_reserved-2.ensures.capacity,
-  bounds_more _ _ _ _ _ _ _ _ c.self.invariant.1 (c.bound_of.ensures.value ∙ ap (λ r. range_end r c.args.lit) c.self.invariant.0.same_room) c.push_reserved.ensures.items c.push_reserved-2.ensures.items c.push_reserved.ensures.capacity,
+  bounds_more _ _ _ _ _ _ _ _ c.self.invariant.1 (c.range_end.ensures.value ∙ ap (λ r. range_end r c.args.lit) c.self.invariant.0.same_room) c.push_reserved.ensures.items c.push_reserved-2.ensures.items c.push_reserved.ensures.capacity,
 )
