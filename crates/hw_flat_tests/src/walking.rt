@@ -1,10 +1,7 @@
-//! Walks over small problems, and timetables and rules tested one by one.
+//! Walks over small problems.
 
-ghost use Rattle.std.specs.Prelude.{IsTrue};
-ghost use Rattle.hw_model.specs.Problem.{IsTimetable};
-
-use hw_flat::{Flat, Slot, Timetable, make_demo};
-use hw_rules::{Walked, allowed_pair, broken, busy, cargo, walk};
+use hw_flat::{Flat, Slot, make_demo};
+use hw_rules::{Walked, walk};
 use std::alloc::Global;
 use std::test::Fail;
 
@@ -25,13 +22,6 @@ const SECOND_STAYS: &[u8] = b"flat 2\nsize 2 3\nv 1 2 3 y\nv 9 9 9 y\ns 0 1 3\ne
 const ONE_SHIP: &[u8] = b"flat 1\nsize 1 3\nv - 5 9\nend\n";
 
 const ZEROS: &[u8] = b"flat 1\nsize 1 3\nv 0 0 0\nend\n";
-
-fn is_timetable(flat: &Flat, slots: &[Slot]) -> bool
-    ensures { IsTrue result → IsTimetable flat.now slots.now }
-{
-    let shape = flat.shape();
-    slots.len() == shape.ships as usize && slots.iter().all(|slot| *slot < shape.slots)
-}
 
 /// What a walk answers, with the slots of its timetable.
 #[derive(Clone, Copy)]
@@ -81,64 +71,6 @@ fn walks(rt: HostRuntime) -> Result<(), Fail> {
     for (name, text, budget, wanted) in WALKS {
         let holds = is_walked(rt.alloc(), text, budget, wanted)?;
         assert!(rt; holds, "{name}");
-    }
-    Ok(())
-}
-
-/// What is carried, and the restriction and the slot that are broken.
-type Told = (Option<u64>, Option<(u32, Option<Slot>)>);
-
-/// Problem, slots, what is told of them.
-const TABLES: [(&[u8], [Slot; 2], Told); 6] = [
-    (APART, [0, 2], (Some(40), None)),
-    (APART, [1, 2], (Some(50), Some((2, None)))),
-    (PASSING, [2, 0], (None, Some((1, None)))),
-    (TUGS, [0, 1], (Some(1), Some((2, Some(1))))),
-    (STAYING, [3, 3], (None, Some((0, None)))),
-    (STAYING, [1, 3], (Some(20), None)),
-];
-
-/// What is told of the slots, where they are a timetable of the problem.
-fn told(alloc: Global, text: &[u8], slots: &[Slot]) -> Result<Option<Told>, Fail> {
-    let flat = Flat::read(alloc, text)?;
-    if !is_timetable(&flat, slots) {
-        return Ok(None);
-    }
-    let table = Timetable::from_slots(alloc, slots)?;
-    let breach = broken(&flat, &table).map(|breach| (breach.restriction, breach.slot));
-    Ok(Some((cargo(&flat, &table), breach)))
-}
-
-#[test]
-fn tests_timetables(rt: HostRuntime) -> Result<(), Fail> {
-    for (text, slots, wanted) in TABLES {
-        let given = told(rt.alloc(), text, &slots)?;
-        assert_eq!(rt; given, Some(wanted), "{slots:?}");
-    }
-    Ok(())
-}
-
-#[test]
-fn tests_tugs(rt: HostRuntime) -> Result<(), Fail> {
-    let flat = Flat::read(rt.alloc(), TUGS)?;
-    let table = Timetable::from_slots(rt.alloc(), &[0, 1])?;
-    for rule in flat.rules() {
-        assert_eq!(rt; flat.shape().ships, 2);
-        for (slot, tugs) in [(0, 2), (1, 4), (2, 4), (3, 2), (4, 0)] {
-            assert_eq!(rt; busy(rule, &table, slot), tugs, "at {slot}");
-        }
-    }
-    Ok(())
-}
-
-#[test]
-fn tests_pairs(rt: HostRuntime) -> Result<(), Fail> {
-    let flat = Flat::read(rt.alloc(), APART)?;
-    for rule in flat.rules() {
-        assert_eq!(rt; flat.shape().slots, 3);
-        for (x, y, holds) in [(0, 2, true), (0, 1, false), (1, 1, false), (2, 0, true)] {
-            assert_eq!(rt; allowed_pair(&flat, rule, x, y), holds, "at {x} and {y}");
-        }
     }
     Ok(())
 }

@@ -1,22 +1,9 @@
-//! The goal's propagator beside trying, over small rooms, and its sum as the room changes.
+//! The goal's propagator beside trying, over small rooms.
 
-ghost use Rattle.std.specs.Prelude.{◌≡◌};
-ghost use Rattle.hw_model.specs.declared.lit.LitTruth.TheVariants.{Free};
-ghost use Rattle.hw_model.specs.Narrowing.{truth};
-
-use crate::found::is_lit_of;
 use crate::kinds::{Asked, Kind, Row, Sweep, agree, hold};
-use crate::rooms::{ANY, OPEN, Rooms, WHOLE, fits};
-use hw_flat::{Flat, Room, Source};
-use hw_goal::GoalBound;
-use hw_lits::truth;
-use hw_model::{Lit, LitTruth, NoMemory};
-use hw_prop::Propagator;
-use std::alloc::Global;
-use std::process::Abort;
+use crate::rooms::{ANY, OPEN, Rooms, WHOLE};
+use hw_flat::Source;
 use std::test::Fail;
-
-const TWO_TUGGED: &[u8] = b"flat 1\nsize 2 6\nv 0 1 5 9 5 1\nv 0 1 5 9 5 1\nu 3 0:2:3 1:2:3\nend\n";
 
 const GOODS: &[u8] = b"flat 1\nsize 2 3\nv 10 20 30\nv 10 20 30\nend\n";
 
@@ -140,31 +127,4 @@ fn single_steps(rt: HostRuntime) -> Result<(), Fail> {
 #[test]
 fn every_room_as_by_trying(rt: HostRuntime) -> Result<(), Fail> {
     agree(&rt, rt.alloc(), &SWEEPS)
-}
-
-/// The sum before and after a cut, and in the whole room again.
-fn sums(alloc: Global, flat: &Flat, lit: Lit) -> Result<Option<(u64, u64, u64)>, NoMemory> {
-    let mut goal = GoalBound::new(alloc, flat)?;
-    let whole = Room::whole(alloc, flat.shape())?;
-    let first = goal.sum();
-    if !fits(flat, &whole) || !is_lit_of(whole.ships(), lit) {
-        return Ok(None);
-    }
-    match truth(lit, &whole) {
-        LitTruth::Free => {
-            goal.changed(flat, &whole, lit);
-            let second = goal.sum();
-            goal.undone(flat, &whole);
-            Ok(Some((first, second, goal.sum())))
-        }
-        _ => Ok(None),
-    }
-}
-
-#[test]
-fn sum_follows_the_room(rt: HostRuntime) -> Result<(), Fail> {
-    let flat = Flat::read(rt.alloc(), TWO_TUGGED)?;
-    let lit = Lit::Before { ship: 0, slot: 2 };
-    assert_eq!(rt; sums(rt.alloc(), &flat, lit)?, Some((18, 10, 18)));
-    Ok(())
 }

@@ -1,19 +1,9 @@
 //! The plain propagator of each kind of source, in rooms whose clauses were worked out by hand.
 
-ghost use Rattle.std.specs.Prelude.{◌≡◌};
-ghost use Rattle.hw_model.specs.Lits.{IsLitOf};
-ghost use Rattle.hw_model.specs.Rooms.{RoomFits};
-
-use crate::found::{is_lit_of, is_source, says};
-use crate::kinds::{Asked, Kind, Row, hold};
-use crate::rooms::{ANY, OPEN, WHOLE, fits, room_of};
+use crate::kinds::{Asked, Kind, Row, Sweep, agree, hold};
+use crate::rooms::{ANY, OPEN, Rooms, WHOLE};
 use hw_flat::Order::{First, NotFirst, Unset};
-use hw_flat::{Flat, Room, Source};
-use hw_lits::{Found, cut, truth};
-use hw_model::{Lit, LitTruth, NoMemory};
-use hw_prop::{Propagator, Shaver};
-use std::alloc::Global;
-use std::process::Abort;
+use hw_flat::Source;
 use std::test::Fail;
 
 const VALUES: &[u8] = b"flat 1\nsize 1 4\nv - - 5 -\nend\n";
@@ -31,11 +21,9 @@ const STAYING_GOODS: &[u8] = b"flat 2\nsize 2 2\nv 10 30 y\nv 10 20 y\nend\n";
 const STAYING_RULES: &[u8] =
     b"flat 2\nsize 3 3\nv 1 1 1 y\nv 1 1 1 y\nv 1 1 1 y\np 0 1 -2:2\ns 0 1 1\nu 1 0:1:2 1:1:2\nend\n";
 
-const FIRST_PAIR: Source = Source::Rule { place: 0 };
-
 const WINDOW: Asked = (Kind::Plain, Source::Window { ship: 0 });
 
-const PAIR: Asked = (Kind::Plain, FIRST_PAIR);
+const PAIR: Asked = (Kind::Plain, Source::Rule { place: 0 });
 
 const AFTER: Asked = (Kind::Plain, Source::Rule { place: 1 });
 
@@ -295,69 +283,16 @@ fn first_steps_of_the_goal(rt: HostRuntime) -> Result<(), Fail> {
     hold(&rt, rt.alloc(), &GOAL_ROWS)
 }
 
-/// What a propagator finds in a room, in that room cut by a literal, and in another room.
-fn three_steps<P: Propagator>(
-    propagator: &mut P,
-    alloc: Global,
-    flat: &Flat,
-    room: &mut Room,
-    lit: Lit,
-    other: &Room,
-) -> Result<[Option<Found>; 3], NoMemory>
-    requires ready { P.ready propagator.old flat.now room.old }
-    requires fits { IsLitOf flat.now.ships lit }
-    requires ships { room.old.ships ≡ flat.now.ships }
-    requires other { RoomFits flat.now other.now }
-{
-    let first = propagator.step(alloc, flat, None, room)?;
-    if let LitTruth::Free = truth(lit, room) {
-        propagator.changed(flat, room, lit);
-        cut(lit, room);
-    }
-    let second = propagator.step(alloc, flat, None, room)?;
-    propagator.undone(flat, other);
-    let third = propagator.step(alloc, flat, None, other)?;
-    Ok([Some(first), Some(second), Some(third)])
-}
+/// Each two ranges of four slots.
+const TWO_RANGES: Rooms = Rooms {
+    ranges: 10,
+    third: false,
+    count: 100,
+};
 
-/// The same of a Shaver that begins in the first ship's first slot, and the source that it has then.
-fn shaved_thrice(
-    alloc: Global,
-    flat: &Flat,
-    lit: Lit,
-) -> Result<(Source, [Option<Found>; 3]), NoMemory> {
-    let mut room = room_of(alloc, flat, &[(0, 0), ANY, ANY], &OPEN)?;
-    let other = room_of(alloc, flat, &WHOLE, &OPEN)?;
-    if is_source(flat, FIRST_PAIR)
-        && is_lit_of(flat.shape().ships, lit)
-        && fits(flat, &room)
-        && fits(flat, &other)
-    {
-        let mut shaver = Shaver::new(FIRST_PAIR);
-        let found = three_steps(&mut shaver, alloc, flat, &mut room, lit, &other)?;
-        Ok((shaver.source(), found))
-    } else {
-        Ok((Source::Goal, [None, None, None]))
-    }
-}
+const SWEEPS: [Sweep; 1] = [("one in each room", RULES, PAIR, None, TWO_RANGES)];
 
 #[test]
-fn one_shaver_in_three_rooms(rt: HostRuntime) -> Result<(), Fail> {
-    let flat = Flat::read(rt.alloc(), RULES)?;
-    let lit = Lit::AtOrAfter { ship: 1, slot: 2 };
-    let (source, found) = shaved_thrice(rt.alloc(), &flat, lit)?;
-    assert!(rt;
-        says(&found[0], Some(&[('a', 0, 2), ('a', 1, 2)])),
-        "apart by 2"
-    );
-    assert!(rt;
-        says(&found[1], Some(&[('b', 1, 2), ('f', 0, 1)])),
-        "ship 1 is later"
-    );
-    assert!(rt;
-        says(&found[2], None),
-        "each has a slot apart from the other"
-    );
-    assert_eq!(rt; source, FIRST_PAIR);
-    Ok(())
+fn one_shaver_in_every_room(rt: HostRuntime) -> Result<(), Fail> {
+    agree(&rt, rt.alloc(), &SWEEPS)
 }
