@@ -3,3 +3,4 @@ pub mod Laws
 pub mod Alike
 pub mod Bands
 pub mod Lanes
+pub mod Sheet

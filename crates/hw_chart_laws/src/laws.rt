@@ -4,6 +4,7 @@ ghost use Rattle.hw_chart_laws.specs.Alike.{FlatRowsReadBack, PortRowsReadBack};
 ghost use Rattle.hw_chart_laws.specs.Bands.{FlatPartsLieApart, PortPartsLieApart};
 ghost use Rattle.hw_chart_laws.specs.Lanes.{BlocksAreOccupations, LanesAreBlocks, OneWayIsSeen};
 ghost use Rattle.hw_chart_laws.specs.Laws.{BarsAreSlots, FlatPicturesAreTrees, FlatPlansReadBack, FullBarsAreFullDrafts, PortPicturesAreTrees, PortPlansReadBack};
+ghost use Rattle.hw_chart_laws.specs.Sheet.{FetchesNothing};
 
 /// The picture of a flat problem is one element of trees.
 pub fn flat_pictures_are_trees()
@@ -69,4 +70,9 @@ pub fn blocks_are_occupations()
 /// Where the port permits the timetable, no slot of a section has a block in both halves.
 pub fn one_way_is_seen()
     ensures { OneWayIsSeen }
+{}
+
+/// The style sheet of every picture imports no other sheet and names no address, so that a viewer fetches nothing for it.
+pub fn style_fetches_nothing()
+    ensures { FetchesNothing }
 {}

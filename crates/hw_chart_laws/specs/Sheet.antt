@@ -1,0 +1,19 @@
+-- What the style sheet of every picture doesn't ask a viewer to fetch.
+use Rattle.std.specs.Prelude.{◌≡◌, ◌==◌, ◌&&◌, ◌||◌, Bool, true, false, ℕ, List, [], ◌∷◌, codes}
+use Rattle.hw_chart.specs.declared.style.TheConstants.{STYLE}
+
+-- the first bytes are these
+abbrev pub begins : List ℕ → List ℕ → Bool
+begins [] bytes = true
+begins (c ∷ part) [] = false
+begins (c ∷ part) (b ∷ bytes) = c == b && begins part bytes
+
+-- these bytes stand somewhere in the others
+abbrev pub stands_in : List ℕ → List ℕ → Bool
+stands_in part [] = false
+stands_in part (b ∷ bytes) = begins part (b ∷ bytes) || stands_in part bytes
+
+-- no other sheet is imported, and nothing is named by its address
+pub record FetchesNothing : Type 0 where
+  pub no_import : stands_in (codes "@import") STYLE.now ≡ false
+  pub no_address : stands_in (codes "url(") STYLE.now ≡ false
