@@ -5,10 +5,10 @@ is doubtful counts as cited."""
 import re
 
 COMMENT = re.compile(r"--.*")
-USE = re.compile(r"\buse\s+Rattle\.([\w.-]+?)(?:\.\{([^}]*)\}|\.([^\s{};.]*◌[^\s{};]*))?(?: +as +([^\s;]+))?[ \t]*(?=[;\n]|$)")
+USE = re.compile(r"\buse\s+Rattle\.([\w.+-]+?)(?:\.\{([^}]*)\}|\.([^\s{};.]*◌[^\s{};]*))?(?: +as +([^\s;]+))?[ \t]*(?=[;\n]|$)")
 ATTRIBUTE = re.compile(r"\b(\w+)::((?:specs|proofs)(?:::\w+)+)")
 TOKEN = re.compile(r"[^\s(){}\[\];,.\"]+(?:\.[^\s(){}\[\];,.\"]+)*|\[\]")
-SECTION = re.compile(r"(module\b.*where|(abbrev )?mutual)$")
+SECTION = re.compile(r"^(module\b[^\n]*(?:\n +[^\n]*)*?\bwhere|(?:abbrev )?mutual)$", re.M)
 HEAD = re.compile(r"((?:abbrev|pub|unfoldable|record|data)\s+)*([^\s:(){}]+)")
 BINDER = re.compile(r"[({]([^(){}:]+?) :|λ ([^.]+?)\.(?=\s)")
 
@@ -63,9 +63,14 @@ class Module:
 
     def split(self, text):
         current, section = None, None
-        for number, line in enumerate(USE.sub(blank, COMMENT.sub("", text)).split("\n"), 1):
-            if SECTION.match(line):
-                section, current = line, None
+        text = USE.sub(blank, COMMENT.sub("", text))
+        heads = {text.count("\n", 0, it.start()): it[0] for it in SECTION.finditer(text)}
+        last = 0
+        for number, line in enumerate(text.split("\n"), 1):
+            if number - 1 in heads:
+                section, current = heads[number - 1], None
+                last = number + section.count("\n")
+            if number <= last:
                 continue
             if section is not None and line.startswith("  "):
                 line = line[2:]
@@ -131,26 +136,21 @@ def cited(module, text):
 
 
 class Tree:
-    """All modules of all crates, and what is reached from the sources, the answers and the edits."""
+    """All modules of all crates, and what is reached from the sources and the answers."""
 
     def __init__(self, top):
-        self.top, self.modules, self.edits = top, {}, {}
-        for edit in sorted(top.glob("*/must-fail/*.edit")):
-            text = edit.read_text()
-            named = re.search(r"^file:\s*(\S+)", text, re.M)
-            if named:
-                self.edits.setdefault(edit.parent.parent / named[1], []).append(text)
+        self.top, self.modules = top, {}
         for folder in ("specs", "proofs", "src"):
             for file in sorted([*top.glob(f"*/{folder}/**/*.antt"), *top.glob(f"*/{folder}/**/*.rt")]):
                 name = module_of(top, file) + ("" if file.suffix == ".antt" else ".rt")
-                self.modules[name] = Module(name, file, file.read_text() + "\n".join(self.edits.get(file, [])))
+                self.modules[name] = Module(name, file, file.read_text())
 
     def declarations(self):
         for module in self.modules.values():
             yield from module.declared.values()
 
     def reached(self):
-        """Each declaration that the code, a generated goal or an edit needs, by steps of citing."""
+        """Each declaration that the code or a generated goal needs, by steps of citing."""
         seen, todo = set(), []
 
         def take(module, text):

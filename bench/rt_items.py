@@ -10,8 +10,11 @@ ITEM = re.compile(r"^(pub(?:\(crate\))? )?(?:const |unsafe )*(fn|struct|enum|con
 METHOD = re.compile(r"^    (pub(?:\(crate\))? )?(?:const )*fn (\w+)", re.M)
 TOKEN = re.compile(r"[A-Za-z_]\w*|::|\.\.=?|\S")
 BOUND = re.compile(r"\b(?:let|for|mut|ref)\s+(?:mut )?(\w+)|\b(\w+)\s*:(?!:)|\|\s*(\w+)\s*\|")
-CONST = re.compile(r"\bpub(?:\(crate\))? const (\w+): (?:u|i)\w+ = ([\d_]+|1 << \d+);")
-NUMBER = re.compile(r"(?<![\w.])\d[\d_]*(?![\w.]|\.\d)")
+CONST = re.compile(r"\bpub(\(crate\))? const (\w+): (?:u|i)\w+ = ([\d_]+|1 << \d+);")
+ANY_CONST = re.compile(r"\bconst [A-Z]\w*:")
+CONST_NAME = re.compile(r"\b[A-Z][A-Z\d_]+\b")
+CONSTS_OF_SPECS = re.compile(r"\.specs\.declared\.[\w.]*TheConstants\.\{([^}]*)\}")
+NUMBER = re.compile(r"(?<![\w.])(?<!\^ )(?<!<< )\d[\d_]*(?![\w.]|\.\d)")
 LEAST_LIMIT = 40
 
 
@@ -30,14 +33,16 @@ def blank(text, start, end):
 
 
 def code_of(text):
-    """A file's code without comments, strings, clauses and other ghosts, with the same lines."""
+    """A file's code without comments, strings, clauses and other ghosts, with the same lines, and its clauses."""
     for pattern in (COMMENT, STRING, GHOST_USE):
         text = pattern.sub(lambda it: re.sub(r"[^\n]", " ", it[0]), text)
-    at = 0
+    at, clauses = 0, []
     while found := CLAUSE.search(text, at):
-        text = blank(text, found.start(), closing(text, found.end() - 1))
+        end = closing(text, found.end() - 1)
+        clauses.append(text[found.start() : end])
+        text = blank(text, found.start(), end)
         at = found.end()
-    return text
+    return text, "\n".join(clauses)
 
 
 def cited(text):
@@ -75,20 +80,28 @@ class Item:
     def spelled(self):
         return f"{self.owner}::{self.name}" if self.owner else self.name
 
+    def path(self):
+        return f"{self.crate}::{self.spelled()}"
+
 
 class Sources:
     """The items of all .rt files, and what each file imports."""
 
     def __init__(self, top):
-        self.top, self.items, self.imports, self.code = top, [], {}, {}
+        self.top, self.items, self.imports, self.code, self.in_clauses = top, [], {}, {}, set()
         for file in sorted(top.glob("*/src/**/*.rt")):
-            self.code[file] = code = code_of(file.read_text())
+            code, clauses = code_of(file.read_text())
+            self.code[file] = code
+            self.in_clauses.update(CONST_NAME.findall(clauses))
             self.imports[file] = imported(file.relative_to(top).parts[0], code)
             self.items += items_of(top, file, USE.sub(lambda it: re.sub(r"[^\n]", " ", it[0]), code))
         self.tests = {it.crate for it in self.items if it.crate.endswith("_tests")}
+        self.programs = {it.crate for it in self.items if it.name == "main"}
         self.types = set()
         for file in top.glob("*/*/**/*.antt"):
-            self.types.update(re.findall(r"Rattle\.(\w+)\.specs\.declared\.(?:\w+\.)*?(\w+)\.(?:\{|TheVariants)", file.read_text()))
+            text = file.read_text()
+            self.types.update(re.findall(r"Rattle\.(\w+)\.specs\.declared\.(?:\w+\.)*?(\w+)\.(?:\{|TheVariants)", text))
+            self.in_clauses.update(name for names in CONSTS_OF_SPECS.findall(text) for name in CONST_NAME.findall(names))
 
     def reached(self, is_start):
         """The items that are reached from those that `is_start` takes."""
@@ -120,13 +133,14 @@ class Sources:
                     todo += (it for it in by_method.get(word, ()) if it.is_called(before, owners))
         return seen
 
-    def unused(self):
-        """Each public item of a library that neither a program nor a test reaches, and each that only tests reach."""
-        in_programs = self.reached(lambda it: it.root and it.crate not in self.tests)
+    def unused(self, stay):
+        """Each public item of a library that neither a program nor a test reaches, and each that only tests reach. The
+        items that stay in any case, and what they need, are none."""
+        in_programs = self.reached(lambda it: it.crate not in self.tests and (it.root or it.path() in stay))
         in_all = self.reached(lambda it: it.root)
         for it in self.items:
             if it.public and it.name and it.crate not in self.tests and it not in in_programs:
-                if it.owner is None and (it.crate, it.name) in self.types:
+                if it.owner is None and ((it.crate, it.name) in self.types or it.name in self.in_clauses):
                     continue
                 yield it, it in in_all
 
@@ -171,38 +185,45 @@ def is_law(kind, text):
     return kind == "fn" and re.search(r"\{\s*\}\s*(?:#\[[^\n]*\s*)*$", text) is not None and len(re.findall(r"\{", text)) == 1
 
 
+def dependencies(listed):
+    """Each crate of crates.txt with the crates that it may name."""
+    rows = (row.partition(":") for row in listed.read_text().splitlines())
+    return {crate: names.split() for crate, _, names in rows}
+
+
 def unused_dependencies(top, listed):
     """Each crate that a row of crates.txt names, and no file of the row's crate."""
-    for row in listed.read_text().splitlines():
-        crate, _, names = row.partition(":")
+    for crate, names in dependencies(listed).items():
         texts = [it.read_text() for kind in ("*.rt", "*.antt") for it in top.glob(f"{crate}/*/**/{kind}")]
         whole = "\n".join(COMMENT.sub("", it) for it in texts)
-        for name in names.split():
+        for name in names:
             if not re.search(rf"\b{name}(::|\.)|\buse {name}\b", whole):
                 yield crate, name
 
 
 def limits(sources):
-    """The constants of whole numbers that are limits, by value."""
+    """The constants of whole numbers that are limits: number -> (crate, whether others may cite it, name)."""
     named = {}
     for file, text in sources.code.items():
-        for name, value in CONST.findall(text):
+        for closed, name, value in CONST.findall(text):
             number = 1 << int(value[5:]) if value.startswith("1 <<") else int(value.replace("_", ""))
             if number >= LEAST_LIMIT:
-                named.setdefault(number, set()).add(name)
+                named.setdefault(number, []).append((file.relative_to(sources.top).parts[0], not closed, name))
     return named
 
 
-def bare_limits(sources):
-    """Each number of a library's code or clauses that a constant names."""
-    named = limits(sources)
+def bare_limits(sources, listed):
+    """Each number of a library's code or clauses for which there are constants that the crate may cite, with these."""
+    named, below = limits(sources), dependencies(listed)
     for file in sources.code:
-        if file.relative_to(sources.top).parts[0] in sources.tests:
+        own = file.relative_to(sources.top).parts[0]
+        if own in sources.tests | sources.programs:
             continue
         text = STRING.sub('""', COMMENT.sub("", file.read_text()))
         for line, words in enumerate(text.split("\n"), 1):
-            if CONST.search(words):
-                continue
-            for found in NUMBER.findall(words):
-                for name in sorted(named.get(int(found.replace("_", "")), ())):
-                    yield file, line, found, name
+            numbers = () if ANY_CONST.search(words) else NUMBER.findall(words)
+            for found in dict.fromkeys(numbers):
+                constants = named.get(int(found.replace("_", "")), ())
+                names = [name for crate, is_open, name in constants if crate == own or is_open and crate in below.get(own, ())]
+                if names:
+                    yield file, line, found, names
