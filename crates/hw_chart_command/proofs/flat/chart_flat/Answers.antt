@@ -8,7 +8,7 @@ pub draw-requires : goal.draw-requires
 draw-requires g c = record { listed = chart_listed c.in-Ok-read_shown.shown c.in-Ok.ensures.flat c.in-Ok-read_shown.ensures.shown }
 
 pub returns-in-Ok-read_shown : goal.returns-in-Ok-read_shown
-returns-in-Ok-read_shown g c = chart_draws c.in-Ok-read_shown.shown c.in-Ok.ensures.flat c.in-Ok-read_shown.ensures.shown c.draw.ensures
+returns-in-Ok-read_shown g c = chart_draws c.in-Ok-read_shown.shown c.in-Ok.ensures.flat c.in-Ok-read_shown.ensures.shown c.draw.ensures.ends
 
 pub returns : goal.returns
 returns g c = chart_refuses c.in-Ok.ensures.flat c.in-Err-read_shown.ensures.shown c.finish-in-Err-read_shown.ensures

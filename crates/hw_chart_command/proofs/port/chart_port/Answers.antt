@@ -12,7 +12,7 @@ draw-requires g c = record {
 }
 
 pub returns-in-Ok-read_shown : goal.returns-in-Ok-read_shown
-returns-in-Ok-read_shown g c = chart_draws c.in-Ok-read_shown.shown c.in-Ok.ensures.problem c.in-Ok-read_shown.ensures.shown c.draw.ensures
+returns-in-Ok-read_shown g c = chart_draws c.in-Ok-read_shown.shown c.in-Ok.ensures.problem c.in-Ok-read_shown.ensures.shown c.draw.ensures.ends
 
 pub returns : goal.returns
 returns g c = chart_refuses c.in-Ok.ensures.problem c.in-Err-read_shown.ensures.shown c.finish-in-Err-read_shown.ensures
