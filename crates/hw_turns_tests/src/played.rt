@@ -248,14 +248,15 @@ fn is_played(alloc: Global, flat: &Flat, order: &[Branching], budget: u32) -> Re
     Ok(!crewed.is_empty() && crewed == by_turns)
 }
 
-const ORDERS: [&[Branching]; 7] = [
-    &[G],
-    &[E],
-    &[L],
-    &[E, G],
-    &[G, E, L],
-    &[L, L, E],
-    &[G, G, G, G, E],
+/// Orders, each as its letters and as the rules that they stand for.
+const ORDERS: [(&str, &[Branching]); 7] = [
+    ("g", &[G]),
+    ("e", &[E]),
+    ("l", &[L]),
+    ("eg", &[E, G]),
+    ("gel", &[G, E, L]),
+    ("lle", &[L, L, E]),
+    ("gggge", &[G, G, G, G, E]),
 ];
 
 #[test]
@@ -263,8 +264,8 @@ fn turns_come_in_order(rt: HostRuntime) -> Result<(), Fail> {
     let alloc = rt.alloc();
     for text in [APART, NONE_FITS, TUGS] {
         let flat = Flat::read(alloc, text)?;
-        for order in ORDERS {
-            assert!(rt; is_played(alloc, &flat, order, 100)?, "{order:?}");
+        for (letters, order) in ORDERS {
+            assert!(rt; is_played(alloc, &flat, order, 100)?, "{letters}");
         }
     }
     Ok(())
@@ -274,8 +275,8 @@ fn turns_come_in_order(rt: HostRuntime) -> Result<(), Fail> {
 fn turns_of_a_demonstration_come_in_order(rt: HostRuntime) -> Result<(), Fail> {
     let alloc = rt.alloc();
     let flat = make_demo(alloc, 11, 5, 48)?;
-    for order in ORDERS {
-        assert!(rt; is_played(alloc, &flat, order, 60)?, "{order:?}");
+    for (letters, order) in ORDERS {
+        assert!(rt; is_played(alloc, &flat, order, 60)?, "{letters}");
     }
     Ok(())
 }
