@@ -1,5 +1,5 @@
 -- Which files were opened, and which file of the system each is.
-use Rattle.std.specs.Prelude.{◌≡◌, Bool, true, false, Option, IfSome}
+use Rattle.std.specs.Prelude.{◌≡◌, ⊤, Bool, true, false, Option, IfSome}
 use Rattle.hw_desk.specs.Places.{place}
 use Rattle.hw_desk.specs.declared.desk.Feed.{Feed}
 use Rattle.hw_desk.specs.declared.feeds.Feeds.{Feeds}
