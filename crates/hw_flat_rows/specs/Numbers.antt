@@ -23,10 +23,10 @@ pub record NumberRows : Type 0 where
   pub plus : number_up_to 1000000000000 (codes "+5") ≡ None
   -- a minus sign
   pub minus : number_up_to 1000000000000 (codes "-5") ≡ None
-  -- a space behind it
-  pub space_behind : number_up_to 1000000000000 (codes "5 ") ≡ None
-  -- a letter behind it
-  pub letter_behind : number_up_to 1000000000000 (codes "5a") ≡ None
+  -- a space after it
+  pub space_after : number_up_to 1000000000000 (codes "5 ") ≡ None
+  -- a letter after it
+  pub letter_after : number_up_to 1000000000000 (codes "5a") ≡ None
   -- from 1 on, up to the last of 32 bits
   pub last_of_32_bits : number_from_to 1 4_294_967_295 (codes "4294967295") ≡ Some 4_294_967_295
   -- from 1 on, 0

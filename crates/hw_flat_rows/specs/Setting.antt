@@ -60,7 +60,7 @@ pub record SettingRows : Type 0 where
   -- slot 1 agrees with the range of ship 0, slots 0 and 2 do not
   pub slot_inside : nat_le (low_of at_one 0) 1 && nat_le 1 (high_of at_one 0) ≡ true
   pub slot_before : nat_le (low_of at_one 0) 0 ≡ false
-  pub slot_behind : nat_le 2 (high_of at_one 0) ≡ false
+  pub slot_after : nat_le 2 (high_of at_one 0) ≡ false
   pub any : agrees Unset 1 0 ≡ true
   pub before : agrees First 1 2 ≡ true
   pub not_before : agrees First 1 1 ≡ false

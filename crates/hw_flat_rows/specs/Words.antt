@@ -3,7 +3,7 @@ use Rattle.std.specs.Prelude.{◌≡◌, ℕ, List, [], ◌∷◌, Some, None, t
 use Rattle.hw_text.specs.Parts.{parts_of, words_of, first_part, at_end}
 use Rattle.hw_lexicon.specs.Words.{words_in, find_from}
 
--- two lines, the second one empty, and a byte behind them
+-- two lines, the second one empty, and a byte after them
 abbrev pub three_lines : List (List ℕ)
 three_lines = parts_of 10 (codes "a  b\n\nc")
 
@@ -15,7 +15,7 @@ directions = words_in (codes "outgoing incoming")
 pub record WordRows : Type 0 where
   -- the first line
   pub first_line : first_part three_lines ≡ Some (codes "a  b", [] ∷ codes "c" ∷ [])
-  -- two lines are left behind it
+  -- two lines are left after it
   pub not_at_end : at_end ([] ∷ codes "c" ∷ []) ≡ false
   -- two line feeds in a row end an empty line
   pub empty_line : first_part ([] ∷ codes "c" ∷ []) ≡ Some ([], codes "c" ∷ [])
@@ -39,7 +39,7 @@ pub record WordRows : Type 0 where
   pub empty_missed : find_from 0 (codes "") directions ≡ None
   -- a part of a word
   pub part_missed : find_from 0 (codes "out") directions ≡ None
-  -- a space behind it
+  -- a space after it
   pub space_missed : find_from 0 (codes "outgoing ") directions ≡ None
   -- both words
   pub both_missed : find_from 0 (codes "outgoing incoming") directions ≡ None
