@@ -32,26 +32,26 @@ at_one = with_range whole 0 1 1
 
 -- the range of each ship and their order after each step; ranges and orders that slots agree with
 pub record SettingRows : Type 0 where
-  pub opened_first_low : low_of (whole) 0 ≡ 0
-  pub opened_first_high : high_of (whole) 0 ≡ 2
-  pub opened_second_low : low_of (whole) 1 ≡ 0
-  pub opened_second_high : high_of (whole) 1 ≡ 2
-  pub opened_order : order_of (whole) 0 1 ≡ Unset
-  pub ranged_first_low : low_of (ranged) 0 ≡ 1
-  pub ranged_first_high : high_of (ranged) 0 ≡ 2
-  pub ranged_second_low : low_of (ranged) 1 ≡ 2
-  pub ranged_second_high : high_of (ranged) 1 ≡ 2
-  pub ranged_order : order_of (ranged) 0 1 ≡ Unset
-  pub point_first_low : low_of (point) 0 ≡ 2
-  pub point_first_high : high_of (point) 0 ≡ 2
-  pub point_second_low : low_of (point) 1 ≡ 2
-  pub point_second_high : high_of (point) 1 ≡ 2
-  pub point_order : order_of (point) 0 1 ≡ Unset
-  pub ordered_first_low : low_of (ordered) 0 ≡ 2
-  pub ordered_first_high : high_of (ordered) 0 ≡ 2
-  pub ordered_second_low : low_of (ordered) 1 ≡ 2
-  pub ordered_second_high : high_of (ordered) 1 ≡ 2
-  pub ordered_order : order_of (ordered) 0 1 ≡ First
+  pub opened_first_low : low_of whole 0 ≡ 0
+  pub opened_first_high : high_of whole 0 ≡ 2
+  pub opened_second_low : low_of whole 1 ≡ 0
+  pub opened_second_high : high_of whole 1 ≡ 2
+  pub opened_order : order_of whole 0 1 ≡ Unset
+  pub ranged_first_low : low_of ranged 0 ≡ 1
+  pub ranged_first_high : high_of ranged 0 ≡ 2
+  pub ranged_second_low : low_of ranged 1 ≡ 2
+  pub ranged_second_high : high_of ranged 1 ≡ 2
+  pub ranged_order : order_of ranged 0 1 ≡ Unset
+  pub point_first_low : low_of point 0 ≡ 2
+  pub point_first_high : high_of point 0 ≡ 2
+  pub point_second_low : low_of point 1 ≡ 2
+  pub point_second_high : high_of point 1 ≡ 2
+  pub point_order : order_of point 0 1 ≡ Unset
+  pub ordered_first_low : low_of ordered 0 ≡ 2
+  pub ordered_first_high : high_of ordered 0 ≡ 2
+  pub ordered_second_low : low_of ordered 1 ≡ 2
+  pub ordered_second_high : high_of ordered 1 ≡ 2
+  pub ordered_order : order_of ordered 0 1 ≡ First
   pub reset_first_low : low_of (opened ordered) 0 ≡ 0
   pub reset_first_high : high_of (opened ordered) 0 ≡ 2
   pub reset_second_low : low_of (opened ordered) 1 ≡ 0

@@ -1,11 +1,13 @@
 -- Which files were opened, and which file of the system each is.
-use Rattle.std.specs.Prelude.{◌≡◌, ⊤, Bool, true, false, Option, IfSome}
+use Rattle.std.specs.Prelude.{◌≡◌, ⊤, Bool, true, false, Some, None}
 use Rattle.hw_desk.specs.Places.{place}
 use Rattle.hw_desk.specs.declared.desk.Feed.{Feed}
 use Rattle.hw_desk.specs.declared.feeds.Feeds.{Feeds}
 use Rattle.hw_host.specs.declared.files.FileId.{FileId}
 use Rattle.hw_host.specs.declared.files.HostFile.{HostFile}
 use Rattle.hw_host.specs.declared.files.HostFile.TheVariants.{Fresh, Failed, Open}
+use Rattle.hw_host.specs.declared.output.Output.{Output}
+use Rattle.hw_host.specs.declared.output.Output.TheVariants.{Kept, Lost}
 
 -- the file was opened, or that failed
 abbrev pub was_opened : HostFile → Bool
@@ -29,7 +31,13 @@ IsOpenAs (Open file own) id = own ≡ id
 abbrev pub IsFeed : Feeds HostFile → FileId → Type 0
 IsFeed feeds id = (feed : Feed) × IsOpenAs (place feeds feed) id
 
--- none of the feeds is read from this file, and it isn't the one that standard output goes to, where that is known
-pub record IsApart (feeds : Feeds HostFile) (output : Option FileId) (made : HostFile) : Type 0 where
+-- standard output goes to this file of the system, as far as that is known
+abbrev pub GoesTo : Output → FileId → Type 0
+GoesTo (Kept first second third None) id = ⊥
+GoesTo (Kept first second third (Some own)) id = own ≡ id
+GoesTo Lost id = ⊥
+
+-- none of the feeds is read from this file, and standard output doesn't go to it
+pub record IsApart (feeds : Feeds HostFile) (output : Output) (made : HostFile) : Type 0 where
   pub inputs : (id : FileId) → IsOpenAs made id → IsFeed feeds id → ⊥
-  pub report : IfSome output (λ id. IsOpenAs made id → ⊥)
+  pub report : (id : FileId) → IsOpenAs made id → GoesTo output id → ⊥

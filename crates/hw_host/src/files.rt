@@ -4,6 +4,7 @@ ghost use Rattle.std.specs.Prelude.{◌≡◌, ◌≤◌, ◌<◌, ◌↔◌, le
 ghost use Rattle.hw_desk.specs.State.{Rose};
 ghost use Rattle.hw_host.specs.Opened.{IsApart, IsFeed, IsOpen, IsOpenAs, was_opened};
 
+use crate::output::Output;
 use hw_desk::{DeskFailed, Feeds};
 use std::fs::{File, Metadata, OpenOptions};
 use std::io::{ErrorKind, Read, Write};
@@ -71,11 +72,11 @@ fn open_file(rt: &HostRuntime, name: &str) -> io::Result<HostFile>
 fn make_file(
     rt: &HostRuntime,
     feeds: &Feeds<HostFile>,
-    output: Option<FileId>,
+    output: &Output,
     name: &str,
 ) -> io::Result<HostFile>
     ensures made { IfOk result IsOpen }
-    ensures apart { IfOk result (λ made. IsApart feeds.now output made) }
+    ensures apart { IfOk result (λ made. IsApart feeds.now output.now made) }
 {
     let file = OpenOptions::new()
         .write(true)
@@ -84,7 +85,7 @@ fn make_file(
         .open(rt, name)?;
     let metadata = file.metadata()?;
     let id = id_of(&metadata);
-    if is_feed(feeds, id) || output == Some(id) {
+    if is_feed(feeds, id) || output.goes_to(id) {
         return Err(io::Error::from(ErrorKind::PermissionDenied));
     }
     // Pipes and devices hold nothing, and can't be emptied.
@@ -180,14 +181,14 @@ pub fn count_write(answer: io::Result<usize>, faults: &mut u64) -> Result<usize,
 pub fn make_proof(
     rt: &HostRuntime,
     feeds: &Feeds<HostFile>,
-    output: Option<FileId>,
+    output: &Output,
     proof: &mut HostFile,
     name: &str,
     faults: &mut u64,
 ) -> Result<(), DeskFailed>
     ensures made { was_opened proof.new ≡ true }
     ensures open { OnOk result (IsOpen proof.new) }
-    ensures apart { IsApart feeds.now output proof.new }
+    ensures apart { IsApart feeds.now output.now proof.new }
     ensures later { faults.old ≤ faults.new }
     ensures cause { OnErr result (Rose faults.old faults.new) }
     ensures kept { OnOk result (faults.new ≡ faults.old) }

@@ -80,14 +80,7 @@ impl Desk for HostDesk<'_> {
             }
             Tray::Proof => {
                 let faults = &mut self.write_faults;
-                make_proof(
-                    rt,
-                    &self.feeds,
-                    self.output.file(),
-                    &mut self.proof,
-                    name,
-                    faults,
-                )
+                make_proof(rt, &self.feeds, &self.output, &mut self.proof, name, faults)
             }
         }
     }

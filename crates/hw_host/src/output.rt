@@ -1,7 +1,8 @@
 //! Standard output.
 
-ghost use Rattle.std.specs.Prelude.{◌≡◌, ◌≤◌, ◌<◌, length, IfOk, OnErr, OnOk};
+ghost use Rattle.std.specs.Prelude.{◌≡◌, ◌↔◌, ◌≤◌, ◌<◌, length, IfOk, IsTrue, OnErr, OnOk};
 ghost use Rattle.hw_desk.specs.State.{Rose};
+ghost use Rattle.hw_host.specs.Opened.{GoesTo};
 
 use crate::files::{FileId, count_write, failed, id_of};
 use hw_desk::DeskFailed;
@@ -49,11 +50,16 @@ impl Output {
         }
     }
 
-    /// The ordinary file that standard output goes to, if it goes to one.
-    pub fn file(&self) -> Option<FileId> {
+    /// Whether standard output goes to this file of the system, as far as that is known.
+    pub fn goes_to(&self, id: FileId) -> bool
+        ensures { IsTrue result ↔ GoesTo self.now id }
+    {
         match self {
-            Output::Kept { file, .. } => *file,
-            Output::Lost => None,
+            Output::Kept {
+                file: Some(own),
+                ..
+            } => *own == id,
+            Output::Kept { file: None, .. } | Output::Lost => false,
         }
     }
 
