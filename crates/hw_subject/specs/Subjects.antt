@@ -1,0 +1,158 @@
+-- What a command is about, as one value: a flat text, a port, or the repair of either by a plan.
+use Rattle.std.proofs.Common.{Bor}
+use Rattle.std.specs.Prelude.{ℕ, List, [], ◌∷◌, ◌++◌, Option, Some, None, IfSome, slice_get, slice_index}
+use Rattle.hw_model.specs.Limits.{IsFlat}
+use Rattle.hw_model.specs.Problem.{Problem}
+use Rattle.hw_model.specs.Timetables.{Permits, cargo}
+use Rattle.hw_desk.specs.declared.desk.Feed.{Feed}
+use Rattle.hw_desk.specs.declared.desk.Feed.TheVariants as feeds
+use Rattle.hw_flat.specs.TextWritten.{IsWritable}
+use Rattle.hw_port.specs.Whole.{Parts}
+use Rattle.hw_tide.specs.Levels.{TideParts}
+use Rattle.hw_port_rules.specs.Flattened.{flattened}
+use Rattle.hw_port_rules.specs.Permitted.{PortPermits, port_cargo}
+use Rattle.hw_report.specs.Reports.{Report, Naming, by_number, by_name, bad_text, too_long}
+use Rattle.hw_command.specs.Inputs.{NoFlat}
+use Rattle.hw_command.specs.PortInputs.{NoPort}
+use Rattle.hw_command.specs.Scope.{Named, named}
+use Rattle.hw_command.specs.Values.{IsLong, IsTextOf, IsPortOf, FlatGives, PortGives}
+use Rattle.hw_repair.specs.Wishes.{Grants}
+use Rattle.hw_repair.specs.declared.plan.Wish.{Wish}
+use Rattle.hw_subject.specs.Plans.{IsPlanOf, IsWrongLine}
+use Rattle.hw_subject.specs.declared.source.Source.{Source}
+use Rattle.hw_subject.specs.declared.source.Source.TheVariants.{Flat, Port}
+use Rattle.hw_subject.specs.declared.subject.Subject.{Subject as Asked}
+
+-- what a command is about. What its inputs hold comes first in what is said of them
+pub record Subject : Type 1 where
+  -- its inputs, in the order in which they are begun
+  pub inputs : List Named
+  -- by its feed, what an input gives before the next one is begun
+  pub Gives : (List ℕ → Option (List ℕ)) → Feed → Type 0
+  -- what is read
+  pub Value : Type 0
+  -- it keeps its rules, and is that of the inputs, each where it is told
+  pub Reads : (List ℕ → Option (List ℕ)) → Value → Type 0
+  -- the problem that is reported
+  pub problem : Value → Problem
+  -- by what names it is reported
+  pub naming : Value → Naming
+  -- the plan by which it is repaired, or none
+  pub plan : Value → Option (List Wish)
+  -- a timetable is permitted
+  pub Permits : Value → List ℕ → Type 0
+  -- what it carries, in tenths of a tonne, or none where a ship can't sail in its slot
+  pub cargo : Value → List ℕ → Option ℕ
+  -- what a report says of inputs that give no value; no other is given
+  pub Refuses : (List ℕ → Option (List ℕ)) → Report → Type 0
+
+-- ---- a flat text
+
+-- a problem within the limits that has a text, that of the bytes where they are told
+pub record IsProblemOf (text : Option (List ℕ)) (f : Problem) : Type 0 where
+  pub limits : IsFlat f
+  pub writable : IsWritable f
+  pub reads : IfSome text (IsTextOf f)
+
+abbrev pub flat_subject : List ℕ → Subject
+flat_subject name = record {
+  inputs = named feeds.Flat name ∷ [];
+  Gives = FlatGives name;
+  Value = Problem;
+  Reads = λ held f. IsProblemOf (held name) f;
+  problem = λ f. f;
+  naming = λ f. by_number;
+  plan = λ f. None;
+  Permits = λ f table. Permits f table;
+  cargo = λ f table. cargo f table;
+  Refuses = λ held r. NoFlat (held name) r;
+}
+
+-- ---- a port
+
+-- a port with its tide
+pub record Harbour : Type 0 where
+  pub port : Parts
+  pub tide : TideParts
+
+abbrev pub port_subject : List ℕ → List ℕ → Subject
+port_subject instance table = record {
+  inputs = named feeds.Instance instance ∷ named feeds.Tides table ∷ [];
+  Gives = PortGives instance table;
+  Value = Harbour;
+  Reads = λ held v. IsPortOf (held instance) (held table) v.port v.tide;
+  problem = λ v. flattened v.port v.tide;
+  naming = λ v. by_name v.port v.tide;
+  plan = λ v. None;
+  Permits = λ v slots. PortPermits v.port v.tide slots;
+  cargo = λ v slots. port_cargo v.port v.tide slots;
+  Refuses = λ held r. NoPort (held instance) (held table) r;
+}
+
+-- ---- the repair of a subject by a plan
+
+-- what a subject gives, and a plan of it
+pub record Planned (s : Subject) : Type 0 where
+  pub value : s.Value
+  pub plan : List Wish
+
+pub record ReadsPlanned (s : Subject) (name : List ℕ) (held : List ℕ → Option (List ℕ)) (v : Planned s) : Type 0 where
+  pub reads : s.Reads held v.value
+  pub planned : IsPlanOf (held name) (s.problem v.value) v.plan
+
+-- permitted, and each ship has its kept slot or a slot from its earliest one on
+pub record MeetsPlan (s : Subject) (v : Planned s) (table : List ℕ) : Type 0 where
+  pub permitted : s.Permits v.value table
+  pub granted : (ship : ℕ) → IfSome (slice_get v.plan ship) (λ wish. Grants wish (slice_index table ship))
+
+pub record GivesValue (s : Subject) (held : List ℕ → Option (List ℕ)) : Type 0 where
+  pub value : s.Value
+  pub reads : s.Reads held value
+
+pub record GivesPlanned (s : Subject) (name : List ℕ) (held : List ℕ → Option (List ℕ)) : Type 0 where
+  pub value : Planned s
+  pub reads : ReadsPlanned s name held value
+
+-- the plan's bytes have a wrong line
+pub record IsBadPlan (s : Subject) (name : List ℕ) (held : List ℕ → Option (List ℕ)) (number : ℕ) (word : List ℕ) : Type 0 where
+  pub value : s.Value
+  pub reads : s.Reads held value
+  pub wrong : IsWrongLine (held name) (s.problem value) number word
+
+abbrev pub PlannedGives : Subject → List ℕ → (List ℕ → Option (List ℕ)) → Feed → Type 0
+PlannedGives s name held feeds.Plan = GivesPlanned s name held
+PlannedGives s name held feed = s.Gives held feed
+
+abbrev pub NoPlanned : Subject → List ℕ → (List ℕ → Option (List ℕ)) → Report → Type 0
+NoPlanned s name held (bad_text feeds.Plan number word) = IsBadPlan s name held number word
+NoPlanned s name held (too_long feeds.Plan) = GivesValue s held × IfSome (held name) IsLong
+NoPlanned s name held r = s.Refuses held r
+
+-- a subject that is no repair, repaired by a plan
+abbrev pub repair_of : Subject → List ℕ → Subject
+repair_of s name = record {
+  inputs = s.inputs ++ (named feeds.Plan name ∷ []);
+  Gives = PlannedGives s name;
+  Value = Planned s;
+  Reads = ReadsPlanned s name;
+  problem = λ v. s.problem v.value;
+  naming = λ v. s.naming v.value;
+  plan = λ v. Some v.plan;
+  Permits = MeetsPlan s;
+  cargo = λ v table. s.cargo v.value table;
+  Refuses = NoPlanned s name;
+}
+
+-- ---- by the names that a command has
+
+-- a flat text or a port
+abbrev pub source_of : Source → Subject
+source_of (Flat name) = flat_subject name.now
+source_of (Port names) = port_subject names.instance.now names.tides.now
+
+abbrev pub repaired_by : Subject → Option (Bor (List ℕ)) → Subject
+repaired_by s None = s
+repaired_by s (Some name) = repair_of s name.now
+
+abbrev pub subject_of : Asked → Subject
+subject_of asked = repaired_by (source_of asked.of) asked.plan
