@@ -13,76 +13,76 @@ use Rattle.hw_port_rules.specs.Flattened.{flattened}
 use Rattle.hw_tide.specs.declared.fault.TideFault.TheVariants as tide_faults
 use Rattle.hw_report.specs.declared.report.Head.TheVariants.{Optimal, Infeasible, Unfinished, Memory}
 use Rattle.hw_report.specs.declared.report.RefusedWord.TheVariants.{Form, Check}
-use Rattle.hw_report.specs.Reports.{by_number, by_name, solved, checked, verified, proved, demo, bad_words, bad_flat, bad_json, bad_field, bad_tides, refused, read_fault, too_long, no_memory, repaired, rechecked, bad_text, clashed, met, spent_step, clash_holds, after, audit_end}
+use Rattle.hw_report.specs.Reports.{by_number, by_name, solved, checked, demo, bad_words, bad_flat, bad_json, bad_field, bad_tides, refused, read_fault, too_long, no_memory, bad_text, clashed, met, spent_step, clash_holds, after, audit_end}
 use Rattle.hw_report.specs.Lines.{sail_line}
 use Rattle.hw_report.specs.Texts.{report_text}
 
-pub cape_grace_sails : report_text (solved (Optimal 228_000) (flattened (small false) tides) (by_name (small false) tides) (Some (0 ∷ []))) ≡ codes "optimal 22800.0\nsail 0 0 1590 22800.0 Cape Grace\nend\n"
+pub cape_grace_sails : report_text (solved (Optimal 228_000) (flattened (small false) tides) (by_name (small false) tides) (Some (0 ∷ [])) None None) ≡ codes "optimal 22800.0\nsail 0 0 1590 22800.0 Cape Grace\nend\n"
 unfolding digits sail_line
 cape_grace_sails = refl
 
-pub cape_grace_stays : report_text (solved (Unfinished 7) (flattened (small true) tides) (by_name (small true) tides) (Some (2 ∷ []))) ≡ codes "unfinished 7 best 0.0\nstay Cape Grace\nend\n"
+pub cape_grace_stays : report_text (solved (Unfinished 7) (flattened (small true) tides) (by_name (small true) tides) (Some (2 ∷ [])) None None) ≡ codes "unfinished 7 best 0.0\nstay Cape Grace\nend\n"
 unfolding digits sail_line
 cape_grace_stays = refl
 
-pub by_its_number : report_text (solved (Optimal 228_000) (flattened (small false) tides) by_number (Some (0 ∷ []))) ≡ codes "optimal 228000\nsail 0 228000 0\nend\n"
+pub by_its_number : report_text (solved (Optimal 228_000) (flattened (small false) tides) by_number (Some (0 ∷ [])) None None) ≡ codes "optimal 228000\nsail 0 228000 0\nend\n"
 unfolding digits
 by_its_number = refl
 
-pub staying_by_number : report_text (solved Memory (flattened (small true) tides) by_number (Some (2 ∷ []))) ≡ codes "memory best 0\nstay 0\nend\n"
+pub staying_by_number : report_text (solved Memory (flattened (small true) tides) by_number (Some (2 ∷ [])) None None) ≡ codes "memory best 0\nstay 0\nend\n"
 unfolding digits
 staying_by_number = refl
 
-pub no_timetable : report_text (solved Memory (flattened (small true) tides) (by_name (small true) tides) None) ≡ codes "memory none\nend\n"
+pub no_timetable : report_text (solved Memory (flattened (small true) tides) (by_name (small true) tides) None None None) ≡ codes "memory none\nend\n"
 no_timetable = refl
 
-pub none_permitted : report_text (solved Infeasible (flattened (small true) tides) by_number None) ≡ codes "infeasible\nend\n"
+pub none_permitted : report_text (solved Infeasible (flattened (small true) tides) by_number None None None) ≡ codes "infeasible\nend\n"
 none_permitted = refl
 
-pub none_found : report_text (solved (Unfinished 30) (flattened (small true) tides) by_number None) ≡ codes "unfinished 30 none\nend\n"
+pub none_found : report_text (solved (Unfinished 30) (flattened (small true) tides) by_number None None None) ≡ codes "unfinished 30 none\nend\n"
 unfolding digits
 none_found = refl
 
-pub optimal_in_tonnes : report_text (checked (verdicts.Optimal 4_084_107) (by_name (small true) tides)) ≡ codes "optimal 408410.7\n"
+pub optimal_in_tonnes : report_text (checked (verdicts.Optimal 4_084_107) None None (by_name (small true) tides)) ≡ codes "optimal 408410.7\n"
 unfolding digits
 optimal_in_tonnes = refl
 
-pub unfinished_in_tonnes : report_text (checked (verdicts.Unfinished (Some 5)) (by_name (small true) tides)) ≡ codes "unfinished 0.5\n"
+pub unfinished_in_tonnes : report_text (checked (verdicts.Unfinished (Some 5)) None None (by_name (small true) tides)) ≡ codes "unfinished 0.5\n"
 unfolding digits
 unfinished_in_tonnes = refl
 
-pub optimal_by_number : report_text (checked (verdicts.Optimal 40) by_number) ≡ codes "optimal 40\n"
+pub optimal_by_number : report_text (checked (verdicts.Optimal 40) None None by_number) ≡ codes "optimal 40\n"
 unfolding digits
 optimal_by_number = refl
 
-pub shown_infeasible : report_text (checked verdicts.Infeasible by_number) ≡ codes "infeasible\n"
+pub shown_infeasible : report_text (checked verdicts.Infeasible None None by_number) ≡ codes "infeasible\n"
 shown_infeasible = refl
 
-pub shown_nothing : report_text (checked (verdicts.Unfinished None) by_number) ≡ codes "unfinished none\n"
+pub shown_nothing : report_text (checked (verdicts.Unfinished None) None None by_number) ≡ codes "unfinished none\n"
 shown_nothing = refl
 
-pub a_bound_behind : report_text (verified (verdicts.Unfinished (Some 15_471_561)) (Some 15_503_718) by_number) ≡ codes "unfinished 15471561 bound 15503718\n"
+pub a_bound_behind : report_text (checked (verdicts.Unfinished (Some 15_471_561)) (Some 15_503_718) None by_number) ≡ codes "unfinished 15471561 bound 15503718\n"
 unfolding digits
 a_bound_behind = refl
 
-pub bound_in_tonnes : report_text (verified (verdicts.Unfinished (Some 5)) (Some 4_084_107) (by_name (small true) tides)) ≡ codes "unfinished 0.5 bound 408410.7\n"
+pub bound_in_tonnes : report_text (checked (verdicts.Unfinished (Some 5)) (Some 4_084_107) None (by_name (small true) tides)) ≡ codes "unfinished 0.5 bound 408410.7\n"
 unfolding digits
 bound_in_tonnes = refl
 
-pub bound_alone : report_text (verified (verdicts.Unfinished None) (Some 40) by_number) ≡ codes "unfinished none bound 40\n"
+pub bound_alone : report_text (checked (verdicts.Unfinished None) (Some 40) None by_number) ≡ codes "unfinished none bound 40\n"
 unfolding digits
 bound_alone = refl
 
-pub without_a_bound : report_text (verified (verdicts.Unfinished (Some 7)) None by_number) ≡ codes "unfinished 7\n"
+pub without_a_bound : report_text (checked (verdicts.Unfinished (Some 7)) None None by_number) ≡ codes "unfinished 7\n"
 unfolding digits
 without_a_bound = refl
 
 -- a best timetable needs no bound
-pub no_bound_behind : report_text (verified (verdicts.Optimal 40) (Some 41) by_number) ≡ codes "optimal 40\n"
+pub no_bound_behind : report_text (checked (verdicts.Optimal 40) (Some 41) None by_number) ≡ codes "optimal 40\n"
 unfolding digits
 no_bound_behind = refl
 
-pub infeasible_without_bound : report_text (verified verdicts.Infeasible (Some 41) by_number) ≡ codes "infeasible\n"
+pub infeasible_without_bound : report_text (checked verdicts.Infeasible (Some 41) None by_number) ≡ codes "infeasible\n"
 infeasible_without_bound = refl
 
 pub a_demonstration : report_text (demo (Optimal 7) (Some 7) (verdicts.Optimal 7) 12) ≡ codes "optimal 7\ncheck optimal 7\nlemmas 12\nend\n"
@@ -180,24 +180,35 @@ too_many_bytes = refl
 pub want_of_memory : report_text no_memory ≡ codes "memory\n"
 want_of_memory = refl
 
-pub a_repair : report_text (repaired (Optimal 228_000) (flattened (small true) tides) by_number (Some (0 ∷ [])) 1) ≡ codes "optimal 228000\nmoved 1\nsail 0 228000 0\nend\n"
+pub a_repair : report_text (solved (Optimal 228_000) (flattened (small true) tides) by_number (Some (0 ∷ [])) (Some 1) None) ≡ codes "optimal 228000\nmoved 1\nsail 0 228000 0\nend\n"
 unfolding digits
 a_repair = refl
 
-pub no_repair : report_text (repaired Infeasible (flattened (small true) tides) by_number None 0) ≡ codes "infeasible\nend\n"
+pub no_repair : report_text (solved Infeasible (flattened (small true) tides) by_number None (Some 0) None) ≡ codes "infeasible\nend\n"
 no_repair = refl
 
-pub cape_grace_moved : report_text (repaired (Optimal 228_000) (flattened (small false) tides) (by_name (small false) tides) (Some (0 ∷ [])) 1) ≡ codes "optimal 22800.0\nmoved 1\nsail 0 0 1590 22800.0 Cape Grace\nend\n"
+pub cape_grace_moved : report_text (solved (Optimal 228_000) (flattened (small false) tides) (by_name (small false) tides) (Some (0 ∷ [])) (Some 1) None) ≡ codes "optimal 22800.0\nmoved 1\nsail 0 0 1590 22800.0 Cape Grace\nend\n"
 unfolding digits sail_line
 cape_grace_moved = refl
 
-pub moved_in_tonnes : report_text (rechecked (verdicts.Unfinished (Some 121)) 2 (by_name (small true) tides)) ≡ codes "unfinished 4.0 moved 1\n"
+pub moved_in_tonnes : report_text (checked (verdicts.Unfinished (Some 121)) None (Some 2) (by_name (small true) tides)) ≡ codes "unfinished 4.0 moved 1\n"
 unfolding digits
 moved_in_tonnes = refl
 
-pub a_repair's_verdict : report_text (rechecked (verdicts.Optimal 121) 2 by_number) ≡ codes "optimal 40 moved 1\n"
+pub a_repair's_verdict : report_text (checked (verdicts.Optimal 121) None (Some 2) by_number) ≡ codes "optimal 40 moved 1\n"
 unfolding digits
 a_repair's_verdict = refl
+
+pub a_repair's_bound : report_text (checked (verdicts.Unfinished (Some 121)) (Some 152) (Some 2) by_number) ≡ codes "unfinished 40 moved 1 bound 50\n"
+unfolding digits
+a_repair's_bound = refl
+
+pub no_repair_but_a_bound : report_text (checked (verdicts.Unfinished None) (Some 121) (Some 2) (by_name (small true) tides)) ≡ codes "unfinished none bound 4.0\n"
+unfolding digits
+no_repair_but_a_bound = refl
+
+pub no_repair_shown : report_text (checked verdicts.Infeasible (Some 121) (Some 2) by_number) ≡ codes "infeasible\n"
+no_repair_shown = refl
 
 pub a_bad_plan : report_text (bad_text feeds.Plan 4 (codes "table")) ≡ codes "bad plan 4 table\n"
 unfolding digits
@@ -229,26 +240,35 @@ some_broken = refl
 pub the_audit_ends : report_text audit_end ≡ codes "end\n"
 the_audit_ends = refl
 
-pub a_bound_below : report_text (proved (Unfinished 7) (flattened (small false) tides) (by_name (small false) tides) (Some (0 ∷ [])) (Some 4_084_107)) ≡ codes "unfinished 7 best 22800.0\nbound 408410.7\nsail 0 0 1590 22800.0 Cape Grace\nend\n"
+pub a_bound_below : report_text (solved (Unfinished 7) (flattened (small false) tides) (by_name (small false) tides) (Some (0 ∷ [])) None (Some 4_084_107)) ≡ codes "unfinished 7 best 22800.0\nbound 408410.7\nsail 0 0 1590 22800.0 Cape Grace\nend\n"
 unfolding digits sail_line
 a_bound_below = refl
 
-pub a_bound_by_number : report_text (proved (Unfinished 7) (flattened (small true) tides) by_number (Some (2 ∷ [])) (Some 50)) ≡ codes "unfinished 7 best 0\nbound 50\nstay 0\nend\n"
+pub a_bound_by_number : report_text (solved (Unfinished 7) (flattened (small true) tides) by_number (Some (2 ∷ [])) None (Some 50)) ≡ codes "unfinished 7 best 0\nbound 50\nstay 0\nend\n"
 unfolding digits
 a_bound_by_number = refl
 
-pub a_bound_of_none_found : report_text (proved (Unfinished 30) (flattened (small true) tides) by_number None (Some 50)) ≡ codes "unfinished 30 none\nbound 50\nend\n"
+pub a_bound_of_none_found : report_text (solved (Unfinished 30) (flattened (small true) tides) by_number None None (Some 50)) ≡ codes "unfinished 30 none\nbound 50\nend\n"
 unfolding digits
 a_bound_of_none_found = refl
 
-pub proved_without_bound : report_text (proved (Unfinished 30) (flattened (small true) tides) by_number None None) ≡ codes "unfinished 30 none\nend\n"
+pub proved_without_bound : report_text (solved (Unfinished 30) (flattened (small true) tides) by_number None None None) ≡ codes "unfinished 30 none\nend\n"
 unfolding digits
 proved_without_bound = refl
 
+pub a_bounded_repair : report_text (solved (Unfinished 7) (flattened (small true) tides) by_number (Some (0 ∷ [])) (Some 1) (Some 228_001)) ≡ codes "unfinished 7 best 228000\nbound 228001\nmoved 1\nsail 0 228000 0\nend\n"
+unfolding digits
+a_bounded_repair = refl
+
+-- none moves where there is no timetable
+pub no_timetable_moved : report_text (solved (Unfinished 7) (flattened (small true) tides) by_number None (Some 1) None) ≡ codes "unfinished 7 none\nend\n"
+unfolding digits
+no_timetable_moved = refl
+
 -- a best timetable needs no bound
-pub proved_best : report_text (proved (Optimal 228_000) (flattened (small false) tides) by_number (Some (0 ∷ [])) (Some 228_000)) ≡ codes "optimal 228000\nsail 0 228000 0\nend\n"
+pub proved_best : report_text (solved (Optimal 228_000) (flattened (small false) tides) by_number (Some (0 ∷ [])) None (Some 228_000)) ≡ codes "optimal 228000\nsail 0 228000 0\nend\n"
 unfolding digits
 proved_best = refl
 
-pub proved_infeasible : report_text (proved Infeasible (flattened (small true) tides) by_number None (Some 50)) ≡ codes "infeasible\nend\n"
+pub proved_infeasible : report_text (solved Infeasible (flattened (small true) tides) by_number None None (Some 50)) ≡ codes "infeasible\nend\n"
 proved_infeasible = refl

@@ -27,41 +27,47 @@ cargo_text (by_name p h) c = tenths c
 abbrev pub carried : List ℕ → Naming → ℕ → List ℕ
 carried label names c = joined (label ∷ cargo_text names c ∷ codes "\n" ∷ [])
 
--- what valid lines show
-abbrev pub verdict_text : Naming → Verdict → List ℕ
-verdict_text names (verdicts.Optimal c) = carried (codes "optimal ") names c
-verdict_text names verdicts.Infeasible = codes "infeasible\n"
-verdict_text names (verdicts.Unfinished None) = codes "unfinished none\n"
-verdict_text names (verdicts.Unfinished (Some c)) = carried (codes "unfinished ") names c
+-- the problem's own cargo for a cargo that a certificate speaks of: of a plan's repair for this many ships a part of it
+abbrev pub own_cargo : Option ℕ → ℕ → ℕ
+own_cargo None c = c
+own_cargo (Some ships) c = c / (ships + 1)
 
--- the best cargo so far, or none, and a bound on the cargo of every permitted timetable
-abbrev pub bounded_text : Naming → Option ℕ → ℕ → List ℕ
-bounded_text names None bound = carried (codes "unfinished none bound ") names bound
-bounded_text names (Some c) bound = joined (codes "unfinished " ∷ cargo_text names c ∷ codes " bound " ∷ cargo_text names bound ∷ codes "\n" ∷ [])
+-- how many ships a plan's repair moves, for which the rest of its cargo stands
+abbrev pub moved_text : Option ℕ → ℕ → List ℕ
+moved_text None c = []
+moved_text (Some ships) c = joined (codes " moved " ∷ decimal (ships - c % (ships + 1)) ∷ [])
 
--- what valid lines show, and after an unfinished verdict the last bound among them, if there is one
-abbrev pub verified_text : Naming → Verdict → Option ℕ → List ℕ
-verified_text names (verdicts.Optimal c) bound = verdict_text names (verdicts.Optimal c)
-verified_text names verdicts.Infeasible bound = verdict_text names verdicts.Infeasible
-verified_text names (verdicts.Unfinished best) None = verdict_text names (verdicts.Unfinished best)
-verified_text names (verdicts.Unfinished best) (Some bound) = bounded_text names best bound
+-- the cargo of the best timetable so far, if there is one, and of a repair how many ships that moves
+abbrev pub best_text : Naming → Option ℕ → Option ℕ → List ℕ
+best_text names ships None = codes "none"
+best_text names ships (Some c) = joined (cargo_text names (own_cargo ships c) ∷ moved_text ships c ∷ [])
 
--- a head whose timetable isn't known to be best, with the cargo of that, if there is one
-abbrev pub unfinished_text : Naming → ℕ → Option ℕ → List ℕ
-unfinished_text names budget None = joined (codes "unfinished " ∷ decimal budget ∷ codes " none\n" ∷ [])
-unfinished_text names budget (Some c) = joined (codes "unfinished " ∷ decimal budget ∷ codes " best " ∷ cargo_text names c ∷ codes "\n" ∷ [])
+-- a bound on the cargo of every permitted timetable, if there is one
+abbrev pub most_text : Naming → Option ℕ → Option ℕ → List ℕ
+most_text names ships None = []
+most_text names ships (Some bound) = joined (codes " bound " ∷ cargo_text names (own_cargo ships bound) ∷ [])
 
--- the same if memory ran out in the search
-abbrev pub memory_text : Naming → Option ℕ → List ℕ
-memory_text names None = codes "memory none\n"
-memory_text names (Some c) = carried (codes "memory best ") names c
+-- a label, the best cargo, and a bound
+abbrev pub shown_line : List ℕ → Naming → Option ℕ → Option ℕ → Option ℕ → List ℕ
+shown_line label names ships best bound = joined (label ∷ best_text names ships best ∷ most_text names ships bound ∷ codes "\n" ∷ [])
+
+-- what valid lines show, of a repair for this many ships, and after an unfinished verdict the last bound among them, if there is one
+abbrev pub checked_text : Naming → Verdict → Option ℕ → Option ℕ → List ℕ
+checked_text names (verdicts.Optimal c) bound ships = shown_line (codes "optimal ") names ships (Some c) None
+checked_text names verdicts.Infeasible bound ships = codes "infeasible\n"
+checked_text names (verdicts.Unfinished best) bound ships = shown_line (codes "unfinished ") names ships best bound
+
+-- the cargo of the best timetable so far, if there is one
+abbrev pub so_far : Naming → Option ℕ → List ℕ
+so_far names None = codes "none\n"
+so_far names (Some c) = carried (codes "best ") names c
 
 -- the head line, with the cargo of the timetable, if there is one
 abbrev pub head_text : Naming → Head → Option ℕ → List ℕ
 head_text names (Optimal c) best = carried (codes "optimal ") names c
 head_text names Infeasible best = codes "infeasible\n"
-head_text names (Unfinished budget) best = unfinished_text names budget best
-head_text names Memory best = memory_text names best
+head_text names (Unfinished budget) best = joined (codes "unfinished " ∷ decimal budget ∷ codes " " ∷ so_far names best ∷ [])
+head_text names Memory best = joined (codes "memory " ∷ so_far names best ∷ [])
 
 -- after an unfinished head the bound on the cargo of every permitted timetable, if there is one
 abbrev pub bound_text : Naming → Head → Option ℕ → List ℕ
@@ -102,31 +108,20 @@ abbrev pub ship_lines : Problem → Naming → ℕ → List ℕ → List ℕ
 ship_lines f names ship [] = []
 ship_lines f names ship (slot ∷ slots) = ship_line f names ship slot ++ ship_lines f names (ship + 1) slots
 
--- the lines of a timetable's ships and the last line, or the last line alone
-abbrev pub table_text : Problem → Naming → Option (List ℕ) → List ℕ
-table_text f names None = codes "end\n"
-table_text f names (Some table) = joined (ship_lines f names 0 table ∷ codes "end\n" ∷ [])
+-- how many ships a timetable moves, if that is told
+abbrev pub moved_line : Option ℕ → List ℕ
+moved_line None = []
+moved_line (Some moved) = numbered (codes "moved ") moved
+
+-- how many ships a timetable moves, if that is told, the lines of its ships, and the last line; or the last line alone
+abbrev pub table_text : Problem → Naming → Option (List ℕ) → Option ℕ → List ℕ
+table_text f names None moved = codes "end\n"
+table_text f names (Some table) moved = joined (moved_line moved ∷ ship_lines f names 0 table ∷ codes "end\n" ∷ [])
 
 -- numbers, each with a space before it
 abbrev pub numbers_text : List ℕ → List ℕ
 numbers_text [] = []
 numbers_text (n ∷ ns) = joined (codes " " ∷ decimal n ∷ []) ++ numbers_text ns
-
--- the cargo and the number of moved ships for which a repaired problem's cargo stands
-abbrev pub repair_text : List ℕ → Naming → ℕ → ℕ → List ℕ
-repair_text label names ships c = joined (label ∷ cargo_text names (c / (ships + 1)) ∷ codes " moved " ∷ decimal (ships - c % (ships + 1)) ∷ codes "\n" ∷ [])
-
--- what a repair's certificate shows
-abbrev pub repair_verdict_text : Naming → ℕ → Verdict → List ℕ
-repair_verdict_text names ships (verdicts.Optimal c) = repair_text (codes "optimal ") names ships c
-repair_verdict_text names ships verdicts.Infeasible = codes "infeasible\n"
-repair_verdict_text names ships (verdicts.Unfinished None) = codes "unfinished none\n"
-repair_verdict_text names ships (verdicts.Unfinished (Some c)) = repair_text (codes "unfinished ") names ships c
-
--- how many ships moved and the lines of the ships, where there is a timetable
-abbrev pub moved_text : Problem → Naming → Option (List ℕ) → ℕ → List ℕ
-moved_text f names None moved = codes "end\n"
-moved_text f names (Some table) moved = joined (numbered (codes "moved ") moved ∷ table_text f names (Some table) ∷ [])
 
 -- a restriction of a clash, and a timetable that meets the others
 abbrev pub drop_line : ℕ → List ℕ → List ℕ

@@ -2,7 +2,7 @@
 use Rattle.std.specs.Prelude.{◌≡◌, List, ℕ, length, Option, Some, None, ⊤}
 use Rattle.hw_model.specs.Problem.{Problem, IsTimetable}
 use Rattle.hw_port_rules.specs.Flattened.{flattened}
-use Rattle.hw_report.specs.Reports.{Naming, by_number, by_name, Report, solved, proved, repaired}
+use Rattle.hw_report.specs.Reports.{Naming, by_number, by_name, Report, solved}
 
 -- the timetable, if there is one, is one of the problem
 abbrev pub IsTableOf : Problem → Option (List ℕ) → Type 0
@@ -16,7 +16,5 @@ AreNamesOf f (by_name p h) = (f ≡ flattened p h) × (h.columns ≡ length p.wa
 
 -- a report's timetable is one of its problem, and the names are of the port whose problem that is
 abbrev pub CanPrint : Report → Type 0
-CanPrint (solved head f names table) = IsTableOf f table × AreNamesOf f names
-CanPrint (proved head f names table bound) = IsTableOf f table × AreNamesOf f names
-CanPrint (repaired head f names table moved) = IsTableOf f table × AreNamesOf f names
+CanPrint (solved head f names table moved bound) = IsTableOf f table × AreNamesOf f names
 CanPrint _ = ⊤

@@ -18,14 +18,10 @@ pub data Naming : Type 0 where
 
 -- what is reported: the outcome of a command, or why it has none
 pub data Report : Type 0 where
-  -- a problem that was solved, with its timetable or none
-  solved : Head → Problem → Naming → Option (List ℕ) → Report
-  -- what a certificate shows
-  checked : Verdict → Naming → Report
-  -- what a certificate of any version shows, and the last bound among its lines
-  verified : Verdict → Option ℕ → Naming → Report
-  -- a problem that was solved with prices, with its timetable or none, and the last bound of its certificate
-  proved : Head → Problem → Naming → Option (List ℕ) → Option ℕ → Report
+  -- a problem that was searched, with its timetable or none; of a plan's repair how many ships that moves; and the last bound of its certificate. The head of a repair has the problem's own cargo
+  solved : Head → Problem → Naming → Option (List ℕ) → Option ℕ → Option ℕ → Report
+  -- what a certificate shows, with the last bound among its lines; of a plan's repair, for this many ships
+  checked : Verdict → Option ℕ → Option ℕ → Naming → Report
   -- a demonstration: how it was solved, its cargo or none, what its certificate shows, and the lemmas of that
   demo : Head → Option ℕ → Verdict → ℕ → Report
   bad_words : ℕ → Report
@@ -38,10 +34,6 @@ pub data Report : Type 0 where
   read_fault : Feed → Report
   too_long : Feed → Report
   no_memory : Report
-  -- a repaired plan: how its problem was solved, with the problem's own cargo, and the ships that moved
-  repaired : Head → Problem → Naming → Option (List ℕ) → ℕ → Report
-  -- what a repair's certificate shows, for this many ships
-  rechecked : Verdict → ℕ → Naming → Report
   -- the first wrong line of a plan or of events, with its word
   bad_text : Feed → ℕ → List ℕ → Report
   -- the restrictions that can't be met together, and for each one a timetable that meets the others

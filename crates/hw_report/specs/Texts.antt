@@ -1,5 +1,6 @@
 -- The text of a report, each line ended.
-use Rattle.std.specs.Prelude.{ℕ, List, [], ◌∷◌, ◌++◌, Option, Some, None, codes, decimal, option_and_then}
+use Rattle.std.specs.Prelude.{ℕ, List, [], ◌∷◌, Option, Some, None, codes, decimal, option_and_then}
+use Rattle.hw_model.specs.Problem.{Problem}
 use Rattle.hw_model.specs.Timetables.{cargo}
 use Rattle.hw_lines.specs.declared.check.CheckWord.TheVariants as checks
 use Rattle.hw_lines.specs.declared.check.Verdict.{Verdict}
@@ -9,11 +10,11 @@ use Rattle.hw_report.specs.declared.report.Head.{Head}
 use Rattle.hw_report.specs.declared.report.Head.TheVariants.{Memory}
 use Rattle.hw_report.specs.declared.report.RefusedWord.{RefusedWord}
 use Rattle.hw_report.specs.declared.report.RefusedWord.TheVariants.{Check}
-use Rattle.hw_report.specs.Reports.{Naming, Report, by_number, solved, checked, verified, proved, demo, bad_words, bad_flat, bad_json, bad_field, bad_tides, refused, read_fault, too_long, no_memory, repaired, rechecked, bad_text, clashed, met, spent_step, clash_holds, after, audit_end, whole_text, picture}
+use Rattle.hw_report.specs.Reports.{Naming, Report, by_number, solved, checked, demo, bad_words, bad_flat, bad_json, bad_field, bad_tides, refused, read_fault, too_long, no_memory, bad_text, clashed, met, spent_step, clash_holds, after, audit_end, whole_text, picture}
 use Rattle.hw_report.specs.Words.{feed_text, flat_word_text, refused_word_text}
 use Rattle.hw_report.specs.Pieces.{joined}
 use Rattle.hw_port.specs.Places.{path_text, word_text}
-use Rattle.hw_report.specs.Lines.{numbered, verdict_text, verified_text, head_text, bound_text, table_text, numbers_text, repair_verdict_text, moved_text, drop_lines, broken_text}
+use Rattle.hw_report.specs.Lines.{numbered, checked_text, head_text, bound_text, table_text, numbers_text, drop_lines, broken_text}
 
 -- the first fault of a tide table; out of memory isn't one
 abbrev pub tide_fault_text : TideFault → List ℕ
@@ -38,27 +39,21 @@ refused_text number word (Some id) = joined (codes "refused " ∷ decimal number
 
 -- a demonstration's summary
 abbrev pub summary_text : Head → Option ℕ → Verdict → ℕ → List ℕ
-summary_text head best verdict lemmas = joined (head_text by_number head best ∷ codes "check " ∷ verdict_text by_number verdict ∷ codes "lemmas " ∷ decimal lemmas ∷ codes "\nend\n" ∷ [])
+summary_text head best verdict lemmas = joined (head_text by_number head best ∷ codes "check " ∷ checked_text by_number verdict None None ∷ codes "lemmas " ∷ decimal lemmas ∷ codes "\nend\n" ∷ [])
 
 -- no summary if memory ran out
 abbrev pub demo_text : Head → Option ℕ → Verdict → ℕ → List ℕ
 demo_text Memory best verdict lemmas = codes "memory\n"
 demo_text head best verdict lemmas = summary_text head best verdict lemmas
 
--- a solved problem's report without a timetable
-abbrev pub none_text : Naming → Head → List ℕ
-none_text names head = head_text names head None ++ codes "end\n"
-
--- the same with a bound
-abbrev pub none_proved_text : Naming → Head → Option ℕ → List ℕ
-none_proved_text names head bound = head_text names head None ++ bound_text names head bound ++ codes "end\n"
+-- what a search found: the head line, the bound, and the timetable's lines
+abbrev pub solved_text : Problem → Naming → Head → Option (List ℕ) → Option ℕ → Option ℕ → List ℕ
+solved_text f names head table moved bound = joined (head_text names head (option_and_then (cargo f) table) ∷ bound_text names head bound ∷ table_text f names table moved ∷ [])
 
 -- the whole text of a report, by its kind
 abbrev pub report_text : Report → List ℕ
-report_text (solved head f names table) = joined (head_text names head (option_and_then (cargo f) table) ∷ table_text f names table ∷ [])
-report_text (checked verdict names) = verdict_text names verdict
-report_text (verified verdict bound names) = verified_text names verdict bound
-report_text (proved head f names table bound) = joined (head_text names head (option_and_then (cargo f) table) ∷ bound_text names head bound ∷ table_text f names table ∷ [])
+report_text (solved head f names table moved bound) = solved_text f names head table moved bound
+report_text (checked verdict bound ships names) = checked_text names verdict bound ships
 report_text (demo head best verdict lemmas) = demo_text head best verdict lemmas
 report_text (bad_words place) = numbered (codes "words ") place
 report_text (bad_flat number word) = joined (codes "bad flat " ∷ decimal number ∷ codes " " ∷ flat_word_text word ∷ codes "\n" ∷ [])
@@ -69,8 +64,6 @@ report_text (refused number word hint) = refused_text number word (named_by word
 report_text (read_fault feed) = joined (codes "fault read " ∷ feed_text feed ∷ codes "\n" ∷ [])
 report_text (too_long feed) = joined (codes "long " ∷ feed_text feed ∷ codes "\n" ∷ [])
 report_text no_memory = codes "memory\n"
-report_text (repaired head f names table moved) = joined (head_text names head (option_and_then (cargo f) table) ∷ moved_text f names table moved ∷ [])
-report_text (rechecked verdict ships names) = repair_verdict_text names ships verdict
 report_text (bad_text feed number word) = joined (codes "bad " ∷ feed_text feed ∷ codes " " ∷ decimal number ∷ codes " " ∷ word ∷ codes "\n" ∷ [])
 report_text (clashed kept drops) = joined (codes "clash 1\nkeep" ∷ numbers_text kept ∷ codes "\n" ∷ drop_lines kept drops ∷ codes "end\n" ∷ [])
 report_text (met table) = joined (codes "met" ∷ numbers_text table ∷ codes "\n" ∷ [])

@@ -11,6 +11,7 @@ mod print;
 mod refusals;
 mod report;
 mod reporting;
+mod shown;
 mod words;
 
 pub use report::{Head, Names, RefusedWord, Report};

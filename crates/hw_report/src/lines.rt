@@ -1,19 +1,18 @@
 //! The lines of reports.
 
-ghost use Rattle.std.specs.Prelude.{◌≡◌, ◌≤◌, ◌<◌, ◌*◌, length, pos, unwrap_or, Some};
+ghost use Rattle.std.specs.Prelude.{◌≡◌, ◌≤◌, ◌<◌, ◌*◌, length, pos, unwrap_or};
 ghost use Rattle.hw_model.specs.Problem.{IsTimetable};
 ghost use Rattle.hw_port.specs.Kept.{Within};
 ghost use Rattle.hw_port_rules.specs.Drafts.{sailing as sailing_draft};
 ghost use Rattle.hw_port_rules.specs.Numbers.{whole, horizon_of};
-ghost use Rattle.hw_report.specs.Lines.{numbered, carried, cargo_text, verdict_text, bounded_text, verified_text, unfinished_text, memory_text, head_text, bound_text, number_line, name_in, sail_line, sailing_line, name_line, ship_line, ship_lines, table_text};
+ghost use Rattle.hw_report.specs.Lines.{numbered, carried, cargo_text, so_far, head_text, bound_text, moved_line, number_line, name_in, sail_line, sailing_line, name_line, ship_line, ship_lines, table_text};
 ghost use Rattle.hw_report.specs.Pieces.{piece_text};
-ghost use Rattle.hw_report.specs.Printing.{AreNamesOf};
+ghost use Rattle.hw_report.specs.Printing.{AreNamesOf, IsTableOf};
 ghost use Rattle.hw_desk.specs.Writers.{Puts};
-ghost use Rattle.hw_report.specs.Seen.{names_seen};
+ghost use Rattle.hw_report.specs.Seen.{names_seen, table_seen};
 
 use crate::piece::{Piece, put_pieces};
 use crate::report::{Head, Names};
-use hw_cert::Verdict;
 use hw_desk::Writer;
 use hw_draft::{sailing, value};
 use hw_flat::{Flat, ShipId, Slot, Timetable};
@@ -53,85 +52,13 @@ fn put_carried<W: Writer>(out: &mut W, label: &[u8], names: Names, cargo: u64)
     put_pieces(out, &[Piece::Word(label), cargo, Piece::Word(b"\n")]);
 }
 
-/// Puts what valid lines show.
-pub fn put_verdict<W: Writer>(out: &mut W, names: Names, verdict: Verdict)
-    ensures { Puts (verdict_text (names_seen names.entry) verdict) (W.state out.old) (W.state out.new) }
-{
-    match verdict {
-        Verdict::Optimal(cargo) => put_carried(out, b"optimal ", names, cargo),
-        Verdict::Infeasible => out.put(b"infeasible\n"),
-        Verdict::Unfinished(Some(cargo)) => put_carried(out, b"unfinished ", names, cargo),
-        Verdict::Unfinished(None) => out.put(b"unfinished none\n"),
-    }
-}
-
-/// Puts the best cargo so far, or none, with a bound on every timetable's.
-fn put_bounded<W: Writer>(out: &mut W, names: Names, best: Option<u64>, bound: u64)
-    ensures { Puts (bounded_text (names_seen names.entry) best bound) (W.state out.old) (W.state out.new) }
+/// Puts the cargo of the best timetable so far, if there is one.
+fn put_so_far<W: Writer>(out: &mut W, names: Names, best: Option<u64>)
+    ensures { Puts (so_far (names_seen names.entry) best) (W.state out.old) (W.state out.new) }
 {
     match best {
-        None => put_carried(out, b"unfinished none bound ", names, bound),
-        Some(cargo) => {
-            let cargo = cargo_piece(names, cargo);
-            let bound = cargo_piece(names, bound);
-            put_pieces(
-                out,
-                &[
-                    Piece::Word(b"unfinished "),
-                    cargo,
-                    Piece::Word(b" bound "),
-                    bound,
-                    Piece::Word(b"\n"),
-                ],
-            );
-        }
-    }
-}
-
-/// Puts what valid lines show. Behind an unfinished verdict stands the bound, if there is one.
-pub fn put_verified<W: Writer>(out: &mut W, names: Names, verdict: Verdict, bound: Option<u64>)
-    ensures { Puts (verified_text (names_seen names.entry) verdict bound) (W.state out.old) (W.state out.new) }
-{
-    match verdict {
-        Verdict::Optimal(_) | Verdict::Infeasible => put_verdict(out, names, verdict),
-        Verdict::Unfinished(best) => match bound {
-            None => put_verdict(out, names, Verdict::Unfinished(best)),
-            Some(bound) => put_bounded(out, names, best, bound),
-        },
-    }
-}
-
-fn put_unfinished<W: Writer>(out: &mut W, names: Names, budget: u32, best: Option<u64>)
-    ensures { Puts (unfinished_text (names_seen names.entry) budget best) (W.state out.old) (W.state out.new) }
-{
-    let budget = Piece::Number(u64::from(budget));
-    match best {
-        None => put_pieces(
-            out,
-            &[Piece::Word(b"unfinished "), budget, Piece::Word(b" none\n")],
-        ),
-        Some(cargo) => {
-            let cargo = cargo_piece(names, cargo);
-            put_pieces(
-                out,
-                &[
-                    Piece::Word(b"unfinished "),
-                    budget,
-                    Piece::Word(b" best "),
-                    cargo,
-                    Piece::Word(b"\n"),
-                ],
-            );
-        }
-    }
-}
-
-fn put_memory<W: Writer>(out: &mut W, names: Names, best: Option<u64>)
-    ensures { Puts (memory_text (names_seen names.entry) best) (W.state out.old) (W.state out.new) }
-{
-    match best {
-        None => out.put(b"memory none\n"),
-        Some(cargo) => put_carried(out, b"memory best ", names, cargo),
+        None => out.put(b"none\n"),
+        Some(cargo) => put_carried(out, b"best ", names, cargo),
     }
 }
 
@@ -142,8 +69,16 @@ pub fn put_head<W: Writer>(out: &mut W, names: Names, head: Head, best: Option<u
     match head {
         Head::Optimal { cargo } => put_carried(out, b"optimal ", names, cargo),
         Head::Infeasible => out.put(b"infeasible\n"),
-        Head::Unfinished { budget } => put_unfinished(out, names, budget, best),
-        Head::Memory => put_memory(out, names, best),
+        Head::Unfinished { budget } => {
+            out.put(b"unfinished ");
+            out.put_number(u64::from(budget));
+            out.put(b" ");
+            put_so_far(out, names, best);
+        }
+        Head::Memory => {
+            out.put(b"memory ");
+            put_so_far(out, names, best);
+        }
     }
 }
 
@@ -293,12 +228,30 @@ fn put_ships<W: Writer>(out: &mut W, flat: &Flat, names: Names, table: &Timetabl
     }
 }
 
-/// Puts a line for each ship of a timetable, and the last line.
-pub fn put_table<W: Writer>(out: &mut W, flat: &Flat, names: Names, table: &Timetable)
-    requires table { IsTimetable flat.now table.now }
-    requires names { AreNamesOf flat.now (names_seen names) }
-    ensures { Puts (table_text flat.now (names_seen names.entry) (Some table.now)) (W.state out.old) (W.state out.new) }
+/// Puts how many ships a timetable moves, if that is told.
+fn put_moved<W: Writer>(out: &mut W, moved: Option<u32>)
+    ensures { Puts (moved_line moved) (W.state out.old) (W.state out.new) }
 {
-    put_ships(out, flat, names, table);
+    if let Some(moved) = moved {
+        put_numbered(out, b"moved ", u64::from(moved));
+    }
+}
+
+/// Puts the lines of a timetable, if there is one, and the last line.
+pub fn put_table<W: Writer>(
+    out: &mut W,
+    flat: &Flat,
+    names: Names,
+    table: Option<&Timetable>,
+    moved: Option<u32>,
+)
+    requires table { IsTableOf flat.now (table_seen table) }
+    requires names { AreNamesOf flat.now (names_seen names) }
+    ensures { Puts (table_text flat.now (names_seen names.entry) (table_seen table.entry) moved) (W.state out.old) (W.state out.new) }
+{
+    if let Some(table) = table {
+        put_moved(out, moved);
+        put_ships(out, flat, names, table);
+    }
     out.put(b"end\n");
 }

@@ -1,65 +1,47 @@
 //! Reports of what was found.
 
-ghost use Rattle.std.specs.Prelude.{Some};
-ghost use Rattle.hw_model.specs.Problem.{IsTimetable};
-ghost use Rattle.hw_report.specs.Lines.{repair_text, repair_verdict_text};
-ghost use Rattle.hw_report.specs.Printing.{AreNamesOf};
+ghost use Rattle.std.specs.Prelude.{◌≡◌};
+ghost use Rattle.std.specs.Option.{option_and_then};
+ghost use Rattle.hw_model.specs.Timetables.{cargo as cargo_of};
 ghost use Rattle.hw_desk.specs.Writers.{Puts};
-ghost use Rattle.hw_report.specs.Reports.{proved, repaired, solved, spent_step};
-ghost use Rattle.hw_report.specs.Seen.{names_seen};
-ghost use Rattle.hw_report.specs.Texts.{none_text, none_proved_text, report_text, summary_text, demo_text};
+ghost use Rattle.hw_report.specs.Lines.{head_text};
+ghost use Rattle.hw_report.specs.Printing.{IsTableOf};
+ghost use Rattle.hw_report.specs.Reports.{spent_step};
+ghost use Rattle.hw_report.specs.Seen.{names_seen, table_seen};
+ghost use Rattle.hw_report.specs.Texts.{report_text, summary_text, demo_text};
 
-use crate::lines::{cargo_piece, put_bound, put_head, put_numbered, put_table, put_verdict};
+use crate::lines::put_head;
 use crate::piece::{Piece, put_pieces};
 use crate::report::{Head, Names};
+use crate::shown::put_checked;
 use hw_cert::Verdict;
 use hw_desk::Writer;
 use hw_flat::{Flat, Timetable};
 use hw_rules::cargo;
 
-/// Puts a solved problem's report with its timetable.
-pub fn put_solved<W: Writer>(out: &mut W, head: Head, flat: &Flat, names: Names, table: &Timetable)
-    requires table { IsTimetable flat.now table.now }
-    requires names { AreNamesOf flat.now (names_seen names) }
-    ensures { Puts (report_text (solved head flat.now (names_seen names.entry) (Some table.now))) (W.state out.old) (W.state out.new) }
+/// The cargo of a timetable, if there is one, in tenths of a tonne.
+fn best(flat: &Flat, table: Option<&Timetable>) -> Option<u64>
+    requires { IsTableOf flat.now (table_seen table) }
+    ensures { result ≡ option_and_then (cargo_of flat.now) (table_seen table.entry) }
 {
-    put_head(out, names, head, cargo(flat, table));
-    put_table(out, flat, names, table);
+    match table {
+        Some(table) => cargo(flat, table),
+        None => None,
+    }
 }
 
-/// Puts a solved problem's report without a timetable.
-pub fn put_none<W: Writer>(out: &mut W, head: Head, names: Names)
-    ensures { Puts (none_text (names_seen names.entry) head) (W.state out.old) (W.state out.new) }
-{
-    put_head(out, names, head, None);
-    out.put(b"end\n");
-}
-
-/// Puts a report with a bound and its timetable.
-pub fn put_proved<W: Writer>(
+/// Puts the head line of a search, with the cargo of its timetable, if there is one.
+pub fn put_outcome<W: Writer>(
     out: &mut W,
-    head: Head,
     flat: &Flat,
     names: Names,
-    table: &Timetable,
-    bound: Option<u64>,
+    head: Head,
+    table: Option<&Timetable>,
 )
-    requires table { IsTimetable flat.now table.now }
-    requires names { AreNamesOf flat.now (names_seen names) }
-    ensures { Puts (report_text (proved head flat.now (names_seen names.entry) (Some table.now) bound)) (W.state out.old) (W.state out.new) }
+    requires { IsTableOf flat.now (table_seen table) }
+    ensures { Puts (head_text (names_seen names.entry) head (option_and_then (cargo_of flat.now) (table_seen table.entry))) (W.state out.old) (W.state out.new) }
 {
-    put_head(out, names, head, cargo(flat, table));
-    put_bound(out, names, head, bound);
-    put_table(out, flat, names, table);
-}
-
-/// Puts a report with a bound and without a timetable.
-pub fn put_none_proved<W: Writer>(out: &mut W, head: Head, names: Names, bound: Option<u64>)
-    ensures { Puts (none_proved_text (names_seen names.entry) head bound) (W.state out.old) (W.state out.new) }
-{
-    put_head(out, names, head, None);
-    put_bound(out, names, head, bound);
-    out.put(b"end\n");
+    put_head(out, names, head, best(flat, table));
 }
 
 /// Puts a demonstration's summary.
@@ -68,7 +50,7 @@ fn put_summary<W: Writer>(out: &mut W, head: Head, best: Option<u64>, verdict: V
 {
     put_head(out, Names::Flat, head, best);
     out.put(b"check ");
-    put_verdict(out, Names::Flat, verdict);
+    put_checked(out, Names::Flat, verdict, None, None);
     put_pieces(
         out,
         &[
@@ -93,54 +75,6 @@ pub fn put_demo<W: Writer>(
         Head::Memory => out.put(b"memory\n"),
         _ => put_summary(out, head, best, verdict, lemmas),
     }
-}
-
-/// Puts the cargo and the number of moved ships for which a repaired problem's cargo stands.
-fn put_repair<W: Writer>(out: &mut W, label: &[u8], names: Names, ships: u32, cargo: u64)
-    ensures { Puts (repair_text label.now (names_seen names.entry) ships cargo) (W.state out.old) (W.state out.new) }
-{
-    let scale = u64::from(ships) + 1;
-    let own = cargo_piece(names, cargo / scale);
-    put_pieces(
-        out,
-        &[
-            Piece::Word(label),
-            own,
-            Piece::Word(b" moved "),
-            Piece::Number(u64::from(ships) - cargo % scale),
-            Piece::Word(b"\n"),
-        ],
-    );
-}
-
-/// Puts what a repair's certificate shows.
-pub fn put_rechecked<W: Writer>(out: &mut W, names: Names, verdict: Verdict, ships: u32)
-    ensures { Puts (repair_verdict_text (names_seen names.entry) ships verdict) (W.state out.old) (W.state out.new) }
-{
-    match verdict {
-        Verdict::Optimal(cargo) => put_repair(out, b"optimal ", names, ships, cargo),
-        Verdict::Infeasible => out.put(b"infeasible\n"),
-        Verdict::Unfinished(Some(cargo)) => put_repair(out, b"unfinished ", names, ships, cargo),
-        Verdict::Unfinished(None) => out.put(b"unfinished none\n"),
-    }
-}
-
-/// Puts a repaired plan's report with its timetable.
-pub fn put_repaired<W: Writer>(
-    out: &mut W,
-    head: Head,
-    flat: &Flat,
-    names: Names,
-    table: &Timetable,
-    moved: u32,
-)
-    requires table { IsTimetable flat.now table.now }
-    requires names { AreNamesOf flat.now (names_seen names) }
-    ensures { Puts (report_text (repaired head flat.now (names_seen names.entry) (Some table.now) moved)) (W.state out.old) (W.state out.new) }
-{
-    put_head(out, names, head, cargo(flat, table));
-    put_numbered(out, b"moved ", u64::from(moved));
-    put_table(out, flat, names, table);
 }
 
 /// Puts that the budget was spent in a step.

@@ -6,16 +6,14 @@ ghost use Rattle.hw_report.specs.Printing.{CanPrint};
 ghost use Rattle.hw_report.specs.Seen.{report_seen};
 ghost use Rattle.hw_report.specs.Texts.{report_text};
 
-use crate::lines::{put_numbered, put_verdict, put_verified};
+use crate::lines::{put_bound, put_numbered, put_table};
 use crate::lists::{put_after, put_clash, put_met};
-use crate::print::{
-    put_demo, put_none, put_none_proved, put_proved, put_rechecked, put_repaired, put_solved,
-    put_step,
-};
+use crate::print::{put_demo, put_outcome, put_step};
 use crate::refusals::{
     put_bad_field, put_bad_flat, put_bad_text, put_bad_tides, put_feed, put_refused,
 };
 use crate::report::Report;
+use crate::shown::put_checked;
 use hw_desk::{Desk, DeskFailed, Tray, TrayWriter, Writer};
 
 /// Sends a report. After an error a proper prefix of its text was sent, and nothing more will be.
@@ -39,34 +37,20 @@ fn put_report<W: Writer>(out: &mut W, report: &Report)
             head,
             flat,
             names,
-            table: Some(table),
-        } => put_solved(out, head, flat, names, table),
-        Report::Solved {
-            head,
-            names,
-            table: None,
-            ..
-        } => put_none(out, head, names),
-        Report::Checked { verdict, names } => put_verdict(out, names, verdict),
-        Report::Verified {
+            table,
+            moved,
+            bound,
+        } => {
+            put_outcome(out, flat, names, head, table);
+            put_bound(out, names, head, bound);
+            put_table(out, flat, names, table, moved);
+        }
+        Report::Checked {
             verdict,
             bound,
+            ships,
             names,
-        } => put_verified(out, names, verdict, bound),
-        Report::Proved {
-            head,
-            flat,
-            names,
-            table: Some(table),
-            bound,
-        } => put_proved(out, head, flat, names, table, bound),
-        Report::Proved {
-            head,
-            names,
-            table: None,
-            bound,
-            ..
-        } => put_none_proved(out, head, names, bound),
+        } => put_checked(out, names, verdict, bound, ships),
         Report::Demo {
             head,
             best,
@@ -82,24 +66,6 @@ fn put_report<W: Writer>(out: &mut W, report: &Report)
         Report::ReadFault { feed } => put_feed(out, b"fault read ", feed),
         Report::TooLong { feed } => put_feed(out, b"long ", feed),
         Report::Memory => out.put(b"memory\n"),
-        Report::Repaired {
-            head,
-            flat,
-            names,
-            table: Some(table),
-            moved,
-        } => put_repaired(out, head, flat, names, table, moved),
-        Report::Repaired {
-            head,
-            names,
-            table: None,
-            ..
-        } => put_none(out, head, names),
-        Report::Rechecked {
-            verdict,
-            ships,
-            names,
-        } => put_rechecked(out, names, verdict, ships),
         Report::BadText { feed, number, word } => put_bad_text(out, feed, number, word),
         Report::Clashed { kept, drops } => put_clash(out, kept, drops),
         Report::Met { table } => put_met(out, table),
