@@ -4,7 +4,7 @@ use Rattle.hw_desk.specs.State.{DeskState, Rose}
 use Rattle.hw_desk.specs.declared.desk.Feed.{Feed}
 use Rattle.hw_lines.specs.declared.check.Verdict.{Verdict}
 use Rattle.hw_lines.specs.declared.check.Verdict.TheVariants as verdicts
-use Rattle.hw_report.specs.Reports.{Report, solved, checked, verified, proved, demo, read_fault, repaired, rechecked, picture}
+use Rattle.hw_report.specs.Reports.{Report, solved, checked, demo, read_fault, picture}
 use Rattle.hw_report.specs.declared.report.Head.{Head}
 use Rattle.hw_report.specs.declared.report.Head.TheVariants as heads
 use Rattle.hw_command.specs.Carries.{Task, Carries}
@@ -41,25 +41,17 @@ no_write_verdict (verdicts.Unfinished n) e = cc
 -- a report of a read fault alone has its status, and then its cause
 read_cause : (x y : DeskState) (r : Report) → ReadFault ≡ status_of r → ReadCauseOf x y r → Rose x.read_faults y.read_faults
 read_cause x y (read_fault feed) e h = h
-read_cause x y (solved head f names table) e h = absurd (no_fault_head head e)
-read_cause x y (proved head f names table bound) e h = absurd (no_fault_head head e)
+read_cause x y (solved head f names table moved bound) e h = absurd (no_fault_head head e)
 read_cause x y (demo head best verdict lemmas) e h = absurd (no_fault_head head e)
-read_cause x y (repaired head f names table moved) e h = absurd (no_fault_head head e)
-read_cause x y (checked v names) e h = absurd (no_fault_verdict v e)
-read_cause x y (verified v bound names) e h = absurd (no_fault_verdict v e)
-read_cause x y (rechecked v ships names) e h = absurd (no_fault_verdict v e)
+read_cause x y (checked v bound ships names) e h = absurd (no_fault_verdict v e)
 read_cause x y (picture v text) e h = absurd (no_fault_verdict v e)
 read_cause x y _ e h = absurd (cc)
 
 -- no report has the status of a write fault
 no_write : (r : Report) → WriteFault ≡ status_of r → ⊥
-no_write (solved head f names table) e = no_write_head head e
-no_write (proved head f names table bound) e = no_write_head head e
+no_write (solved head f names table moved bound) e = no_write_head head e
 no_write (demo head best verdict lemmas) e = no_write_head head e
-no_write (repaired head f names table moved) e = no_write_head head e
-no_write (checked v names) e = no_write_verdict v e
-no_write (verified v bound names) e = no_write_verdict v e
-no_write (rechecked v ships names) e = no_write_verdict v e
+no_write (checked v bound ships names) e = no_write_verdict v e
 no_write (picture v text) e = no_write_verdict v e
 no_write _ e = cc
 

@@ -46,7 +46,7 @@ cert_outcome f bytes = cert_outcome_to Two f bytes
 
 -- the report of an outcome
 abbrev pub report_of : Naming → CertOutcome → Report
-report_of names (Shows v) = checked v names
+report_of names (Shows v) = checked v None None names
 report_of names (Wrong number word hint) = refused number word hint
 report_of names TooLong = too_long Certificate
 

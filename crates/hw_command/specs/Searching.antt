@@ -28,8 +28,8 @@ pub record SearchesTo (f : Problem) (budget : ℕ) (name : List ℕ) (old new : 
 
 -- the report of an answer, unless the log failed
 abbrev pub report_of_search : ℕ → Problem → Naming → Solved → Option Report
-report_of_search budget f names (Optimal table c) = Some (solved (heads.Optimal c) f names (Some table))
-report_of_search budget f names Infeasible = Some (solved heads.Infeasible f names None)
-report_of_search budget f names (Unfinished table) = Some (solved (heads.Unfinished budget) f names table)
-report_of_search budget f names (NoMemory table) = Some (solved heads.Memory f names table)
+report_of_search budget f names (Optimal table c) = Some (solved (heads.Optimal c) f names (Some table) None None)
+report_of_search budget f names Infeasible = Some (solved heads.Infeasible f names None None None)
+report_of_search budget f names (Unfinished table) = Some (solved (heads.Unfinished budget) f names table None None)
+report_of_search budget f names (NoMemory table) = Some (solved heads.Memory f names table None None)
 report_of_search budget f names LogFailed = None

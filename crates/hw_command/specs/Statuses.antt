@@ -2,7 +2,7 @@
 use Rattle.std.specs.Prelude.{ℕ}
 use Rattle.hw_lines.specs.declared.check.Verdict.{Verdict}
 use Rattle.hw_lines.specs.declared.check.Verdict.TheVariants as verdicts
-use Rattle.hw_report.specs.Reports.{Report, solved, checked, verified, proved, demo, bad_words, bad_flat, bad_json, bad_field, bad_tides, refused, read_fault, too_long, no_memory, repaired, rechecked, bad_text, clashed, met, spent_step, clash_holds, after, audit_end, whole_text, picture}
+use Rattle.hw_report.specs.Reports.{Report, solved, checked, demo, bad_words, bad_flat, bad_json, bad_field, bad_tides, refused, read_fault, too_long, no_memory, bad_text, clashed, met, spent_step, clash_holds, after, audit_end, whole_text, picture}
 use Rattle.hw_report.specs.declared.report.Head.{Head}
 use Rattle.hw_report.specs.declared.report.Head.TheVariants.{Optimal, Infeasible, Unfinished, Memory}
 use Rattle.hw_command.specs.declared.status.Status.{Status}
@@ -33,10 +33,8 @@ status_of_verdict (verdicts.Unfinished best) = status.Unfinished
 
 -- the status of a run whose report was sent
 abbrev pub status_of : Report → Status
-status_of (solved head f names table) = status_of_head head
-status_of (checked verdict names) = status_of_verdict verdict
-status_of (verified verdict bound names) = status_of_verdict verdict
-status_of (proved head f names table bound) = status_of_head head
+status_of (solved head f names table moved bound) = status_of_head head
+status_of (checked verdict bound ships names) = status_of_verdict verdict
 status_of (demo head best verdict lemmas) = status_of_head head
 status_of (bad_words place) = status.Words
 status_of (bad_flat number word) = status.BadInput
@@ -47,8 +45,6 @@ status_of (refused number word hint) = status.Refused
 status_of (read_fault feed) = status.ReadFault
 status_of (too_long feed) = status.TooLong
 status_of no_memory = status.NoMemory
-status_of (repaired head f names table moved) = status_of_head head
-status_of (rechecked verdict ships names) = status_of_verdict verdict
 status_of (bad_text feed number word) = status.BadInput
 status_of (clashed kept drops) = status.Infeasible
 status_of (met table) = status.Optimal

@@ -182,7 +182,12 @@ pub fn check_report(checked: Result<CertOutcome, CertStop>, names: Names) -> Rep
     ensures printed { CanPrint (report_seen result) }
 {
     match checked {
-        Ok(CertOutcome::Shows(verdict)) => Report::Checked { verdict, names },
+        Ok(CertOutcome::Shows(verdict)) => Report::Checked {
+            verdict,
+            bound: None,
+            ships: None,
+            names,
+        },
         Ok(CertOutcome::Wrong { number, word, hint }) => Report::Refused { number, word, hint },
         Ok(CertOutcome::TooLong) => Report::TooLong {
             feed: Feed::Certificate,

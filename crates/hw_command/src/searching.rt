@@ -78,5 +78,7 @@ pub fn search_report<'a>(
         flat,
         names,
         table,
+        moved: None,
+        bound: None,
     })
 }

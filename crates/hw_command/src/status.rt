@@ -79,13 +79,8 @@ pub fn status_of(report: &Report) -> Status
     ensures { result ≡ status_of (report_seen report.now) }
 {
     match *report {
-        Report::Solved { head, .. }
-        | Report::Proved { head, .. }
-        | Report::Demo { head, .. }
-        | Report::Repaired { head, .. } => status_of_head(head),
-        Report::Checked { verdict, .. }
-        | Report::Verified { verdict, .. }
-        | Report::Rechecked { verdict, .. } => status_of_verdict(verdict),
+        Report::Solved { head, .. } | Report::Demo { head, .. } => status_of_head(head),
+        Report::Checked { verdict, .. } => status_of_verdict(verdict),
         Report::Words { .. } => Status::Words,
         Report::BadFlat { .. }
         | Report::BadJson

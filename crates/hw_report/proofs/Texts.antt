@@ -252,10 +252,6 @@ pub a_bound_of_none_found : report_text (solved (Unfinished 30) (flattened (smal
 unfolding digits
 a_bound_of_none_found = refl
 
-pub proved_without_bound : report_text (solved (Unfinished 30) (flattened (small true) tides) by_number None None None) ≡ codes "unfinished 30 none\nend\n"
-unfolding digits
-proved_without_bound = refl
-
 pub a_bounded_repair : report_text (solved (Unfinished 7) (flattened (small true) tides) by_number (Some (0 ∷ [])) (Some 1) (Some 228_001)) ≡ codes "unfinished 7 best 228000\nbound 228001\nmoved 1\nsail 0 228000 0\nend\n"
 unfolding digits
 a_bounded_repair = refl
