@@ -145,14 +145,42 @@ repair_of s name = record {
 
 -- ---- by the names that a command has
 
--- a flat text or a port
-abbrev pub source_of : Source → Subject
-source_of (Flat name) = flat_subject name.now
-source_of (Port names) = port_subject names.instance.now names.tides.now
+-- what a plan is made for: a flat text by its name, or a port by those of its instance and its tide table
+pub data Origin : Type 0 where
+  flat_text : List ℕ → Origin
+  port_of : List ℕ → List ℕ → Origin
 
-abbrev pub repaired_by : Subject → Option (Bor (List ℕ)) → Subject
+-- what a command is about: one of these, or the repair of its plan under a name
+pub record Topic : Type 0 where
+  pub origin : Origin
+  pub plan : Option (List ℕ)
+
+abbrev pub origin_subject : Origin → Subject
+origin_subject (flat_text name) = flat_subject name
+origin_subject (port_of instance table) = port_subject instance table
+
+abbrev pub repaired_by : Subject → Option (List ℕ) → Subject
 repaired_by s None = s
-repaired_by s (Some name) = repair_of s name.now
+repaired_by s (Some name) = repair_of s name
+
+abbrev pub topic_subject : Topic → Subject
+topic_subject topic = repaired_by (origin_subject topic.origin) topic.plan
+
+-- ---- without where the names lie
+
+abbrev pub origin_seen : Source → Origin
+origin_seen (Flat name) = flat_text name.now
+origin_seen (Port names) = port_of names.instance.now names.tides.now
+
+abbrev pub plan_seen : Option (Bor (List ℕ)) → Option (List ℕ)
+plan_seen None = None
+plan_seen (Some name) = Some name.now
+
+abbrev pub topic_seen : Asked → Topic
+topic_seen asked = record { origin = origin_seen asked.of; plan = plan_seen asked.plan }
+
+abbrev pub source_of : Source → Subject
+source_of source = origin_subject (origin_seen source)
 
 abbrev pub subject_of : Asked → Subject
-subject_of asked = repaired_by (source_of asked.of) asked.plan
+subject_of asked = topic_subject (topic_seen asked)

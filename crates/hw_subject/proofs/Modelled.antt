@@ -1,0 +1,68 @@
+-- The problem that is searched models the subject: of a flat text, of a port, and of the repair of either.
+use Rattle.std.proofs.Common.{ℕ, List, Option, Some, None}
+use Rattle.std.specs.Prelude.{◌≡◌, ◌↔◌}
+use Rattle.hw_model.specs.Limits.{IsFlat}
+use Rattle.hw_model.specs.Timetables.{Permits, cargo}
+use Rattle.hw_flat.specs.TextWritten.{IsWritable}
+use Rattle.hw_verdict.proofs.Denied.{has_cargo}
+use Rattle.hw_port_rules.specs.Flattened.{flattened}
+use Rattle.hw_port_laws.proofs.Limits.{flattened_fits_law, staying_is_nothing_law}
+use Rattle.hw_port_laws.proofs.Permits.{same_permitted_law, same_cargo_law}
+use Rattle.hw_repair.proofs.Repairs.{repaired_fits, repaired_permits}
+use Rattle.hw_subject.specs.Laws.{SubjectsModelled}
+use Rattle.hw_subject.specs.Meanings.{IsModelled}
+use Rattle.hw_subject.specs.Subjects.{Subject, Planned, ReadsPlanned, Origin, flat_text, port_of, origin_subject, repair_of, repaired_by}
+
+-- the reported problem permits what the subject permits, with the same cargo
+record IsPlain (s : Subject) (v : s.Value) : Type 0 where
+  pub limits : IsFlat (s.problem v)
+  pub writable : IsWritable (s.problem v)
+  pub permitted : (table : List ℕ) → (s.Permits v table ↔ Permits (s.problem v) table)
+  pub carries : (table : List ℕ) → s.Permits v table → (c : ℕ) × (s.cargo v table ≡ Some c) × (cargo (s.problem v) table ≡ Some c)
+
+plain : (a : Origin) (held : List ℕ → Option (List ℕ)) (v : (origin_subject a).Value) → (origin_subject a).Reads held v → IsPlain (origin_subject a) v
+plain (flat_text name) held f reads = record {
+  limits = reads.limits;
+  writable = reads.writable;
+  permitted = λ table. (λ h. h, λ h. h);
+  carries = λ table h. let c = has_cargo f table h in (c.0, c.1, c.1);
+}
+plain (port_of instance table) held v reads = record {
+  limits = (flattened_fits_law v.port v.tide reads.kept).0;
+  writable = λ ship lt stay. staying_is_nothing_law v.port v.tide ship lt stay;
+  permitted = λ table. same_permitted_law v.port v.tide table reads.kept;
+  carries = λ table h. same_cargo_law v.port v.tide table reads.kept h;
+}
+
+-- the subject itself
+plain_modelled : (a : Origin) (held : List ℕ → Option (List ℕ)) (v : (origin_subject a).Value) → (origin_subject a).Reads held v → IsModelled (origin_subject a) v
+plain_modelled (flat_text name) held v reads =
+    let m = plain (flat_text name) held v reads in
+    record { fits = tt; limits = m.limits; permitted = m.permitted; carries = m.carries }
+plain_modelled (port_of instance table) held v reads =
+    let m = plain (port_of instance table) held v reads in
+    record { fits = tt; limits = m.limits; permitted = m.permitted; carries = m.carries }
+
+-- its repair
+repair_modelled : (s : Subject) (name : List ℕ) (held : List ℕ → Option (List ℕ)) (v : Planned s) → ReadsPlanned s name held v → IsPlain s v.value → IsModelled (repair_of s name) v
+repair_modelled s name held v reads m =
+    let f = s.problem v.value in
+    let fits = reads.planned.fits in
+    record {
+      fits = fits;
+      limits = repaired_fits f v.plan m.limits m.writable fits;
+      permitted = λ table. (
+        λ h. (repaired_permits f v.plan table fits).1 (record { permitted = (m.permitted table).0 h.permitted; granted = h.granted }),
+        λ h.
+            let meets = (repaired_permits f v.plan table fits).0 h in
+            record { permitted = (m.permitted table).1 meets.permitted; granted = meets.granted },
+      );
+      carries = λ table h. m.carries table h.permitted;
+    }
+
+modelled_by : (a : Origin) (plan : Option (List ℕ)) (held : List ℕ → Option (List ℕ)) (v : (repaired_by (origin_subject a) plan).Value) → (repaired_by (origin_subject a) plan).Reads held v → IsModelled (repaired_by (origin_subject a) plan) v
+modelled_by a None held v reads = plain_modelled a held v reads
+modelled_by a (Some name) held v reads = repair_modelled (origin_subject a) name held v reads (plain a held v.value reads.reads)
+
+pub subjects_modelled_law : SubjectsModelled
+subjects_modelled_law topic held v reads = modelled_by topic.origin topic.plan held v reads
