@@ -1,0 +1,6 @@
+pub mod Orders
+pub mod Searchers
+pub mod Certified
+pub mod Finding
+pub mod Searching
+pub mod Searches

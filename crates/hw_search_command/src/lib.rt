@@ -1,0 +1,18 @@
+//! `solve`, `prove` and `crew` of a flat text, of a port and of the repair of either: one command over
+//! any subject and any search.
+//!
+//! A search writes its lines to Proof as it finds them, and its answer is reported by the subject's own
+//! values. What is promised of the lines differs from search to search, and what the answer says is the
+//! same of all of them.
+#![tactic(auto)]
+
+mod command;
+mod finding;
+mod order;
+mod reporting;
+mod searcher;
+mod searching;
+
+pub use command::search_subject;
+pub use order::{MOST_TURNS, Order};
+pub use searcher::Search;
