@@ -2,7 +2,6 @@
 
 ghost use Rattle.std.specs.Prelude.{◌≤◌};
 ghost use Rattle.hw_desk.specs.State.{IsNewDesk};
-ghost use Rattle.hw_command.specs.Budgets.{most_budget};
 ghost use Rattle.hw_command.specs.Carries.{Carries};
 ghost use Rattle.hw_clash_command.specs.ClashFlat.{clash_flat_task};
 
@@ -10,6 +9,7 @@ use crate::sending::send_found;
 use hw_clash::clash;
 use hw_command::{Status, finish, read_flat};
 use hw_desk::Desk;
+use hw_progress::MOST_BUDGET;
 use std::alloc::Global;
 
 /// Reads the flat text, searches in memory for restrictions that can't be met together, sends the
@@ -23,7 +23,7 @@ pub fn clash_flat<D: Desk>(
     proof: &str,
 ) -> Status
     requires least { 1 ≤ budget }
-    requires most { budget ≤ most_budget }
+    requires most { budget ≤ MOST_BUDGET }
     requires fresh { IsNewDesk (D.state desk.old) }
     ensures { Carries (clash_flat_task name.now budget proof.now) (D.state desk.old) (D.state desk.new) result }
 {

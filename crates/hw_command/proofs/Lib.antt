@@ -11,8 +11,6 @@ pub mod Sendings
 pub mod SentWorks
 pub mod Renewals
 pub mod RenewWorks
-pub mod Searched
-pub mod SearchWorks
 pub mod PortForms
 pub mod Meanings
 pub mod Endings

@@ -1,9 +1,7 @@
--- What valid lines, their outcome and the head of a search mean for the problem and for the port.
-use Rattle.std.proofs.Common.{◌≡◌, ℕ, List, Option, Some, None, All, sym}
-use Rattle.std.specs.Prelude.{IfSome}
+-- What valid lines and their outcome mean for the problem and for the port.
+use Rattle.std.proofs.Common.{◌≡◌, ℕ, List, Option, All, sym}
 use Rattle.hw_model.specs.Limits.{IsFlat}
 use Rattle.hw_model.specs.Problem.{Problem}
-use Rattle.hw_model.specs.Timetables.{Permits}
 use Rattle.hw_lines.specs.declared.check.Verdict.{Verdict}
 use Rattle.hw_lines.specs.declared.check.Verdict.TheVariants as verdicts
 use Rattle.hw_lines.specs.declared.line.Line.{Line}
@@ -14,13 +12,8 @@ use Rattle.hw_port.specs.Kept.{PortKept}
 use Rattle.hw_port.specs.Whole.{Parts}
 use Rattle.hw_tide.specs.Levels.{TideParts}
 use Rattle.hw_port_rules.specs.Flattened.{flattened}
-use Rattle.hw_port_laws.proofs.Permits.{same_permitted_law, same_cargo_law, same_best_law, same_none_law}
 use Rattle.hw_port_verdict.proofs.Sound.{sound_port_verdict_law}
-use Rattle.hw_report.specs.declared.report.Head.{Head}
-use Rattle.hw_report.specs.declared.report.Head.TheVariants as heads
-use Rattle.hw_command.specs.Certified.{HeadMeans}
 use Rattle.hw_command.specs.Checking.{Finds}
-use Rattle.hw_command.specs.PortHeads.{HeadMeansOfPort, IsPortPlan}
 use Rattle.hw_command.specs.Verdicts.{Means, ShownBy, MeansOfPort, ShownOfPort}
 use Rattle.hw_command.specs.declared.outcome.CertOutcome.{CertOutcome}
 use Rattle.hw_command.specs.declared.outcome.CertOutcome.TheVariants.{Shows, Wrong, TooLong}
@@ -49,18 +42,3 @@ pub shown_of_port : (p : Parts) (t : TideParts) {told : Option (List ℕ)} {outc
 shown_of_port p t (Shows v) kept h = record { lines = h.lines; fit = h.fit; valid = h.valid; verdict = h.comes.0; means = port_means p t h.lines v kept h.fit h.valid h.comes.0 }
 shown_of_port p t (Wrong number word hint) kept h = tt
 shown_of_port p t TooLong kept h = tt
-
--- what a head says of the flat problem it says of the port
-pub port_head_means : (p : Parts) (t : TideParts) (budget most : ℕ) (head : Head) (table : Option (List ℕ)) → PortKept p → HeadMeans (flattened p t) budget most head table → HeadMeansOfPort p t budget most head table
-port_head_means p t budget most (heads.Optimal c) None kept m = m
-port_head_means p t budget most (heads.Optimal c) (Some table) kept m = (same_best_law p t table c kept).1 m
-port_head_means p t budget most heads.Infeasible table kept m = ((same_none_law p t kept).1 m.0, m.1)
-port_head_means p t budget most (heads.Unfinished spent) table kept m = m
-port_head_means p t budget most heads.Memory table kept m = tt
-
--- a timetable that the flat problem permits is one of the port
-pub port_plan : (p : Parts) (t : TideParts) (table : Option (List ℕ)) → PortKept p → IfSome table (Permits (flattened p t)) → IfSome table (IsPortPlan p t (flattened p t))
-port_plan p t None kept m = tt
-port_plan p t (Some table) kept m =
-    let permitted = (same_permitted_law p t table kept).1 m in
-    record { permitted = permitted; carries = same_cargo_law p t table kept permitted }

@@ -1,5 +1,4 @@
 pub mod Statuses
-pub mod Budgets
 pub mod Scope
 pub mod Values
 pub mod Works
@@ -12,8 +11,5 @@ pub mod Certificates
 pub mod Verdicts
 pub mod Checking
 pub mod Keeping
-pub mod Certified
-pub mod PortHeads
-pub mod Searching
 pub mod Sending
 pub mod Renewing

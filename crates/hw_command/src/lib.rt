@@ -12,18 +12,15 @@ mod keeping;
 mod outcome;
 mod port_input;
 mod renewing;
-mod searching;
 mod sending;
 mod status;
 
 pub use cert::{CertStep, OpenCert, check_cert, check_line, check_report, open_cert, open_cert_to};
 pub use finishing::{finish, finish_with};
-pub use hw_progress::MOST_BUDGET;
 pub use input::{read_flat, read_input, stopped};
 pub use keeping::{KeptCert, keep_cert};
 pub use outcome::{CertOutcome, CertStop};
 pub use port_input::{PortNames, PortProblem, read_port_problem};
 pub use renewing::{Renewal, renew_to, renewal_report};
-pub use searching::{search_report, search_to};
 pub use sending::send_lines;
 pub use status::{Status, status_of, status_of_verdict};

@@ -1,6 +1,5 @@
 -- What a search found, and how it is reported.
 use Rattle.std.specs.Prelude.{◌≡◌, ℕ, List, Option, Some, None, IfSome, length}
-use Rattle.hw_model.specs.Problem.{Problem}
 use Rattle.hw_progress.specs.declared.outcome.Solved.{Solved}
 use Rattle.hw_progress.specs.declared.outcome.Solved.TheVariants as solved
 use Rattle.hw_turns.specs.declared.outcome.Crewed.{Crewed}
