@@ -1,0 +1,14 @@
+//! `check`, `verify` and `renew` of a certificate of any subject: of a flat text, of a port, or of the
+//! repair of either by a plan.
+//!
+//! The lines are checked one by one. To renew them all are held in memory; otherwise only those are
+//! held that a later line may name.
+#![tactic(auto)]
+
+mod checking;
+mod laws;
+mod renewing;
+
+pub use checking::{check, verify};
+pub use laws::{certificates_decide, one_report, renewed_as_checked, subjects_decided, texts_decide};
+pub use renewing::renew;
