@@ -1,4 +1,4 @@
-pub mod Shown
-pub mod Reading
-pub mod ChartFlat
-pub mod ChartPort
+pub mod Charts
+pub mod Drawing
+pub mod Texts
+pub mod Laws

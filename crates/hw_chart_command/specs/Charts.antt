@@ -1,0 +1,48 @@
+-- `chart` of a flat text or a port: draws the plan that a certificate of any version shows.
+use Rattle.std.specs.Prelude.{◌≡◌, ℕ, List, [], ◌∷◌, ◌++◌, Option, None, Some}
+use Rattle.hw_model.specs.Problem.{Problem}
+use Rattle.hw_desk.specs.State.{DeskState}
+use Rattle.hw_desk.specs.declared.desk.Feed.TheVariants.{Certificate}
+use Rattle.hw_lines.specs.declared.check.Verdict.{Verdict}
+use Rattle.hw_cert.specs.declared.version.Version.TheVariants.{Three}
+use Rattle.hw_chart.specs.declared.outcome.Outcome.{Outcome}
+use Rattle.hw_flat_chart.specs.Pictures.{flat_picture}
+use Rattle.hw_port_chart.specs.Pictures.{port_picture}
+use Rattle.hw_report.specs.Reports.{Report, Naming, by_number, by_name, checked, picture}
+use Rattle.hw_command.specs.Carries.{Task, one_report}
+use Rattle.hw_command.specs.Scope.{named}
+use Rattle.hw_subject.specs.Subjects.{Subject}
+use Rattle.hw_check_command.specs.Checks.{Checks}
+use Rattle.hw_check_command.specs.Shown.{Shown}
+
+-- the picture of a problem, or of the port by whose names it is reported, with a timetable or none
+abbrev pub picture_of : Naming → Problem → Option (List ℕ) → Outcome → List ℕ
+picture_of by_number f table o = flat_picture f table o
+picture_of (by_name p h) f table o = port_picture p h table o
+
+-- what is read of the inputs, each where it is told, and what is drawn of it: the verdict, the last bound and the last timetable of the certificate
+pub record Draws (s : Subject) (cert : List ℕ) (held : List ℕ → Option (List ℕ)) (shows : Verdict) (drawn : List ℕ) : Type 0 where
+  pub value : s.Value
+  pub reads : s.Reads held value
+  pub bound : Option ℕ
+  pub table : Option (List ℕ)
+  pub shown : Shown s value Three (held cert) shows bound table
+  pub is_picture : drawn ≡ picture_of (s.naming value) (s.problem value) table (record { verdict = shows; bound = bound })
+
+-- what a report says of the inputs and of the certificate, each as far as it is told: what `verify` says of them, unless something is shown, which is drawn
+abbrev pub Charts : Subject → List ℕ → (List ℕ → Option (List ℕ)) → Report → Type 0
+Charts s cert held (picture shows drawn) = Draws s cert held shows drawn
+Charts s cert held (checked shows bound ships names) = ⊥
+Charts s cert held r = Checks s Three cert held r
+
+abbrev pub ChartSays : Subject → List ℕ → DeskState → Option Report → Type 0
+ChartSays s cert old None = ⊥
+ChartSays s cert old (Some r) = Charts s cert old.held r
+
+abbrev pub chart_task : Subject → List ℕ → Task
+chart_task s cert = record {
+  inputs = s.inputs ++ (named Certificate cert ∷ []);
+  Gives = s.Gives;
+  proof = None;
+  Says = one_report (λ old new. ChartSays s cert old);
+}
