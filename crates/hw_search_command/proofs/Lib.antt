@@ -1,0 +1,5 @@
+mod Letters
+pub mod Meeting
+mod Ending
+mod Printing
+mod Finishing
