@@ -1,5 +1,5 @@
 -- Reading a flat text, a port, and a plan of either, as reading a subject.
-use Rattle.std.proofs.Common.{◌≡◌, ◌∙◌, ◌++◌, ℕ, List, [], ◌∷◌, Option, None, Some, Ok, Err, false, refl, sym, subst}
+use Rattle.std.proofs.Common.{◌≡◌, ◌∙◌, ◌++◌, ℕ, List, [], ◌∷◌, Option, None, Some, Ok, Err, false, refl, subst}
 use Rattle.std.specs.Prelude.{IfSome}
 use Rattle.hw_model.specs.Problem.{Problem}
 use Rattle.hw_desk.specs.State.{DeskState}

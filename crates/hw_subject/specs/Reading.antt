@@ -1,5 +1,5 @@
 -- Reading a subject.
-use Rattle.std.specs.Prelude.{◌≡◌, ℕ, List, [], ◌∷◌, Option, Some, None, ⊤}
+use Rattle.std.specs.Prelude.{◌≡◌, List, [], ◌∷◌, Option, Some, None, ⊤}
 use Rattle.hw_model.specs.Problem.{Problem}
 use Rattle.hw_flat.specs.TextWritten.{IsWritable}
 use Rattle.hw_desk.specs.State.{DeskState}
