@@ -1,9 +1,8 @@
 pub mod Found
 pub mod Plans
-pub mod PartReports
 pub mod PortWords
-pub mod ClashFlat
-pub mod ClashPort
+pub mod Clashes
 pub mod CheckClash
-pub mod CheckClashPort
+pub mod Texts
 pub mod ExplainPort
+pub mod Laws

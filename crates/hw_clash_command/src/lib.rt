@@ -5,17 +5,14 @@
 //! clash is the same for a flat problem and for a port, whose restrictions `explain_port` names.
 #![tactic(auto)]
 
+mod checking;
 mod explaining;
-mod flat_check;
-mod flat_search;
+mod laws;
 mod part_input;
-mod part_report;
-mod port_check;
-mod port_search;
+mod searching;
 mod sending;
 
+pub use checking::check_clash;
 pub use explaining::explain_port;
-pub use flat_check::check_clash;
-pub use flat_search::clash_flat;
-pub use port_check::check_clash_port;
-pub use port_search::clash_port;
+pub use laws::{one_clash_report, texts_decide_clash};
+pub use searching::clash;

@@ -1,0 +1,62 @@
+//! `check clash` of a flat text or a port: a clash, and its certificate.
+
+ghost use Rattle.std.specs.Prelude.{◌≡◌};
+ghost use Rattle.hw_desk.specs.State.{IsNewDesk};
+ghost use Rattle.hw_report.specs.Printing.{CanPrint};
+ghost use Rattle.hw_report.specs.Seen.{report_seen};
+ghost use Rattle.hw_command.specs.Carries.{Carries};
+ghost use Rattle.hw_subject.specs.Subjects.{source_of};
+ghost use Rattle.hw_clash_command.specs.CheckClash.{check_clash_task};
+ghost use Rattle.hw_clash_command.specs.Texts.{report_of_part};
+
+use crate::part_input::read_part;
+use hw_cert::{Verdict, Version};
+use hw_command::{CertOutcome, Status, check_report, finish, read_cert};
+use hw_desk::Desk;
+use hw_report::{Names, Report};
+use hw_subject::{Source, Subject, read_subject};
+use std::alloc::Global;
+
+/// Reads a flat text or a port, and the clash text, checks the certificate of the part of the kept
+/// restrictions, and reports. In the certificate a restriction has its number in the part.
+pub fn check_clash<D: Desk>(
+    alloc: Global,
+    desk: &mut D,
+    source: Source,
+    plan: &str,
+    cert: &str,
+) -> Status
+    requires fresh { IsNewDesk (D.state desk.old) }
+    ensures { Carries (check_clash_task (source_of source.entry) plan.now cert.now) (D.state desk.old) (D.state desk.new) result }
+{
+    let subject = Subject {
+        of: source,
+        plan: None,
+    };
+    let given = match read_subject(alloc, desk, subject) {
+        Ok(given) => given,
+        Err(report) => return finish(desk, &report),
+    };
+    let kept = match read_part(alloc, desk, &given.flat, plan) {
+        Ok(kept) => kept,
+        Err(report) => return finish(desk, &report),
+    };
+    match read_cert(alloc, desk, &kept, cert, Version::Two, ()) {
+        Ok(read) => finish(desk, &part_report(read.outcome)),
+        Err(stop) => finish(desk, &check_report(Err(stop), None, None, Names::Flat)),
+    }
+}
+
+/// The report of the outcome of a certificate of the kept restrictions: that the clash holds, if they
+/// can't be met together, and otherwise that of any check, with numbers for names.
+fn part_report(outcome: CertOutcome) -> Report<'static>
+    ensures value { report_seen result ≡ report_of_part outcome }
+    ensures printed { CanPrint (report_seen result) }
+{
+    match outcome {
+        CertOutcome::Shows(Verdict::Infeasible) => Report::ClashHolds,
+        CertOutcome::Shows(Verdict::Optimal(_) | Verdict::Unfinished(_))
+        | CertOutcome::Wrong { .. }
+        | CertOutcome::TooLong => check_report(Ok(outcome), None, None, Names::Flat),
+    }
+}

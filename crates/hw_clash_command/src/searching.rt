@@ -1,0 +1,42 @@
+//! `clash` of a flat text or a port: why it permits nothing.
+
+ghost use Rattle.std.specs.Prelude.{◌≤◌};
+ghost use Rattle.hw_desk.specs.State.{IsNewDesk};
+ghost use Rattle.hw_command.specs.Carries.{Carries};
+ghost use Rattle.hw_subject.specs.Subjects.{source_of};
+ghost use Rattle.hw_clash_command.specs.Clashes.{clash_task};
+
+use crate::sending::send_found;
+use hw_command::{Status, finish};
+use hw_desk::Desk;
+use hw_progress::MOST_BUDGET;
+use hw_subject::{Source, Subject, read_subject};
+use std::alloc::Global;
+
+/// Reads a flat text or a port, searches in memory for restrictions that can't be met together, sends
+/// the certificate of what was found to Proof, and reports. Restrictions have their numbers in the flat
+/// problem, and ships their places. The budget, in lemmas, is for each step of the search. Proof isn't
+/// made if memory runs out.
+pub fn clash<D: Desk>(
+    alloc: Global,
+    desk: &mut D,
+    source: Source,
+    budget: u32,
+    proof: &str,
+) -> Status
+    requires least { 1 ≤ budget }
+    requires most { budget ≤ MOST_BUDGET }
+    requires fresh { IsNewDesk (D.state desk.old) }
+    ensures { Carries (clash_task (source_of source.entry) budget proof.now) (D.state desk.old) (D.state desk.new) result }
+{
+    let subject = Subject {
+        of: source,
+        plan: None,
+    };
+    let given = match read_subject(alloc, desk, subject) {
+        Ok(given) => given,
+        Err(report) => return finish(desk, &report),
+    };
+    let clashed = hw_clash::clash(alloc, &given.flat, budget);
+    send_found(desk, &clashed, budget, proof)
+}
