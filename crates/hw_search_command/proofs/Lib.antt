@@ -1,5 +1,5 @@
 mod Letters
 pub mod Meeting
 mod Ending
-mod Printing
+mod Owned
 mod Finishing

@@ -1,10 +1,11 @@
 -- What a search found, and how it is reported.
 use Rattle.std.specs.Prelude.{◌≡◌, ℕ, List, Option, Some, None, IfSome, length}
+use Rattle.hw_model.specs.Problem.{Problem}
 use Rattle.hw_progress.specs.declared.outcome.Solved.{Solved}
 use Rattle.hw_progress.specs.declared.outcome.Solved.TheVariants as solved
 use Rattle.hw_turns.specs.declared.outcome.Crewed.{Crewed}
 use Rattle.hw_turns.specs.declared.outcome.Crewed.TheVariants as crewed
-use Rattle.hw_report.specs.Reports.{Report, solved as solved_report}
+use Rattle.hw_report.specs.Reports.{Report, Naming, solved as solved_report}
 use Rattle.hw_report.specs.declared.report.Head.{Head}
 use Rattle.hw_report.specs.declared.report.Head.TheVariants.{Optimal, Infeasible, Unfinished, Memory}
 use Rattle.hw_repair.specs.declared.plan.Wish.{Wish}
@@ -49,8 +50,12 @@ abbrev pub moved_told : Option (List Wish) → Option (List ℕ) → Option ℕ
 moved_told None table = None
 moved_told (Some plan) table = Some (moved_in (Some plan) table)
 
+-- the report of what was found, of a problem by its names, or of its repair
+abbrev pub found_report : Problem → Naming → Option (List Wish) → Found → Report
+found_report f names plan found = solved_report (own_head plan f.ships found.head) f names found.table (moved_told plan found.table) (own_bound plan f.ships found.bound)
+
 abbrev pub report_of : Given → Found → Report
-report_of given found = solved_report (own_head (plan_in given.repair) given.flat.ships found.head) given.flat (naming_of given.named) found.table (moved_told (plan_in given.repair) found.table) (own_bound (plan_in given.repair) given.flat.ships found.bound)
+report_of given found = found_report given.flat (naming_of given.named) (plan_in given.repair) found
 
 -- the timetable has a slot for each wish of the plan
 abbrev pub HasSlots : Option (List Wish) → Option (List ℕ) → Type 0
