@@ -19,7 +19,7 @@ pub struct Found {
 
 /// What was found by a search that ended so, within a budget of lemmas and with this bound, or none if
 /// its log failed.
-pub(crate) fn found(budget: u32, solved: Solved, bound: Option<u64>) -> Option<Found>
+pub(crate) fn found_of(budget: u32, solved: Solved, bound: Option<u64>) -> Option<Found>
     ensures { result ≡ found_of budget solved bound }
 {
     let (head, table) = match solved {

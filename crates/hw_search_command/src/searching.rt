@@ -11,7 +11,7 @@ ghost use Rattle.hw_turns.specs.Working.{CrewMeets};
 ghost use Rattle.hw_search_command.specs.Searchers.{searcher_of};
 ghost use Rattle.hw_search_command.specs.Searching.{SearchMeets, SearchesTo};
 
-use crate::finding::{Found, found, found_by_crew};
+use crate::finding::{Found, found_by_crew, found_of};
 use crate::order::Order;
 use crate::searcher::Search;
 use hw_cert::{PriceLog, TrayLog, send_header_of};
@@ -65,10 +65,10 @@ fn search_on<D: Desk>(
     ensures outside { outside_of (D.state desk.new) ≡ outside_of (D.state desk.old) }
 {
     match how {
-        Search::Solve => found(budget, solve_on(alloc, desk, flat, budget), None),
+        Search::Solve => found_of(budget, solve_on(alloc, desk, flat, budget), None),
         Search::Prove => {
             let Proved { solved, bound } = prove_on(alloc, desk, flat, budget);
-            found(budget, solved, bound)
+            found_of(budget, solved, bound)
         }
         Search::Crew { order } => found_by_crew(budget, crew_on(alloc, desk, flat, &order, budget)),
     }
