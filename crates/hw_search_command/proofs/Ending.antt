@@ -1,15 +1,14 @@
 -- A search whose lines went to Proof.
-use Rattle.std.proofs.Common.{◌≡◌, ◌<◌, ◌≤◌, ◌++◌, ◌∙◌, ℕ, List, [], true, false, length, Option, Some, None, Result, Ok, Err, inl, inr, refl, sym, ap, subst, arith, append-nil}
+use Rattle.std.proofs.Common.{◌≡◌, ◌≤◌, ◌++◌, ◌∙◌, ℕ, List, [], true, false, Option, Some, None, Result, Ok, Err, inr, refl, sym, ap, subst, arith, append-nil}
 use Rattle.std.specs.Prelude.{IfSome, is_err, option_and_then}
 use Rattle.hw_model.specs.Problem.{Problem}
-use Rattle.hw_desk.specs.State.{DeskState, TrayState, IsFresh, put_tray, Rose}
+use Rattle.hw_desk.specs.State.{DeskState, TrayState, put_tray, Rose}
 use Rattle.hw_desk.specs.Calls.{OnlyTray, Makes}
 use Rattle.hw_desk.specs.Whole.{SendsText}
 use Rattle.hw_desk.specs.declared.desk.Tray.{Tray}
 use Rattle.hw_desk.specs.declared.desk.Tray.TheVariants.{Report, Proof}
 use Rattle.hw_desk.proofs.Chain.{only_tray_on}
 use Rattle.hw_cert.specs.declared.version.Version.{Version}
-use Rattle.hw_cert.specs.declared.version.Version.TheVariants.{One, Two, Three}
 use Rattle.hw_cert.specs.Logs.{LogTold, outside_of, Outside}
 use Rattle.hw_cert.specs.Texts.{cert_text}
 use Rattle.hw_cert.specs.Told.{header_of, told_under, is_told_under, log_under, IsTextUnder}

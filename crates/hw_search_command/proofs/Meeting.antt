@@ -1,5 +1,5 @@
 -- What each of the three searches leaves on its log, in one form.
-use Rattle.std.proofs.Common.{◌≡◌, ◌≤◌, ◌∙◌, ℕ, Bool, true, false, List, [], ◌∷◌, Option, Some, None, length, refl, sym, ap}
+use Rattle.std.proofs.Common.{◌≡◌, ◌≤◌, ◌∙◌, ℕ, Bool, true, false, List, [], ◌∷◌, Option, Some, None, length, refl, sym, ap, subst}
 use Rattle.std.proofs.lemmas.List.Elements.{All-head, All-tail}
 use Rattle.std.specs.Prelude.{All, IfSome, IsSomeAnd, fold, option_and_then}
 use Rattle.hw_model.specs.Problem.{Problem}
@@ -10,8 +10,9 @@ use Rattle.hw_lines.specs.Lemmas.{lemmas_of}
 use Rattle.hw_lines.specs.Lines.{best_of, last_table, ends, is_closed}
 use Rattle.hw_lines.specs.Tolled.{is_plain, bound_after, bound_of}
 use Rattle.hw_lines.specs.Valid.{verdict, verdict_by}
-use Rattle.hw_desk.specs.State.{Rose}
+use Rattle.hw_desk.specs.State.{DeskState, Rose}
 use Rattle.hw_cert.specs.Logs.{LogTold, LogModel, WhereTold, IsWhole, Grows}
+use Rattle.hw_cert.specs.Told.{log_under}
 use Rattle.hw_progress.specs.declared.outcome.Branching.{Branching}
 use Rattle.hw_progress.specs.declared.outcome.Solved.{Solved}
 use Rattle.hw_progress.specs.declared.outcome.Solved.TheVariants as solved
@@ -26,9 +27,10 @@ use Rattle.hw_turns.specs.declared.outcome.Crewed.TheVariants as crewed
 use Rattle.hw_report.specs.declared.report.Head.TheVariants as heads
 use Rattle.hw_search_command.specs.Certified.{IsWritten, Shows, IsCutLine}
 use Rattle.hw_search_command.specs.Finding.{found_of, found_by_crew}
-use Rattle.hw_search_command.specs.Searchers.{Searcher, solving, proving, crewing}
+use Rattle.hw_search_command.specs.Searchers.{Searcher, solving, proving, crewing, searcher_of}
 use Rattle.hw_search_command.specs.Searching.{IsTrueOf, TellsFound, TellsCut, SearchMeets}
 use Rattle.hw_search_command.specs.declared.finding.Found.{Found}
+use Rattle.hw_search_command.specs.declared.searcher.Search.{Search}
 
 -- ---- plain lines have no bound
 
@@ -41,8 +43,8 @@ plain_fold last [] h = refl
 plain_fold last (line ∷ more) h =
     ap (λ (b : Option ℕ). fold bound_after b more) (plain_after last line (All-head (λ line. is_plain line ≡ true) line more h)) ∙ plain_fold last more (All-tail (λ line. is_plain line ≡ true) line more h)
 
-plain_bound : {all : List Line} → All (λ line. is_plain line ≡ true) all → bound_of all ≡ None
-plain_bound {all = all} h = plain_fold None all h
+plain_bound : (all : List Line) → All (λ line. is_plain line ≡ true) all → bound_of all ≡ None
+plain_bound all h = plain_fold None all h
 
 -- ---- what lines show of an answer
 
@@ -101,10 +103,10 @@ solved_with : {f : Problem} {budget : ℕ} {old new : LogModel} (answer : Solved
 solved_with {f = f} {budget = budget} {old = old} {new = new} answer found m kept is whole shows = found_meets solving f budget found (SolveWrites f budget answer old.faults new.faults) old new m.later kept is m.writes whole (λ all w. solve_written answer w) shows
 
 pub solve_meets : {f : Problem} {budget : ℕ} {old new : LogModel} (answer : Solved) → SolveMeets f budget old answer new → SolvedKeepsFaults answer old new → SearchMeets solving f budget old (found_of budget answer None) new
-solve_meets (solved.Optimal table c) m kept = solved_with (solved.Optimal table c) _ m kept (record { permitted = m.permitted; means = m.means; bounded = tt }) m.ends (λ all w. optimal_shows table c None w.tells.0 w.tells.1 w.proved_just (plain_bound w.plain))
-solve_meets solved.Infeasible m kept = solved_with solved.Infeasible _ m kept (record { permitted = tt; means = (m.means, refl); bounded = tt }) m.ends (λ all w. infeasible_shows None w.tells w.proved_just (plain_bound w.plain))
-solve_meets (solved.Unfinished table) m kept = solved_with (solved.Unfinished table) _ m kept (record { permitted = m.permitted; means = (refl, m.means); bounded = tt }) m.ends (λ all w. unfinished_shows table None w.tells w.proved_just (plain_bound w.plain))
-solve_meets (solved.NoMemory table) m kept = solved_with (solved.NoMemory table) _ m kept (record { permitted = m.permitted; means = tt; bounded = tt }) m.ends (λ all w. memory_shows table None w.tells w.proved_just (plain_bound w.plain))
+solve_meets (solved.Optimal table c) m kept = solved_with (solved.Optimal table c) _ m kept (record { permitted = m.permitted; means = m.means; bounded = tt }) m.ends (λ all w. optimal_shows table c None w.tells.0 w.tells.1 w.proved_just (plain_bound all w.plain))
+solve_meets solved.Infeasible m kept = solved_with solved.Infeasible _ m kept (record { permitted = tt; means = (m.means, refl); bounded = tt }) m.ends (λ all w. infeasible_shows None w.tells w.proved_just (plain_bound all w.plain))
+solve_meets (solved.Unfinished table) m kept = solved_with (solved.Unfinished table) _ m kept (record { permitted = m.permitted; means = (refl, m.means); bounded = tt }) m.ends (λ all w. unfinished_shows table None w.tells w.proved_just (plain_bound all w.plain))
+solve_meets (solved.NoMemory table) m kept = solved_with (solved.NoMemory table) _ m kept (record { permitted = m.permitted; means = tt; bounded = tt }) m.ends (λ all w. memory_shows table None w.tells w.proved_just (plain_bound all w.plain))
 solve_meets {f = f} {budget = budget} {old = old} {new = new} solved.LogFailed m kept = cut_meets solving f budget (SolveWrites f budget solved.LogFailed old.faults new.faults) (FailsAt f) old new m.later m.writes m.ends (λ all w. solve_written solved.LogFailed w) (plain_cut solving f (λ line e. e))
 
 -- ---- `prove`
@@ -131,8 +133,16 @@ crewed_with : {f : Problem} {order : List Branching} {budget : ℕ} {old new : L
 crewed_with {f = f} {order = order} {budget = budget} {old = old} {new = new} answer found m kept is whole shows = found_meets (crewing order) f budget found (CrewWrites f order budget answer old.faults new.faults) old new m.later kept is m.writes whole (λ all w. crew_written answer w) shows
 
 pub crew_meets : {f : Problem} {order : List Branching} {budget : ℕ} {old new : LogModel} (answer : Crewed) → CrewMeets f order budget old answer new → SearchMeets (crewing order) f budget old (found_by_crew budget answer) new
-crew_meets (crewed.Optimal table c) m = crewed_with (crewed.Optimal table c) _ m m.kept (record { permitted = m.permitted; means = m.means; bounded = tt }) m.ends (λ all w. optimal_shows table c None w.tells.0 w.tells.1 w.proved_just (plain_bound w.plain))
-crew_meets crewed.Infeasible m = crewed_with crewed.Infeasible _ m m.kept (record { permitted = tt; means = (m.means, refl); bounded = tt }) m.ends (λ all w. infeasible_shows None w.tells w.proved_just (plain_bound w.plain))
-crew_meets (crewed.Spent table) m = crewed_with (crewed.Spent table) _ m m.kept (record { permitted = m.permitted; means = (refl, m.means); bounded = tt }) m.ends (λ all w. unfinished_shows table None w.tells w.proved_just (plain_bound w.plain))
-crew_meets (crewed.NoMemory table) m = crewed_with (crewed.NoMemory table) _ m m.kept (record { permitted = m.permitted; means = tt; bounded = tt }) m.ends (λ all w. memory_shows table None w.tells w.proved_just (plain_bound w.plain))
+crew_meets (crewed.Optimal table c) m = crewed_with (crewed.Optimal table c) _ m m.kept (record { permitted = m.permitted; means = m.means; bounded = tt }) m.ends (λ all w. optimal_shows table c None w.tells.0 w.tells.1 w.proved_just (plain_bound all w.plain))
+crew_meets crewed.Infeasible m = crewed_with crewed.Infeasible _ m m.kept (record { permitted = tt; means = (m.means, refl); bounded = tt }) m.ends (λ all w. infeasible_shows None w.tells w.proved_just (plain_bound all w.plain))
+crew_meets (crewed.Spent table) m = crewed_with (crewed.Spent table) _ m m.kept (record { permitted = m.permitted; means = (refl, m.means); bounded = tt }) m.ends (λ all w. unfinished_shows table None w.tells w.proved_just (plain_bound all w.plain))
+crew_meets (crewed.NoMemory table) m = crewed_with (crewed.NoMemory table) _ m m.kept (record { permitted = m.permitted; means = tt; bounded = tt }) m.ends (λ all w. memory_shows table None w.tells w.proved_just (plain_bound all w.plain))
 crew_meets {f = f} {order = order} {budget = budget} {old = old} {new = new} crewed.LogFailed m = cut_meets (crewing order) f budget (CrewWrites f order budget crewed.LogFailed old.faults new.faults) (FailsAt f) old new m.later m.writes m.ends (λ all w. crew_written crewed.LogFailed w) (plain_cut (crewing order) f (λ line e. e))
+
+-- ---- the one that is run
+
+pub meets_as : (how other : Search) (f : Problem) (budget : ℕ) (found told : Option Found) (x y : DeskState) → how ≡ other → found ≡ told → SearchMeets (searcher_of other) f budget (log_under (searcher_of other).version x) told (log_under (searcher_of other).version y)
+    → SearchMeets (searcher_of how) f budget (log_under (searcher_of how).version x) found (log_under (searcher_of how).version y)
+meets_as how other f budget found told x y e k m =
+    subst (λ (h : Search). SearchMeets (searcher_of h) f budget (log_under (searcher_of h).version x) found (log_under (searcher_of h).version y)) (sym e)
+    (subst (λ (o : Option Found). SearchMeets (searcher_of other) f budget (log_under (searcher_of other).version x) o (log_under (searcher_of other).version y)) (sym k) m)

@@ -23,14 +23,14 @@ pub fn search_subject<D: Desk>(
     alloc: Global,
     desk: &mut D,
     subject: Subject,
-    how: Search,
+    how: &Search,
     budget: u32,
     proof: &str,
 ) -> Status
     requires least { 1 ≤ budget }
     requires most { budget ≤ MOST_BUDGET }
     requires fresh { IsNewDesk (D.state desk.old) }
-    ensures { Carries (search_task (subject_of subject.entry) (searcher_of how) budget proof.now) (D.state desk.old) (D.state desk.new) result }
+    ensures { Carries (search_task (subject_of subject.entry) (searcher_of how.now) budget proof.now) (D.state desk.old) (D.state desk.new) result }
 {
     let given = match read_subject(alloc, desk, subject) {
         Ok(given) => given,

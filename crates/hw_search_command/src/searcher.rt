@@ -20,8 +20,8 @@ pub enum Search {
 
 impl Search {
     /// The version of its certificates.
-    pub(crate) fn version(self) -> Version
-        ensures { result ≡ (searcher_of self).version }
+    pub(crate) fn version(&self) -> Version
+        ensures { result ≡ (searcher_of self.now).version }
     {
         match self {
             Search::Solve | Search::Crew { .. } => Version::Two,

@@ -29,14 +29,14 @@ pub(crate) fn search_to<D: Desk>(
     alloc: Global,
     desk: &mut D,
     flat: &Flat,
-    how: Search,
+    how: &Search,
     budget: u32,
     name: &str,
 ) -> Option<Found>
     requires least { 1 ≤ budget }
     requires most { budget ≤ MOST_BUDGET }
     requires fresh { ((D.state desk.old).trays Tray.Proof).made ≡ false }
-    ensures { SearchesTo (searcher_of how) flat.now budget name.now (D.state desk.old) (D.state desk.new) result }
+    ensures { SearchesTo (searcher_of how.now) flat.now budget name.now (D.state desk.old) (D.state desk.new) result }
 {
     if desk.make(Tray::Proof, name).is_err() {
         return None;
@@ -52,16 +52,16 @@ fn search_on<D: Desk>(
     alloc: Global,
     desk: &mut D,
     flat: &Flat,
-    how: Search,
+    how: &Search,
     budget: u32,
 ) -> Option<Found>
     requires least { 1 ≤ budget }
     requires most { budget ≤ MOST_BUDGET }
     requires made { ((D.state desk.old).trays Tray.Proof).made ≡ true }
-    requires told { is_told_under (searcher_of how).version ((D.state desk.old).trays Tray.Proof).sent ≡ true }
-    requires empty { IsEmpty (log_under (searcher_of how).version (D.state desk.old)) }
-    ensures meets { SearchMeets (searcher_of how) flat.now budget (log_under (searcher_of how).version (D.state desk.old)) result (log_under (searcher_of how).version (D.state desk.new)) }
-    ensures told { is_told_under (searcher_of how).version ((D.state desk.new).trays Tray.Proof).sent ≡ true }
+    requires told { is_told_under (searcher_of how.now).version ((D.state desk.old).trays Tray.Proof).sent ≡ true }
+    requires empty { IsEmpty (log_under (searcher_of how.now).version (D.state desk.old)) }
+    ensures meets { SearchMeets (searcher_of how.now) flat.now budget (log_under (searcher_of how.now).version (D.state desk.old)) result (log_under (searcher_of how.now).version (D.state desk.new)) }
+    ensures told { is_told_under (searcher_of how.now).version ((D.state desk.new).trays Tray.Proof).sent ≡ true }
     ensures outside { outside_of (D.state desk.new) ≡ outside_of (D.state desk.old) }
 {
     match how {
@@ -70,7 +70,7 @@ fn search_on<D: Desk>(
             let Proved { solved, bound } = prove_on(alloc, desk, flat, budget);
             found_of(budget, solved, bound)
         }
-        Search::Crew { order } => found_by_crew(budget, crew_on(alloc, desk, flat, &order, budget)),
+        Search::Crew { order } => found_by_crew(budget, crew_on(alloc, desk, flat, order, budget)),
     }
 }
 
