@@ -1,136 +1,142 @@
--- The plan that a certificate of a flat text shows is drawn.
-use Rattle.std.proofs.Common.{◌≡◌, ◌≤◌, ◌∙◌, ℕ, cond, List, [], ◌∷◌, length, Option, Some, None, Result, Ok, Err, false, inl, inr, refl, sym, ap, subst}
+-- The plan that a certificate of a flat text or a port shows is drawn.
+use Rattle.std.proofs.Common.{◌≡◌, ◌∙◌, ◌++◌, ℕ, List, [], ◌∷◌, Option, Some, None, Result, Ok, Err, append-nil, false, inl, inr, refl, sym, ap, subst}
 use Rattle.std.specs.Prelude.{IfSome}
-use Rattle.std.proofs.lemmas.Bool.{le-ltb, lt-ltb}
-use Rattle.hw_model.specs.Limits.{IsFlat}
-use Rattle.hw_model.specs.Problem.{Problem, IsTimetable, shape_of}
+use Rattle.hw_model.specs.Problem.{Problem, IsTimetable}
 use Rattle.hw_desk.specs.State.{DeskState}
-use Rattle.hw_desk.specs.declared.desk.Feed.TheVariants.{Flat, Certificate}
-use Rattle.hw_flat.specs.Text.{flat_text}
-use Rattle.hw_flat.specs.declared.fault.FlatWord.{FlatWord}
-use Rattle.hw_flat_chart.specs.Pictures.{flat_picture}
+use Rattle.hw_desk.specs.declared.desk.Feed.TheVariants.{Certificate}
+use Rattle.hw_lines.specs.declared.check.Verdict.{Verdict}
 use Rattle.hw_cert.specs.declared.version.Version.TheVariants.{Three}
-use Rattle.hw_cert.specs.Stream.{cert_stream_to}
 use Rattle.hw_chart.specs.declared.outcome.Outcome.{Outcome}
-use Rattle.hw_report.specs.Reports.{Report, by_number, picture, bad_flat, too_long, no_memory}
+use Rattle.hw_report.specs.Reports.{Report, Naming, by_number, no_memory}
 use Rattle.hw_command.specs.Carries.{Carries}
+use Rattle.hw_command.specs.Certificates.{report_of, report_of_check}
 use Rattle.hw_command.specs.Ends.{Ends}
-use Rattle.hw_command.specs.Inputs.{Enters, ReadsFlat, IsBadAt, StopsAtFlat}
+use Rattle.hw_command.specs.Readings.{KeepsTable, ReadsCert, outcome_in}
 use Rattle.hw_command.specs.Scope.{Entered, named}
-use Rattle.hw_command.specs.Values.{most_bytes, IsLong, IsTextOf}
 use Rattle.hw_command.specs.Works.{is_common}
+use Rattle.hw_command.specs.declared.cert.ReadCert.{ReadCert}
 use Rattle.hw_command.specs.declared.outcome.CertOutcome.{CertOutcome}
 use Rattle.hw_command.specs.declared.outcome.CertOutcome.TheVariants.{Shows, Wrong, TooLong}
 use Rattle.hw_command.specs.declared.outcome.CertStop.{CertStop}
 use Rattle.hw_command.specs.declared.outcome.CertStop.TheVariants.{Fault, NoMemory}
 use Rattle.hw_command.specs.declared.status.Status.{Status}
+use Rattle.hw_command.specs.declared.taking.LastTable.{LastTable}
 use Rattle.hw_command.proofs.Begun.{entered_on, answers, wants_memory}
-use Rattle.hw_command.proofs.Told.{told_all, told_map}
-use Rattle.hw_command.proofs.FlatForms.{by_line, gives_problem}
+use Rattle.hw_command.proofs.CertWorks.{cert_works}
+use Rattle.hw_command.proofs.FlatForms.{by_line}
+use Rattle.hw_command.proofs.PortForms.{by_fault}
 use Rattle.hw_command.proofs.Stops.{stops_carries}
-use Rattle.hw_verify_command.specs.Bounded.{any_outcome}
-use Rattle.hw_verify_command.specs.Verifying.{Verifies, VerifiesCert, report_with, report_of_verified}
-use Rattle.hw_verify_command.specs.declared.verified.VerifiedCert.{VerifiedCert}
-use Rattle.hw_verify_command.proofs.FlatVerified.{verify_works}
-use Rattle.hw_chart_command.specs.Shown.{cert_table, IsLastShown, EndsUnlessMemory}
-use Rattle.hw_chart_command.specs.Reading.{IsNothing, ShowsNothing, ReadsLast, ReadsNothing}
-use Rattle.hw_chart_command.specs.ChartFlat.{read_chart, flat_chart_of, texts_chart, Charts, ChartFlatSays, chart_flat_task}
-use Rattle.hw_chart_command.specs.declared.shown.Shown.{Shown}
-use Rattle.hw_chart_command.proofs.LastShown.{last_means, last_permitted, listed, told_last}
+use Rattle.hw_command.proofs.Told.{told_map}
+use Rattle.hw_subject.specs.Meanings.{judged}
+use Rattle.hw_subject.specs.Reading.{ReadsSubject, StopsAtSubject, searched_in}
+use Rattle.hw_subject.specs.Subjects.{Subject, Origin, flat_text, port_of, origin_subject, Topic}
+use Rattle.hw_subject.specs.declared.subject.Given.{Given}
+use Rattle.hw_subject.proofs.Readings.{before_last}
+use Rattle.hw_subject.proofs.Shown.{last_permitted}
+use Rattle.hw_check_command.specs.Shown.{Shown}
+use Rattle.hw_check_command.proofs.Certless.{certless}
+use Rattle.hw_check_command.proofs.Checked.{judged_lines, modelled}
+use Rattle.hw_check_command.proofs.Shows.{ReadsOf, shown_of}
+use Rattle.hw_chart_command.specs.Charts.{Charts, chart_task, picture_of}
+use Rattle.hw_chart_command.specs.Drawing.{EndsUnlessMemory, drawn_report}
 
--- ---- by the bytes
+-- ---- a flat text or a port
 
-within : (text bytes : List ℕ) → length text ≤ most_bytes → texts_chart text bytes ≡ read_chart (flat_text text) bytes
-within text bytes h = ap (λ b. cond b (too_long Flat) (read_chart (flat_text text) bytes)) (le-ltb _ _ h)
+pub unplanned : (origin : Origin) (v : (origin_subject origin).Value) → judged (origin_subject origin) v ≡ (origin_subject origin).problem v
+unplanned (flat_text name) v = refl
+unplanned (port_of instance table) v = refl
 
--- the report of the bytes, where the text is one of the problem
-decided_by : (text bytes : Option (List ℕ)) (f : Problem) (r : Report) → IfSome text (IsTextOf f) → IfSome bytes (λ bs. r ≡ flat_chart_of f bs (any_outcome f bs)) → IfSome text (λ t. IfSome bytes (λ b. r ≡ texts_chart t b))
-decided_by text bytes f r h k = told_map text (λ t is_text. told_map bytes (λ b e. e ∙ sym (within t b is_text.0 ∙ ap (λ p. read_chart p b) is_text.1)) k) h
+refused_says : (origin : Origin) (cert : List ℕ) (held : List ℕ → Option (List ℕ)) (r : Report) → (origin_subject origin).Refuses held r → Charts (origin_subject origin) cert held r
+refused_says (flat_text name) cert held r h = by_line (held name) (Charts (origin_subject (flat_text name)) cert held) r (λ number word bad. bad) (λ long. long) h
+refused_says (port_of instance table) cert held r h = by_fault (held instance) (held table) (Charts (origin_subject (port_of instance table)) cert held) r (λ bad. bad) (λ fault bad. bad) (λ fault bad. bad) (λ bad. bad) (λ bad. bad) h
 
--- the same where the text has a bad line
-bad_by : (text bytes : Option (List ℕ)) (number : ℕ) (word : FlatWord) → IfSome text (IsBadAt number word) → IfSome text (λ t. IfSome bytes (λ b. bad_flat number word ≡ texts_chart t b))
-bad_by text bytes number word h = told_map text (λ t bad. told_all bytes (λ b. sym (within t b bad.0 ∙ ap (λ p. read_chart p b) bad.1))) h
+-- as a topic without a plan
+abbrev pub plainly : Origin → Topic
+plainly origin = record { origin = origin; plan = None }
 
--- the same where the text passes its limit
-long_by : (text bytes : Option (List ℕ)) → IfSome text IsLong → IfSome text (λ t. IfSome bytes (λ b. too_long Flat ≡ texts_chart t b))
-long_by text bytes h = told_map text (λ t long. told_all bytes (λ b. sym (ap (λ passes. cond passes (too_long Flat) (read_chart (flat_text t) b)) (lt-ltb _ _ long)))) h
+-- ---- the certificate
 
-drawn_by : {f : Problem} {o : Outcome} {table : Option (List ℕ)} (bytes : Option (List ℕ)) → IsLastShown f bytes o table → IfSome bytes (λ bs. picture o.verdict (flat_picture f table o) ≡ flat_chart_of f bs (any_outcome f bs))
-drawn_by {f = f} {o = o} bytes h = told_map bytes (λ bs e.
-    let v = o.verdict in
-    ap (λ (t : Option (List ℕ)). picture v (flat_picture f t o)) e.0 ∙ ap (λ (b : Option ℕ). picture v (flat_picture f (cert_table f bs) (record { verdict = v; bound = b }))) e.1 ∙ ap (flat_chart_of f bs) e.2) (told_last bytes h)
+-- all inputs were begun
+all_entered : (origin : Origin) {cert : List ℕ} {x y z : DeskState} {given : Given} {result : Result (ReadCert LastTable) CertStop} {f : Problem} → ReadsSubject (origin_subject origin) x y given → ReadsCert Three KeepsTable f cert y z result → Entered ((origin_subject origin).inputs ++ named Certificate cert ∷ []) x z
+all_entered origin h k = entered_on (origin_subject origin).inputs h.entered k.enters (certless (plainly origin)).unread
 
--- ---- what is said
+-- what was read of it before this outcome
+keeps : {s : Subject} {cert : List ℕ} {x y z : DeskState} {given : Given} {read : ReadCert LastTable} (o : CertOutcome) → read.outcome ≡ o → (h : ReadsSubject s x y given) → (k : ReadsCert Three KeepsTable (searched_in given.flat given.repair) cert y z (Ok read)) → ReadsOf s h.value Three (x.held cert) (judged_lines s h k).lines o
+keeps {s = s} {cert = cert} {x = x} o e h k =
+    let lines = judged_lines s h k in
+    subst (ReadsOf s h.value Three (x.held cert) lines.lines) e lines.keeps
 
--- the picture of what is shown
-draws : {f : Problem} {text bytes table : Option (List ℕ)} {o : Outcome} → IsFlat f → IfSome text (IsTextOf f) → IsLastShown f bytes o table → Charts text bytes (picture o.verdict (flat_picture f table o))
-draws {f = f} {text = text} {bytes = bytes} {table = table} {o = o} flat reads h = record {
-  texts = record { problem = f; limits = flat; reads = reads; bound = o.bound; table = table; shown = h; means = last_means flat h; is_picture = refl };
-  decided = decided_by text bytes f (picture o.verdict (flat_picture f table o)) reads (drawn_by bytes h);
-}
-
--- an outcome that shows nothing
-refuses : {f : Problem} {text bytes table : Option (List ℕ)} (o : CertOutcome) (bound : Option ℕ) → IsNothing o → IsFlat f → IfSome text (IsTextOf f) → Verifies f bytes (any_outcome f) (cert_stream_to Three (shape_of f)) o bound table → Charts text bytes (report_with by_number bound o)
-refuses (Shows v) bound nothing flat reads h = absurd nothing
-refuses {f = f} {text = text} {bytes = bytes} (Wrong number word hint) bound nothing flat reads h = record {
-  texts = record { problem = f; limits = flat; reads = reads; outcome = h.keeps.comes };
-  decided = decided_by text bytes f _ reads (told_map bytes (λ bs e. ap (flat_chart_of f bs) e) h.keeps.comes);
-}
-refuses {f = f} {text = text} {bytes = bytes} TooLong bound nothing flat reads h = record {
-  texts = record { problem = f; limits = flat; reads = reads; outcome = h.keeps.comes };
-  decided = decided_by text bytes f _ reads (told_map bytes (λ bs e. ap (flat_chart_of f bs) e) h.keeps.comes);
-}
+-- what it shows
+shown : {cert : List ℕ} {x y z : DeskState} {given : Given} {read : ReadCert LastTable} (origin : Origin) (w : Verdict) → read.outcome ≡ Shows w → (h : ReadsSubject (origin_subject origin) x y given) → ReadsCert Three KeepsTable (searched_in given.flat given.repair) cert y z (Ok read) → Shown (origin_subject origin) h.value Three (x.held cert) w read.bound read.kept.0
+shown {cert = cert} {x = x} {read = read} origin w e h k =
+    let s = origin_subject origin in
+    let lines = judged_lines s h k in
+    subst (λ (table : Option (List ℕ)). Shown s h.value Three (x.held cert) w read.bound table) (sym lines.kept) (shown_of s h.value Three (x.held cert) lines.lines w read.bound (modelled (plainly origin) h) lines.formed lines.last (keeps (Shows w) e h k))
 
 -- ---- the exits
 
--- the flat text gives no problem
-pub chart_stops : {x y z : DeskState} {r : Report} {s : Status} (name cert : List ℕ) → StopsAtFlat name x y r → Ends (r ∷ []) y z s → Carries (chart_flat_task name cert) x z s
-chart_stops {x = x} {r = r} name cert h ends = stops_carries (chart_flat_task name cert) (named Certificate cert ∷ []) h refl (λ feed given. given)
-    (by_line (x.held name) (λ (r : Report). ChartFlatSays name cert x (Some r)) r (λ number word bad. record { texts = bad; decided = bad_by (x.held name) (x.held cert) number word bad }) (λ long. record { texts = long; decided = long_by (x.held name) (x.held cert) long })) ends
-
--- both inputs were begun
-both_entered : {name cert : List ℕ} {x y z : DeskState} {f : Problem} → ReadsFlat name x y f → Enters Certificate cert y z → Entered (named Flat name ∷ named Certificate cert ∷ []) x z
-both_entered {name = name} h k = entered_on (named Flat name ∷ []) h.entered k refl
-
-nothing_says : {name cert : List ℕ} {x y z : DeskState} {f : Problem} (found : Result VerifiedCert CertStop) → ShowsNothing found → ReadsFlat name x y f → VerifiesCert f cert y z found → is_common (report_of_verified by_number found) ≡ false → Charts (x.held name) (x.held cert) (report_of_verified by_number found)
-nothing_says {cert = cert} {f = f} (Ok v) nothing h k e = refuses v.outcome v.bound nothing h.limits h.reads (subst (λ (told : Option (List ℕ)). Verifies f told (any_outcome f) (cert_stream_to Three (shape_of f)) v.outcome v.bound v.table) (ap (λ held. held cert) h.entered.begins.held) k.verifies.1)
-nothing_says (Err Fault) nothing h k e = absurd (cc)
-nothing_says (Err NoMemory) nothing h k e = absurd (cc)
+-- the inputs give no value
+pub chart_stops : {x y z : DeskState} {r : Report} {s : Status} (origin : Origin) (cert : List ℕ) → StopsAtSubject (origin_subject origin) x y r → Ends (r ∷ []) y z s → Carries (chart_task (origin_subject origin) cert) x z s
+chart_stops {x = x} {r = r} origin cert h ends = stops_carries (chart_task (origin_subject origin) cert) (named Certificate cert ∷ []) h refl (λ feed given. given) (refused_says origin cert x.held r) ends
 
 -- the certificate shows nothing
-pub chart_refuses : {name cert : List ℕ} {x y z end : DeskState} {f : Problem} {r : Report} {s : Status} → ReadsFlat name x y f → ReadsNothing f cert y z r → Ends (r ∷ []) z end s → Carries (chart_flat_task name cert) x end s
-chart_refuses {name = name} {cert = cert} {x = x} {z = z} {end = end} {s = s} h k ends = subst (λ (r : Report). Ends (r ∷ []) z end s → Carries (chart_flat_task name cert) x end s) (sym k.reported) (λ ended. record {
-  mid = z;
-  reports = report_of_verified by_number k.found ∷ [];
-  works = verify_works by_number k.found h.entered h.read_faults refl (gives_problem h, tt) k.verifies;
-  says = nothing_says k.found k.nothing h k.verifies;
-  ends = ended;
-}) ends
+abbrev pub ShowsNothing : Result (ReadCert LastTable) CertStop → Type 0
+ShowsNothing result = (v : Verdict) → outcome_in result ≡ Ok (Shows v) → ⊥
 
--- memory ran out for the moves
-no_moves : {name cert : List ℕ} {x y z end : DeskState} {f : Problem} {shown : Shown} {s : Status} → ReadsFlat name x y f → ReadsLast f cert y z shown → Ends (no_memory ∷ []) z end s → Carries (chart_flat_task name cert) x end s
-no_moves {name = name} {cert = cert} {z = z} h k ends = record {
-  mid = z;
-  reports = no_memory ∷ [];
-  works = wants_memory None (named Flat name ∷ named Certificate cert ∷ []) [] refl (both_entered h k.enters) (gives_problem h, tt) (k.read_faults ∙ h.read_faults);
-  says = λ own. absurd (cc);
-  ends = ends;
-}
+outcome_says : {cert : List ℕ} {x y z : DeskState} {given : Given} {read : ReadCert LastTable} (origin : Origin) (o : CertOutcome) → read.outcome ≡ o → ((v : Verdict) → Ok {E = CertStop} o ≡ Ok (Shows v) → ⊥) → ReadsSubject (origin_subject origin) x y given → ReadsCert Three KeepsTable (searched_in given.flat given.repair) cert y z (Ok read) → Charts (origin_subject origin) cert x.held (report_of by_number None None o)
+outcome_says origin (Shows v) e nothing h k = absurd (nothing v refl)
+outcome_says origin (Wrong number word hint) e nothing h k = record { value = h.value; reads = h.reads; outcome = (keeps (Wrong number word hint) e h k).comes }
+outcome_says origin TooLong e nothing h k = record { value = h.value; reads = h.reads; outcome = (keeps TooLong e h k).comes }
 
--- the picture is sent
-pub chart_draws : {name cert : List ℕ} {x y z end : DeskState} {f : Problem} {s : Status} (shown : Shown) → ReadsFlat name x y f → ReadsLast f cert y z shown → EndsUnlessMemory (picture shown.outcome.verdict (flat_picture f shown.table shown.outcome)) z end s → Carries (chart_flat_task name cert) x end s
-chart_draws shown h k (inr ends) = no_moves h k ends
-chart_draws {name = name} {cert = cert} {z = z} {f = f} shown h k (inl ends) =
-    let o = shown.outcome in
-    let table = shown.table in
+nothing_says : {cert : List ℕ} {x y z : DeskState} {given : Given} (origin : Origin) (result : Result (ReadCert LastTable) CertStop) → ShowsNothing result → ReadsSubject (origin_subject origin) x y given → ReadsCert Three KeepsTable (searched_in given.flat given.repair) cert y z result → is_common (report_of_check by_number None None (outcome_in result)) ≡ false → Charts (origin_subject origin) cert x.held (report_of_check by_number None None (outcome_in result))
+nothing_says origin (Ok read) nothing h k own = outcome_says origin read.outcome refl nothing h k
+nothing_says origin (Err Fault) nothing h k own = absurd (cc)
+nothing_says origin (Err NoMemory) nothing h k own = absurd (cc)
+
+pub chart_refuses : {cert : List ℕ} {x y z end : DeskState} {given : Given} {s : Status} (origin : Origin) (result : Result (ReadCert LastTable) CertStop) → ShowsNothing result → ReadsSubject (origin_subject origin) x y given → ReadsCert Three KeepsTable (searched_in given.flat given.repair) cert y z result → Ends (report_of_check by_number None None (outcome_in result) ∷ []) z end s → Carries (chart_task (origin_subject origin) cert) x end s
+chart_refuses {cert = cert} {x = x} {z = z} origin result nothing h k ends =
+    let s = origin_subject origin in
     record {
       mid = z;
-      reports = picture o.verdict (flat_picture f table o) ∷ [];
-      works = answers None _ refl (both_entered h k.enters) (gives_problem h, tt) (k.read_faults ∙ h.read_faults);
-      says = λ own. draws h.limits h.reads (subst (λ (told : Option (List ℕ)). IsLastShown f told o table) (ap (λ held. held cert) h.entered.begins.held) k.last);
+      reports = report_of_check by_number None None (outcome_in result) ∷ [];
+      works = cert_works by_number None None None result h.entered h.read_faults (certless (plainly origin)).unread (before_last (s.Gives x.held) s.inputs (named Certificate cert) h.give) k;
+      says = nothing_says origin result nothing h k;
+      ends = ends;
+    }
+
+-- the picture is sent, or memory ran out for the moves
+pub chart_draws : {cert : List ℕ} {x y z end : DeskState} {given : Given} {read : ReadCert LastTable} {s : Status} (origin : Origin) (v : Verdict) → read.outcome ≡ Shows v → ReadsSubject (origin_subject origin) x y given → ReadsCert Three KeepsTable (searched_in given.flat given.repair) cert y z (Ok read) → EndsUnlessMemory (drawn_report given read.kept.0 (record { verdict = v; bound = read.bound })) z end s → Carries (chart_task (origin_subject origin) cert) x end s
+chart_draws {cert = cert} {x = x} {z = z} {given = given} {read = read} origin v e h k (inl ends) =
+    let s = origin_subject origin in
+    let table = read.kept.0 in
+    let o : Outcome = record { verdict = v; bound = read.bound } in
+    record {
+      mid = z;
+      reports = drawn_report given table o ∷ [];
+      works = answers None _ refl (all_entered origin h k) (before_last (s.Gives x.held) s.inputs (named Certificate cert) h.give) (k.reads.0 ∙ h.read_faults);
+      says = λ own. record {
+        value = h.value;
+        reads = h.reads;
+        bound = read.bound;
+        table = table;
+        shown = shown origin v e h k;
+        is_picture = ap (λ (names : Naming). picture_of names given.flat table o) h.naming ∙ ap (λ (f : Problem). picture_of (s.naming h.value) f table o) h.problem;
+      };
+      ends = ends;
+    }
+chart_draws {cert = cert} {x = x} {z = z} origin v e h k (inr ends) =
+    let s = origin_subject origin in
+    record {
+      mid = z;
+      reports = no_memory ∷ [];
+      works = wants_memory None (s.inputs ++ named Certificate cert ∷ []) [] (sym (append-nil _)) (all_entered origin h k) (before_last (s.Gives x.held) s.inputs (named Certificate cert) h.give) (k.reads.0 ∙ h.read_faults);
+      says = λ own. absurd (cc);
       ends = ends;
     }
 
 -- what is drawn is a timetable of the problem
-pub chart_listed : {name cert : List ℕ} {x y z : DeskState} {f : Problem} (shown : Shown) → ReadsFlat name x y f → ReadsLast f cert y z shown → IfSome shown.table (IsTimetable f)
-chart_listed {f = f} shown h k = listed f shown.table (last_permitted h.limits k.last)
+pub listed : {cert : List ℕ} {x y z : DeskState} {given : Given} {read : ReadCert LastTable} (origin : Origin) (v : Verdict) → read.outcome ≡ Shows v → ReadsSubject (origin_subject origin) x y given → ReadsCert Three KeepsTable (searched_in given.flat given.repair) cert y z (Ok read) → IfSome read.kept.0 (IsTimetable given.flat)
+listed {read = read} origin v e h k =
+    let s = origin_subject origin in
+    let is = shown origin v e h k in
+    subst (λ (f : Problem). IfSome read.kept.0 (IsTimetable f)) (unplanned origin h.value ∙ sym h.problem) (told_map read.kept.0 (λ table permits. permits.listed) (last_permitted s h.value is.lines read.kept.0 (modelled (plainly origin) h) is.fit is.valid is.last_table))

@@ -1,3 +1,3 @@
-pub mod LastShown
-pub mod Charted
-pub mod PortCharted
+mod Charted
+mod Decided
+mod Verified

@@ -2,10 +2,10 @@ mod Planned
 mod Printed
 mod Irreducible
 mod Sent
-mod FlatFound
-pub mod FlatChecked
 mod PortLists
 mod PortMeans
-mod PortFound
-mod PortChecked
+mod Sources
+mod Found
+mod Checked
+pub mod Decided
 mod Explained

@@ -19,8 +19,7 @@ use Rattle.hw_explain.specs.declared.named.Named.{Named}
 use Rattle.hw_explain.specs.Meaning.{NamedHolds}
 use Rattle.hw_explain.specs.Restrictions.{named_restrictions}
 use Rattle.hw_explain.proofs.Numbers.{each_is_named, named_means}
-use Rattle.hw_clash_command.specs.ClashPort.{IsPortClash}
-use Rattle.hw_clash_command.specs.PortWords.{LineHolds, MeetsLines, IsPortDrops}
+use Rattle.hw_clash_command.specs.PortWords.{LineHolds, MeetsLines, IsPortClash, IsPortDrops}
 use Rattle.hw_clash_command.proofs.PortLists.{of_port, to_port}
 
 -- ---- one restriction

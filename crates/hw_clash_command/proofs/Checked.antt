@@ -1,0 +1,207 @@
+-- A clash text of a flat text or a port is checked, with its certificate.
+use Rattle.std.proofs.Common.{◌≡◌, ◌∙◌, ◌++◌, ℕ, List, [], ◌∷◌, Option, Some, None, Result, Ok, Err, append_assoc, false, refl, sym, ap, subst}
+use Rattle.std.specs.Prelude.{IfSome}
+use Rattle.hw_model.specs.Limits.{IsFlat}
+use Rattle.hw_model.specs.Problem.{Problem, shape_of}
+use Rattle.hw_model.specs.Timetables.{NonePermitted}
+use Rattle.hw_desk.specs.State.{DeskState, FeedState, IsNewDesk}
+use Rattle.hw_desk.specs.declared.desk.Feed.{Feed}
+use Rattle.hw_desk.specs.declared.desk.Feed.TheVariants.{Plan, Certificate}
+use Rattle.hw_lines.specs.declared.check.Verdict.TheVariants as verdicts
+use Rattle.hw_lines.specs.declared.line.Line.{Line}
+use Rattle.hw_cert.specs.declared.version.Version.TheVariants.{Two}
+use Rattle.hw_cert.specs.Stream.{cert_stream_to}
+use Rattle.hw_clash.specs.Clashes.{Clash}
+use Rattle.hw_clash.specs.Parts.{part}
+use Rattle.hw_clash.specs.Read.{SaysClash}
+use Rattle.hw_report.specs.Reports.{Report, by_number}
+use Rattle.hw_command.specs.Carries.{Carries}
+use Rattle.hw_command.specs.Certificates.{cert_outcome, report_of, report_of_check}
+use Rattle.hw_command.specs.Checking.{Comes}
+use Rattle.hw_command.specs.Ends.{Ends}
+use Rattle.hw_command.specs.Readings.{KeepsNone, ReadsLines, ReadsCert, outcome_in}
+use Rattle.hw_command.specs.Scope.{Named, named, is_among, GiveBefore}
+use Rattle.hw_command.specs.Verdicts.{ShownBy}
+use Rattle.hw_command.specs.Works.{Works, is_common}
+use Rattle.hw_command.specs.declared.cert.ReadCert.{ReadCert}
+use Rattle.hw_command.specs.declared.outcome.CertOutcome.{CertOutcome}
+use Rattle.hw_command.specs.declared.outcome.CertOutcome.TheVariants.{Shows, Wrong, TooLong}
+use Rattle.hw_command.specs.declared.outcome.CertStop.{CertStop}
+use Rattle.hw_command.specs.declared.outcome.CertStop.TheVariants.{Fault, NoMemory}
+use Rattle.hw_command.specs.declared.status.Status.{Status}
+use Rattle.hw_command.proofs.Begun.{entered_on}
+use Rattle.hw_command.proofs.CertWorks.{cert_works}
+use Rattle.hw_command.proofs.FlatForms.{by_line}
+use Rattle.hw_command.proofs.Meanings.{means}
+use Rattle.hw_command.proofs.PortForms.{by_fault}
+use Rattle.hw_command.proofs.Stops.{stops_carries}
+use Rattle.hw_subject.specs.Reading.{ReadsSubject, StopsAtSubject}
+use Rattle.hw_subject.specs.Subjects.{Subject, Origin, flat_text, port_of, origin_subject}
+use Rattle.hw_subject.specs.declared.subject.Given.{Given}
+use Rattle.hw_subject.proofs.Readings.{all_as, all_on, before_last}
+use Rattle.hw_clash_command.specs.CheckClash.{HoldsWhere, ChecksClash, ClashChecks, ClashGives, GivesClash, check_clash_task}
+use Rattle.hw_clash_command.specs.Plans.{IsClashOf, ReadsPart, StopsAtPlan}
+use Rattle.hw_clash_command.specs.PortWords.{ClashIn, DropsIn}
+use Rattle.hw_clash_command.specs.Texts.{report_of_part}
+use Rattle.hw_clash_command.proofs.Irreducible.{irreducible}
+use Rattle.hw_clash_command.proofs.Planned.{plan_stops}
+use Rattle.hw_clash_command.proofs.PortMeans.{port_clash, port_drops}
+
+-- ---- a flat text or a port
+
+plan_unread : (origin : Origin) → is_among (origin_subject origin).inputs Plan ≡ false
+plan_unread (flat_text name) = refl
+plan_unread (port_of instance table) = refl
+
+cert_unread : (origin : Origin) (plan : List ℕ) → is_among ((origin_subject origin).inputs ++ named Plan plan ∷ []) Certificate ≡ false
+cert_unread (flat_text name) plan = refl
+cert_unread (port_of instance table) plan = refl
+
+gives : (origin : Origin) (plan : List ℕ) (held : List ℕ → Option (List ℕ)) (feed : Feed) → (origin_subject origin).Gives held feed → ClashGives (origin_subject origin) plan held feed
+gives (flat_text name) plan held Plan given = absurd given
+gives (port_of instance table) plan held Plan given = absurd given
+gives origin plan held feed given = given
+
+refused_says : (origin : Origin) (plan cert : List ℕ) (held : List ℕ → Option (List ℕ)) (r : Report) → (origin_subject origin).Refuses held r → ClashChecks (origin_subject origin) plan cert held r
+refused_says (flat_text name) plan cert held r h = by_line (held name) (ClashChecks (origin_subject (flat_text name)) plan cert held) r (λ number word bad. bad) (λ long. long) h
+refused_says (port_of instance table) plan cert held r h = by_fault (held instance) (held table) (ClashChecks (origin_subject (port_of instance table)) plan cert held) r (λ bad. bad) (λ fault bad. bad) (λ fault bad. bad) (λ bad. bad) (λ bad. bad) h
+
+-- the clash in a port's own words
+drops_in : (origin : Origin) (held : List ℕ → Option (List ℕ)) (v : (origin_subject origin).Value) (clash : Clash) → (origin_subject origin).Reads held v → SaysClash ((origin_subject origin).problem v) clash → DropsIn ((origin_subject origin).naming v) clash.kept clash.drops
+drops_in (flat_text name) held v clash reads says = tt
+drops_in (port_of instance table) held v clash reads says = port_drops v.port v.tide clash reads.kept says
+
+clash_in : (origin : Origin) (held : List ℕ → Option (List ℕ)) (v : (origin_subject origin).Value) (clash : Clash) → (origin_subject origin).Reads held v → SaysClash ((origin_subject origin).problem v) clash → NonePermitted (part ((origin_subject origin).problem v) clash.kept) → ClashIn ((origin_subject origin).naming v) clash.kept clash.drops
+clash_in (flat_text name) held v clash reads says none = tt
+clash_in (port_of instance table) held v clash reads says none = port_clash v.port v.tide clash reads.kept says none
+
+-- ---- an outcome
+
+holds_where : (origin : Origin) (held : List ℕ → Option (List ℕ)) (v : (origin_subject origin).Value) (clash : Clash) (o : CertOutcome) → (origin_subject origin).Reads held v → SaysClash ((origin_subject origin).problem v) clash → ShownBy (part ((origin_subject origin).problem v) clash.kept) o → HoldsWhere ((origin_subject origin).naming v) ((origin_subject origin).problem v) clash o
+holds_where origin held v clash (Shows verdicts.Infeasible) reads says shown = (irreducible ((origin_subject origin).problem v) clash says shown.means, clash_in origin held v clash reads says shown.means)
+holds_where origin held v clash (Shows (verdicts.Optimal c)) reads says shown = tt
+holds_where origin held v clash (Shows (verdicts.Unfinished best)) reads says shown = tt
+holds_where origin held v clash (Wrong number word hint) reads says shown = tt
+holds_where origin held v clash TooLong reads says shown = tt
+
+-- what comes of the bytes that are told
+comes : {g : Problem} {lines : List Line} {told : Option (List ℕ)} (o : CertOutcome) → Comes g lines told (cert_outcome g) o → IfSome told (λ bs. o ≡ cert_outcome g bs)
+comes (Shows v) h = h.1
+comes (Wrong number word hint) h = h
+comes TooLong h = h
+
+-- what is shown of the part
+shown : {g : Problem} {told : Option (List ℕ)} {read : ReadCert (Unit {0})} (o : CertOutcome) → IsFlat g → (h : ReadsLines Two KeepsNone g told (cert_outcome g) (cert_stream_to Two (shape_of g)) read) → Comes g h.lines told (cert_outcome g) o → ShownBy g o
+shown {g = g} (Shows v) flat h e = record { lines = h.lines; fit = h.keeps.fit; valid = h.keeps.valid; verdict = e.0; means = means g h.lines v flat h.keeps.fit h.keeps.valid e.0 }
+shown (Wrong number word hint) flat h e = tt
+shown TooLong flat h e = tt
+
+says : {s : Subject} {plan cert : List ℕ} {held : List ℕ → Option (List ℕ)} (o : CertOutcome) → ChecksClash s plan cert held o → ClashChecks s plan cert held (report_of_part o)
+says (Shows verdicts.Infeasible) c = c
+says (Shows (verdicts.Optimal d)) c = (refl, (λ e. absurd (cc)), c)
+says (Shows (verdicts.Unfinished best)) c = (refl, (λ e. absurd (cc)), c)
+says (Wrong number word hint) c = c
+says TooLong c = c
+
+-- ---- the work
+
+-- the inputs and the clash text gave what they give
+give_all : {plan cert : List ℕ} {x y : DeskState} {given : Given} (origin : Origin) → ReadsSubject (origin_subject origin) x y given → GivesClash (origin_subject origin) plan x.held → GiveBefore (ClashGives (origin_subject origin) plan x.held) (((origin_subject origin).inputs ++ named Plan plan ∷ []) ++ named Certificate cert ∷ [])
+give_all {plan = plan} {cert = cert} {x = x} origin h clash =
+    let s = origin_subject origin in
+    let G = ClashGives s plan x.held in
+    before_last G (s.inputs ++ named Plan plan ∷ []) (named Certificate cert) (all_on G s.inputs (named Plan plan) (all_as (s.Gives x.held) G s.inputs (gives origin plan x.held) h.give) clash)
+
+-- the work up to a report of this kind is the work up to that of any check
+part_works : {inputs : List Named} {Gives : Feed → Type 0} {x z : DeskState} (o : CertOutcome) → Works inputs Gives None x z (report_of by_number None None o) → Works inputs Gives None x z (report_of_part o)
+part_works (Shows verdicts.Infeasible) w = record { done = w.done; rest = w.rest; parts = w.parts; begins = w.begins; give = w.give; upto = w.upto; trays = w.trays; read_cause = w.read_cause; write_faults = w.write_faults }
+part_works (Shows (verdicts.Optimal c)) w = w
+part_works (Shows (verdicts.Unfinished best)) w = w
+part_works (Wrong number word hint) w = w
+part_works TooLong w = w
+
+-- the certificate is read
+works : {plan cert : List ℕ} {x y w z : DeskState} {given : Given} {g : Problem} (origin : Origin) (result : Result (ReadCert (Unit {0})) CertStop) → ReadsSubject (origin_subject origin) x y given → ReadsPart given.flat plan y w g → GivesClash (origin_subject origin) plan x.held → ReadsCert Two KeepsNone g cert w z result → Works (check_clash_task (origin_subject origin) plan cert).inputs (ClashGives (origin_subject origin) plan x.held) None x z (report_of_check by_number None None (outcome_in result))
+works {plan = plan} {cert = cert} {x = x} {z = z} origin result h k clash m =
+    let s = origin_subject origin in
+    subst (λ (inputs : List Named). Works inputs (ClashGives s plan x.held) None x z (report_of_check by_number None None (outcome_in result))) (append_assoc s.inputs (named Plan plan ∷ []) (named Certificate cert ∷ []))
+    (cert_works by_number None None None result (entered_on s.inputs h.entered k.enters (plan_unread origin)) (k.read_faults ∙ h.read_faults) (cert_unread origin plan) (give_all origin h clash) m)
+
+-- ---- before it
+
+-- the clash text isn't begun yet
+pub unread_plan : {x y : DeskState} {given : Given} (origin : Origin) → IsNewDesk x → ReadsSubject (origin_subject origin) x y given → (y.feeds Plan).begun ≡ false
+unread_plan origin new h = ap (λ (feed : FeedState). feed.begun) (h.entered.begins.others Plan (plan_unread origin)) ∙ new.feeds Plan
+
+-- nor the certificate after it
+pub unread_cert : {plan : List ℕ} {x y w : DeskState} {given : Given} {g : Problem} (origin : Origin) → IsNewDesk x → ReadsSubject (origin_subject origin) x y given → ReadsPart given.flat plan y w g → (w.feeds Certificate).begun ≡ false
+unread_cert {plan = plan} origin new h k = ap (λ (feed : FeedState). feed.begun) ((entered_on (origin_subject origin).inputs h.entered k.enters (plan_unread origin)).begins.others Certificate (cert_unread origin plan)) ∙ new.feeds Certificate
+
+-- ---- the exits
+
+-- the inputs give no value
+pub check_stops : {x y z : DeskState} {r : Report} {s : Status} (origin : Origin) (plan cert : List ℕ) → StopsAtSubject (origin_subject origin) x y r → Ends (r ∷ []) y z s → Carries (check_clash_task (origin_subject origin) plan cert) x z s
+check_stops {x = x} {r = r} origin plan cert h ends = stops_carries (check_clash_task (origin_subject origin) plan cert) (named Plan plan ∷ named Certificate cert ∷ []) h refl (gives origin plan x.held) (refused_says origin plan cert x.held r) ends
+
+-- the clash text gives no part
+plan_stopped : {f : Problem} {x y z end : DeskState} {given : Given} {r : Report} {s : Status} (origin : Origin) (plan cert : List ℕ) → (h : ReadsSubject (origin_subject origin) x y given) → StopsAtPlan ((origin_subject origin).problem h.value) plan y z r → Ends (r ∷ []) z end s → Carries (check_clash_task (origin_subject origin) plan cert) x end s
+plan_stopped {x = x} {r = r} origin plan cert h k ends =
+    let s = origin_subject origin in
+    let G = ClashGives s plan x.held in
+    stops_carries (check_clash_task s plan cert) (named Certificate cert ∷ [])
+    (plan_stops {Gives = G} (ClashChecks s plan cert x.held) h.entered h.read_faults (plan_unread origin) (before_last G s.inputs (named Plan plan) (all_as (s.Gives x.held) G s.inputs (gives origin plan x.held) h.give))
+    (λ long. (record { value = h.value; reads = h.reads }, long))
+    (λ number word bad. record { value = h.value; reads = h.reads; bad = bad })
+    k) (sym (append_assoc s.inputs (named Plan plan ∷ []) (named Certificate cert ∷ []))) (λ feed given. given) (λ says. says) ends
+
+pub check_plan_stops : {x y z end : DeskState} {given : Given} {r : Report} {s : Status} (origin : Origin) (plan cert : List ℕ) → ReadsSubject (origin_subject origin) x y given → StopsAtPlan given.flat plan y z r → Ends (r ∷ []) z end s → Carries (check_clash_task (origin_subject origin) plan cert) x end s
+check_plan_stops {y = y} {z = z} {r = r} origin plan cert h k ends = plan_stopped origin plan cert h (subst (λ (f : Problem). StopsAtPlan f plan y z r) h.problem k) ends
+
+-- the clash is that of the bytes held at first
+clash_of : {plan : List ℕ} {x y w : DeskState} {given : Given} {g : Problem} (origin : Origin) → (h : ReadsSubject (origin_subject origin) x y given) → (k : ReadsPart given.flat plan y w g) → IsClashOf (x.held plan) ((origin_subject origin).problem h.value) k.clash
+clash_of {plan = plan} {x = x} origin h k = subst (λ (f : Problem). IsClashOf (x.held plan) f k.clash) h.problem (subst (λ (told : Option (List ℕ)). IsClashOf told _ k.clash) (ap (λ held. held plan) h.entered.begins.held) k.is)
+
+gives_clash : {plan : List ℕ} {x y w : DeskState} {given : Given} {g : Problem} (origin : Origin) → ReadsSubject (origin_subject origin) x y given → ReadsPart given.flat plan y w g → GivesClash (origin_subject origin) plan x.held
+gives_clash origin h k = record { value = h.value; reads = h.reads; clash = k.clash; is = clash_of origin h k }
+
+-- the certificate isn't read to its end
+pub check_breaks : {plan cert : List ℕ} {x y w z end : DeskState} {given : Given} {g : Problem} {s : Status} (origin : Origin) (stop : CertStop) → ReadsSubject (origin_subject origin) x y given → ReadsPart given.flat plan y w g → ReadsCert Two KeepsNone g cert w z (Err stop) → Ends (report_of_check by_number None None (Err stop) ∷ []) z end s → Carries (check_clash_task (origin_subject origin) plan cert) x end s
+check_breaks {z = z} origin stop h k m ends = record {
+  mid = z;
+  reports = report_of_check by_number None None (Err stop) ∷ [];
+  works = works origin (Err stop) h k (gives_clash origin h k) m;
+  says = common stop;
+  ends = ends;
+}
+  where
+    common : (stop : CertStop) → is_common (report_of_check by_number None None (Err stop)) ≡ false → _
+    common Fault own = absurd (cc)
+    common NoMemory own = absurd (cc)
+
+-- it has an outcome
+pub check_meets : {plan cert : List ℕ} {x y w z end : DeskState} {given : Given} {g : Problem} {read : ReadCert (Unit {0})} {s : Status} (origin : Origin) → ReadsSubject (origin_subject origin) x y given → ReadsPart given.flat plan y w g → ReadsCert Two KeepsNone g cert w z (Ok read) → Ends (report_of_part read.outcome ∷ []) z end s → Carries (check_clash_task (origin_subject origin) plan cert) x end s
+check_meets {plan = plan} {cert = cert} {x = x} {z = z} {given = given} {read = read} origin h k m ends =
+    let s = origin_subject origin in
+    let f = s.problem h.value in
+    let kept = k.clash.kept in
+    let is = clash_of origin h k in
+    let held = ap (λ held. held cert) (k.enters.only.held ∙ h.entered.begins.held) in
+    let made = k.made ∙ ap (λ (f : Problem). part f kept) h.problem in
+    let lines = subst (λ (told : Option (List ℕ)). ReadsLines Two KeepsNone (part f kept) told (cert_outcome (part f kept)) (cert_stream_to Two (shape_of (part f kept))) read) held (subst (λ (g : Problem). ReadsLines Two KeepsNone g _ (cert_outcome g) (cert_stream_to Two (shape_of g)) read) made m.reads.1) in
+    let is_shown = shown read.outcome (subst IsFlat made k.limits) lines lines.keeps.comes in
+    record {
+      mid = z;
+      reports = report_of_part read.outcome ∷ [];
+      works = part_works read.outcome (works origin (Ok read) h k (gives_clash origin h k) m);
+      says = λ own. says read.outcome (record {
+        value = h.value;
+        reads = h.reads;
+        clash = k.clash;
+        is = is;
+        met = drops_in origin x.held h.value k.clash h.reads is.says;
+        outcome = comes read.outcome lines.keeps.comes;
+        shown = is_shown;
+        holds = holds_where origin x.held h.value k.clash read.outcome h.reads is.says is_shown;
+      });
+      ends = ends;
+    }
