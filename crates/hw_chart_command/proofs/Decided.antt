@@ -54,8 +54,8 @@ picture_by {bytes = bytes} {w = w} origin told says =
       value = v;
       reads = says.reads;
       report = ap (picture w) says.is_picture ∙ drawn_told (s.naming v) (s.problem v) bytes shown.lines w says.bound says.table shown.last_bound shown.last_table
-        (subst (λ (f : Problem). cert_stream_to Three (shape_of f) bytes ≡ whole_lines shown.lines) same shown.reads)
-        (subst (λ (f : Problem). Shows w ≡ cert_outcome_to Three f bytes) same shown.outcome);
+          (subst (λ (f : Problem). cert_stream_to Three (shape_of f) bytes ≡ whole_lines shown.lines) same shown.reads)
+          (subst (λ (f : Problem). Shows w ≡ cert_outcome_to Three f bytes) same shown.outcome);
     }
 
 outcome_by : {held : List ℕ → Option (List ℕ)} {cert bytes : List ℕ} {o : CertOutcome} {r : Report} (origin : Origin) → held cert ≡ Some bytes → (says : Refused (origin_subject origin) Three cert held o) → r ≡ outcome_chart ((origin_subject origin).naming says.value) ((origin_subject origin).problem says.value) bytes o → DrawnBy (origin_subject origin) held bytes r

@@ -8,9 +8,7 @@ ghost use Rattle.hw_chart_command.specs.Charts.{chart_task};
 use crate::drawing::draw;
 use hw_cert::Version;
 use hw_chart::Outcome;
-use hw_command::{
-    CertOutcome, LastTable, ReadCert, Status, check_report, finish, read_cert,
-};
+use hw_command::{CertOutcome, LastTable, ReadCert, Status, check_report, finish, read_cert};
 use hw_desk::Desk;
 use hw_report::Names;
 use hw_subject::{Source, Subject, read_subject};
