@@ -1,6 +1,6 @@
 -- The bytes decide what is drawn.
 use Rattle.std.proofs.Common.{◌≡◌, ◌≤◌, ◌⊎◌, ◌∙◌, ℕ, cond, List, length, Option, Some, None, inl, inr, refl, sym, ap, subst}
-use Rattle.std.specs.Prelude.{IfSome, IsSome}
+use Rattle.std.specs.Prelude.{IfSome}
 use Rattle.std.proofs.lemmas.Bool.{le-ltb, lt-ltb}
 use Rattle.hw_model.specs.Problem.{Problem, shape_of}
 use Rattle.hw_desk.specs.declared.desk.Feed.TheVariants.{Flat, Certificate}
@@ -23,7 +23,7 @@ use Rattle.hw_subject.specs.Meanings.{judged}
 use Rattle.hw_subject.specs.Subjects.{Subject, Origin, origin_subject, flat_subject, flat_text}
 use Rattle.hw_check_command.specs.Laws.{IsDecided}
 use Rattle.hw_check_command.specs.Shown.{Refused, Shown}
-use Rattle.hw_check_command.proofs.Decided.{subjects_decided_law}
+use Rattle.hw_check_command.proofs.Decided.{subjects_decided_law, told_bytes}
 use Rattle.hw_chart_command.specs.Charts.{Draws, Charts, picture_of}
 use Rattle.hw_chart_command.specs.Laws.{OneChart, TextsDecideChart}
 use Rattle.hw_chart_command.specs.Texts.{cert_table, outcome_chart, cert_chart, read_chart, texts_chart}
@@ -81,14 +81,9 @@ one_of s held bytes r t d (inl a) (inr b) = absurd (d.apart b.value r b.reads a)
 one_of s held bytes r t d (inr a) (inl b) = absurd (d.apart a.value t a.reads b)
 one_of s held bytes r t d (inr a) (inr b) = a.report ∙ ap (λ (v : s.Value). cert_chart (s.naming v) (s.problem v) bytes) (d.one_value a.value b.value a.reads b.reads) ∙ sym b.report
 
--- the certificate is told
-pub some_told : (o : Option (List ℕ)) → IsSome o → (bytes : List ℕ) × (o ≡ Some bytes)
-some_told None h = absurd h
-some_told (Some bytes) h = (bytes, refl)
-
 pub one_chart_law : OneChart
 one_chart_law origin cert held r t all told h g =
-    let bytes = some_told (held cert) told in
+    let bytes = told_bytes (held cert) told in
     one_of (origin_subject origin) held bytes.0 r t (subjects_decided_law (plainly origin) held all) (decided origin cert bytes.0 held r bytes.1 h) (decided origin cert bytes.0 held t bytes.1 g)
 
 -- ---- a flat text

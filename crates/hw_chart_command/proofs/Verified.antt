@@ -13,11 +13,12 @@ use Rattle.hw_subject.specs.Meanings.{judged, ships_of}
 use Rattle.hw_subject.specs.Subjects.{Subject, Origin, flat_text, port_of, origin_subject}
 use Rattle.hw_check_command.specs.Laws.{DecidedBy, IsDecided}
 use Rattle.hw_check_command.specs.Texts.{cert_bound, cert_report}
-use Rattle.hw_check_command.proofs.Decided.{certificates_decide_law, subjects_decided_law}
+use Rattle.hw_check_command.proofs.Decided.{subjects_decided_law, told_bytes}
+use Rattle.hw_check_command.proofs.Reports.{certificates_decide_law}
 use Rattle.hw_chart_command.specs.Laws.{ChartsAsVerified, IsChartOf}
 use Rattle.hw_chart_command.specs.Texts.{cert_chart, outcome_chart}
 use Rattle.hw_chart_command.proofs.Charted.{plainly, unplanned}
-use Rattle.hw_chart_command.proofs.Decided.{DrawnBy, decided, some_told}
+use Rattle.hw_chart_command.proofs.Decided.{DrawnBy, decided}
 
 -- a refusal is reported as it is
 refusal_alike : (origin : Origin) (held : List ℕ → Option (List ℕ)) (r : Report) → (origin_subject origin).Refuses held r → IsChartOf (origin_subject origin) held r r
@@ -47,5 +48,5 @@ alike origin held bytes c r d (inr a) (inr b) =
 
 pub charts_as_verified_law : ChartsAsVerified
 charts_as_verified_law origin cert held c r all told h g =
-    let bytes = some_told (held cert) told in
+    let bytes = told_bytes (held cert) told in
     alike origin held bytes.0 c r (subjects_decided_law (plainly origin) held all) (certificates_decide_law (plainly origin) Three cert bytes.0 held c bytes.1 h) (decided origin cert bytes.0 held r bytes.1 g)

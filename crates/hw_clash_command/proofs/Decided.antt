@@ -1,6 +1,6 @@
 -- The bytes decide what is reported of a clash.
 use Rattle.std.proofs.Common.{◌≡◌, ◌≤◌, ◌⊎◌, ◌∙◌, ℕ, cond, List, length, Option, Some, None, Ok, inl, inr, refl, sym, ap, subst}
-use Rattle.std.specs.Prelude.{◌≢◌, IfSome, IsSome}
+use Rattle.std.specs.Prelude.{◌≢◌, IfSome}
 use Rattle.std.proofs.lemmas.Bool.{le-ltb, lt-ltb}
 use Rattle.hw_model.specs.Problem.{Problem}
 use Rattle.hw_desk.specs.declared.desk.Feed.TheVariants.{Flat, Plan, Certificate}
@@ -19,7 +19,7 @@ use Rattle.hw_command.specs.declared.outcome.CertOutcome.TheVariants.{Shows, Wro
 use Rattle.hw_command.proofs.FlatForms.{by_line}
 use Rattle.hw_subject.specs.Subjects.{Subject, port_of, origin_subject, flat_subject, port_subject}
 use Rattle.hw_check_command.specs.Laws.{IsDecided}
-use Rattle.hw_check_command.proofs.Decided.{subjects_decided_law}
+use Rattle.hw_check_command.proofs.Decided.{subjects_decided_law, told_bytes}
 use Rattle.hw_clash_command.specs.CheckClash.{ChecksClash, BadClash, ClashChecks}
 use Rattle.hw_clash_command.specs.ExplainPort.{ExplainsTexts}
 use Rattle.hw_clash_command.specs.Laws.{OneClashReport, TextsDecideClash}
@@ -86,16 +86,12 @@ explain_decided instance table held r says = inl says
 
 -- ---- by all the bytes
 
-some_told : (o : Option (List ℕ)) → IsSome o → (bytes : List ℕ) × (o ≡ Some bytes)
-some_told None h = absurd h
-some_told (Some bytes) h = (bytes, refl)
-
 pub one_clash_report_law : OneClashReport
 one_clash_report_law = record {
   check = λ origin plan cert held r t all planned told h g.
       let s = origin_subject origin in
-      let clash = some_told (held plan) planned in
-      let bytes = some_told (held cert) told in
+      let clash = told_bytes (held plan) planned in
+      let bytes = told_bytes (held cert) told in
       one_of s held (λ v. plan_report (s.problem v) clash.0 bytes.0) r t (subjects_decided_law (plainly origin) held all) (decided s plan cert clash.0 bytes.0 held r clash.1 bytes.1 h) (decided s plan cert clash.0 bytes.0 held t clash.1 bytes.1 g);
   explain = λ instance table held r t all h g. one_of (port_subject instance table) held (λ v. whole_text (explained v.port)) r t (subjects_decided_law (plainly (port_of instance table)) held all) (explain_decided instance table held r h) (explain_decided instance table held t g);
 }
