@@ -62,11 +62,15 @@ abbrev pub so_far : Naming → Option ℕ → List ℕ
 so_far names None = codes "none\n"
 so_far names (Some c) = carried (codes "best ") names c
 
+-- the budget is spent, and the timetable, if there is one, isn't known to be best
+abbrev pub unfinished_text : Naming → ℕ → Option ℕ → List ℕ
+unfinished_text names budget best = joined (codes "unfinished " ∷ decimal budget ∷ codes " " ∷ so_far names best ∷ [])
+
 -- the head line, with the cargo of the timetable, if there is one
 abbrev pub head_text : Naming → Head → Option ℕ → List ℕ
 head_text names (Optimal c) best = carried (codes "optimal ") names c
 head_text names Infeasible best = codes "infeasible\n"
-head_text names (Unfinished budget) best = joined (codes "unfinished " ∷ decimal budget ∷ codes " " ∷ so_far names best ∷ [])
+head_text names (Unfinished budget) best = unfinished_text names budget best
 head_text names Memory best = joined (codes "memory " ∷ so_far names best ∷ [])
 
 -- after an unfinished head the bound on the cargo of every permitted timetable, if there is one

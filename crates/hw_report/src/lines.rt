@@ -5,7 +5,7 @@ ghost use Rattle.hw_model.specs.Problem.{IsTimetable};
 ghost use Rattle.hw_port.specs.Kept.{Within};
 ghost use Rattle.hw_port_rules.specs.Drafts.{sailing as sailing_draft};
 ghost use Rattle.hw_port_rules.specs.Numbers.{whole, horizon_of};
-ghost use Rattle.hw_report.specs.Lines.{numbered, carried, cargo_text, so_far, head_text, bound_text, moved_line, number_line, name_in, sail_line, sailing_line, name_line, ship_line, ship_lines, table_text};
+ghost use Rattle.hw_report.specs.Lines.{numbered, carried, cargo_text, so_far, unfinished_text, head_text, bound_text, moved_line, number_line, name_in, sail_line, sailing_line, name_line, ship_line, ship_lines, table_text};
 ghost use Rattle.hw_report.specs.Pieces.{piece_text};
 ghost use Rattle.hw_report.specs.Printing.{AreNamesOf, IsTableOf};
 ghost use Rattle.hw_desk.specs.Writers.{Puts};
@@ -62,6 +62,16 @@ fn put_so_far<W: Writer>(out: &mut W, names: Names, best: Option<u64>)
     }
 }
 
+/// Puts that the budget is spent, and the cargo of the best timetable so far, if there is one.
+fn put_unfinished<W: Writer>(out: &mut W, names: Names, budget: u32, best: Option<u64>)
+    ensures { Puts (unfinished_text (names_seen names.entry) budget best) (W.state out.old) (W.state out.new) }
+{
+    out.put(b"unfinished ");
+    out.put_number(u64::from(budget));
+    out.put(b" ");
+    put_so_far(out, names, best);
+}
+
 /// Puts the head line; `best` is the timetable's cargo.
 pub fn put_head<W: Writer>(out: &mut W, names: Names, head: Head, best: Option<u64>)
     ensures { Puts (head_text (names_seen names.entry) head best) (W.state out.old) (W.state out.new) }
@@ -69,12 +79,7 @@ pub fn put_head<W: Writer>(out: &mut W, names: Names, head: Head, best: Option<u
     match head {
         Head::Optimal { cargo } => put_carried(out, b"optimal ", names, cargo),
         Head::Infeasible => out.put(b"infeasible\n"),
-        Head::Unfinished { budget } => {
-            out.put(b"unfinished ");
-            out.put_number(u64::from(budget));
-            out.put(b" ");
-            put_so_far(out, names, best);
-        }
+        Head::Unfinished { budget } => put_unfinished(out, names, budget, best),
         Head::Memory => {
             out.put(b"memory ");
             put_so_far(out, names, best);
