@@ -81,10 +81,11 @@ chart_stops {x = x} {r = r} origin cert h ends = stops_carries (chart_task (orig
 
 -- the certificate shows nothing
 abbrev pub ShowsNothing : Result (ReadCert LastTable) CertStop → Type 0
-ShowsNothing result = (v : Verdict) → outcome_in result ≡ Ok (Shows v) → ⊥
+ShowsNothing (Ok read) = (v : Verdict) → read.outcome ≡ Shows v → ⊥
+ShowsNothing (Err stop) = Unit {0}
 
-outcome_says : {cert : List ℕ} {x y z : DeskState} {given : Given} {read : ReadCert LastTable} (origin : Origin) (o : CertOutcome) → read.outcome ≡ o → ((v : Verdict) → Ok {E = CertStop} o ≡ Ok (Shows v) → ⊥) → ReadsSubject (origin_subject origin) x y given → ReadsCert Three KeepsTable (searched_in given.flat given.repair) cert y z (Ok read) → Charts (origin_subject origin) cert x.held (report_of by_number None None o)
-outcome_says origin (Shows v) e nothing h k = absurd (nothing v refl)
+outcome_says : {cert : List ℕ} {x y z : DeskState} {given : Given} {read : ReadCert LastTable} (origin : Origin) (o : CertOutcome) → read.outcome ≡ o → ((v : Verdict) → read.outcome ≡ Shows v → ⊥) → ReadsSubject (origin_subject origin) x y given → ReadsCert Three KeepsTable (searched_in given.flat given.repair) cert y z (Ok read) → Charts (origin_subject origin) cert x.held (report_of by_number None None o)
+outcome_says origin (Shows v) e nothing h k = absurd (nothing v e)
 outcome_says origin (Wrong number word hint) e nothing h k = record { value = h.value; reads = h.reads; outcome = (keeps (Wrong number word hint) e h k).comes }
 outcome_says origin TooLong e nothing h k = record { value = h.value; reads = h.reads; outcome = (keeps TooLong e h k).comes }
 

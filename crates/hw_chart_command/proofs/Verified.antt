@@ -16,7 +16,7 @@ use Rattle.hw_check_command.specs.Texts.{cert_bound, cert_report}
 use Rattle.hw_check_command.proofs.Decided.{subjects_decided_law, told_bytes}
 use Rattle.hw_check_command.proofs.Reports.{certificates_decide_law}
 use Rattle.hw_chart_command.specs.Laws.{ChartsAsVerified, IsChartOf}
-use Rattle.hw_chart_command.specs.Texts.{cert_chart, outcome_chart}
+use Rattle.hw_chart_command.specs.Texts.{cert_table, cert_chart, outcome_chart}
 use Rattle.hw_chart_command.proofs.Charted.{plainly, unplanned}
 use Rattle.hw_chart_command.proofs.Decided.{DrawnBy, decided}
 
@@ -26,7 +26,7 @@ refusal_alike (flat_text name) held r h = by_line (held name) (λ (r : Report). 
 refusal_alike (port_of instance table) held r h = by_fault (held instance) (held table) (λ (r : Report). IsChartOf (origin_subject (port_of instance table)) held r r) r (λ bad. refl) (λ fault bad. refl) (λ fault bad. refl) (λ bad. refl) (λ bad. refl) h
 
 outcome_alike : (s : Subject) (held : List ℕ → Option (List ℕ)) (v : s.Value) (bytes : List ℕ) (o : CertOutcome) (ships : Option ℕ) → s.Reads held v → IsChartOf s held (report_of (s.naming v) (cert_bound Three (s.problem v) bytes) ships o) (outcome_chart (s.naming v) (s.problem v) bytes o)
-outcome_alike s held v bytes (Shows w) ships reads = record { value = v; reads = reads; naming = refl; table = _; drawn = refl }
+outcome_alike s held v bytes (Shows w) ships reads = record { value = v; reads = reads; naming = refl; table = cert_table (s.problem v) bytes; drawn = refl }
 outcome_alike s held v bytes (Wrong number word hint) ships reads = refl
 outcome_alike s held v bytes TooLong ships reads = refl
 

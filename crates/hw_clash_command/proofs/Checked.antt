@@ -121,8 +121,8 @@ part_works (Wrong number word hint) w = w
 part_works TooLong w = w
 
 -- the certificate is read
-works : {plan cert : List ℕ} {x y w z : DeskState} {given : Given} {g : Problem} (origin : Origin) (result : Result (ReadCert (Unit {0})) CertStop) → ReadsSubject (origin_subject origin) x y given → ReadsPart given.flat plan y w g → GivesClash (origin_subject origin) plan x.held → ReadsCert Two KeepsNone g cert w z result → Works (check_clash_task (origin_subject origin) plan cert).inputs (ClashGives (origin_subject origin) plan x.held) None x z (report_of_check by_number None None (outcome_in result))
-works {plan = plan} {cert = cert} {x = x} {z = z} origin result h k clash m =
+read_works : {plan cert : List ℕ} {x y w z : DeskState} {given : Given} {g : Problem} (origin : Origin) (result : Result (ReadCert (Unit {0})) CertStop) → ReadsSubject (origin_subject origin) x y given → ReadsPart given.flat plan y w g → GivesClash (origin_subject origin) plan x.held → ReadsCert Two KeepsNone g cert w z result → Works (check_clash_task (origin_subject origin) plan cert).inputs (ClashGives (origin_subject origin) plan x.held) None x z (report_of_check by_number None None (outcome_in result))
+read_works {plan = plan} {cert = cert} {x = x} {z = z} origin result h k clash m =
     let s = origin_subject origin in
     subst (λ (inputs : List Named). Works inputs (ClashGives s plan x.held) None x z (report_of_check by_number None None (outcome_in result))) (append_assoc s.inputs (named Plan plan ∷ []) (named Certificate cert ∷ []))
     (cert_works by_number None None None result (entered_on s.inputs h.entered k.enters (plan_unread origin)) (k.read_faults ∙ h.read_faults) (cert_unread origin plan) (give_all origin h clash) m)
@@ -165,18 +165,18 @@ gives_clash : {plan : List ℕ} {x y w : DeskState} {given : Given} {g : Problem
 gives_clash origin h k = record { value = h.value; reads = h.reads; clash = k.clash; is = clash_of origin h k }
 
 -- the certificate isn't read to its end
+common : (s : Subject) (plan cert : List ℕ) (held : List ℕ → Option (List ℕ)) (stop : CertStop) → is_common (report_of_check by_number None None (Err stop)) ≡ false → ClashChecks s plan cert held (report_of_check by_number None None (Err stop))
+common s plan cert held Fault own = absurd (cc)
+common s plan cert held NoMemory own = absurd (cc)
+
 pub check_breaks : {plan cert : List ℕ} {x y w z end : DeskState} {given : Given} {g : Problem} {s : Status} (origin : Origin) (stop : CertStop) → ReadsSubject (origin_subject origin) x y given → ReadsPart given.flat plan y w g → ReadsCert Two KeepsNone g cert w z (Err stop) → Ends (report_of_check by_number None None (Err stop) ∷ []) z end s → Carries (check_clash_task (origin_subject origin) plan cert) x end s
-check_breaks {z = z} origin stop h k m ends = record {
+check_breaks {plan = plan} {cert = cert} {x = x} {z = z} origin stop h k m ends = record {
   mid = z;
   reports = report_of_check by_number None None (Err stop) ∷ [];
-  works = works origin (Err stop) h k (gives_clash origin h k) m;
-  says = common stop;
+  works = read_works origin (Err stop) h k (gives_clash origin h k) m;
+  says = common (origin_subject origin) plan cert x.held stop;
   ends = ends;
 }
-  where
-    common : (stop : CertStop) → is_common (report_of_check by_number None None (Err stop)) ≡ false → _
-    common Fault own = absurd (cc)
-    common NoMemory own = absurd (cc)
 
 -- it has an outcome
 pub check_meets : {plan cert : List ℕ} {x y w z end : DeskState} {given : Given} {g : Problem} {read : ReadCert (Unit {0})} {s : Status} (origin : Origin) → ReadsSubject (origin_subject origin) x y given → ReadsPart given.flat plan y w g → ReadsCert Two KeepsNone g cert w z (Ok read) → Ends (report_of_part read.outcome ∷ []) z end s → Carries (check_clash_task (origin_subject origin) plan cert) x end s
@@ -192,7 +192,7 @@ check_meets {plan = plan} {cert = cert} {x = x} {z = z} {given = given} {read = 
     record {
       mid = z;
       reports = report_of_part read.outcome ∷ [];
-      works = part_works read.outcome (works origin (Ok read) h k (gives_clash origin h k) m);
+      works = part_works read.outcome (read_works origin (Ok read) h k (gives_clash origin h k) m);
       says = λ own. says read.outcome (record {
         value = h.value;
         reads = h.reads;
