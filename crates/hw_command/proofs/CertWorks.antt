@@ -16,9 +16,9 @@ use Rattle.hw_command.specs.declared.outcome.CertStop.TheVariants.{Fault, NoMemo
 use Rattle.hw_command.proofs.Begun.{entered_on, answers, refuses, wants_memory, rose_on}
 
 -- the work up to the report of a check
-pub cert_works : {before : List Named} {Gives : Feed → Type 0} {cert : List ℕ} {x y z : DeskState} {f : Problem} (names : Naming) (proof : Option (List ℕ)) (result : Result CertOutcome CertStop) → Entered before x y → y.read_faults ≡ x.read_faults → is_among before Certificate ≡ false → GiveBefore Gives (before ++ named Certificate cert ∷ []) → ChecksCert f cert y z result → Works (before ++ named Certificate cert ∷ []) Gives proof x z (report_of_check names result)
-cert_works {before = before} names proof (Ok (Shows v)) h read new give m = answers proof _ refl (entered_on before h m.enters new) give (m.finds.0 ∙ read)
-cert_works {before = before} {cert = cert} names proof (Ok (Wrong number word hint)) h read new give m = refuses proof before (named Certificate cert) [] _ (sym (append-nil _)) refl (entered_on before h m.enters new) give (m.finds.0 ∙ read)
-cert_works {before = before} {cert = cert} names proof (Ok TooLong) h read new give m = refuses proof before (named Certificate cert) [] _ (sym (append-nil _)) refl (entered_on before h m.enters new) give (m.finds.0 ∙ read)
-cert_works {before = before} {cert = cert} names proof (Err Fault) h read new give m = refuses proof before (named Certificate cert) [] _ (sym (append-nil _)) refl (entered_on before h m.enters new) give (rose_on read m.finds)
-cert_works {before = before} {cert = cert} names proof (Err NoMemory) h read new give m = wants_memory proof (before ++ named Certificate cert ∷ []) [] (sym (append-nil _)) (entered_on before h m.enters new) give (m.finds ∙ read)
+pub cert_works : {before : List Named} {Gives : Feed → Type 0} {cert : List ℕ} {x y z : DeskState} {f : Problem} (names : Naming) (bound ships : Option ℕ) (proof : Option (List ℕ)) (result : Result CertOutcome CertStop) → Entered before x y → y.read_faults ≡ x.read_faults → is_among before Certificate ≡ false → GiveBefore Gives (before ++ named Certificate cert ∷ []) → ChecksCert f cert y z result → Works (before ++ named Certificate cert ∷ []) Gives proof x z (report_of_check names bound ships result)
+cert_works {before = before} names bound ships proof (Ok (Shows v)) h read new give m = answers proof _ refl (entered_on before h m.enters new) give (m.finds.0 ∙ read)
+cert_works {before = before} {cert = cert} names bound ships proof (Ok (Wrong number word hint)) h read new give m = refuses proof before (named Certificate cert) [] _ (sym (append-nil _)) refl (entered_on before h m.enters new) give (m.finds.0 ∙ read)
+cert_works {before = before} {cert = cert} names bound ships proof (Ok TooLong) h read new give m = refuses proof before (named Certificate cert) [] _ (sym (append-nil _)) refl (entered_on before h m.enters new) give (m.finds.0 ∙ read)
+cert_works {before = before} {cert = cert} names bound ships proof (Err Fault) h read new give m = refuses proof before (named Certificate cert) [] _ (sym (append-nil _)) refl (entered_on before h m.enters new) give (rose_on read m.finds)
+cert_works {before = before} {cert = cert} names bound ships proof (Err NoMemory) h read new give m = wants_memory proof (before ++ named Certificate cert ∷ []) [] (sym (append-nil _)) (entered_on before h m.enters new) give (m.finds ∙ read)

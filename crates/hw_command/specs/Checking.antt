@@ -129,10 +129,6 @@ abbrev pub FindsOrStops : Problem → Option (List ℕ) → (List ℕ → CertOu
 FindsOrStops f told outcome old new (Ok o) = (new.read_faults ≡ old.read_faults) × Finds f told outcome o
 FindsOrStops f told outcome old new (Err stop) = NoOutcome old new stop
 
--- the same of what is left, where the reading stands there and no line was taken
-abbrev pub FindsRest : ReaderModel → CheckState → DeskState → DeskState → Result CertOutcome CertStop → Type 0
-FindsRest r c old new result = FindsOrStops c.problem (rest_of r old) (rest_outcome c.problem [] r.at) old new result
-
 -- the certificate is begun under its name, and this is its outcome
 pub record ChecksCert (f : Problem) (cert : List ℕ) (old new : DeskState) (result : Result CertOutcome CertStop) : Type 0 where
   pub enters : Enters feeds.Certificate cert old new

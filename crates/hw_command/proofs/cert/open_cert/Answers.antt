@@ -1,7 +1,7 @@
 use Rattle.std.proofs.Common.{◌≡◌, rules}
 use Rattle.hw_desk.specs.declared.desk.Feed.TheVariants.{Certificate}
 use Rattle.hw_command.proofs.Kept.{open_is}
-use Rattle.hw_command.proofs.cert.open_cert_to.Goals as goal
+use Rattle.hw_command.proofs.cert.open_cert.Goals as goal
 
 pub returns : goal.returns
 returns g c =
