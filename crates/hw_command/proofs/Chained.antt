@@ -1,5 +1,5 @@
 -- Lines of a certificate one after another.
-use Rattle.std.proofs.Common.{◌≡◌, ℕ, List, [], Option, Some, None, Result, Ok, Err, All, ◌∙◌, refl, sym, subst}
+use Rattle.std.proofs.Common.{◌≡◌, ℕ, List, [], Option, Some, None, ◌∙◌, refl, sym}
 use Rattle.std.specs.Io.KnownBytes.{prepend_known}
 use Rattle.std.specs.Prelude.{IfSome, IsSomeAnd}
 use Rattle.hw_model.specs.Problem.{Problem}
@@ -8,13 +8,9 @@ use Rattle.hw_lines.specs.declared.line.Line.{Line}
 use Rattle.hw_cert.specs.Nexts.{rest_of}
 use Rattle.hw_cert.specs.Reader.{ReaderModel}
 use Rattle.hw_check.specs.States.{CheckState}
-use Rattle.hw_lines.specs.Valid.{LineFits, Valid}
-use Rattle.hw_command.specs.Checking.{Reached, rest_outcome, Comes, ComesOrStops, Finds, FindsOrStops}
+use Rattle.hw_command.specs.Checking.{Reached, rest_outcome, Comes}
 use Rattle.hw_command.specs.declared.outcome.CertOutcome.{CertOutcome}
 use Rattle.hw_command.specs.declared.outcome.CertOutcome.TheVariants.{Shows, Wrong, TooLong}
-use Rattle.hw_command.specs.declared.outcome.CertStop.{CertStop}
-use Rattle.hw_command.specs.declared.outcome.CertStop.TheVariants.{Fault, NoMemory}
-use Rattle.hw_command.proofs.Begun.{rose_on}
 
 -- what was to come of the bytes told is what is to come of those left, and so on
 pub goes_on : {A : Type 0} (a b c : List ℕ → A) (told mid now : Option (List ℕ)) → IfSome told (λ x. IsSomeAnd mid (λ y. a x ≡ b y)) → IfSome mid (λ y. IsSomeAnd now (λ z. b y ≡ c z)) → IfSome told (λ x. IsSomeAnd now (λ z. a x ≡ c z))

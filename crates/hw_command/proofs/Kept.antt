@@ -1,6 +1,5 @@
 -- A certificate whose lines are kept.
-use Rattle.std.proofs.Common.{◌≡◌, ◌∙◌, ◌+◌, ◌-◌, ℕ, true, arith, List, [], ◌∷◌, ◌++◌, Option, Some, None, Result, Ok, Err, All, refl, sym, ap, subst, append_assoc}
-use Rattle.std.proofs.lemmas.List.Elements.{All-weaker}
+use Rattle.std.proofs.Common.{◌≡◌, ◌∙◌, ◌+◌, ◌-◌, ℕ, true, arith, List, [], ◌∷◌, ◌++◌, Option, Some, None, Ok, All, refl, sym, ap, subst, append_assoc}
 use Rattle.std.specs.Prelude.{IfSome, IsSome, IsSomeAnd, is_none, if◌then◌else◌}
 use Rattle.hw_model.specs.Problem.{Problem, shape_of}
 use Rattle.hw_model.specs.declared.shape.Shape.{Shape}
@@ -11,31 +10,21 @@ use Rattle.hw_desk.specs.declared.desk.Feed.TheVariants.{Certificate}
 use Rattle.hw_desk.proofs.Chain.{only_feed_on}
 use Rattle.hw_lines.specs.declared.line.Line.{Line}
 use Rattle.hw_lines.specs.Valid.{LineFits, Valid}
-use Rattle.hw_lines.specs.Tolled.{is_plain}
-use Rattle.hw_cert.specs.Laws.{has_form}
-use Rattle.hw_cert.proofs.Formed.{plain_forms}
 use Rattle.hw_cert.specs.Nexts.{rest_of, Behind}
 use Rattle.hw_cert.specs.Reader.{ReaderModel}
 use Rattle.hw_cert.specs.declared.version.Version.{Version}
-use Rattle.hw_cert.specs.declared.version.Version.TheVariants.{Two}
-use Rattle.hw_cert.specs.Stream.{Position, start_to, CertLines, stream_of, cert_stream}
+use Rattle.hw_cert.specs.Stream.{start_to, CertLines, stream_of}
 use Rattle.hw_check.specs.Follows.{Follows}
 use Rattle.hw_check.specs.States.{CheckState, no_lines}
-use Rattle.hw_command.specs.Certificates.{cert_outcome}
-use Rattle.hw_command.specs.Checking.{Reached, rest_outcome, ComesOrStops, FindsOrStops, IsOpen, OpensCert, ChecksCert, line_number}
+use Rattle.hw_command.specs.Checking.{Reached, rest_outcome, ComesOrStops, IsOpen, line_number}
 use Rattle.hw_command.specs.Inputs.{Enters}
-use Rattle.hw_command.specs.Keeping.{before_lines, whole_lines, rest_read, StepReads, Keeps, KeepsOrStops, KeptWithin, KeptPlain, KeepsCert}
+use Rattle.hw_command.specs.Keeping.{before_lines, whole_lines, rest_read, StepReads, Keeps}
 use Rattle.hw_command.specs.declared.cert.CertStep.TheVariants.{Ended}
-use Rattle.hw_command.specs.declared.cert.OpenCert.{OpenCert}
 use Rattle.hw_command.specs.declared.outcome.CertOutcome.{CertOutcome}
 use Rattle.hw_command.specs.declared.outcome.CertOutcome.TheVariants.{Shows, Wrong, TooLong}
-use Rattle.hw_command.specs.declared.outcome.CertStop.{CertStop}
-use Rattle.hw_command.specs.declared.outcome.CertStop.TheVariants.{Fault, NoMemory}
-use Rattle.hw_command.specs.declared.keeping.KeptCert.{KeptCert}
-use Rattle.hw_command.proofs.Begun.{rose_on}
 use Rattle.hw_command.proofs.Checked.{ComesNext, streamed}
 use Rattle.hw_command.proofs.Told.{told_map, some_map}
-use Rattle.hw_command.proofs.Chained.{comes_back, finds_from, none_pending}
+use Rattle.hw_command.proofs.Chained.{comes_back, none_pending}
 
 -- the line that comes next is the next one that is read
 pub line_read_on : (x y : DeskState) (r reader : ReaderModel) (line : Line) (f : Problem) (before : List Line) → r.shape ≡ shape_of f → ComesNext r reader line x y

@@ -1,5 +1,5 @@
 -- A certificate whose lines are taken one after another.
-use Rattle.std.proofs.Common.{◌≡◌, ◌∙◌, ℕ, true, List, [], ◌∷◌, ◌++◌, Option, Result, Ok, Err, All, sym, ap, subst}
+use Rattle.std.proofs.Common.{◌≡◌, ◌∙◌, ℕ, true, List, [], ◌∷◌, ◌++◌, Option, Result, Ok, Err, All, subst}
 use Rattle.std.proofs.lemmas.List.Elements.{All-push}
 use Rattle.std.specs.Prelude.{IfSome, IsSomeAnd}
 use Rattle.hw_model.specs.Problem.{Problem, shape_of}
@@ -9,16 +9,15 @@ use Rattle.hw_desk.specs.declared.desk.Feed.TheVariants.{Certificate}
 use Rattle.hw_lines.specs.declared.line.Line.{Line}
 use Rattle.hw_lines.specs.Tolled.{bound_of}
 use Rattle.hw_cert.specs.declared.version.Version.{Version}
-use Rattle.hw_cert.specs.declared.version.Version.TheVariants.{Two}
 use Rattle.hw_cert.specs.Laws.{has_form}
 use Rattle.hw_cert.specs.Nexts.{rest_of}
 use Rattle.hw_cert.specs.Reader.{ReaderModel}
 use Rattle.hw_cert.specs.Stream.{Position, CertLines, cert_stream_to}
 use Rattle.hw_check.specs.States.{CheckState}
 use Rattle.hw_command.specs.Certificates.{cert_outcome_to}
-use Rattle.hw_command.specs.Checking.{Reached, rest_outcome, ComesOrStops, IsOpen, OpensCert, ChecksCert}
+use Rattle.hw_command.specs.Checking.{Reached, rest_outcome, ComesOrStops, IsOpen, OpensCert}
 use Rattle.hw_command.specs.Keeping.{rest_read, StepReads}
-use Rattle.hw_command.specs.Readings.{KeepsNone, ReadsLines, ReadsOrStops, ReadsRest, ReadsCert}
+use Rattle.hw_command.specs.Readings.{ReadsOrStops, ReadsRest, ReadsCert}
 use Rattle.hw_command.specs.declared.cert.CertStep.TheVariants.{Further, Ended}
 use Rattle.hw_command.specs.declared.cert.OpenCert.{OpenCert}
 use Rattle.hw_command.specs.declared.cert.ReadCert.{ReadCert}
@@ -77,9 +76,3 @@ read_of Kept {most = most} {f = f} {told = told} {r = r} x y z found h before k 
 -- a certificate that was opened and read on
 pub reads_of : {K : Type 0} (Kept : K → List Line → Type 0) {most : Version} {f : Problem} {cert bytes : List ℕ} {open_cert : OpenCert} (x y z : DeskState) (found : Result (ReadCert K) CertStop) → OpensCert most f cert x y (Ok open_cert) → Moves Certificate bytes y z → ReadsRest Kept open_cert.reader open_cert.checker y z found → ReadsCert most Kept f cert x z found
 reads_of Kept x y z found h m k = record { enters = enters_on h.enters m; reads = read_of Kept x y z found h.answer.0 h.answer.1 k }
-
--- its outcome alone
-pub outcome_of : {f : Problem} {cert : List ℕ} {x y : DeskState} {read : ReadCert (Unit {0})} → ReadsCert Two KeepsNone f cert x y (Ok read) → ChecksCert f cert x y (Ok read.outcome)
-outcome_of h =
-    let lines = h.reads.1 in
-    record { enters = h.enters; finds = (h.reads.0, record { lines = lines.lines; fit = lines.keeps.fit; valid = lines.keeps.valid; comes = lines.keeps.comes }) }

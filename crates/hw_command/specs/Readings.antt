@@ -46,6 +46,11 @@ pub record ReadsLines {K : Type 0} (most : Version) (Kept : K → List Line → 
   pub last : cert.bound ≡ bound_of lines
   pub kept : Kept cert.kept lines
 
+-- the outcome alone
+abbrev pub outcome_in : {K : Type 0} → Result (ReadCert K) CertStop → Result CertOutcome CertStop
+outcome_in (Ok cert) = Ok cert.outcome
+outcome_in (Err stop) = Err stop
+
 -- the same without a failed read, or why there is no outcome
 abbrev pub ReadsOrStops : {K : Type 0} → Version → (K → List Line → Type 0) → Problem → Option (List ℕ) → (List ℕ → CertOutcome) → (List ℕ → CertLines) → DeskState → DeskState → Result (ReadCert K) CertStop → Type 0
 ReadsOrStops most Kept f told outcome read old new (Ok cert) = (new.read_faults ≡ old.read_faults) × ReadsLines most Kept f told outcome read cert

@@ -6,7 +6,7 @@ ghost use Rattle.hw_desk.specs.Calls.{Moves};
 ghost use Rattle.hw_report.specs.Printing.{CanPrint};
 ghost use Rattle.hw_report.specs.Seen.{names_seen, report_seen};
 ghost use Rattle.hw_command.specs.Certificates.{report_of_check};
-ghost use Rattle.hw_command.specs.Checking.{ChecksCert, GoesFurther, IsReady, OpensCert, StaysWithin, StepsOn, of_line_stop, of_check_stop};
+ghost use Rattle.hw_command.specs.Checking.{GoesFurther, IsReady, OpensCert, StaysWithin, StepsOn, of_line_stop, of_check_stop};
 ghost use Rattle.hw_command.specs.Keeping.{ReadsOn};
 ghost use Rattle.hw_command.specs.Readings.{ReadsCert, ReadsRest};
 
@@ -87,22 +87,6 @@ pub fn read_cert<D: Desk, K: LineTaker>(
 {
     match open_cert(alloc, desk, flat, name, most) {
         Ok(OpenCert { reader, checker }) => read_lines(desk, reader, checker, kept),
-        Err(stop) => Err(stop),
-    }
-}
-
-/// Reads a certificate of version 1 or 2 for its outcome alone.
-pub fn check_cert<D: Desk>(
-    alloc: Global,
-    desk: &mut D,
-    flat: &Flat,
-    name: &str,
-) -> Result<CertOutcome, CertStop>
-    requires { ((D.state desk.old).feeds Feed.Certificate).begun ≡ false }
-    ensures checks { ChecksCert flat.now name.now (D.state desk.old) (D.state desk.new) result }
-{
-    match read_cert(alloc, desk, flat, name, Version::Two, ()) {
-        Ok(read) => Ok(read.outcome),
         Err(stop) => Err(stop),
     }
 }

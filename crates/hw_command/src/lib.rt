@@ -14,7 +14,7 @@ mod sending;
 mod status;
 mod taking;
 
-pub use cert::{ReadCert, check_cert, check_report, read_cert};
+pub use cert::{ReadCert, check_report, read_cert};
 pub use finishing::{finish, finish_with};
 pub use input::{read_flat, read_input, stopped};
 pub use outcome::{CertOutcome, CertStop};
