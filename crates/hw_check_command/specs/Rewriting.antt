@@ -5,13 +5,12 @@ use Rattle.hw_desk.specs.State.{DeskState}
 use Rattle.hw_lines.specs.declared.check.Verdict.{Verdict}
 use Rattle.hw_verdict.specs.Renewing.{renewed}
 use Rattle.hw_cert.specs.declared.version.Version.TheVariants.{Two}
-use Rattle.hw_report.specs.Reports.{Report}
+use Rattle.hw_report.specs.Reports.{Report, Naming}
 use Rattle.hw_command.specs.Readings.{KeepsNone, ReadsCert}
 use Rattle.hw_command.specs.Sending.{SendsTo}
 use Rattle.hw_command.specs.declared.cert.ReadCert.{ReadCert}
 use Rattle.hw_command.specs.declared.outcome.CertOutcome.{CertOutcome}
 use Rattle.hw_command.specs.declared.outcome.CertOutcome.TheVariants.{Shows}
-use Rattle.hw_subject.specs.declared.subject.Given.{Given}
 use Rattle.hw_check_command.specs.Renewing.{HasVerdict, renewed_text}
 use Rattle.hw_check_command.specs.Reported.{report_of_reading}
 use Rattle.hw_check_command.specs.declared.renewing.Renewal.{Renewal}
@@ -36,6 +35,6 @@ RenewsTo f cert proof old new (Checked (Err stop)) = ReadsCert Two KeepsNone f c
 RenewsTo f cert proof old new WriteFailed = (read : ReadCert (Unit {0})) × (v : Verdict) × Rewrites f cert proof old new read v (Err tt)
 
 -- the report of an answer, unless a make or a write of Proof failed
-abbrev pub report_of_renewal : Given → Renewal → Option Report
-report_of_renewal given (Checked read) = Some (report_of_reading given read)
-report_of_renewal given WriteFailed = None
+abbrev pub report_of_renewal : Naming → Option ℕ → Renewal → Option Report
+report_of_renewal names ships (Checked read) = Some (report_of_reading names ships read)
+report_of_renewal names ships WriteFailed = None

@@ -1,11 +1,12 @@
 //! A certificate that is checked, up to the second version or up to the third.
 
 ghost use Rattle.std.specs.Prelude.{◌≡◌};
-ghost use Rattle.hw_cert.specs.declared.version.Version.TheVariants.{Two, Three};
 ghost use Rattle.hw_desk.specs.State.{IsNewDesk};
 ghost use Rattle.hw_report.specs.Printing.{CanPrint};
 ghost use Rattle.hw_report.specs.Seen.{report_seen};
 ghost use Rattle.hw_command.specs.Carries.{Carries};
+ghost use Rattle.hw_subject.specs.Meanings.{ships_of};
+ghost use Rattle.hw_subject.specs.Reading.{naming_of, plan_in};
 ghost use Rattle.hw_subject.specs.Subjects.{subject_of};
 ghost use Rattle.hw_check_command.specs.Checks.{check_task};
 ghost use Rattle.hw_check_command.specs.Reported.{report_of_reading};
@@ -20,7 +21,7 @@ use std::alloc::Global;
 /// Reads the subject, checks a certificate of the first two versions, and reports what it shows.
 pub fn check<D: Desk>(alloc: Global, desk: &mut D, subject: Subject, cert: &str) -> Status
     requires fresh { IsNewDesk (D.state desk.old) }
-    ensures { Carries (check_task (subject_of subject.entry) Two cert.now) (D.state desk.old) (D.state desk.new) result }
+    ensures { Carries (check_task (subject_of subject.entry) Version.Two cert.now) (D.state desk.old) (D.state desk.new) result }
 {
     check_to(alloc, desk, subject, cert, Version::Two)
 }
@@ -28,7 +29,7 @@ pub fn check<D: Desk>(alloc: Global, desk: &mut D, subject: Subject, cert: &str)
 /// Reads the subject, checks a certificate of any version, and reports what it shows, with its bound.
 pub fn verify<D: Desk>(alloc: Global, desk: &mut D, subject: Subject, cert: &str) -> Status
     requires fresh { IsNewDesk (D.state desk.old) }
-    ensures { Carries (check_task (subject_of subject.entry) Three cert.now) (D.state desk.old) (D.state desk.new) result }
+    ensures { Carries (check_task (subject_of subject.entry) Version.Three cert.now) (D.state desk.old) (D.state desk.new) result }
 {
     check_to(alloc, desk, subject, cert, Version::Three)
 }
@@ -58,12 +59,12 @@ pub(crate) fn reading_report<'a>(
     read: Result<ReadCert<()>, CertStop>,
     given: &'a Given,
 ) -> Report<'a>
-    ensures value { report_seen result ≡ report_of_reading given.now read }
+    ensures value { report_seen result ≡ report_of_reading (naming_of given.now.named) (ships_of given.now.flat (plan_in given.now.repair)) read }
     ensures printed { CanPrint (report_seen result) }
 {
-    let (checked, bound) = match read {
-        Ok(ReadCert { outcome, bound, .. }) => (Ok(outcome), bound),
-        Err(stop) => (Err(stop), None),
-    };
-    check_report(checked, bound, given.repaired_ships(), given.names())
+    let ships = given.repaired_ships();
+    match read {
+        Ok(read) => check_report(Ok(read.outcome), read.bound, ships, given.names()),
+        Err(stop) => check_report(Err(stop), None, ships, given.names()),
+    }
 }

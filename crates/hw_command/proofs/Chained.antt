@@ -1,5 +1,5 @@
 -- Lines of a certificate one after another.
-use Rattle.std.proofs.Common.{◌≡◌, ℕ, List, [], Option, Some, None, Result, Ok, Err, All, ◌∙◌, refl, sym, subst}
+use Rattle.std.proofs.Common.{◌≡◌, ℕ, List, [], Option, Some, None, ◌∙◌, refl, sym}
 use Rattle.std.specs.Io.KnownBytes.{prepend_known}
 use Rattle.std.specs.Prelude.{IfSome, IsSomeAnd}
 use Rattle.hw_model.specs.Problem.{Problem}
@@ -8,13 +8,9 @@ use Rattle.hw_lines.specs.declared.line.Line.{Line}
 use Rattle.hw_cert.specs.Nexts.{rest_of}
 use Rattle.hw_cert.specs.Reader.{ReaderModel}
 use Rattle.hw_check.specs.States.{CheckState}
-use Rattle.hw_lines.specs.Valid.{LineFits, Valid}
-use Rattle.hw_command.specs.Checking.{Reached, rest_outcome, Comes, ComesOrStops, Finds, FindsOrStops}
+use Rattle.hw_command.specs.Checking.{Reached, rest_outcome, Comes}
 use Rattle.hw_command.specs.declared.outcome.CertOutcome.{CertOutcome}
 use Rattle.hw_command.specs.declared.outcome.CertOutcome.TheVariants.{Shows, Wrong, TooLong}
-use Rattle.hw_command.specs.declared.outcome.CertStop.{CertStop}
-use Rattle.hw_command.specs.declared.outcome.CertStop.TheVariants.{Fault, NoMemory}
-use Rattle.hw_command.proofs.Begun.{rose_on}
 
 -- what was to come of the bytes told is what is to come of those left, and so on
 pub goes_on : {A : Type 0} (a b c : List ℕ → A) (told mid now : Option (List ℕ)) → IfSome told (λ x. IsSomeAnd mid (λ y. a x ≡ b y)) → IfSome mid (λ y. IsSomeAnd now (λ z. b y ≡ c z)) → IfSome told (λ x. IsSomeAnd now (λ z. a x ≡ c z))
@@ -42,27 +38,6 @@ pub comes_back : (f : Problem) (all : List Line) (told rest : Option (List ℕ))
 comes_back f all told rest outcome left (Shows v) h k = (k.0, back told rest (Shows v) outcome left h k.1)
 comes_back f all told rest outcome left (Wrong number word hint) h k = back told rest (Wrong number word hint) outcome left h k
 comes_back f all told rest outcome left TooLong h k = back told rest TooLong outcome left h k
-
--- what is found after lines that were taken
-pub found_behind : {f : Problem} {told : Option (List ℕ)} {outcome : List ℕ → CertOutcome} {all : List Line} {r : ReaderModel} {c : CheckState} {y : DeskState} (x z : DeskState) (found : Result CertOutcome CertStop)
-    → Reached f told outcome all r c y → y.read_faults ≡ x.read_faults → ComesOrStops f all (rest_of r y) (rest_outcome f all r.at) y z found → FindsOrStops f told outcome x z found
-found_behind {f = f} {told = told} {outcome = outcome} {all = all} {r = r} {c = c} {y = y} x z (Ok o) h kept k = (
-  k.0 ∙ kept,
-  record {
-    lines = all;
-    fit = subst (λ (p : Problem). All (LineFits p) all) h.problem h.follows.fit;
-    valid = subst (λ (p : Problem). Valid p all) h.problem h.follows.valid;
-    comes = comes_back f all told (rest_of r y) outcome (rest_outcome f all r.at) o h.rest k.1;
-  },
-)
-found_behind x z (Err Fault) h kept k = rose_on kept k
-found_behind x z (Err NoMemory) h kept k = k ∙ kept
-
--- the same of bytes that are told alike, after a step without a fault
-pub finds_from : (f : Problem) (a b : Option (List ℕ)) (outcome : List ℕ → CertOutcome) (x y z : DeskState) (found : Result CertOutcome CertStop) → a ≡ b → y.read_faults ≡ x.read_faults → FindsOrStops f a outcome y z found → FindsOrStops f b outcome x z found
-finds_from f a b outcome x y z (Ok o) e kept h = (h.0 ∙ kept, subst (λ (told : Option (List ℕ)). Finds f told outcome o) e h.1)
-finds_from f a b outcome x y z (Err Fault) e kept h = rose_on kept h
-finds_from f a b outcome x y z (Err NoMemory) e kept h = h ∙ kept
 
 pub none_pending : (known : Option (List ℕ)) → prepend_known [] known ≡ known
 none_pending None = refl

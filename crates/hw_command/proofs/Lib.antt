@@ -7,10 +7,9 @@ pub mod Told
 pub mod Checked
 pub mod Chained
 pub mod Kept
+pub mod Taken
 pub mod Sendings
 pub mod SentWorks
-pub mod Renewals
-pub mod RenewWorks
 pub mod PortForms
 pub mod Meanings
 pub mod Endings

@@ -44,14 +44,14 @@ cert_outcome_to most f bytes = stream_outcome f (cert_stream_to most (shape_of f
 abbrev pub cert_outcome : Problem → List ℕ → CertOutcome
 cert_outcome f bytes = cert_outcome_to Two f bytes
 
--- the report of an outcome
-abbrev pub report_of : Naming → CertOutcome → Report
-report_of names (Shows v) = checked v None None names
-report_of names (Wrong number word hint) = refused number word hint
-report_of names TooLong = too_long Certificate
+-- the report of an outcome with this bound; of a plan's repair, for this many ships
+abbrev pub report_of : Naming → Option ℕ → Option ℕ → CertOutcome → Report
+report_of names bound ships (Shows v) = checked v bound ships names
+report_of names bound ships (Wrong number word hint) = refused number word hint
+report_of names bound ships TooLong = too_long Certificate
 
 -- the report of what a check of a certificate gives
-abbrev pub report_of_check : Naming → Result CertOutcome CertStop → Report
-report_of_check names (Ok outcome) = report_of names outcome
-report_of_check names (Err stops.Fault) = read_fault Certificate
-report_of_check names (Err stops.NoMemory) = no_memory
+abbrev pub report_of_check : Naming → Option ℕ → Option ℕ → Result CertOutcome CertStop → Report
+report_of_check names bound ships (Ok outcome) = report_of names bound ships outcome
+report_of_check names bound ships (Err stops.Fault) = read_fault Certificate
+report_of_check names bound ships (Err stops.NoMemory) = no_memory

@@ -1,5 +1,5 @@
 -- The lines of a certificate that were taken so far.
-use Rattle.std.specs.Prelude.{◌≡◌, ◌≤◌, ◌<◌, ◌+◌, ◌^◌, ℕ, List, [], true, ◌∷◌, ◌++◌, Option, None, Result, Ok, Err, IfSome, IsSomeAnd, All, ⊤, is_none, if◌then◌else◌}
+use Rattle.std.specs.Prelude.{◌≡◌, ◌≤◌, ◌<◌, ◌+◌, ◌^◌, ℕ, List, [], true, ◌∷◌, ◌++◌, Option, None, Result, Ok, Err, IfSome, IsSomeAnd, ⊤, is_none, if◌then◌else◌}
 use Rattle.hw_model.specs.Problem.{Problem, shape_of}
 use Rattle.hw_text.specs.Parts.{parts_of}
 use Rattle.hw_desk.specs.State.{DeskState, Rose}
@@ -12,13 +12,13 @@ use Rattle.hw_cert.specs.declared.version.Version.{Version}
 use Rattle.hw_cert.specs.declared.stop.LineStop.{LineStop}
 use Rattle.hw_cert.specs.declared.stop.LineStop.TheVariants as lines
 use Rattle.hw_lines.specs.declared.line.Line.{Line}
-use Rattle.hw_lines.specs.Valid.{verdict, LineFits, Valid}
+use Rattle.hw_lines.specs.Valid.{verdict}
 use Rattle.hw_check.specs.Follows.{Follows}
 use Rattle.hw_check.specs.States.{CheckState}
 use Rattle.hw_check.specs.declared.stop.CheckStop.{CheckStop}
 use Rattle.hw_check.specs.declared.stop.CheckStop.TheVariants as checks
 use Rattle.hw_report.specs.declared.report.RefusedWord.TheVariants.{Form, Check}
-use Rattle.hw_command.specs.Certificates.{lines_outcome, cert_outcome}
+use Rattle.hw_command.specs.Certificates.{lines_outcome}
 use Rattle.hw_command.specs.Inputs.{Enters}
 use Rattle.hw_command.specs.declared.cert.OpenCert.{OpenCert}
 use Rattle.hw_command.specs.declared.cert.CertStep.{CertStep}
@@ -116,24 +116,3 @@ of_line_stop (lines.Form number word) = Ok (Wrong number (Form word) None)
 of_line_stop lines.Fault = Err Fault
 of_line_stop lines.TooLong = Ok TooLong
 of_line_stop lines.NoMemory = Err NoMemory
-
--- an outcome, and the valid lines after which it comes
-pub record Finds (f : Problem) (told : Option (List ℕ)) (outcome : List ℕ → CertOutcome) (o : CertOutcome) : Type 0 where
-  pub lines : List Line
-  pub fit : All (LineFits f) lines
-  pub valid : Valid f lines
-  pub comes : Comes f lines told outcome o
-
--- an outcome without a failed read, or why there is none
-abbrev pub FindsOrStops : Problem → Option (List ℕ) → (List ℕ → CertOutcome) → DeskState → DeskState → Result CertOutcome CertStop → Type 0
-FindsOrStops f told outcome old new (Ok o) = (new.read_faults ≡ old.read_faults) × Finds f told outcome o
-FindsOrStops f told outcome old new (Err stop) = NoOutcome old new stop
-
--- the same of what is left, where the reading stands there and no line was taken
-abbrev pub FindsRest : ReaderModel → CheckState → DeskState → DeskState → Result CertOutcome CertStop → Type 0
-FindsRest r c old new result = FindsOrStops c.problem (rest_of r old) (rest_outcome c.problem [] r.at) old new result
-
--- the certificate is begun under its name, and this is its outcome
-pub record ChecksCert (f : Problem) (cert : List ℕ) (old new : DeskState) (result : Result CertOutcome CertStop) : Type 0 where
-  pub enters : Enters feeds.Certificate cert old new
-  pub finds : FindsOrStops f (old.held cert) (cert_outcome f) old new result

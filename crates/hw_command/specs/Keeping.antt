@@ -1,26 +1,19 @@
 -- A certificate whose lines are kept while it is checked: they are those that its bytes read as.
-use Rattle.std.specs.Prelude.{◌≡◌, ℕ, List, ◌∷◌, [], ◌++◌, Option, Result, Ok, Err, IfSome, IsSomeAnd, All, ⊤, true}
+use Rattle.std.specs.Prelude.{◌≡◌, ℕ, List, ◌∷◌, [], ◌++◌, Option, Ok, IfSome, IsSomeAnd, All, ⊤}
 use Rattle.hw_model.specs.Problem.{Problem, shape_of}
 use Rattle.hw_text.specs.Parts.{parts_of}
 use Rattle.hw_desk.specs.State.{DeskState}
-use Rattle.hw_desk.specs.declared.desk.Feed.TheVariants.{Certificate}
 use Rattle.hw_lines.specs.declared.line.Line.{Line}
-use Rattle.hw_lines.specs.Tolled.{is_plain}
 use Rattle.hw_lines.specs.Valid.{LineFits, Valid}
-use Rattle.hw_cert.specs.Laws.{has_form}
 use Rattle.hw_cert.specs.Nexts.{rest_of}
 use Rattle.hw_cert.specs.Reader.{ReaderModel}
-use Rattle.hw_cert.specs.Stream.{Position, CertLines, complete, stream_of, cert_stream}
+use Rattle.hw_cert.specs.Stream.{Position, CertLines, complete, stream_of}
 use Rattle.hw_check.specs.States.{CheckState}
-use Rattle.hw_command.specs.Certificates.{cert_outcome}
-use Rattle.hw_command.specs.Checking.{rest_outcome, Comes, NoOutcome}
-use Rattle.hw_command.specs.Inputs.{Enters}
+use Rattle.hw_command.specs.Checking.{Comes}
 use Rattle.hw_command.specs.declared.cert.CertStep.{CertStep}
 use Rattle.hw_command.specs.declared.cert.CertStep.TheVariants.{Further, Ended}
-use Rattle.hw_command.specs.declared.keeping.KeptCert.{KeptCert}
 use Rattle.hw_command.specs.declared.outcome.CertOutcome.{CertOutcome}
 use Rattle.hw_command.specs.declared.outcome.CertOutcome.TheVariants.{Shows, Wrong, TooLong}
-use Rattle.hw_command.specs.declared.outcome.CertStop.{CertStop}
 
 -- all lines of a certificate that ends after them
 abbrev pub whole_lines : List Line → CertLines
@@ -56,28 +49,3 @@ pub record Keeps (f : Problem) (told : Option (List ℕ)) (outcome : List ℕ �
   pub valid : Valid f all
   pub comes : Comes f all told outcome o
   pub reads : ReadsAll told read all o
-
--- the same without a failed read, or why there is no outcome
-abbrev pub KeepsOrStops : Problem → Option (List ℕ) → (List ℕ → CertOutcome) → (List ℕ → CertLines) → DeskState → DeskState → Result KeptCert CertStop → Type 0
-KeepsOrStops f told outcome read old new (Ok kept) = (new.read_faults ≡ old.read_faults) × Keeps f told outcome read kept.lines.items kept.outcome
-KeepsOrStops f told outcome read old new (Err stop) = NoOutcome old new stop
-
--- the same of what is left, where the reading stands there and no line was taken
-abbrev pub KeepsRest : ReaderModel → CheckState → DeskState → DeskState → Result KeptCert CertStop → Type 0
-KeepsRest r c old new result = KeepsOrStops c.problem (rest_of r old) (rest_outcome c.problem [] r.at) (rest_read c.problem [] r.at) old new result
-
--- the lines that were kept have forms of the versions that may be read
-abbrev pub KeptWithin : ReaderModel → Result KeptCert CertStop → Type 0
-KeptWithin r (Ok kept) = All (λ line. has_form r.at.most line ≡ true) kept.lines.items
-KeptWithin r (Err stop) = ⊤
-
--- the lines that were kept say nothing of tolls or prices
-abbrev pub KeptPlain : Result KeptCert CertStop → Type 0
-KeptPlain (Ok kept) = All (λ line. is_plain line ≡ true) kept.lines.items
-KeptPlain (Err stop) = ⊤
-
--- the certificate is begun under its name, and this is its outcome, and its lines
-pub record KeepsCert (f : Problem) (cert : List ℕ) (old new : DeskState) (result : Result KeptCert CertStop) : Type 0 where
-  pub enters : Enters Certificate cert old new
-  pub keeps : KeepsOrStops f (old.held cert) (cert_outcome f) (cert_stream (shape_of f)) old new result
-  pub plain : KeptPlain result

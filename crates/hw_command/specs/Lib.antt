@@ -11,5 +11,5 @@ pub mod Certificates
 pub mod Verdicts
 pub mod Checking
 pub mod Keeping
+pub mod Readings
 pub mod Sending
-pub mod Renewing

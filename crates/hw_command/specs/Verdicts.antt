@@ -1,4 +1,4 @@
--- What a certificate shows of its problem, and of the port whose flat problem it is of.
+-- What a certificate shows of its problem.
 use Rattle.std.specs.Prelude.{◌≡◌, ℕ, List, All, ⊤}
 use Rattle.hw_model.specs.Problem.{Problem}
 use Rattle.hw_model.specs.Timetables.{IsBest, NonePermitted}
@@ -6,10 +6,6 @@ use Rattle.hw_lines.specs.declared.check.Verdict.{Verdict}
 use Rattle.hw_lines.specs.declared.check.Verdict.TheVariants as verdicts
 use Rattle.hw_lines.specs.declared.line.Line.{Line}
 use Rattle.hw_lines.specs.Valid.{verdict, LineFits, Valid}
-use Rattle.hw_port.specs.Whole.{Parts}
-use Rattle.hw_tide.specs.Levels.{TideParts}
-use Rattle.hw_port_rules.specs.Permitted.{IsPortBest, NonePortPermitted}
-use Rattle.hw_port_rules.specs.Flattened.{flattened}
 use Rattle.hw_command.specs.declared.outcome.CertOutcome.{CertOutcome}
 use Rattle.hw_command.specs.declared.outcome.CertOutcome.TheVariants.{Shows}
 
@@ -31,24 +27,3 @@ pub record IsShown (f : Problem) (v : Verdict) : Type 0 where
 abbrev pub ShownBy : Problem → CertOutcome → Type 0
 ShownBy f (Shows v) = IsShown f v
 ShownBy f outcome = ⊤
-
--- ---- of a port
-
--- what a verdict says of the port: a timetable that it permits carries this much, and none that it permits carries more; or it permits none
-abbrev pub MeansOfPort : Parts → TideParts → Verdict → Type 0
-MeansOfPort p h (verdicts.Optimal c) = (table : List ℕ) × IsPortBest p h table c
-MeansOfPort p h verdicts.Infeasible = NonePortPermitted p h
-MeansOfPort p h (verdicts.Unfinished best) = ⊤
-
--- lines that are valid by the port's restrictions have this verdict, and what it says of the port is true
-pub record IsShownOfPort (p : Parts) (h : TideParts) (v : Verdict) : Type 0 where
-  pub lines : List Line
-  pub fit : All (LineFits (flattened p h)) lines
-  pub valid : Valid (flattened p h) lines
-  pub verdict : v ≡ verdict (flattened p h) lines
-  pub means : MeansOfPort p h v
-
--- what an outcome shows
-abbrev pub ShownOfPort : Parts → TideParts → CertOutcome → Type 0
-ShownOfPort p h (Shows v) = IsShownOfPort p h v
-ShownOfPort p h outcome = ⊤

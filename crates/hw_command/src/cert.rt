@@ -6,10 +6,12 @@ ghost use Rattle.hw_desk.specs.Calls.{Moves};
 ghost use Rattle.hw_report.specs.Printing.{CanPrint};
 ghost use Rattle.hw_report.specs.Seen.{names_seen, report_seen};
 ghost use Rattle.hw_command.specs.Certificates.{report_of_check};
-ghost use Rattle.hw_command.specs.Checking.{ChecksCert, FindsRest, GoesFurther, IsReady, OpensCert, StaysWithin, StepsOn, of_line_stop, of_check_stop};
+ghost use Rattle.hw_command.specs.Checking.{GoesFurther, IsReady, OpensCert, StaysWithin, StepsOn, of_line_stop, of_check_stop};
 ghost use Rattle.hw_command.specs.Keeping.{ReadsOn};
+ghost use Rattle.hw_command.specs.Readings.{ReadsCert, ReadsRest};
 
 use crate::outcome::{CertOutcome, CertStop};
+use crate::taking::LineTaker;
 use hw_cert::{Line, LineReader, LineStop, Next, Version};
 use hw_check::{CheckStop, Checker};
 use hw_desk::{Desk, Feed};
@@ -19,14 +21,23 @@ use std::alloc::Global;
 
 /// A certificate of which no line was taken yet.
 #[derive(Drop)]
-pub struct OpenCert<'f> {
-    pub reader: LineReader,
-    pub checker: Checker<'f>,
+struct OpenCert<'f> {
+    reader: LineReader,
+    checker: Checker<'f>,
+}
+
+/// A certificate that was read: its outcome, the bound of the last bound line among those taken, in
+/// tenths of a tonne, if there is one, and what was kept of them.
+#[derive(Drop)]
+pub struct ReadCert<K> {
+    pub outcome: CertOutcome,
+    pub bound: Option<u64>,
+    pub kept: K,
 }
 
 /// Where a check stands after one more line, which is handed back.
 #[derive(Drop)]
-pub enum CertStep<'f> {
+enum CertStep<'f> {
     Further {
         reader: LineReader,
         checker: Checker<'f>,
@@ -35,21 +46,8 @@ pub enum CertStep<'f> {
     Ended(Result<CertOutcome, CertStop>),
 }
 
-/// Begins the certificate under its name. It may be of version 1 or 2.
-pub fn open_cert<'f, D: Desk>(
-    alloc: Global,
-    desk: &mut D,
-    flat: &'f Flat,
-    name: &str,
-) -> Result<OpenCert<'f>, CertStop>
-    requires { ((D.state desk.old).feeds Feed.Certificate).begun ≡ false }
-    ensures { OpensCert Version.Two flat.now name.now (D.state desk.old) (D.state desk.new) result }
-{
-    open_cert_to(alloc, desk, flat, name, Version::Two)
-}
-
-/// Opens a certificate by name and reads its header. Versions later than this one are refused.
-pub fn open_cert_to<'f, D: Desk>(
+/// Begins a certificate under its name. Versions later than this one will be refused.
+fn open_cert<'f, D: Desk>(
     alloc: Global,
     desk: &mut D,
     flat: &'f Flat,
@@ -72,52 +70,68 @@ pub fn open_cert_to<'f, D: Desk>(
     Ok(OpenCert { reader, checker })
 }
 
-/// Begins the certificate under its name, and checks its lines one by one up to its end or up to the
-/// first wrong one.
-pub fn check_cert<D: Desk>(
+/// Begins a certificate of a version up to this one under its name, and checks its lines one by one up
+/// to its end or up to the first wrong one. Each line taken is given to `kept`. An error says that a
+/// read failed, or that memory ran out.
+pub fn read_cert<D: Desk, K: LineTaker>(
     alloc: Global,
     desk: &mut D,
     flat: &Flat,
     name: &str,
-) -> Result<CertOutcome, CertStop>
-    requires { ((D.state desk.old).feeds Feed.Certificate).begun ≡ false }
-    ensures checks { ChecksCert flat.now name.now (D.state desk.old) (D.state desk.new) result }
+    most: Version,
+    kept: K,
+) -> Result<ReadCert<K>, CertStop>
+    requires unread { ((D.state desk.old).feeds Feed.Certificate).begun ≡ false }
+    requires none { K.keeps kept [] }
+    ensures { ReadsCert most K.keeps flat.now name.now (D.state desk.old) (D.state desk.new) result }
 {
-    match open_cert(alloc, desk, flat, name) {
-        Ok(OpenCert { reader, checker }) => check_lines(desk, reader, checker),
+    match open_cert(alloc, desk, flat, name, most) {
+        Ok(OpenCert { reader, checker }) => read_lines(desk, reader, checker, kept),
         Err(stop) => Err(stop),
     }
 }
 
 /// Checks the remaining lines. Each takes at least one of at most 2^40 bytes.
-fn check_lines<D: Desk>(
+fn read_lines<D: Desk, K: LineTaker>(
     desk: &mut D,
     mut reader: LineReader,
     mut checker: Checker<'_>,
-) -> Result<CertOutcome, CertStop>
+    mut kept: K,
+) -> Result<ReadCert<K>, CertStop>
     requires ready { IsReady reader checker (D.state desk.old) }
     requires fresh { Follows checker [] }
+    requires none { K.keeps kept [] }
     ensures moved { (bytes : List ℕ) × Moves Feed.Certificate bytes (D.state desk.old) (D.state desk.new) }
-    ensures finds { FindsRest reader checker.entry (D.state desk.old) (D.state desk.new) result }
+    ensures reads { ReadsRest K.keeps reader checker.entry (D.state desk.old) (D.state desk.new) result }
 {
     'lines: loop {
+        let bound = checker.bound();
         match check_line(desk, reader, checker) {
             CertStep::Further {
                 reader: behind,
                 checker: followed,
                 line,
             } => {
-                std::mem::drop(line);
+                if kept.take(line).is_err() {
+                    return Err(CertStop::NoMemory);
+                }
                 reader = behind;
                 checker = followed;
             }
-            CertStep::Ended(found) => return found,
+            CertStep::Ended(Ok(outcome)) => {
+                return Ok(ReadCert {
+                    outcome,
+                    bound,
+                    kept,
+                });
+            }
+            CertStep::Ended(Err(stop)) => return Err(stop),
         }
     }
 }
 
 /// Takes one more line.
-pub fn check_line<'f, D: Desk>(
+fn check_line<'f, D: Desk>(
     desk: &mut D,
     reader: LineReader,
     checker: Checker<'f>,
@@ -176,16 +190,22 @@ fn no_line(stop: LineStop) -> Result<CertOutcome, CertStop>
     }
 }
 
-/// The report of a certificate's check, in these names.
-pub fn check_report(checked: Result<CertOutcome, CertStop>, names: Names) -> Report
-    ensures value { report_seen result ≡ report_of_check (names_seen names.entry) checked }
+/// The report of a certificate's check with this bound, in these names; of a plan's repair, for this
+/// many ships.
+pub fn check_report<'a>(
+    checked: Result<CertOutcome, CertStop>,
+    bound: Option<u64>,
+    ships: Option<u32>,
+    names: Names<'a>,
+) -> Report<'a>
+    ensures value { report_seen result ≡ report_of_check (names_seen names.entry) bound ships checked }
     ensures printed { CanPrint (report_seen result) }
 {
     match checked {
         Ok(CertOutcome::Shows(verdict)) => Report::Checked {
             verdict,
-            bound: None,
-            ships: None,
+            bound,
+            ships,
             names,
         },
         Ok(CertOutcome::Wrong { number, word, hint }) => Report::Refused { number, word, hint },

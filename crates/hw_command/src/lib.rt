@@ -8,19 +8,17 @@
 mod cert;
 mod finishing;
 mod input;
-mod keeping;
 mod outcome;
 mod port_input;
-mod renewing;
 mod sending;
 mod status;
+mod taking;
 
-pub use cert::{CertStep, OpenCert, check_cert, check_line, check_report, open_cert, open_cert_to};
+pub use cert::{ReadCert, check_report, read_cert};
 pub use finishing::{finish, finish_with};
 pub use input::{read_flat, read_input, stopped};
-pub use keeping::{KeptCert, keep_cert};
 pub use outcome::{CertOutcome, CertStop};
 pub use port_input::{PortNames, PortProblem, read_port_problem};
-pub use renewing::{Renewal, renew_to, renewal_report};
 pub use sending::send_lines;
 pub use status::{Status, status_of, status_of_verdict};
+pub use taking::{LastTable, LineTaker};
