@@ -1,11 +1,11 @@
 -- The laws of pictures of certificates.
-use Rattle.std.specs.Prelude.{◌≡◌, ℕ, List, Option, Some, IsSome}
+use Rattle.std.specs.Prelude.{◌≡◌, ◌⊎◌, ℕ, List, Option, Some, IsSome}
 use Rattle.hw_lines.specs.declared.check.Verdict.{Verdict}
-use Rattle.hw_cert.specs.declared.version.Version.TheVariants.{Three}
+use Rattle.hw_cert.specs.declared.version.Version.TheVariants.{Two, Three}
 use Rattle.hw_report.specs.Reports.{Report, Naming, checked, picture}
 use Rattle.hw_subject.specs.Subjects.{Subject, Origin, origin_subject, flat_subject}
 use Rattle.hw_check_command.specs.Checks.{Checks}
-use Rattle.hw_check_command.specs.Laws.{AllTold}
+use Rattle.hw_check_command.specs.Laws.{AllTold, NamesThird}
 use Rattle.hw_chart_command.specs.Charts.{Charts, picture_of}
 use Rattle.hw_chart_command.specs.Texts.{texts_chart}
 
@@ -33,3 +33,7 @@ IsChartOf s held c r = r ≡ c
 -- of the same told bytes `chart` draws what `verify` shows, and refuses what `verify` refuses, unless a call fails or memory runs out
 abbrev pub ChartsAsVerified : Type 0
 ChartsAsVerified = (origin : Origin) (cert : List ℕ) (held : List ℕ → Option (List ℕ)) (c r : Report) → AllTold held (origin_subject origin).inputs → IsSome (held cert) → Checks (origin_subject origin) Three cert held c → Charts (origin_subject origin) cert held r → IsChartOf (origin_subject origin) held c r
+
+-- the same by `check`, unless the certificate names the third version
+abbrev pub ChartsAsChecked : Type 0
+ChartsAsChecked = (origin : Origin) (cert bytes : List ℕ) (held : List ℕ → Option (List ℕ)) (c r : Report) → AllTold held (origin_subject origin).inputs → held cert ≡ Some bytes → Checks (origin_subject origin) Two cert held c → Charts (origin_subject origin) cert held r → NamesThird bytes ⊎ IsChartOf (origin_subject origin) held c r

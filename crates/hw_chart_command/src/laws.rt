@@ -1,6 +1,6 @@
 //! The laws of pictures of certificates: functions without a body.
 
-ghost use Rattle.hw_chart_command.specs.Laws.{ChartsAsVerified, OneChart, TextsDecideChart};
+ghost use Rattle.hw_chart_command.specs.Laws.{ChartsAsChecked, ChartsAsVerified, OneChart, TextsDecideChart};
 
 /// The bytes of the inputs and of the certificate decide the picture, unless a call fails or memory
 /// runs out.
@@ -16,4 +16,10 @@ pub fn texts_decide_chart()
 /// What `verify` shows is drawn, and what it refuses is refused.
 pub fn charts_as_verified()
     ensures { ChartsAsVerified }
+{}
+
+/// What `check` shows is drawn, and what it refuses is refused, unless the certificate names the third
+/// version.
+pub fn charts_as_checked()
+    ensures { ChartsAsChecked }
 {}

@@ -9,4 +9,4 @@ mod drawing;
 mod laws;
 
 pub use charting::chart;
-pub use laws::{charts_as_verified, one_chart, texts_decide_chart};
+pub use laws::{charts_as_checked, charts_as_verified, one_chart, texts_decide_chart};
