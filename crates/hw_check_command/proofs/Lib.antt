@@ -1,11 +1,11 @@
-mod Shows
-mod Certless
+pub mod Shows
+pub mod Certless
 pub mod Checked
 pub mod Rewritten
 pub mod Renewed
 pub mod OnePort
-mod OneFlat
-mod Planned
-mod Decided
+pub mod OneFlat
+pub mod Planned
+pub mod Decided
 pub mod Reports
 pub mod SameLines

@@ -1,7 +1,8 @@
 -- A certificate whose lines are taken one after another.
-use Rattle.std.proofs.Common.{◌≡◌, ◌∙◌, ℕ, true, List, [], ◌∷◌, ◌++◌, Option, Result, Ok, Err, All, subst}
+use Rattle.std.proofs.Common.{◌≡◌, ◌∙◌, ℕ, true, false, List, [], ◌∷◌, ◌++◌, Option, Result, Ok, Err, All, subst}
 use Rattle.std.proofs.lemmas.List.Elements.{All-push}
-use Rattle.std.specs.Prelude.{IfSome, IsSomeAnd}
+use Rattle.std.specs.Result.{is_err}
+use Rattle.std.specs.Prelude.{IfSome, IsSomeAnd, OnOk}
 use Rattle.hw_model.specs.Problem.{Problem, shape_of}
 use Rattle.hw_desk.specs.State.{DeskState}
 use Rattle.hw_desk.specs.Calls.{Moves}
@@ -34,6 +35,11 @@ pub record Taken (f : Problem) (told : Option (List ℕ)) (outcome : List ℕ �
   pub reads : IfSome told (λ bytes. IsSomeAnd (rest_of reader now) (λ rest. read bytes ≡ rest_read f all reader.at rest))
   pub version : reader.at.most ≡ most
   pub formed : All (λ line. has_form most line ≡ true) all
+
+-- what holds of an answer that is no error
+pub unless_err : {E P : Type 0} (r : Result (Unit {0}) E) → is_err r ≡ false → OnOk r P → P
+unless_err (Ok done) e h = h
+unless_err (Err failed) e h = absurd (cc)
 
 -- one line more
 pub taken_on : {f : Problem} {told : Option (List ℕ)} {outcome : List ℕ → CertOutcome} {read : List ℕ → CertLines} {most : Version} {before : List Line} {r s : ReaderModel} {c d : CheckState} (line : Line) (x y : DeskState)

@@ -131,11 +131,7 @@ fn read_lines<D: Desk, K: LineTaker>(
 }
 
 /// Takes one more line.
-fn check_line<'f, D: Desk>(
-    desk: &mut D,
-    reader: LineReader,
-    checker: Checker<'f>,
-) -> CertStep<'f>
+fn check_line<'f, D: Desk>(desk: &mut D, reader: LineReader, checker: Checker<'f>) -> CertStep<'f>
     requires ready { IsReady reader checker (D.state desk.old) }
     ensures moved { (bytes : List ℕ) × Moves Feed.Certificate bytes (D.state desk.old) (D.state desk.new) }
     ensures further { GoesFurther reader (D.state desk.new) result }

@@ -32,7 +32,8 @@ impl LineTaker for Vec<Line> {
     ghost keeps = { KeepsLines };
 
     fn take(&mut self, line: Line) -> Result<(), AllocError> {
-        self.push(line)
+        self.push(line)?;
+        Ok(())
     }
 }
 

@@ -1,6 +1,6 @@
-use Rattle.std.proofs.Common.{◌++◌, ◌∷◌, ◌∙◌, [], refl}
+use Rattle.std.proofs.Common.{◌++◌, ◌∷◌, ◌∙◌, [], refl, sym}
 use Rattle.hw_desk.proofs.Chain.{moves_on}
-use Rattle.hw_command.proofs.Taken.{taken_on, read_behind}
+use Rattle.hw_command.proofs.Taken.{unless_err, taken_on, read_behind}
 use Rattle.hw_command.proofs.cert.read_lines.Goals as goal
 
 pub lines-preserved : goal.lines-preserved
@@ -14,7 +14,7 @@ lines-preserved g c =
       moved = (past.moved.0 ++ c.check_line.ensures.moved.0, moves_on past.moved.1 c.check_line.ensures.moved.1 (past.moved.0 ++ c.check_line.ensures.moved.0) refl);
       same = step.0 ∙ past.same;
       ready = c.in-Further.ensures.further.0;
-      taken = (before ++ c.in-Further.line ∷ [], taken_on c.in-Further.line y z past.taken.1 step.1 (c.in-Further.ensures.reads before) c.in-Further.ensures.within.0 c.in-Further.ensures.within.1, ?);
+      taken = (before ++ c.in-Further.line ∷ [], taken_on c.in-Further.line y z past.taken.1 step.1 (c.in-Further.ensures.reads before) c.in-Further.ensures.within.0 c.in-Further.ensures.within.1, unless_err c.take.result (sym c.is_err.ensures.value ∙ c.if-is_err.false) c.take.ensures before past.taken.2);
     }
 
 pub returns-in-Ended-Ok-clause-moved : goal.returns-in-Ended-Ok-clause-moved
