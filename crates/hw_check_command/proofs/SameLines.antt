@@ -15,7 +15,7 @@ use Rattle.hw_cert.specs.Spelled.{header_words, kept_to, version_to}
 use Rattle.hw_cert.specs.Fits.{line_read}
 use Rattle.hw_cert.specs.Stream.{Cut, nothing, whole, unended, long, passes, cut_of, tail_cut, behind, line_by, line_next, CertLines, onward, lines_from, lines_by, lines_after, cert_stream_to, cert_stream}
 use Rattle.hw_cert.proofs.Headers.{header_back}
-use Rattle.hw_check_command.specs.Bounded.{NamesThird}
+use Rattle.hw_check_command.specs.Laws.{NamesThird}
 
 -- ---- after the header
 

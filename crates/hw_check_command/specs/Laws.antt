@@ -1,8 +1,8 @@
 -- The laws of reports on certificates.
-use Rattle.std.specs.Prelude.{◌≡◌, ◌⊎◌, ℕ, List, [], ◌∷◌, Option, Some, None, IsSome, ⊤}
+use Rattle.std.specs.Prelude.{◌≡◌, ◌⊎◌, ℕ, List, [], ◌∷◌, ◌++◌, Option, Some, None, IsSome, ⊤, codes}
 use Rattle.hw_desk.specs.State.{DeskState}
 use Rattle.hw_cert.specs.declared.version.Version.{Version}
-use Rattle.hw_cert.specs.declared.version.Version.TheVariants.{Two}
+use Rattle.hw_cert.specs.declared.version.Version.TheVariants.{Two, Three}
 use Rattle.hw_report.specs.Reports.{Report}
 use Rattle.hw_command.specs.Scope.{Named}
 use Rattle.hw_subject.specs.Subjects.{Subject, Topic, topic_subject, flat_subject, repair_of}
@@ -47,3 +47,11 @@ RenewedAsChecked = (topic : Topic) (cert proof : List ℕ) (old new : DeskState)
 pub record TextsDecide : Type 0 where
   pub flat : (name cert text bytes : List ℕ) (most : Version) (held : List ℕ → Option (List ℕ)) (r : Report) → held name ≡ Some text → held cert ≡ Some bytes → Checks (flat_subject name) most cert held r → r ≡ texts_report most text None bytes
   pub repair : (name plan cert text moved bytes : List ℕ) (most : Version) (held : List ℕ → Option (List ℕ)) (r : Report) → held name ≡ Some text → held plan ≡ Some moved → held cert ≡ Some bytes → Checks (repair_of (flat_subject name) plan) most cert held r → r ≡ texts_report most text (Some moved) bytes
+
+-- the first line of the bytes names the third version
+abbrev pub NamesThird : List ℕ → Type 0
+NamesThird bytes = (more : List ℕ) × (bytes ≡ codes "cert 3\n" ++ more)
+
+-- of the same bytes `verify` reports what `check` does, unless the certificate names the third version
+abbrev pub VerifiedAsChecked : Type 0
+VerifiedAsChecked = (topic : Topic) (cert bytes : List ℕ) (held : List ℕ → Option (List ℕ)) (r t : Report) → AllTold held (topic_subject topic).inputs → held cert ≡ Some bytes → Checks (topic_subject topic) Two cert held r → Checks (topic_subject topic) Three cert held t → NamesThird bytes ⊎ (t ≡ r)
