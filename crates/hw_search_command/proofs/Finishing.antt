@@ -4,7 +4,6 @@ use Rattle.std.specs.Prelude.{◌≢◌, IfSome}
 use Rattle.hw_model.specs.Problem.{Problem}
 use Rattle.hw_desk.specs.State.{DeskState}
 use Rattle.hw_desk.specs.declared.desk.Tray.TheVariants as tray
-use Rattle.hw_report.specs.Printing.{CanPrint, IsTableOf}
 use Rattle.hw_report.specs.Reports.{Report, Naming, solved}
 use Rattle.hw_repair.specs.declared.plan.Wish.{Wish}
 use Rattle.hw_command.specs.Carries.{Carries}
@@ -28,7 +27,7 @@ use Rattle.hw_search_command.specs.Searches.{Searched, SearchSays, search_task}
 use Rattle.hw_search_command.specs.Searching.{SearchesTo}
 use Rattle.hw_search_command.specs.declared.finding.Found.{Found}
 use Rattle.hw_search_command.specs.declared.searcher.Search.{Search}
-use Rattle.hw_search_command.proofs.Owned.{bound_says, has_slots, head_says, is_listed, own_certificate, same_most}
+use Rattle.hw_search_command.proofs.Owned.{bound_says, has_slots, head_says, own_certificate, same_most}
 
 -- ---- what was read
 
@@ -54,12 +53,6 @@ found_slots topic found h k =
     let s = topic_subject topic in
     let is = (of_judged s h k).leaves.1 in
     subst (λ (plan : Option (List Wish)). HasSlots plan found.table) (sym h.plan) (has_slots (s.problem h.value) (s.plan h.value) found.table (modelled topic h).fits is.permitted)
-
-pub found_prints : (topic : Topic) {q : Searcher} {budget : ℕ} {proof : List ℕ} {x y z : DeskState} {given : Given} (found : Found) → ReadsSubject (topic_subject topic) x y given → SearchesTo q (searched_in given.flat given.repair) budget proof y z (Some found) → CanPrint (report_of given found)
-found_prints topic {given = given} found h k =
-    let s = topic_subject topic in
-    let is = (of_judged s h k).leaves.1 in
-    (subst (λ (f : Problem). IsTableOf f found.table) (sym h.problem) (is_listed (s.problem h.value) (s.plan h.value) found.table is.permitted), h.printable)
 
 -- ---- the ends of a run
 

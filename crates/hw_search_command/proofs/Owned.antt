@@ -8,7 +8,6 @@ use Rattle.hw_model.specs.Timetables.{Permits, IsBest}
 use Rattle.hw_lines.specs.declared.line.Line.{Line}
 use Rattle.hw_lines.specs.Lines.{best_of as best_in}
 use Rattle.hw_verdict.specs.Laws.{IsBound}
-use Rattle.hw_report.specs.Printing.{IsTableOf}
 use Rattle.hw_report.specs.declared.report.Head.{Head}
 use Rattle.hw_report.specs.declared.report.Head.TheVariants as heads
 use Rattle.hw_repair.specs.Repaired.{repaired, own_cargo}
@@ -26,13 +25,7 @@ use Rattle.hw_search_command.specs.declared.searcher.Search.TheVariants.{Solve, 
 
 -- ---- timetables
 
--- a permitted timetable can be printed
-pub is_listed : (f : Problem) (plan : Option (List Wish)) (table : Option (List ℕ)) → IfSome table (Permits (repaired_problem f plan)) → IsTableOf f table
-is_listed f plan None h = tt
-is_listed f None (Some table) h = h.listed
-is_listed f (Some plan) (Some table) h = record { each_ship = h.listed.each_ship; each_slot = h.listed.each_slot }
-
--- it has a slot for each wish
+-- a permitted timetable has a slot for each wish of the plan
 pub has_slots : (f : Problem) (plan : Option (List Wish)) (table : Option (List ℕ)) → IfSome plan (PlanFits f) → IfSome table (Permits (repaired_problem f plan)) → HasSlots plan table
 has_slots f None table fits h = tt
 has_slots f (Some plan) None fits h = tt
