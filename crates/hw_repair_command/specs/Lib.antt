@@ -4,7 +4,6 @@ pub mod PlanInputs
 pub mod Reports
 pub mod Repairs
 pub mod PortRepairs
-pub mod RepairFlat
 pub mod RepairPort
 pub mod CheckRepair
 pub mod CheckRepairPort

@@ -9,11 +9,7 @@
 mod plan_input;
 mod rechecking_flat;
 mod rechecking_port;
-mod repairing_flat;
-mod repairing_port;
 mod reports;
 
 pub use rechecking_flat::check_repair;
 pub use rechecking_port::check_repair_port;
-pub use repairing_flat::repair_flat;
-pub use repairing_port::repair_port;

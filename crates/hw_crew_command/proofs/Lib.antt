@@ -1,5 +1,0 @@
-mod Letters
-mod Crewed
-mod CrewWorks
-mod FlatCrewed
-mod PortCrewed

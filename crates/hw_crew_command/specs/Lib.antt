@@ -1,4 +1,0 @@
-pub mod Orders
-pub mod Crewing
-pub mod CrewFlat
-pub mod CrewPort

@@ -1,4 +1,0 @@
-mod Proved
-mod ProveWorks
-mod FlatProved
-mod PortProved

@@ -1,4 +1,0 @@
-pub mod Priced
-pub mod Proving
-pub mod ProveFlat
-pub mod ProvePort
