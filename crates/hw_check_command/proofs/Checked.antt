@@ -1,18 +1,18 @@
 -- A certificate of a subject is checked.
-use Rattle.std.proofs.Common.{◌≡◌, ◌∙◌, ◌++◌, ℕ, List, [], ◌∷◌, Option, None, Result, Ok, Err, false, true, refl, ap, subst}
+use Rattle.std.proofs.Common.{◌≡◌, ◌∙◌, ◌++◌, ℕ, List, [], ◌∷◌, Option, None, Result, Ok, Err, false, refl, ap, subst}
 use Rattle.hw_model.specs.Problem.{Problem, shape_of}
 use Rattle.hw_desk.specs.State.{DeskState, IsNewDesk}
 use Rattle.hw_desk.specs.declared.desk.Feed.TheVariants.{Certificate}
 use Rattle.hw_desk.specs.declared.desk.Tray.TheVariants as tray
+use Rattle.hw_lines.specs.declared.line.Line.{Line}
 use Rattle.hw_cert.specs.declared.version.Version.{Version}
 use Rattle.hw_cert.specs.Stream.{cert_stream_to}
 use Rattle.hw_report.specs.Reports.{Report}
 use Rattle.hw_command.specs.Carries.{Carries}
 use Rattle.hw_command.specs.Certificates.{cert_outcome_to, report_of}
 use Rattle.hw_command.specs.Ends.{Ends}
-use Rattle.hw_command.specs.Keeping.{Keeps}
-use Rattle.hw_command.specs.Readings.{KeepsNone, ReadsCert, ReadsLines, outcome_in}
-use Rattle.hw_command.specs.Scope.{named, Entered, GiveBefore}
+use Rattle.hw_command.specs.Readings.{KeepsNone, ReadsCert, ReadsLines}
+use Rattle.hw_command.specs.Scope.{named}
 use Rattle.hw_command.specs.Works.{Works, is_common}
 use Rattle.hw_command.specs.declared.cert.ReadCert.{ReadCert}
 use Rattle.hw_command.specs.declared.outcome.CertStop.{CertStop}

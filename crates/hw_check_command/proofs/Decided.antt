@@ -1,15 +1,15 @@
 -- The bytes of a subject's inputs give one value, or one refusal, and never both.
-use Rattle.std.proofs.Common.{◌≡◌, ◌++◌, ◌×◌, ℕ, List, [], ◌∷◌, Option, Some, None, IsSome, refl}
+use Rattle.std.proofs.Common.{◌≡◌, ◌++◌, ℕ, List, [], ◌∷◌, Option, Some, None, IsSome, refl}
 use Rattle.hw_command.specs.Scope.{Named}
 use Rattle.hw_subject.specs.Subjects.{Origin, flat_text, port_of, origin_subject, repaired_by}
 use Rattle.hw_check_command.specs.Laws.{AllTold, IsDecided, SubjectsDecided}
-use Rattle.hw_check_command.proofs.OneFlat.{one_problem, one_flat_refusal, flat_apart}
+use Rattle.hw_check_command.proofs.OneFlat.{no_bytes, one_problem, one_flat_refusal, flat_apart}
 use Rattle.hw_check_command.proofs.OnePort.{one_harbour, one_port_refusal, port_apart}
 use Rattle.hw_check_command.proofs.Planned.{repair_decided}
 
 -- bytes that are told
 pub told_bytes : (o : Option (List ℕ)) → IsSome o → (bytes : List ℕ) × (o ≡ Some bytes)
-told_bytes None h = absurd h
+told_bytes None h = absurd (no_bytes h)
 told_bytes (Some bytes) h = (bytes, refl)
 
 -- the first inputs are told

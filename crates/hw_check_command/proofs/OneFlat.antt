@@ -1,5 +1,5 @@
 -- The bytes of a flat text give one problem, or one refusal, and never both.
-use Rattle.std.proofs.Common.{◌≡◌, ◌≤◌, ◌<◌, ◌∙◌, ℕ, cond, List, length, Option, Some, None, Result, Ok, Err, IsSome, refl, sym, ap, arith}
+use Rattle.std.proofs.Common.{◌≡◌, ◌≤◌, ◌<◌, ◌∙◌, ℕ, true, false, cond, List, length, Option, Some, None, Result, Ok, Err, IsSome, sym, ap, arith}
 use Rattle.std.proofs.lemmas.Bool.{le-ltb, lt-ltb}
 use Rattle.hw_model.specs.Problem.{Problem}
 use Rattle.hw_desk.specs.declared.desk.Feed.TheVariants as feeds
@@ -29,6 +29,10 @@ of_no_text most text plan bytes r h = absurd h
 
 -- ---- as a subject
 
+-- bytes that aren't told
+pub no_bytes : IsSome {T = List ℕ} None → ⊥
+no_bytes told = let never : false ≡ true = told in absurd (cc)
+
 one_read : {f g : Problem} {read : Result Problem Fault} → read ≡ Ok f → read ≡ Ok g → f ≡ g
 one_read h k = cc
 
@@ -39,15 +43,15 @@ too_many : {n m : ℕ} → n ≤ m → m < n → ⊥
 too_many h k = omega arith
 
 pub one_problem : (text : Option (List ℕ)) (f g : Problem) → IsSome text → IsProblemOf text f → IsProblemOf text g → f ≡ g
-one_problem None f g told h k = absurd told
+one_problem None f g told h k = absurd (no_bytes told)
 one_problem (Some text) f g told h k = one_read h.reads.1 k.reads.1
 
 pub one_flat_refusal : (text : Option (List ℕ)) (r t : Report) → IsSome text → NoFlat text r → NoFlat text t → r ≡ t
-one_flat_refusal None r t told h k = absurd told
+one_flat_refusal None r t told h k = absurd (no_bytes told)
 one_flat_refusal (Some text) r t told h k = of_no_text Two text None text r h ∙ sym (of_no_text Two text None text t k)
 
 pub flat_apart : (text : Option (List ℕ)) (f : Problem) (r : Report) → IsSome text → IsProblemOf text f → NoFlat text r → ⊥
-flat_apart None f r told h k = absurd told
+flat_apart None f r told h k = absurd (no_bytes told)
 flat_apart (Some text) f (bad_flat number word) told h k = bad_read h.reads.1 k.1
 flat_apart (Some text) f (too_long feeds.Flat) told h k = too_many h.reads.0 k
 flat_apart (Some text) f r told h k = k

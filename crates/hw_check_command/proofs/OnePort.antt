@@ -1,23 +1,22 @@
 -- The report of a port's files is one function of their bytes.
-use Rattle.std.proofs.Common.{◌≡◌, ◌≤◌, ◌<◌, ◌⊎◌, ◌∙◌, ℕ, List, length, Option, Some, None, IsSome, Result, Ok, Err, inl, inr, refl, sym, ap, subst, arith}
+use Rattle.std.proofs.Common.{◌≡◌, ◌∙◌, ℕ, List, Option, Some, None, IsSome, Result, Ok, Err, inl, inr, refl, sym, ap, subst}
 use Rattle.std.specs.Prelude.{◌≢◌}
 use Rattle.hw_desk.specs.declared.desk.Feed.TheVariants.{Instance, Tides}
 use Rattle.hw_lines.specs.declared.check.Verdict.TheVariants.{Infeasible}
-use Rattle.hw_port.specs.declared.fault.PortFault.{PortFault}
 use Rattle.hw_port.specs.Whole.{Parts}
-use Rattle.hw_read.specs.Instance.{instance_of, Reads as ReadsPort}
+use Rattle.hw_read.specs.Instance.{Reads as ReadsPort}
 use Rattle.hw_read.specs.declared.fault.ReadFault.{ReadFault}
 use Rattle.hw_read.specs.declared.fault.ReadFault.TheVariants as read
 use Rattle.hw_tide.specs.Levels.{TideParts}
-use Rattle.hw_tide.specs.Whole.{HasRecords, Reads as ReadsHeights, tide_by_header, waypoint_names}
+use Rattle.hw_tide.specs.Whole.{Reads as ReadsHeights, tide_by_header, waypoint_names}
 use Rattle.hw_tide.specs.declared.fault.TideFault.{TideFault}
 use Rattle.hw_tide.specs.declared.fault.TideFault.TheVariants as tide
-use Rattle.hw_tide.proofs.OneList.{one_list_law}
 use Rattle.hw_report.specs.Reports.{Report, by_name, checked, too_long, bad_json, bad_field, bad_tides}
 use Rattle.hw_command.specs.PortInputs.{NoPort, IsBadTable}
 use Rattle.hw_command.specs.Values.{IsLong, IsPortOf, GivesPort}
 use Rattle.hw_subject.specs.Subjects.{Harbour}
 use Rattle.hw_command.proofs.OneReading.{Limited, one_instance, one_limited, one_table}
+use Rattle.hw_check_command.proofs.OneFlat.{no_bytes}
 
 -- the report of a table, by what it is read as
 abbrev of_table : (TideParts → Report) → Result TideParts TideFault → Report
@@ -118,16 +117,16 @@ unfolding named_in
 same_harbour v w e = ap (λ (r : Report). named_in r v) e
 
 pub one_harbour : (instance table : Option (List ℕ)) (v w : Harbour) → IsSome instance → IsSome table → IsPortOf instance table v.port v.tide → IsPortOf instance table w.port w.tide → v ≡ w
-one_harbour None table v w told tides h k = absurd told
-one_harbour (Some instance) None v w told tides h k = absurd tides
+one_harbour None table v w told tides h k = absurd (no_bytes told)
+one_harbour (Some instance) None v w told tides h k = absurd (no_bytes tides)
 one_harbour (Some instance) (Some table) v w told tides h k = same_harbour v w (one_report instance table known _ _ (of_port known _ h refl) (of_port known _ k refl))
 
 pub one_port_refusal : (instance table : Option (List ℕ)) (r t : Report) → IsSome instance → IsSome table → NoPort instance table r → NoPort instance table t → r ≡ t
-one_port_refusal None table r t told tides h k = absurd told
-one_port_refusal (Some instance) None r t told tides h k = absurd tides
+one_port_refusal None table r t told tides h k = absurd (no_bytes told)
+one_port_refusal (Some instance) None r t told tides h k = absurd (no_bytes tides)
 one_port_refusal (Some instance) (Some table) r t told tides h k = one_report instance table known r t (no_port_files instance table known r h) (no_port_files instance table known t k)
 
 pub port_apart : (instance table : Option (List ℕ)) (v : Harbour) (r : Report) → IsSome instance → IsSome table → IsPortOf instance table v.port v.tide → NoPort instance table r → ⊥
-port_apart None table v r told tides h k = absurd told
-port_apart (Some instance) None v r told tides h k = absurd tides
+port_apart None table v r told tides h k = absurd (no_bytes told)
+port_apart (Some instance) None v r told tides h k = absurd (no_bytes tides)
 port_apart (Some instance) (Some table) v r told tides h k = subst (λ (t : Report). NoPort (Some instance) (Some table) t) (one_report instance table known r (known v.port v.tide) (no_port_files instance table known r k) (of_port known _ h refl)) k

@@ -1,11 +1,10 @@
 -- The bytes of a plan give one plan of a subject's problem, or one refusal, and never both.
-use Rattle.std.proofs.Common.{◌≡◌, ◌≤◌, ◌<◌, ◌⊎◌, ◌∙◌, ℕ, cond, List, length, Option, Some, None, Result, Ok, Err, IfSome, inl, inr, refl, sym, ap, subst, arith}
+use Rattle.std.proofs.Common.{◌≡◌, ◌≤◌, ◌<◌, ◌⊎◌, ◌∙◌, ℕ, cond, List, length, Option, Some, Result, Ok, Err, IfSome, inl, inr, sym, ap, subst, arith}
 use Rattle.std.proofs.lemmas.Bool.{le-ltb, lt-ltb}
 use Rattle.hw_model.specs.Problem.{Problem}
 use Rattle.hw_desk.specs.declared.desk.Feed.TheVariants as feeds
 use Rattle.hw_derived.specs.Reading.{Fault}
 use Rattle.hw_repair.specs.Text.{plan_text}
-use Rattle.hw_repair.specs.Words.{word_text}
 use Rattle.hw_repair.specs.declared.fault.PlanWord.{PlanWord}
 use Rattle.hw_repair.specs.declared.plan.Wish.{Wish}
 use Rattle.hw_cert.specs.declared.version.Version.{Version}
@@ -56,8 +55,8 @@ too_many : {n m : ℕ} → n ≤ m → m < n → ⊥
 too_many h k = omega arith
 
 -- a plan of one value is read alike of another one
-plan_at : (s : Subject) {held : List ℕ → Option (List ℕ)} {plan : List ℕ} (v w : s.Value) (wishes : List Wish) → v ≡ w → IsPlanText (s.problem v) (Ok wishes) plan → IsPlanText (s.problem w) (Ok wishes) plan
-plan_at s {plan = plan} v w wishes e h = subst (λ (u : s.Value). IsPlanText (s.problem u) (Ok wishes) plan) e h
+plan_at : (s : Subject) (plan : List ℕ) (v w : s.Value) (wishes : List Wish) → v ≡ w → IsPlanText (s.problem v) (Ok wishes) plan → IsPlanText (s.problem w) (Ok wishes) plan
+plan_at s plan v w wishes e h = subst (λ (u : s.Value). IsPlanText (s.problem u) (Ok wishes) plan) e h
 
 -- by the plan's bytes, where they are told
 told_plan : {f : Problem} {wishes : List Wish} {o : Option (List ℕ)} (plan : List ℕ) → o ≡ Some plan → IsPlanOf o f wishes → IsPlanText f (Ok wishes) plan
@@ -66,7 +65,7 @@ told_plan {f = f} {wishes = wishes} plan e h = (subst (λ (told : Option (List �
 one_planned : (s : Subject) (name : List ℕ) (held : List ℕ → Option (List ℕ)) (plan : List ℕ) → held name ≡ Some plan → IsDecided s held → (v w : Planned s) → ReadsPlanned s name held v → ReadsPlanned s name held w → v ≡ w
 one_planned s name held plan told d v w h k =
     let same = d.one_value v.value w.value h.reads k.reads in
-    let first = plan_at s {held = held} v.value w.value v.plan same (told_plan plan told h.planned) in
+    let first = plan_at s plan v.value w.value v.plan same (told_plan plan told h.planned) in
     let second = told_plan plan told k.planned in
     let by_value : s.Value → Planned s = λ x. record { value = x; plan = v.plan } in
     let by_plan : List Wish → Planned s = λ x. record { value = w.value; plan = x } in
@@ -74,7 +73,7 @@ one_planned s name held plan told d v w h k =
 
 no_plan_apart : (s : Subject) (name : List ℕ) (held : List ℕ → Option (List ℕ)) (plan : List ℕ) → held name ≡ Some plan → IsDecided s held → (v : Planned s) (r : Report) → ReadsPlanned s name held v → NoPlanned s name held r → ⊥
 no_plan_apart s name held plan told d v (bad_text feeds.Plan number word) h k =
-    let mine = plan_at s {held = held} v.value k.value v.plan (d.one_value v.value k.value h.reads k.reads) (told_plan plan told h.planned) in
+    let mine = plan_at s plan v.value k.value v.plan (d.one_value v.value k.value h.reads k.reads) (told_plan plan told h.planned) in
     bad_read mine.1 (subst (λ (o : Option (List ℕ)). IsWrongLine o (s.problem k.value) number word) told k.wrong).reads.1
 no_plan_apart s name held plan told d v (too_long feeds.Plan) h k = too_many (told_plan plan told h.planned).0 (subst (λ (o : Option (List ℕ)). IfSome o IsLong) told k.1)
 no_plan_apart s name held plan told d v r h k = d.apart v.value r h.reads k

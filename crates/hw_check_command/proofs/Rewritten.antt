@@ -18,10 +18,9 @@ use Rattle.hw_command.specs.Readings.{KeepsLines, KeepsNone, ReadsCert}
 use Rattle.hw_command.specs.Sending.{SendsTo}
 use Rattle.hw_command.specs.declared.cert.ReadCert.{ReadCert}
 use Rattle.hw_command.specs.declared.outcome.CertOutcome.{CertOutcome}
-use Rattle.hw_command.specs.declared.outcome.CertOutcome.TheVariants.{Shows, Wrong, TooLong}
+use Rattle.hw_command.specs.declared.outcome.CertOutcome.TheVariants.{Shows}
 use Rattle.hw_check_command.specs.Renewing.{HasVerdict, renewed_text}
-use Rattle.hw_check_command.specs.Rewriting.{ReadsOrRewrites, Rewrites, RenewsTo}
-use Rattle.hw_check_command.specs.declared.renewing.Renewal.TheVariants.{Checked, WriteFailed}
+use Rattle.hw_check_command.specs.Rewriting.{ReadsOrRewrites, Rewrites}
 
 -- what was read, without what was kept
 abbrev pub bare : {K : Type 0} → ReadCert K → ReadCert (Unit {0})
@@ -60,17 +59,10 @@ rewrites_whole read v made h shows is sends = rewrites read v made (Ok tt) h sho
 pub rewrites_short : {E : Type 0} {f : Problem} {cert proof : List ℕ} {x y z : DeskState} {e : E} (read : ReadCert (Vec Line Global)) (v : Verdict) (made : List Line) → ReadsCert Two KeepsLines f cert x y (Ok read) → read.outcome ≡ Shows v → made ≡ renewed read.kept.items → SendsTo proof (cert_text Two made) y z (Err e) → Rewrites f cert proof x z (bare read) v (Err tt)
 rewrites_short read v made h shows is sends = rewrites read v made (Err tt) h shows is sends (λ text k. record { only = k.only; made = k.made; named = k.named; answer = k.answer })
 
--- nothing is shown
-abbrev pub ShowsNothing : CertOutcome → Type 0
-ShowsNothing (Shows v) = ⊥
-ShowsNothing (Wrong number word hint) = Unit {0}
-ShowsNothing TooLong = Unit {0}
+-- where something is shown
+pub or_rewrites : {f : Problem} {cert proof : List ℕ} {x y : DeskState} (read : ReadCert (Unit {0})) (v : Verdict) → read.outcome ≡ Shows v → Rewrites f cert proof x y read v (Ok tt) → ReadsOrRewrites f cert proof x y read read.outcome
+or_rewrites {f = f} {cert = cert} {proof = proof} {x = x} {y = y} read v is h = subst (λ (o : CertOutcome). ReadsOrRewrites f cert proof x y read o) (sym is) h
 
--- then nothing is renewed
-pub nothing_renewed : {f : Problem} {cert proof : List ℕ} {x y : DeskState} (read : ReadCert (Unit {0})) → ShowsNothing read.outcome → ReadsCert Two KeepsNone f cert x y (Ok read) → ReadsOrRewrites f cert proof x y read read.outcome
-nothing_renewed {f = f} {cert = cert} {proof = proof} {x = x} {y = y} read nothing h = by read.outcome nothing h
-  where
-    by : (o : CertOutcome) → ShowsNothing o → ReadsCert Two KeepsNone f cert x y (Ok read) → ReadsOrRewrites f cert proof x y read o
-    by (Shows v) nothing h = absurd nothing
-    by (Wrong number word hint) nothing h = h
-    by TooLong nothing h = h
+-- the lines that were kept are valid
+pub kept_valid : {f : Problem} {cert : List ℕ} {x y : DeskState} (read : ReadCert (Vec Line Global)) → ReadsCert Two KeepsLines f cert x y (Ok read) → Valid f read.kept.items
+kept_valid {f = f} read h = subst (λ (all : List Line). Valid f all) (sym h.reads.1.kept) h.reads.1.keeps.valid

@@ -1,5 +1,5 @@
 -- A certificate of the first two versions reads alike, whichever versions may be read.
-use Rattle.std.proofs.Common.{◌≡◌, ◌⊎◌, ◌∙◌, ◌+◌, cond, ℕ, Bool, true, false, List, [], ◌∷◌, ◌++◌, codes, length, fold, Option, Some, None, option_and_then, Result, Ok, Err, inl, inr, refl, sym, ap, subst}
+use Rattle.std.proofs.Common.{◌≡◌, ◌⊎◌, ◌∙◌, ◌+◌, cond, ℕ, Bool, true, false, List, [], ◌∷◌, length, fold, Option, Some, None, option_and_then, Result, Ok, Err, inl, inr, refl, sym, ap}
 use Rattle.std.specs.List.{list_all, join_with_byte}
 use Rattle.std.proofs.lemmas.Bool.{and_parts}
 use Rattle.std.proofs.lemmas.List.Splits.{join_with_byte-slice_split}

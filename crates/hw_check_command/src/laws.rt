@@ -1,6 +1,6 @@
 //! The laws of reports on certificates: functions without a body.
 
-ghost use Rattle.hw_check_command.specs.Laws.{CertificatesDecide, OneReport, RenewedAsChecked, SubjectsDecided, TextsDecide};
+ghost use Rattle.hw_check_command.specs.Laws.{CertificatesDecide, OneReport, RenewedAsChecked, SubjectsDecided, TextsDecide, VerifiedAsChecked};
 
 /// The bytes of a subject's inputs give one value or one refusal, and never both.
 pub fn subjects_decided()
@@ -16,6 +16,12 @@ pub fn certificates_decide()
 /// memory runs out.
 pub fn one_report()
     ensures { OneReport }
+{}
+
+/// A certificate that doesn't name the third version is reported the same whether it is checked or
+/// verified.
+pub fn verified_as_checked()
+    ensures { VerifiedAsChecked }
 {}
 
 /// A certificate is reported the same whether it is checked or renewed.

@@ -59,13 +59,7 @@ pub fn renew<D: Desk>(
 
 /// Begins the certificate under its name and checks it, and then makes Proof under its name and sends
 /// the renewed lines there. Proof isn't made if a line is refused or memory runs out.
-fn renew_to<D: Desk>(
-    alloc: Global,
-    desk: &mut D,
-    flat: &Flat,
-    cert: &str,
-    proof: &str,
-) -> Renewal
+fn renew_to<D: Desk>(alloc: Global, desk: &mut D, flat: &Flat, cert: &str, proof: &str) -> Renewal
     requires unread { ((D.state desk.old).feeds Certificate).begun ≡ false }
     requires unmade { ((D.state desk.old).trays Proof).made ≡ false }
     ensures { RenewsTo flat.now cert.now proof.now (D.state desk.old) (D.state desk.new) result }

@@ -1,4 +1,4 @@
-use Rattle.std.proofs.Common.{◌≡◌, [], ◌∷◌, subst}
+use Rattle.std.proofs.Common.{subst}
 use Rattle.hw_model.specs.Problem.{Problem}
 use Rattle.hw_command.specs.Readings.{KeepsNone, ReadsCert}
 use Rattle.hw_subject.specs.Subjects.{topic_seen}
@@ -8,8 +8,8 @@ use Rattle.hw_check_command.proofs.checking.check_to.Goals as goal
 pub returns-in-Err : goal.returns-in-Err
 returns-in-Err g c = check_stops (topic_seen c.args.subject) c.args.most c.args.cert.now c.in-Err.ensures.stops c.finish.ensures
 
-pub read_cert-requires-clause-unread : goal.read_cert-requires-clause-unread
-read_cert-requires-clause-unread g c = unread (topic_seen c.args.subject) c.requires.fresh c.in-Ok.ensures.given
+pub read_cert-read-requires-clause-unread : goal.read_cert-read-requires-clause-unread
+read_cert-read-requires-clause-unread g c = unread (topic_seen c.args.subject) c.requires.fresh c.in-Ok.ensures.given
 
 pub returns : goal.returns
 returns g c =

@@ -1,4 +1,4 @@
-use Rattle.std.proofs.Common.{◌≡◌, Option, subst}
+use Rattle.std.proofs.Common.{Option, subst}
 use Rattle.hw_model.specs.Problem.{Problem}
 use Rattle.hw_report.specs.Reports.{Report}
 use Rattle.hw_command.specs.Ends.{EndsWith}
@@ -11,11 +11,11 @@ use Rattle.hw_check_command.proofs.renewing.renew.Goals as goal
 pub returns-in-Err : goal.returns-in-Err
 returns-in-Err g c = renew_stops (topic_seen c.args.subject) c.args.cert.now c.args.proof.now c.in-Err.ensures.stops c.finish.ensures
 
-pub renew_to-requires-clause-unread : goal.renew_to-requires-clause-unread
-renew_to-requires-clause-unread g c = unread (topic_seen c.args.subject) c.requires.fresh c.in-Ok.ensures.given
+pub renew_to-renewal-requires-clause-unread : goal.renew_to-renewal-requires-clause-unread
+renew_to-renewal-requires-clause-unread g c = unread (topic_seen c.args.subject) c.requires.fresh c.in-Ok.ensures.given
 
-pub renew_to-requires-clause-unmade : goal.renew_to-requires-clause-unmade
-renew_to-requires-clause-unmade g c = unmade (topic_seen c.args.subject) c.requires.fresh c.in-Ok.ensures.given
+pub renew_to-renewal-requires-clause-unmade : goal.renew_to-renewal-requires-clause-unmade
+renew_to-renewal-requires-clause-unmade g c = unmade (topic_seen c.args.subject) c.requires.fresh c.in-Ok.ensures.given
 
 pub returns : goal.returns
 returns g c =
