@@ -1,8 +1,0 @@
-mod PlanForms
-mod Meant
-mod Repaired
-mod Decided
-mod Rechecked
-mod PortMeant
-mod PortRepaired
-mod PortRechecked

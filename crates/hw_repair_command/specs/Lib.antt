@@ -1,9 +1,0 @@
-pub mod Plans
-pub mod PortPlans
-pub mod PlanInputs
-pub mod Reports
-pub mod Repairs
-pub mod PortRepairs
-pub mod RepairPort
-pub mod CheckRepair
-pub mod CheckRepairPort

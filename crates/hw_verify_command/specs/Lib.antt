@@ -1,4 +1,0 @@
-pub mod Bounded
-pub mod Verifying
-pub mod VerifyFlat
-pub mod VerifyPort
