@@ -1,99 +1,82 @@
 -- A command, with its names and numbers.
-use Rattle.std.specs.Prelude.{ℕ, ◌≤◌, List, Result, Ok, Err, ⊤}
-use Rattle.hw_command.specs.Budgets.{most_budget}
+use Rattle.std.specs.Prelude.{ℕ, ◌≤◌, List, [], ◌∷◌, Option, Some, None, Result, Ok, Err, ⊤}
+use Rattle.hw_desk.specs.declared.desk.Feed.TheVariants as feed
+use Rattle.hw_progress.specs.declared.limits.TheConstants.{MOST_BUDGET}
+use Rattle.hw_subject.specs.Subjects.{Origin, Topic, flat_text, port_of, origin_seen, topic_seen}
+use Rattle.hw_search_command.specs.Orders.{order_in}
+use Rattle.hw_search_command.specs.declared.searcher.Search.{Search}
+use Rattle.hw_search_command.specs.declared.searcher.Search.TheVariants.{Solve, Prove, Crew}
 use Rattle.hw_app.specs.Demo.{CanDraw}
-use Rattle.hw_progress.specs.declared.outcome.Branching.{Branching}
-use Rattle.hw_crew_command.specs.Orders.{order_in}
-use Rattle.hw_app.specs.Forms.{form_of, word_at, number_in}
+use Rattle.hw_app.specs.Forms.{form_of, name_in, number_in, word_in, words_of}
 use Rattle.hw_app.specs.declared.command.Command.{Command as Told}
 use Rattle.hw_app.specs.declared.command.Command.TheVariants as told
 use Rattle.hw_app.specs.declared.form.Form.{Form}
-use Rattle.hw_app.specs.declared.form.Form.TheVariants.{SolveFlat, SolvePort, ProveFlat, ProvePort, CheckFlat, CheckPort, VerifyFlat, VerifyPort, ChartFlat, ChartPort, RenewFlat, RenewPort, CrewFlat, CrewPort, RepairFlat, RepairPort, CheckRepair, CheckRepairPort, ClashFlat, ClashPort, CheckClash, CheckClashPort, ExplainPort, AuditPort, Flatten, Demo}
-use Rattle.hw_app.specs.declared.form.Quantity.TheVariants.{Demonstration, Ships, Slots, Budget}
+use Rattle.hw_app.specs.declared.form.Keyword.TheVariants as key
+use Rattle.hw_app.specs.declared.form.Quantity.TheVariants as counts
+use Rattle.hw_app.specs.declared.form.Value.TheVariants.{Input, Order, Proof}
+use Rattle.hw_app.specs.declared.form.Wanted.{Wanted}
+use Rattle.hw_app.specs.declared.form.Wanted.TheVariants.{Keyword}
 
--- in the order of the words
 pub data Command : Type 0 where
-  -- the flat text, the budget, Proof
-  solve_flat : List ℕ → ℕ → List ℕ → Command
-  -- the instance, the tide table, the budget, Proof
-  solve_port : List ℕ → List ℕ → ℕ → List ℕ → Command
-  -- the flat text, the budget, Proof
-  prove_flat : List ℕ → ℕ → List ℕ → Command
-  -- the instance, the tide table, the budget, Proof
-  prove_port : List ℕ → List ℕ → ℕ → List ℕ → Command
-  -- the flat text, the certificate
-  check_flat : List ℕ → List ℕ → Command
-  -- the instance, the tide table, the certificate
-  check_port : List ℕ → List ℕ → List ℕ → Command
-  -- the flat text, the certificate
-  verify_flat : List ℕ → List ℕ → Command
-  -- the instance, the tide table, the certificate
-  verify_port : List ℕ → List ℕ → List ℕ → Command
-  -- the flat text, the certificate
-  chart_flat : List ℕ → List ℕ → Command
-  -- the instance, the tide table, the certificate
-  chart_port : List ℕ → List ℕ → List ℕ → Command
-  -- the flat text, the certificate, Proof
-  renew_flat : List ℕ → List ℕ → List ℕ → Command
-  -- the instance, the tide table, the certificate, Proof
-  renew_port : List ℕ → List ℕ → List ℕ → List ℕ → Command
-  -- the flat text, the searchers in the order of their turns, the budget, Proof
-  crew_flat : List ℕ → List Branching → ℕ → List ℕ → Command
-  -- the instance, the tide table, the searchers in the order of their turns, the budget, Proof
-  crew_port : List ℕ → List ℕ → List Branching → ℕ → List ℕ → Command
-  -- the flat text, the plan, the budget, Proof
-  repair_flat : List ℕ → List ℕ → ℕ → List ℕ → Command
-  -- the instance, the tide table, the plan, the budget, Proof
-  repair_port : List ℕ → List ℕ → List ℕ → ℕ → List ℕ → Command
-  -- the flat text, the plan, the certificate
-  check_repair : List ℕ → List ℕ → List ℕ → Command
-  -- the instance, the tide table, the plan, the certificate
-  check_repair_port : List ℕ → List ℕ → List ℕ → List ℕ → Command
-  -- the flat text, the budget, Proof
-  clash_flat : List ℕ → ℕ → List ℕ → Command
-  -- the instance, the tide table, the budget, Proof
-  clash_port : List ℕ → List ℕ → ℕ → List ℕ → Command
-  -- the flat text, the plan, the certificate
-  check_clash : List ℕ → List ℕ → List ℕ → Command
-  -- the instance, the tide table, the plan, the certificate
-  check_clash_port : List ℕ → List ℕ → List ℕ → List ℕ → Command
+  -- what is searched and how, the budget, Proof
+  search : Topic → Search → ℕ → List ℕ → Command
+  -- of what a certificate is checked, the certificate
+  check : Topic → List ℕ → Command
+  verify : Topic → List ℕ → Command
+  -- the same, and Proof
+  renew : Topic → List ℕ → List ℕ → Command
+  -- of what a plan is drawn, the certificate
+  chart : Origin → List ℕ → Command
+  -- what is searched, the budget, Proof
+  clash : Origin → ℕ → List ℕ → Command
+  -- of what a clash is checked, the clash, the certificate
+  check_clash : Origin → List ℕ → List ℕ → Command
   -- the instance, the tide table
-  explain_port : List ℕ → List ℕ → Command
+  explain : List ℕ → List ℕ → Command
   -- the instance, the tide table, the plan, the events
-  audit_port : List ℕ → List ℕ → List ℕ → List ℕ → Command
+  audit : List ℕ → List ℕ → List ℕ → List ℕ → Command
   -- the instance, the tide table
   flatten : List ℕ → List ℕ → Command
   -- the number, the ships and the slots of a demonstration, the budget, Proof
   demo : ℕ → ℕ → ℕ → ℕ → List ℕ → Command
 
+-- ---- by the words
+
+abbrev pub origin_by : Option (List ℕ) → List ℕ → List ℕ → Origin
+origin_by (Some name) instance tides = flat_text name
+origin_by None instance tides = port_of instance tides
+
+-- a flat text, where the form asks for one, or a port
+abbrev pub origin_in : Form → List (List ℕ) → Origin
+origin_in form words = origin_by (word_in form words (Input feed.Flat)) (name_in form words (Input feed.Instance)) (name_in form words (Input feed.Tides))
+
+-- the same, or the repair of its plan, where the form asks for one
+abbrev pub topic_in : Form → List (List ℕ) → Topic
+topic_in form words = record { origin = origin_in form words; plan = word_in form words (Input feed.Plan) }
+
+abbrev pub search_in : Form → List (List ℕ) → Search → Command
+search_in form words how = search (topic_in form words) how (number_in form words counts.Budget) (name_in form words Proof)
+
+-- the command of a form, by its keywords
+abbrev pub command_by : List Wanted → Form → List (List ℕ) → Command
+command_by (Keyword key.Solve ∷ more) form words = search_in form words Solve
+command_by (Keyword key.Repair ∷ more) form words = search_in form words Solve
+command_by (Keyword key.Prove ∷ more) form words = search_in form words Prove
+command_by (Keyword key.Crew ∷ more) form words = search_in form words (Crew (order_in (name_in form words Order)))
+command_by (Keyword key.Check ∷ Keyword key.Clash ∷ more) form words = check_clash (origin_in form words) (name_in form words (Input feed.Plan)) (name_in form words (Input feed.Certificate))
+command_by (Keyword key.Check ∷ more) form words = check (topic_in form words) (name_in form words (Input feed.Certificate))
+command_by (Keyword key.Verify ∷ more) form words = verify (topic_in form words) (name_in form words (Input feed.Certificate))
+command_by (Keyword key.Renew ∷ more) form words = renew (topic_in form words) (name_in form words (Input feed.Certificate)) (name_in form words Proof)
+command_by (Keyword key.Chart ∷ more) form words = chart (origin_in form words) (name_in form words (Input feed.Certificate))
+command_by (Keyword key.Clash ∷ more) form words = clash (origin_in form words) (number_in form words counts.Budget) (name_in form words Proof)
+command_by (Keyword key.Explain ∷ more) form words = explain (name_in form words (Input feed.Instance)) (name_in form words (Input feed.Tides))
+command_by (Keyword key.Audit ∷ more) form words = audit (name_in form words (Input feed.Instance)) (name_in form words (Input feed.Tides)) (name_in form words (Input feed.Plan)) (name_in form words (Input feed.Events))
+command_by (Keyword key.Flatten ∷ more) form words = flatten (name_in form words (Input feed.Instance)) (name_in form words (Input feed.Tides))
+command_by wanted form words = demo (number_in form words counts.Demonstration) (number_in form words counts.Ships) (number_in form words counts.Slots) (number_in form words counts.Budget) (name_in form words Proof)
+
 -- the command of a form that the words are of
 abbrev pub command_in : Form → List (List ℕ) → Command
-command_in SolveFlat words = solve_flat (word_at words 2) (number_in Budget (word_at words 3)) (word_at words 4)
-command_in SolvePort words = solve_port (word_at words 2) (word_at words 3) (number_in Budget (word_at words 4)) (word_at words 5)
-command_in ProveFlat words = prove_flat (word_at words 2) (number_in Budget (word_at words 3)) (word_at words 4)
-command_in ProvePort words = prove_port (word_at words 2) (word_at words 3) (number_in Budget (word_at words 4)) (word_at words 5)
-command_in CheckFlat words = check_flat (word_at words 2) (word_at words 3)
-command_in CheckPort words = check_port (word_at words 2) (word_at words 3) (word_at words 4)
-command_in VerifyFlat words = verify_flat (word_at words 2) (word_at words 3)
-command_in VerifyPort words = verify_port (word_at words 2) (word_at words 3) (word_at words 4)
-command_in ChartFlat words = chart_flat (word_at words 2) (word_at words 3)
-command_in ChartPort words = chart_port (word_at words 2) (word_at words 3) (word_at words 4)
-command_in RenewFlat words = renew_flat (word_at words 2) (word_at words 3) (word_at words 4)
-command_in RenewPort words = renew_port (word_at words 2) (word_at words 3) (word_at words 4) (word_at words 5)
-command_in CrewFlat words = crew_flat (word_at words 2) (order_in (word_at words 3)) (number_in Budget (word_at words 4)) (word_at words 5)
-command_in CrewPort words = crew_port (word_at words 2) (word_at words 3) (order_in (word_at words 4)) (number_in Budget (word_at words 5)) (word_at words 6)
-command_in RepairFlat words = repair_flat (word_at words 2) (word_at words 3) (number_in Budget (word_at words 4)) (word_at words 5)
-command_in RepairPort words = repair_port (word_at words 2) (word_at words 3) (word_at words 4) (number_in Budget (word_at words 5)) (word_at words 6)
-command_in CheckRepair words = check_repair (word_at words 2) (word_at words 3) (word_at words 4)
-command_in CheckRepairPort words = check_repair_port (word_at words 3) (word_at words 4) (word_at words 5) (word_at words 6)
-command_in ClashFlat words = clash_flat (word_at words 2) (number_in Budget (word_at words 3)) (word_at words 4)
-command_in ClashPort words = clash_port (word_at words 2) (word_at words 3) (number_in Budget (word_at words 4)) (word_at words 5)
-command_in CheckClash words = check_clash (word_at words 2) (word_at words 3) (word_at words 4)
-command_in CheckClashPort words = check_clash_port (word_at words 3) (word_at words 4) (word_at words 5) (word_at words 6)
-command_in ExplainPort words = explain_port (word_at words 2) (word_at words 3)
-command_in AuditPort words = audit_port (word_at words 2) (word_at words 3) (word_at words 4) (word_at words 5)
-command_in Flatten words = flatten (word_at words 1) (word_at words 2)
-command_in Demo words = demo (number_in Demonstration (word_at words 1)) (number_in Ships (word_at words 2)) (number_in Slots (word_at words 3)) (number_in Budget (word_at words 4)) (word_at words 5)
+command_in form words = command_by (words_of form) form words
 
 abbrev pub command_or_place : Result Form ℕ → List (List ℕ) → Result Command ℕ
 command_or_place (Ok form) words = Ok (command_in form words)
@@ -105,63 +88,26 @@ command_of words = command_or_place (form_of words) words
 
 -- the numbers of a command are within their limits
 abbrev pub IsBudget : ℕ → Type 0
-IsBudget budget = (1 ≤ budget) × (budget ≤ most_budget)
+IsBudget budget = (1 ≤ budget) × (budget ≤ MOST_BUDGET)
 
 abbrev pub KeepsLimits : Command → Type 0
-KeepsLimits (solve_flat name budget proof) = IsBudget budget
-KeepsLimits (solve_port instance tides budget proof) = IsBudget budget
-KeepsLimits (prove_flat name budget proof) = IsBudget budget
-KeepsLimits (prove_port instance tides budget proof) = IsBudget budget
-KeepsLimits (check_flat name cert) = ⊤
-KeepsLimits (check_port instance tides cert) = ⊤
-KeepsLimits (verify_flat name cert) = ⊤
-KeepsLimits (verify_port instance tides cert) = ⊤
-KeepsLimits (chart_flat name cert) = ⊤
-KeepsLimits (chart_port instance tides cert) = ⊤
-KeepsLimits (renew_flat name cert proof) = ⊤
-KeepsLimits (renew_port instance tides cert proof) = ⊤
-KeepsLimits (crew_flat name order budget proof) = IsBudget budget
-KeepsLimits (crew_port instance tides order budget proof) = IsBudget budget
-KeepsLimits (repair_flat name plan budget proof) = IsBudget budget
-KeepsLimits (repair_port instance tides plan budget proof) = IsBudget budget
-KeepsLimits (check_repair name plan cert) = ⊤
-KeepsLimits (check_repair_port instance tides plan cert) = ⊤
-KeepsLimits (clash_flat name budget proof) = IsBudget budget
-KeepsLimits (clash_port instance tides budget proof) = IsBudget budget
-KeepsLimits (check_clash name plan cert) = ⊤
-KeepsLimits (check_clash_port instance tides plan cert) = ⊤
-KeepsLimits (explain_port instance tides) = ⊤
-KeepsLimits (audit_port instance tides plan events) = ⊤
-KeepsLimits (flatten instance tides) = ⊤
+KeepsLimits (search topic how budget proof) = IsBudget budget
+KeepsLimits (clash origin budget proof) = IsBudget budget
 KeepsLimits (demo number ships slots budget proof) = CanDraw ships slots × IsBudget budget
+KeepsLimits command = ⊤
 
 -- ---- without where its names lie
 
 abbrev pub command_seen : Told → Command
-command_seen (told.SolveFlat name budget proof) = solve_flat name.now budget proof.now
-command_seen (told.SolvePort port budget proof) = solve_port port.instance.now port.tides.now budget proof.now
-command_seen (told.ProveFlat name budget proof) = prove_flat name.now budget proof.now
-command_seen (told.ProvePort port budget proof) = prove_port port.instance.now port.tides.now budget proof.now
-command_seen (told.CheckFlat name cert) = check_flat name.now cert.now
-command_seen (told.CheckPort port cert) = check_port port.instance.now port.tides.now cert.now
-command_seen (told.VerifyFlat name cert) = verify_flat name.now cert.now
-command_seen (told.VerifyPort port cert) = verify_port port.instance.now port.tides.now cert.now
-command_seen (told.ChartFlat name cert) = chart_flat name.now cert.now
-command_seen (told.ChartPort port cert) = chart_port port.instance.now port.tides.now cert.now
-command_seen (told.RenewFlat name cert proof) = renew_flat name.now cert.now proof.now
-command_seen (told.RenewPort port cert proof) = renew_port port.instance.now port.tides.now cert.now proof.now
-command_seen (told.CrewFlat name order budget proof) = crew_flat name.now order budget proof.now
-command_seen (told.CrewPort port order budget proof) = crew_port port.instance.now port.tides.now order budget proof.now
-command_seen (told.RepairFlat name plan budget proof) = repair_flat name.now plan.now budget proof.now
-command_seen (told.RepairPort port plan budget proof) = repair_port port.instance.now port.tides.now plan.now budget proof.now
-command_seen (told.CheckRepair name plan cert) = check_repair name.now plan.now cert.now
-command_seen (told.CheckRepairPort port plan cert) = check_repair_port port.instance.now port.tides.now plan.now cert.now
-command_seen (told.ClashFlat name budget proof) = clash_flat name.now budget proof.now
-command_seen (told.ClashPort port budget proof) = clash_port port.instance.now port.tides.now budget proof.now
-command_seen (told.CheckClash name plan cert) = check_clash name.now plan.now cert.now
-command_seen (told.CheckClashPort port plan cert) = check_clash_port port.instance.now port.tides.now plan.now cert.now
-command_seen (told.ExplainPort port) = explain_port port.instance.now port.tides.now
-command_seen (told.AuditPort port plan events) = audit_port port.instance.now port.tides.now plan.now events.now
+command_seen (told.Search subject how budget proof) = search (topic_seen subject) how budget proof.now
+command_seen (told.Check subject cert) = check (topic_seen subject) cert.now
+command_seen (told.Verify subject cert) = verify (topic_seen subject) cert.now
+command_seen (told.Renew subject cert proof) = renew (topic_seen subject) cert.now proof.now
+command_seen (told.Chart source cert) = chart (origin_seen source) cert.now
+command_seen (told.Clash source budget proof) = clash (origin_seen source) budget proof.now
+command_seen (told.CheckClash source plan cert) = check_clash (origin_seen source) plan.now cert.now
+command_seen (told.Explain port) = explain port.instance.now port.tides.now
+command_seen (told.Audit port plan events) = audit port.instance.now port.tides.now plan.now events.now
 command_seen (told.Flatten port) = flatten port.instance.now port.tides.now
 command_seen (told.Demo draw budget proof) = demo draw.number draw.ships draw.slots budget proof.now
 

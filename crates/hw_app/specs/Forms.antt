@@ -1,19 +1,21 @@
 -- The forms of a command, as data. A form is what each of its words has to be.
-use Rattle.std.specs.Prelude.{ℕ, ◌+◌, ◌==◌, ◌&&◌, List, [], ◌∷◌, Bool, length, max, nat_lt, Result, Ok, Err, Option, Some, None, is_some, unwrap_or, codes, bytes_eq, if◌then◌else◌}
-use Rattle.std.specs.List.{slice_index_or}
+use Rattle.std.specs.Prelude.{ℕ, ◌+◌, ◌==◌, ◌&&◌, List, [], ◌∷◌, Bool, true, false, length, max, nat_lt, Result, Ok, Err, Option, Some, None, is_some, unwrap_or, codes, bytes_eq, if◌then◌else◌}
+use Rattle.hw_desk.specs.State.{same_feed}
 use Rattle.hw_desk.specs.declared.desk.Feed.TheVariants as feed
 use Rattle.hw_text.specs.Numbers.{number_from_to}
-use Rattle.hw_command.specs.Budgets.{most_budget}
-use Rattle.hw_crew_command.specs.Orders.{order_read}
+use Rattle.hw_progress.specs.declared.limits.TheConstants.{MOST_BUDGET}
+use Rattle.hw_search_command.specs.Orders.{order_read}
 use Rattle.hw_app.specs.Demo.{most_ships, most_slots}
 use Rattle.hw_app.specs.declared.form.Form.{Form}
-use Rattle.hw_app.specs.declared.form.Form.TheVariants.{SolveFlat, SolvePort, ProveFlat, ProvePort, CheckFlat, CheckPort, VerifyFlat, VerifyPort, ChartFlat, ChartPort, RenewFlat, RenewPort, CrewFlat, CrewPort, RepairFlat, RepairPort, CheckRepair, CheckRepairPort, ClashFlat, ClashPort, CheckClash, CheckClashPort, ExplainPort, AuditPort, Flatten, Demo}
+use Rattle.hw_app.specs.declared.form.Form.TheVariants.{SolveFlat, SolvePort, ProveFlat, ProvePort, CheckFlat, CheckPort, VerifyFlat, VerifyPort, ChartFlat, ChartPort, RenewFlat, RenewPort, CrewFlat, CrewPort, RepairFlat, RepairPort, ProveRepairFlat, ProveRepairPort, CheckRepair, CheckRepairPort, VerifyRepairFlat, VerifyRepairPort, ClashFlat, ClashPort, CheckClash, CheckClashPort, ExplainPort, AuditPort, Flatten, Demo}
 use Rattle.hw_app.specs.declared.form.Keyword.{Keyword as KeywordOf}
 use Rattle.hw_app.specs.declared.form.Keyword.TheVariants as key
 use Rattle.hw_app.specs.declared.form.Quantity.{Quantity}
 use Rattle.hw_app.specs.declared.form.Quantity.TheVariants as counts
+use Rattle.hw_app.specs.declared.form.Value.{Value as ValueOf}
+use Rattle.hw_app.specs.declared.form.Value.TheVariants.{Input, Proof, Order, Number}
 use Rattle.hw_app.specs.declared.form.Wanted.{Wanted}
-use Rattle.hw_app.specs.declared.form.Wanted.TheVariants.{Keyword, Input, Proof, Order, Number}
+use Rattle.hw_app.specs.declared.form.Wanted.TheVariants.{Keyword, Value}
 
 abbrev pub keyword_text : KeywordOf → List ℕ
 keyword_text key.Solve = codes "solve"
@@ -34,7 +36,7 @@ keyword_text key.Demo = codes "demo"
 
 -- the forms that there are
 abbrev pub forms : List Form
-forms = SolveFlat ∷ SolvePort ∷ ProveFlat ∷ ProvePort ∷ CheckFlat ∷ CheckPort ∷ VerifyFlat ∷ VerifyPort ∷ ChartFlat ∷ ChartPort ∷ RenewFlat ∷ RenewPort ∷ CrewFlat ∷ CrewPort ∷ RepairFlat ∷ RepairPort ∷ CheckRepair ∷ CheckRepairPort ∷ ClashFlat ∷ ClashPort ∷ CheckClash ∷ CheckClashPort ∷ ExplainPort ∷ AuditPort ∷ Flatten ∷ Demo ∷ []
+forms = SolveFlat ∷ SolvePort ∷ ProveFlat ∷ ProvePort ∷ CheckFlat ∷ CheckPort ∷ VerifyFlat ∷ VerifyPort ∷ ChartFlat ∷ ChartPort ∷ RenewFlat ∷ RenewPort ∷ CrewFlat ∷ CrewPort ∷ RepairFlat ∷ RepairPort ∷ ProveRepairFlat ∷ ProveRepairPort ∷ CheckRepair ∷ CheckRepairPort ∷ VerifyRepairFlat ∷ VerifyRepairPort ∷ ClashFlat ∷ ClashPort ∷ CheckClash ∷ CheckClashPort ∷ ExplainPort ∷ AuditPort ∷ Flatten ∷ Demo ∷ []
 
 -- the limits of a number
 abbrev pub least_of : Quantity → ℕ
@@ -47,44 +49,52 @@ abbrev pub most_of : Quantity → ℕ
 most_of counts.Demonstration = 4_294_967_295
 most_of counts.Ships = most_ships
 most_of counts.Slots = most_slots
-most_of counts.Budget = most_budget
+most_of counts.Budget = MOST_BUDGET
 
 -- what the words of a form have to be
 abbrev pub words_of : Form → List Wanted
-words_of SolveFlat = Keyword key.Solve ∷ Keyword key.Flat ∷ Input feed.Flat ∷ Number counts.Budget ∷ Proof ∷ []
-words_of SolvePort = Keyword key.Solve ∷ Keyword key.Port ∷ Input feed.Instance ∷ Input feed.Tides ∷ Number counts.Budget ∷ Proof ∷ []
-words_of ProveFlat = Keyword key.Prove ∷ Keyword key.Flat ∷ Input feed.Flat ∷ Number counts.Budget ∷ Proof ∷ []
-words_of ProvePort = Keyword key.Prove ∷ Keyword key.Port ∷ Input feed.Instance ∷ Input feed.Tides ∷ Number counts.Budget ∷ Proof ∷ []
-words_of CheckFlat = Keyword key.Check ∷ Keyword key.Flat ∷ Input feed.Flat ∷ Input feed.Certificate ∷ []
-words_of CheckPort = Keyword key.Check ∷ Keyword key.Port ∷ Input feed.Instance ∷ Input feed.Tides ∷ Input feed.Certificate ∷ []
-words_of VerifyFlat = Keyword key.Verify ∷ Keyword key.Flat ∷ Input feed.Flat ∷ Input feed.Certificate ∷ []
-words_of VerifyPort = Keyword key.Verify ∷ Keyword key.Port ∷ Input feed.Instance ∷ Input feed.Tides ∷ Input feed.Certificate ∷ []
-words_of ChartFlat = Keyword key.Chart ∷ Keyword key.Flat ∷ Input feed.Flat ∷ Input feed.Certificate ∷ []
-words_of ChartPort = Keyword key.Chart ∷ Keyword key.Port ∷ Input feed.Instance ∷ Input feed.Tides ∷ Input feed.Certificate ∷ []
-words_of RenewFlat = Keyword key.Renew ∷ Keyword key.Flat ∷ Input feed.Flat ∷ Input feed.Certificate ∷ Proof ∷ []
-words_of RenewPort = Keyword key.Renew ∷ Keyword key.Port ∷ Input feed.Instance ∷ Input feed.Tides ∷ Input feed.Certificate ∷ Proof ∷ []
-words_of CrewFlat = Keyword key.Crew ∷ Keyword key.Flat ∷ Input feed.Flat ∷ Order ∷ Number counts.Budget ∷ Proof ∷ []
-words_of CrewPort = Keyword key.Crew ∷ Keyword key.Port ∷ Input feed.Instance ∷ Input feed.Tides ∷ Order ∷ Number counts.Budget ∷ Proof ∷ []
-words_of RepairFlat = Keyword key.Repair ∷ Keyword key.Flat ∷ Input feed.Flat ∷ Input feed.Plan ∷ Number counts.Budget ∷ Proof ∷ []
-words_of RepairPort = Keyword key.Repair ∷ Keyword key.Port ∷ Input feed.Instance ∷ Input feed.Tides ∷ Input feed.Plan ∷ Number counts.Budget ∷ Proof ∷ []
-words_of CheckRepair = Keyword key.Check ∷ Keyword key.Repair ∷ Input feed.Flat ∷ Input feed.Plan ∷ Input feed.Certificate ∷ []
-words_of CheckRepairPort = Keyword key.Check ∷ Keyword key.Repair ∷ Keyword key.Port ∷ Input feed.Instance ∷ Input feed.Tides ∷ Input feed.Plan ∷ Input feed.Certificate ∷ []
-words_of ClashFlat = Keyword key.Clash ∷ Keyword key.Flat ∷ Input feed.Flat ∷ Number counts.Budget ∷ Proof ∷ []
-words_of ClashPort = Keyword key.Clash ∷ Keyword key.Port ∷ Input feed.Instance ∷ Input feed.Tides ∷ Number counts.Budget ∷ Proof ∷ []
-words_of CheckClash = Keyword key.Check ∷ Keyword key.Clash ∷ Input feed.Flat ∷ Input feed.Plan ∷ Input feed.Certificate ∷ []
-words_of CheckClashPort = Keyword key.Check ∷ Keyword key.Clash ∷ Keyword key.Port ∷ Input feed.Instance ∷ Input feed.Tides ∷ Input feed.Plan ∷ Input feed.Certificate ∷ []
-words_of ExplainPort = Keyword key.Explain ∷ Keyword key.Port ∷ Input feed.Instance ∷ Input feed.Tides ∷ []
-words_of AuditPort = Keyword key.Audit ∷ Keyword key.Port ∷ Input feed.Instance ∷ Input feed.Tides ∷ Input feed.Plan ∷ Input feed.Events ∷ []
-words_of Flatten = Keyword key.Flatten ∷ Input feed.Instance ∷ Input feed.Tides ∷ []
-words_of Demo = Keyword key.Demo ∷ Number counts.Demonstration ∷ Number counts.Ships ∷ Number counts.Slots ∷ Number counts.Budget ∷ Proof ∷ []
+words_of SolveFlat = Keyword key.Solve ∷ Keyword key.Flat ∷ Value (Input feed.Flat) ∷ Value (Number counts.Budget) ∷ Value Proof ∷ []
+words_of SolvePort = Keyword key.Solve ∷ Keyword key.Port ∷ Value (Input feed.Instance) ∷ Value (Input feed.Tides) ∷ Value (Number counts.Budget) ∷ Value Proof ∷ []
+words_of ProveFlat = Keyword key.Prove ∷ Keyword key.Flat ∷ Value (Input feed.Flat) ∷ Value (Number counts.Budget) ∷ Value Proof ∷ []
+words_of ProvePort = Keyword key.Prove ∷ Keyword key.Port ∷ Value (Input feed.Instance) ∷ Value (Input feed.Tides) ∷ Value (Number counts.Budget) ∷ Value Proof ∷ []
+words_of CheckFlat = Keyword key.Check ∷ Keyword key.Flat ∷ Value (Input feed.Flat) ∷ Value (Input feed.Certificate) ∷ []
+words_of CheckPort = Keyword key.Check ∷ Keyword key.Port ∷ Value (Input feed.Instance) ∷ Value (Input feed.Tides) ∷ Value (Input feed.Certificate) ∷ []
+words_of VerifyFlat = Keyword key.Verify ∷ Keyword key.Flat ∷ Value (Input feed.Flat) ∷ Value (Input feed.Certificate) ∷ []
+words_of VerifyPort = Keyword key.Verify ∷ Keyword key.Port ∷ Value (Input feed.Instance) ∷ Value (Input feed.Tides) ∷ Value (Input feed.Certificate) ∷ []
+words_of ChartFlat = Keyword key.Chart ∷ Keyword key.Flat ∷ Value (Input feed.Flat) ∷ Value (Input feed.Certificate) ∷ []
+words_of ChartPort = Keyword key.Chart ∷ Keyword key.Port ∷ Value (Input feed.Instance) ∷ Value (Input feed.Tides) ∷ Value (Input feed.Certificate) ∷ []
+words_of RenewFlat = Keyword key.Renew ∷ Keyword key.Flat ∷ Value (Input feed.Flat) ∷ Value (Input feed.Certificate) ∷ Value Proof ∷ []
+words_of RenewPort = Keyword key.Renew ∷ Keyword key.Port ∷ Value (Input feed.Instance) ∷ Value (Input feed.Tides) ∷ Value (Input feed.Certificate) ∷ Value Proof ∷ []
+words_of CrewFlat = Keyword key.Crew ∷ Keyword key.Flat ∷ Value (Input feed.Flat) ∷ Value Order ∷ Value (Number counts.Budget) ∷ Value Proof ∷ []
+words_of CrewPort = Keyword key.Crew ∷ Keyword key.Port ∷ Value (Input feed.Instance) ∷ Value (Input feed.Tides) ∷ Value Order ∷ Value (Number counts.Budget) ∷ Value Proof ∷ []
+words_of RepairFlat = Keyword key.Repair ∷ Keyword key.Flat ∷ Value (Input feed.Flat) ∷ Value (Input feed.Plan) ∷ Value (Number counts.Budget) ∷ Value Proof ∷ []
+words_of RepairPort = Keyword key.Repair ∷ Keyword key.Port ∷ Value (Input feed.Instance) ∷ Value (Input feed.Tides) ∷ Value (Input feed.Plan) ∷ Value (Number counts.Budget) ∷ Value Proof ∷ []
+words_of ProveRepairFlat = Keyword key.Prove ∷ Keyword key.Repair ∷ Keyword key.Flat ∷ Value (Input feed.Flat) ∷ Value (Input feed.Plan) ∷ Value (Number counts.Budget) ∷ Value Proof ∷ []
+words_of ProveRepairPort = Keyword key.Prove ∷ Keyword key.Repair ∷ Keyword key.Port ∷ Value (Input feed.Instance) ∷ Value (Input feed.Tides) ∷ Value (Input feed.Plan) ∷ Value (Number counts.Budget) ∷ Value Proof ∷ []
+words_of CheckRepair = Keyword key.Check ∷ Keyword key.Repair ∷ Value (Input feed.Flat) ∷ Value (Input feed.Plan) ∷ Value (Input feed.Certificate) ∷ []
+words_of CheckRepairPort = Keyword key.Check ∷ Keyword key.Repair ∷ Keyword key.Port ∷ Value (Input feed.Instance) ∷ Value (Input feed.Tides) ∷ Value (Input feed.Plan) ∷ Value (Input feed.Certificate) ∷ []
+words_of VerifyRepairFlat = Keyword key.Verify ∷ Keyword key.Repair ∷ Keyword key.Flat ∷ Value (Input feed.Flat) ∷ Value (Input feed.Plan) ∷ Value (Input feed.Certificate) ∷ []
+words_of VerifyRepairPort = Keyword key.Verify ∷ Keyword key.Repair ∷ Keyword key.Port ∷ Value (Input feed.Instance) ∷ Value (Input feed.Tides) ∷ Value (Input feed.Plan) ∷ Value (Input feed.Certificate) ∷ []
+words_of ClashFlat = Keyword key.Clash ∷ Keyword key.Flat ∷ Value (Input feed.Flat) ∷ Value (Number counts.Budget) ∷ Value Proof ∷ []
+words_of ClashPort = Keyword key.Clash ∷ Keyword key.Port ∷ Value (Input feed.Instance) ∷ Value (Input feed.Tides) ∷ Value (Number counts.Budget) ∷ Value Proof ∷ []
+words_of CheckClash = Keyword key.Check ∷ Keyword key.Clash ∷ Value (Input feed.Flat) ∷ Value (Input feed.Plan) ∷ Value (Input feed.Certificate) ∷ []
+words_of CheckClashPort = Keyword key.Check ∷ Keyword key.Clash ∷ Keyword key.Port ∷ Value (Input feed.Instance) ∷ Value (Input feed.Tides) ∷ Value (Input feed.Plan) ∷ Value (Input feed.Certificate) ∷ []
+words_of ExplainPort = Keyword key.Explain ∷ Keyword key.Port ∷ Value (Input feed.Instance) ∷ Value (Input feed.Tides) ∷ []
+words_of AuditPort = Keyword key.Audit ∷ Keyword key.Port ∷ Value (Input feed.Instance) ∷ Value (Input feed.Tides) ∷ Value (Input feed.Plan) ∷ Value (Input feed.Events) ∷ []
+words_of Flatten = Keyword key.Flatten ∷ Value (Input feed.Instance) ∷ Value (Input feed.Tides) ∷ []
+words_of Demo = Keyword key.Demo ∷ Value (Number counts.Demonstration) ∷ Value (Number counts.Ships) ∷ Value (Number counts.Slots) ∷ Value (Number counts.Budget) ∷ Value Proof ∷ []
 
--- a keyword is itself, a name any word that isn't empty, an order 1 to 64 letters of searchers, and a number one in plain decimal within its limits
+-- a name is any word that isn't empty, an order 1 to 64 letters of searchers, and a number one in plain decimal within its limits
+abbrev pub is_value : ValueOf → List ℕ → Bool
+is_value (Input feed) word = nat_lt 0 (length word)
+is_value Proof word = nat_lt 0 (length word)
+is_value Order word = is_some (order_read word)
+is_value (Number quantity) word = is_some (number_from_to (least_of quantity) (most_of quantity) word)
+
+-- a keyword is itself
 abbrev pub takes : Wanted → List ℕ → Bool
 takes (Keyword keyword) word = bytes_eq word (keyword_text keyword)
-takes (Input feed) word = nat_lt 0 (length word)
-takes Proof word = nat_lt 0 (length word)
-takes Order word = is_some (order_read word)
-takes (Number quantity) word = is_some (number_from_to (least_of quantity) (most_of quantity) word)
+takes (Value value) word = is_value value word
 
 -- how many of the words, from the first on, are what is wanted
 abbrev pub agreed : List Wanted → List (List ℕ) → ℕ
@@ -114,10 +124,37 @@ or_place place (Some form) = Ok form
 abbrev pub form_of : List (List ℕ) → Result Form ℕ
 form_of words = or_place (furthest forms words + 1) (first_fitting forms words)
 
--- the word at a place, counted from 0
-abbrev pub word_at : List (List ℕ) → ℕ → List ℕ
-word_at words place = slice_index_or words place []
+-- ---- the values of a form
 
--- the number that a word of a form is
-abbrev pub number_in : Quantity → List ℕ → ℕ
-number_in quantity word = unwrap_or (number_from_to (least_of quantity) (most_of quantity) word) (least_of quantity)
+abbrev pub same_quantity : Quantity → Quantity → Bool
+same_quantity counts.Demonstration counts.Demonstration = true
+same_quantity counts.Ships counts.Ships = true
+same_quantity counts.Slots counts.Slots = true
+same_quantity counts.Budget counts.Budget = true
+same_quantity q r = false
+
+abbrev pub same_value : ValueOf → ValueOf → Bool
+same_value (Input f) (Input g) = same_feed f g
+same_value Proof Proof = true
+same_value Order Order = true
+same_value (Number q) (Number r) = same_quantity q r
+same_value v w = false
+
+-- the word that stands where this value is wanted, or none where it isn't
+abbrev pub word_where : ValueOf → List Wanted → List (List ℕ) → Option (List ℕ)
+word_where value [] words = None
+word_where value (wanted ∷ more) [] = None
+word_where value (Keyword keyword ∷ more) (word ∷ words) = word_where value more words
+word_where value (Value other ∷ more) (word ∷ words) = if same_value other value then Some word else word_where value more words
+
+-- a form's word for a value, or none where it asks for no such value
+abbrev pub word_in : Form → List (List ℕ) → ValueOf → Option (List ℕ)
+word_in form words value = word_where value (words_of form) words
+
+-- the name that it is, which is empty where the form asks for none
+abbrev pub name_in : Form → List (List ℕ) → ValueOf → List ℕ
+name_in form words value = unwrap_or (word_in form words value) []
+
+-- the number that it is, or the least of its kind
+abbrev pub number_in : Form → List (List ℕ) → Quantity → ℕ
+number_in form words quantity = unwrap_or (number_from_to (least_of quantity) (most_of quantity) (name_in form words (Number quantity))) (least_of quantity)

@@ -1,5 +1,5 @@
--- The laws of runs that find, check and explain clashes.
-use Rattle.std.specs.Prelude.{◌≡◌, ◌≤◌, ◌⊎◌, List, ℕ, Some, length}
+-- The law of a clash that was found.
+use Rattle.std.specs.Prelude.{◌≡◌, ◌≤◌, ◌⊎◌, List, ℕ, length}
 use Rattle.hw_model.specs.Limits.{IsFlat}
 use Rattle.hw_model.specs.Problem.{Problem, shape_of}
 use Rattle.hw_lines.specs.declared.line.Line.{Line}
@@ -10,16 +10,8 @@ use Rattle.hw_clash.specs.Parts.{part}
 use Rattle.hw_report.specs.Reports.{clashed, clash_holds}
 use Rattle.hw_report.specs.Texts.{report_text}
 use Rattle.hw_command.specs.Values.{most_bytes, IsTextOf}
-use Rattle.hw_clash_command.specs.CheckClash.{texts_report}
-use Rattle.hw_clash_command.specs.CheckClashPort.{ChecksPortClashTexts}
-use Rattle.hw_clash_command.specs.ExplainPort.{ExplainsTexts}
 use Rattle.hw_clash_command.specs.Found.{IsClashTold}
-use Rattle.hw_app.specs.Laws.{OneReport}
-
--- the files' bytes decide what is reported of a port's clash and its certificate, and the words for its restrictions, unless a call fails or memory runs out
-pub record OneClashReport : Type 0 where
-  pub check : (instance table plan cert : List ℕ) → OneReport (λ r. ChecksPortClashTexts (Some instance) (Some table) (Some plan) (Some cert) (Some r))
-  pub explain : (instance table : List ℕ) → OneReport (λ r. ExplainsTexts (Some instance) (Some table) (Some r))
+use Rattle.hw_clash_command.specs.Texts.{texts_report}
 
 -- a clash that was found of the problem of a text, as it is printed, and the text of its certificate: the clash holds, unless the certificate passes a limit
 abbrev pub OwnClash : Type 0

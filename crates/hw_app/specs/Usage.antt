@@ -6,8 +6,10 @@ use Rattle.hw_app.specs.Forms.{keyword_text, words_of}
 use Rattle.hw_app.specs.declared.form.Form.{Form}
 use Rattle.hw_app.specs.declared.form.Quantity.{Quantity}
 use Rattle.hw_app.specs.declared.form.Quantity.TheVariants as counts
+use Rattle.hw_app.specs.declared.form.Value.{Value as ValueOf}
+use Rattle.hw_app.specs.declared.form.Value.TheVariants.{Input, Proof, Order, Number}
 use Rattle.hw_app.specs.declared.form.Wanted.{Wanted}
-use Rattle.hw_app.specs.declared.form.Wanted.TheVariants.{Keyword, Input, Proof, Order, Number}
+use Rattle.hw_app.specs.declared.form.Wanted.TheVariants.{Keyword, Value}
 
 abbrev pub input_text : Feed → List ℕ
 input_text feeds.Flat = codes "NAME"
@@ -23,13 +25,16 @@ quantity_text counts.Ships = codes "SHIPS"
 quantity_text counts.Slots = codes "SLOTS"
 quantity_text counts.Budget = codes "BUDGET"
 
--- a keyword itself, and a name in capitals for each other word
+abbrev pub value_text : ValueOf → List ℕ
+value_text (Input feed) = input_text feed
+value_text Proof = codes "PROOF"
+value_text Order = codes "ORDER"
+value_text (Number quantity) = quantity_text quantity
+
+-- a keyword itself, and a name in capitals for each value
 abbrev pub wanted_text : Wanted → List ℕ
 wanted_text (Keyword keyword) = keyword_text keyword
-wanted_text (Input feed) = input_text feed
-wanted_text Proof = codes "PROOF"
-wanted_text Order = codes "ORDER"
-wanted_text (Number quantity) = quantity_text quantity
+wanted_text (Value value) = value_text value
 
 -- with a space between two
 abbrev pub words_text : List Wanted → List ℕ

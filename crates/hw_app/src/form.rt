@@ -3,12 +3,12 @@
 ghost use Rattle.std.specs.Prelude.{◌≡◌};
 ghost use Rattle.hw_app.specs.Forms.{keyword_text, least_of, most_of, words_of};
 
-use hw_command::MOST_BUDGET;
 use hw_desk::Feed;
 use hw_model::{MOST_SHIPS, MOST_SLOTS};
+use hw_progress::MOST_BUDGET;
 
 /// A form of a command.
-#[derive(Clone, Copy, PartialEq, Eq)]
+#[derive(Clone, Copy)]
 pub enum Form {
     /// `solve flat NAME BUDGET PROOF` searches for a best timetable of a flat text, up to BUDGET lemmas.
     SolveFlat,
@@ -42,10 +42,18 @@ pub enum Form {
     RepairFlat,
     /// `repair port INSTANCE TIDES PLAN BUDGET PROOF` searches for a best repair of a plan of a port, up to BUDGET lemmas.
     RepairPort,
+    /// `prove repair flat NAME PLAN BUDGET PROOF` searches for a best repair of a plan of a flat text with prices, up to BUDGET lemmas.
+    ProveRepairFlat,
+    /// `prove repair port INSTANCE TIDES PLAN BUDGET PROOF` searches for a best repair of a plan of a port with prices, up to BUDGET lemmas.
+    ProveRepairPort,
     /// `check repair NAME PLAN CERT` checks a certificate of the repair of a plan.
     CheckRepair,
     /// `check repair port INSTANCE TIDES PLAN CERT` checks a certificate of the repair of a port's plan.
     CheckRepairPort,
+    /// `verify repair flat NAME PLAN CERT` checks a certificate of the repair of a plan, which may be of the third version, with its bound.
+    VerifyRepairFlat,
+    /// `verify repair port INSTANCE TIDES PLAN CERT` checks a certificate of the repair of a port's plan, which may be of the third version, with its bound.
+    VerifyRepairPort,
     /// `clash flat NAME BUDGET PROOF` searches for the restrictions of a flat text that can't be met together, up to BUDGET lemmas a step.
     ClashFlat,
     /// `clash port INSTANCE TIDES BUDGET PROOF` searches for the restrictions of a port that can't be met together, up to BUDGET lemmas a step.
@@ -65,7 +73,7 @@ pub enum Form {
 }
 
 /// A word that stands for itself.
-#[derive(Clone, Copy, PartialEq, Eq)]
+#[derive(Clone, Copy)]
 pub enum Keyword {
     Solve,
     Prove,
@@ -97,10 +105,9 @@ pub enum Quantity {
     Budget,
 }
 
-/// What a word of a form has to be.
+/// A value that a form asks for.
 #[derive(Clone, Copy, PartialEq, Eq)]
-pub enum Wanted {
-    Keyword(Keyword),
+pub enum Value {
     /// The name of an input.
     Input(Feed),
     /// The name under which the proof is made.
@@ -111,8 +118,15 @@ pub enum Wanted {
     Number(Quantity),
 }
 
+/// What a word of a form has to be. No form asks twice for the same value.
+#[derive(Clone, Copy)]
+pub enum Wanted {
+    Keyword(Keyword),
+    Value(Value),
+}
+
 /// The forms that there are.
-pub const FORMS: [Form; 26] = [
+pub const FORMS: [Form; 30] = [
     Form::SolveFlat,
     Form::SolvePort,
     Form::ProveFlat,
@@ -129,8 +143,12 @@ pub const FORMS: [Form; 26] = [
     Form::CrewPort,
     Form::RepairFlat,
     Form::RepairPort,
+    Form::ProveRepairFlat,
+    Form::ProveRepairPort,
     Form::CheckRepair,
     Form::CheckRepairPort,
+    Form::VerifyRepairFlat,
+    Form::VerifyRepairPort,
     Form::ClashFlat,
     Form::ClashPort,
     Form::CheckClash,
@@ -171,29 +189,29 @@ const FLATTEN: Wanted = Wanted::Keyword(Keyword::Flatten);
 
 const DEMO: Wanted = Wanted::Keyword(Keyword::Demo);
 
-const NAME: Wanted = Wanted::Input(Feed::Flat);
+const NAME: Wanted = Wanted::Value(Value::Input(Feed::Flat));
 
-const INSTANCE: Wanted = Wanted::Input(Feed::Instance);
+const INSTANCE: Wanted = Wanted::Value(Value::Input(Feed::Instance));
 
-const TIDES: Wanted = Wanted::Input(Feed::Tides);
+const TIDES: Wanted = Wanted::Value(Value::Input(Feed::Tides));
 
-const CERT: Wanted = Wanted::Input(Feed::Certificate);
+const CERT: Wanted = Wanted::Value(Value::Input(Feed::Certificate));
 
-const PLAN: Wanted = Wanted::Input(Feed::Plan);
+const PLAN: Wanted = Wanted::Value(Value::Input(Feed::Plan));
 
-const EVENTS: Wanted = Wanted::Input(Feed::Events);
+const EVENTS: Wanted = Wanted::Value(Value::Input(Feed::Events));
 
-const PROOF: Wanted = Wanted::Proof;
+const PROOF: Wanted = Wanted::Value(Value::Proof);
 
-const ORDER: Wanted = Wanted::Order;
+const ORDER: Wanted = Wanted::Value(Value::Order);
 
-const NUMBER: Wanted = Wanted::Number(Quantity::Demonstration);
+const NUMBER: Wanted = Wanted::Value(Value::Number(Quantity::Demonstration));
 
-const SHIPS: Wanted = Wanted::Number(Quantity::Ships);
+const SHIPS: Wanted = Wanted::Value(Value::Number(Quantity::Ships));
 
-const SLOTS: Wanted = Wanted::Number(Quantity::Slots);
+const SLOTS: Wanted = Wanted::Value(Value::Number(Quantity::Slots));
 
-const BUDGET: Wanted = Wanted::Number(Quantity::Budget);
+const BUDGET: Wanted = Wanted::Value(Value::Number(Quantity::Budget));
 
 /// What the words of a form have to be.
 pub fn words_of(form: Form) -> &'static [Wanted]
@@ -216,8 +234,12 @@ pub fn words_of(form: Form) -> &'static [Wanted]
         Form::CrewPort => &[CREW, PORT, INSTANCE, TIDES, ORDER, BUDGET, PROOF],
         Form::RepairFlat => &[REPAIR, FLAT, NAME, PLAN, BUDGET, PROOF],
         Form::RepairPort => &[REPAIR, PORT, INSTANCE, TIDES, PLAN, BUDGET, PROOF],
+        Form::ProveRepairFlat => &[PROVE, REPAIR, FLAT, NAME, PLAN, BUDGET, PROOF],
+        Form::ProveRepairPort => &[PROVE, REPAIR, PORT, INSTANCE, TIDES, PLAN, BUDGET, PROOF],
         Form::CheckRepair => &[CHECK, REPAIR, NAME, PLAN, CERT],
         Form::CheckRepairPort => &[CHECK, REPAIR, PORT, INSTANCE, TIDES, PLAN, CERT],
+        Form::VerifyRepairFlat => &[VERIFY, REPAIR, FLAT, NAME, PLAN, CERT],
+        Form::VerifyRepairPort => &[VERIFY, REPAIR, PORT, INSTANCE, TIDES, PLAN, CERT],
         Form::ClashFlat => &[CLASH, FLAT, NAME, BUDGET, PROOF],
         Form::ClashPort => &[CLASH, PORT, INSTANCE, TIDES, BUDGET, PROOF],
         Form::CheckClash => &[CHECK, CLASH, NAME, PLAN, CERT],

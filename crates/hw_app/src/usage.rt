@@ -2,9 +2,9 @@
 
 ghost use Rattle.std.specs.Prelude.{◌≡◌};
 ghost use Rattle.hw_desk.specs.Writers.{Puts};
-ghost use Rattle.hw_app.specs.Usage.{input_text, quantity_text, usage, wanted_text, words_text};
+ghost use Rattle.hw_app.specs.Usage.{input_text, quantity_text, usage, value_text, wanted_text, words_text};
 
-use crate::form::{Form, Quantity, Wanted, keyword_text, words_of};
+use crate::form::{Form, Quantity, Value, Wanted, keyword_text, words_of};
 use hw_desk::{Feed, Writer};
 
 /// Puts the words of a form: its keywords, and a name in capitals for each other word.
@@ -34,10 +34,18 @@ fn wanted_text(wanted: Wanted) -> &'static str
 {
     match wanted {
         Wanted::Keyword(keyword) => keyword_text(keyword),
-        Wanted::Input(feed) => input_text(feed),
-        Wanted::Proof => "PROOF",
-        Wanted::Order => "ORDER",
-        Wanted::Number(quantity) => quantity_text(quantity),
+        Wanted::Value(value) => value_text(value),
+    }
+}
+
+fn value_text(value: Value) -> &'static str
+    ensures { result.now ≡ value_text value }
+{
+    match value {
+        Value::Input(feed) => input_text(feed),
+        Value::Proof => "PROOF",
+        Value::Order => "ORDER",
+        Value::Number(quantity) => quantity_text(quantity),
     }
 }
 

@@ -1,17 +1,22 @@
 //! The words of the command line, read by the table of forms.
 
-ghost use Rattle.std.specs.Prelude.{◌≡◌, ◌≤◌, ◌<◌, ◌+◌, ◌^◌, IfOk, length, map, string_bytes};
-ghost use Rattle.hw_crew_command.specs.Orders.{order_in};
-ghost use Rattle.hw_app.specs.Commands.{KeepsLimits, command_in, command_of, command_seen, read_seen};
+ghost use Rattle.std.specs.Prelude.{◌≡◌, ◌≤◌, IfOk, length, map, string_bytes};
+ghost use Rattle.hw_search_command.specs.Orders.{order_in};
+ghost use Rattle.hw_subject.specs.Subjects.{origin_seen, plan_seen, topic_seen};
+ghost use Rattle.hw_app.specs.Commands.{KeepsLimits, command_by, command_in, command_of, command_seen, origin_in, read_seen, search_in, topic_in};
 ghost use Rattle.hw_app.specs.Demo.{CanDraw};
-ghost use Rattle.hw_app.specs.Forms.{agreed, first_fitting, form_of, furthest, least_of, most_of, number_in, takes, word_at};
+ghost use Rattle.hw_app.specs.Forms.{agreed, first_fitting, form_of, furthest, is_value, least_of, most_of, name_in, number_in, takes, word_in, word_where};
 
 use crate::command::Command;
 use crate::demo::Draw;
-use crate::form::{FORMS, Form, Quantity, Wanted, keyword_text, least_of, most_of, words_of};
+use crate::form::{
+    FORMS, Form, Keyword, Quantity, Value, Wanted, keyword_text, least_of, most_of, words_of,
+};
 use hw_command::PortNames;
-use hw_crew_command::Order;
+use hw_desk::Feed;
 use hw_search::Branching;
+use hw_search_command::{Order, Search};
+use hw_subject::{Source, Subject};
 use hw_text::read_small;
 
 /// Whether a word is what is wanted.
@@ -20,9 +25,18 @@ fn takes(wanted: Wanted, word: &str) -> bool
 {
     match wanted {
         Wanted::Keyword(keyword) => word == keyword_text(keyword),
-        Wanted::Input(_) | Wanted::Proof => !word.is_empty(),
-        Wanted::Order => Order::read(word).is_some(),
-        Wanted::Number(quantity) => {
+        Wanted::Value(value) => is_value(value, word),
+    }
+}
+
+/// Whether a word is a value of this kind.
+fn is_value(value: Value, word: &str) -> bool
+    ensures { result ≡ is_value value word.now }
+{
+    match value {
+        Value::Input(_) | Value::Proof => !word.is_empty(),
+        Value::Order => Order::read(word).is_some(),
+        Value::Number(quantity) => {
             read_small(word.as_bytes(), least_of(quantity), most_of(quantity)).is_some()
         }
     }
@@ -103,190 +117,198 @@ fn command_in(form: Form, words: &[String]) -> Command<'_>
     ensures command { command_seen result ≡ command_in form (map string_bytes words.now) }
     ensures limits { KeepsLimits (command_seen result) }
 {
-    match form {
-        Form::SolveFlat => Command::SolveFlat {
-            name: name_at(words, 2),
-            budget: number_at(words, 3, Quantity::Budget),
-            proof: name_at(words, 4),
+    command_by(words_of(form), form, words)
+}
+
+/// The same, by what the words of the form have to be.
+fn command_by<'w>(wanted: &[Wanted], form: Form, words: &'w [String]) -> Command<'w>
+    ensures command { command_seen result ≡ command_by wanted.now form (map string_bytes words.now) }
+    ensures limits { KeepsLimits (command_seen result) }
+{
+    match wanted {
+        [Wanted::Keyword(Keyword::Solve | Keyword::Repair), ..] => search_in(
+            form,
+            words,
+            Search::Solve,
+        ),
+        [Wanted::Keyword(Keyword::Prove), ..] => search_in(form, words, Search::Prove),
+        [Wanted::Keyword(Keyword::Crew), ..] => search_in(
+            form,
+            words,
+            Search::Crew {
+                order: order_in(form, words),
+            },
+        ),
+        [
+            Wanted::Keyword(Keyword::Check),
+            Wanted::Keyword(Keyword::Clash),
+            ..
+        ] => Command::CheckClash {
+            source: source_in(form, words),
+            clash: name_in(form, words, Value::Input(Feed::Plan)),
+            cert: cert_in(form, words),
         },
-        Form::SolvePort => Command::SolvePort {
-            port: port_at(words, 2),
-            budget: number_at(words, 4, Quantity::Budget),
-            proof: name_at(words, 5),
+        [Wanted::Keyword(Keyword::Check), ..] => Command::Check {
+            subject: subject_in(form, words),
+            cert: cert_in(form, words),
         },
-        Form::ProveFlat => Command::ProveFlat {
-            name: name_at(words, 2),
-            budget: number_at(words, 3, Quantity::Budget),
-            proof: name_at(words, 4),
+        [Wanted::Keyword(Keyword::Verify), ..] => Command::Verify {
+            subject: subject_in(form, words),
+            cert: cert_in(form, words),
         },
-        Form::ProvePort => Command::ProvePort {
-            port: port_at(words, 2),
-            budget: number_at(words, 4, Quantity::Budget),
-            proof: name_at(words, 5),
+        [Wanted::Keyword(Keyword::Renew), ..] => Command::Renew {
+            subject: subject_in(form, words),
+            cert: cert_in(form, words),
+            proof: name_in(form, words, Value::Proof),
         },
-        Form::CheckFlat => Command::CheckFlat {
-            name: name_at(words, 2),
-            cert: name_at(words, 3),
+        [Wanted::Keyword(Keyword::Chart), ..] => Command::Chart {
+            source: source_in(form, words),
+            cert: cert_in(form, words),
         },
-        Form::CheckPort => Command::CheckPort {
-            port: port_at(words, 2),
-            cert: name_at(words, 4),
+        [Wanted::Keyword(Keyword::Clash), ..] => Command::Clash {
+            source: source_in(form, words),
+            budget: number_in(form, words, Quantity::Budget),
+            proof: name_in(form, words, Value::Proof),
         },
-        Form::VerifyFlat => Command::VerifyFlat {
-            name: name_at(words, 2),
-            cert: name_at(words, 3),
+        [Wanted::Keyword(Keyword::Explain), ..] => Command::Explain {
+            port: port_in(form, words),
         },
-        Form::VerifyPort => Command::VerifyPort {
-            port: port_at(words, 2),
-            cert: name_at(words, 4),
+        [Wanted::Keyword(Keyword::Audit), ..] => Command::Audit {
+            port: port_in(form, words),
+            plan: name_in(form, words, Value::Input(Feed::Plan)),
+            events: name_in(form, words, Value::Input(Feed::Events)),
         },
-        Form::ChartFlat => Command::ChartFlat {
-            name: name_at(words, 2),
-            cert: name_at(words, 3),
+        [Wanted::Keyword(Keyword::Flatten), ..] => Command::Flatten {
+            port: port_in(form, words),
         },
-        Form::ChartPort => Command::ChartPort {
-            port: port_at(words, 2),
-            cert: name_at(words, 4),
-        },
-        Form::RenewFlat => Command::RenewFlat {
-            name: name_at(words, 2),
-            cert: name_at(words, 3),
-            proof: name_at(words, 4),
-        },
-        Form::RenewPort => Command::RenewPort {
-            port: port_at(words, 2),
-            cert: name_at(words, 4),
-            proof: name_at(words, 5),
-        },
-        Form::CrewFlat => Command::CrewFlat {
-            name: name_at(words, 2),
-            order: order_at(words, 3),
-            budget: number_at(words, 4, Quantity::Budget),
-            proof: name_at(words, 5),
-        },
-        Form::CrewPort => Command::CrewPort {
-            port: port_at(words, 2),
-            order: order_at(words, 4),
-            budget: number_at(words, 5, Quantity::Budget),
-            proof: name_at(words, 6),
-        },
-        Form::RepairFlat => Command::RepairFlat {
-            name: name_at(words, 2),
-            plan: name_at(words, 3),
-            budget: number_at(words, 4, Quantity::Budget),
-            proof: name_at(words, 5),
-        },
-        Form::RepairPort => Command::RepairPort {
-            port: port_at(words, 2),
-            plan: name_at(words, 4),
-            budget: number_at(words, 5, Quantity::Budget),
-            proof: name_at(words, 6),
-        },
-        Form::CheckRepair => Command::CheckRepair {
-            name: name_at(words, 2),
-            plan: name_at(words, 3),
-            cert: name_at(words, 4),
-        },
-        Form::CheckRepairPort => Command::CheckRepairPort {
-            port: port_at(words, 3),
-            plan: name_at(words, 5),
-            cert: name_at(words, 6),
-        },
-        Form::ClashFlat => Command::ClashFlat {
-            name: name_at(words, 2),
-            budget: number_at(words, 3, Quantity::Budget),
-            proof: name_at(words, 4),
-        },
-        Form::ClashPort => Command::ClashPort {
-            port: port_at(words, 2),
-            budget: number_at(words, 4, Quantity::Budget),
-            proof: name_at(words, 5),
-        },
-        Form::CheckClash => Command::CheckClash {
-            name: name_at(words, 2),
-            plan: name_at(words, 3),
-            cert: name_at(words, 4),
-        },
-        Form::CheckClashPort => Command::CheckClashPort {
-            port: port_at(words, 3),
-            plan: name_at(words, 5),
-            cert: name_at(words, 6),
-        },
-        Form::ExplainPort => Command::ExplainPort {
-            port: port_at(words, 2),
-        },
-        Form::AuditPort => Command::AuditPort {
-            port: port_at(words, 2),
-            plan: name_at(words, 4),
-            events: name_at(words, 5),
-        },
-        Form::Flatten => Command::Flatten {
-            port: port_at(words, 1),
-        },
-        Form::Demo => Command::Demo {
-            draw: draw_at(words, 1),
-            budget: number_at(words, 4, Quantity::Budget),
-            proof: name_at(words, 5),
+        _ => Command::Demo {
+            draw: draw_in(form, words),
+            budget: number_in(form, words, Quantity::Budget),
+            proof: name_in(form, words, Value::Proof),
         },
     }
 }
 
-/// The name at a place, counted from 0. It is empty where there is no such word.
-fn name_at(words: &[String], place: usize) -> &str
-    ensures { result.now ≡ word_at (map string_bytes words.now) place }
+/// The word that stands where a value is wanted, or none where it isn't.
+fn word_where<'w>(value: Value, wanted: &[Wanted], words: &'w [String]) -> Option<&'w str>
+    ensures { plan_seen result ≡ word_where value wanted.now (map string_bytes words.now) }
 {
-    match words.get(place) {
-        Some(word) => word.as_str(),
+    match wanted {
+        [] => None,
+        [first, more @ ..] => match words {
+            [] => None,
+            [word, rest @ ..] => match first {
+                Wanted::Value(other) if *other == value => Some(word.as_str()),
+                _ => word_where(value, more, rest),
+            },
+        },
+    }
+}
+
+/// The form's word for a value, or none where it asks for no such value.
+fn word_in(form: Form, words: &[String], value: Value) -> Option<&str>
+    ensures { plan_seen result ≡ word_in form (map string_bytes words.now) value }
+{
+    word_where(value, words_of(form), words)
+}
+
+/// The name that it is, which is empty where the form asks for none.
+fn name_in(form: Form, words: &[String], value: Value) -> &str
+    ensures { result.now ≡ name_in form (map string_bytes words.now) value }
+{
+    match word_in(form, words, value) {
+        Some(name) => name,
         None => "",
     }
 }
 
-/// The names of a port's inputs from a place on.
-fn port_at(words: &[String], place: usize) -> PortNames<'_>
-    requires { place < 2 ^ 32 }
-    ensures instance { result.instance.now ≡ word_at (map string_bytes words.now) place }
-    ensures tides { result.tides.now ≡ word_at (map string_bytes words.now) (place + 1) }
+/// The name of the certificate.
+fn cert_in(form: Form, words: &[String]) -> &str
+    ensures { result.now ≡ name_in form (map string_bytes words.now) (Value.Input Feed.Certificate) }
+{
+    name_in(form, words, Value::Input(Feed::Certificate))
+}
+
+/// The names of a port's inputs.
+fn port_in(form: Form, words: &[String]) -> PortNames<'_>
+    ensures instance { result.instance.now ≡ name_in form (map string_bytes words.now) (Value.Input Feed.Instance) }
+    ensures tides { result.tides.now ≡ name_in form (map string_bytes words.now) (Value.Input Feed.Tides) }
 {
     PortNames {
-        instance: name_at(words, place),
-        tides: name_at(words, place + 1),
+        instance: name_in(form, words, Value::Input(Feed::Instance)),
+        tides: name_in(form, words, Value::Input(Feed::Tides)),
     }
 }
 
-/// The order at a place. It is one searcher with Greatest where there is no such word, or another word.
-fn order_at(words: &[String], place: usize) -> Order
-    ensures { result ≡ order_in (word_at (map string_bytes words.now) place) }
+/// A flat text, where the form asks for one, or a port.
+fn source_in(form: Form, words: &[String]) -> Source<'_>
+    ensures { origin_seen result ≡ origin_in form (map string_bytes words.now) }
 {
-    match Order::read(name_at(words, place)) {
+    match word_in(form, words, Value::Input(Feed::Flat)) {
+        Some(name) => Source::Flat { name },
+        None => Source::Port {
+            names: port_in(form, words),
+        },
+    }
+}
+
+/// The same, or the repair of its plan, where the form asks for one.
+fn subject_in(form: Form, words: &[String]) -> Subject<'_>
+    ensures { topic_seen result ≡ topic_in form (map string_bytes words.now) }
+{
+    Subject {
+        of: source_in(form, words),
+        plan: word_in(form, words, Value::Input(Feed::Plan)),
+    }
+}
+
+/// The order of a crew. It is one searcher with Greatest where the form asks for none.
+fn order_in(form: Form, words: &[String]) -> Order
+    ensures { result ≡ order_in (name_in form (map string_bytes words.now) Value.Order) }
+{
+    match Order::read(name_in(form, words, Value::Order)) {
         Some(order) => order,
         None => Order::one(Branching::Greatest),
     }
 }
 
-/// The number at a place. It is the least one where there is no such word, or another word.
-fn number_at(words: &[String], place: usize, quantity: Quantity) -> u32
-    ensures number { result ≡ number_in quantity (word_at (map string_bytes words.now) place) }
+/// The number of this kind, and the least one where the form asks for none.
+fn number_in(form: Form, words: &[String], quantity: Quantity) -> u32
+    ensures number { result ≡ number_in form (map string_bytes words.now) quantity }
     ensures least { least_of quantity ≤ result }
     ensures most { result ≤ most_of quantity }
 {
     let least = least_of(quantity);
-    match read_small(name_at(words, place).as_bytes(), least, most_of(quantity)) {
+    let name = name_in(form, words, Value::Number(quantity));
+    match read_small(name.as_bytes(), least, most_of(quantity)) {
         Some(number) => number,
         None => least,
     }
 }
 
-/// The numbers of a demonstration from a place on.
-fn draw_at(words: &[String], place: usize) -> Draw
-    requires { place < 2 ^ 32 }
-    ensures number { result.number ≡ number_in Quantity.Demonstration (word_at (map string_bytes words.now) place) }
-    ensures ships { result.ships ≡ number_in Quantity.Ships (word_at (map string_bytes words.now) (place + 1)) }
-    ensures slots { result.slots ≡ number_in Quantity.Slots (word_at (map string_bytes words.now) (place + 2)) }
+/// The numbers of a demonstration.
+fn draw_in(form: Form, words: &[String]) -> Draw
+    ensures number { result.number ≡ number_in form (map string_bytes words.now) Quantity.Demonstration }
+    ensures ships { result.ships ≡ number_in form (map string_bytes words.now) Quantity.Ships }
+    ensures slots { result.slots ≡ number_in form (map string_bytes words.now) Quantity.Slots }
     ensures size { CanDraw result.ships result.slots }
 {
     Draw {
-        number: number_at(words, place, Quantity::Demonstration),
-        ships: number_at(words, place + 1, Quantity::Ships),
-        slots: number_at(words, place + 2, Quantity::Slots),
+        number: number_in(form, words, Quantity::Demonstration),
+        ships: number_in(form, words, Quantity::Ships),
+        slots: number_in(form, words, Quantity::Slots),
+    }
+}
+
+/// A search of the form's subject.
+fn search_in(form: Form, words: &[String], how: Search) -> Command<'_>
+    ensures command { command_seen result ≡ search_in form (map string_bytes words.now) how }
+    ensures limits { KeepsLimits (command_seen result) }
+{
+    Command::Search {
+        subject: subject_in(form, words),
+        how,
+        budget: number_in(form, words, Quantity::Budget),
+        proof: name_in(form, words, Value::Proof),
     }
 }

@@ -1,5 +1,0 @@
-use Rattle.hw_app.proofs.CheckedChart.{charts_as_checked}
-use Rattle.hw_app.proofs.chart_laws.charts_as_checked.Goals as goal
-
-pub returns : goal.returns
-returns c = charts_as_checked

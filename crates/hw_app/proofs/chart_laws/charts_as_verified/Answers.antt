@@ -1,5 +1,0 @@
-use Rattle.hw_app.proofs.OneChart.{charts_as_verified}
-use Rattle.hw_app.proofs.chart_laws.charts_as_verified.Goals as goal
-
-pub returns : goal.returns
-returns c = charts_as_verified
