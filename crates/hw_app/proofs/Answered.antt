@@ -10,7 +10,7 @@ use Rattle.hw_command.specs.Statuses.{status_of}
 use Rattle.hw_command.specs.Works.{is_common}
 use Rattle.hw_command.specs.declared.status.Status.{Status}
 use Rattle.hw_command.specs.declared.status.Status.TheVariants as status
-use Rattle.hw_app.specs.Laws.{is_answer, EndsAlike}
+use Rattle.hw_app.specs.LawsOfSearches.{is_answer, EndsAlike}
 
 -- the report of a run that has an answer, and what it says
 pub record Answered (Says : DeskState → DeskState → Option Report → Type 0) (old new : DeskState) (s : Status) : Type 0 where

@@ -9,7 +9,7 @@ use Rattle.hw_lines.specs.declared.check.Verdict.{Verdict}
 use Rattle.hw_lines.specs.declared.line.Line.{Line}
 use Rattle.hw_lines.specs.Kept.{Kept}
 use Rattle.hw_lines.specs.Lemmas.{lemmas_of}
-use Rattle.hw_lines.specs.Lines.{best_of, last_table}
+use Rattle.hw_lines.specs.Lines.{best_of}
 use Rattle.hw_lines.specs.Refusals.{kept_refusal}
 use Rattle.hw_lines.specs.Valid.{LineFits, ValidAfter, ValidFrom, verdict, verdict_by}
 use Rattle.hw_lines.specs.Tolled.{is_plain}
@@ -21,20 +21,23 @@ use Rattle.hw_cert.specs.Logs.{memory_log}
 use Rattle.hw_cert.specs.Texts.{cert_text}
 use Rattle.hw_progress.specs.declared.outcome.Solved.{Solved}
 use Rattle.hw_progress.specs.declared.outcome.Solved.TheVariants.{Optimal, Infeasible, Unfinished, NoMemory, LogFailed}
-use Rattle.hw_progress.specs.Solving.{SolveWrites, SolveMeets, SolveFails}
+use Rattle.hw_progress.specs.Solving.{SolveMeets, SolveFails}
 use Rattle.hw_report.specs.Reports.{demo, no_memory}
 use Rattle.hw_report.specs.declared.report.Head.{Head}
 use Rattle.hw_report.specs.declared.report.Head.TheVariants as heads
 use Rattle.hw_command.specs.Carries.{Carries}
-use Rattle.hw_command.specs.Certified.{HeadMeans, IsSpent, head_verdict}
 use Rattle.hw_app.specs.Demo.{Demonstrates, IsFound, best_in, head_of, demo_task}
 use Rattle.hw_command.specs.Ends.{Ends}
 use Rattle.hw_command.specs.Sending.{SendsTo}
 use Rattle.hw_command.specs.declared.status.Status.{Status}
 use Rattle.hw_command.specs.declared.status.Status.TheVariants.{WriteFault}
 use Rattle.hw_command.proofs.Begun.{entered_none, wants_memory}
-use Rattle.hw_command.proofs.Searched.{well, verdict_of, optimal_says, infeasible_says}
 use Rattle.hw_command.proofs.SentWorks.{made, sent_works, broken_works}
+use Rattle.hw_search_command.specs.Certified.{HeadMeans, head_verdict}
+use Rattle.hw_search_command.specs.Searchers.{solving}
+use Rattle.hw_search_command.specs.Searching.{SearchMeets}
+use Rattle.hw_search_command.specs.declared.finding.Found.{Found}
+use Rattle.hw_search_command.proofs.Meeting.{solve_meets}
 
 -- ---- what was solved
 
@@ -53,43 +56,40 @@ best_by false best = refl
 best_shown : (f : Problem) (all : List Line) (v : Verdict) → v ≡ verdict f all → best_in v ≡ best_of f all
 best_shown f all v is = ap best_in is ∙ best_by _ (best_of f all)
 
-abbrev Says : Problem → ℕ → Head → Option (List ℕ) → List Line → Type 0
-Says f budget head table all = (last_table all ≡ table) × (verdict f all ≡ head_verdict head (best_of f all)) × IsSpent budget head all
-
-found : {f : Problem} {budget b n : ℕ} {all : List Line} (answer : Solved) (head : Head) (table : Option (List ℕ)) (v : Verdict) (count : ℕ)
-    → SolveWrites f budget answer b n all → IsFound head → Says f budget head table all → IfSome table (Permits f) → HeadMeans f budget (room_count f) head table → v ≡ verdict f all → count ≡ length (lemmas_of all)
-    → Demonstrates f budget head (best_in v) v count all
-found {f = f} {budget = budget} {all = all} answer head table v count w is_found says permitted means is counted =
+-- what was found, on a log in memory
+found : {f : Problem} {budget : ℕ} {all : List Line} (it : Found) (v : Verdict) (count : ℕ) → IsFound it.head → SearchMeets solving f budget (memory_log []) (Some it) (memory_log all) → v ≡ verdict f all → count ≡ length (lemmas_of all) → Demonstrates f budget it.head (best_in v) v count all
+found {f = f} {budget = budget} {all = all} it v count is_found m is counted =
+    let true_of = m.leaves.1 in
+    let told = m.leaves.2 in
     let best = best_shown f all v is in
     record {
-      written = well answer w;
-      permitted = subst (λ (t : Option (List ℕ)). IfSome t (Permits f)) (sym says.0) permitted;
+      written = told.written;
+      permitted = subst (λ (t : Option (List ℕ)). IfSome t (Permits f)) (sym told.shows.last) true_of.permitted;
       found = is_found;
-      means = subst (HeadMeans f budget (room_count f) head) (sym says.0) means;
+      means = subst (HeadMeans f budget (room_count f) it.head) (sym told.shows.last) true_of.means;
       cargo = best;
       checked = is;
-      tells = says.1 ∙ ap (head_verdict head) (sym best);
-      spent = says.2;
+      tells = told.shows.verdict ∙ ap (head_verdict it.head) (sym best);
+      spent = told.shows.spent;
       counted = counted;
     }
 
 some_is : {X : Type 0} (x y : X) → Some x ≡ Some y → x ≡ y
 some_is x y e = cc
 
--- what was found, by the head of it
+-- by its head
 demonstrates : {f : Problem} {budget : ℕ} {all : List Line} (answer : Solved) (head : Head) (v : Verdict) (count : ℕ)
     → SolveMeets f budget (memory_log []) answer (memory_log all) → Some head ≡ head_of budget answer → v ≡ verdict f all → count ≡ length (lemmas_of all)
     → Demonstrates f budget head (best_in v) v count all
 demonstrates {f = f} {budget = budget} {all = all} (Optimal table c) head v count h e is counted =
     subst (λ (hd : Head). Demonstrates f budget hd (best_in v) v count all) (sym (some_is head (heads.Optimal c) e))
-    (found (Optimal table c) (heads.Optimal c) (Some table) v count h.writes tt (optimal_says table c h.writes) h.permitted h.means is counted)
+    (found _ v count tt (solve_meets (Optimal table c) h refl) is counted)
 demonstrates {f = f} {budget = budget} {all = all} Infeasible head v count h e is counted =
     subst (λ (hd : Head). Demonstrates f budget hd (best_in v) v count all) (sym (some_is head heads.Infeasible e))
-    (found Infeasible heads.Infeasible None v count h.writes tt (infeasible_says h.writes) tt (h.means, refl) is counted)
+    (found _ v count tt (solve_meets Infeasible h refl) is counted)
 demonstrates {f = f} {budget = budget} {all = all} (Unfinished table) head v count h e is counted =
     subst (λ (hd : Head). Demonstrates f budget hd (best_in v) v count all) (sym (some_is head (heads.Unfinished budget) e))
-    (found (Unfinished table) (heads.Unfinished budget) table v count h.writes tt
-    (h.writes.tells.0, verdict_of f all false h.writes.proved_just, (h.writes.tells.1, h.writes.tells.2)) h.permitted (refl, h.means) is counted)
+    (found _ v count tt (solve_meets (Unfinished table) h refl) is counted)
 demonstrates (NoMemory table) head v count h e is counted = absurd (cc)
 demonstrates LogFailed head v count h e is counted = absurd (cc)
 

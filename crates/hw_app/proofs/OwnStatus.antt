@@ -1,175 +1,143 @@
 -- A check of what a search wrote ends as the search.
-use Rattle.std.proofs.Common.{◌≡◌, ◌⊎◌, ◌∙◌, ℕ, true, List, Option, Some, All, ap, inl, inr, refl, sym, subst}
+use Rattle.std.proofs.Common.{◌≡◌, ◌⊎◌, ◌∙◌, ℕ, true, false, List, Option, Some, None, Ok, ap, inl, inr, refl, sym, subst}
 use Rattle.std.specs.Prelude.{IfSome}
-use Rattle.hw_model.specs.Limits.{IsFlat}
-use Rattle.hw_model.specs.Problem.{Problem, shape_of}
 use Rattle.hw_desk.specs.State.{DeskState}
+use Rattle.hw_desk.specs.declared.desk.Feed.TheVariants.{Plan}
 use Rattle.hw_desk.specs.declared.desk.Tray.TheVariants.{Proof}
-use Rattle.hw_lines.specs.declared.line.Line.{Line}
-use Rattle.hw_lines.specs.declared.check.Verdict.{Verdict}
-use Rattle.hw_lines.specs.Lines.{best_of}
-use Rattle.hw_lines.specs.Tolled.{is_plain}
-use Rattle.hw_lines.specs.Valid.{LineFits, Valid, verdict}
-use Rattle.hw_cert.specs.declared.version.Version.TheVariants.{Two}
-use Rattle.hw_cert.specs.Stream.{overlong, cert_stream}
-use Rattle.hw_cert.specs.Texts.{cert_text}
-use Rattle.hw_port.specs.Whole.{Parts}
-use Rattle.hw_tide.specs.Levels.{TideParts}
-use Rattle.hw_port_rules.specs.Flattened.{flattened}
-use Rattle.hw_port_laws.proofs.Limits.{flattened_fits_law}
-use Rattle.hw_report.specs.Reports.{Report, by_number, by_name, checked, solved, bad_flat, bad_json, bad_field, bad_tides, too_long}
+use Rattle.hw_model.specs.Problem.{Problem, shape_of}
+use Rattle.hw_cert.specs.Stream.{cert_stream_to}
+use Rattle.hw_repair.specs.declared.plan.Wish.{Wish}
+use Rattle.hw_report.specs.Reports.{Report, Naming, solved, bad_text, too_long}
 use Rattle.hw_report.specs.declared.report.Head.{Head}
 use Rattle.hw_report.specs.declared.report.Head.TheVariants as heads
-use Rattle.hw_command.specs.Certificates.{cert_outcome}
-use Rattle.hw_command.specs.Certified.{SolveLines, IsCertificate, head_verdict}
+use Rattle.hw_command.specs.Carries.{Carries}
+use Rattle.hw_command.specs.Keeping.{whole_lines}
 use Rattle.hw_command.specs.Statuses.{status_of, status_of_head, status_of_verdict}
-use Rattle.hw_command.specs.Values.{IsTextOf, IsPortOf}
-use Rattle.hw_command.specs.declared.outcome.CertOutcome.TheVariants.{Shows}
 use Rattle.hw_command.specs.declared.status.Status.{Status}
-use Rattle.hw_command.proofs.Meanings.{port_means}
-use Rattle.hw_app.specs.CheckFlat.{Checks, CheckFlatSays}
-use Rattle.hw_app.specs.CheckPort.{ChecksPortTexts, CheckPortSays}
-use Rattle.hw_app.specs.Laws.{is_answer, EndsAlike, SolvedFlat, CheckedFlat, SolvedPort, CheckedPort, FlatIsOverlong, PortIsOverlong, OwnStatus}
-use Rattle.hw_app.specs.SolveFlat.{SolvesText, SolveFlatSays}
-use Rattle.hw_app.specs.SolvePort.{SolvesPortTexts, SolvePortSays}
+use Rattle.hw_command.proofs.FlatForms.{by_line}
+use Rattle.hw_command.proofs.PortForms.{by_fault}
+use Rattle.hw_subject.specs.Meanings.{judged, repaired_problem}
+use Rattle.hw_subject.specs.Subjects.{Origin, Topic, flat_text, port_of, origin_subject, repaired_by, topic_subject}
+use Rattle.hw_subject.proofs.Modelled.{subjects_modelled_law}
+use Rattle.hw_search_command.specs.Certified.{IsCertificate, head_verdict, searched_head}
+use Rattle.hw_search_command.specs.Searchers.{searcher_of}
+use Rattle.hw_search_command.specs.Searches.{SearchSays}
+use Rattle.hw_search_command.specs.declared.searcher.Search.{Search}
+use Rattle.hw_search_command.specs.declared.searcher.Search.TheVariants.{Solve, Prove, Crew}
+use Rattle.hw_check_command.specs.Checks.{Checks, CheckSays, check_task}
+use Rattle.hw_app.specs.LawsOfSearches.{AnswerOf, CheckAfter, EndsAlike, IsOverlong, IsShownAs, OwnStatus, PassesLimit, is_answer, check_after}
+use Rattle.hw_app.specs.Run.{CommandMeets}
+use Rattle.hw_app.specs.Told.{IsTold, OriginTold, PlanTold, itself}
 use Rattle.hw_app.proofs.Answered.{answered, alike}
-use Rattle.hw_app.proofs.OnePort.{one_port_report}
-use Rattle.hw_app.proofs.Owned.{own_certificate}
-use Rattle.hw_app.proofs.Shown.{decided_by}
+use Rattle.hw_app.proofs.Decided.{checked_at}
+use Rattle.hw_app.proofs.OwnReport.{own_lines, own_shown}
+use Rattle.hw_app.proofs.Told.{moved}
 
--- ---- what a search wrote
+-- ---- the search
 
--- the bytes are the text of valid plain lines of the problem, whose verdict has this status
-pub record Wrote (f : Problem) (bytes : List ℕ) (s : Status) : Type 0 where
-  pub lines : List Line
-  pub plain : All (λ line. is_plain line ≡ true) lines
-  pub fit : All (LineFits f) lines
-  pub valid : Valid f lines
-  pub text : bytes ≡ cert_text Two lines
-  pub shows : status_of_verdict (verdict f lines) ≡ s
+-- no status of an answer tells of inputs that give no value
+origin_status : (a : Origin) (held : List ℕ → Option (List ℕ)) (r : Report) → (origin_subject a).Refuses held r → is_answer (status_of r) ≡ false
+origin_status (flat_text name) held r no = by_line (held name) (λ (r : Report). is_answer (status_of r) ≡ false) r (λ number word bad. refl) (λ long. refl) no
+origin_status (port_of instance table) held r no = by_fault (held instance) (held table) (λ (r : Report). is_answer (status_of r) ≡ false) r (λ bad. refl) (λ fault bad. refl) (λ fault bad. refl) (λ bad. refl) (λ bad. refl) no
 
-same_status : (head : Head) (best : Option ℕ) → is_answer (status_of_head head) ≡ true → status_of_verdict (head_verdict head best) ≡ status_of_head head
-same_status (heads.Optimal c) best e = refl
-same_status heads.Infeasible best e = refl
-same_status (heads.Unfinished spent) best e = refl
-same_status heads.Memory best e = absurd (cc)
+refused_status : (a : Origin) (plan : Option (List ℕ)) (held : List ℕ → Option (List ℕ)) (r : Report) → (repaired_by (origin_subject a) plan).Refuses held r → is_answer (status_of r) ≡ false
+refused_status a None held r no = origin_status a held r no
+refused_status a (Some name) held (bad_text Plan number word) no = refl
+refused_status a (Some name) held (too_long Plan) no = refl
+refused_status a (Some name) held r no = origin_status a held r no
 
-wrote : {f : Problem} {budget : ℕ} {head : Head} {table : Option (List ℕ)} {bytes : List ℕ} (s : Status) → s ≡ status_of_head head → is_answer s ≡ true → IsCertificate f budget (SolveLines f) head table bytes → Wrote f bytes s
-wrote {f = f} {head = head} s ended answer c = record {
-  lines = c.lines;
-  plain = c.written.plain;
-  fit = c.written.fit;
-  valid = c.written.valid;
-  text = c.text;
-  shows = ap status_of_verdict c.shows ∙ same_status head (best_of f c.lines) (ap is_answer (sym ended) ∙ answer) ∙ sym ended;
-}
+no_answer : (topic : Topic) (held : List ℕ → Option (List ℕ)) (r : Report) (s : Status) → s ≡ status_of r → is_answer s ≡ true → (topic_subject topic).Refuses held r → ⊥
+no_answer topic held r s ended answer no = apart (sym (ap is_answer ended ∙ refused_status topic.origin topic.plan held r no) ∙ answer)
+  where
+    apart : false ≡ true → ⊥
+    apart e = cc
 
--- the outcome of a check of it
-comes : {f : Problem} {bytes : List ℕ} {s : Status} (w : Wrote f bytes s) → IsFlat f → ((cert_stream (shape_of f) bytes).stop ≡ overlong) ⊎ (cert_outcome f bytes ≡ Shows (verdict f w.lines))
-comes {f = f} w limits = subst (λ (bs : List ℕ). ((cert_stream (shape_of f) bs).stop ≡ overlong) ⊎ (cert_outcome f bs ≡ Shows (verdict f w.lines))) (sym w.text) (own_certificate f w.lines limits w.plain w.fit w.valid)
+-- what was read, and the certificate of what was found of it
+record Wrote (how : Search) (topic : Topic) (held : List ℕ → Option (List ℕ)) (cert : List ℕ) (s : Status) : Type 0 where
+  head : Head
+  table : Option (List ℕ)
+  bound : Option ℕ
+  budget : ℕ
+  value : (topic_subject topic).Value
+  reads : (topic_subject topic).Reads held value
+  certificate : IsCertificate (searcher_of how) ((topic_subject topic).problem value) ((topic_subject topic).plan value) budget head table bound cert
+  ended : s ≡ status_of_head head
 
--- ---- of a flat text
-
-pub record WroteOfText (text bytes : List ℕ) (s : Status) : Type 0 where
-  pub problem : Problem
-  pub limits : IsFlat problem
-  pub reads : IsTextOf problem text
-  pub wrote : Wrote problem bytes s
-
-by_text : {text bytes : List ℕ} (budget : ℕ) (proof : List ℕ) (old mid : DeskState) (s : Status) (r : Report) → s ≡ status_of r → is_answer s ≡ true → (mid.trays Proof).sent ≡ Some bytes → SolvesText (Some text) budget proof old mid (Some r) → WroteOfText text bytes s
-by_text budget proof old mid s (solved head f names table) ended answer sent says = record {
-  problem = f;
-  limits = says.limits;
+by_report : (how : Search) (topic : Topic) (budget : ℕ) (proof cert : List ℕ) (old mid : DeskState) (s : Status) (r : Report) → s ≡ status_of r → is_answer s ≡ true → (mid.trays Proof).sent ≡ Some cert → SearchSays (topic_subject topic) (searcher_of how) budget proof old mid (Some r) → Wrote how topic old.held cert s
+by_report how topic budget proof cert old mid s (solved head f names table moved bound) ended answer sent says = record {
+  head = head;
+  table = table;
+  bound = bound;
+  budget = budget;
+  value = says.value;
   reads = says.reads;
-  wrote = wrote s ended answer (subst (λ (told : Option (List ℕ)). IfSome told (IsCertificate f budget (SolveLines f) head table)) sent says.finds.certificate);
+  certificate = subst (λ (told : Option (List ℕ)). IfSome told (IsCertificate (searcher_of how) ((topic_subject topic).problem says.value) ((topic_subject topic).plan says.value) budget head table bound)) sent says.certificate;
+  ended = ended;
 }
-by_text budget proof old mid s (bad_flat number word) ended answer sent says = absurd (cc)
-by_text budget proof old mid s (too_long feed) ended answer sent says = absurd (cc)
-by_text budget proof old mid s r ended answer sent says = absurd says
+by_report how topic budget proof cert old mid s r ended answer sent says = absurd (no_answer topic old.held r s ended answer says)
 
-flat_wrote : {text bytes : List ℕ} {s : Status} → SolvedFlat text bytes s → WroteOfText text bytes s
-flat_wrote {text = text} {s = s} h =
-    let a = answered (SolveFlatSays h.name h.budget h.proof) h.old h.meets.mid h.new s h.meets.reports h.meets.says h.meets.ends h.answer in
-    by_text h.budget h.proof h.old a.mid s a.report a.ended h.answer (a.sent ∙ h.wrote) (subst (λ (told : Option (List ℕ)). SolvesText told h.budget h.proof h.old a.mid (Some a.report)) h.told a.says)
+wrote : {how : Search} {bytes : Topic} {cert : List ℕ} {s : Status} → (h : AnswerOf how bytes cert s) → Wrote how h.topic h.old.held cert s
+wrote {how = how} {cert = cert} {s = s} h =
+    let a = answered (SearchSays (topic_subject h.topic) (searcher_of how) h.budget h.proof) h.old h.meets.mid h.new s h.meets.reports h.meets.says h.meets.ends h.answer in
+    by_report how h.topic h.budget h.proof cert h.old a.mid s a.report a.ended h.answer (a.sent ∙ h.wrote) a.says
 
-flat_alike : {text bytes : List ℕ} {s t : Status} (w : WroteOfText text bytes s) → cert_outcome w.problem bytes ≡ Shows (verdict w.problem w.wrote.lines) → CheckedFlat text bytes t → EndsAlike s t
-flat_alike {text = text} {bytes = bytes} {s = s} {t = t} w shows h = alike (λ old mid. CheckFlatSays h.name h.cert old) h.old h.meets.mid h.new s t h.meets.reports h.meets.says h.meets.ends said
+-- ---- the check
+
+check_carries : (how : Search) (topic : Topic) (name : List ℕ) (old new : DeskState) (t : Status) → CommandMeets (Ok (check_after how topic name)) old new t → Carries (check_task (topic_subject topic) (searcher_of how).version name) old new t
+check_carries Solve topic name old new t m = m
+check_carries Prove topic name old new t m = m
+check_carries (Crew order) topic name old new t m = m
+
+-- the verdict that is shown has the status of the head
+same_status : (plan : Option (List Wish)) (ships : ℕ) (table : Option (List ℕ)) (head : Head) (best : Option ℕ) → is_answer (status_of_head head) ≡ true → status_of_verdict (head_verdict (searched_head plan ships table head) best) ≡ status_of_head head
+same_status None ships table (heads.Optimal c) best e = refl
+same_status None ships table heads.Infeasible best e = refl
+same_status None ships table (heads.Unfinished spent) best e = refl
+same_status None ships table heads.Memory best e = absurd (cc)
+same_status (Some plan) ships table (heads.Optimal c) best e = refl
+same_status (Some plan) ships table heads.Infeasible best e = refl
+same_status (Some plan) ships table (heads.Unfinished spent) best e = refl
+same_status (Some plan) ships table heads.Memory best e = absurd (cc)
+
+shown_status : {f : Problem} {plan : Option (List Wish)} {head : Head} {names : Naming} {table : Option (List ℕ)} {bound : Option ℕ} {r : Report} → is_answer (status_of_head head) ≡ true → IsShownAs f plan head names table bound r → status_of r ≡ status_of_head head
+shown_status {f = f} {plan = plan} {head = head} {table = table} e h = ap status_of h.report ∙ same_status plan f.ships table head _ e
+
+check_ends : {how : Search} {bytes : Topic} {cert : List ℕ} {s t : Status} (topic : Topic) (held : List ℕ → Option (List ℕ)) (w : Wrote how topic held cert s) → IsTold held topic bytes → is_answer s ≡ true → cert_stream_to (searcher_of how).version (shape_of (judged (topic_subject topic) w.value)) cert ≡ whole_lines w.certificate.lines → CheckAfter how bytes cert t → EndsAlike s t
+check_ends {how = how} {bytes = bytes} {cert = cert} {s = s} {t = t} topic held w told answer same k =
+    let m = check_carries how k.topic k.name k.old k.new t k.meets in
+    alike (λ old mid. CheckSays (topic_subject k.topic) (searcher_of how).version k.name old) k.old m.mid k.new s t m.reports m.says m.ends said
   where
-    said : (r : Report) → Checks (h.old.held h.name) (h.old.held h.cert) r → status_of r ≡ s
+    said : (r : Report) → Checks (topic_subject k.topic) (searcher_of how).version k.name k.old.held r → status_of r ≡ s
     said r says =
-        let v = verdict w.problem w.wrote.lines in
-        let both = subst (λ (told : Option (List ℕ)). Checks (Some text) told r) h.cert_told (subst (λ (told : Option (List ℕ)). Checks told (h.old.held h.cert) r) h.told says) in
-        let same : r ≡ checked v by_number = both.decided ∙ sym (decided_by (Some text) (Some bytes) w.problem (Shows v) w.reads (sym shows)) in
-        ap status_of same ∙ w.wrote.shows
+        let v = w.value in
+        let own = topic_subject topic in
+        let limits = (subjects_modelled_law topic held v w.reads).limits in
+        let is = checked_at topic held v told w.reads (record { topic = k.topic; name = k.name; held = k.old.held; told = k.told; cert_told = k.cert_told; says = says }) in
+        ap status_of is ∙ shown_status (ap is_answer (sym w.ended) ∙ answer) (own_shown how (own.naming v) limits w.certificate same) ∙ sym w.ended
 
-flat_status : (text bytes : List ℕ) (s t : Status) → SolvedFlat text bytes s → CheckedFlat text bytes t → FlatIsOverlong text bytes ⊎ EndsAlike s t
-flat_status text bytes s t h k =
-    let w = flat_wrote h in
-    by_end w (comes w.wrote w.limits)
-  where
-    by_end : (w : WroteOfText text bytes s) → ((cert_stream (shape_of w.problem) bytes).stop ≡ overlong) ⊎ (cert_outcome w.problem bytes ≡ Shows (verdict w.problem w.wrote.lines)) → FlatIsOverlong text bytes ⊎ EndsAlike s t
-    by_end w (inl long) = inl (w.problem, w.reads, long)
-    by_end w (inr shows) = inr (flat_alike w shows k)
+-- ---- both
 
--- ---- of a port
+-- what is read of the bytes themselves
+origin_itself : (bytes : Origin) → OriginTold itself bytes bytes
+origin_itself (flat_text text) = refl
+origin_itself (port_of port table) = (refl, refl)
 
-pub record WroteOfPort (instance table bytes : List ℕ) (s : Status) : Type 0 where
-  pub port : Parts
-  pub tide : TideParts
-  pub reads : IsPortOf (Some instance) (Some table) port tide
-  pub wrote : Wrote (flattened port tide) bytes s
+plan_itself : (plan : Option (List ℕ)) → PlanTold itself plan plan
+plan_itself None = tt
+plan_itself (Some plan) = refl
 
-by_port : {instance table bytes : List ℕ} (budget : ℕ) (proof : List ℕ) (old mid : DeskState) (s : Status) (r : Report) → s ≡ status_of r → is_answer s ≡ true → (mid.trays Proof).sent ≡ Some bytes → SolvesPortTexts (Some instance) (Some table) budget proof old mid (Some r) → WroteOfPort instance table bytes s
-by_port budget proof old mid s (solved head f (by_name p h) plan) ended answer sent says = record {
-  port = p;
-  tide = h;
-  reads = says.reads;
-  wrote = wrote s ended answer (subst (λ (told : Option (List ℕ)). IfSome told (IsCertificate (flattened p h) budget (SolveLines (flattened p h)) head plan)) sent says.certificate);
-}
-by_port budget proof old mid s (solved head f by_number plan) ended answer sent says = absurd says
-by_port budget proof old mid s bad_json ended answer sent says = absurd (cc)
-by_port budget proof old mid s (bad_field fault) ended answer sent says = absurd (cc)
-by_port budget proof old mid s (bad_tides fault) ended answer sent says = absurd (cc)
-by_port budget proof old mid s (too_long feed) ended answer sent says = absurd (cc)
-by_port budget proof old mid s r ended answer sent says = absurd says
-
-port_wrote : {instance table bytes : List ℕ} {s : Status} → SolvedPort instance table bytes s → WroteOfPort instance table bytes s
-port_wrote {instance = instance} {s = s} h =
-    let a = answered (SolvePortSays h.name h.tides h.budget h.proof) h.old h.meets.mid h.new s h.meets.reports h.meets.says h.meets.ends h.answer in
-    let of_instance = subst (λ (told : Option (List ℕ)). SolvesPortTexts told (h.old.held h.tides) h.budget h.proof h.old a.mid (Some a.report)) h.told a.says in
-    by_port h.budget h.proof h.old a.mid s a.report a.ended h.answer (a.sent ∙ h.wrote) (subst (λ (told : Option (List ℕ)). SolvesPortTexts (Some instance) told h.budget h.proof h.old a.mid (Some a.report)) h.tides_told of_instance)
-
-port_alike : {instance table bytes : List ℕ} {s t : Status} (w : WroteOfPort instance table bytes s) → cert_outcome (flattened w.port w.tide) bytes ≡ Shows (verdict (flattened w.port w.tide) w.wrote.lines) → CheckedPort instance table bytes t → EndsAlike s t
-port_alike {instance = instance} {table = table} {bytes = bytes} {s = s} {t = t} w shows h = alike (λ old mid. CheckPortSays h.name h.tides h.cert old) h.old h.meets.mid h.new s t h.meets.reports h.meets.says h.meets.ends said
-  where
-    f : Problem
-    f = flattened w.port w.tide
-
-    v : Verdict
-    v = verdict f w.wrote.lines
-
-    own : ChecksPortTexts (Some instance) (Some table) (Some bytes) (Some (checked v (by_name w.port w.tide)))
-    own = record {
-      reads = w.reads;
-      outcome = sym shows;
-      shown = record { lines = w.wrote.lines; fit = w.wrote.fit; valid = w.wrote.valid; verdict = refl; means = port_means w.port w.tide w.wrote.lines v w.reads.kept w.wrote.fit w.wrote.valid refl };
-    }
-
-    said : (r : Report) → ChecksPortTexts (h.old.held h.name) (h.old.held h.tides) (h.old.held h.cert) (Some r) → status_of r ≡ s
-    said r says =
-        let one = subst (λ (told : Option (List ℕ)). ChecksPortTexts told (h.old.held h.tides) (h.old.held h.cert) (Some r)) h.told says in
-        let two = subst (λ (told : Option (List ℕ)). ChecksPortTexts (Some instance) told (h.old.held h.cert) (Some r)) h.tides_told one in
-        let all = subst (λ (told : Option (List ℕ)). ChecksPortTexts (Some instance) (Some table) told (Some r)) h.cert_told two in
-        ap status_of (one_port_report.check instance table bytes r (checked v (by_name w.port w.tide)) all own) ∙ w.wrote.shows
-
-port_status : (instance table bytes : List ℕ) (s t : Status) → SolvedPort instance table bytes s → CheckedPort instance table bytes t → PortIsOverlong instance table bytes ⊎ EndsAlike s t
-port_status instance table bytes s t h k =
-    let w = port_wrote h in
-    by_end w (comes w.wrote (flattened_fits_law w.port w.tide w.reads.kept).0)
-  where
-    by_end : (w : WroteOfPort instance table bytes s) → ((cert_stream (shape_of (flattened w.port w.tide)) bytes).stop ≡ overlong) ⊎ (cert_outcome (flattened w.port w.tide) bytes ≡ Shows (verdict (flattened w.port w.tide) w.wrote.lines)) → PortIsOverlong instance table bytes ⊎ EndsAlike s t
-    by_end w (inl long) = inl (w.port, w.tide, w.reads, long)
-    by_end w (inr shows) = inr (port_alike w shows k)
+overlong_of : {how : Search} {bytes topic : Topic} {held : List ℕ → Option (List ℕ)} {cert : List ℕ} (v : (topic_subject topic).Value) → IsTold held topic bytes → (topic_subject topic).Reads held v → PassesLimit (searcher_of how).version (judged (topic_subject topic) v) cert → IsOverlong (searcher_of how).version bytes cert
+overlong_of {how = how} {bytes = bytes} {topic = topic} {held = held} {cert = cert} v told reads long =
+    let s = topic_subject topic in
+    let t = topic_subject bytes in
+    let it = moved topic bytes bytes held itself told (origin_itself bytes.origin, plan_itself bytes.plan) v reads in
+    (it.value, it.reads, subst (λ (f : Problem). PassesLimit (searcher_of how).version (repaired_problem f (t.plan it.value)) cert) (sym it.problem) (subst (λ (o : Option (List Wish)). PassesLimit (searcher_of how).version (repaired_problem (s.problem v) o) cert) (sym it.plan) long))
 
 pub own_status : OwnStatus
-own_status = record { flat = flat_status; port = port_status }
+own_status how bytes cert s t h k =
+    let w = wrote h in
+    by_lines w (own_lines how (subjects_modelled_law h.topic h.old.held w.value w.reads).limits w.certificate)
+  where
+    by_lines : (w : Wrote how h.topic h.old.held cert s) → PassesLimit (searcher_of how).version (judged (topic_subject h.topic) w.value) cert ⊎ (cert_stream_to (searcher_of how).version (shape_of (judged (topic_subject h.topic) w.value)) cert ≡ whole_lines w.certificate.lines) → IsOverlong (searcher_of how).version bytes cert ⊎ EndsAlike s t
+    by_lines w (inl long) = inl (overlong_of {how = how} {bytes = bytes} {topic = h.topic} {held = h.old.held} {cert = cert} w.value h.told w.reads long)
+    by_lines w (inr same) = inr (check_ends h.topic h.old.held w h.told h.answer same k)

@@ -45,7 +45,7 @@ all_plain (line ∷ more) e =
     let parts = and_parts (is_plain line) (list_all is_plain more) e in
     All-cons Plain line more parts.0 (all_plain more parts.1)
 
-plain_all : (all : List Line) → All Plain all → list_all is_plain all ≡ true
+pub plain_all : (all : List Line) → All Plain all → list_all is_plain all ≡ true
 plain_all [] h = refl
 plain_all (line ∷ more) h = both_on (is_plain line) (list_all is_plain more) (All-head Plain line more h) (plain_all more (All-tail Plain line more h))
 

@@ -20,9 +20,10 @@ use Rattle.hw_report.specs.Reports.{Report, demo}
 use Rattle.hw_report.specs.declared.report.Head.{Head}
 use Rattle.hw_report.specs.declared.report.Head.TheVariants as heads
 use Rattle.hw_command.specs.Carries.{Task, one_report}
-use Rattle.hw_command.specs.Certified.{HeadMeans, IsWritten, SolveLines, IsSpent, head_verdict}
 use Rattle.hw_command.specs.Scope.{MakesProof}
 use Rattle.hw_command.specs.Sending.{IsCutOf}
+use Rattle.hw_search_command.specs.Certified.{HeadMeans, IsWritten, IsSpent, head_verdict}
+use Rattle.hw_search_command.specs.Searchers.{solving}
 
 -- the limits of a demonstration
 abbrev pub most_ships : ℕ
@@ -47,7 +48,7 @@ IsFound heads.Memory = ⊥
 
 -- lines of a problem that was solved, and what a summary says of them
 pub record Demonstrates (f : Problem) (budget : ℕ) (head : Head) (best : Option ℕ) (shown : Verdict) (lemmas : ℕ) (all : List Line) : Type 0 where
-  pub written : IsWritten f budget (SolveLines f) all
+  pub written : IsWritten solving f budget all
   -- the last table is permitted, and what the head says of the problem is true
   pub permitted : IfSome (last_table all) (Permits f)
   pub found : IsFound head
@@ -70,7 +71,7 @@ pub record Shows (f : Problem) (budget : ℕ) (proof : List ℕ) (old new : Desk
 -- lines of the problem; after a failed make or write Proof holds a proper prefix of their text, where it is told
 pub record ShowsPart (f : Problem) (budget : ℕ) (new : DeskState) : Type 0 where
   pub lines : List Line
-  pub written : IsWritten f budget (SolveLines f) lines
+  pub written : IsWritten solving f budget lines
   pub part : IfSome (new.trays tray.Proof).sent (IsCutOf (cert_text Two lines))
 
 -- what the report of a demonstration says; none is a write fault on Proof. Out of memory is common to all commands, and no other report is given

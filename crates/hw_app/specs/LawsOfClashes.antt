@@ -11,9 +11,11 @@ use Rattle.hw_report.specs.Reports.{clashed, clash_holds}
 use Rattle.hw_report.specs.Texts.{report_text}
 use Rattle.hw_command.specs.Values.{most_bytes, IsTextOf}
 use Rattle.hw_clash_command.specs.Found.{IsClashTold}
-use Rattle.hw_clash_command.specs.Texts.{texts_report}
+use Rattle.hw_clash_command.specs.Texts.{plan_report, texts_report}
 
--- a clash that was found of the problem of a text, as it is printed, and the text of its certificate: the clash holds, unless the certificate passes a limit
-abbrev pub OwnClash : Type 0
-OwnClash = (f : Problem) (text kept : List ℕ) (drops : List (List ℕ)) (all : List Line) → IsFlat f → IsTextOf f text → IsClashTold f kept drops all → length (report_text (clashed kept drops)) ≤ most_bytes
-    → ((cert_stream (shape_of (part f kept)) (cert_text Two all)).stop ≡ overlong) ⊎ (texts_report text (report_text (clashed kept drops)) (cert_text Two all) ≡ clash_holds)
+-- a clash that was found, as it is printed, and the text of its certificate: the report is that the clash holds, of a port's flat problem too, unless the certificate passes a limit
+pub record OwnClash : Type 0 where
+  pub problem : (f : Problem) (kept : List ℕ) (drops : List (List ℕ)) (all : List Line) → IsFlat f → IsClashTold f kept drops all → length (report_text (clashed kept drops)) ≤ most_bytes
+      → ((cert_stream (shape_of (part f kept)) (cert_text Two all)).stop ≡ overlong) ⊎ (plan_report f (report_text (clashed kept drops)) (cert_text Two all) ≡ clash_holds)
+  pub flat : (f : Problem) (text kept : List ℕ) (drops : List (List ℕ)) (all : List Line) → IsFlat f → IsTextOf f text → IsClashTold f kept drops all → length (report_text (clashed kept drops)) ≤ most_bytes
+      → ((cert_stream (shape_of (part f kept)) (cert_text Two all)).stop ≡ overlong) ⊎ (texts_report text (report_text (clashed kept drops)) (cert_text Two all) ≡ clash_holds)

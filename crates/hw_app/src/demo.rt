@@ -14,7 +14,6 @@ ghost use Rattle.hw_progress.specs.Solving.{SolveMeets};
 ghost use Rattle.hw_report.specs.Printing.{CanPrint};
 ghost use Rattle.hw_report.specs.Reports.{demo as summary_of};
 ghost use Rattle.hw_report.specs.Seen.{report_seen};
-ghost use Rattle.hw_command.specs.Budgets.{most_budget};
 ghost use Rattle.hw_command.specs.Carries.{Carries};
 ghost use Rattle.hw_app.specs.Demo.{CanDraw, Demonstrates, best_in, demo_task, head_of};
 
@@ -24,6 +23,7 @@ use hw_command::{Status, finish, send_lines};
 use hw_desk::Desk;
 use hw_flat::{Flat, make_demo};
 use hw_model::NoMemory;
+use hw_progress::MOST_BUDGET;
 use hw_report::{Head, Report};
 use hw_search::{Solved, solve};
 use std::alloc::Global;
@@ -51,7 +51,7 @@ struct Shown {
 pub fn demo<D: Desk>(alloc: Global, desk: &mut D, draw: Draw, budget: u32, proof: &str) -> Status
     requires draw { CanDraw draw.ships draw.slots }
     requires least { 1 ≤ budget }
-    requires most { budget ≤ most_budget }
+    requires most { budget ≤ MOST_BUDGET }
     requires fresh { IsNewDesk (D.state desk.old) }
     ensures { Carries (demo_task (demonstration draw.number draw.ships draw.slots) budget proof.now) (D.state desk.old) (D.state desk.new) result }
 {
@@ -82,7 +82,7 @@ fn summary(shown: &Shown) -> Report<'static>
 fn show(alloc: Global, draw: Draw, budget: u32) -> Result<Shown, NoMemory>
     requires draw { CanDraw draw.ships draw.slots }
     requires least { 1 ≤ budget }
-    requires most { budget ≤ most_budget }
+    requires most { budget ≤ MOST_BUDGET }
     ensures { IfOk result (λ s. Demonstrates (demonstration draw.number draw.ships draw.slots) budget s.head s.best s.verdict s.lemmas s.lines.items) }
 {
     let flat = make_demo(alloc, draw.number, draw.ships, draw.slots)?;
@@ -104,7 +104,7 @@ fn show(alloc: Global, draw: Draw, budget: u32) -> Result<Shown, NoMemory>
 /// Solves a problem, and keeps the lines.
 fn solve_kept(alloc: Global, flat: &Flat, budget: u32) -> (Solved, Vec<Line>)
     requires least { 1 ≤ budget }
-    requires most { budget ≤ most_budget }
+    requires most { budget ≤ MOST_BUDGET }
     ensures { SolveMeets flat.now budget (memory_log []) result.0 (memory_log result.1.items) }
 {
     let mut log = MemoryLog::new(alloc);
@@ -167,7 +167,7 @@ fn check_one<'f>(checker: Checker<'f>, line: &Line) -> Result<Checker<'f>, NoMem
 
 /// How many of the lines are lemmas.
 fn count_lemmas(lines: &[Line]) -> u32
-    requires few { length (lemmas_of lines.now) ≤ most_budget }
+    requires few { length (lemmas_of lines.now) ≤ MOST_BUDGET }
     ensures { result ≡ length (lemmas_of lines.now) }
 {
     let mut count = 0;

@@ -1,3 +1,3 @@
 mod Charted
-mod Decided
-mod Verified
+pub mod Decided
+pub mod Verified

@@ -40,7 +40,7 @@ value_alike origin held bytes v reads =
     subst (λ (f : Problem). IsChartOf s held (report_of (s.naming v) (cert_bound Three f bytes) (ships_of (s.problem v) (s.plan v)) (cert_outcome_to Three f bytes)) (cert_chart (s.naming v) (s.problem v) bytes)) (sym (unplanned origin v))
     (outcome_alike s held v bytes (cert_outcome_to Three (s.problem v) bytes) (ships_of (s.problem v) (s.plan v)) reads)
 
-alike : (origin : Origin) (held : List ℕ → Option (List ℕ)) (bytes : List ℕ) (c r : Report) → let s = origin_subject origin in IsDecided s held → s.Refuses held c ⊎ DecidedBy s Three held bytes c → s.Refuses held r ⊎ DrawnBy s held bytes r → IsChartOf s held c r
+pub alike : (origin : Origin) (held : List ℕ → Option (List ℕ)) (bytes : List ℕ) (c r : Report) → let s = origin_subject origin in IsDecided s held → s.Refuses held c ⊎ DecidedBy s Three held bytes c → s.Refuses held r ⊎ DrawnBy s held bytes r → IsChartOf s held c r
 alike origin held bytes c r d (inl a) (inl b) = subst (IsChartOf (origin_subject origin) held c) (d.one_refusal c r a b) (refusal_alike origin held c a)
 alike origin held bytes c r d (inl a) (inr b) = absurd (d.apart b.value c b.reads a)
 alike origin held bytes c r d (inr a) (inl b) = absurd (d.apart a.value r a.reads b)
@@ -63,7 +63,7 @@ verified_of {s = s} a same =
     let g = judged s v in
     record { value = v; reads = a.reads; report = a.report ∙ ap (λ (read : CertLines). report_of (s.naming v) (bound_of read.lines) (ships_of (s.problem v) (s.plan v)) (stream_outcome g read)) (sym same) }
 
-checked_by : (origin : Origin) (held : List ℕ → Option (List ℕ)) (bytes : List ℕ) (c r : Report) → let s = origin_subject origin in IsDecided s held → s.Refuses held c ⊎ DecidedBy s Two held bytes c → s.Refuses held r ⊎ DrawnBy s held bytes r → NamesThird bytes ⊎ IsChartOf s held c r
+pub checked_by : (origin : Origin) (held : List ℕ → Option (List ℕ)) (bytes : List ℕ) (c r : Report) → let s = origin_subject origin in IsDecided s held → s.Refuses held c ⊎ DecidedBy s Two held bytes c → s.Refuses held r ⊎ DrawnBy s held bytes r → NamesThird bytes ⊎ IsChartOf s held c r
 checked_by origin held bytes c r d (inl a) b = inr (alike origin held bytes c r d (inl a) b)
 checked_by origin held bytes c r d (inr a) b = elim (stream_same (shape_of (judged (origin_subject origin) a.value)) bytes) [
   | inl third ↦ inl third

@@ -30,10 +30,10 @@ use Rattle.hw_clash_command.proofs.Sources.{plainly}
 -- ---- by what is read of the inputs
 
 -- what is read, and the report that this gives
-record ReportedBy (s : Subject) (held : List ℕ → Option (List ℕ)) (report : s.Value → Report) (r : Report) : Type 0 where
-  value : s.Value
-  reads : s.Reads held value
-  is : r ≡ report value
+pub record ReportedBy (s : Subject) (held : List ℕ → Option (List ℕ)) (report : s.Value → Report) (r : Report) : Type 0 where
+  pub value : s.Value
+  pub reads : s.Reads held value
+  pub is : r ≡ report value
 
 -- one report, where what is held gives one value or one refusal
 one_of : (s : Subject) (held : List ℕ → Option (List ℕ)) (report : s.Value → Report) (r t : Report) → IsDecided s held → s.Refuses held r ⊎ ReportedBy s held report r → s.Refuses held t ⊎ ReportedBy s held report t → r ≡ t
@@ -69,7 +69,7 @@ of_bad {s = s} {clash = clash} bytes number word planned says =
 long_plan : (f : Problem) (plan bytes : List ℕ) → IsLong plan → too_long Plan ≡ plan_report f plan bytes
 long_plan f plan bytes long = sym (ap (λ passes. cond passes (too_long Plan) (clash_report f (clash_text f plan) bytes)) (lt-ltb _ _ long))
 
-decided : (s : Subject) (plan cert clash bytes : List ℕ) (held : List ℕ → Option (List ℕ)) (r : Report) → held plan ≡ Some clash → held cert ≡ Some bytes → ClashChecks s plan cert held r → s.Refuses held r ⊎ ReportedBy s held (λ v. plan_report (s.problem v) clash bytes) r
+pub decided : (s : Subject) (plan cert clash bytes : List ℕ) (held : List ℕ → Option (List ℕ)) (r : Report) → held plan ≡ Some clash → held cert ≡ Some bytes → ClashChecks s plan cert held r → s.Refuses held r ⊎ ReportedBy s held (λ v. plan_report (s.problem v) clash bytes) r
 decided s plan cert clash bytes held clash_holds planned told says = inr (of_outcome (Shows verdicts.Infeasible) planned told refl says)
 decided s plan cert clash bytes held (checked v bound ships names) planned told says = inr (of_outcome (Shows v) planned told (says.0 ∙ other_verdict v says.1) says.2)
 decided s plan cert clash bytes held (refused number word hint) planned told says = inr (of_outcome (Wrong number word hint) planned told refl says)

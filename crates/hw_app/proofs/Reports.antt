@@ -1,0 +1,128 @@
+-- The laws of reports.
+use Rattle.std.proofs.Common.{◌≡◌, ◌⊎◌, ◌∙◌, ℕ, List, Option, Some, inl, inr, refl, sym, ap}
+use Rattle.hw_model.specs.Problem.{Problem, shape_of}
+use Rattle.hw_flat.specs.TextWritten.{problem_text}
+use Rattle.hw_lines.specs.Tolled.{bound_of}
+use Rattle.hw_cert.specs.declared.version.Version.{Version}
+use Rattle.hw_cert.specs.declared.version.Version.TheVariants.{Two, Three}
+use Rattle.hw_cert.specs.Stream.{CertLines, cert_stream, cert_stream_to}
+use Rattle.hw_port.specs.Whole.{Parts}
+use Rattle.hw_tide.specs.Levels.{TideParts}
+use Rattle.hw_port_rules.specs.Flattened.{flattened}
+use Rattle.hw_repair.specs.declared.plan.Wish.{Wish}
+use Rattle.hw_report.specs.Reports.{Report, Naming, checked, whole_text}
+use Rattle.hw_command.specs.Certificates.{report_of, stream_outcome}
+use Rattle.hw_subject.specs.Meanings.{judged, repaired_problem, ships_of}
+use Rattle.hw_subject.specs.Subjects.{Subject, Origin, Topic, origin_subject, topic_subject}
+use Rattle.hw_check_command.specs.Checks.{Checks}
+use Rattle.hw_check_command.specs.Laws.{DecidedBy, IsDecided, NamesThird}
+use Rattle.hw_check_command.specs.Texts.{cert_report}
+use Rattle.hw_check_command.proofs.Decided.{subjects_decided_law}
+use Rattle.hw_check_command.proofs.OnePort.{OfFiles, of_port, no_port_files, one_report}
+use Rattle.hw_check_command.proofs.SameLines.{stream_same}
+use Rattle.hw_chart_command.specs.Laws.{IsChartOf}
+use Rattle.hw_chart_command.specs.Texts.{cert_chart}
+use Rattle.hw_chart_command.proofs.Decided.{DrawnBy, decided as chart_decided}
+use Rattle.hw_chart_command.proofs.Verified.{alike, checked_by}
+use Rattle.hw_clash_command.specs.Texts.{plan_report}
+use Rattle.hw_clash_command.proofs.Decided.{ReportedBy as ClashReportedBy, decided as clash_decided, one_clash_report_law}
+use Rattle.hw_app.specs.Flattening.{FlattensTexts}
+use Rattle.hw_app.specs.LawsOfReports.{CheckOf, ChartOf, ClashCheckOf, OneCertificateReport, OneChart, OneClashReport, OneFlatText, PrintedBounds, VerifiedAsChecked, ChartsAsVerified, ChartsAsChecked}
+use Rattle.hw_app.specs.Told.{itself, plainly}
+use Rattle.hw_app.proofs.Decided.{Last, ReportedBy, IsReported, as_check, by_cert, carried, check_reported, one_across, one_check}
+use Rattle.hw_app.proofs.Told.{all_told}
+
+-- ---- one report
+
+pub one_certificate_report : OneCertificateReport
+one_certificate_report = record {
+  check = λ bytes cert r t h g. one_check Two bytes cert r t (as_check h) (as_check g);
+  verify = λ bytes cert r t h g. one_check Three bytes cert r t h g;
+}
+
+abbrev by_chart : List ℕ → Last
+by_chart cert names f plan = cert_chart names f cert
+
+by_drawn : (s : Subject) (held : List ℕ → Option (List ℕ)) (cert : List ℕ) (r : Report) → s.Refuses held r ⊎ DrawnBy s held cert r → IsReported s held (by_chart cert) r
+by_drawn s held cert r (inl no) = inl no
+by_drawn s held cert r (inr by) = inr (record { value = by.value; reads = by.reads; report = by.report })
+
+chart_reported : {bytes : Origin} {cert : List ℕ} {r : Report} → (h : ChartOf bytes cert r) → IsReported (origin_subject h.origin) h.held (by_chart cert) r
+chart_reported {cert = cert} {r = r} h = by_drawn (origin_subject h.origin) h.held cert r (chart_decided h.origin h.name cert h.held r h.cert_told h.says)
+
+pub one_chart : OneChart
+one_chart bytes cert r t h g = one_across (plainly h.origin) (plainly g.origin) (plainly bytes) h.held g.held (by_chart cert) r t (h.told, tt) (g.told, tt) (chart_reported h) (chart_reported g)
+
+abbrev by_clash : List ℕ → List ℕ → Last
+by_clash clash cert names f plan = plan_report f clash cert
+
+by_plan : (s : Subject) (held : List ℕ → Option (List ℕ)) (clash cert : List ℕ) (r : Report) → s.Refuses held r ⊎ ClashReportedBy s held (λ v. plan_report (s.problem v) clash cert) r → IsReported s held (by_clash clash cert) r
+by_plan s held clash cert r (inl no) = inl no
+by_plan s held clash cert r (inr by) = inr (record { value = by.value; reads = by.reads; report = by.is })
+
+pub clash_reported : {bytes : Origin} {clash cert : List ℕ} {r : Report} → (h : ClashCheckOf bytes clash cert r) → IsReported (origin_subject h.origin) h.held (by_clash clash cert) r
+clash_reported {clash = clash} {cert = cert} {r = r} h = by_plan (origin_subject h.origin) h.held clash cert r (clash_decided (origin_subject h.origin) h.plan_name h.name clash cert h.held r h.plan_told h.cert_told h.says)
+
+pub one_clash_report : OneClashReport
+one_clash_report = record {
+  check = λ bytes clash cert r t h g. one_across (plainly h.origin) (plainly g.origin) (plainly bytes) h.held g.held (by_clash clash cert) r t (h.told, tt) (g.told, tt) (clash_reported h) (clash_reported g);
+  explain = λ instance tides r t h g. one_clash_report_law.explain instance tides itself r t (tt, (tt, tt)) h g;
+}
+
+-- the report of a port with its tide by their flat text
+abbrev by_text : Parts → TideParts → Report
+by_text p h = whole_text (problem_text (flattened p h))
+
+flatten_files : (instance tides : List ℕ) (r : Report) → FlattensTexts (Some instance) (Some tides) (Some r) → OfFiles instance tides by_text r
+flatten_files instance tides (whole_text text) says = of_port by_text _ says.reads (ap whole_text says.flat.written)
+flatten_files instance tides r says = no_port_files instance tides by_text r says
+
+pub one_flat_text : OneFlatText
+one_flat_text instance tides r t h g = one_report instance tides by_text r t (flatten_files instance tides r h) (flatten_files instance tides t g)
+
+-- ---- bounds
+
+pub printed_bounds : PrintedBounds
+printed_bounds topic cert held shows bound ships names says = record {
+  value = says.value;
+  reads = says.reads;
+  naming = says.naming;
+  bounds = says.shown.bounds;
+  only = λ told other reads. (subjects_decided_law topic held told).one_value says.value other says.reads reads;
+}
+
+-- ---- one command by another
+
+-- where the same lines are read, the report is the same
+same_report : (names : Naming) (f : Problem) (plan : Option (List Wish)) (cert : List ℕ) → cert_stream_to Three (shape_of (repaired_problem f plan)) cert ≡ cert_stream (shape_of (repaired_problem f plan)) cert → cert_report Three names f plan cert ≡ cert_report Two names f plan cert
+same_report names f plan cert same = ap (λ (read : CertLines). report_of names (bound_of read.lines) (ships_of f plan) (stream_outcome (repaired_problem f plan) read)) same
+
+third_or_same : (s : Subject) (held : List ℕ → Option (List ℕ)) (cert : List ℕ) (c r : Report) → IsDecided s held → IsReported s held (by_cert Two cert) c → IsReported s held (by_cert Three cert) r → NamesThird cert ⊎ (r ≡ c)
+third_or_same s held cert c r d (inl a) (inl b) = inr (d.one_refusal r c b a)
+third_or_same s held cert c r d (inl a) (inr b) = absurd (d.apart b.value c b.reads a)
+third_or_same s held cert c r d (inr a) (inl b) = absurd (d.apart a.value r a.reads b)
+third_or_same s held cert c r d (inr a) (inr b) = by_stream (stream_same (shape_of (judged s a.value)) cert)
+  where
+    by_stream : NamesThird cert ⊎ (cert_stream_to Three (shape_of (judged s a.value)) cert ≡ cert_stream (shape_of (judged s a.value)) cert) → NamesThird cert ⊎ (r ≡ c)
+    by_stream (inl third) = inl third
+    by_stream (inr same) = inr (b.report ∙ ap (λ (v : s.Value). cert_report Three (s.naming v) (s.problem v) (s.plan v) cert) (sym (d.one_value a.value b.value a.reads b.reads)) ∙ same_report (s.naming a.value) (s.problem a.value) (s.plan a.value) cert same ∙ sym a.report)
+
+pub verified_as_checked : VerifiedAsChecked
+verified_as_checked bytes cert c r h g =
+    let s = topic_subject g.topic in
+    third_or_same s g.held cert c r (subjects_decided_law g.topic g.held (all_told g.topic bytes g.held g.told)) (carried h.topic g.topic bytes h.held g.held (by_cert Two cert) c h.told g.told (check_reported h)) (check_reported g)
+
+-- as the crate of certificates says it
+decided_as : (s : Subject) (most : Version) (held : List ℕ → Option (List ℕ)) (cert : List ℕ) (c : Report) → IsReported s held (by_cert most cert) c → s.Refuses held c ⊎ DecidedBy s most held cert c
+decided_as s most held cert c (inl no) = inl no
+decided_as s most held cert c (inr by) = inr (record { value = by.value; reads = by.reads; report = by.report })
+
+pub charts_as_verified : ChartsAsVerified
+charts_as_verified bytes cert c r g h =
+    let topic = plainly h.origin in
+    alike h.origin h.held cert c r (subjects_decided_law topic h.held (all_told topic (plainly bytes) h.held (h.told, tt))) (decided_as (origin_subject h.origin) Three h.held cert c (carried g.topic topic (plainly bytes) g.held h.held (by_cert Three cert) c g.told (h.told, tt) (check_reported g))) (chart_decided h.origin h.name cert h.held r h.cert_told h.says)
+
+pub charts_as_checked : ChartsAsChecked
+charts_as_checked bytes cert c r g h =
+    let topic = plainly h.origin in
+    checked_by h.origin h.held cert c r (subjects_decided_law topic h.held (all_told topic (plainly bytes) h.held (h.told, tt))) (decided_as (origin_subject h.origin) Two h.held cert c (carried g.topic topic (plainly bytes) g.held h.held (by_cert Two cert) c g.told (h.told, tt) (check_reported g))) (chart_decided h.origin h.name cert h.held r h.cert_told h.says)
