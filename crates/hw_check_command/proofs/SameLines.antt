@@ -1,13 +1,10 @@
 -- A certificate of the first two versions reads alike, whichever versions may be read.
-use Rattle.std.proofs.Common.{◌≡◌, ◌⊎◌, ◌∙◌, ◌+◌, cond, ℕ, Bool, true, false, List, [], ◌∷◌, length, fold, Option, Some, None, option_and_then, Result, Ok, Err, inl, inr, refl, sym, ap}
-use Rattle.std.specs.List.{list_all, join_with_byte}
-use Rattle.std.proofs.lemmas.Bool.{and_parts}
+use Rattle.std.proofs.Common.{◌≡◌, ◌⊎◌, ◌∙◌, ◌+◌, cond, ℕ, Bool, true, false, List, [], ◌∷◌, length, Option, Some, None, option_and_then, Result, Ok, Err, inl, inr, refl, sym, ap}
+use Rattle.std.specs.List.{join_with_byte}
 use Rattle.std.proofs.lemmas.List.Splits.{join_with_byte-slice_split}
 use Rattle.hw_text.specs.Parts.{parts_of, words_of}
 use Rattle.hw_model.specs.declared.shape.Shape.{Shape}
 use Rattle.hw_lines.specs.declared.line.Line.{Line}
-use Rattle.hw_lines.specs.declared.line.Line.TheVariants as lines
-use Rattle.hw_lines.specs.Tolled.{is_plain, bound_after, bound_of}
 use Rattle.hw_cert.specs.declared.stop.FormWord.{FormWord}
 use Rattle.hw_cert.specs.declared.version.Version.{Version}
 use Rattle.hw_cert.specs.declared.version.Version.TheVariants.{One, Two, Three}
@@ -78,27 +75,3 @@ cut_same shape bytes long e = inr refl
 
 pub stream_same : (shape : Shape) (bytes : List ℕ) → NamesThird bytes ⊎ (cert_stream_to Three shape bytes ≡ cert_stream shape bytes)
 stream_same shape bytes = cut_same shape bytes (cut_of 0 (parts_of 10 bytes)) refl
-
--- ---- plain lines have no bound
-
-plain_after : (last : Option ℕ) (line : Line) → is_plain line ≡ true → bound_after last line ≡ last
-plain_after last (lines.Table table) e = refl
-plain_after last (lines.Explain n clause) e = refl
-plain_after last (lines.Order v w x clause) e = refl
-plain_after last (lines.Goal clause) e = refl
-plain_after last (lines.Lemma clause hints) e = refl
-plain_after last (lines.Delete ids) e = refl
-plain_after last (lines.Narrows blocks) e = absurd (cc)
-plain_after last (lines.Tugs n slot most weights) e = absurd (cc)
-plain_after last (lines.Tariff scale prices) e = absurd (cc)
-plain_after last (lines.Priced clause) e = absurd (cc)
-plain_after last (lines.Bound bound) e = absurd (cc)
-
-plain_fold : (last : Option ℕ) (all : List Line) → list_all is_plain all ≡ true → fold bound_after last all ≡ last
-plain_fold last [] e = refl
-plain_fold last (line ∷ more) e =
-    let parts = and_parts (is_plain line) (list_all is_plain more) e in
-    ap (λ (b : Option ℕ). fold bound_after b more) (plain_after last line parts.0) ∙ plain_fold last more parts.1
-
-pub plain_bound : (all : List Line) → list_all is_plain all ≡ true → bound_of all ≡ None
-plain_bound all e = plain_fold None all e
