@@ -28,7 +28,7 @@ use std::alloc::Global;
 
 /// What comes of a certificate that is to be renewed.
 #[derive(Drop)]
-pub enum Renewal {
+enum Renewal {
     /// What was read of it. If it shows something, its renewed lines were sent to Proof; otherwise
     /// Proof wasn't made.
     Checked(Result<ReadCert<()>, CertStop>),
