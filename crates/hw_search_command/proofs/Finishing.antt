@@ -1,6 +1,6 @@
 -- The one proof: a search that has run over a subject carries its task.
 use Rattle.std.proofs.Common.{◌≡◌, ◌∙◌, ℕ, List, [], ◌∷◌, Option, Some, None, append-nil, refl, sym, ap, subst}
-use Rattle.std.specs.Prelude.{◌≢◌, IfSome}
+use Rattle.std.specs.Prelude.{◌≢◌}
 use Rattle.hw_model.specs.Problem.{Problem}
 use Rattle.hw_desk.specs.State.{DeskState}
 use Rattle.hw_desk.specs.declared.desk.Tray.TheVariants as tray
@@ -13,6 +13,7 @@ use Rattle.hw_command.specs.declared.status.Status.{Status}
 use Rattle.hw_command.specs.declared.status.Status.TheVariants.{WriteFault}
 use Rattle.hw_command.proofs.Made.{makes_past, made_works, breaks_off}
 use Rattle.hw_command.proofs.Stops.{stops_carries}
+use Rattle.hw_command.proofs.Told.{told_map}
 use Rattle.hw_subject.specs.Meanings.{HeadSays, IsModelled, judged}
 use Rattle.hw_subject.specs.Reading.{ReadsSubject, StopsAtSubject, naming_of, plan_in, searched_in}
 use Rattle.hw_subject.specs.Subjects.{Subject, Topic, topic_subject}
@@ -76,10 +77,6 @@ breaks s q {x = x} {z = z} h k =
       ends = (refl, refl);
     }
 
-if_some : {P Q : List ℕ → Type 0} (told : Option (List ℕ)) → ((bytes : List ℕ) → P bytes → Q bytes) → IfSome told P → IfSome told Q
-if_some None k h = tt
-if_some (Some bytes) k h = k bytes h
-
 -- what was found, and what of it is said
 finds : (topic : Topic) (how : Search) {budget : ℕ} {proof : List ℕ} {x y z : DeskState} {given : Given} (found : Found) → (h : ReadsSubject (topic_subject topic) x y given) → SearchesTo (searcher_of how) (judged (topic_subject topic) h.value) budget proof y z (Some found)
     → Searched (topic_subject topic) (searcher_of how) budget proof x z (own_head ((topic_subject topic).plan h.value) ((topic_subject topic).problem h.value).ships found.head) ((topic_subject topic).problem h.value) ((topic_subject topic).naming h.value) found.table (moved_told ((topic_subject topic).plan h.value) found.table) (own_bound ((topic_subject topic).plan h.value) ((topic_subject topic).problem h.value).ships found.bound)
@@ -101,7 +98,7 @@ finds topic how {budget = budget} {z = z} found h k =
       permitted = printed_table s v found.table m is.permitted;
       means = subst (λ (most : ℕ). HeadSays s v budget most own found.table) (same_most how f (s.plan v)) (head_says s v budget (q.most (judged s v)) found.head found.table m is.means);
       bounded = bound_says s v found.bound m is.bounded;
-      certificate = if_some (z.trays tray.Proof).sent (λ bytes c. own_certificate q f (s.plan v) budget (q.most (judged s v)) found.head found.table found.bound bytes m.fits is.means c) k.leaves.2;
+      certificate = told_map (z.trays tray.Proof).sent (λ bytes c. own_certificate q f (s.plan v) budget (q.most (judged s v)) found.head found.table found.bound bytes m.fits is.means c) k.leaves.2;
     }
 
 pub carries : (topic : Topic) (how : Search) {budget : ℕ} {proof : List ℕ} {x y z end : DeskState} {given : Given} {e : Status} (found : Found) → ReadsSubject (topic_subject topic) x y given → SearchesTo (searcher_of how) (searched_in given.flat given.repair) budget proof y z (Some found) → Ends (report_of given found ∷ []) z end e → Carries (search_task (topic_subject topic) (searcher_of how) budget proof) x end e

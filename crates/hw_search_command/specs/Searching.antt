@@ -7,6 +7,7 @@ use Rattle.hw_desk.specs.State.{DeskState, Rose}
 use Rattle.hw_desk.specs.declared.desk.Tray.TheVariants as tray
 use Rattle.hw_verdict.specs.Laws.{IsBound}
 use Rattle.hw_cert.specs.Logs.{LogModel, LogTold, WhereTold}
+use Rattle.hw_cert.specs.Told.{log_under}
 use Rattle.hw_search_command.specs.Certified.{HeadMeans, IsWritten, Shows, IsCertificate, IsCutLine, IsCutShort}
 use Rattle.hw_search_command.specs.Searchers.{Searcher}
 use Rattle.hw_search_command.specs.declared.finding.Found.{Found}
@@ -41,7 +42,11 @@ pub record SearchMeets (q : Searcher) (f : Problem) (budget : ℕ) (old : LogMod
 
 -- ---- on Proof
 
--- the same of a desk
+-- the same of a desk whose Proof holds the header of a certificate of the search
+abbrev pub SearchesOn : Searcher → Problem → ℕ → DeskState → Option Found → DeskState → Type 0
+SearchesOn q f budget old found new = SearchMeets q f budget (log_under q.version old) found (log_under q.version new)
+
+-- what is on Proof after a search: a certificate that shows what was found; or what a failed make or write leaves
 abbrev pub SearchLeaves : Searcher → Problem → ℕ → DeskState → DeskState → Option Found → Type 0
 SearchLeaves q f budget old new (Some found) = (new.write_faults ≡ old.write_faults) × IsTrueOf q f budget found × IfSome (new.trays tray.Proof).sent (IsCertificate q f None budget found.head found.table found.bound)
 SearchLeaves q f budget old new None = Rose old.write_faults new.write_faults × IsCutShort q f budget new

@@ -81,7 +81,7 @@ impl Order {
     pub fn rules(&self) -> &[Branching]
         ensures rules { result.now ≡ self.now }
         ensures some { 1 ≤ length self.now }
-        ensures few { length self.now ≤ 64 }
+        ensures few { length self.now ≤ MOST_TURNS }
     {
         &self.rules[..self.count]
     }

@@ -9,7 +9,7 @@ ghost use Rattle.hw_progress.specs.Solving.{SolveMeets};
 ghost use Rattle.hw_search.specs.Faults.{SolvedKeepsFaults};
 ghost use Rattle.hw_turns.specs.Working.{CrewMeets};
 ghost use Rattle.hw_search_command.specs.Searchers.{searcher_of};
-ghost use Rattle.hw_search_command.specs.Searching.{SearchMeets, SearchesTo};
+ghost use Rattle.hw_search_command.specs.Searching.{SearchesOn, SearchesTo};
 
 use crate::finding::{Found, found_by_crew, found_of};
 use crate::order::Order;
@@ -60,7 +60,7 @@ fn search_on<D: Desk>(
     requires made { ((D.state desk.old).trays Tray.Proof).made ≡ true }
     requires told { is_told_under (searcher_of how.now).version ((D.state desk.old).trays Tray.Proof).sent ≡ true }
     requires empty { IsEmpty (log_under (searcher_of how.now).version (D.state desk.old)) }
-    ensures meets { SearchMeets (searcher_of how.now) flat.now budget (log_under (searcher_of how.now).version (D.state desk.old)) result (log_under (searcher_of how.now).version (D.state desk.new)) }
+    ensures meets { SearchesOn (searcher_of how.now) flat.now budget (D.state desk.old) result (D.state desk.new) }
     ensures told { is_told_under (searcher_of how.now).version ((D.state desk.new).trays Tray.Proof).sent ≡ true }
     ensures outside { outside_of (D.state desk.new) ≡ outside_of (D.state desk.old) }
 {
