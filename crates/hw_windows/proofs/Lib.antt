@@ -1,0 +1,5 @@
+pub mod Alike
+pub mod Runs
+pub mod Extremes
+pub mod Routes
+pub mod Statuses
