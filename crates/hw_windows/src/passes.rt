@@ -2,6 +2,7 @@
 
 ghost use Rattle.std.specs.Prelude.{◌≡◌, ◌<◌, ◌≤◌, ◌≤ℤ◌, ◌+ℤ◌, ◌-ℤ◌, pos, length, All, slice_get};
 ghost use Rattle.std.specs.Option.{option_map_or};
+ghost use Rattle.std.specs.Ordering.{int_eq};
 ghost use Rattle.hw_port.specs.Kept.{PassKept, PortKept, WaypointKept, Within};
 ghost use Rattle.hw_port_rules.specs.Numbers.{whole};
 ghost use Rattle.hw_port_rules.specs.Drafts.{draft_at};
@@ -85,6 +86,17 @@ fn draft_left(parts: &PortParts, tide: &Tide, slot: Slot, pass: &Pass) -> i64
     left(depth(&parts.waypoints, place), height, pass.clearance)
 }
 
+/// Whether a pass leaves just this draft.
+fn leaves(parts: &PortParts, tide: &Tide, slot: Slot, draft: i64, pass: &Pass) -> bool
+    requires kept { PortKept parts.now }
+    requires columns { tide.now.columns ≡ length parts.now.waypoints }
+    requires slot { slot ≤ MOST_SLOTS }
+    requires pass { PassKept (pos (length parts.now.waypoints)) pass.now }
+    ensures { result ≡ int_eq (draft_at parts.now.waypoints tide.now slot pass.now) draft }
+{
+    draft_left(parts, tide, slot, pass) == draft
+}
+
 /// The place of the waypoint of the first pass that leaves just this draft, or 0.
 pub fn limiting(parts: &PortParts, tide: &Tide, slot: Slot, draft: i64, route: &[Pass]) -> u32
     requires kept { PortKept parts.now }
@@ -96,7 +108,7 @@ pub fn limiting(parts: &PortParts, tide: &Tide, slot: Slot, draft: i64, route: &
     match route {
         [] => 0,
         [pass, more @ ..] => {
-            if draft_left(parts, tide, slot, pass) == draft {
+            if leaves(parts, tide, slot, draft, pass) {
                 natural(pass.waypoint)
             } else {
                 limiting(parts, tide, slot, draft, more)

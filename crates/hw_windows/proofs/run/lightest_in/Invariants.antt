@@ -5,7 +5,4 @@ use Rattle.hw_windows.specs.Runs.{lightest}
 use Rattle.hw_windows.proofs.run.lightest_in.Given as goal
 
 abbrev pub invariant-loop-slot : goal.invariant-loop-slot
-invariant-loop-slot l = record {
-  value : l.best ≡ lightest (draft_in l.port l.tide l.ship) l.run.first (l.slot - l.run.first);
-  slot_in : l.best < horizon_of l.port;
-}
+invariant-loop-slot l = (l.best ≡ lightest (draft_in l.port l.tide l.ship) l.fn.run.first (l.slot - l.fn.run.first)) × (l.best < horizon_of l.port)
