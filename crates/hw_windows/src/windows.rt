@@ -74,14 +74,7 @@ fn put_ended<W: Writer>(out: &mut W, port: &Port, ship: &Ship, run: Run)
 }
 
 /// Puts a run, by the status of its slots.
-fn put_run<W: Writer>(
-    out: &mut W,
-    port: &Port,
-    tide: &Tide,
-    number: ShipId,
-    ship: &Ship,
-    run: Run,
-)
+fn put_run<W: Writer>(out: &mut W, port: &Port, tide: &Tide, number: ShipId, ship: &Ship, run: Run)
     requires ship_in { number < length port.now.ships }
     requires ship { ShipKept port.now ship.now }
     requires ordered { run.first ≤ run.last }
@@ -147,6 +140,13 @@ fn put_asked<W: Writer>(out: &mut W, port: &Port, tide: &Tide, number: ShipId, s
     put_runs(out, port, tide, number, ship, asked(port, ship));
 }
 
+/// The name of a ship.
+fn name_of(ship: &Ship) -> &[u8]
+    ensures { result.now ≡ ship.now.name }
+{
+    &ship.name.items
+}
+
 /// Puts a ship.
 fn put_ship<W: Writer>(out: &mut W, port: &Port, tide: &Tide, number: ShipId, ship: &Ship)
     requires ship_in { number < length port.now.ships }
@@ -154,7 +154,7 @@ fn put_ship<W: Writer>(out: &mut W, port: &Port, tide: &Tide, number: ShipId, sh
     requires columns { tide.now.columns ≡ length port.now.waypoints }
     ensures { Puts (ship_text port.now tide.now number ship.now) (W.state out.old) (W.state out.new) }
 {
-    put_ship_line(out, number, &ship.name.items);
+    put_ship_line(out, number, name_of(ship));
     put_asked(out, port, tide, number, ship);
 }
 
