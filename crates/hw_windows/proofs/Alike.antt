@@ -1,5 +1,5 @@
 -- Statuses of one kind.
-use Rattle.std.proofs.Common.{◌≡◌, true, false, refl}
+use Rattle.std.proofs.Common.{◌≡◌, true, refl}
 use Rattle.hw_windows.specs.declared.status.Status.{Status}
 use Rattle.hw_windows.specs.declared.status.Status.TheVariants.{Sails, Shallow, TidesEnd}
 use Rattle.hw_windows.specs.Statuses.{alike}

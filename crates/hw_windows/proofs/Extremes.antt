@@ -1,10 +1,9 @@
 -- The least and the greatest draft of a run.
-use Rattle.std.proofs.Common.{◌≡◌, ◌⊎◌, ◌<◌, ◌≤◌, ◌+◌, ◌-◌, ℕ, zero, suc, ℤ, ◌≤ℤ◌, int_lt, Bool, true, false, cond, refl, subst, inl, inr, arith}
+use Rattle.std.proofs.Common.{◌≡◌, ◌≤◌, ◌+◌, ◌-◌, ℕ, zero, suc, ℤ, ◌≤ℤ◌, int_lt, Bool, true, false, cond, refl, subst, inl, inr, arith}
 use Rattle.std.proofs.lemmas.Bool.{cases_lt}
 use Rattle.std.proofs.lemmas.Int.{ints}
-use Rattle.hw_windows.specs.declared.run.Run.{Run}
 use Rattle.hw_windows.specs.Runs.{deeper, deepest, lighter, lightest}
-use Rattle.hw_windows.specs.Laws.{DraftsAreExtremes, IsWithin}
+use Rattle.hw_windows.specs.Laws.{DraftsAreExtremes}
 
 -- one of some slots, none of which has a lesser draft
 record Least (draft : ℕ → ℤ) (first more slot : ℕ) : Type 0 where

@@ -1,8 +1,7 @@
 -- The pass that leaves just the allowed draft, and the last pass of a route.
-use Rattle.std.proofs.Common.{◌≡◌, ◌⊎◌, ◌<◌, ◌≤◌, ◌+◌, ◌∙◌, ℕ, zero, suc, ℤ, Bool, true, false, cond, List, [], ◌∷◌, length, map, Option, Some, None, All, Contains, get_or, nat_lt, refl, sym, ap, subst, inl, inr, arith}
+use Rattle.std.proofs.Common.{◌≡◌, ◌⊎◌, ◌<◌, ◌≤◌, ◌+◌, ◌∙◌, ℕ, zero, suc, ℤ, Bool, true, false, cond, List, [], ◌∷◌, length, map, Option, Some, None, Contains, get_or, nat_lt, refl, sym, ap, subst, inl, inr, arith}
 use Rattle.std.proofs.lemmas.Bool.{ltb-true, ltb-false}
 use Rattle.std.proofs.lemmas.Bool.Decides.{Decides-int_eq}
-use Rattle.std.specs.Int.{int_min}
 use Rattle.std.specs.Ordering.{int_eq}
 use Rattle.hw_port.specs.declared.parts.Pass.{Pass}
 use Rattle.hw_port.specs.declared.parts.Waypoint.{Waypoint}
@@ -12,7 +11,7 @@ use Rattle.hw_port_rules.specs.Numbers.{whole}
 use Rattle.hw_port_rules.specs.Drafts.{draft_at, least, lesser, pass_draft, passing_slot}
 use Rattle.hw_windows.specs.declared.passes.LastPass.{LastPass}
 use Rattle.hw_windows.specs.Passes.{last_pass, later, limiting, made_at}
-use Rattle.hw_windows.specs.Laws.{IsLast, LastPassIsLast}
+use Rattle.hw_windows.specs.Laws.{LastPassIsLast}
 
 -- ---- the later of two passes
 

@@ -1,12 +1,11 @@
 -- What a status says of a slot.
-use Rattle.std.proofs.Common.{◌≡◌, ◌↔◌, ◌<◌, ◌≤◌, ◌+◌, ◌∙◌, ℕ, ℤ, ◌<ℤ◌, int_lt, Bool, true, false, cond, length, Option, Some, None, IsSome, IsTrue, option_map, option_and_then, slice_get, refl, sym, ap, subst, arith}
+use Rattle.std.proofs.Common.{◌≡◌, ◌↔◌, ◌≤◌, ℕ, ℤ, int_lt, Bool, true, false, cond, length, Option, Some, None, IsSome, IsTrue, option_map, option_and_then, slice_get, refl, sym, ap, subst, arith}
 use Rattle.std.proofs.lemmas.Int.{ints}
 use Rattle.hw_port.specs.Parts.{ShipParts}
 use Rattle.hw_port.specs.Whole.{Parts}
 use Rattle.hw_tide.specs.Levels.{TideParts}
 use Rattle.hw_port_laws.proofs.Drafts.{least_draft_law}
-use Rattle.hw_port_rules.specs.Drafts.{allowed, allowed_draft, carried, floating, in_window, loaded, sailing, sailing_draft, usable_draft}
-use Rattle.hw_windows.specs.declared.status.Status.{Status}
+use Rattle.hw_port_rules.specs.Drafts.{allowed, allowed_draft, carried, floating, in_window, loaded, sailing_draft, usable_draft}
 use Rattle.hw_windows.specs.Statuses.{sails, status_by, status_in}
 use Rattle.hw_windows.specs.Laws.{IsTooShallow, IsTrueOf, ReasonTrue, ValueExactlyOutside}
 use Rattle.hw_windows.proofs.Routes.{ends_before, limited}

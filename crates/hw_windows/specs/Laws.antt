@@ -1,11 +1,11 @@
 -- What the report says, in the words of the port's rules.
-use Rattle.std.specs.Prelude.{◌≡◌, ◌↔◌, ℕ, ◌+◌, ◌-◌, ◌<◌, ◌≤◌, ℤ, ◌≤ℤ◌, ◌<ℤ◌, List, [], ◌∷◌, length, All, Contains, Some, IsSome, IsTrue, slice_get}
+use Rattle.std.specs.Prelude.{◌≡◌, ◌↔◌, ℕ, ◌+◌, ◌<◌, ◌≤◌, ℤ, ◌≤ℤ◌, ◌<ℤ◌, List, [], ◌∷◌, length, All, Contains, Some, IsSome, IsTrue, slice_get}
 use Rattle.hw_port.specs.declared.parts.Pass.{Pass}
 use Rattle.hw_port.specs.Parts.{ShipParts}
 use Rattle.hw_port.specs.Whole.{Parts}
 use Rattle.hw_tide.specs.Levels.{TideParts}
 use Rattle.hw_port_rules.specs.Numbers.{whole}
-use Rattle.hw_port_rules.specs.Drafts.{draft_at, in_window, IsAllowedDraft, passing_slot, sailing_draft, value}
+use Rattle.hw_port_rules.specs.Drafts.{draft_at, in_window, IsAllowedDraft, sailing_draft, value}
 use Rattle.hw_windows.specs.declared.status.Status.{Status}
 use Rattle.hw_windows.specs.declared.status.Status.TheVariants.{Sails, Shallow, TidesEnd}
 use Rattle.hw_windows.specs.declared.passes.LastPass.{LastPass}

@@ -1,5 +1,5 @@
 -- A small port, worked out by hand: a ship that goes out over a bar, and one that comes in over it.
-use Rattle.std.specs.Prelude.{◌≡◌, ℕ, pos, negsuc, ℤ, [], ◌∷◌, List, false, true, Some, None, codes, slice_index_or}
+use Rattle.std.specs.Prelude.{◌≡◌, ℕ, pos, negsuc, ℤ, [], ◌∷◌, false, codes, slice_index_or}
 use Rattle.hw_port.specs.Parts.{ShipParts}
 use Rattle.hw_port.specs.Whole.{Parts}
 use Rattle.hw_tide.specs.Levels.{TideParts}
