@@ -1,20 +1,20 @@
 -- The lines of the report. Names come last.
-use Rattle.std.specs.Prelude.{ℕ, ℤ, Bool, List, [], ◌∷◌, ◌++◌, codes, decimal, if◌then◌else◌}
+use Rattle.std.specs.Prelude.{ℕ, ◌*◌, ℤ, Bool, List, [], ◌∷◌, ◌++◌, codes, decimal, if◌then◌else◌}
 use Rattle.std.specs.Fmt.{signed_decimal}
 use Rattle.hw_windows.specs.declared.piece.Piece.{Piece}
-use Rattle.hw_windows.specs.declared.piece.Piece.TheVariants.{Word, Number, Signed}
+use Rattle.hw_windows.specs.declared.piece.Piece.TheVariants.{Word, Number, Draft}
 use Rattle.hw_windows.specs.declared.run.Run.{Run}
-use Rattle.hw_windows.specs.declared.sailings.Sailings.{Sailings}
 
 -- texts one after another
 abbrev pub joined : List (List ℕ) → List ℕ
 joined [] = []
 joined (text ∷ texts) = text ++ joined texts
 
+-- a word, a number, or a draft, which may be below 0
 abbrev pub piece_text : Piece → List ℕ
 piece_text (Word word) = word.now
 piece_text (Number n) = decimal n
-piece_text (Signed z) = signed_decimal z
+piece_text (Draft z) = signed_decimal z
 
 abbrev pub pieces_text : List Piece → List ℕ
 pieces_text [] = []
@@ -26,15 +26,15 @@ ship_line number name = joined (codes "ship " ∷ decimal number ∷ codes " " �
 
 -- somewhere in a run the ship sails with its full draft, or nowhere
 abbrev pub full_word : Bool → List ℕ
-full_word full = if full then codes "full" else codes "short"
+full_word full = if full then codes "full\n" else codes "short\n"
 
--- the slots in which a ship may sail
-unfoldable pub sails_line : Sailings → List ℕ
-sails_line s = joined (codes "from " ∷ decimal s.run.first ∷ codes " " ∷ decimal s.begins ∷ codes " to " ∷ decimal s.run.last ∷ codes " " ∷ decimal s.ends ∷ codes " draft " ∷ decimal s.least ∷ codes " " ∷ decimal s.greatest ∷ codes " " ∷ full_word s.full ∷ codes "\n" ∷ [])
+-- the slots in which a ship may sail, each with the minute in which it begins, and with which drafts
+unfoldable pub sails_line : Run → ℕ → ℤ → ℤ → Bool → List ℕ
+sails_line run minutes least greatest full = joined (codes "from " ∷ decimal run.first ∷ codes " " ∷ decimal (run.first * minutes) ∷ codes " to " ∷ decimal run.last ∷ codes " " ∷ decimal (run.last * minutes) ∷ codes " draft " ∷ signed_decimal least ∷ codes " " ∷ signed_decimal greatest ∷ codes " " ∷ full_word full ∷ [])
 
 -- the slots in which the water allows less than the light draft: that draft, the most that is allowed, and where this is
-unfoldable pub shallow_line : Run → ℕ → ℤ → List ℕ → List ℕ
-shallow_line run needs at_most name = joined (codes "shallow " ∷ decimal run.first ∷ codes " " ∷ decimal run.last ∷ codes " needs " ∷ decimal needs ∷ codes " at most " ∷ signed_decimal at_most ∷ codes " " ∷ name ∷ codes "\n" ∷ [])
+unfoldable pub shallow_line : Run → ℤ → ℤ → List ℕ → List ℕ
+shallow_line run light at_most name = joined (codes "shallow " ∷ decimal run.first ∷ codes " " ∷ decimal run.last ∷ codes " needs " ∷ signed_decimal light ∷ codes " at most " ∷ signed_decimal at_most ∷ codes " " ∷ name ∷ codes "\n" ∷ [])
 
 -- the slots in which a pass lies outside the tide table: up to which slot that must go, and where the last pass is
 unfoldable pub tides_line : Run → ℕ → List ℕ → List ℕ

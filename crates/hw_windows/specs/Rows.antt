@@ -96,7 +96,7 @@ pub record WindowRows : Type 0 where
   pub bar_limits : limiting ((port (pos 1_150)).waypoints) tide 4 (pos 1_040) ((ada (pos 1_150)).route) ≡ 1
   pub berth_is_last : last_pass gull.route ≡ record { waypoint = 0; offset = 2 }
   -- a draft below 0
-  pub aground : shallow_line (record { first = 3; last = 5 }) 900 (negsuc 9) (codes "Mud") ≡ codes "shallow 3 5 needs 900 at most -10 Mud\n"
+  pub aground : shallow_line (record { first = 3; last = 5 }) (pos 900) (negsuc 9) (codes "Mud") ≡ codes "shallow 3 5 needs 900 at most -10 Mud\n"
   -- the whole report
   pub report : windows_text (port (pos 1_150)) tide ≡ codes "ship 0 Ada\nfrom 0 0 to 3 90 draft 1080 1150 full\nshallow 4 4 needs 1050 at most 1040 Bar\nship 1 Gull\nshallow 1 1 needs 1100 at most 1080 Bar\nfrom 2 60 to 4 120 draft 1100 1100 full\ntides end 5 5 needs slot 7 Berth\nend\n"
   -- a deeper ship, whose full draft the bar never lets out

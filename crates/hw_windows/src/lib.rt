@@ -1,15 +1,15 @@
 //! The report of when each ship of a port may sail, and why not.
 //!
-//! The slots from a ship's earliest to its latest are told in the longest runs of one kind. What they are told of are the
-//! port's own drafts and tides, and the text is a function of port and tide. It takes no memory.
+//! The slots from a ship's earliest to its latest are told in the longest runs of one kind. They are told of by the port's own
+//! drafts and its tide, and the text is a function of these two. It takes no memory.
 #![tactic(auto)]
 
+mod asked;
 mod laws;
 mod lines;
 mod passes;
 mod piece;
 mod run;
-mod sailings;
 mod status;
 mod windows;
 

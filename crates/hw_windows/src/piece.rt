@@ -11,8 +11,8 @@ use hw_desk::Writer;
 pub enum Piece<'a> {
     Word(&'a [u8]),
     Number(u64),
-    /// A number that may be below 0.
-    Signed(i64),
+    /// Centimetres, which may be below 0.
+    Draft(i64),
 }
 
 /// Puts a number, with a sign where it is below 0.
@@ -31,7 +31,7 @@ fn put_piece<W: Writer>(out: &mut W, piece: Piece)
     match piece {
         Piece::Word(word) => out.put(word),
         Piece::Number(number) => out.put_number(number),
-        Piece::Signed(number) => put_signed(out, number),
+        Piece::Draft(number) => put_signed(out, number),
     }
 }
 
