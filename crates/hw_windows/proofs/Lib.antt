@@ -3,3 +3,4 @@ pub mod Runs
 pub mod Extremes
 pub mod Routes
 pub mod Statuses
+pub mod Told

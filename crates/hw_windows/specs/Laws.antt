@@ -1,6 +1,7 @@
 -- What the report says, in the words of the port's rules.
 use Rattle.std.specs.Prelude.{◌≡◌, ◌↔◌, ℕ, ◌+◌, ◌<◌, ◌≤◌, ℤ, ◌≤ℤ◌, ◌<ℤ◌, List, [], ◌∷◌, length, All, Contains, Some, IsSome, IsTrue, slice_get}
 use Rattle.hw_port.specs.declared.parts.Pass.{Pass}
+use Rattle.hw_port.specs.Kept.{ShipKept}
 use Rattle.hw_port.specs.Parts.{ShipParts}
 use Rattle.hw_port.specs.Whole.{Parts}
 use Rattle.hw_tide.specs.Levels.{TideParts}
@@ -12,6 +13,7 @@ use Rattle.hw_windows.specs.declared.passes.LastPass.{LastPass}
 use Rattle.hw_windows.specs.declared.run.Run.{Run}
 use Rattle.hw_windows.specs.Statuses.{alike, sails, status_in}
 use Rattle.hw_windows.specs.Runs.{deepest_in, lightest_in, runs_within}
+use Rattle.hw_windows.specs.Windows.{AskedParts, greatest_draft, least_draft, span_of, statuses}
 use Rattle.hw_windows.specs.Passes.{last_pass, limiting, made_at}
 
 -- a run that begins in this slot and ends before another one: its slots are of one kind, and the slot after it is of another
@@ -73,3 +75,17 @@ pub record IsLast (route : List Pass) (last : LastPass) : Type 0 where
 
 abbrev pub LastPassIsLast : Type 0
 LastPassIsLast = (route : List Pass) → 1 ≤ length route → IsLast route (last_pass route)
+
+-- the slots for which a ship asks are those from its earliest to its latest
+abbrev pub SpanIsWindow : Type 0
+SpanIsWindow = (p : Parts) (s : ShipParts) (slot : ℕ) → ShipKept p s → (IsTrue (in_window s slot) ↔ IsWithin (span_of s) slot)
+
+-- what the line of a run says of one of its slots
+abbrev pub IsToldOf : AskedParts → Run → ℕ → Status → Type 0
+IsToldOf a run slot (Sails draft) = (d : ℤ) × (sailing_draft a.port a.tide a.ship slot ≡ Some d) × (least_draft a run ≤ℤ d) × (d ≤ℤ greatest_draft a run)
+IsToldOf a run slot (Shallow draft) = (d : ℤ) × IsTooShallow a.port a.tide a.ship slot d × (d ≤ℤ greatest_draft a run) × (greatest_draft a run <ℤ a.ship.light)
+IsToldOf a run slot TidesEnd = (a.tide.rows ≤ slot + (last_pass a.ship.route).offset) × (slot + (last_pass a.ship.route).offset ≤ run.last + (last_pass a.ship.route).offset)
+
+-- it is true of each slot of a longest run of those for which the ship asks
+abbrev pub LinesAreTrue : Type 0
+LinesAreTrue = (a : AskedParts) (run : Run) (slot : ℕ) → slice_get a.port.ships a.number ≡ Some a.ship → ShipKept a.port a.ship → (span_of a.ship).first ≤ run.first → IsLongest (statuses a) run.first ((span_of a.ship).last + 1) run → IsWithin run slot → IsToldOf a run slot (statuses a run.first)

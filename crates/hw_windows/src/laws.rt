@@ -1,6 +1,6 @@
 //! What the report says.
 
-ghost use Rattle.hw_windows.specs.Laws.{DraftsAreExtremes, LastPassIsLast, ReasonTrue, RunsAreLongest, ValueExactlyOutside};
+ghost use Rattle.hw_windows.specs.Laws.{DraftsAreExtremes, LastPassIsLast, LinesAreTrue, ReasonTrue, RunsAreLongest, SpanIsWindow, ValueExactlyOutside};
 ghost use Rattle.hw_windows.specs.Rows.{WindowRows};
 
 /// The runs follow one another from the first slot to the last one. The slots of each are of one kind, and the slot after it
@@ -28,6 +28,16 @@ pub fn drafts_are_extremes()
 /// No pass of a route is made after its last one, which is one of them.
 pub fn last_pass_is_last()
     ensures { LastPassIsLast }
+{}
+
+/// The slots of which a ship's lines tell are those from its earliest to its latest.
+pub fn span_is_window()
+    ensures { SpanIsWindow }
+{}
+
+/// The line of a longest run is true of each of its slots, with its numbers.
+pub fn lines_are_true()
+    ensures { LinesAreTrue }
 {}
 
 /// Worked rows: a small port with its tide.

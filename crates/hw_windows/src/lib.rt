@@ -14,7 +14,7 @@ mod status;
 mod windows;
 
 pub use laws::{
-    drafts_are_extremes, last_pass_is_last, reason_true, runs_are_longest, value_exactly_outside,
-    window_rows,
+    drafts_are_extremes, last_pass_is_last, lines_are_true, reason_true, runs_are_longest,
+    span_is_window, value_exactly_outside, window_rows,
 };
 pub use windows::put_windows;
