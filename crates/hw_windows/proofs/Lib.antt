@@ -1,0 +1,6 @@
+pub mod Alike
+pub mod Runs
+pub mod Extremes
+pub mod Routes
+pub mod Statuses
+pub mod Told

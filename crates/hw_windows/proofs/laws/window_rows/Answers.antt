@@ -1,0 +1,25 @@
+use Rattle.std.proofs.Common.{refl}
+use Rattle.std.specs.Fmt.{digits}
+use Rattle.hw_windows.specs.Lines.{sails_line, shallow_line, ship_line, tides_line}
+use Rattle.hw_windows.proofs.laws.window_rows.Goals as goal
+
+pub returns : goal.returns
+unfolding digits sails_line shallow_line ship_line tides_line
+returns c = record {
+  first_slot = refl;
+  full = refl;
+  low_water = refl;
+  ended = refl;
+  four_runs = refl;
+  from_the_second = refl;
+  none = refl;
+  greatest = refl;
+  least = refl;
+  of_the_last_two = refl;
+  bar_limits = refl;
+  berth_is_last = refl;
+  aground = refl;
+  report = refl;
+  kept_back = refl;
+  short_table = refl;
+}

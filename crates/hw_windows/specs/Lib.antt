@@ -1,0 +1,7 @@
+pub mod Statuses
+pub mod Runs
+pub mod Passes
+pub mod Lines
+pub mod Windows
+pub mod Laws
+pub mod Rows

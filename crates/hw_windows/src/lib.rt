@@ -1,0 +1,20 @@
+//! The report of when each ship of a port may sail, and why not.
+//!
+//! The slots from a ship's earliest to its latest are told in the longest runs of one kind. They are told of by the port's own
+//! drafts and its tide, and the text is a function of these two. It takes no memory.
+#![tactic(auto)]
+
+mod asked;
+mod laws;
+mod lines;
+mod passes;
+mod piece;
+mod run;
+mod status;
+mod windows;
+
+pub use laws::{
+    drafts_are_extremes, last_pass_is_last, lines_are_true, reason_true, runs_are_longest,
+    span_is_window, value_exactly_outside, window_rows,
+};
+pub use windows::put_windows;

@@ -1,0 +1,161 @@
+//! The passes of a route that keep a ship back.
+
+ghost use Rattle.std.specs.Prelude.{◌≡◌, ◌<◌, ◌≤◌, ◌≤ℤ◌, ◌+ℤ◌, ◌-ℤ◌, pos, length, All, slice_get};
+ghost use Rattle.std.specs.Option.{option_map_or};
+ghost use Rattle.std.specs.Ordering.{int_eq};
+ghost use Rattle.hw_port.specs.Kept.{PassKept, PortKept, WaypointKept, Within};
+ghost use Rattle.hw_port_rules.specs.Numbers.{whole};
+ghost use Rattle.hw_port_rules.specs.Drafts.{draft_at};
+ghost use Rattle.hw_tide.specs.Levels.{height_at};
+ghost use Rattle.hw_windows.specs.Passes.{last_pass, later, limiting, made_at};
+ghost use Rattle.hw_windows.specs.Windows.{waypoint_name};
+
+use hw_model::{MOST_SLOTS, Slot};
+use hw_port::{Pass, PortParts, Waypoint};
+use hw_tide::Tide;
+
+/// The last pass of a route: the place of its waypoint, and how many slots after sailing it is made.
+#[derive(Clone, Copy)]
+pub struct LastPass {
+    pub waypoint: u32,
+    pub offset: u32,
+}
+
+/// A number of a port that is never negative.
+pub fn natural(number: i64) -> u32
+    requires least { pos 0 ≤ℤ number }
+    requires most { number ≤ℤ pos 100_000 }
+    ensures { result ≡ whole number }
+{
+    number.unsigned_abs() as u32
+}
+
+/// The name of a waypoint, or none of its bytes where there is no such waypoint.
+pub fn waypoint_name(parts: &PortParts, place: u32) -> &[u8]
+    ensures { result.now ≡ waypoint_name parts.now place }
+{
+    match parts.waypoints.get(place as usize) {
+        Some(waypoint) => &waypoint.name.items,
+        None => b"",
+    }
+}
+
+/// The charted depth at a waypoint, in centimetres.
+fn depth(waypoints: &[Waypoint], place: u32) -> i64
+    requires kept { All WaypointKept waypoints.now }
+    requires place { place < length waypoints.now }
+    ensures value { result ≡ option_map_or (λ w. w.depth) (slice_get waypoints.now place) (pos 0) }
+    ensures low { pos 0 ≤ℤ result }
+    ensures high { result ≤ℤ pos 10_000 }
+{
+    waypoints[place as usize].depth
+}
+
+/// The height of the water in a row at a waypoint, 0 outside the tide.
+fn height(tide: &Tide, row: u32, place: u32) -> i32
+    requires { place < tide.now.columns }
+    ensures { result ≡ height_at tide.now row place }
+{
+    if row < tide.rows {
+        tide.height(row, place)
+    } else {
+        0
+    }
+}
+
+/// Depth and height less the clearance.
+fn left(depth: i64, height: i32, clearance: i64) -> i64
+    requires low { pos 0 ≤ℤ depth }
+    requires high { depth ≤ℤ pos 10_000 }
+    requires clearance { Within (pos 0) (pos 1_000) clearance }
+    ensures { result ≡ depth +ℤ height -ℤ clearance }
+{
+    depth + i64::from(height) - clearance
+}
+
+/// The draft that a pass leaves.
+fn draft_left(parts: &PortParts, tide: &Tide, slot: Slot, pass: &Pass) -> i64
+    requires kept { PortKept parts.now }
+    requires columns { tide.now.columns ≡ length parts.now.waypoints }
+    requires slot { slot ≤ MOST_SLOTS }
+    requires pass { PassKept (pos (length parts.now.waypoints)) pass.now }
+    ensures { result ≡ draft_at parts.now.waypoints tide.now slot pass.now }
+{
+    let place = natural(pass.waypoint);
+    let height = height(tide, slot + natural(pass.offset), place);
+    left(depth(&parts.waypoints, place), height, pass.clearance)
+}
+
+/// Whether a pass leaves just this draft.
+fn leaves(parts: &PortParts, tide: &Tide, slot: Slot, draft: i64, pass: &Pass) -> bool
+    requires kept { PortKept parts.now }
+    requires columns { tide.now.columns ≡ length parts.now.waypoints }
+    requires slot { slot ≤ MOST_SLOTS }
+    requires pass { PassKept (pos (length parts.now.waypoints)) pass.now }
+    ensures { result ≡ int_eq (draft_at parts.now.waypoints tide.now slot pass.now) draft }
+{
+    draft_left(parts, tide, slot, pass) == draft
+}
+
+/// The place of the waypoint of the first pass that leaves just this draft, or 0.
+pub fn limiting(parts: &PortParts, tide: &Tide, slot: Slot, draft: i64, route: &[Pass]) -> u32
+    requires kept { PortKept parts.now }
+    requires columns { tide.now.columns ≡ length parts.now.waypoints }
+    requires slot { slot ≤ MOST_SLOTS }
+    requires route { All (PassKept (pos (length parts.now.waypoints))) route.now }
+    ensures { result ≡ limiting parts.now.waypoints tide.now slot draft route.now }
+{
+    match route {
+        [] => 0,
+        [pass, more @ ..] => {
+            if leaves(parts, tide, slot, draft, pass) {
+                natural(pass.waypoint)
+            } else {
+                limiting(parts, tide, slot, draft, more)
+            }
+        }
+    }
+}
+
+/// The waypoint of a pass, and how many slots after sailing it is made.
+fn made_at(waypoints: usize, pass: &Pass) -> LastPass
+    requires few { waypoints ≤ 16 }
+    requires pass { PassKept (pos waypoints) pass.now }
+    ensures value { result ≡ made_at pass.now }
+    ensures few { result.offset ≤ 1_023 }
+{
+    LastPass {
+        waypoint: natural(pass.waypoint),
+        offset: natural(pass.offset),
+    }
+}
+
+/// The later of two passes.
+fn later(one: LastPass, other: LastPass) -> LastPass
+    requires one { one.offset ≤ 1_023 }
+    requires other { other.offset ≤ 1_023 }
+    ensures value { result ≡ later one other }
+    ensures few { result.offset ≤ 1_023 }
+{
+    if one.offset < other.offset {
+        other
+    } else {
+        one
+    }
+}
+
+/// The last pass of a route.
+pub fn last_pass(waypoints: usize, route: &[Pass]) -> LastPass
+    requires few { waypoints ≤ 16 }
+    requires route { All (PassKept (pos waypoints)) route.now }
+    ensures value { result ≡ last_pass route.now }
+    ensures few { result.offset ≤ 1_023 }
+{
+    match route {
+        [] => LastPass {
+            waypoint: 0,
+            offset: 0,
+        },
+        [pass, more @ ..] => later(made_at(waypoints, pass), last_pass(waypoints, more)),
+    }
+}

@@ -1,0 +1,39 @@
+//! How a ship fares in a slot.
+
+ghost use Rattle.std.specs.Prelude.{◌≡◌};
+ghost use Rattle.hw_windows.specs.Statuses.{alike, draft_of};
+
+/// How a ship fares in a slot from its earliest to its latest. Drafts are in centimetres.
+#[derive(Clone, Copy)]
+pub enum Status {
+    /// It may sail, with this draft.
+    Sails { draft: i64 },
+    /// The water allows this draft, which is less than its light one.
+    Shallow { allowed: i64 },
+    /// It would make a pass after the end of the tide table.
+    TidesEnd,
+}
+
+impl Status {
+    /// Whether another status is of the same kind.
+    pub fn is_alike(self, other: Status) -> bool
+        ensures { result ≡ alike self other }
+    {
+        match self {
+            Status::Sails { .. } => matches!(other, Status::Sails { .. }),
+            Status::Shallow { .. } => matches!(other, Status::Shallow { .. }),
+            Status::TidesEnd => matches!(other, Status::TidesEnd),
+        }
+    }
+
+    /// The draft with which the ship may sail, or that the water allows it; 0 where that isn't known.
+    pub fn draft(self) -> i64
+        ensures { result ≡ draft_of self }
+    {
+        match self {
+            Status::Sails { draft } => draft,
+            Status::Shallow { allowed } => allowed,
+            Status::TidesEnd => 0,
+        }
+    }
+}
