@@ -1,0 +1,6 @@
+pub mod Sums
+pub mod Sits
+pub mod Holes
+pub mod Kept
+pub mod Found
+pub mod Onward
