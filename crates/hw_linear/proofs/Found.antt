@@ -121,12 +121,15 @@ pub permitted : (f : Problem) (p : Point) → IsFlat f → Satisfies p (programm
 permitted f p flat satisfies =
     let parts = satisfies_parts p (ship_rows f 0 f.ships) (rules_rows f f.rules) satisfies in
     let listed = ships_sit f p 0 f.ships parts.0 in
-    let seated : Seated f p listed.0 = λ ship lt. seat listed.0 listed.1 ship lt in
-    (listed.0, record {
-      listed = record { each_ship = listed.1.each; each_slot = All-from_get_or (λ slot. slot < f.slots) listed.0 0 (λ i lt. (seated i (omega (arith, lt, listed.1.each))).slot_in) };
-      sails = λ ship lt. (seated ship lt).sails;
-      keeps = rules_kept f p listed.0 f.rules seated flat.each_rule parts.1;
-    }, λ ship slot lt slot_in some. (seated ship lt).point slot slot_in some)
+    let seated : Seated f p listed.0 = λ ship lt. seat listed.0 listed.1 ship lt in (
+      listed.0,
+      record {
+        listed = record { each_ship = listed.1.each; each_slot = All-from_get_or (λ slot. slot < f.slots) listed.0 0 (λ i lt. (seated i (omega (arith, lt, listed.1.each))).slot_in) };
+        sails = λ ship lt. (seated ship lt).sails;
+        keeps = rules_kept f p listed.0 f.rules seated flat.each_rule parts.1;
+      },
+      λ ship slot lt slot_in some. (seated ship lt).point slot slot_in some,
+    )
   where
     seat : (slots : List ℕ) → IsListed f p 0 f.ships slots → Seated f p slots
     seat slots listed ship lt = let same : 0 + ship ≡ ship = omega arith in subst (λ (s : ℕ). Sits f p s (get_or slots ship 0)) same (listed.sits ship lt)

@@ -1,9 +1,9 @@
 -- The rows of a rule are satisfied exactly where it holds.
-use Rattle.std.proofs.Common.{◌≡◌, ℕ, zero, suc, ◌+◌, ◌-◌, ◌<◌, ◌≤◌, min, ℤ, pos, ◌≤ℤ◌, Bool, true, false, cond, not, ◌&&◌, ◌||◌, nat_le, nat_lt, List, [], ◌∷◌, ◌++◌, Option, Some, None, slice_get, slice_index, sum_by, map, IfSome, IsTrue, All, refl, sym, ◌∙◌, subst, ap, arith, inl, inr}
+use Rattle.std.proofs.Common.{◌≡◌, ℕ, zero, suc, ◌+◌, ◌-◌, ◌<◌, ◌≤◌, min, ℤ, pos, ◌≤ℤ◌, Bool, true, false, cond, not, ◌&&◌, ◌||◌, nat_le, nat_lt, List, [], ◌∷◌, ◌++◌, Option, Some, None, slice_get, slice_index, slice_index_or, sum_by, map, IfSome, IsTrue, All, refl, sym, ◌∙◌, subst, ap, arith, inl, inr}
 use Rattle.std.specs.Prelude.{◌-ℤ◌, ◌⊎◌}
 use Rattle.std.specs.List.{list_all, range_with_len}
 use Rattle.std.proofs.lemmas.Bool.{and_parts, and_from, and_left, and_right, or_cases, or_left, or_right, both_ways, cases_Bool, cases_lt, leb-true, leb-false, le-leb, lt-leb, lt-ltb, le-ltb, not-true, not_from_false}
-use Rattle.std.proofs.lemmas.List.Elements.{All-head, All-tail}
+use Rattle.std.proofs.lemmas.List.Elements.{All-head, All-map, All-tail}
 use Rattle.std.proofs.lemmas.List.Sums.{sum_by-cons}
 use Rattle.hw_model.specs.declared.rule.Hole.{Hole}
 use Rattle.hw_model.specs.declared.rule.Job.{Job}
@@ -48,7 +48,7 @@ hole_satisfied : (f : Problem) (p : Point) (table : List ℕ) (v w : ℕ) (hole 
 hole_satisfied f p table v w hole seated a b holds =
     rows_hold f p 1 (window_spans f v w hole) 0 (horizon f + width hole - 1)
     (λ last le lt. two_hold f p (slice_index table v) (slice_index table w) (first_window f v hole last) (partner f w hole (first_window f v hole last)) (window_two f p table v w hole last seated a b)
-      (λ i j. both_ways _ (window_in_hole f v w hole last (slice_index table v) (slice_index table w) i j) (holds (omega (arith, i.1)) (omega (arith, j.1)))))
+    (λ i j. both_ways _ (window_in_hole f v w hole last (slice_index table v) (slice_index table w) i j) (holds (omega (arith, i.1)) (omega (arith, j.1)))))
 
 hole_kept : (f : Problem) (p : Point) (table : List ℕ) (v w : ℕ) (hole : Hole) → Seated f p table → v < f.ships → w < f.ships → hole.lo ≤ℤ hole.hi
     → slice_index table v < horizon f → slice_index table w < horizon f → SatisfiesRows p (window_rows f v w hole) → misses (pos (slice_index table w) -ℤ pos (slice_index table v)) hole ≡ true
@@ -129,6 +129,9 @@ after_kept f p table v w gap seated a b satisfied =
 job_fits : (f : Problem) (slot : ℕ) (job : Job) → JobFits f.ships job → slot < horizon f → SpanFits f (job_span slot job)
 job_fits f slot job fits lt = record { ship_in = fits.ship_in; slots_in = omega (arith, lt, horizon_le f); small = fits.few_tugs }
 
+pub jobs_fit : (f : Problem) (slot : ℕ) (jobs : List Job) → All (JobFits f.ships) jobs → slot < horizon f → All (SpanFits f) (job_spans jobs slot)
+jobs_fit f slot jobs fit lt = All-map (SpanFits f) (job_span slot) jobs (λ i d in'. job_fits f slot (slice_index_or jobs i d) (fit i d in') lt)
+
 job_total : (f : Problem) (p : Point) (table : List ℕ) (slot : ℕ) (job : Job) → Seated f p table → JobFits f.ships job → slot < horizon f → total p (span_terms f (job_span slot job)) ≡ held_by table slot job
 job_total f p table slot job seated fits lt = by (in_or_not (slice_index table job.ship) (job_span slot job))
   where
@@ -158,7 +161,7 @@ tugs_satisfied : (f : Problem) (p : Point) (table : List ℕ) (fleet : ℕ) (job
 tugs_satisfied f p table fleet jobs seated fit holds =
     rows_hold f p fleet (job_spans jobs) 0 (horizon f)
     (λ slot le lt. let few : sum_by (held_by table slot) jobs ≤ fleet = leb-true _ _ (all_of_range (λ slot. nat_le (sum_by (held_by table slot) jobs) fleet) 0 (horizon f) holds slot le lt) in
-      omega (arith, few, jobs_total f p table slot jobs seated fit (omega (arith, lt))))
+    omega (arith, few, jobs_total f p table slot jobs seated fit (omega (arith, lt))))
 
 tugs_kept : (f : Problem) (p : Point) (table : List ℕ) (fleet : ℕ) (jobs : List Job) → Seated f p table → All (JobFits f.ships) jobs → SatisfiesRows p (rule_rows f (Tugs fleet jobs)) → rule_holds f table (Tugs fleet jobs) ≡ true
 tugs_kept f p table fleet jobs seated fit satisfied =

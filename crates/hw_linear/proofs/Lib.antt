@@ -4,3 +4,4 @@ pub mod Holes
 pub mod Kept
 pub mod Found
 pub mod Onward
+pub mod Empty

@@ -78,12 +78,12 @@ names_text (term ∷ terms) = name_text term.ship term.slot ++ names_text terms
 abbrev pub lp_of : ℕ → Programme → List ℕ
 lp_of slots programme = joined (codes "Maximize\n cargo:\n" ∷ terms_text slots Named (shown programme.objective) ∷ codes "Subject To\n" ∷ rows_text Lp slots programme.rows ∷ codes "Binary\n" ∷ names_text programme.objective ∷ codes "End\n" ∷ [])
 
--- the numbers of variables and rows, and which variable has which number
+-- how many variables and rows there are, and which variable has which number
 unfoldable pub opb_head : ℕ → ℕ → ℕ → List ℕ
-opb_head ships slots rows = joined (codes "* #variable= " ∷ decimal (ships * slots) ∷ codes " #constraint= " ∷ decimal rows ∷ codes "\n* ship V has slot K: x(V * " ∷ decimal slots ∷ codes " + K + 1)\n" ∷ [])
+opb_head variables rows slots = joined (codes "* #variable= " ∷ decimal variables ∷ codes " #constraint= " ∷ decimal rows ∷ codes "\n* ship V has slot K: x(V * " ∷ decimal slots ∷ codes " + K + 1)\n" ∷ [])
 
 abbrev pub opb_of : ℕ → ℕ → Programme → List ℕ
-opb_of ships slots programme = joined (opb_head ships slots (length programme.rows) ∷ codes "min: " ∷ terms_text slots Minus (shown programme.objective) ∷ codes ";\n" ∷ rows_text Opb slots programme.rows ∷ [])
+opb_of ships slots programme = joined (opb_head (ships * slots) (length programme.rows) slots ∷ codes "min: " ∷ terms_text slots Minus (shown programme.objective) ∷ codes ";\n" ∷ rows_text Opb slots programme.rows ∷ [])
 
 -- the problem in the LP format
 unfoldable pub lp_text : Problem → List ℕ

@@ -1,8 +1,8 @@
 //! The texts of a flat problem's programme.
 
-ghost use Rattle.std.specs.Prelude.{◌≡◌, [], true, false, length};
+ghost use Rattle.std.specs.Prelude.{◌≡◌, ◌*◌, [], true, false};
 ghost use Rattle.hw_desk.specs.Writers.{Puts};
-ghost use Rattle.hw_linear.specs.Rows.{rows_of, ships_terms};
+ghost use Rattle.hw_linear.specs.Rows.{ships_terms};
 ghost use Rattle.hw_linear.specs.Texts.{lp_text, opb_head, opb_text, shown, terms_text};
 
 use crate::counting::count_rows;
@@ -39,7 +39,6 @@ fn put_objective<W: Writer>(out: &mut W, flat: &Flat, mark: Mark)
 }
 
 /// Puts the problem in the LP format.
-#[tactic(auto, unfolding(crate::specs::Texts::lp_text))]
 pub fn put_model<W: Writer>(out: &mut W, flat: &Flat)
     ensures { Puts (lp_text flat.now) (W.state out.old) (W.state out.new) }
 {
@@ -52,27 +51,33 @@ pub fn put_model<W: Writer>(out: &mut W, flat: &Flat)
     out.put(b"End\n");
 }
 
-/// Puts the first two lines of the OPB format, which are comments.
-#[tactic(auto, unfolding(crate::specs::Texts::opb_head))]
-fn put_head<W: Writer>(out: &mut W, flat: &Flat)
-    ensures { Puts (opb_head flat.now.ships flat.now.slots (length (rows_of flat.now))) (W.state out.old) (W.state out.new) }
+/// How many numbers variables have.
+fn variables(flat: &Flat) -> u32
+    ensures { result ≡ flat.now.ships * flat.now.slots }
 {
     let shape = flat.shape();
+    shape.ships * shape.slots
+}
+
+/// Puts the first two lines of the OPB format, which are comments.
+#[tactic(auto, unfolding(crate::specs::Texts::opb_head))]
+fn put_head<W: Writer>(out: &mut W, variables: u32, rows: u32, slots: u32)
+    ensures { Puts (opb_head variables rows slots) (W.state out.old) (W.state out.new) }
+{
     out.put(b"* #variable= ");
-    out.put_number(u64::from(shape.ships) * u64::from(shape.slots));
+    out.put_number(u64::from(variables));
     out.put(b" #constraint= ");
-    out.put_number(u64::from(count_rows(flat)));
+    out.put_number(u64::from(rows));
     out.put(b"\n* ship V has slot K: x(V * ");
-    out.put_number(u64::from(shape.slots));
+    out.put_number(u64::from(slots));
     out.put(b" + K + 1)\n");
 }
 
 /// Puts the problem in the OPB format, with the cargo negated, since that format has no greatest sums.
-#[tactic(auto, unfolding(crate::specs::Texts::opb_text))]
 pub fn put_opb<W: Writer>(out: &mut W, flat: &Flat)
     ensures { Puts (opb_text flat.now) (W.state out.old) (W.state out.new) }
 {
-    put_head(out, flat);
+    put_head(out, variables(flat), count_rows(flat), flat.shape().slots);
     out.put(b"min: ");
     put_objective(out, flat, Mark::Minus);
     out.put(b";\n");

@@ -5,12 +5,12 @@ ghost use Rattle.hw_model.specs.Limits.{HoleFits, RuleFits, TugsFit};
 ghost use Rattle.hw_model.specs.Problem.{horizon};
 ghost use Rattle.hw_model.specs.declared.limits.TheConstants.{MOST_SHIPS, MOST_SLOTS};
 ghost use Rattle.hw_desk.specs.Writers.{Puts};
-ghost use Rattle.hw_linear.specs.Rows.{SpanFits, after_rows, at_most, hole_rows, job_span, rows_of, rule_rows, rules_rows, ship_row, ship_rows, tug_rows, width, window_rows};
-ghost use Rattle.hw_linear.specs.Texts.{row_text, rows_text};
+ghost use Rattle.hw_linear.specs.Rows.{SpanFits, after_rows, at_most, hole_rows, job_span, rows_of, rule_rows, rules_rows, ship_row, ship_rows, span_terms, tug_rows, whole_span, width, window_rows};
+ghost use Rattle.hw_linear.specs.Texts.{row_text, rows_text, shown, terms_text};
 
-use crate::format::{Format, Sense, mark_of, put_row_end};
+use crate::format::{Format, Mark, Sense, mark_of, put_row_end};
 use crate::span::{Span, span_weight, weight};
-use crate::terms::{put_no_terms, put_spans};
+use crate::terms::{put_no_terms, put_span, put_spans};
 use crate::windows::{after_spans, job_spans, whole_span, width, window_spans};
 use hw_desk::Writer;
 use hw_flat::Flat;
@@ -30,18 +30,25 @@ fn put_at_most<W: Writer>(out: &mut W, flat: &Flat, format: Format, bound: u32, 
     }
 }
 
+/// Puts the terms of a ship's row.
+fn put_ship_terms<W: Writer>(out: &mut W, flat: &Flat, mark: Mark, ship: ShipId)
+    requires ship_in { ship < flat.now.ships }
+    ensures { Puts (terms_text flat.now.slots mark (shown (span_terms flat.now (whole_span flat.now ship)))) (W.state out.old) (W.state out.new) }
+{
+    let span = whole_span(flat, ship);
+    if span_weight(flat, span) == 0 {
+        put_no_terms(out, flat, mark);
+    } else {
+        put_span(out, flat, mark, span);
+    }
+}
+
 /// Puts the row of a ship.
 fn put_ship_row<W: Writer>(out: &mut W, flat: &Flat, format: Format, ship: ShipId)
     requires ship_in { ship < flat.now.ships }
     ensures { Puts (row_text format flat.now.slots (ship_row flat.now ship)) (W.state out.old) (W.state out.new) }
 {
-    let span = whole_span(flat, ship);
-    let mark = mark_of(format, Sense::Exactly);
-    if span_weight(flat, span) == 0 {
-        put_no_terms(out, flat, mark);
-    } else {
-        put_spans(out, flat, mark, &[span]);
-    }
+    put_ship_terms(out, flat, mark_of(format, Sense::Exactly), ship);
     put_row_end(out, format, Sense::Exactly, 1);
 }
 

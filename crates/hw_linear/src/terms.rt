@@ -65,7 +65,7 @@ fn put_term_at<W: Writer>(
 }
 
 /// Puts the terms of a span.
-fn put_span<W: Writer>(out: &mut W, flat: &Flat, mark: Mark, span: Span)
+pub(crate) fn put_span<W: Writer>(out: &mut W, flat: &Flat, mark: Mark, span: Span)
     requires fits { SpanFits flat.now span }
     ensures { Puts (terms_text flat.now.slots mark (span_terms flat.now span)) (W.state out.old) (W.state out.new) }
 {

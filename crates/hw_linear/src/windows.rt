@@ -1,9 +1,9 @@
 //! The spans of the rows of a rule.
 
-ghost use Rattle.std.specs.Prelude.{◌≡◌, ◌<◌, ◌≤◌, ◌≤ℤ◌, ◌+◌, pos, All, length};
+ghost use Rattle.std.specs.Prelude.{◌≡◌, ◌<◌, ◌≤◌, ◌≤ℤ◌, ◌+ℤ◌, ◌-ℤ◌, ◌+◌, pos, All, length};
 ghost use Rattle.hw_model.specs.Limits.{HoleFits, JobFits};
 ghost use Rattle.hw_model.specs.Problem.{horizon};
-ghost use Rattle.hw_model.specs.declared.limits.TheConstants.{MOST_SHIPS, MOST_SLOTS};
+ghost use Rattle.hw_model.specs.declared.limits.TheConstants.{MOST_DIFFERENCE, MOST_SHIPS, MOST_SLOTS};
 ghost use Rattle.hw_linear.specs.Rows.{SpanFits, after_spans, first_window, job_span, job_spans, partner, slot_from, whole_span, width, window_spans};
 
 use crate::span::Span;
@@ -58,6 +58,24 @@ fn first_window(flat: &Flat, v: ShipId, hole: Hole, last: Slot) -> Span
     }
 }
 
+/// The first slot that a hole keeps apart from the last one of a window, which ends before `to`.
+fn partner_from(to: Slot, lo: i32) -> Slot
+    requires near { to ≤ MOST_SLOTS }
+    requires small { lo ≤ℤ pos MOST_DIFFERENCE }
+    ensures { result ≡ slot_from ((pos to -ℤ pos 1) +ℤ lo) }
+{
+    slot_from(i64::from(to) - 1 + i64::from(lo))
+}
+
+/// The slot after the last one that a hole keeps apart from the first one of a window.
+fn partner_to(from: Slot, hi: i32) -> Slot
+    requires near { from ≤ 1_536 }
+    requires small { hi ≤ℤ pos MOST_DIFFERENCE }
+    ensures { result ≡ slot_from ((pos from +ℤ hi) +ℤ pos 1) }
+{
+    slot_from(i64::from(from) + i64::from(hi) + 1)
+}
+
 /// The sailing slots of the second ship that a hole keeps apart from each slot of a window of the first one.
 fn partner(flat: &Flat, w: ShipId, hole: Hole, first: Span) -> Span
     requires fits { HoleFits hole }
@@ -67,12 +85,10 @@ fn partner(flat: &Flat, w: ShipId, hole: Hole, first: Span) -> Span
     ensures value { result ≡ partner flat.now w hole first }
     ensures fits { SpanFits flat.now result }
 {
-    let from = i64::from(first.to) - 1 + i64::from(hole.lo);
-    let to = i64::from(first.from) + i64::from(hole.hi) + 1;
     Span {
         ship: w,
-        from: slot_from(from),
-        to: flat.horizon().min(slot_from(to)),
+        from: partner_from(first.to, hole.lo),
+        to: flat.horizon().min(partner_to(first.from, hole.hi)),
         weight: 1,
     }
 }
