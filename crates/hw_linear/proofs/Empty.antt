@@ -1,5 +1,5 @@
 -- Ships without a value.
-use Rattle.std.proofs.Common.{◌≡◌, ℕ, zero, suc, ◌+◌, ◌-◌, ◌<◌, cond, List, [], ◌∷◌, ◌++◌, Option, Some, None, is_some, length, refl, ap, subst, arith}
+use Rattle.std.proofs.Common.{◌≡◌, ℕ, zero, suc, ◌+◌, ◌-◌, cond, List, [], ◌∷◌, ◌++◌, Option, Some, None, is_some, length, refl, subst, arith}
 use Rattle.hw_model.specs.Problem.{Problem, value_at}
 use Rattle.hw_linear.specs.Programmes.{Term, weight_of}
 use Rattle.hw_linear.specs.Rows.{terms_from, span_terms, whole_span, value_term, value_terms, ship_rows}

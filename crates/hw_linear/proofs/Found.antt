@@ -1,16 +1,16 @@
 -- A satisfying point has one slot for each ship, and the values of a table's slots add up to its cargo.
-use Rattle.std.proofs.Common.{◌≡◌, ℕ, zero, suc, ◌+◌, ◌-◌, ◌<◌, ◌≤◌, Bool, true, false, cond, ◌&&◌, nat_eq, List, [], ◌∷◌, ◌++◌, Option, Some, None, length, get_or, slice_index, is_some, IsSome, unwrap_or, All, refl, sym, ◌∙◌, ap, subst, arith, inl, inr, ◌⊎◌}
-use Rattle.std.proofs.lemmas.Bool.{cases_eq, cases_lt, eq-eqb, ne_eqb, eqb-true, both_ways}
+use Rattle.std.proofs.Common.{◌≡◌, ℕ, zero, suc, ◌+◌, ◌-◌, ◌<◌, ◌≤◌, Bool, true, false, cond, nat_eq, List, [], ◌∷◌, Option, Some, None, length, get_or, slice_index, is_some, IsSome, unwrap_or, refl, sym, ◌∙◌, ap, subst, arith, inl, inr, ◌⊎◌}
+use Rattle.std.proofs.lemmas.Bool.{cases_eq, eq-eqb, ne_eqb, eqb-true, both_ways}
 use Rattle.std.proofs.lemmas.List.{same_lists, get_or_default}
 use Rattle.std.proofs.lemmas.List.Elements.{All-from_get_or}
 use Rattle.hw_model.specs.Limits.{IsFlat}
-use Rattle.hw_model.specs.Problem.{Problem, value_at, IsTimetable}
+use Rattle.hw_model.specs.Problem.{Problem, value_at}
 use Rattle.hw_model.specs.Timetables.{Permits, cargo, cargo_from, plus}
 use Rattle.hw_linear.specs.Laws.{IsPointOf}
-use Rattle.hw_linear.specs.Programmes.{Term, Point, total, Satisfies, SatisfiesRows}
-use Rattle.hw_linear.specs.Rows.{term_at, terms_from, span_terms, whole_span, ship_rows, rules_rows, rows_of, programme_of, value_terms, ships_terms, SpanFits}
+use Rattle.hw_linear.specs.Programmes.{Point, total, Satisfies, SatisfiesRows}
+use Rattle.hw_linear.specs.Rows.{term_at, terms_from, span_terms, whole_span, ship_rows, rules_rows, programme_of, value_terms, ships_terms, SpanFits}
 use Rattle.hw_linear.proofs.Sums.{total-append, satisfies-append, satisfies_parts}
-use Rattle.hw_linear.proofs.Sits.{Sits, in_span, IsWithin, values_inside}
+use Rattle.hw_linear.proofs.Sits.{Sits, in_span, values_inside}
 use Rattle.hw_linear.proofs.Kept.{Seated, rules_satisfied, rules_kept}
 
 -- ---- one slot of a ship

@@ -1,8 +1,8 @@
 -- The rows of a rule are satisfied exactly where it holds.
-use Rattle.std.proofs.Common.{◌≡◌, ℕ, zero, suc, ◌+◌, ◌-◌, ◌<◌, ◌≤◌, min, ℤ, pos, ◌≤ℤ◌, Bool, true, false, cond, not, ◌&&◌, ◌||◌, nat_le, nat_lt, List, [], ◌∷◌, ◌++◌, Option, Some, None, slice_get, slice_index, slice_index_or, sum_by, map, IfSome, IsTrue, All, refl, sym, ◌∙◌, subst, ap, arith, inl, inr}
+use Rattle.std.proofs.Common.{◌≡◌, ℕ, zero, suc, ◌+◌, ◌-◌, ◌<◌, ◌≤◌, min, pos, ◌≤ℤ◌, Bool, true, false, cond, not, ◌&&◌, ◌||◌, nat_le, nat_lt, List, [], ◌∷◌, slice_get, slice_index, slice_index_or, sum_by, IfSome, IsTrue, All, refl, sym, ◌∙◌, ap, arith, inl, inr}
 use Rattle.std.specs.Prelude.{◌-ℤ◌, ◌⊎◌}
-use Rattle.std.specs.List.{list_all, range_with_len}
-use Rattle.std.proofs.lemmas.Bool.{and_parts, and_from, and_left, and_right, or_cases, or_left, or_right, both_ways, cases_Bool, cases_lt, leb-true, leb-false, le-leb, lt-leb, lt-ltb, le-ltb, not-true, not_from_false}
+use Rattle.std.specs.List.{list_all}
+use Rattle.std.proofs.lemmas.Bool.{and_parts, and_from, and_left, and_right, or_cases, or_left, or_right, both_ways, cases_Bool, cases_lt, leb-true, le-leb, lt-leb, lt-ltb, le-ltb, not_from_false}
 use Rattle.std.proofs.lemmas.List.Elements.{All-head, All-map, All-tail}
 use Rattle.std.proofs.lemmas.List.Sums.{sum_by-cons}
 use Rattle.hw_model.specs.declared.rule.Hole.{Hole}

@@ -1,9 +1,9 @@
 -- What terms add at a point of which a ship has one slot.
-use Rattle.std.proofs.Common.{◌≡◌, ℕ, zero, suc, ◌+◌, ◌-◌, ◌<◌, ◌≤◌, Bool, true, false, cond, nat_eq, List, [], ◌∷◌, Option, Some, None, is_some, IsSome, unwrap_or, refl, sym, ◌∙◌, ap, subst, arith, inl, inr, ◌⊎◌}
+use Rattle.std.proofs.Common.{◌≡◌, ℕ, zero, suc, ◌+◌, ◌-◌, ◌<◌, ◌≤◌, Bool, true, false, cond, nat_eq, [], ◌∷◌, Option, Some, None, is_some, IsSome, unwrap_or, refl, sym, ◌∙◌, ap, subst, arith, inl, inr, ◌⊎◌}
 use Rattle.std.proofs.lemmas.Bool.{cases_eq, cases_lt, eq-eqb, ne_eqb}
 use Rattle.hw_model.specs.Problem.{Problem, value_at}
 use Rattle.hw_linear.specs.declared.span.Span.{Span}
-use Rattle.hw_linear.specs.Programmes.{Term, Point, total}
+use Rattle.hw_linear.specs.Programmes.{Point, total}
 use Rattle.hw_linear.specs.Rows.{term_at, terms_from, span_terms, terms_of, value_term, value_terms, SpanFits}
 use Rattle.hw_linear.proofs.Sums.{total-append}
 

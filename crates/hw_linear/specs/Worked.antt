@@ -1,11 +1,10 @@
 -- Small problems, and their programmes worked out by hand.
-use Rattle.std.specs.Prelude.{◌≡◌, ℕ, pos, neg_ℤ, true, false, List, [], ◌∷◌, ◌++◌, Some, None, codes}
-use Rattle.hw_model.specs.declared.rule.Rule.TheVariants.{Pair, After, Tugs}
+use Rattle.std.specs.Prelude.{◌≡◌, ℕ, pos, neg_ℤ, false, List, [], ◌∷◌, Some, None}
+use Rattle.hw_model.specs.declared.rule.Rule.TheVariants.{Pair}
 use Rattle.hw_model.specs.Problem.{Problem}
 use Rattle.hw_linear.specs.declared.format.Sense.TheVariants.{AtMost, Exactly}
 use Rattle.hw_linear.specs.Programmes.{Term, Row}
-use Rattle.hw_linear.specs.Rows.{rows_of, ships_terms}
-use Rattle.hw_linear.specs.Texts.{lp_text, opb_text, joined}
+use Rattle.hw_linear.specs.Rows.{rows_of}
 
 -- a term of weight 1
 abbrev pub one : ℕ → ℕ → Term

@@ -1,4 +1,4 @@
-use Rattle.std.proofs.Common.{◌≡◌, ◌<◌, ◌≤◌, ◌+◌, ◌-◌, ℕ, List, length, refl, ap, arith}
+use Rattle.std.proofs.Common.{◌≡◌, ◌<◌, ◌≤◌, ℕ, List, length, refl, ap, arith}
 use Rattle.hw_linear.specs.Programmes.{Row}
 use Rattle.hw_model.specs.declared.shape.Shape.{Shape}
 use Rattle.hw_linear.specs.Rows.{after_spans, at_most, rows_from}

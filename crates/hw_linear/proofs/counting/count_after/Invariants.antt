@@ -1,4 +1,4 @@
-use Rattle.std.proofs.Common.{◌≡◌, ◌+◌, ◌≤◌, ◌*◌, length, ◌-◌}
+use Rattle.std.proofs.Common.{◌≡◌, ◌+◌, ◌≤◌, length, ◌-◌}
 use Rattle.hw_linear.specs.Rows.{after_rows, after_spans, rows_from}
 use Rattle.hw_linear.proofs.counting.count_after.Given as goal
 

@@ -1,4 +1,4 @@
-use Rattle.std.proofs.Common.{◌≡◌, ◌<◌, ◌≤◌, ◌+◌, ◌-◌, ℕ, List, length, refl, ap, arith}
+use Rattle.std.proofs.Common.{◌≡◌, ◌<◌, ◌≤◌, ◌+◌, ◌-◌, ℕ, List, length, refl, arith}
 use Rattle.hw_linear.specs.Programmes.{Row}
 use Rattle.hw_model.specs.Problem.{horizon}
 use Rattle.hw_linear.specs.Rows.{at_most, rows_from, width, window_spans}

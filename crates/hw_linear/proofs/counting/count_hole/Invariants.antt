@@ -1,4 +1,4 @@
-use Rattle.std.proofs.Common.{◌≡◌, ◌+◌, ◌≤◌, ◌*◌, length, ◌-◌}
+use Rattle.std.proofs.Common.{◌≡◌, ◌+◌, ◌≤◌, length, ◌-◌}
 use Rattle.hw_model.specs.Problem.{horizon}
 use Rattle.hw_linear.specs.Rows.{rows_from, width, window_rows, window_spans}
 use Rattle.hw_linear.proofs.counting.count_hole.Given as goal

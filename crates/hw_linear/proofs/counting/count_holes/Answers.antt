@@ -1,4 +1,4 @@
-use Rattle.std.proofs.Common.{◌≡◌, length, pos, refl, arith}
+use Rattle.std.proofs.Common.{pos, refl, arith}
 use Rattle.hw_linear.specs.Rows.{hole_rows, window_rows}
 use Rattle.hw_linear.proofs.Onward.{copies_count, items_counted}
 use Rattle.hw_linear.proofs.counting.count_holes.Goals as goal

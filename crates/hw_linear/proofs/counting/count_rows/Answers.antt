@@ -1,4 +1,4 @@
-use Rattle.std.proofs.Common.{length, ap, arith, length-append}
+use Rattle.std.proofs.Common.{ap, arith, length-append}
 use Rattle.hw_model.specs.declared.shape.Shape.{Shape}
 use Rattle.hw_linear.specs.Rows.{rules_rows, ship_rows}
 use Rattle.hw_linear.proofs.Empty.{length-ship_rows}

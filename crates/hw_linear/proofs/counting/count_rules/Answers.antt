@@ -1,4 +1,4 @@
-use Rattle.std.proofs.Common.{◌≡◌, length, refl, arith}
+use Rattle.std.proofs.Common.{refl, arith}
 use Rattle.hw_linear.specs.Rows.{rule_rows, rules_rows}
 use Rattle.hw_linear.proofs.Onward.{items_count, items_counted}
 use Rattle.hw_linear.proofs.counting.count_rules.Goals as goal

@@ -1,4 +1,4 @@
-use Rattle.std.proofs.Common.{◌≡◌, ◌+◌, ◌≤◌, ◌*◌, length, ◌-◌}
+use Rattle.std.proofs.Common.{◌≡◌, ◌+◌, ◌≤◌, length, ◌-◌}
 use Rattle.hw_model.specs.Problem.{horizon}
 use Rattle.hw_linear.specs.Rows.{job_spans, rows_from, tug_rows}
 use Rattle.hw_linear.proofs.counting.count_tugs.Given as goal

@@ -1,8 +1,7 @@
-use Rattle.std.proofs.Common.{◌≡◌, ◌<◌, ◌+◌, ◌-◌, ◌++◌, ◌∙◌, [], refl, sym, ap, subst, arith}
+use Rattle.std.proofs.Common.{◌≡◌, ◌<◌, ◌+◌, ◌-◌, ◌++◌, ◌∙◌, [], refl, sym, ap, arith}
 use Rattle.hw_model.specs.declared.shape.Shape.{Shape}
-use Rattle.hw_linear.specs.Programmes.{Term, weight_of}
+use Rattle.hw_linear.specs.Programmes.{weight_of}
 use Rattle.hw_linear.specs.Rows.{span_terms, whole_span, value_terms, ships_terms}
-use Rattle.hw_linear.specs.Texts.{shown}
 use Rattle.hw_linear.proofs.Empty.{without_value, without_weight, front_some}
 use Rattle.hw_linear.proofs.Onward.{counted_next, shown_some}
 use Rattle.hw_linear.proofs.programme.is_empty.Goals as goal

@@ -1,4 +1,4 @@
-use Rattle.std.proofs.Common.{◌<◌, ◌≤◌, ◌+◌, ◌-◌, ◌∷◌, [], suc, ap, arith, ◌≡◌}
+use Rattle.std.proofs.Common.{◌+◌, ◌-◌, suc, ap, arith, ◌≡◌}
 use Rattle.hw_model.specs.declared.shape.Shape.{Shape}
 use Rattle.hw_desk.proofs.Written.{puts_on, puts_same, puts_nothing}
 use Rattle.hw_linear.specs.Rows.{ship_rows}

@@ -1,4 +1,4 @@
-use Rattle.std.proofs.Common.{◌≡◌, [], ◌∙◌, sym, ap, arith}
+use Rattle.std.proofs.Common.{◌≡◌, ◌∙◌, sym, ap, arith}
 use Rattle.hw_desk.proofs.Written.{puts_same}
 use Rattle.hw_linear.specs.Programmes.{weight_of}
 use Rattle.hw_linear.specs.Rows.{span_terms, whole_span}

@@ -1,4 +1,4 @@
-use Rattle.std.proofs.Common.{◌≡◌, ◌<◌, ◌≤◌, ◌+◌, ◌-◌, ◌∙◌, refl, ap, arith}
+use Rattle.std.proofs.Common.{◌≡◌, ◌+◌, ◌-◌, ◌∙◌, refl, ap, arith}
 use Rattle.hw_model.specs.declared.shape.Shape.{Shape}
 use Rattle.hw_linear.specs.Programmes.{weight_of}
 use Rattle.hw_linear.specs.Rows.{term_at, terms_from}
