@@ -1,0 +1,7 @@
+pub mod Sums
+pub mod Sits
+pub mod Holes
+pub mod Kept
+pub mod Found
+pub mod Onward
+pub mod Empty

@@ -1,0 +1,5 @@
+use Rattle.std.proofs.Common.{refl}
+use Rattle.hw_linear.proofs.laws.worked_rows.Goals as goal
+
+pub returns : goal.returns
+returns c = record { two_apart_rows = refl }

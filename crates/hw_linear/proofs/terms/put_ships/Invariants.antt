@@ -1,0 +1,11 @@
+use Rattle.std.proofs.Common.{◌-◌}
+use Rattle.hw_desk.specs.Writers.{WriterState, Puts}
+use Rattle.hw_linear.specs.Rows.{ships_terms}
+use Rattle.hw_linear.specs.Texts.{terms_text}
+use Rattle.hw_linear.proofs.terms.put_ships.Given as goal
+
+-- whatever follows the terms so far, beginning with those that are left
+abbrev pub invariant-loop-ship : goal.invariant-loop-ship
+invariant-loop-ship g l =
+    let state = g.W.Writer.state in
+    (end : WriterState) → Puts (terms_text l.flat.slots l.mark (ships_terms l.flat l.ship (l.flat.ships - l.ship))) (state l.out) end → Puts (terms_text l.flat.slots l.mark (ships_terms l.flat 0 l.flat.ships)) (state l.fn.out) end

@@ -1,0 +1,138 @@
+-- The 0-1 linear programme of a flat problem.
+use Rattle.std.specs.Prelude.{◌≤◌, ◌<◌, ℕ, zero, suc, ◌+◌, ◌-◌, ◌/◌, min, ℤ, pos, negsuc, ◌+ℤ◌, ◌-ℤ◌, nat_lt, is_some, if◌then◌else◌, List, [], ◌∷◌, ◌++◌, map, Option, Some, None}
+use Rattle.hw_model.specs.declared.limits.TheConstants.{MOST_TUGS}
+use Rattle.hw_model.specs.declared.rule.Hole.{Hole}
+use Rattle.hw_model.specs.declared.rule.Job.{Job}
+use Rattle.hw_model.specs.declared.rule.Rule.{Rule}
+use Rattle.hw_model.specs.declared.rule.Rule.TheVariants.{Pair, After, Tugs}
+use Rattle.hw_model.specs.Problem.{Problem, horizon, value_at}
+use Rattle.hw_linear.specs.declared.format.Sense.TheVariants.{AtMost, Exactly}
+use Rattle.hw_linear.specs.declared.span.Span.{Span}
+use Rattle.hw_linear.specs.Programmes.{Term, Row, Programme, weight_of}
+
+-- ---- terms
+
+-- the term of a slot in which the ship has a value, or none
+abbrev pub term_at : Problem → ℕ → ℕ → ℕ → List Term
+term_at f weight ship slot = if is_some (value_at f ship slot) then record { weight = weight; ship = ship; slot = slot } ∷ [] else []
+
+-- those of `count` slots from this one on
+abbrev pub terms_from : Problem → ℕ → ℕ → ℕ → ℕ → List Term
+terms_from f weight ship slot zero = []
+terms_from f weight ship slot (suc more) = term_at f weight ship slot ++ terms_from f weight ship (slot + 1) more
+
+-- those of a span: the slots from its first one to before its end
+abbrev pub span_terms : Problem → Span → List Term
+span_terms f span = terms_from f span.weight span.ship span.from (span.to - span.from)
+
+abbrev pub terms_of : Problem → List Span → List Term
+terms_of f [] = []
+terms_of f (span ∷ spans) = span_terms f span ++ terms_of f spans
+
+-- a span of one of the ships, inside its slots
+pub record SpanFits (f : Problem) (span : Span) : Type 0 where
+  pub ship_in : span.ship < f.ships
+  pub slots_in : span.to ≤ f.slots
+  pub small : span.weight ≤ MOST_TUGS
+
+-- ---- what is to be made greatest: the value of each ship in each slot
+
+abbrev pub value_term : ℕ → ℕ → Option ℕ → List Term
+value_term ship slot None = []
+value_term ship slot (Some value) = record { weight = value; ship = ship; slot = slot } ∷ []
+
+abbrev pub value_terms : Problem → ℕ → ℕ → ℕ → List Term
+value_terms f ship slot zero = []
+value_terms f ship slot (suc more) = value_term ship slot (value_at f ship slot) ++ value_terms f ship (slot + 1) more
+
+-- those of `count` ships from this one on
+abbrev pub ships_terms : Problem → ℕ → ℕ → List Term
+ships_terms f ship zero = []
+ships_terms f ship (suc more) = value_terms f ship 0 f.slots ++ ships_terms f (ship + 1) more
+
+-- ---- rows
+
+-- the row that a weight in some spans is at most a bound; none where all of them together are
+abbrev pub at_most : Problem → ℕ → List Span → List Row
+at_most f bound spans = if nat_lt bound (weight_of (terms_of f spans)) then record { terms = terms_of f spans; sense = AtMost; bound = bound } ∷ [] else []
+
+-- one such row for each of `count` numbers from this one on, over its own spans
+abbrev pub rows_from : Problem → ℕ → (ℕ → List Span) → ℕ → ℕ → List Row
+rows_from f bound spans k zero = []
+rows_from f bound spans k (suc more) = at_most f bound (spans k) ++ rows_from f bound spans (k + 1) more
+
+-- all slots of a ship, with weight 1
+abbrev pub whole_span : Problem → ℕ → Span
+whole_span f ship = record { ship = ship; from = 0; to = f.slots; weight = 1 }
+
+-- a ship has exactly one slot; where ships may stay, one slot means so
+abbrev pub ship_row : Problem → ℕ → Row
+ship_row f ship = record { terms = span_terms f (whole_span f ship); sense = Exactly; bound = 1 }
+
+-- those of `count` ships from this one on
+abbrev pub ship_rows : Problem → ℕ → ℕ → List Row
+ship_rows f ship zero = []
+ship_rows f ship (suc more) = ship_row f ship ∷ ship_rows f (ship + 1) more
+
+-- the first slot that isn't before a time
+abbrev pub slot_from : ℤ → ℕ
+slot_from (pos n) = n
+slot_from (negsuc n) = 0
+
+-- how many slots the first ship's window has: half of those that a hole spans
+abbrev pub width : Hole → ℕ
+width hole = slot_from (hole.hi -ℤ hole.lo) / 2 + 1
+
+-- the window of the first ship that ends with a slot
+abbrev pub first_window : Problem → ℕ → Hole → ℕ → Span
+first_window f v hole last = record { ship = v; from = last + 1 - width hole; to = min (last + 1) (horizon f); weight = 1 }
+
+-- the sailing slots of the second ship that a hole keeps apart from each slot of a window of the first one
+abbrev pub partner : Problem → ℕ → Hole → Span → Span
+partner f w hole first = record { ship = w; from = slot_from ((pos first.to -ℤ pos 1) +ℤ hole.lo); to = min (horizon f) (slot_from ((pos first.from +ℤ hole.hi) +ℤ pos 1)); weight = 1 }
+
+-- of these two windows at most one is sailed in
+abbrev pub window_spans : Problem → ℕ → ℕ → Hole → ℕ → List Span
+window_spans f v w hole last = first_window f v hole last ∷ partner f w hole (first_window f v hole last) ∷ []
+
+-- the windows of a hole: the first ship's end with each slot of the horizon, and after it while they begin in it
+abbrev pub window_rows : Problem → ℕ → ℕ → Hole → List Row
+window_rows f v w hole = rows_from f 1 (window_spans f v w hole) 0 (horizon f + width hole - 1)
+
+abbrev pub hole_rows : Problem → ℕ → ℕ → List Hole → List Row
+hole_rows f v w [] = []
+hole_rows f v w (hole ∷ holes) = window_rows f v w hole ++ hole_rows f v w holes
+
+-- where the first ship of a precedence sails in a slot or later, or stays, the second one doesn't sail before the gap is over
+abbrev pub after_spans : Problem → ℕ → ℕ → ℕ → ℕ → List Span
+after_spans f v w gap slot = record { ship = v; from = slot; to = f.slots; weight = 1 } ∷ record { ship = w; from = 0; to = min (horizon f) (slot + gap); weight = 1 } ∷ []
+
+abbrev pub after_rows : Problem → ℕ → ℕ → ℕ → List Row
+after_rows f v w gap = rows_from f 1 (after_spans f v w gap) 0 f.slots
+
+-- the slots from which a job holds its tugs in a slot
+abbrev pub job_span : ℕ → Job → Span
+job_span slot job = record { ship = job.ship; from = slot + 1 - job.hold; to = slot + 1; weight = job.tugs }
+
+abbrev pub job_spans : List Job → ℕ → List Span
+job_spans jobs slot = map (job_span slot) jobs
+
+-- in each slot of the horizon no more tugs are held than the fleet has
+abbrev pub tug_rows : Problem → ℕ → List Job → List Row
+tug_rows f fleet jobs = rows_from f fleet (job_spans jobs) 0 (horizon f)
+
+abbrev pub rule_rows : Problem → Rule → List Row
+rule_rows f (Pair v w holes) = hole_rows f v w holes
+rule_rows f (After v w gap) = after_rows f v w gap
+rule_rows f (Tugs fleet jobs) = tug_rows f fleet jobs
+
+abbrev pub rules_rows : Problem → List Rule → List Row
+rules_rows f [] = []
+rules_rows f (rule ∷ rules) = rule_rows f rule ++ rules_rows f rules
+
+-- a row for each ship, and then those of the rules
+abbrev pub rows_of : Problem → List Row
+rows_of f = ship_rows f 0 f.ships ++ rules_rows f f.rules
+
+abbrev pub programme_of : Problem → Programme
+programme_of f = record { objective = ships_terms f 0 f.ships; rows = rows_of f }

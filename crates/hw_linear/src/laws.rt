@@ -1,0 +1,19 @@
+//! The laws of the programme of a flat problem.
+
+ghost use Rattle.hw_linear.specs.Laws.{ObjectiveIsCargo, PointsArePermitted};
+ghost use Rattle.hw_linear.specs.Worked.{WorkedRows};
+
+/// The 0-1 points that satisfy the programme are those of the permitted timetables, one for each.
+pub fn points_are_permitted()
+    ensures { PointsArePermitted }
+{}
+
+/// At the point of a permitted timetable the objective is its cargo.
+pub fn objective_is_cargo()
+    ensures { ObjectiveIsCargo }
+{}
+
+/// The programmes of small problems, worked out by hand.
+pub fn worked_rows()
+    ensures { WorkedRows }
+{}

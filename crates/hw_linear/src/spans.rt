@@ -1,0 +1,59 @@
+//! A few spans, without memory.
+
+ghost use Rattle.std.specs.Prelude.{◌≡◌, ◌<◌, ◌++◌, [], ◌∷◌, length};
+ghost use Rattle.hw_model.specs.declared.limits.TheConstants.{MOST_SHIPS};
+
+use crate::span::Span;
+use std::marker::Model;
+
+/// At most as many spans as a problem has ships, seen as their list.
+#[derive(Drop)]
+pub struct Spans {
+    items: [Span; 40],
+    len: usize,
+}
+
+impl Model for Spans {
+    ghost use Rattle.std.specs.Prelude.{List, take, ◌≤◌};
+    ghost use Rattle.hw_linear.specs.declared.span.Span.{Span};
+
+    ghost Value = { List Span };
+
+    ghost view = { λ s. take s.len s.items };
+
+    ghost invariant = { λ s. s.len ≤ 40 };
+}
+
+impl Spans {
+    /// None.
+    pub fn new() -> Spans
+        ensures { result ≡ [] }
+    {
+        let none = Span {
+            ship: 0,
+            from: 0,
+            to: 0,
+            weight: 0,
+        };
+        Spans {
+            items: [none; 40],
+            len: 0,
+        }
+    }
+
+    /// The spans.
+    pub fn as_slice(&self) -> &[Span]
+        ensures { result.now ≡ self.now }
+    {
+        &self.items[..self.len]
+    }
+
+    /// Appends one.
+    pub fn push(&mut self, span: Span)
+        requires few { length self.old < MOST_SHIPS }
+        ensures { self.new ≡ self.old ++ span ∷ [] }
+    {
+        self.items[self.len] = span;
+        self.len += 1;
+    }
+}
