@@ -1,0 +1,60 @@
+//! A text of what was read is sent.
+
+ghost use Rattle.std.specs.Prelude.{◌∷◌, []};
+ghost use Rattle.hw_desk.specs.Whole.{SendsText};
+ghost use Rattle.hw_desk.specs.Writers.{Puts};
+ghost use Rattle.hw_report.specs.Reports.{whole_text};
+ghost use Rattle.hw_command.specs.Ends.{Ends};
+ghost use Rattle.hw_listing_command.specs.Listed.{CanList, listing_text};
+
+use hw_command::Status;
+use hw_desk::{Desk, DeskFailed, Tray, TrayWriter, Writer};
+use hw_flat::Flat;
+use hw_linear::{put_model, put_opb};
+use hw_port::Port;
+use hw_tide::Tide;
+use hw_windows::put_windows;
+
+/// What is listed.
+#[derive(Clone, Copy)]
+pub(crate) enum Listing<'g> {
+    /// When each ship of a port may sail.
+    Windows { port: &'g Port, tide: &'g Tide },
+    /// The linear programme of a problem, in the LP format.
+    Model { flat: &'g Flat },
+    /// The same in the OPB format.
+    Opb { flat: &'g Flat },
+}
+
+/// Sends it piece by piece. Returns `Optimal`, or `WriteFault` if a write failed.
+pub(crate) fn list<D: Desk>(desk: &mut D, listing: Listing) -> Status
+    requires { CanList listing }
+    ensures { Ends (whole_text (listing_text listing.entry) ∷ []) (D.state desk.old) (D.state desk.new) result }
+{
+    match send_listing(desk, listing) {
+        Ok(()) => Status::Optimal,
+        Err(_) => Status::WriteFault,
+    }
+}
+
+/// Sends its text. It takes no memory.
+fn send_listing<D: Desk>(desk: &mut D, listing: Listing) -> Result<(), DeskFailed>
+    requires { CanList listing }
+    ensures { SendsText Tray.Report (listing_text listing.entry) (D.state desk.old) (D.state desk.new) result }
+{
+    let mut out = TrayWriter::new(desk, Tray::Report);
+    put_listing(&mut out, listing);
+    out.flush()
+}
+
+/// Puts its text. It takes no memory.
+fn put_listing<W: Writer>(out: &mut W, listing: Listing)
+    requires { CanList listing }
+    ensures { Puts (listing_text listing.entry) (W.state out.old) (W.state out.new) }
+{
+    match listing {
+        Listing::Windows { port, tide } => put_windows(out, port, tide),
+        Listing::Model { flat } => put_model(out, flat),
+        Listing::Opb { flat } => put_opb(out, flat),
+    }
+}
