@@ -95,7 +95,7 @@ no_flat : (text bytes : List ℕ) (r : Report) → NoFlat (Some text) r → r �
 no_flat text bytes r h = by_line (Some text) (λ (r : Report). r ≡ texts_chart text bytes) r (λ number word bad. sym (within text bytes bad.0 ∙ ap (λ read. read_chart read bytes) bad.1)) (λ long. sym (ap (λ passes. cond passes (too_long Flat) (read_chart (text_read text) bytes)) (lt-ltb _ _ long))) h
 
 by_text : (name text bytes : List ℕ) (held : List ℕ → Option (List ℕ)) (r : Report) → held name ≡ Some text → (flat_subject name).Refuses held r ⊎ DrawnBy (flat_subject name) held bytes r → r ≡ texts_chart text bytes
-by_text name text bytes held r told (inl no) = no_flat text bytes r (subst (λ (o : Option (List ℕ)). NoFlat o r) told no)
+by_text name text bytes held r told (inl bad) = no_flat text bytes r (subst (λ (o : Option (List ℕ)). NoFlat o r) told bad)
 by_text name text bytes held r told (inr drawn) =
     let is_text : IsTextOf drawn.value text = subst (λ (o : Option (List ℕ)). IfSome o (IsTextOf drawn.value)) told drawn.reads.reads in
     drawn.report ∙ sym (within text bytes is_text.0 ∙ ap (λ read. read_chart read bytes) is_text.1)
