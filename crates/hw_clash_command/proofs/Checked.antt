@@ -1,5 +1,5 @@
 -- A clash text of a flat text or a port is checked, with its certificate.
-use Rattle.std.proofs.Common.{◌≡◌, ◌∙◌, ◌++◌, ℕ, List, [], ◌∷◌, Option, Some, None, Result, Ok, Err, append_assoc, false, refl, sym, ap, subst}
+use Rattle.std.proofs.Common.{◌≡◌, ◌∙◌, ◌++◌, ℕ, List, [], ◌∷◌, Option, None, Result, Ok, Err, append_assoc, false, refl, sym, ap, subst}
 use Rattle.std.specs.Prelude.{IfSome}
 use Rattle.hw_model.specs.Limits.{IsFlat}
 use Rattle.hw_model.specs.Problem.{Problem, shape_of}
@@ -96,12 +96,12 @@ shown {g = g} (Shows v) flat h e = record { lines = h.lines; fit = h.keeps.fit; 
 shown (Wrong number word hint) flat h e = tt
 shown TooLong flat h e = tt
 
-says : {s : Subject} {plan cert : List ℕ} {held : List ℕ → Option (List ℕ)} (o : CertOutcome) → ChecksClash s plan cert held o → ClashChecks s plan cert held (report_of_part o)
-says (Shows verdicts.Infeasible) c = c
-says (Shows (verdicts.Optimal d)) c = (refl, (λ e. absurd (cc)), c)
-says (Shows (verdicts.Unfinished best)) c = (refl, (λ e. absurd (cc)), c)
-says (Wrong number word hint) c = c
-says TooLong c = c
+says : (s : Subject) (plan cert : List ℕ) (held : List ℕ → Option (List ℕ)) (o : CertOutcome) → ChecksClash s plan cert held o → ClashChecks s plan cert held (report_of_part o)
+says s plan cert held (Shows verdicts.Infeasible) c = c
+says s plan cert held (Shows (verdicts.Optimal d)) c = (refl, (λ e. absurd (cc)), c)
+says s plan cert held (Shows (verdicts.Unfinished best)) c = (refl, (λ e. absurd (cc)), c)
+says s plan cert held (Wrong number word hint) c = c
+says s plan cert held TooLong c = c
 
 -- ---- the work
 
@@ -184,20 +184,20 @@ check_breaks {plan = plan} {cert = cert} {x = x} {z = z} origin stop h k m ends 
 
 -- it has an outcome
 pub check_meets : {plan cert : List ℕ} {x y w z end : DeskState} {given : Given} {g : Problem} {read : ReadCert (Unit {0})} {s : Status} (origin : Origin) → ReadsSubject (origin_subject origin) x y given → ReadsPart given.flat plan y w g → ReadsCert Two KeepsNone g cert w z (Ok read) → Ends (report_of_part read.outcome ∷ []) z end s → Carries (check_clash_task (origin_subject origin) plan cert) x end s
-check_meets {plan = plan} {cert = cert} {x = x} {z = z} {given = given} {read = read} origin h k m ends =
+check_meets {plan = plan} {cert = cert} {x = x} {w = w} {z = z} {read = read} origin h k m ends =
     let s = origin_subject origin in
     let f = s.problem h.value in
     let kept = k.clash.kept in
     let is = clash_of origin h k in
     let held = ap (λ held. held cert) (k.enters.only.held ∙ h.entered.begins.held) in
     let made = k.made ∙ ap (λ (f : Problem). part f kept) h.problem in
-    let lines = subst (λ (told : Option (List ℕ)). ReadsLines Two KeepsNone (part f kept) told (cert_outcome (part f kept)) (cert_stream_to Two (shape_of (part f kept))) read) held (subst (λ (g : Problem). ReadsLines Two KeepsNone g _ (cert_outcome g) (cert_stream_to Two (shape_of g)) read) made m.reads.1) in
+    let lines = subst (λ (told : Option (List ℕ)). ReadsLines Two KeepsNone (part f kept) told (cert_outcome (part f kept)) (cert_stream_to Two (shape_of (part f kept))) read) held (subst (λ (g : Problem). ReadsLines Two KeepsNone g (w.held cert) (cert_outcome g) (cert_stream_to Two (shape_of g)) read) made m.reads.1) in
     let is_shown = shown read.outcome (subst IsFlat made k.limits) lines lines.keeps.comes in
     record {
       mid = z;
       reports = report_of_part read.outcome ∷ [];
       works = part_works read.outcome (read_works origin (Ok read) h k (gives_clash origin h k) m);
-      says = λ own. says read.outcome (record {
+      says = λ own. says s plan cert x.held read.outcome (record {
         value = h.value;
         reads = h.reads;
         clash = k.clash;
