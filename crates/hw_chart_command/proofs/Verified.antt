@@ -1,8 +1,8 @@
 -- What is drawn is what is verified.
-use Rattle.std.proofs.Common.{◌≡◌, ◌⊎◌, ◌∙◌, ℕ, List, Option, Some, None, inl, inr, refl, sym, ap, subst}
+use Rattle.std.proofs.Common.{◌≡◌, ◌⊎◌, ◌∙◌, ℕ, List, Option, inl, inr, refl, sym, ap, subst}
 use Rattle.hw_cert.specs.declared.version.Version.TheVariants.{Two, Three}
 use Rattle.hw_model.specs.Problem.{Problem, shape_of}
-use Rattle.hw_report.specs.Reports.{Report, Naming}
+use Rattle.hw_report.specs.Reports.{Report}
 use Rattle.hw_command.specs.Certificates.{cert_outcome_to, report_of}
 use Rattle.hw_command.specs.declared.outcome.CertOutcome.{CertOutcome}
 use Rattle.hw_command.specs.declared.outcome.CertOutcome.TheVariants.{Shows, Wrong, TooLong}
