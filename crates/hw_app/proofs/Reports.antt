@@ -44,7 +44,7 @@ abbrev by_chart : List ℕ → Last
 by_chart cert names f plan = cert_chart names f cert
 
 by_drawn : (s : Subject) (held : List ℕ → Option (List ℕ)) (cert : List ℕ) (r : Report) → s.Refuses held r ⊎ DrawnBy s held cert r → IsReported s held (by_chart cert) r
-by_drawn s held cert r (inl no) = inl no
+by_drawn s held cert r (inl bad) = inl bad
 by_drawn s held cert r (inr by) = inr (record { value = by.value; reads = by.reads; report = by.report })
 
 chart_reported : {bytes : Origin} {cert : List ℕ} {r : Report} → (h : ChartOf bytes cert r) → IsReported (origin_subject h.origin) h.held (by_chart cert) r
@@ -57,7 +57,7 @@ abbrev by_clash : List ℕ → List ℕ → Last
 by_clash clash cert names f plan = plan_report f clash cert
 
 by_plan : (s : Subject) (held : List ℕ → Option (List ℕ)) (clash cert : List ℕ) (r : Report) → s.Refuses held r ⊎ ClashReportedBy s held (λ v. plan_report (s.problem v) clash cert) r → IsReported s held (by_clash clash cert) r
-by_plan s held clash cert r (inl no) = inl no
+by_plan s held clash cert r (inl bad) = inl bad
 by_plan s held clash cert r (inr by) = inr (record { value = by.value; reads = by.reads; report = by.is })
 
 pub clash_reported : {bytes : Origin} {clash cert : List ℕ} {r : Report} → (h : ClashCheckOf bytes clash cert r) → IsReported (origin_subject h.origin) h.held (by_clash clash cert) r
@@ -66,7 +66,7 @@ clash_reported {clash = clash} {cert = cert} {r = r} h = by_plan (origin_subject
 pub one_clash_report : OneClashReport
 one_clash_report = record {
   check = λ bytes clash cert r t h g. one_across (plainly h.origin) (plainly g.origin) (plainly bytes) h.held g.held (by_clash clash cert) r t (h.told, tt) (g.told, tt) (clash_reported h) (clash_reported g);
-  explain = λ instance tides r t h g. one_clash_report_law.explain instance tides itself r t (tt, (tt, tt)) h g;
+  explain = λ instance tides r t h g. one_clash_report_law.explain instance tides itself r t (refl, (refl, tt)) h g;
 }
 
 -- the report of a port with its tide by their flat text
@@ -114,7 +114,7 @@ verified_as_checked bytes cert c r h g =
 
 -- as the crate of certificates says it
 decided_as : (s : Subject) (most : Version) (held : List ℕ → Option (List ℕ)) (cert : List ℕ) (c : Report) → IsReported s held (by_cert most cert) c → s.Refuses held c ⊎ DecidedBy s most held cert c
-decided_as s most held cert c (inl no) = inl no
+decided_as s most held cert c (inl bad) = inl bad
 decided_as s most held cert c (inr by) = inr (record { value = by.value; reads = by.reads; report = by.report })
 
 pub charts_as_verified : ChartsAsVerified
