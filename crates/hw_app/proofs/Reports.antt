@@ -10,26 +10,24 @@ use Rattle.hw_port.specs.Whole.{Parts}
 use Rattle.hw_tide.specs.Levels.{TideParts}
 use Rattle.hw_port_rules.specs.Flattened.{flattened}
 use Rattle.hw_repair.specs.declared.plan.Wish.{Wish}
-use Rattle.hw_report.specs.Reports.{Report, Naming, checked, whole_text}
+use Rattle.hw_report.specs.Reports.{Report, Naming, whole_text}
 use Rattle.hw_command.specs.Certificates.{report_of, stream_outcome}
 use Rattle.hw_subject.specs.Meanings.{judged, repaired_problem, ships_of}
-use Rattle.hw_subject.specs.Subjects.{Subject, Origin, Topic, origin_subject, topic_subject}
-use Rattle.hw_check_command.specs.Checks.{Checks}
+use Rattle.hw_subject.specs.Subjects.{Subject, Origin, origin_subject, topic_subject}
 use Rattle.hw_check_command.specs.Laws.{DecidedBy, IsDecided, NamesThird}
 use Rattle.hw_check_command.specs.Texts.{cert_report}
 use Rattle.hw_check_command.proofs.Decided.{subjects_decided_law}
 use Rattle.hw_check_command.proofs.OnePort.{OfFiles, of_port, no_port_files, one_report}
 use Rattle.hw_check_command.proofs.SameLines.{stream_same}
-use Rattle.hw_chart_command.specs.Laws.{IsChartOf}
 use Rattle.hw_chart_command.specs.Texts.{cert_chart}
 use Rattle.hw_chart_command.proofs.Decided.{DrawnBy, decided as chart_decided}
 use Rattle.hw_chart_command.proofs.Verified.{alike, checked_by}
 use Rattle.hw_clash_command.specs.Texts.{plan_report}
 use Rattle.hw_clash_command.proofs.Decided.{ReportedBy as ClashReportedBy, decided as clash_decided, one_clash_report_law}
 use Rattle.hw_app.specs.Flattening.{FlattensTexts}
-use Rattle.hw_app.specs.LawsOfReports.{CheckOf, ChartOf, ClashCheckOf, OneCertificateReport, OneChart, OneClashReport, OneFlatText, PrintedBounds, VerifiedAsChecked, ChartsAsVerified, ChartsAsChecked}
+use Rattle.hw_app.specs.LawsOfReports.{ChartOf, ClashCheckOf, OneCertificateReport, OneChart, OneClashReport, OneFlatText, PrintedBounds, VerifiedAsChecked, ChartsAsVerified, ChartsAsChecked}
 use Rattle.hw_app.specs.Told.{itself, plainly}
-use Rattle.hw_app.proofs.Decided.{Last, ReportedBy, IsReported, as_check, by_cert, carried, check_reported, one_across, one_check}
+use Rattle.hw_app.proofs.Decided.{Last, IsReported, as_check, by_cert, carried, check_reported, one_across, one_check}
 use Rattle.hw_app.proofs.Told.{all_told}
 
 -- ---- one report
