@@ -1,5 +1,5 @@
 -- What is told decides what is reported, whatever the names and the desk.
-use Rattle.std.proofs.Common.{◌≡◌, ◌⊎◌, ◌∙◌, ℕ, List, Option, Some, inl, inr, refl, sym, ap}
+use Rattle.std.proofs.Common.{◌≡◌, ◌⊎◌, ◌∙◌, ℕ, List, Option, inl, inr, refl, sym, ap}
 use Rattle.hw_model.specs.Problem.{Problem}
 use Rattle.hw_cert.specs.declared.version.Version.{Version}
 use Rattle.hw_cert.specs.declared.version.Version.TheVariants.{Two}
@@ -31,7 +31,7 @@ IsReported s held last r = s.Refuses held r ⊎ ReportedBy s held last r
 
 -- over another desk that tells the same
 pub carried : (a b bytes : Topic) (h g : List ℕ → Option (List ℕ)) (last : Last) (r : Report) → IsTold h a bytes → IsTold g b bytes → IsReported (topic_subject a) h last r → IsReported (topic_subject b) g last r
-carried a b bytes h g last r x y (inl no) = inl (refused_alike a b bytes h g r x y no)
+carried a b bytes h g last r x y (inl bad) = inl (refused_alike a b bytes h g r x y bad)
 carried a b bytes h g last r x y (inr by) =
     let s = topic_subject a in
     let t = topic_subject b in
@@ -59,7 +59,7 @@ abbrev pub by_cert : Version → List ℕ → Last
 by_cert most cert names f plan = cert_report most names f plan cert
 
 by_decided : (s : Subject) (most : Version) (held : List ℕ → Option (List ℕ)) (cert : List ℕ) (r : Report) → s.Refuses held r ⊎ DecidedBy s most held cert r → IsReported s held (by_cert most cert) r
-by_decided s most held cert r (inl no) = inl no
+by_decided s most held cert r (inl bad) = inl bad
 by_decided s most held cert r (inr by) = inr (record { value = by.value; reads = by.reads; report = by.report })
 
 pub check_reported : {most : Version} {bytes : Topic} {cert : List ℕ} {r : Report} → (h : CheckOf most bytes cert r) → IsReported (topic_subject h.topic) h.held (by_cert most cert) r

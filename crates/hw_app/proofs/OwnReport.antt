@@ -1,16 +1,14 @@
 -- A check of what a search wrote shows what the search reported.
-use Rattle.std.proofs.Common.{◌≡◌, ◌⊎◌, ◌+◌, ◌++◌, ◌∙◌, ℕ, true, List, [], ◌∷◌, Option, Some, All, inl, inr, refl, sym, ap, subst, append-nil, append_assoc}
+use Rattle.std.proofs.Common.{◌≡◌, ◌⊎◌, ◌+◌, ◌++◌, ◌∙◌, ℕ, true, List, [], ◌∷◌, Option, All, inl, inr, refl, sym, ap, subst, append-nil, append_assoc}
 use Rattle.std.specs.Prelude.{IfSome, option_and_then}
 use Rattle.std.specs.List.{list_all}
 use Rattle.std.proofs.lemmas.List.Elements.{All-head, All-tail}
 use Rattle.hw_model.specs.Limits.{IsFlat}
 use Rattle.hw_model.specs.Problem.{Problem, shape_of}
 use Rattle.hw_model.specs.Timetables.{cargo}
-use Rattle.hw_desk.specs.declared.desk.Tray.TheVariants.{Proof}
 use Rattle.hw_lines.specs.declared.check.Refusal.{Refusal}
 use Rattle.hw_lines.specs.declared.check.Verdict.{Verdict}
 use Rattle.hw_lines.specs.declared.line.Line.{Line}
-use Rattle.hw_lines.specs.Lines.{best_of}
 use Rattle.hw_lines.specs.Tolled.{bound_of}
 use Rattle.hw_lines.specs.Valid.{LineFits, Valid, ValidFrom, verdict}
 use Rattle.hw_verdict.proofs.Refused.{from_valid, valid_judge}
@@ -18,7 +16,6 @@ use Rattle.hw_verdict.proofs.Staying.{valid_append}
 use Rattle.hw_cert.specs.Laws.{has_form}
 use Rattle.hw_cert.specs.Spelled.{is_within}
 use Rattle.hw_cert.specs.Stream.{complete, CertLines, cert_stream_to}
-use Rattle.hw_cert.specs.Texts.{cert_text}
 use Rattle.hw_cert.proofs.Formed.{plain_formed, third_formed}
 use Rattle.hw_cert.proofs.ValidCerts.{valid_streams}
 use Rattle.hw_repair.specs.declared.plan.Wish.{Wish}
@@ -26,18 +23,16 @@ use Rattle.hw_report.specs.Reports.{Report, Naming, checked}
 use Rattle.hw_report.specs.declared.report.Head.{Head}
 use Rattle.hw_command.specs.Certificates.{line_outcome, lines_outcome, report_of, stream_outcome}
 use Rattle.hw_command.specs.Keeping.{whole_lines}
-use Rattle.hw_command.specs.declared.outcome.CertOutcome.{CertOutcome}
 use Rattle.hw_command.specs.declared.outcome.CertOutcome.TheVariants.{Shows}
 use Rattle.hw_subject.specs.Meanings.{repaired_problem, ships_of}
-use Rattle.hw_subject.specs.Subjects.{Topic, topic_subject}
+use Rattle.hw_subject.specs.Subjects.{topic_subject}
 use Rattle.hw_subject.proofs.Modelled.{subjects_modelled_law}
 use Rattle.hw_search_command.specs.Certified.{IsCertificate, head_verdict, searched_head}
 use Rattle.hw_search_command.specs.Searchers.{searcher_of}
 use Rattle.hw_search_command.specs.declared.searcher.Search.{Search}
 use Rattle.hw_search_command.specs.declared.searcher.Search.TheVariants.{Solve, Prove, Crew}
 use Rattle.hw_check_command.specs.Texts.{cert_report}
-use Rattle.hw_app.specs.LawsOfReports.{CheckOf}
-use Rattle.hw_app.specs.LawsOfSearches.{PassesLimit, SearchOf, IsShownAs, OwnReport, verdict_with}
+use Rattle.hw_app.specs.LawsOfSearches.{PassesLimit, IsShownAs, OwnReport, verdict_with}
 use Rattle.hw_app.proofs.Decided.{checked_at}
 use Rattle.hw_app.proofs.Owned.{plain_all}
 

@@ -37,17 +37,17 @@ use Rattle.hw_app.proofs.Told.{moved}
 
 -- no status of an answer tells of inputs that give no value
 origin_status : (a : Origin) (held : List ℕ → Option (List ℕ)) (r : Report) → (origin_subject a).Refuses held r → is_answer (status_of r) ≡ false
-origin_status (flat_text name) held r no = by_line (held name) (λ (r : Report). is_answer (status_of r) ≡ false) r (λ number word bad. refl) (λ long. refl) no
-origin_status (port_of instance table) held r no = by_fault (held instance) (held table) (λ (r : Report). is_answer (status_of r) ≡ false) r (λ bad. refl) (λ fault bad. refl) (λ fault bad. refl) (λ bad. refl) (λ bad. refl) no
+origin_status (flat_text name) held r bad = by_line (held name) (λ (r : Report). is_answer (status_of r) ≡ false) r (λ number word bad. refl) (λ long. refl) bad
+origin_status (port_of instance table) held r bad = by_fault (held instance) (held table) (λ (r : Report). is_answer (status_of r) ≡ false) r (λ bad. refl) (λ fault bad. refl) (λ fault bad. refl) (λ bad. refl) (λ bad. refl) bad
 
 refused_status : (a : Origin) (plan : Option (List ℕ)) (held : List ℕ → Option (List ℕ)) (r : Report) → (repaired_by (origin_subject a) plan).Refuses held r → is_answer (status_of r) ≡ false
-refused_status a None held r no = origin_status a held r no
-refused_status a (Some name) held (bad_text Plan number word) no = refl
-refused_status a (Some name) held (too_long Plan) no = refl
-refused_status a (Some name) held r no = origin_status a held r no
+refused_status a None held r bad = origin_status a held r bad
+refused_status a (Some name) held (bad_text Plan number word) bad = refl
+refused_status a (Some name) held (too_long Plan) bad = refl
+refused_status a (Some name) held r bad = origin_status a held r bad
 
 no_answer : (topic : Topic) (held : List ℕ → Option (List ℕ)) (r : Report) (s : Status) → s ≡ status_of r → is_answer s ≡ true → (topic_subject topic).Refuses held r → ⊥
-no_answer topic held r s ended answer no = apart (sym (ap is_answer ended ∙ refused_status topic.origin topic.plan held r no) ∙ answer)
+no_answer topic held r s ended answer bad = apart (sym (ap is_answer ended ∙ refused_status topic.origin topic.plan held r bad) ∙ answer)
   where
     apart : false ≡ true → ⊥
     apart e = cc
@@ -126,8 +126,8 @@ plan_itself : (plan : Option (List ℕ)) → PlanTold itself plan plan
 plan_itself None = tt
 plan_itself (Some plan) = refl
 
-overlong_of : {how : Search} {bytes topic : Topic} {held : List ℕ → Option (List ℕ)} {cert : List ℕ} (v : (topic_subject topic).Value) → IsTold held topic bytes → (topic_subject topic).Reads held v → PassesLimit (searcher_of how).version (judged (topic_subject topic) v) cert → IsOverlong (searcher_of how).version bytes cert
-overlong_of {how = how} {bytes = bytes} {topic = topic} {held = held} {cert = cert} v told reads long =
+overlong_of : (how : Search) (bytes topic : Topic) (held : List ℕ → Option (List ℕ)) (cert : List ℕ) (v : (topic_subject topic).Value) → IsTold held topic bytes → (topic_subject topic).Reads held v → PassesLimit (searcher_of how).version (judged (topic_subject topic) v) cert → IsOverlong (searcher_of how).version bytes cert
+overlong_of how bytes topic held cert v told reads long =
     let s = topic_subject topic in
     let t = topic_subject bytes in
     let it = moved topic bytes bytes held itself told (origin_itself bytes.origin, plan_itself bytes.plan) v reads in
@@ -139,5 +139,5 @@ own_status how bytes cert s t h k =
     by_lines w (own_lines how (subjects_modelled_law h.topic h.old.held w.value w.reads).limits w.certificate)
   where
     by_lines : (w : Wrote how h.topic h.old.held cert s) → PassesLimit (searcher_of how).version (judged (topic_subject h.topic) w.value) cert ⊎ (cert_stream_to (searcher_of how).version (shape_of (judged (topic_subject h.topic) w.value)) cert ≡ whole_lines w.certificate.lines) → IsOverlong (searcher_of how).version bytes cert ⊎ EndsAlike s t
-    by_lines w (inl long) = inl (overlong_of {how = how} {bytes = bytes} {topic = h.topic} {held = h.old.held} {cert = cert} w.value h.told w.reads long)
+    by_lines w (inl long) = inl (overlong_of how bytes h.topic h.old.held cert w.value h.told w.reads long)
     by_lines w (inr same) = inr (check_ends h.topic h.old.held w h.told h.answer same k)

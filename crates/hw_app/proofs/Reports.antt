@@ -10,26 +10,24 @@ use Rattle.hw_port.specs.Whole.{Parts}
 use Rattle.hw_tide.specs.Levels.{TideParts}
 use Rattle.hw_port_rules.specs.Flattened.{flattened}
 use Rattle.hw_repair.specs.declared.plan.Wish.{Wish}
-use Rattle.hw_report.specs.Reports.{Report, Naming, checked, whole_text}
+use Rattle.hw_report.specs.Reports.{Report, Naming, whole_text}
 use Rattle.hw_command.specs.Certificates.{report_of, stream_outcome}
 use Rattle.hw_subject.specs.Meanings.{judged, repaired_problem, ships_of}
-use Rattle.hw_subject.specs.Subjects.{Subject, Origin, Topic, origin_subject, topic_subject}
-use Rattle.hw_check_command.specs.Checks.{Checks}
+use Rattle.hw_subject.specs.Subjects.{Subject, Origin, origin_subject, topic_subject}
 use Rattle.hw_check_command.specs.Laws.{DecidedBy, IsDecided, NamesThird}
 use Rattle.hw_check_command.specs.Texts.{cert_report}
 use Rattle.hw_check_command.proofs.Decided.{subjects_decided_law}
 use Rattle.hw_check_command.proofs.OnePort.{OfFiles, of_port, no_port_files, one_report}
 use Rattle.hw_check_command.proofs.SameLines.{stream_same}
-use Rattle.hw_chart_command.specs.Laws.{IsChartOf}
 use Rattle.hw_chart_command.specs.Texts.{cert_chart}
 use Rattle.hw_chart_command.proofs.Decided.{DrawnBy, decided as chart_decided}
 use Rattle.hw_chart_command.proofs.Verified.{alike, checked_by}
 use Rattle.hw_clash_command.specs.Texts.{plan_report}
 use Rattle.hw_clash_command.proofs.Decided.{ReportedBy as ClashReportedBy, decided as clash_decided, one_clash_report_law}
 use Rattle.hw_app.specs.Flattening.{FlattensTexts}
-use Rattle.hw_app.specs.LawsOfReports.{CheckOf, ChartOf, ClashCheckOf, OneCertificateReport, OneChart, OneClashReport, OneFlatText, PrintedBounds, VerifiedAsChecked, ChartsAsVerified, ChartsAsChecked}
+use Rattle.hw_app.specs.LawsOfReports.{ChartOf, ClashCheckOf, OneCertificateReport, OneChart, OneClashReport, OneFlatText, PrintedBounds, VerifiedAsChecked, ChartsAsVerified, ChartsAsChecked}
 use Rattle.hw_app.specs.Told.{itself, plainly}
-use Rattle.hw_app.proofs.Decided.{Last, ReportedBy, IsReported, as_check, by_cert, carried, check_reported, one_across, one_check}
+use Rattle.hw_app.proofs.Decided.{Last, IsReported, as_check, by_cert, carried, check_reported, one_across, one_check}
 use Rattle.hw_app.proofs.Told.{all_told}
 
 -- ---- one report
@@ -44,7 +42,7 @@ abbrev by_chart : List ℕ → Last
 by_chart cert names f plan = cert_chart names f cert
 
 by_drawn : (s : Subject) (held : List ℕ → Option (List ℕ)) (cert : List ℕ) (r : Report) → s.Refuses held r ⊎ DrawnBy s held cert r → IsReported s held (by_chart cert) r
-by_drawn s held cert r (inl no) = inl no
+by_drawn s held cert r (inl bad) = inl bad
 by_drawn s held cert r (inr by) = inr (record { value = by.value; reads = by.reads; report = by.report })
 
 chart_reported : {bytes : Origin} {cert : List ℕ} {r : Report} → (h : ChartOf bytes cert r) → IsReported (origin_subject h.origin) h.held (by_chart cert) r
@@ -57,7 +55,7 @@ abbrev by_clash : List ℕ → List ℕ → Last
 by_clash clash cert names f plan = plan_report f clash cert
 
 by_plan : (s : Subject) (held : List ℕ → Option (List ℕ)) (clash cert : List ℕ) (r : Report) → s.Refuses held r ⊎ ClashReportedBy s held (λ v. plan_report (s.problem v) clash cert) r → IsReported s held (by_clash clash cert) r
-by_plan s held clash cert r (inl no) = inl no
+by_plan s held clash cert r (inl bad) = inl bad
 by_plan s held clash cert r (inr by) = inr (record { value = by.value; reads = by.reads; report = by.is })
 
 pub clash_reported : {bytes : Origin} {clash cert : List ℕ} {r : Report} → (h : ClashCheckOf bytes clash cert r) → IsReported (origin_subject h.origin) h.held (by_clash clash cert) r
@@ -66,7 +64,7 @@ clash_reported {clash = clash} {cert = cert} {r = r} h = by_plan (origin_subject
 pub one_clash_report : OneClashReport
 one_clash_report = record {
   check = λ bytes clash cert r t h g. one_across (plainly h.origin) (plainly g.origin) (plainly bytes) h.held g.held (by_clash clash cert) r t (h.told, tt) (g.told, tt) (clash_reported h) (clash_reported g);
-  explain = λ instance tides r t h g. one_clash_report_law.explain instance tides itself r t (tt, (tt, tt)) h g;
+  explain = λ instance tides r t h g. one_clash_report_law.explain instance tides itself r t (refl, (refl, tt)) h g;
 }
 
 -- the report of a port with its tide by their flat text
@@ -114,7 +112,7 @@ verified_as_checked bytes cert c r h g =
 
 -- as the crate of certificates says it
 decided_as : (s : Subject) (most : Version) (held : List ℕ → Option (List ℕ)) (cert : List ℕ) (c : Report) → IsReported s held (by_cert most cert) c → s.Refuses held c ⊎ DecidedBy s most held cert c
-decided_as s most held cert c (inl no) = inl no
+decided_as s most held cert c (inl bad) = inl bad
 decided_as s most held cert c (inr by) = inr (record { value = by.value; reads = by.reads; report = by.report })
 
 pub charts_as_verified : ChartsAsVerified

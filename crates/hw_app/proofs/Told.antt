@@ -1,6 +1,6 @@
 -- What is told decides what is read of a command's inputs, whatever their names.
-use Rattle.std.proofs.Common.{◌≡◌, ◌∙◌, ℕ, List, Option, Some, None, IsSome, refl, sym, subst}
-use Rattle.std.specs.Prelude.{IfSome}
+use Rattle.std.proofs.Common.{◌≡◌, ◌∙◌, ℕ, List, Option, Some, None, IsSome, refl, sym, ap, subst}
+use Rattle.std.specs.Prelude.{IfSome, is_some}
 use Rattle.hw_desk.specs.declared.desk.Feed.TheVariants.{Plan}
 use Rattle.hw_model.specs.Problem.{Problem}
 use Rattle.hw_report.specs.Reports.{Report, bad_text, too_long}
@@ -72,41 +72,41 @@ moved a b bytes h g x y v reads = moved_by a.origin b.origin bytes.origin a.plan
 -- ---- why there is no value
 
 origin_refused : (a b bytes : Origin) (h g : Held) (r : Report) → OriginTold h a bytes → OriginTold g b bytes → (origin_subject a).Refuses h r → (origin_subject b).Refuses g r
-origin_refused (flat_text n) (flat_text m) (flat_text text) h g r x y no = subst (λ (o : Option (List ℕ)). NoFlat o r) (x ∙ sym y) no
-origin_refused (port_of i t) (port_of j u) (port_of port table) h g r x y no = subst (λ (o : Option (List ℕ)). NoPort o (g u) r) (x.0 ∙ sym y.0) (subst (λ (o : Option (List ℕ)). NoPort (h i) o r) (x.1 ∙ sym y.1) no)
-origin_refused (flat_text n) b (port_of port table) h g r x y no = absurd x
-origin_refused (port_of i t) b (flat_text text) h g r x y no = absurd x
-origin_refused (flat_text n) (port_of j u) (flat_text text) h g r x y no = absurd y
-origin_refused (port_of i t) (flat_text m) (port_of port table) h g r x y no = absurd y
+origin_refused (flat_text n) (flat_text m) (flat_text text) h g r x y bad = subst (λ (o : Option (List ℕ)). NoFlat o r) (x ∙ sym y) bad
+origin_refused (port_of i t) (port_of j u) (port_of port table) h g r x y bad = subst (λ (o : Option (List ℕ)). NoPort o (g u) r) (x.0 ∙ sym y.0) (subst (λ (o : Option (List ℕ)). NoPort (h i) o r) (x.1 ∙ sym y.1) bad)
+origin_refused (flat_text n) b (port_of port table) h g r x y bad = absurd x
+origin_refused (port_of i t) b (flat_text text) h g r x y bad = absurd x
+origin_refused (flat_text n) (port_of j u) (flat_text text) h g r x y bad = absurd y
+origin_refused (port_of i t) (flat_text m) (port_of port table) h g r x y bad = absurd y
 
 plan_refused : (s t : Subject) (n m : List ℕ) (h g : Held) (r : Report) → h n ≡ g m → ((v : s.Value) → s.Reads h v → Moved s t g v) → ((o : Report) → s.Refuses h o → t.Refuses g o) → (repair_of s n).Refuses h r → (repair_of t m).Refuses g r
-plan_refused s t n m h g (bad_text Plan number word) e move refuse no =
-    let it = move no.value no.reads in
+plan_refused s t n m h g (bad_text Plan number word) e move refuse bad =
+    let it = move bad.value bad.reads in
     record {
       value = it.value;
       reads = it.reads;
-      wrong = subst (λ (f : Problem). IsWrongLine (g m) f number word) (sym it.problem) (subst (λ (o : Option (List ℕ)). IsWrongLine o (s.problem no.value) number word) e no.wrong);
+      wrong = subst (λ (f : Problem). IsWrongLine (g m) f number word) (sym it.problem) (subst (λ (o : Option (List ℕ)). IsWrongLine o (s.problem bad.value) number word) e bad.wrong);
     }
-plan_refused s t n m h g (too_long Plan) e move refuse no =
-    let it = move no.0.value no.0.reads in
-    (record { value = it.value; reads = it.reads }, subst (λ (o : Option (List ℕ)). IfSome o IsLong) e no.1)
-plan_refused s t n m h g r e move refuse no = refuse r no
+plan_refused s t n m h g (too_long Plan) e move refuse bad =
+    let it = move bad.0.value bad.0.reads in
+    (record { value = it.value; reads = it.reads }, subst (λ (o : Option (List ℕ)). IfSome o IsLong) e bad.1)
+plan_refused s t n m h g r e move refuse bad = refuse r bad
 
 refused_by : (a b bytes : Origin) (p q plan : Option (List ℕ)) (h g : Held) (r : Report) → OriginTold h a bytes → OriginTold g b bytes → PlanTold h p plan → PlanTold g q plan → (repaired_by (origin_subject a) p).Refuses h r → (repaired_by (origin_subject b) q).Refuses g r
-refused_by a b bytes None None None h g r x y z w no = origin_refused a b bytes h g r x y no
-refused_by a b bytes (Some n) (Some m) (Some plan) h g r x y z w no = plan_refused (origin_subject a) (origin_subject b) n m h g r (z ∙ sym w) (origin_moved a b bytes h g x y) (λ o. origin_refused a b bytes h g o x y) no
-refused_by a b bytes None q (Some plan) h g r x y z w no = absurd z
-refused_by a b bytes (Some n) q None h g r x y z w no = absurd z
-refused_by a b bytes None (Some m) None h g r x y z w no = absurd w
-refused_by a b bytes (Some n) None (Some plan) h g r x y z w no = absurd w
+refused_by a b bytes None None None h g r x y z w bad = origin_refused a b bytes h g r x y bad
+refused_by a b bytes (Some n) (Some m) (Some plan) h g r x y z w bad = plan_refused (origin_subject a) (origin_subject b) n m h g r (z ∙ sym w) (origin_moved a b bytes h g x y) (λ o. origin_refused a b bytes h g o x y) bad
+refused_by a b bytes None q (Some plan) h g r x y z w bad = absurd z
+refused_by a b bytes (Some n) q None h g r x y z w bad = absurd z
+refused_by a b bytes None (Some m) None h g r x y z w bad = absurd w
+refused_by a b bytes (Some n) None (Some plan) h g r x y z w bad = absurd w
 
 pub refused_alike : (a b bytes : Topic) (h g : Held) (r : Report) → IsTold h a bytes → IsTold g b bytes → (topic_subject a).Refuses h r → (topic_subject b).Refuses g r
-refused_alike a b bytes h g r x y no = refused_by a.origin b.origin bytes.origin a.plan b.plan bytes.plan h g r x.0 y.0 x.1 y.1 no
+refused_alike a b bytes h g r x y bad = refused_by a.origin b.origin bytes.origin a.plan b.plan bytes.plan h g r x.0 y.0 x.1 y.1 bad
 
 -- ---- each input is told
 
 some_told : {o : Option (List ℕ)} (bytes : List ℕ) → o ≡ Some bytes → IsSome o
-some_told bytes e = subst IsSome (sym e) tt
+some_told bytes e = ap is_some e
 
 all_by : (a bytes : Origin) (p plan : Option (List ℕ)) (h : Held) → OriginTold h a bytes → PlanTold h p plan → AllTold h (repaired_by (origin_subject a) p).inputs
 all_by (flat_text n) (flat_text text) None None h x z = (some_told text x, tt)

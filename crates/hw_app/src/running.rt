@@ -36,7 +36,7 @@ pub fn run<D: Desk>(alloc: Global, words: &[String], desk: &mut D) -> Status
             how,
             budget,
             proof,
-        } => search_subject(alloc, desk, subject, how, budget, proof),
+        } => search_subject(alloc, desk, subject, &how, budget, proof),
         Command::Check { subject, cert } => check(alloc, desk, subject, cert),
         Command::Verify { subject, cert } => verify(alloc, desk, subject, cert),
         Command::Renew {

@@ -145,7 +145,7 @@ fn command_by<'w>(wanted: &[Wanted], form: Form, words: &'w [String]) -> Command
             ..
         ] => Command::CheckClash {
             source: source_in(form, words),
-            clash: name_in(form, words, Value::Input(Feed::Plan)),
+            plan: name_in(form, words, Value::Input(Feed::Plan)),
             cert: cert_in(form, words),
         },
         [Wanted::Keyword(Keyword::Check), ..] => Command::Check {

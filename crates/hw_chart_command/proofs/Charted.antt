@@ -1,5 +1,5 @@
 -- The plan that a certificate of a flat text or a port shows is drawn.
-use Rattle.std.proofs.Common.{◌≡◌, ◌∙◌, ◌++◌, ℕ, List, [], ◌∷◌, Option, Some, None, Result, Ok, Err, append-nil, false, inl, inr, refl, sym, ap, subst}
+use Rattle.std.proofs.Common.{◌≡◌, ◌∙◌, ◌++◌, ℕ, List, [], ◌∷◌, Option, None, Result, Ok, Err, append-nil, false, inl, inr, refl, sym, ap, subst}
 use Rattle.std.specs.Prelude.{IfSome}
 use Rattle.hw_model.specs.Problem.{Problem, IsTimetable}
 use Rattle.hw_desk.specs.State.{DeskState}

@@ -1,5 +1,5 @@
 -- The bytes decide what is drawn.
-use Rattle.std.proofs.Common.{◌≡◌, ◌≤◌, ◌⊎◌, ◌∙◌, ℕ, cond, List, length, Option, Some, None, inl, inr, refl, sym, ap, subst}
+use Rattle.std.proofs.Common.{◌≡◌, ◌≤◌, ◌⊎◌, ◌∙◌, ℕ, cond, List, length, Option, Some, inl, inr, refl, sym, ap, subst}
 use Rattle.std.specs.Prelude.{IfSome}
 use Rattle.std.proofs.lemmas.Bool.{le-ltb, lt-ltb}
 use Rattle.hw_model.specs.Problem.{Problem, shape_of}
@@ -17,7 +17,7 @@ use Rattle.hw_command.specs.Inputs.{NoFlat}
 use Rattle.hw_command.specs.Keeping.{whole_lines}
 use Rattle.hw_command.specs.Values.{most_bytes, IsTextOf}
 use Rattle.hw_command.specs.declared.outcome.CertOutcome.{CertOutcome}
-use Rattle.hw_command.specs.declared.outcome.CertOutcome.TheVariants.{Shows, Wrong, TooLong}
+use Rattle.hw_command.specs.declared.outcome.CertOutcome.TheVariants.{Shows}
 use Rattle.hw_command.proofs.FlatForms.{by_line}
 use Rattle.hw_subject.specs.Meanings.{judged}
 use Rattle.hw_subject.specs.Subjects.{Subject, Origin, origin_subject, flat_subject, flat_text}
@@ -95,7 +95,7 @@ no_flat : (text bytes : List ℕ) (r : Report) → NoFlat (Some text) r → r �
 no_flat text bytes r h = by_line (Some text) (λ (r : Report). r ≡ texts_chart text bytes) r (λ number word bad. sym (within text bytes bad.0 ∙ ap (λ read. read_chart read bytes) bad.1)) (λ long. sym (ap (λ passes. cond passes (too_long Flat) (read_chart (text_read text) bytes)) (lt-ltb _ _ long))) h
 
 by_text : (name text bytes : List ℕ) (held : List ℕ → Option (List ℕ)) (r : Report) → held name ≡ Some text → (flat_subject name).Refuses held r ⊎ DrawnBy (flat_subject name) held bytes r → r ≡ texts_chart text bytes
-by_text name text bytes held r told (inl no) = no_flat text bytes r (subst (λ (o : Option (List ℕ)). NoFlat o r) told no)
+by_text name text bytes held r told (inl bad) = no_flat text bytes r (subst (λ (o : Option (List ℕ)). NoFlat o r) told bad)
 by_text name text bytes held r told (inr drawn) =
     let is_text : IsTextOf drawn.value text = subst (λ (o : Option (List ℕ)). IfSome o (IsTextOf drawn.value)) told drawn.reads.reads in
     drawn.report ∙ sym (within text bytes is_text.0 ∙ ap (λ read. read_chart read bytes) is_text.1)

@@ -1,22 +1,19 @@
 -- What is drawn is what is verified.
-use Rattle.std.proofs.Common.{◌≡◌, ◌⊎◌, ◌∙◌, ℕ, List, Option, Some, None, inl, inr, refl, sym, ap, subst}
+use Rattle.std.proofs.Common.{◌≡◌, ◌⊎◌, ◌∙◌, ℕ, List, Option, inl, inr, refl, sym, ap, subst}
 use Rattle.hw_cert.specs.declared.version.Version.TheVariants.{Two, Three}
-use Rattle.hw_cert.specs.Stream.{CertLines, cert_stream, cert_stream_to}
-use Rattle.hw_lines.specs.Tolled.{bound_of}
 use Rattle.hw_model.specs.Problem.{Problem, shape_of}
-use Rattle.hw_report.specs.Reports.{Report, Naming}
-use Rattle.hw_command.specs.Certificates.{cert_outcome_to, report_of, stream_outcome}
+use Rattle.hw_report.specs.Reports.{Report}
+use Rattle.hw_command.specs.Certificates.{cert_outcome_to, report_of}
 use Rattle.hw_command.specs.declared.outcome.CertOutcome.{CertOutcome}
 use Rattle.hw_command.specs.declared.outcome.CertOutcome.TheVariants.{Shows, Wrong, TooLong}
 use Rattle.hw_command.proofs.FlatForms.{by_line}
 use Rattle.hw_command.proofs.PortForms.{by_fault}
-use Rattle.hw_repair.specs.declared.plan.Wish.{Wish}
 use Rattle.hw_subject.specs.Meanings.{judged, ships_of}
 use Rattle.hw_subject.specs.Subjects.{Subject, Origin, flat_text, port_of, origin_subject}
 use Rattle.hw_check_command.specs.Laws.{DecidedBy, IsDecided, NamesThird}
 use Rattle.hw_check_command.specs.Texts.{cert_bound, cert_report}
 use Rattle.hw_check_command.proofs.Decided.{subjects_decided_law, told_bytes}
-use Rattle.hw_check_command.proofs.Reports.{certificates_decide_law}
+use Rattle.hw_check_command.proofs.Reports.{certificates_decide_law, verified_of}
 use Rattle.hw_check_command.proofs.SameLines.{stream_same}
 use Rattle.hw_chart_command.specs.Laws.{ChartsAsChecked, ChartsAsVerified, IsChartOf}
 use Rattle.hw_chart_command.specs.Texts.{cert_table, cert_chart, outcome_chart}
@@ -55,13 +52,6 @@ charts_as_verified_law origin cert held c r all told h g =
     alike origin held bytes.0 c r (subjects_decided_law (plainly origin) held all) (certificates_decide_law (plainly origin) Three cert bytes.0 held c bytes.1 h) (decided origin cert bytes.0 held r bytes.1 g)
 
 -- ---- as it is checked
-
--- a certificate of which the same lines are read is reported the same
-verified_of : {s : Subject} {held : List ℕ → Option (List ℕ)} {bytes : List ℕ} {c : Report} → (a : DecidedBy s Two held bytes c) → cert_stream_to Three (shape_of (judged s a.value)) bytes ≡ cert_stream (shape_of (judged s a.value)) bytes → DecidedBy s Three held bytes c
-verified_of {s = s} a same =
-    let v = a.value in
-    let g = judged s v in
-    record { value = v; reads = a.reads; report = a.report ∙ ap (λ (read : CertLines). report_of (s.naming v) (bound_of read.lines) (ships_of (s.problem v) (s.plan v)) (stream_outcome g read)) (sym same) }
 
 pub checked_by : (origin : Origin) (held : List ℕ → Option (List ℕ)) (bytes : List ℕ) (c r : Report) → let s = origin_subject origin in IsDecided s held → s.Refuses held c ⊎ DecidedBy s Two held bytes c → s.Refuses held r ⊎ DrawnBy s held bytes r → NamesThird bytes ⊎ IsChartOf s held c r
 checked_by origin held bytes c r d (inl a) b = inr (alike origin held bytes c r d (inl a) b)

@@ -1,5 +1,5 @@
 -- A clash text of a flat text or a port is checked, with its certificate.
-use Rattle.std.proofs.Common.{◌≡◌, ◌∙◌, ◌++◌, ℕ, List, [], ◌∷◌, Option, Some, None, Result, Ok, Err, append_assoc, false, refl, sym, ap, subst}
+use Rattle.std.proofs.Common.{◌≡◌, ◌∙◌, ◌++◌, ℕ, List, [], ◌∷◌, Option, None, Result, Ok, Err, append_assoc, false, refl, sym, ap, subst}
 use Rattle.std.specs.Prelude.{IfSome}
 use Rattle.hw_model.specs.Limits.{IsFlat}
 use Rattle.hw_model.specs.Problem.{Problem, shape_of}
@@ -35,10 +35,10 @@ use Rattle.hw_command.proofs.FlatForms.{by_line}
 use Rattle.hw_command.proofs.Meanings.{means}
 use Rattle.hw_command.proofs.PortForms.{by_fault}
 use Rattle.hw_command.proofs.Stops.{stops_carries}
-use Rattle.hw_subject.specs.Reading.{ReadsSubject, StopsAtSubject}
+use Rattle.hw_subject.specs.Reading.{AllGive, ReadsSubject, StopsAtSubject}
 use Rattle.hw_subject.specs.Subjects.{Subject, Origin, flat_text, port_of, origin_subject}
 use Rattle.hw_subject.specs.declared.subject.Given.{Given}
-use Rattle.hw_subject.proofs.Readings.{all_as, all_on, before_last}
+use Rattle.hw_subject.proofs.Readings.{all_as, before_last}
 use Rattle.hw_clash_command.specs.CheckClash.{HoldsWhere, ChecksClash, ClashChecks, ClashGives, GivesClash, check_clash_task}
 use Rattle.hw_clash_command.specs.Plans.{IsClashOf, ReadsPart, StopsAtPlan}
 use Rattle.hw_clash_command.specs.PortWords.{ClashIn, DropsIn}
@@ -85,10 +85,10 @@ holds_where origin held v clash (Wrong number word hint) reads says shown = tt
 holds_where origin held v clash TooLong reads says shown = tt
 
 -- what comes of the bytes that are told
-comes : {g : Problem} {lines : List Line} {told : Option (List ℕ)} (o : CertOutcome) → Comes g lines told (cert_outcome g) o → IfSome told (λ bs. o ≡ cert_outcome g bs)
-comes (Shows v) h = h.1
-comes (Wrong number word hint) h = h
-comes TooLong h = h
+comes : (g : Problem) (lines : List Line) (told : Option (List ℕ)) (o : CertOutcome) → Comes g lines told (cert_outcome g) o → IfSome told (λ bs. o ≡ cert_outcome g bs)
+comes g lines told (Shows v) h = h.1
+comes g lines told (Wrong number word hint) h = h
+comes g lines told TooLong h = h
 
 -- what is shown of the part
 shown : {g : Problem} {told : Option (List ℕ)} {read : ReadCert (Unit {0})} (o : CertOutcome) → IsFlat g → (h : ReadsLines Two KeepsNone g told (cert_outcome g) (cert_stream_to Two (shape_of g)) read) → Comes g h.lines told (cert_outcome g) o → ShownBy g o
@@ -96,18 +96,22 @@ shown {g = g} (Shows v) flat h e = record { lines = h.lines; fit = h.keeps.fit; 
 shown (Wrong number word hint) flat h e = tt
 shown TooLong flat h e = tt
 
-says : {s : Subject} {plan cert : List ℕ} {held : List ℕ → Option (List ℕ)} (o : CertOutcome) → ChecksClash s plan cert held o → ClashChecks s plan cert held (report_of_part o)
-says (Shows verdicts.Infeasible) c = c
-says (Shows (verdicts.Optimal d)) c = (refl, (λ e. absurd (cc)), c)
-says (Shows (verdicts.Unfinished best)) c = (refl, (λ e. absurd (cc)), c)
-says (Wrong number word hint) c = c
-says TooLong c = c
+says : (s : Subject) (plan cert : List ℕ) (held : List ℕ → Option (List ℕ)) (o : CertOutcome) → ChecksClash s plan cert held o → ClashChecks s plan cert held (report_of_part o)
+says s plan cert held (Shows verdicts.Infeasible) c = c
+says s plan cert held (Shows (verdicts.Optimal d)) c = (refl, (λ e. absurd (cc)), c)
+says s plan cert held (Shows (verdicts.Unfinished best)) c = (refl, (λ e. absurd (cc)), c)
+says s plan cert held (Wrong number word hint) c = c
+says s plan cert held TooLong c = c
 
 -- ---- the work
 
 -- the inputs and the clash text gave what they give
-give_all : {plan cert : List ℕ} {x y : DeskState} {given : Given} (origin : Origin) → ReadsSubject (origin_subject origin) x y given → GivesClash (origin_subject origin) plan x.held → GiveBefore (ClashGives (origin_subject origin) plan x.held) (((origin_subject origin).inputs ++ named Plan plan ∷ []) ++ named Certificate cert ∷ [])
-give_all {plan = plan} {cert = cert} {x = x} origin h clash =
+all_on : (G : Feed → Type 0) (inputs : List Named) (last : Named) → AllGive G inputs → G last.feed → AllGive G (inputs ++ last ∷ [])
+all_on G [] last h k = (k, tt)
+all_on G (input ∷ more) last h k = (h.0, all_on G more last h.1 k)
+
+give_all : {plan : List ℕ} {x y : DeskState} {given : Given} (origin : Origin) (cert : List ℕ) → ReadsSubject (origin_subject origin) x y given → GivesClash (origin_subject origin) plan x.held → GiveBefore (ClashGives (origin_subject origin) plan x.held) (((origin_subject origin).inputs ++ named Plan plan ∷ []) ++ named Certificate cert ∷ [])
+give_all {plan = plan} {x = x} origin cert h clash =
     let s = origin_subject origin in
     let G = ClashGives s plan x.held in
     before_last G (s.inputs ++ named Plan plan ∷ []) (named Certificate cert) (all_on G s.inputs (named Plan plan) (all_as (s.Gives x.held) G s.inputs (gives origin plan x.held) h.give) clash)
@@ -125,7 +129,7 @@ read_works : {plan cert : List ℕ} {x y w z : DeskState} {given : Given} {g : P
 read_works {plan = plan} {cert = cert} {x = x} {z = z} origin result h k clash m =
     let s = origin_subject origin in
     subst (λ (inputs : List Named). Works inputs (ClashGives s plan x.held) None x z (report_of_check by_number None None (outcome_in result))) (append_assoc s.inputs (named Plan plan ∷ []) (named Certificate cert ∷ []))
-    (cert_works by_number None None None result (entered_on s.inputs h.entered k.enters (plan_unread origin)) (k.read_faults ∙ h.read_faults) (cert_unread origin plan) (give_all origin h clash) m)
+    (cert_works by_number None None None result (entered_on s.inputs h.entered k.enters (plan_unread origin)) (k.read_faults ∙ h.read_faults) (cert_unread origin plan) (give_all origin cert h clash) m)
 
 -- ---- before it
 
@@ -144,7 +148,7 @@ pub check_stops : {x y z : DeskState} {r : Report} {s : Status} (origin : Origin
 check_stops {x = x} {r = r} origin plan cert h ends = stops_carries (check_clash_task (origin_subject origin) plan cert) (named Plan plan ∷ named Certificate cert ∷ []) h refl (gives origin plan x.held) (refused_says origin plan cert x.held r) ends
 
 -- the clash text gives no part
-plan_stopped : {f : Problem} {x y z end : DeskState} {given : Given} {r : Report} {s : Status} (origin : Origin) (plan cert : List ℕ) → (h : ReadsSubject (origin_subject origin) x y given) → StopsAtPlan ((origin_subject origin).problem h.value) plan y z r → Ends (r ∷ []) z end s → Carries (check_clash_task (origin_subject origin) plan cert) x end s
+plan_stopped : {x y z end : DeskState} {given : Given} {r : Report} {s : Status} (origin : Origin) (plan cert : List ℕ) → (h : ReadsSubject (origin_subject origin) x y given) → StopsAtPlan ((origin_subject origin).problem h.value) plan y z r → Ends (r ∷ []) z end s → Carries (check_clash_task (origin_subject origin) plan cert) x end s
 plan_stopped {x = x} {r = r} origin plan cert h k ends =
     let s = origin_subject origin in
     let G = ClashGives s plan x.held in
@@ -159,7 +163,7 @@ check_plan_stops {y = y} {z = z} {r = r} origin plan cert h k ends = plan_stoppe
 
 -- the clash is that of the bytes held at first
 clash_of : {plan : List ℕ} {x y w : DeskState} {given : Given} {g : Problem} (origin : Origin) → (h : ReadsSubject (origin_subject origin) x y given) → (k : ReadsPart given.flat plan y w g) → IsClashOf (x.held plan) ((origin_subject origin).problem h.value) k.clash
-clash_of {plan = plan} {x = x} origin h k = subst (λ (f : Problem). IsClashOf (x.held plan) f k.clash) h.problem (subst (λ (told : Option (List ℕ)). IsClashOf told _ k.clash) (ap (λ held. held plan) h.entered.begins.held) k.is)
+clash_of {plan = plan} {x = x} {given = given} origin h k = subst (λ (f : Problem). IsClashOf (x.held plan) f k.clash) h.problem (subst (λ (told : Option (List ℕ)). IsClashOf told given.flat k.clash) (ap (λ held. held plan) h.entered.begins.held) k.is)
 
 gives_clash : {plan : List ℕ} {x y w : DeskState} {given : Given} {g : Problem} (origin : Origin) → ReadsSubject (origin_subject origin) x y given → ReadsPart given.flat plan y w g → GivesClash (origin_subject origin) plan x.held
 gives_clash origin h k = record { value = h.value; reads = h.reads; clash = k.clash; is = clash_of origin h k }
@@ -180,26 +184,26 @@ check_breaks {plan = plan} {cert = cert} {x = x} {z = z} origin stop h k m ends 
 
 -- it has an outcome
 pub check_meets : {plan cert : List ℕ} {x y w z end : DeskState} {given : Given} {g : Problem} {read : ReadCert (Unit {0})} {s : Status} (origin : Origin) → ReadsSubject (origin_subject origin) x y given → ReadsPart given.flat plan y w g → ReadsCert Two KeepsNone g cert w z (Ok read) → Ends (report_of_part read.outcome ∷ []) z end s → Carries (check_clash_task (origin_subject origin) plan cert) x end s
-check_meets {plan = plan} {cert = cert} {x = x} {z = z} {given = given} {read = read} origin h k m ends =
+check_meets {plan = plan} {cert = cert} {x = x} {w = w} {z = z} {read = read} origin h k m ends =
     let s = origin_subject origin in
     let f = s.problem h.value in
     let kept = k.clash.kept in
     let is = clash_of origin h k in
     let held = ap (λ held. held cert) (k.enters.only.held ∙ h.entered.begins.held) in
     let made = k.made ∙ ap (λ (f : Problem). part f kept) h.problem in
-    let lines = subst (λ (told : Option (List ℕ)). ReadsLines Two KeepsNone (part f kept) told (cert_outcome (part f kept)) (cert_stream_to Two (shape_of (part f kept))) read) held (subst (λ (g : Problem). ReadsLines Two KeepsNone g _ (cert_outcome g) (cert_stream_to Two (shape_of g)) read) made m.reads.1) in
+    let lines = subst (λ (told : Option (List ℕ)). ReadsLines Two KeepsNone (part f kept) told (cert_outcome (part f kept)) (cert_stream_to Two (shape_of (part f kept))) read) held (subst (λ (g : Problem). ReadsLines Two KeepsNone g (w.held cert) (cert_outcome g) (cert_stream_to Two (shape_of g)) read) made m.reads.1) in
     let is_shown = shown read.outcome (subst IsFlat made k.limits) lines lines.keeps.comes in
     record {
       mid = z;
       reports = report_of_part read.outcome ∷ [];
       works = part_works read.outcome (read_works origin (Ok read) h k (gives_clash origin h k) m);
-      says = λ own. says read.outcome (record {
+      says = λ own. says s plan cert x.held read.outcome (record {
         value = h.value;
         reads = h.reads;
         clash = k.clash;
         is = is;
         met = drops_in origin x.held h.value k.clash h.reads is.says;
-        outcome = comes read.outcome lines.keeps.comes;
+        outcome = comes (part f kept) lines.lines (x.held cert) read.outcome lines.keeps.comes;
         shown = is_shown;
         holds = holds_where origin x.held h.value k.clash read.outcome h.reads is.says is_shown;
       });

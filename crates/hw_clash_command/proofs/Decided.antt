@@ -1,5 +1,5 @@
 -- The bytes decide what is reported of a clash.
-use Rattle.std.proofs.Common.{◌≡◌, ◌≤◌, ◌⊎◌, ◌∙◌, ℕ, cond, List, length, Option, Some, None, Ok, inl, inr, refl, sym, ap, subst}
+use Rattle.std.proofs.Common.{◌≡◌, ◌≤◌, ◌⊎◌, ◌∙◌, ℕ, cond, List, length, Option, Some, None, inl, inr, refl, sym, ap, subst}
 use Rattle.std.specs.Prelude.{◌≢◌, IfSome}
 use Rattle.std.proofs.lemmas.Bool.{le-ltb, lt-ltb}
 use Rattle.hw_model.specs.Problem.{Problem}
@@ -108,7 +108,7 @@ no_flat : (text plan bytes : List ℕ) (r : Report) → NoFlat (Some text) r →
 no_flat text plan bytes r h = by_line (Some text) (λ (r : Report). r ≡ texts_report text plan bytes) r (λ number word bad. sym (flat_within text plan bytes bad.0 ∙ ap (λ read. read_report read plan bytes) bad.1)) (λ long. sym (ap (λ passes. cond passes (too_long Flat) (read_report (flat_text text) plan bytes)) (lt-ltb _ _ long))) h
 
 by_text : (name text clash bytes : List ℕ) (held : List ℕ → Option (List ℕ)) (r : Report) → held name ≡ Some text → (flat_subject name).Refuses held r ⊎ ReportedBy (flat_subject name) held (λ f. plan_report f clash bytes) r → r ≡ texts_report text clash bytes
-by_text name text clash bytes held r told (inl no) = no_flat text clash bytes r (subst (λ (o : Option (List ℕ)). NoFlat o r) told no)
+by_text name text clash bytes held r told (inl bad) = no_flat text clash bytes r (subst (λ (o : Option (List ℕ)). NoFlat o r) told bad)
 by_text name text clash bytes held r told (inr by) = by.is ∙ sym (flat_is text clash bytes by.value (subst (λ (o : Option (List ℕ)). IfSome o (IsTextOf by.value)) told by.reads.reads))
 
 pub texts_decide_clash_law : TextsDecideClash

@@ -2,11 +2,6 @@
 use Rattle.std.proofs.Common.{ℕ, List, Option, None, Some}
 use Rattle.std.specs.Prelude.{IfSome, IsSomeAnd}
 
--- what holds of all bytes holds of those that are told
-pub told_all : {Q : List ℕ → Type 0} (o : Option (List ℕ)) → ((x : List ℕ) → Q x) → IfSome o Q
-told_all None h = tt
-told_all (Some x) h = h x
-
 -- one fact gives another, of bytes where they are told
 pub told_map : {P Q : List ℕ → Type 0} (o : Option (List ℕ)) → ((x : List ℕ) → P x → Q x) → IfSome o P → IfSome o Q
 told_map None f h = tt
