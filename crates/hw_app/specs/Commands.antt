@@ -33,6 +33,10 @@ pub data Command : Type 0 where
   check_clash : Origin → List ℕ → List ℕ → Command
   -- the instance, the tide table
   explain : List ℕ → List ℕ → Command
+  windows : List ℕ → List ℕ → Command
+  -- what is written as a linear programme, in the LP format or in the OPB format
+  model : Origin → Command
+  opb : Origin → Command
   -- the instance, the tide table, the plan, the events
   audit : List ℕ → List ℕ → List ℕ → List ℕ → Command
   -- the instance, the tide table
@@ -70,6 +74,9 @@ command_by (Keyword key.Renew ∷ more) form words = renew (topic_in form words)
 command_by (Keyword key.Chart ∷ more) form words = chart (origin_in form words) (name_in form words (Input feed.Certificate))
 command_by (Keyword key.Clash ∷ more) form words = clash (origin_in form words) (number_in form words counts.Budget) (name_in form words Proof)
 command_by (Keyword key.Explain ∷ more) form words = explain (name_in form words (Input feed.Instance)) (name_in form words (Input feed.Tides))
+command_by (Keyword key.Windows ∷ more) form words = windows (name_in form words (Input feed.Instance)) (name_in form words (Input feed.Tides))
+command_by (Keyword key.Model ∷ more) form words = model (origin_in form words)
+command_by (Keyword key.Opb ∷ more) form words = opb (origin_in form words)
 command_by (Keyword key.Audit ∷ more) form words = audit (name_in form words (Input feed.Instance)) (name_in form words (Input feed.Tides)) (name_in form words (Input feed.Plan)) (name_in form words (Input feed.Events))
 command_by (Keyword key.Flatten ∷ more) form words = flatten (name_in form words (Input feed.Instance)) (name_in form words (Input feed.Tides))
 command_by wanted form words = demo (number_in form words counts.Demonstration) (number_in form words counts.Ships) (number_in form words counts.Slots) (number_in form words counts.Budget) (name_in form words Proof)
@@ -107,6 +114,9 @@ command_seen (told.Chart source cert) = chart (origin_seen source) cert.now
 command_seen (told.Clash source budget proof) = clash (origin_seen source) budget proof.now
 command_seen (told.CheckClash source plan cert) = check_clash (origin_seen source) plan.now cert.now
 command_seen (told.Explain port) = explain port.instance.now port.tides.now
+command_seen (told.Windows port) = windows port.instance.now port.tides.now
+command_seen (told.Model source) = model (origin_seen source)
+command_seen (told.Opb source) = opb (origin_seen source)
 command_seen (told.Audit port plan events) = audit port.instance.now port.tides.now plan.now events.now
 command_seen (told.Flatten port) = flatten port.instance.now port.tides.now
 command_seen (told.Demo draw budget proof) = demo draw.number draw.ships draw.slots budget proof.now

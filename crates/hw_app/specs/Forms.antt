@@ -7,7 +7,7 @@ use Rattle.hw_progress.specs.declared.limits.TheConstants.{MOST_BUDGET}
 use Rattle.hw_search_command.specs.Orders.{order_read}
 use Rattle.hw_app.specs.Demo.{most_ships, most_slots}
 use Rattle.hw_app.specs.declared.form.Form.{Form}
-use Rattle.hw_app.specs.declared.form.Form.TheVariants.{SolveFlat, SolvePort, ProveFlat, ProvePort, CheckFlat, CheckPort, VerifyFlat, VerifyPort, ChartFlat, ChartPort, RenewFlat, RenewPort, CrewFlat, CrewPort, RepairFlat, RepairPort, ProveRepairFlat, ProveRepairPort, CheckRepair, CheckRepairPort, VerifyRepairFlat, VerifyRepairPort, ClashFlat, ClashPort, CheckClash, CheckClashPort, ExplainPort, AuditPort, Flatten, Demo}
+use Rattle.hw_app.specs.declared.form.Form.TheVariants.{SolveFlat, SolvePort, ProveFlat, ProvePort, CheckFlat, CheckPort, VerifyFlat, VerifyPort, ChartFlat, ChartPort, RenewFlat, RenewPort, CrewFlat, CrewPort, RepairFlat, RepairPort, ProveRepairFlat, ProveRepairPort, CheckRepair, CheckRepairPort, VerifyRepairFlat, VerifyRepairPort, ClashFlat, ClashPort, CheckClash, CheckClashPort, ExplainPort, WindowsPort, ModelFlat, ModelPort, OpbFlat, OpbPort, AuditPort, Flatten, Demo}
 use Rattle.hw_app.specs.declared.form.Keyword.{Keyword as KeywordOf}
 use Rattle.hw_app.specs.declared.form.Keyword.TheVariants as key
 use Rattle.hw_app.specs.declared.form.Quantity.{Quantity}
@@ -28,6 +28,9 @@ keyword_text key.Crew = codes "crew"
 keyword_text key.Repair = codes "repair"
 keyword_text key.Clash = codes "clash"
 keyword_text key.Explain = codes "explain"
+keyword_text key.Windows = codes "windows"
+keyword_text key.Model = codes "model"
+keyword_text key.Opb = codes "opb"
 keyword_text key.Audit = codes "audit"
 keyword_text key.Flat = codes "flat"
 keyword_text key.Port = codes "port"
@@ -36,7 +39,7 @@ keyword_text key.Demo = codes "demo"
 
 -- the forms that there are
 abbrev pub forms : List Form
-forms = SolveFlat ∷ SolvePort ∷ ProveFlat ∷ ProvePort ∷ CheckFlat ∷ CheckPort ∷ VerifyFlat ∷ VerifyPort ∷ ChartFlat ∷ ChartPort ∷ RenewFlat ∷ RenewPort ∷ CrewFlat ∷ CrewPort ∷ RepairFlat ∷ RepairPort ∷ ProveRepairFlat ∷ ProveRepairPort ∷ CheckRepair ∷ CheckRepairPort ∷ VerifyRepairFlat ∷ VerifyRepairPort ∷ ClashFlat ∷ ClashPort ∷ CheckClash ∷ CheckClashPort ∷ ExplainPort ∷ AuditPort ∷ Flatten ∷ Demo ∷ []
+forms = SolveFlat ∷ SolvePort ∷ ProveFlat ∷ ProvePort ∷ CheckFlat ∷ CheckPort ∷ VerifyFlat ∷ VerifyPort ∷ ChartFlat ∷ ChartPort ∷ RenewFlat ∷ RenewPort ∷ CrewFlat ∷ CrewPort ∷ RepairFlat ∷ RepairPort ∷ ProveRepairFlat ∷ ProveRepairPort ∷ CheckRepair ∷ CheckRepairPort ∷ VerifyRepairFlat ∷ VerifyRepairPort ∷ ClashFlat ∷ ClashPort ∷ CheckClash ∷ CheckClashPort ∷ ExplainPort ∷ WindowsPort ∷ ModelFlat ∷ ModelPort ∷ OpbFlat ∷ OpbPort ∷ AuditPort ∷ Flatten ∷ Demo ∷ []
 
 -- the limits of a number
 abbrev pub least_of : Quantity → ℕ
@@ -80,6 +83,11 @@ words_of ClashPort = Keyword key.Clash ∷ Keyword key.Port ∷ Value (Input fee
 words_of CheckClash = Keyword key.Check ∷ Keyword key.Clash ∷ Value (Input feed.Flat) ∷ Value (Input feed.Plan) ∷ Value (Input feed.Certificate) ∷ []
 words_of CheckClashPort = Keyword key.Check ∷ Keyword key.Clash ∷ Keyword key.Port ∷ Value (Input feed.Instance) ∷ Value (Input feed.Tides) ∷ Value (Input feed.Plan) ∷ Value (Input feed.Certificate) ∷ []
 words_of ExplainPort = Keyword key.Explain ∷ Keyword key.Port ∷ Value (Input feed.Instance) ∷ Value (Input feed.Tides) ∷ []
+words_of WindowsPort = Keyword key.Windows ∷ Keyword key.Port ∷ Value (Input feed.Instance) ∷ Value (Input feed.Tides) ∷ []
+words_of ModelFlat = Keyword key.Model ∷ Keyword key.Flat ∷ Value (Input feed.Flat) ∷ []
+words_of ModelPort = Keyword key.Model ∷ Keyword key.Port ∷ Value (Input feed.Instance) ∷ Value (Input feed.Tides) ∷ []
+words_of OpbFlat = Keyword key.Opb ∷ Keyword key.Flat ∷ Value (Input feed.Flat) ∷ []
+words_of OpbPort = Keyword key.Opb ∷ Keyword key.Port ∷ Value (Input feed.Instance) ∷ Value (Input feed.Tides) ∷ []
 words_of AuditPort = Keyword key.Audit ∷ Keyword key.Port ∷ Value (Input feed.Instance) ∷ Value (Input feed.Tides) ∷ Value (Input feed.Plan) ∷ Value (Input feed.Events) ∷ []
 words_of Flatten = Keyword key.Flatten ∷ Value (Input feed.Instance) ∷ Value (Input feed.Tides) ∷ []
 words_of Demo = Keyword key.Demo ∷ Value (Number counts.Demonstration) ∷ Value (Number counts.Ships) ∷ Value (Number counts.Slots) ∷ Value (Number counts.Budget) ∷ Value Proof ∷ []

@@ -16,8 +16,9 @@ use Rattle.hw_chart_command.specs.Charts.{chart_task}
 use Rattle.hw_clash_command.specs.Clashes.{clash_task}
 use Rattle.hw_clash_command.specs.CheckClash.{check_clash_task}
 use Rattle.hw_clash_command.specs.ExplainPort.{explain_port_task}
+use Rattle.hw_listing_command.specs.Listings.{model_task, opb_task, windows_task}
 use Rattle.hw_audit_command.specs.AuditPort.{audit_port_task}
-use Rattle.hw_app.specs.Commands.{Command, search, check, verify, renew, chart, clash, check_clash, explain, audit, flatten, demo, command_of}
+use Rattle.hw_app.specs.Commands.{Command, search, check, verify, renew, chart, clash, check_clash, explain, windows, model, opb, audit, flatten, demo, command_of}
 use Rattle.hw_app.specs.Flattening.{flatten_task}
 use Rattle.hw_app.specs.Demo.{demo_task}
 
@@ -31,6 +32,9 @@ task_of (chart origin cert) = chart_task (origin_subject origin) cert
 task_of (clash origin budget proof) = clash_task (origin_subject origin) budget proof
 task_of (check_clash origin plan cert) = check_clash_task (origin_subject origin) plan cert
 task_of (explain instance tides) = explain_port_task instance tides
+task_of (windows instance tides) = windows_task instance tides
+task_of (model origin) = model_task (origin_subject origin)
+task_of (opb origin) = opb_task (origin_subject origin)
 task_of (audit instance tides plan events) = audit_port_task instance tides plan events
 task_of (flatten instance tides) = flatten_task instance tides
 task_of (demo number ships slots budget proof) = demo_task (demonstration number ships slots) budget proof

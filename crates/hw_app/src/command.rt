@@ -44,6 +44,15 @@ pub enum Command<'w> {
     Explain {
         port: PortNames<'w>,
     },
+    Windows {
+        port: PortNames<'w>,
+    },
+    Model {
+        source: Source<'w>,
+    },
+    Opb {
+        source: Source<'w>,
+    },
     Audit {
         port: PortNames<'w>,
         plan: &'w str,

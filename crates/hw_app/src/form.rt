@@ -64,6 +64,16 @@ pub enum Form {
     CheckClashPort,
     /// `explain port INSTANCE TIDES` tells each restriction of a port in the port's own words.
     ExplainPort,
+    /// `windows port INSTANCE TIDES` tells when each ship of a port may sail, and why not.
+    WindowsPort,
+    /// `model flat NAME` writes a flat text as a linear programme in the LP format.
+    ModelFlat,
+    /// `model port INSTANCE TIDES` writes a port as a linear programme in the LP format.
+    ModelPort,
+    /// `opb flat NAME` writes a flat text as a linear programme in the OPB format.
+    OpbFlat,
+    /// `opb port INSTANCE TIDES` writes a port as a linear programme in the OPB format.
+    OpbPort,
     /// `audit port INSTANCE TIDES PLAN EVENTS` watches a timetable of a port through events.
     AuditPort,
     /// `flatten INSTANCE TIDES` writes the flat text of a port.
@@ -85,6 +95,9 @@ pub enum Keyword {
     Repair,
     Clash,
     Explain,
+    Windows,
+    Model,
+    Opb,
     Audit,
     Flat,
     Port,
@@ -126,7 +139,7 @@ pub enum Wanted {
 }
 
 /// The forms that there are.
-pub const FORMS: [Form; 30] = [
+pub const FORMS: [Form; 35] = [
     Form::SolveFlat,
     Form::SolvePort,
     Form::ProveFlat,
@@ -154,6 +167,11 @@ pub const FORMS: [Form; 30] = [
     Form::CheckClash,
     Form::CheckClashPort,
     Form::ExplainPort,
+    Form::WindowsPort,
+    Form::ModelFlat,
+    Form::ModelPort,
+    Form::OpbFlat,
+    Form::OpbPort,
     Form::AuditPort,
     Form::Flatten,
     Form::Demo,
@@ -178,6 +196,12 @@ const REPAIR: Wanted = Wanted::Keyword(Keyword::Repair);
 const CLASH: Wanted = Wanted::Keyword(Keyword::Clash);
 
 const EXPLAIN: Wanted = Wanted::Keyword(Keyword::Explain);
+
+const WINDOWS: Wanted = Wanted::Keyword(Keyword::Windows);
+
+const MODEL: Wanted = Wanted::Keyword(Keyword::Model);
+
+const OPB: Wanted = Wanted::Keyword(Keyword::Opb);
 
 const AUDIT: Wanted = Wanted::Keyword(Keyword::Audit);
 
@@ -245,6 +269,11 @@ pub fn words_of(form: Form) -> &'static [Wanted]
         Form::CheckClash => &[CHECK, CLASH, NAME, PLAN, CERT],
         Form::CheckClashPort => &[CHECK, CLASH, PORT, INSTANCE, TIDES, PLAN, CERT],
         Form::ExplainPort => &[EXPLAIN, PORT, INSTANCE, TIDES],
+        Form::WindowsPort => &[WINDOWS, PORT, INSTANCE, TIDES],
+        Form::ModelFlat => &[MODEL, FLAT, NAME],
+        Form::ModelPort => &[MODEL, PORT, INSTANCE, TIDES],
+        Form::OpbFlat => &[OPB, FLAT, NAME],
+        Form::OpbPort => &[OPB, PORT, INSTANCE, TIDES],
         Form::AuditPort => &[AUDIT, PORT, INSTANCE, TIDES, PLAN, EVENTS],
         Form::Flatten => &[FLATTEN, INSTANCE, TIDES],
         Form::Demo => &[DEMO, NUMBER, SHIPS, SLOTS, BUDGET, PROOF],
@@ -266,6 +295,9 @@ pub fn keyword_text(keyword: Keyword) -> &'static str
         Keyword::Repair => "repair",
         Keyword::Clash => "clash",
         Keyword::Explain => "explain",
+        Keyword::Windows => "windows",
+        Keyword::Model => "model",
+        Keyword::Opb => "opb",
         Keyword::Audit => "audit",
         Keyword::Flat => "flat",
         Keyword::Port => "port",

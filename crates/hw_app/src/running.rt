@@ -15,6 +15,7 @@ use hw_check_command::{check, renew, verify};
 use hw_clash_command::{check_clash, clash, explain_port};
 use hw_command::{Status, finish};
 use hw_desk::Desk;
+use hw_listing_command::{list_model, list_opb, list_windows};
 use hw_report::Report;
 use hw_search_command::search_subject;
 use std::alloc::Global;
@@ -52,6 +53,9 @@ pub fn run<D: Desk>(alloc: Global, words: &[String], desk: &mut D) -> Status
         } => clash(alloc, desk, source, budget, proof),
         Command::CheckClash { source, plan, cert } => check_clash(alloc, desk, source, plan, cert),
         Command::Explain { port } => explain_port(alloc, desk, port),
+        Command::Windows { port } => list_windows(alloc, desk, port),
+        Command::Model { source } => list_model(alloc, desk, source),
+        Command::Opb { source } => list_opb(alloc, desk, source),
         Command::Audit { port, plan, events } => audit_port(alloc, desk, port, plan, events),
         Command::Flatten { port } => flatten_port(alloc, desk, port),
         Command::Demo {

@@ -173,6 +173,15 @@ fn command_by<'w>(wanted: &[Wanted], form: Form, words: &'w [String]) -> Command
         [Wanted::Keyword(Keyword::Explain), ..] => Command::Explain {
             port: port_in(form, words),
         },
+        [Wanted::Keyword(Keyword::Windows), ..] => Command::Windows {
+            port: port_in(form, words),
+        },
+        [Wanted::Keyword(Keyword::Model), ..] => Command::Model {
+            source: source_in(form, words),
+        },
+        [Wanted::Keyword(Keyword::Opb), ..] => Command::Opb {
+            source: source_in(form, words),
+        },
         [Wanted::Keyword(Keyword::Audit), ..] => Command::Audit {
             port: port_in(form, words),
             plan: name_in(form, words, Value::Input(Feed::Plan)),

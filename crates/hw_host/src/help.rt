@@ -16,7 +16,7 @@ Commands:
 ";
 
 /// What the commands do, in a line each, in the order of `FORMS`.
-pub const PURPOSES: [&str; 30] = [
+pub const PURPOSES: [&str; 35] = [
     "looks for a best timetable of a flat text, and writes a certificate to PROOF",
     "looks for a best timetable of a port, and writes a certificate to PROOF",
     "looks for a best timetable of a flat text with prices, and writes a certificate to PROOF",
@@ -44,6 +44,11 @@ pub const PURPOSES: [&str; 30] = [
     "says whether the restrictions that a clash lists can't be met together",
     "the same for a port",
     "tells each restriction of a port by its number, in the port's own words",
+    "tells when each ship of a port may sail, and why not",
+    "prints the linear programme of a flat text for other solvers, in the LP format",
+    "prints the linear programme of a port for other solvers, in the LP format",
+    "prints the linear programme of a flat text for other solvers, in the OPB format",
+    "prints the linear programme of a port for other solvers, in the OPB format",
     "tells after each event which restrictions a port's plan breaks",
     "prints the flat text of a port",
     "draws a problem by NUMBER, solves it, and checks its own certificate",
