@@ -83,7 +83,7 @@ pub enum Form {
 }
 
 /// A word that stands for itself.
-#[derive(Clone, Copy)]
+#[derive(Clone, Copy, PartialEq, Eq)]
 pub enum Keyword {
     Solve,
     Prove,
@@ -132,7 +132,7 @@ pub enum Value {
 }
 
 /// What a word of a form has to be. No form asks twice for the same value.
-#[derive(Clone, Copy)]
+#[derive(Clone, Copy, PartialEq, Eq)]
 pub enum Wanted {
     Keyword(Keyword),
     Value(Value),
@@ -177,39 +177,39 @@ pub const FORMS: [Form; 35] = [
     Form::Demo,
 ];
 
-const SOLVE: Wanted = Wanted::Keyword(Keyword::Solve);
+pub const SOLVE: Wanted = Wanted::Keyword(Keyword::Solve);
 
-const PROVE: Wanted = Wanted::Keyword(Keyword::Prove);
+pub const PROVE: Wanted = Wanted::Keyword(Keyword::Prove);
 
-const CHECK: Wanted = Wanted::Keyword(Keyword::Check);
+pub const CHECK: Wanted = Wanted::Keyword(Keyword::Check);
 
-const VERIFY: Wanted = Wanted::Keyword(Keyword::Verify);
+pub const VERIFY: Wanted = Wanted::Keyword(Keyword::Verify);
 
-const CHART: Wanted = Wanted::Keyword(Keyword::Chart);
+pub const CHART: Wanted = Wanted::Keyword(Keyword::Chart);
 
-const RENEW: Wanted = Wanted::Keyword(Keyword::Renew);
+pub const RENEW: Wanted = Wanted::Keyword(Keyword::Renew);
 
-const CREW: Wanted = Wanted::Keyword(Keyword::Crew);
+pub const CREW: Wanted = Wanted::Keyword(Keyword::Crew);
 
-const REPAIR: Wanted = Wanted::Keyword(Keyword::Repair);
+pub const REPAIR: Wanted = Wanted::Keyword(Keyword::Repair);
 
-const CLASH: Wanted = Wanted::Keyword(Keyword::Clash);
+pub const CLASH: Wanted = Wanted::Keyword(Keyword::Clash);
 
-const EXPLAIN: Wanted = Wanted::Keyword(Keyword::Explain);
+pub const EXPLAIN: Wanted = Wanted::Keyword(Keyword::Explain);
 
-const WINDOWS: Wanted = Wanted::Keyword(Keyword::Windows);
+pub const WINDOWS: Wanted = Wanted::Keyword(Keyword::Windows);
 
-const MODEL: Wanted = Wanted::Keyword(Keyword::Model);
+pub const MODEL: Wanted = Wanted::Keyword(Keyword::Model);
 
-const OPB: Wanted = Wanted::Keyword(Keyword::Opb);
+pub const OPB: Wanted = Wanted::Keyword(Keyword::Opb);
 
-const AUDIT: Wanted = Wanted::Keyword(Keyword::Audit);
+pub const AUDIT: Wanted = Wanted::Keyword(Keyword::Audit);
 
 const FLAT: Wanted = Wanted::Keyword(Keyword::Flat);
 
 const PORT: Wanted = Wanted::Keyword(Keyword::Port);
 
-const FLATTEN: Wanted = Wanted::Keyword(Keyword::Flatten);
+pub const FLATTEN: Wanted = Wanted::Keyword(Keyword::Flatten);
 
 const DEMO: Wanted = Wanted::Keyword(Keyword::Demo);
 

@@ -10,7 +10,9 @@ ghost use Rattle.hw_app.specs.Forms.{agreed, first_fitting, form_of, furthest, i
 use crate::command::Command;
 use crate::demo::Draw;
 use crate::form::{
-    FORMS, Form, Keyword, Quantity, Value, Wanted, keyword_text, least_of, most_of, words_of,
+    AUDIT, CHART, CHECK, CLASH, CREW, EXPLAIN, FLATTEN, FORMS, Form, MODEL, OPB, PROVE, Quantity,
+    RENEW, REPAIR, SOLVE, VERIFY, Value, WINDOWS, Wanted, keyword_text, least_of, most_of,
+    words_of,
 };
 use hw_command::PortNames;
 use hw_desk::Feed;
@@ -126,68 +128,57 @@ fn command_by<'w>(wanted: &[Wanted], form: Form, words: &'w [String]) -> Command
     ensures limits { KeepsLimits (command_seen result) }
 {
     match wanted {
-        [Wanted::Keyword(Keyword::Solve | Keyword::Repair), ..] => search_in(
-            form,
-            words,
-            Search::Solve,
-        ),
-        [Wanted::Keyword(Keyword::Prove), ..] => search_in(form, words, Search::Prove),
-        [Wanted::Keyword(Keyword::Crew), ..] => search_in(
-            form,
-            words,
-            Search::Crew {
-                order: order_in(form, words),
-            },
-        ),
-        [
-            Wanted::Keyword(Keyword::Check),
-            Wanted::Keyword(Keyword::Clash),
-            ..
-        ] => Command::CheckClash {
+        [SOLVE | REPAIR, ..] => search_in(form, words, Search::Solve),
+        [PROVE, ..] => search_in(form, words, Search::Prove),
+        [CREW, ..] => {
+            let order = order_in(form, words);
+            search_in(form, words, Search::Crew { order })
+        }
+        [CHECK, CLASH, ..] => Command::CheckClash {
             source: source_in(form, words),
-            plan: name_in(form, words, Value::Input(Feed::Plan)),
-            cert: cert_in(form, words),
+            plan: input_in(form, words, Feed::Plan),
+            cert: input_in(form, words, Feed::Certificate),
         },
-        [Wanted::Keyword(Keyword::Check), ..] => Command::Check {
+        [CHECK, ..] => Command::Check {
             subject: subject_in(form, words),
-            cert: cert_in(form, words),
+            cert: input_in(form, words, Feed::Certificate),
         },
-        [Wanted::Keyword(Keyword::Verify), ..] => Command::Verify {
+        [VERIFY, ..] => Command::Verify {
             subject: subject_in(form, words),
-            cert: cert_in(form, words),
+            cert: input_in(form, words, Feed::Certificate),
         },
-        [Wanted::Keyword(Keyword::Renew), ..] => Command::Renew {
+        [RENEW, ..] => Command::Renew {
             subject: subject_in(form, words),
-            cert: cert_in(form, words),
+            cert: input_in(form, words, Feed::Certificate),
             proof: name_in(form, words, Value::Proof),
         },
-        [Wanted::Keyword(Keyword::Chart), ..] => Command::Chart {
+        [CHART, ..] => Command::Chart {
             source: source_in(form, words),
-            cert: cert_in(form, words),
+            cert: input_in(form, words, Feed::Certificate),
         },
-        [Wanted::Keyword(Keyword::Clash), ..] => Command::Clash {
+        [CLASH, ..] => Command::Clash {
             source: source_in(form, words),
             budget: number_in(form, words, Quantity::Budget),
             proof: name_in(form, words, Value::Proof),
         },
-        [Wanted::Keyword(Keyword::Explain), ..] => Command::Explain {
+        [EXPLAIN, ..] => Command::Explain {
             port: port_in(form, words),
         },
-        [Wanted::Keyword(Keyword::Windows), ..] => Command::Windows {
+        [WINDOWS, ..] => Command::Windows {
             port: port_in(form, words),
         },
-        [Wanted::Keyword(Keyword::Model), ..] => Command::Model {
+        [MODEL, ..] => Command::Model {
             source: source_in(form, words),
         },
-        [Wanted::Keyword(Keyword::Opb), ..] => Command::Opb {
+        [OPB, ..] => Command::Opb {
             source: source_in(form, words),
         },
-        [Wanted::Keyword(Keyword::Audit), ..] => Command::Audit {
+        [AUDIT, ..] => Command::Audit {
             port: port_in(form, words),
-            plan: name_in(form, words, Value::Input(Feed::Plan)),
-            events: name_in(form, words, Value::Input(Feed::Events)),
+            plan: input_in(form, words, Feed::Plan),
+            events: input_in(form, words, Feed::Events),
         },
-        [Wanted::Keyword(Keyword::Flatten), ..] => Command::Flatten {
+        [FLATTEN, ..] => Command::Flatten {
             port: port_in(form, words),
         },
         _ => Command::Demo {
@@ -231,11 +222,11 @@ fn name_in(form: Form, words: &[String], value: Value) -> &str
     }
 }
 
-/// The name of the certificate.
-fn cert_in(form: Form, words: &[String]) -> &str
-    ensures { result.now ≡ name_in form (map string_bytes words.now) (Value.Input Feed.Certificate) }
+/// The name of an input.
+fn input_in(form: Form, words: &[String], feed: Feed) -> &str
+    ensures { result.now ≡ name_in form (map string_bytes words.now) (Value.Input feed) }
 {
-    name_in(form, words, Value::Input(Feed::Certificate))
+    name_in(form, words, Value::Input(feed))
 }
 
 /// The names of a port's inputs.
@@ -244,8 +235,8 @@ fn port_in(form: Form, words: &[String]) -> PortNames<'_>
     ensures tides { result.tides.now ≡ name_in form (map string_bytes words.now) (Value.Input Feed.Tides) }
 {
     PortNames {
-        instance: name_in(form, words, Value::Input(Feed::Instance)),
-        tides: name_in(form, words, Value::Input(Feed::Tides)),
+        instance: input_in(form, words, Feed::Instance),
+        tides: input_in(form, words, Feed::Tides),
     }
 }
 
