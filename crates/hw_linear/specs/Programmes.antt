@@ -15,7 +15,7 @@ pub record Row : Type 0 where
   pub sense : Sense
   pub bound : ℕ
 
--- what is to be made greatest, with a term for each variable, and the rows
+-- what is to be made greatest or least, with a term for each variable, and the rows
 pub record Programme : Type 0 where
   pub objective : List Term
   pub rows : List Row

@@ -6,6 +6,9 @@ use Rattle.hw_model.specs.declared.rule.Job.{Job}
 use Rattle.hw_model.specs.declared.rule.Rule.{Rule}
 use Rattle.hw_model.specs.declared.rule.Rule.TheVariants.{Pair, After, Tugs}
 use Rattle.hw_model.specs.Problem.{Problem, horizon, value_at}
+use Rattle.hw_model.specs.Refuting.{greatest_value}
+use Rattle.hw_linear.specs.declared.format.Format.{Format}
+use Rattle.hw_linear.specs.declared.format.Format.TheVariants.{Lp, Opb}
 use Rattle.hw_linear.specs.declared.format.Sense.TheVariants.{AtMost, Exactly}
 use Rattle.hw_linear.specs.declared.span.Span.{Span}
 use Rattle.hw_linear.specs.Programmes.{Term, Row, Programme, weight_of}
@@ -35,20 +38,35 @@ pub record SpanFits (f : Problem) (span : Span) : Type 0 where
   pub slots_in : span.to ≤ f.slots
   pub small : span.weight ≤ MOST_TUGS
 
--- ---- what is to be made greatest: the value of each ship in each slot
+-- ---- the objective
 
-abbrev pub value_term : ℕ → ℕ → Option ℕ → List Term
-value_term ship slot None = []
-value_term ship slot (Some value) = record { weight = value; ship = ship; slot = slot } ∷ []
+-- the most that a ship may carry
+abbrev pub most : Problem → ℕ → ℕ
+most f ship = greatest_value f ship 0 (f.slots - 1)
 
-abbrev pub value_terms : Problem → ℕ → ℕ → ℕ → List Term
-value_terms f ship slot zero = []
-value_terms f ship slot (suc more) = value_term ship slot (value_at f ship slot) ++ value_terms f ship (slot + 1) more
+-- what a value counts: in the LP format itself, and in OPB, which has least sums alone, what it lacks of the ship's most
+abbrev pub counts : Format → ℕ → ℕ → ℕ
+counts Lp top value = value
+counts Opb top value = top - value
+
+abbrev pub value_term : Format → ℕ → ℕ → ℕ → Option ℕ → List Term
+value_term format top ship slot None = []
+value_term format top ship slot (Some value) = record { weight = counts format top value; ship = ship; slot = slot } ∷ []
+
+-- those of `count` slots from this one on
+abbrev pub value_terms : Format → Problem → ℕ → ℕ → ℕ → List Term
+value_terms format f ship slot zero = []
+value_terms format f ship slot (suc more) = value_term format (most f ship) ship slot (value_at f ship slot) ++ value_terms format f ship (slot + 1) more
 
 -- those of `count` ships from this one on
-abbrev pub ships_terms : Problem → ℕ → ℕ → List Term
-ships_terms f ship zero = []
-ships_terms f ship (suc more) = value_terms f ship 0 f.slots ++ ships_terms f (ship + 1) more
+abbrev pub ships_terms : Format → Problem → ℕ → ℕ → List Term
+ships_terms format f ship zero = []
+ships_terms format f ship (suc more) = value_terms format f ship 0 f.slots ++ ships_terms format f (ship + 1) more
+
+-- the most that each of `count` ships from this one on may carry, added up
+abbrev pub most_from : Problem → ℕ → ℕ → ℕ
+most_from f ship zero = 0
+most_from f ship (suc more) = most f ship + most_from f (ship + 1) more
 
 -- ---- rows
 
@@ -134,5 +152,6 @@ rules_rows f (rule ∷ rules) = rule_rows f rule ++ rules_rows f rules
 abbrev pub rows_of : Problem → List Row
 rows_of f = ship_rows f 0 f.ships ++ rules_rows f f.rules
 
-abbrev pub programme_of : Problem → Programme
-programme_of f = record { objective = ships_terms f 0 f.ships; rows = rows_of f }
+-- the objective is a greatest sum in the LP format, and a least sum in OPB
+abbrev pub programme_of : Format → Problem → Programme
+programme_of format f = record { objective = ships_terms format f 0 f.ships; rows = rows_of f }

@@ -8,7 +8,7 @@ use Rattle.hw_linear.specs.declared.format.Mark.TheVariants.{Named, Plus, Minus}
 use Rattle.hw_linear.specs.declared.format.Sense.{Sense}
 use Rattle.hw_linear.specs.declared.format.Sense.TheVariants.{AtMost, Exactly}
 use Rattle.hw_linear.specs.Programmes.{Term, Row, Programme}
-use Rattle.hw_linear.specs.Rows.{programme_of}
+use Rattle.hw_linear.specs.Rows.{most_from, programme_of}
 
 abbrev pub joined : List (List ℕ) → List ℕ
 joined [] = []
@@ -70,25 +70,32 @@ rows_text format slots (row ∷ rows) = row_text format slots row ++ rows_text f
 
 -- ---- whole texts
 
+-- the terms of an objective
+abbrev pub sum_text : Format → ℕ → List Term → List ℕ
+sum_text format slots terms = terms_text slots (mark_of format Exactly) terms
+
 -- the names of the variables
 abbrev pub names_text : List Term → List ℕ
 names_text [] = []
 names_text (term ∷ terms) = name_text term.ship term.slot ++ names_text terms
 
 abbrev pub lp_of : ℕ → Programme → List ℕ
-lp_of slots programme = joined (codes "Maximize\n cargo:\n" ∷ terms_text slots Named (shown programme.objective) ∷ codes "Subject To\n" ∷ rows_text Lp slots programme.rows ∷ codes "Binary\n" ∷ names_text programme.objective ∷ codes "End\n" ∷ [])
+lp_of slots programme = joined (codes "Maximize\n cargo:\n" ∷ sum_text Lp slots (shown programme.objective) ∷ codes "Subject To\n" ∷ rows_text Lp slots programme.rows ∷ codes "Binary\n" ∷ names_text programme.objective ∷ codes "End\n" ∷ [])
 
--- how many variables and rows there are, and which variable has which number
-unfoldable pub opb_head : ℕ → ℕ → ℕ → List ℕ
-opb_head variables rows slots = joined (codes "* #variable= " ∷ decimal variables ∷ codes " #constraint= " ∷ decimal rows ∷ codes "\n* ship V has slot K: x(V * " ∷ decimal slots ∷ codes " + K + 1)\n" ∷ [])
+-- how many variables and rows there are, which variable has which number, and from what the least sum is taken
+unfoldable pub opb_head : ℕ → ℕ → List ℕ
+opb_head variables rows = joined (codes "* #variable= " ∷ decimal variables ∷ codes " #constraint= " ∷ decimal rows ∷ codes "\n" ∷ [])
 
-abbrev pub opb_of : ℕ → ℕ → Programme → List ℕ
-opb_of ships slots programme = joined (opb_head (ships * slots) (length programme.rows) slots ∷ codes "min: " ∷ terms_text slots Minus (shown programme.objective) ∷ codes ";\n" ∷ rows_text Opb slots programme.rows ∷ [])
+unfoldable pub opb_notes : ℕ → ℕ → List ℕ
+opb_notes slots top = joined (codes "* ship V has slot K: x(V * " ∷ decimal slots ∷ codes " + K + 1)\n* cargo: " ∷ decimal top ∷ codes " less this sum\n" ∷ [])
+
+abbrev pub opb_of : ℕ → ℕ → ℕ → Programme → List ℕ
+opb_of ships slots top programme = joined (opb_head (ships * slots) (length programme.rows) ∷ opb_notes slots top ∷ codes "min: " ∷ sum_text Opb slots (shown programme.objective) ∷ codes ";\n" ∷ rows_text Opb slots programme.rows ∷ [])
 
 -- the problem in the LP format
 unfoldable pub lp_text : Problem → List ℕ
-lp_text f = lp_of f.slots (programme_of f)
+lp_text f = lp_of f.slots (programme_of Lp f)
 
 -- the problem in the OPB format
 unfoldable pub opb_text : Problem → List ℕ
-opb_text f = opb_of f.ships f.slots (programme_of f)
+opb_text f = opb_of f.ships f.slots (most_from f 0 f.ships) (programme_of Opb f)

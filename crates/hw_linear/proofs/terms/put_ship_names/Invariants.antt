@@ -1,5 +1,6 @@
 use Rattle.std.proofs.Common.{◌-◌}
 use Rattle.hw_desk.specs.Writers.{WriterState, Puts}
+use Rattle.hw_linear.specs.declared.format.Format.TheVariants.{Lp}
 use Rattle.hw_linear.specs.Rows.{value_terms}
 use Rattle.hw_linear.specs.Texts.{names_text}
 use Rattle.hw_linear.proofs.terms.put_ship_names.Given as goal
@@ -8,4 +9,4 @@ use Rattle.hw_linear.proofs.terms.put_ship_names.Given as goal
 abbrev pub invariant-loop-slot : goal.invariant-loop-slot
 invariant-loop-slot g l =
     let state = g.W.Writer.state in
-    (end : WriterState) → Puts (names_text (value_terms l.flat l.ship l.slot (l.flat.slots - l.slot))) (state l.out) end → Puts (names_text (value_terms l.flat l.ship 0 l.flat.slots)) (state l.fn.out) end
+    (end : WriterState) → Puts (names_text (value_terms Lp l.flat l.ship l.slot (l.flat.slots - l.slot))) (state l.out) end → Puts (names_text (value_terms Lp l.flat l.ship 0 l.flat.slots)) (state l.fn.out) end
