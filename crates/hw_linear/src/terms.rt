@@ -4,7 +4,7 @@ ghost use Rattle.std.specs.Prelude.{◌≡◌, ◌<◌, ◌≤◌, [], All};
 ghost use Rattle.hw_model.specs.Problem.{value_at};
 ghost use Rattle.hw_desk.specs.Writers.{Puts};
 ghost use Rattle.hw_linear.specs.Rows.{SpanFits, counts, most, ships_terms, span_terms, term_at, terms_of, value_term, value_terms};
-ghost use Rattle.hw_linear.specs.Texts.{mark_of, names_text, shown, term_text, terms_text};
+ghost use Rattle.hw_linear.specs.Texts.{names_text, shown, sum_text, term_text, terms_text};
 
 use crate::format::{Format, Mark, Sense, mark_of, put_name, put_number};
 use crate::span::Span;
@@ -124,7 +124,7 @@ fn put_value<W: Writer>(
 )
     requires ship_in { ship < flat.now.ships }
     requires slot_in { slot < flat.now.slots }
-    ensures { Puts (terms_text flat.now.slots (mark_of format Sense.Exactly) (value_term format top ship slot (value_at flat.now ship slot))) (W.state out.old) (W.state out.new) }
+    ensures { Puts (sum_text format flat.now.slots (value_term format top ship slot (value_at flat.now ship slot))) (W.state out.old) (W.state out.new) }
 {
     match flat.value(ship, slot) {
         None => out.put(b""),
@@ -138,7 +138,7 @@ fn put_value<W: Writer>(
 /// Puts the terms of a ship's values.
 fn put_values<W: Writer>(out: &mut W, flat: &Flat, format: Format, ship: ShipId)
     requires ship_in { ship < flat.now.ships }
-    ensures { Puts (terms_text flat.now.slots (mark_of format Sense.Exactly) (value_terms format flat.now ship 0 flat.now.slots)) (W.state out.old) (W.state out.new) }
+    ensures { Puts (sum_text format flat.now.slots (value_terms format flat.now ship 0 flat.now.slots)) (W.state out.old) (W.state out.new) }
 {
     let top = most(flat, ship);
     for slot in 0..flat.shape().slots {
@@ -148,7 +148,7 @@ fn put_values<W: Writer>(out: &mut W, flat: &Flat, format: Format, ship: ShipId)
 
 /// Puts the terms of all ships' values.
 pub(crate) fn put_ships<W: Writer>(out: &mut W, flat: &Flat, format: Format)
-    ensures { Puts (terms_text flat.now.slots (mark_of format Sense.Exactly) (ships_terms format flat.now 0 flat.now.ships)) (W.state out.old) (W.state out.new) }
+    ensures { Puts (sum_text format flat.now.slots (ships_terms format flat.now 0 flat.now.ships)) (W.state out.old) (W.state out.new) }
 {
     for ship in 0..flat.shape().ships {
         put_values(out, flat, format, ship);
