@@ -71,13 +71,13 @@ most_from f ship (suc more) = most f ship + most_from f (ship + 1) more
 -- ---- rows
 
 -- the row that a weight in some spans is at most a bound; none where all of them together are
-abbrev pub at_most : Problem → ℕ → List Span → List Row
-at_most f bound spans = if nat_lt bound (weight_of (terms_of f spans)) then record { terms = terms_of f spans; sense = AtMost; bound = bound } ∷ [] else []
+abbrev pub row_at_most : Problem → ℕ → List Span → List Row
+row_at_most f bound spans = if nat_lt bound (weight_of (terms_of f spans)) then record { terms = terms_of f spans; sense = AtMost; bound = bound } ∷ [] else []
 
 -- one such row for each of `count` numbers from this one on, over its own spans
-abbrev pub rows_from : Problem → ℕ → (ℕ → List Span) → ℕ → ℕ → List Row
-rows_from f bound spans k zero = []
-rows_from f bound spans k (suc more) = at_most f bound (spans k) ++ rows_from f bound spans (k + 1) more
+abbrev pub numbered_rows : Problem → ℕ → (ℕ → List Span) → ℕ → ℕ → List Row
+numbered_rows f bound spans k zero = []
+numbered_rows f bound spans k (suc more) = row_at_most f bound (spans k) ++ numbered_rows f bound spans (k + 1) more
 
 -- all slots of a ship, with weight 1
 abbrev pub whole_span : Problem → ℕ → Span
@@ -115,7 +115,7 @@ window_spans f v w hole last = first_window f v hole last ∷ partner f w hole (
 
 -- the windows of a hole: the first ship's end with each slot of the horizon, and after it while they begin in it
 abbrev pub window_rows : Problem → ℕ → ℕ → Hole → List Row
-window_rows f v w hole = rows_from f 1 (window_spans f v w hole) 0 (horizon f + width hole - 1)
+window_rows f v w hole = numbered_rows f 1 (window_spans f v w hole) 0 (horizon f + width hole - 1)
 
 abbrev pub hole_rows : Problem → ℕ → ℕ → List Hole → List Row
 hole_rows f v w [] = []
@@ -126,7 +126,7 @@ abbrev pub after_spans : Problem → ℕ → ℕ → ℕ → ℕ → List Span
 after_spans f v w gap slot = record { ship = v; from = slot; to = f.slots; weight = 1 } ∷ record { ship = w; from = 0; to = min (horizon f) (slot + gap); weight = 1 } ∷ []
 
 abbrev pub after_rows : Problem → ℕ → ℕ → ℕ → List Row
-after_rows f v w gap = rows_from f 1 (after_spans f v w gap) 0 f.slots
+after_rows f v w gap = numbered_rows f 1 (after_spans f v w gap) 0 f.slots
 
 -- the slots from which a job holds its tugs in a slot
 abbrev pub job_span : ℕ → Job → Span
@@ -137,7 +137,7 @@ job_spans jobs slot = map (job_span slot) jobs
 
 -- in each slot of the horizon no more tugs are held than the fleet has
 abbrev pub tug_rows : Problem → ℕ → List Job → List Row
-tug_rows f fleet jobs = rows_from f fleet (job_spans jobs) 0 (horizon f)
+tug_rows f fleet jobs = numbered_rows f fleet (job_spans jobs) 0 (horizon f)
 
 abbrev pub rule_rows : Problem → Rule → List Row
 rule_rows f (Pair v w holes) = hole_rows f v w holes

@@ -4,7 +4,7 @@ ghost use Rattle.std.specs.Prelude.{◌≡◌, ◌<◌, ◌≤◌, ◌+◌, ◌-
 ghost use Rattle.hw_model.specs.Limits.{HoleFits, RuleFits, TugsFit};
 ghost use Rattle.hw_model.specs.Problem.{horizon};
 ghost use Rattle.hw_model.specs.declared.limits.TheConstants.{MOST_HOLES, MOST_SHIPS, MOST_SLOTS, MOST_RULES};
-ghost use Rattle.hw_linear.specs.Rows.{SpanFits, after_rows, at_most, hole_rows, job_span, rows_of, rule_rows, rules_rows, tug_rows, width, window_rows};
+ghost use Rattle.hw_linear.specs.Rows.{SpanFits, after_rows, row_at_most, hole_rows, job_span, rows_of, rule_rows, rules_rows, tug_rows, width, window_rows};
 
 use crate::limits::{MOST_RULE_ROWS, MOST_WINDOWS};
 use crate::span::{Span, weight};
@@ -16,7 +16,7 @@ use hw_model::{Hole, Job, Rule, ShipId};
 fn count_at_most(flat: &Flat, bound: u32, spans: &[Span]) -> u32
     requires fit { All (SpanFits flat.now) spans.now }
     requires few { length spans.now ≤ MOST_SHIPS }
-    ensures value { result ≡ length (at_most flat.now bound spans.now) }
+    ensures value { result ≡ length (row_at_most flat.now bound spans.now) }
     ensures small { result ≤ 1 }
 {
     if bound < weight(flat, spans) { 1 } else { 0 }

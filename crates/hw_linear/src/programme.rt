@@ -4,7 +4,7 @@ ghost use Rattle.std.specs.Prelude.{◌≡◌, ◌*◌, [], true, false};
 ghost use Rattle.hw_desk.specs.Writers.{Puts};
 ghost use Rattle.hw_linear.specs.declared.format.Format.{Format};
 ghost use Rattle.hw_linear.specs.Rows.{most_from, ships_terms};
-ghost use Rattle.hw_linear.specs.Texts.{lp_text, opb_head, opb_notes, opb_text, shown, sum_text};
+ghost use Rattle.hw_linear.specs.Texts.{lp_text, opb_head, opb_notes, opb_text, with_a_term, sum_text};
 
 use crate::counting::count_rows;
 use crate::format::{Format, Sense, mark_of};
@@ -18,7 +18,7 @@ use hw_flat::Flat;
 /// Whether no ship has a value in any slot.
 fn is_empty(flat: &Flat) -> bool
     ensures empty { (format : Format) → result ≡ true → ships_terms format flat.now 0 flat.now.ships ≡ [] }
-    ensures some { (format : Format) → result ≡ false → shown (ships_terms format flat.now 0 flat.now.ships) ≡ ships_terms format flat.now 0 flat.now.ships }
+    ensures some { (format : Format) → result ≡ false → with_a_term (ships_terms format flat.now 0 flat.now.ships) ≡ ships_terms format flat.now 0 flat.now.ships }
 {
     for ship in 0..flat.shape().ships {
         if span_weight(flat, whole_span(flat, ship)) != 0 {
@@ -30,7 +30,7 @@ fn is_empty(flat: &Flat) -> bool
 
 /// Puts the objective.
 fn put_objective<W: Writer>(out: &mut W, flat: &Flat, format: Format)
-    ensures { Puts (sum_text format flat.now.slots (shown (ships_terms format flat.now 0 flat.now.ships))) (W.state out.old) (W.state out.new) }
+    ensures { Puts (sum_text format flat.now.slots (with_a_term (ships_terms format flat.now 0 flat.now.ships))) (W.state out.old) (W.state out.new) }
 {
     if is_empty(flat) {
         put_no_terms(out, flat, mark_of(format, Sense::Exactly));

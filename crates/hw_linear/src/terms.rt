@@ -4,7 +4,7 @@ ghost use Rattle.std.specs.Prelude.{◌≡◌, ◌<◌, ◌≤◌, [], All};
 ghost use Rattle.hw_model.specs.Problem.{value_at};
 ghost use Rattle.hw_desk.specs.Writers.{Puts};
 ghost use Rattle.hw_linear.specs.Rows.{SpanFits, counts, most, ships_terms, span_terms, term_at, terms_of, value_term, value_terms};
-ghost use Rattle.hw_linear.specs.Texts.{names_text, shown, sum_text, term_text, terms_text};
+ghost use Rattle.hw_linear.specs.Texts.{variables_text, with_a_term, sum_text, term_text, terms_text};
 
 use crate::format::{Format, Mark, Sense, mark_of, put_name, put_number};
 use crate::span::Span;
@@ -87,7 +87,7 @@ pub(crate) fn put_spans<W: Writer>(out: &mut W, flat: &Flat, mark: Mark, spans: 
 
 /// Puts the term of weight 0 that stands for a sum without terms.
 pub(crate) fn put_no_terms<W: Writer>(out: &mut W, flat: &Flat, mark: Mark)
-    ensures { Puts (terms_text flat.now.slots mark (shown [])) (W.state out.old) (W.state out.new) }
+    ensures { Puts (terms_text flat.now.slots mark (with_a_term [])) (W.state out.old) (W.state out.new) }
 {
     let _shape = flat.shape();
     put_term(out, flat, mark, 0, 0, 0);
@@ -159,7 +159,7 @@ pub(crate) fn put_ships<W: Writer>(out: &mut W, flat: &Flat, format: Format)
 fn put_name_at<W: Writer>(out: &mut W, flat: &Flat, ship: ShipId, slot: Slot)
     requires ship_in { ship < flat.now.ships }
     requires slot_in { slot < flat.now.slots }
-    ensures { Puts (names_text (value_term Format.Lp (most flat.now ship) ship slot (value_at flat.now ship slot))) (W.state out.old) (W.state out.new) }
+    ensures { Puts (variables_text (value_term Format.Lp (most flat.now ship) ship slot (value_at flat.now ship slot))) (W.state out.old) (W.state out.new) }
 {
     match flat.value(ship, slot) {
         None => out.put(b""),
@@ -170,7 +170,7 @@ fn put_name_at<W: Writer>(out: &mut W, flat: &Flat, ship: ShipId, slot: Slot)
 /// Puts the names of a ship's variables.
 fn put_ship_names<W: Writer>(out: &mut W, flat: &Flat, ship: ShipId)
     requires ship_in { ship < flat.now.ships }
-    ensures { Puts (names_text (value_terms Format.Lp flat.now ship 0 flat.now.slots)) (W.state out.old) (W.state out.new) }
+    ensures { Puts (variables_text (value_terms Format.Lp flat.now ship 0 flat.now.slots)) (W.state out.old) (W.state out.new) }
 {
     for slot in 0..flat.shape().slots {
         put_name_at(out, flat, ship, slot);
@@ -179,7 +179,7 @@ fn put_ship_names<W: Writer>(out: &mut W, flat: &Flat, ship: ShipId)
 
 /// Puts the names of all variables.
 pub(crate) fn put_names<W: Writer>(out: &mut W, flat: &Flat)
-    ensures { Puts (names_text (ships_terms Format.Lp flat.now 0 flat.now.ships)) (W.state out.old) (W.state out.new) }
+    ensures { Puts (variables_text (ships_terms Format.Lp flat.now 0 flat.now.ships)) (W.state out.old) (W.state out.new) }
 {
     for ship in 0..flat.shape().ships {
         put_ship_names(out, flat, ship);
