@@ -1,14 +1,18 @@
 -- A satisfying point has one slot for each ship, and the values of a table's slots add up to its cargo.
 use Rattle.std.proofs.Common.{◌≡◌, ℕ, zero, suc, ◌+◌, ◌-◌, ◌<◌, ◌≤◌, Bool, true, false, cond, nat_eq, List, [], ◌∷◌, Option, Some, None, length, get_or, slice_index, is_some, IsSome, unwrap_or, refl, sym, ◌∙◌, ap, subst, arith, inl, inr, ◌⊎◌}
 use Rattle.std.proofs.lemmas.Bool.{cases_eq, eq-eqb, ne_eqb, eqb-true, both_ways}
+use Rattle.std.proofs.lemmas.Option.{same_Some}
 use Rattle.std.proofs.lemmas.List.{same_lists, get_or_default}
 use Rattle.std.proofs.lemmas.List.Elements.{All-from_get_or}
 use Rattle.hw_model.specs.Limits.{IsFlat}
 use Rattle.hw_model.specs.Problem.{Problem, value_at}
 use Rattle.hw_model.specs.Timetables.{Permits, cargo, cargo_from, plus}
+use Rattle.hw_laws.proofs.Sound.{value_le}
+use Rattle.hw_linear.specs.declared.format.Format.{Format}
+use Rattle.hw_linear.specs.declared.format.Format.TheVariants.{Lp, Opb}
 use Rattle.hw_linear.specs.Laws.{IsPointOf}
 use Rattle.hw_linear.specs.Programmes.{Point, total, Satisfies, SatisfiesRows}
-use Rattle.hw_linear.specs.Rows.{term_at, terms_from, span_terms, whole_span, ship_rows, rules_rows, programme_of, value_terms, ships_terms, SpanFits}
+use Rattle.hw_linear.specs.Rows.{term_at, terms_from, span_terms, whole_span, ship_rows, rules_rows, programme_of, counts, most, most_from, value_terms, ships_terms, SpanFits}
 use Rattle.hw_linear.proofs.Sums.{total-append, satisfies-append, satisfies_parts}
 use Rattle.hw_linear.proofs.Sits.{Sits, in_span, values_inside}
 use Rattle.hw_linear.proofs.Kept.{Seated, rules_satisfied, rules_kept}
@@ -112,13 +116,13 @@ permitted_seated f table p permits point ship lt = record {
   point = λ slot slot_in some. point ship slot lt slot_in some;
 }
 
-pub satisfied : (f : Problem) (table : List ℕ) (p : Point) → IsFlat f → Permits f table → IsPointOf f table p → Satisfies p (programme_of f)
-satisfied f table p flat permits point =
+pub satisfied : (format : Format) (f : Problem) (table : List ℕ) (p : Point) → IsFlat f → Permits f table → IsPointOf f table p → Satisfies p (programme_of format f)
+satisfied format f table p flat permits point =
     let seated = permitted_seated f table p permits point in
     satisfies-append p (ship_rows f 0 f.ships) (rules_rows f f.rules) (ships_satisfied f p table 0 f.ships seated (omega arith)) (rules_satisfied f p table f.rules seated flat.each_rule permits.keeps)
 
-pub permitted : (f : Problem) (p : Point) → IsFlat f → Satisfies p (programme_of f) → (table : List ℕ) × Permits f table × IsPointOf f table p
-permitted f p flat satisfies =
+pub permitted : (format : Format) (f : Problem) (p : Point) → IsFlat f → Satisfies p (programme_of format f) → (table : List ℕ) × Permits f table × IsPointOf f table p
+permitted format f p flat satisfies =
     let parts = satisfies_parts p (ship_rows f 0 f.ships) (rules_rows f f.rules) satisfies in
     let listed = ships_sit f p 0 f.ships parts.0 in
     let seated : Seated f p listed.0 = λ ship lt. seat listed.0 listed.1 ship lt in (
@@ -150,28 +154,51 @@ same_table f table other p permits permits' point point' =
 
 -- ---- the objective
 
-ships_worth : (f : Problem) (p : Point) (ship : ℕ) (slots : List ℕ) → ((k : ℕ) → k < length slots → Sits f p (ship + k) (get_or slots k 0)) → cargo_from f ship slots ≡ Some (total p (ships_terms f ship (length slots)))
+-- ships from one on, each in its slot of the list
+abbrev IsSeated : Problem → Point → ℕ → List ℕ → Type 0
+IsSeated f p ship slots = (k : ℕ) → k < length slots → Sits f p (ship + k) (get_or slots k 0)
+
+seated_first : (f : Problem) (p : Point) (ship x : ℕ) (slots : List ℕ) → IsSeated f p ship (x ∷ slots) → Sits f p ship x
+seated_first f p ship x slots sits = let same : ship + 0 ≡ ship = omega arith in subst (λ (s : ℕ). Sits f p s x) same (sits 0 (omega arith))
+
+seated_rest : (f : Problem) (p : Point) (ship x : ℕ) (slots : List ℕ) → IsSeated f p ship (x ∷ slots) → IsSeated f p (ship + 1) slots
+seated_rest f p ship x slots sits k lt = let same : ship + suc k ≡ (ship + 1) + k = omega arith in subst (λ (s : ℕ). Sits f p s (get_or slots k 0)) same (sits (suc k) (omega (arith, lt)))
+
+ship_worth : (format : Format) (f : Problem) (p : Point) (ship x : ℕ) → Sits f p ship x → total p (value_terms format f ship 0 f.slots) ≡ counts format (most f ship) (unwrap_or (value_at f ship x) 0)
+ship_worth format f p ship x own = values_inside format f p ship x 0 f.slots own (λ k le lt. omega (arith, lt)) (omega arith) (omega (arith, own.slot_in))
+
+ships_worth : (f : Problem) (p : Point) (ship : ℕ) (slots : List ℕ) → IsSeated f p ship slots → cargo_from f ship slots ≡ Some (total p (ships_terms Lp f ship (length slots)))
 ships_worth f p ship [] sits = refl
 ships_worth f p ship (x ∷ slots) sits =
-    let own : Sits f p ship x = first (sits 0 (omega arith)) in
-    let rest = ships_worth f p (ship + 1) slots (λ k lt. next k (sits (suc k) (omega (arith, lt)))) in
-    let value : total p (value_terms f ship 0 f.slots) ≡ unwrap_or (value_at f ship x) 0 = values_inside f p ship x 0 f.slots own (λ k le lt. omega (arith, lt)) (omega arith) (omega (arith, own.slot_in)) in
-    added (value_at f ship x) (cargo_from f (ship + 1) slots) _ _ own.sails (sym value) rest ∙ ap Some (sym (total-append p (value_terms f ship 0 f.slots) (ships_terms f (ship + 1) (length slots))))
+    let own = seated_first f p ship x slots sits in
+    let rest = ships_worth f p (ship + 1) slots (seated_rest f p ship x slots sits) in
+    added (value_at f ship x) (cargo_from f (ship + 1) slots) _ _ own.sails (sym (ship_worth Lp f p ship x own)) rest ∙ ap Some (sym (total-append p (value_terms Lp f ship 0 f.slots) (ships_terms Lp f (ship + 1) (length slots))))
   where
-    first : Sits f p (ship + 0) x → Sits f p ship x
-    first h = let same : ship + 0 ≡ ship = omega arith in subst (λ (s : ℕ). Sits f p s x) same h
-
-    next : (k : ℕ) → Sits f p (ship + suc k) (get_or slots k 0) → Sits f p ((ship + 1) + k) (get_or slots k 0)
-    next k h = let same : ship + suc k ≡ (ship + 1) + k = omega arith in subst (λ (s : ℕ). Sits f p s (get_or slots k 0)) same h
-
     added : (a b : Option ℕ) (m n : ℕ) → IsSome a → unwrap_or a 0 ≡ m → b ≡ Some n → plus a b ≡ Some (m + n)
     added None b m n some e g = absurd (cc)
     added (Some v) b m n some e g = ap (plus (Some v)) g ∙ ap (λ (k : ℕ). Some (k + n)) e
 
-pub objective : (f : Problem) (table : List ℕ) (p : Point) → Permits f table → IsPointOf f table p → cargo f table ≡ Some (total p (ships_terms f 0 f.ships))
+-- what ships lack of the most that they may carry, and what they carry, is that most
+ships_lack : (f : Problem) (p : Point) (ship : ℕ) (slots : List ℕ) → IsSeated f p ship slots → total p (ships_terms Opb f ship (length slots)) + total p (ships_terms Lp f ship (length slots)) ≡ most_from f ship (length slots)
+ships_lack f p ship [] sits = refl
+ships_lack f p ship (x ∷ slots) sits =
+    let own = seated_first f p ship x slots sits in
+    let rest = ships_lack f p (ship + 1) slots (seated_rest f p ship x slots sits) in
+    let few : unwrap_or (value_at f ship x) 0 ≤ most f ship = value_le f ship 0 (f.slots - 1) x (omega arith) (omega (arith, own.slot_in)) in
+    omega (arith, rest, few, ship_worth Lp f p ship x own, ship_worth Opb f p ship x own, total-append p (value_terms Lp f ship 0 f.slots) (ships_terms Lp f (ship + 1) (length slots)), total-append p (value_terms Opb f ship 0 f.slots) (ships_terms Opb f (ship + 1) (length slots)))
+
+table_seated : (f : Problem) (table : List ℕ) (p : Point) → Permits f table → IsPointOf f table p → IsSeated f p 0 table
+table_seated f table p permits point k lt =
+    let seated = permitted_seated f table p permits point k (omega (arith, lt, permits.listed.each_ship)) in
+    let same : k ≡ 0 + k = omega arith in
+    subst (λ (s : ℕ). Sits f p s (get_or table k 0)) same seated
+
+pub objective : (f : Problem) (table : List ℕ) (p : Point) → Permits f table → IsPointOf f table p → cargo f table ≡ Some (total p (ships_terms Lp f 0 f.ships))
 objective f table p permits point =
-    let seated = permitted_seated f table p permits point in
-    ships_worth f p 0 table (λ k lt. seat k (seated k (omega (arith, lt, permits.listed.each_ship)))) ∙ ap (λ (n : ℕ). Some (total p (ships_terms f 0 n))) permits.listed.each_ship
-  where
-    seat : (k : ℕ) → Sits f p k (get_or table k 0) → Sits f p (0 + k) (get_or table k 0)
-    seat k h = let same : k ≡ 0 + k = omega arith in subst (λ (s : ℕ). Sits f p s (get_or table k 0)) same h
+    ships_worth f p 0 table (table_seated f table p permits point) ∙ ap (λ (n : ℕ). Some (total p (ships_terms Lp f 0 n))) permits.listed.each_ship
+
+pub lacks : (f : Problem) (table : List ℕ) (p : Point) (c : ℕ) → Permits f table → IsPointOf f table p → cargo f table ≡ Some c → total p (ships_terms Opb f 0 f.ships) + c ≡ most_from f 0 f.ships
+lacks f table p c permits point e =
+    let same : total p (ships_terms Lp f 0 f.ships) ≡ c = same_Some _ _ (sym (objective f table p permits point) ∙ e) in
+    let all = subst (λ (n : ℕ). total p (ships_terms Opb f 0 n) + total p (ships_terms Lp f 0 n) ≡ most_from f 0 n) permits.listed.each_ship (ships_lack f p 0 table (table_seated f table p permits point)) in
+    omega (arith, same, all)

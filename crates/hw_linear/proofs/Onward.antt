@@ -6,7 +6,7 @@ use Rattle.std.proofs.lemmas.List.{get_or_default}
 use Rattle.hw_linear.specs.declared.format.Format.{Format}
 use Rattle.hw_linear.specs.declared.format.Mark.{Mark}
 use Rattle.hw_linear.specs.Programmes.{Term, Row, weight_of}
-use Rattle.hw_linear.specs.Texts.{term_text, terms_text, row_text, rows_text, names_text, name_text, shown}
+use Rattle.hw_linear.specs.Texts.{term_text, terms_text, linear_row_text, rows_text, variables_text, name_text, with_a_term}
 
 pub terms_text-append : (slots : ℕ) (mark : Mark) (a b : List Term) → terms_text slots mark (a ++ b) ≡ terms_text slots mark a ++ terms_text slots mark b
 terms_text-append slots mark [] b = refl
@@ -14,11 +14,11 @@ terms_text-append slots mark (t ∷ ts) b = ap (λ (text : List ℕ). term_text 
 
 pub rows_text-append : (format : Format) (slots : ℕ) (a b : List Row) → rows_text format slots (a ++ b) ≡ rows_text format slots a ++ rows_text format slots b
 rows_text-append format slots [] b = refl
-rows_text-append format slots (r ∷ rs) b = ap (λ (text : List ℕ). row_text format slots r ++ text) (rows_text-append format slots rs b) ∙ sym (append_assoc (row_text format slots r) (rows_text format slots rs) (rows_text format slots b))
+rows_text-append format slots (r ∷ rs) b = ap (λ (text : List ℕ). linear_row_text format slots r ++ text) (rows_text-append format slots rs b) ∙ sym (append_assoc (linear_row_text format slots r) (rows_text format slots rs) (rows_text format slots b))
 
-pub names_text-append : (a b : List Term) → names_text (a ++ b) ≡ names_text a ++ names_text b
+pub names_text-append : (a b : List Term) → variables_text (a ++ b) ≡ variables_text a ++ variables_text b
 names_text-append [] b = refl
-names_text-append (t ∷ ts) b = ap (λ (text : List ℕ). name_text t.ship t.slot ++ text) (names_text-append ts b) ∙ sym (append_assoc (name_text t.ship t.slot) (names_text ts) (names_text b))
+names_text-append (t ∷ ts) b = ap (λ (text : List ℕ). name_text t.ship t.slot ++ text) (names_text-append ts b) ∙ sym (append_assoc (name_text t.ship t.slot) (variables_text ts) (variables_text b))
 
 -- ---- lists that go by a number and how many more there are
 
@@ -45,7 +45,7 @@ pub item_end : {X : Type 0} (i : ℕ) (xs : List X) → length xs ≤ i → drop
 item_end i xs le = drop_of_length-le xs le
 
 -- a sum that has terms is shown as it is
-pub shown_some : (terms : List Term) → (terms ≡ [] → ⊥) → shown terms ≡ terms
+pub shown_some : (terms : List Term) → (terms ≡ [] → ⊥) → with_a_term terms ≡ terms
 shown_some [] some = absurd (some refl)
 shown_some (t ∷ ts) some = refl
 

@@ -2,9 +2,10 @@
 use Rattle.std.proofs.Common.{◌≡◌, ℕ, zero, suc, ◌+◌, ◌-◌, ◌<◌, ◌≤◌, Bool, true, false, cond, nat_eq, [], ◌∷◌, Option, Some, None, is_some, IsSome, unwrap_or, refl, sym, ◌∙◌, ap, subst, arith, inl, inr, ◌⊎◌}
 use Rattle.std.proofs.lemmas.Bool.{cases_eq, cases_lt, eq-eqb, ne_eqb}
 use Rattle.hw_model.specs.Problem.{Problem, value_at}
+use Rattle.hw_linear.specs.declared.format.Format.{Format}
 use Rattle.hw_linear.specs.declared.span.Span.{Span}
 use Rattle.hw_linear.specs.Programmes.{Point, total}
-use Rattle.hw_linear.specs.Rows.{term_at, terms_from, span_terms, terms_of, value_term, value_terms, SpanFits}
+use Rattle.hw_linear.specs.Rows.{term_at, terms_from, span_terms, terms_of, counts, most, value_term, value_terms, SpanFits}
 use Rattle.hw_linear.proofs.Sums.{total-append}
 
 -- of the ship's variables this slot's is 1 at the point, and its others are 0
@@ -12,10 +13,6 @@ pub record Sits (f : Problem) (p : Point) (ship x : ℕ) : Type 0 where
   pub slot_in : x < f.slots
   pub sails : IsSome (value_at f ship x)
   pub point : (slot : ℕ) → slot < f.slots → IsSome (value_at f ship slot) → p ship slot ≡ nat_eq x slot
-
-cond_zero : (b : Bool) → ◌≡◌ {A = ℕ} 0 (cond b 0 0)
-cond_zero true = refl
-cond_zero false = refl
 
 no_other : (o : ℕ → Option ℕ) (x slot : ℕ) → is_some (o x) ≡ true → is_some (o slot) ≡ false → x ≡ slot → ⊥
 no_other o x slot some none e =
@@ -140,40 +137,42 @@ two_apart f p x y a b two le i j = omega (arith, le, two_total f p a b, in_span 
 
 -- ---- values
 
-at_value : (f : Problem) (p : Point) (ship x slot : ℕ) → Sits f p ship x → slot < f.slots → total p (value_term ship slot (value_at f ship slot)) ≡ cond (nat_eq x slot) (unwrap_or (value_at f ship slot) 0) 0
-at_value f p ship x slot sits lt = by (value_at f ship slot) refl
+at_value : (format : Format) (f : Problem) (p : Point) (ship x top slot : ℕ) → Sits f p ship x → slot < f.slots → total p (value_term format top ship slot (value_at f ship slot)) ≡ cond (nat_eq x slot) (counts format top (unwrap_or (value_at f ship slot) 0)) 0
+at_value format f p ship x top slot sits lt = by (value_at f ship slot) refl
   where
-    by : (o : Option ℕ) → value_at f ship slot ≡ o → total p (value_term ship slot o) ≡ cond (nat_eq x slot) (unwrap_or o 0) 0
-    by None e = cond_zero (nat_eq x slot)
+    by : (o : Option ℕ) → value_at f ship slot ≡ o → total p (value_term format top ship slot o) ≡ cond (nat_eq x slot) (counts format top (unwrap_or o 0)) 0
+    by None e =
+        let none : nat_eq x slot ≡ false = ne_eqb x slot (no_other (value_at f ship) x slot sits.sails (ap is_some e)) in
+        sym (ap (λ (b : Bool). cond b (counts format top 0) 0) none)
     by (Some v) e =
-        let same : cond (p ship slot) v 0 ≡ cond (nat_eq x slot) v 0 = ap (λ (b : Bool). cond b v 0) (sits.point slot lt (ap is_some e)) in
+        let same : cond (p ship slot) (counts format top v) 0 ≡ cond (nat_eq x slot) (counts format top v) 0 = ap (λ (b : Bool). cond b (counts format top v) 0) (sits.point slot lt (ap is_some e)) in
         omega (arith, same)
 
-values_outside : (f : Problem) (p : Point) (ship x slot count : ℕ) → Sits f p ship x → IsWithin f slot count → x < slot → total p (value_terms f ship slot count) ≡ 0
-values_outside f p ship x slot zero sits within out = refl
-values_outside f p ship x slot (suc more) sits within out =
-    let rest : total p (value_terms f ship (slot + 1) more) ≡ 0 = values_outside f p ship x (slot + 1) more sits (within_rest f slot more within) (omega (arith, out)) in
+values_outside : (format : Format) (f : Problem) (p : Point) (ship x slot count : ℕ) → Sits f p ship x → IsWithin f slot count → x < slot → total p (value_terms format f ship slot count) ≡ 0
+values_outside format f p ship x slot zero sits within out = refl
+values_outside format f p ship x slot (suc more) sits within out =
+    let rest : total p (value_terms format f ship (slot + 1) more) ≡ 0 = values_outside format f p ship x (slot + 1) more sits (within_rest f slot more within) (omega (arith, out)) in
     let none : nat_eq x slot ≡ false = ne_eqb x slot (less x slot out) in
-    let here : total p (value_term ship slot (value_at f ship slot)) ≡ 0 = at_value f p ship x slot sits (within slot (omega arith) (omega arith)) ∙ ap (λ (b : Bool). cond b (unwrap_or (value_at f ship slot) 0) 0) none in
-    omega (arith, total-append p (value_term ship slot (value_at f ship slot)) (value_terms f ship (slot + 1) more), rest, here)
+    let here : total p (value_term format (most f ship) ship slot (value_at f ship slot)) ≡ 0 = at_value format f p ship x (most f ship) slot sits (within slot (omega arith) (omega arith)) ∙ ap (λ (b : Bool). cond b (counts format (most f ship) (unwrap_or (value_at f ship slot) 0)) 0) none in
+    omega (arith, total-append p (value_term format (most f ship) ship slot (value_at f ship slot)) (value_terms format f ship (slot + 1) more), rest, here)
   where
     less : (a b : ℕ) → a < b → a ≡ b → ⊥
     less a b lt e = omega (arith, lt, e)
 
-pub values_inside : (f : Problem) (p : Point) (ship x slot count : ℕ) → Sits f p ship x → IsWithin f slot count → slot ≤ x → x < slot + count → total p (value_terms f ship slot count) ≡ unwrap_or (value_at f ship x) 0
-values_inside f p ship x slot zero sits within le lt = absurd (omega (arith, le, lt))
-values_inside f p ship x slot (suc more) sits within le lt =
-    let both = total-append p (value_term ship slot (value_at f ship slot)) (value_terms f ship (slot + 1) more) in
-    let own = at_value f p ship x slot sits (within slot (omega arith) (omega arith)) in
+pub values_inside : (format : Format) (f : Problem) (p : Point) (ship x slot count : ℕ) → Sits f p ship x → IsWithin f slot count → slot ≤ x → x < slot + count → total p (value_terms format f ship slot count) ≡ counts format (most f ship) (unwrap_or (value_at f ship x) 0)
+values_inside format f p ship x slot zero sits within le lt = absurd (omega (arith, le, lt))
+values_inside format f p ship x slot (suc more) sits within le lt =
+    let both = total-append p (value_term format (most f ship) ship slot (value_at f ship slot)) (value_terms format f ship (slot + 1) more) in
+    let own = at_value format f p ship x (most f ship) slot sits (within slot (omega arith) (omega arith)) in
     elim (cases_eq x slot) [
       | inl same ↦
-          let here : total p (value_term ship slot (value_at f ship slot)) ≡ unwrap_or (value_at f ship slot) 0 = own ∙ ap (λ (b : Bool). cond b (unwrap_or (value_at f ship slot) 0) 0) (eq-eqb x slot same) in
-          let that : unwrap_or (value_at f ship slot) 0 ≡ unwrap_or (value_at f ship x) 0 = ap (λ (n : ℕ). unwrap_or (value_at f ship n) 0) (sym same) in
-          let rest : total p (value_terms f ship (slot + 1) more) ≡ 0 = values_outside f p ship x (slot + 1) more sits (within_rest f slot more within) (omega (arith, same)) in
+          let here : total p (value_term format (most f ship) ship slot (value_at f ship slot)) ≡ counts format (most f ship) (unwrap_or (value_at f ship slot) 0) = own ∙ ap (λ (b : Bool). cond b (counts format (most f ship) (unwrap_or (value_at f ship slot) 0)) 0) (eq-eqb x slot same) in
+          let that : counts format (most f ship) (unwrap_or (value_at f ship slot) 0) ≡ counts format (most f ship) (unwrap_or (value_at f ship x) 0) = ap (λ (n : ℕ). counts format (most f ship) (unwrap_or (value_at f ship n) 0)) (sym same) in
+          let rest : total p (value_terms format f ship (slot + 1) more) ≡ 0 = values_outside format f p ship x (slot + 1) more sits (within_rest f slot more within) (omega (arith, same)) in
           omega (arith, both, rest, here, that)
       | inr ne ↦
-          let here : total p (value_term ship slot (value_at f ship slot)) ≡ 0 = own ∙ ap (λ (b : Bool). cond b (unwrap_or (value_at f ship slot) 0) 0) (ne_eqb x slot ne) in
-          let rest : total p (value_terms f ship (slot + 1) more) ≡ unwrap_or (value_at f ship x) 0 = values_inside f p ship x (slot + 1) more sits (within_rest f slot more within) (later slot x le ne) (omega (arith, lt)) in
+          let here : total p (value_term format (most f ship) ship slot (value_at f ship slot)) ≡ 0 = own ∙ ap (λ (b : Bool). cond b (counts format (most f ship) (unwrap_or (value_at f ship slot) 0)) 0) (ne_eqb x slot ne) in
+          let rest : total p (value_terms format f ship (slot + 1) more) ≡ counts format (most f ship) (unwrap_or (value_at f ship x) 0) = values_inside format f p ship x (slot + 1) more sits (within_rest f slot more within) (later slot x le ne) (omega (arith, lt)) in
           omega (arith, both, rest, here)
     ]
   where

@@ -5,7 +5,7 @@ use Rattle.hw_model.specs.Problem.{Problem}
 use Rattle.hw_linear.specs.declared.format.Sense.TheVariants.{AtMost}
 use Rattle.hw_linear.specs.declared.span.Span.{Span}
 use Rattle.hw_linear.specs.Programmes.{Term, Row, Point, total, weight_of, SatisfiesRows}
-use Rattle.hw_linear.specs.Rows.{at_most, rows_from, terms_of}
+use Rattle.hw_linear.specs.Rows.{row_at_most, numbered_rows, terms_of}
 
 pub total-append : (p : Point) (a b : List Term) → total p (a ++ b) ≡ total p a + total p b
 total-append p [] b = omega arith
@@ -35,31 +35,31 @@ satisfies_parts p (row ∷ rows) b h =
     ((h.0, rest.0), rest.1)
 
 -- a row that is left out because all its terms together keep the bound is satisfied by every point
-pub at_most_holds : (f : Problem) (p : Point) (bound : ℕ) (spans : List Span) → total p (terms_of f spans) ≤ bound → SatisfiesRows p (at_most f bound spans)
+pub at_most_holds : (f : Problem) (p : Point) (bound : ℕ) (spans : List Span) → total p (terms_of f spans) ≤ bound → SatisfiesRows p (row_at_most f bound spans)
 at_most_holds f p bound spans le = by (nat_lt bound (weight_of (terms_of f spans)))
   where
     by : (b : Bool) → SatisfiesRows p (cond b (record { terms = terms_of f spans; sense = AtMost; bound = bound } ∷ []) [])
     by true = (le, tt)
     by false = tt
 
-pub at_most_gives : (f : Problem) (p : Point) (bound : ℕ) (spans : List Span) → SatisfiesRows p (at_most f bound spans) → total p (terms_of f spans) ≤ bound
+pub at_most_gives : (f : Problem) (p : Point) (bound : ℕ) (spans : List Span) → SatisfiesRows p (row_at_most f bound spans) → total p (terms_of f spans) ≤ bound
 at_most_gives f p bound spans h = by (nat_lt bound (weight_of (terms_of f spans))) refl h
   where
     by : (b : Bool) → nat_lt bound (weight_of (terms_of f spans)) ≡ b → SatisfiesRows p (cond b (record { terms = terms_of f spans; sense = AtMost; bound = bound } ∷ []) []) → total p (terms_of f spans) ≤ bound
     by true e h = h.0
     by false e h = omega (arith, ltb-false _ _ e, total_le p (terms_of f spans))
 
-pub rows_hold : (f : Problem) (p : Point) (bound : ℕ) (spans : ℕ → List Span) (k count : ℕ) → ((i : ℕ) → k ≤ i → i < k + count → total p (terms_of f (spans i)) ≤ bound) → SatisfiesRows p (rows_from f bound spans k count)
+pub rows_hold : (f : Problem) (p : Point) (bound : ℕ) (spans : ℕ → List Span) (k count : ℕ) → ((i : ℕ) → k ≤ i → i < k + count → total p (terms_of f (spans i)) ≤ bound) → SatisfiesRows p (numbered_rows f bound spans k count)
 rows_hold f p bound spans k zero h = tt
 rows_hold f p bound spans k (suc more) h =
-    satisfies-append p (at_most f bound (spans k)) (rows_from f bound spans (k + 1) more)
+    satisfies-append p (row_at_most f bound (spans k)) (numbered_rows f bound spans (k + 1) more)
     (at_most_holds f p bound (spans k) (h k (omega arith) (omega arith)))
     (rows_hold f p bound spans (k + 1) more (λ i le lt. h i (omega (arith, le)) (omega (arith, lt))))
 
-pub rows_give : (f : Problem) (p : Point) (bound : ℕ) (spans : ℕ → List Span) (k count : ℕ) → SatisfiesRows p (rows_from f bound spans k count) → (i : ℕ) → k ≤ i → i < k + count → total p (terms_of f (spans i)) ≤ bound
+pub rows_give : (f : Problem) (p : Point) (bound : ℕ) (spans : ℕ → List Span) (k count : ℕ) → SatisfiesRows p (numbered_rows f bound spans k count) → (i : ℕ) → k ≤ i → i < k + count → total p (terms_of f (spans i)) ≤ bound
 rows_give f p bound spans k zero h i le lt = absurd (omega arith)
 rows_give f p bound spans k (suc more) h i le lt =
-    let parts = satisfies_parts p (at_most f bound (spans k)) (rows_from f bound spans (k + 1) more) h in
+    let parts = satisfies_parts p (row_at_most f bound (spans k)) (numbered_rows f bound spans (k + 1) more) h in
     elim (cases_eq k i) [
       | inl same ↦ at i same (at_most_gives f p bound (spans k) parts.0)
       | inr ne ↦ rows_give f p bound spans (k + 1) more parts.1 i (later k i le ne) (omega (arith, lt))

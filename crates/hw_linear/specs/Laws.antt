@@ -1,10 +1,12 @@
 -- The laws of the programme of a flat problem.
-use Rattle.std.specs.Prelude.{◌≡◌, ◌<◌, ℕ, List, Some, slice_index, nat_eq, IsSome}
+use Rattle.std.specs.Prelude.{◌≡◌, ◌<◌, ◌+◌, ℕ, List, Some, slice_index, nat_eq, IsSome}
 use Rattle.hw_model.specs.Problem.{Problem, value_at}
 use Rattle.hw_model.specs.Limits.{IsFlat}
 use Rattle.hw_model.specs.Timetables.{Permits, cargo}
+use Rattle.hw_linear.specs.declared.format.Format.{Format}
+use Rattle.hw_linear.specs.declared.format.Format.TheVariants.{Lp, Opb}
 use Rattle.hw_linear.specs.Programmes.{Point, Satisfies, total}
-use Rattle.hw_linear.specs.Rows.{programme_of}
+use Rattle.hw_linear.specs.Rows.{most_from, programme_of}
 
 -- of each ship the variable of its slot in the timetable is 1, and its others are 0
 abbrev pub IsPointOf : Problem → List ℕ → Point → Type 0
@@ -12,10 +14,11 @@ IsPointOf f table p = (ship slot : ℕ) → ship < f.ships → slot < f.slots �
 
 -- the points that satisfy the programme are those of the permitted timetables, one for each
 pub record PointsArePermitted : Type 0 where
-  pub permitted_satisfies : (f : Problem) (table : List ℕ) (p : Point) → IsFlat f → Permits f table → IsPointOf f table p → Satisfies p (programme_of f)
-  pub satisfying_is_permitted : (f : Problem) (p : Point) → IsFlat f → Satisfies p (programme_of f) → (table : List ℕ) × Permits f table × IsPointOf f table p
+  pub permitted_satisfies : (format : Format) (f : Problem) (table : List ℕ) (p : Point) → IsFlat f → Permits f table → IsPointOf f table p → Satisfies p (programme_of format f)
+  pub satisfying_is_permitted : (format : Format) (f : Problem) (p : Point) → IsFlat f → Satisfies p (programme_of format f) → (table : List ℕ) × Permits f table × IsPointOf f table p
   pub one_timetable : (f : Problem) (table other : List ℕ) (p : Point) → Permits f table → Permits f other → IsPointOf f table p → IsPointOf f other p → table ≡ other
 
--- at the point of a permitted timetable the objective is its cargo
-abbrev pub ObjectiveIsCargo : Type 0
-ObjectiveIsCargo = (f : Problem) (table : List ℕ) (p : Point) → Permits f table → IsPointOf f table p → cargo f table ≡ Some (total p (programme_of f).objective)
+-- at the point of a permitted timetable the objective is its cargo, and in OPB what that lacks of the most that all ships may carry
+pub record ObjectiveIsCargo : Type 0 where
+  pub greatest : (f : Problem) (table : List ℕ) (p : Point) → Permits f table → IsPointOf f table p → cargo f table ≡ Some (total p (programme_of Lp f).objective)
+  pub least : (f : Problem) (table : List ℕ) (p : Point) (c : ℕ) → Permits f table → IsPointOf f table p → cargo f table ≡ Some c → total p (programme_of Opb f).objective + c ≡ most_from f 0 f.ships

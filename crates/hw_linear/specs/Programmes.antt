@@ -15,7 +15,7 @@ pub record Row : Type 0 where
   pub sense : Sense
   pub bound : ℕ
 
--- what is to be made greatest, with a term for each variable, and the rows
+-- what is to be made greatest or least, with a term for each variable, and the rows
 pub record Programme : Type 0 where
   pub objective : List Term
   pub rows : List Row
@@ -39,14 +39,14 @@ weight_of [] = 0
 weight_of (term ∷ terms) = term.weight + weight_of terms
 
 -- a sum keeps a bound
-abbrev pub Keeps : Sense → ℕ → ℕ → Type 0
-Keeps AtMost bound sum = sum ≤ bound
-Keeps Exactly bound sum = sum ≡ bound
+abbrev pub KeepsBound : Sense → ℕ → ℕ → Type 0
+KeepsBound AtMost bound sum = sum ≤ bound
+KeepsBound Exactly bound sum = sum ≡ bound
 
 -- the point satisfies each of the rows
 abbrev pub SatisfiesRows : Point → List Row → Type 0
 SatisfiesRows p [] = ⊤
-SatisfiesRows p (row ∷ rows) = Keeps row.sense row.bound (total p row.terms) × SatisfiesRows p rows
+SatisfiesRows p (row ∷ rows) = KeepsBound row.sense row.bound (total p row.terms) × SatisfiesRows p rows
 
 abbrev pub Satisfies : Point → Programme → Type 0
 Satisfies p programme = SatisfiesRows p programme.rows

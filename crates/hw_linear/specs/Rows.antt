@@ -6,6 +6,9 @@ use Rattle.hw_model.specs.declared.rule.Job.{Job}
 use Rattle.hw_model.specs.declared.rule.Rule.{Rule}
 use Rattle.hw_model.specs.declared.rule.Rule.TheVariants.{Pair, After, Tugs}
 use Rattle.hw_model.specs.Problem.{Problem, horizon, value_at}
+use Rattle.hw_model.specs.Refuting.{greatest_value}
+use Rattle.hw_linear.specs.declared.format.Format.{Format}
+use Rattle.hw_linear.specs.declared.format.Format.TheVariants.{Lp, Opb}
 use Rattle.hw_linear.specs.declared.format.Sense.TheVariants.{AtMost, Exactly}
 use Rattle.hw_linear.specs.declared.span.Span.{Span}
 use Rattle.hw_linear.specs.Programmes.{Term, Row, Programme, weight_of}
@@ -35,31 +38,46 @@ pub record SpanFits (f : Problem) (span : Span) : Type 0 where
   pub slots_in : span.to ≤ f.slots
   pub small : span.weight ≤ MOST_TUGS
 
--- ---- what is to be made greatest: the value of each ship in each slot
+-- ---- the objective
 
-abbrev pub value_term : ℕ → ℕ → Option ℕ → List Term
-value_term ship slot None = []
-value_term ship slot (Some value) = record { weight = value; ship = ship; slot = slot } ∷ []
+-- the most that a ship may carry
+abbrev pub most : Problem → ℕ → ℕ
+most f ship = greatest_value f ship 0 (f.slots - 1)
 
-abbrev pub value_terms : Problem → ℕ → ℕ → ℕ → List Term
-value_terms f ship slot zero = []
-value_terms f ship slot (suc more) = value_term ship slot (value_at f ship slot) ++ value_terms f ship (slot + 1) more
+-- what a value counts: in the LP format itself, and in OPB, which has least sums alone, what it lacks of the ship's most
+abbrev pub counts : Format → ℕ → ℕ → ℕ
+counts Lp top value = value
+counts Opb top value = top - value
+
+abbrev pub value_term : Format → ℕ → ℕ → ℕ → Option ℕ → List Term
+value_term format top ship slot None = []
+value_term format top ship slot (Some value) = record { weight = counts format top value; ship = ship; slot = slot } ∷ []
+
+-- those of `count` slots from this one on
+abbrev pub value_terms : Format → Problem → ℕ → ℕ → ℕ → List Term
+value_terms format f ship slot zero = []
+value_terms format f ship slot (suc more) = value_term format (most f ship) ship slot (value_at f ship slot) ++ value_terms format f ship (slot + 1) more
 
 -- those of `count` ships from this one on
-abbrev pub ships_terms : Problem → ℕ → ℕ → List Term
-ships_terms f ship zero = []
-ships_terms f ship (suc more) = value_terms f ship 0 f.slots ++ ships_terms f (ship + 1) more
+abbrev pub ships_terms : Format → Problem → ℕ → ℕ → List Term
+ships_terms format f ship zero = []
+ships_terms format f ship (suc more) = value_terms format f ship 0 f.slots ++ ships_terms format f (ship + 1) more
+
+-- the most that each of `count` ships from this one on may carry, added up
+abbrev pub most_from : Problem → ℕ → ℕ → ℕ
+most_from f ship zero = 0
+most_from f ship (suc more) = most f ship + most_from f (ship + 1) more
 
 -- ---- rows
 
 -- the row that a weight in some spans is at most a bound; none where all of them together are
-abbrev pub at_most : Problem → ℕ → List Span → List Row
-at_most f bound spans = if nat_lt bound (weight_of (terms_of f spans)) then record { terms = terms_of f spans; sense = AtMost; bound = bound } ∷ [] else []
+abbrev pub row_at_most : Problem → ℕ → List Span → List Row
+row_at_most f bound spans = if nat_lt bound (weight_of (terms_of f spans)) then record { terms = terms_of f spans; sense = AtMost; bound = bound } ∷ [] else []
 
 -- one such row for each of `count` numbers from this one on, over its own spans
-abbrev pub rows_from : Problem → ℕ → (ℕ → List Span) → ℕ → ℕ → List Row
-rows_from f bound spans k zero = []
-rows_from f bound spans k (suc more) = at_most f bound (spans k) ++ rows_from f bound spans (k + 1) more
+abbrev pub numbered_rows : Problem → ℕ → (ℕ → List Span) → ℕ → ℕ → List Row
+numbered_rows f bound spans k zero = []
+numbered_rows f bound spans k (suc more) = row_at_most f bound (spans k) ++ numbered_rows f bound spans (k + 1) more
 
 -- all slots of a ship, with weight 1
 abbrev pub whole_span : Problem → ℕ → Span
@@ -97,7 +115,7 @@ window_spans f v w hole last = first_window f v hole last ∷ partner f w hole (
 
 -- the windows of a hole: the first ship's end with each slot of the horizon, and after it while they begin in it
 abbrev pub window_rows : Problem → ℕ → ℕ → Hole → List Row
-window_rows f v w hole = rows_from f 1 (window_spans f v w hole) 0 (horizon f + width hole - 1)
+window_rows f v w hole = numbered_rows f 1 (window_spans f v w hole) 0 (horizon f + width hole - 1)
 
 abbrev pub hole_rows : Problem → ℕ → ℕ → List Hole → List Row
 hole_rows f v w [] = []
@@ -108,7 +126,7 @@ abbrev pub after_spans : Problem → ℕ → ℕ → ℕ → ℕ → List Span
 after_spans f v w gap slot = record { ship = v; from = slot; to = f.slots; weight = 1 } ∷ record { ship = w; from = 0; to = min (horizon f) (slot + gap); weight = 1 } ∷ []
 
 abbrev pub after_rows : Problem → ℕ → ℕ → ℕ → List Row
-after_rows f v w gap = rows_from f 1 (after_spans f v w gap) 0 f.slots
+after_rows f v w gap = numbered_rows f 1 (after_spans f v w gap) 0 f.slots
 
 -- the slots from which a job holds its tugs in a slot
 abbrev pub job_span : ℕ → Job → Span
@@ -119,7 +137,7 @@ job_spans jobs slot = map (job_span slot) jobs
 
 -- in each slot of the horizon no more tugs are held than the fleet has
 abbrev pub tug_rows : Problem → ℕ → List Job → List Row
-tug_rows f fleet jobs = rows_from f fleet (job_spans jobs) 0 (horizon f)
+tug_rows f fleet jobs = numbered_rows f fleet (job_spans jobs) 0 (horizon f)
 
 abbrev pub rule_rows : Problem → Rule → List Row
 rule_rows f (Pair v w holes) = hole_rows f v w holes
@@ -134,5 +152,6 @@ rules_rows f (rule ∷ rules) = rule_rows f rule ++ rules_rows f rules
 abbrev pub rows_of : Problem → List Row
 rows_of f = ship_rows f 0 f.ships ++ rules_rows f f.rules
 
-abbrev pub programme_of : Problem → Programme
-programme_of f = record { objective = ships_terms f 0 f.ships; rows = rows_of f }
+-- the objective is a greatest sum in the LP format, and a least sum in OPB
+abbrev pub programme_of : Format → Problem → Programme
+programme_of format f = record { objective = ships_terms format f 0 f.ships; rows = rows_of f }

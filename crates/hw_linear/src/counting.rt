@@ -3,9 +3,10 @@
 ghost use Rattle.std.specs.Prelude.{◌≡◌, ◌<◌, ◌≤◌, ◌+◌, ◌-◌, ◌*◌, All, map, length};
 ghost use Rattle.hw_model.specs.Limits.{HoleFits, RuleFits, TugsFit};
 ghost use Rattle.hw_model.specs.Problem.{horizon};
-ghost use Rattle.hw_model.specs.declared.limits.TheConstants.{MOST_SHIPS, MOST_SLOTS, MOST_RULES};
-ghost use Rattle.hw_linear.specs.Rows.{SpanFits, after_rows, at_most, hole_rows, job_span, rows_of, rule_rows, rules_rows, tug_rows, width, window_rows};
+ghost use Rattle.hw_model.specs.declared.limits.TheConstants.{MOST_HOLES, MOST_SHIPS, MOST_SLOTS, MOST_RULES};
+ghost use Rattle.hw_linear.specs.Rows.{SpanFits, after_rows, row_at_most, hole_rows, job_span, rows_of, rule_rows, rules_rows, tug_rows, width, window_rows};
 
+use crate::limits::{MOST_RULE_ROWS, MOST_WINDOWS};
 use crate::span::{Span, weight};
 use crate::windows::{after_spans, job_spans, width, window_spans};
 use hw_flat::Flat;
@@ -15,7 +16,7 @@ use hw_model::{Hole, Job, Rule, ShipId};
 fn count_at_most(flat: &Flat, bound: u32, spans: &[Span]) -> u32
     requires fit { All (SpanFits flat.now) spans.now }
     requires few { length spans.now ≤ MOST_SHIPS }
-    ensures value { result ≡ length (at_most flat.now bound spans.now) }
+    ensures value { result ≡ length (row_at_most flat.now bound spans.now) }
     ensures small { result ≤ 1 }
 {
     if bound < weight(flat, spans) { 1 } else { 0 }
@@ -27,7 +28,7 @@ fn count_hole(flat: &Flat, v: ShipId, w: ShipId, hole: Hole) -> u32
     requires first_in { v < flat.now.ships }
     requires second_in { w < flat.now.ships }
     ensures value { result ≡ length (window_rows flat.now v w hole) }
-    ensures small { result ≤ 1_535 }
+    ensures small { result ≤ MOST_WINDOWS }
 {
     let mut count = 0;
     for last in 0..flat.horizon() + width(hole) - 1 {
@@ -39,11 +40,11 @@ fn count_hole(flat: &Flat, v: ShipId, w: ShipId, hole: Hole) -> u32
 /// How many rows some holes have.
 fn count_holes(flat: &Flat, v: ShipId, w: ShipId, holes: &[Hole]) -> u32
     requires fit { All HoleFits holes.now }
-    requires few { length holes.now ≤ 8 }
+    requires few { length holes.now ≤ MOST_HOLES }
     requires first_in { v < flat.now.ships }
     requires second_in { w < flat.now.ships }
     ensures value { result ≡ length (hole_rows flat.now v w holes.now) }
-    ensures small { result ≤ 12_280 }
+    ensures small { result ≤ MOST_RULE_ROWS }
 {
     let mut count = 0;
     for hole in holes {
@@ -84,7 +85,7 @@ fn count_tugs(flat: &Flat, fleet: u32, jobs: &[Job]) -> u32
 fn count_rule(flat: &Flat, rule: &Rule) -> u32
     requires { RuleFits flat.now.ships rule.now }
     ensures value { result ≡ length (rule_rows flat.now rule.now) }
-    ensures small { result ≤ 12_280 }
+    ensures small { result ≤ MOST_RULE_ROWS }
 {
     match rule {
         Rule::Pair { v, w, holes } => count_holes(flat, *v, *w, &holes.items),
@@ -98,7 +99,7 @@ fn count_rules(flat: &Flat, rules: &[Rule]) -> u32
     requires fit { All (RuleFits flat.now.ships) rules.now }
     requires few { length rules.now ≤ MOST_RULES }
     ensures value { result ≡ length (rules_rows flat.now rules.now) }
-    ensures small { result ≤ 12_280 * MOST_RULES }
+    ensures small { result ≤ MOST_RULE_ROWS * MOST_RULES }
 {
     let mut count = 0;
     for rule in rules {
@@ -109,7 +110,8 @@ fn count_rules(flat: &Flat, rules: &[Rule]) -> u32
 
 /// How many rows there are. It goes through all terms once.
 pub(crate) fn count_rows(flat: &Flat) -> u32
-    ensures { result ≡ length (rows_of flat.now) }
+    ensures value { result ≡ length (rows_of flat.now) }
+    ensures few { result ≤ MOST_SHIPS + MOST_RULES * MOST_RULE_ROWS }
 {
     flat.shape().ships + count_rules(flat, flat.rules())
 }

@@ -2,7 +2,7 @@
 
 ghost use Rattle.std.specs.Prelude.{◌≡◌, ◌+◌, ◌*◌, ◌<◌};
 ghost use Rattle.hw_desk.specs.Writers.{Puts};
-ghost use Rattle.hw_linear.specs.Texts.{after_bound, before_bound, mark_of, name_text, number_text, row_end};
+ghost use Rattle.hw_linear.specs.Texts.{after_bound, before_bound, mark_of, name_text, numbered_variable, row_end};
 
 use hw_desk::Writer;
 use hw_flat::Flat;
@@ -74,11 +74,11 @@ fn number(flat: &Flat, ship: ShipId, slot: Slot) -> u64
 }
 
 /// Puts the number of a variable.
-#[tactic(auto, unfolding(crate::specs::Texts::number_text))]
+#[tactic(auto, unfolding(crate::specs::Texts::numbered_variable))]
 pub(crate) fn put_number<W: Writer>(out: &mut W, flat: &Flat, ship: ShipId, slot: Slot)
     requires ship_in { ship < flat.now.ships }
     requires slot_in { slot < flat.now.slots }
-    ensures { Puts (number_text flat.now.slots ship slot) (W.state out.old) (W.state out.new) }
+    ensures { Puts (numbered_variable flat.now.slots ship slot) (W.state out.old) (W.state out.new) }
 {
     out.put(b" x");
     out.put_number(number(flat, ship, slot));

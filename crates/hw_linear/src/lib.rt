@@ -2,11 +2,15 @@
 //!
 //! It has a variable for each ship and slot with a value. The 0-1 points that satisfy it are those of the permitted
 //! timetables, and its objective is their cargo. The text goes out row by row, without memory.
+//!
+//! For a hole of a pair the rows go over windows of slots of its two ships of which at most one is sailed in. For a
+//! precedence a row says that the second ship doesn't sail early where the first one has a slot or a later one.
 #![tactic(auto)]
 
 mod counting;
 mod format;
 mod laws;
+mod limits;
 mod programme;
 mod rows;
 mod span;
@@ -15,7 +19,8 @@ mod terms;
 mod windows;
 
 pub use format::{Format, Mark, Sense};
-pub use laws::{objective_is_cargo, points_are_permitted, worked_rows};
+pub use laws::{objective_is_cargo, points_are_permitted, worked_rows, worked_texts};
+pub use limits::{MOST_RULE_ROWS, MOST_SPAN_WEIGHT, MOST_SPANS, MOST_WINDOWS};
 pub use programme::{put_model, put_opb};
 pub use span::Span;
 pub use spans::Spans;

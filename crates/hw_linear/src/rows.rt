@@ -5,8 +5,8 @@ ghost use Rattle.hw_model.specs.Limits.{HoleFits, RuleFits, TugsFit};
 ghost use Rattle.hw_model.specs.Problem.{horizon};
 ghost use Rattle.hw_model.specs.declared.limits.TheConstants.{MOST_SHIPS, MOST_SLOTS};
 ghost use Rattle.hw_desk.specs.Writers.{Puts};
-ghost use Rattle.hw_linear.specs.Rows.{SpanFits, after_rows, at_most, hole_rows, job_span, rows_of, rule_rows, rules_rows, ship_row, ship_rows, span_terms, tug_rows, whole_span, width, window_rows};
-ghost use Rattle.hw_linear.specs.Texts.{row_text, rows_text, shown, terms_text};
+ghost use Rattle.hw_linear.specs.Rows.{SpanFits, after_rows, row_at_most, hole_rows, job_span, rows_of, rule_rows, rules_rows, ship_row, ship_rows, span_terms, tug_rows, whole_span, width, window_rows};
+ghost use Rattle.hw_linear.specs.Texts.{linear_row_text, rows_text, with_a_term, terms_text};
 
 use crate::format::{Format, Mark, Sense, mark_of, put_row_end};
 use crate::span::{Span, span_weight, weight};
@@ -20,7 +20,7 @@ use hw_model::{Hole, Job, Rule, ShipId};
 fn put_at_most<W: Writer>(out: &mut W, flat: &Flat, format: Format, bound: u32, spans: &[Span])
     requires fit { All (SpanFits flat.now) spans.now }
     requires few { length spans.now ≤ MOST_SHIPS }
-    ensures { Puts (rows_text format flat.now.slots (at_most flat.now bound spans.now)) (W.state out.old) (W.state out.new) }
+    ensures { Puts (rows_text format flat.now.slots (row_at_most flat.now bound spans.now)) (W.state out.old) (W.state out.new) }
 {
     if bound < weight(flat, spans) {
         put_spans(out, flat, mark_of(format, Sense::AtMost), spans);
@@ -33,7 +33,7 @@ fn put_at_most<W: Writer>(out: &mut W, flat: &Flat, format: Format, bound: u32, 
 /// Puts the terms of a ship's row.
 fn put_ship_terms<W: Writer>(out: &mut W, flat: &Flat, mark: Mark, ship: ShipId)
     requires ship_in { ship < flat.now.ships }
-    ensures { Puts (terms_text flat.now.slots mark (shown (span_terms flat.now (whole_span flat.now ship)))) (W.state out.old) (W.state out.new) }
+    ensures { Puts (terms_text flat.now.slots mark (with_a_term (span_terms flat.now (whole_span flat.now ship)))) (W.state out.old) (W.state out.new) }
 {
     let span = whole_span(flat, ship);
     if span_weight(flat, span) == 0 {
@@ -46,7 +46,7 @@ fn put_ship_terms<W: Writer>(out: &mut W, flat: &Flat, mark: Mark, ship: ShipId)
 /// Puts the row of a ship.
 fn put_ship_row<W: Writer>(out: &mut W, flat: &Flat, format: Format, ship: ShipId)
     requires ship_in { ship < flat.now.ships }
-    ensures { Puts (row_text format flat.now.slots (ship_row flat.now ship)) (W.state out.old) (W.state out.new) }
+    ensures { Puts (linear_row_text format flat.now.slots (ship_row flat.now ship)) (W.state out.old) (W.state out.new) }
 {
     put_ship_terms(out, flat, mark_of(format, Sense::Exactly), ship);
     put_row_end(out, format, Sense::Exactly, 1);

@@ -5,6 +5,7 @@ ghost use Rattle.hw_model.specs.declared.limits.TheConstants.{MOST_SHIPS};
 ghost use Rattle.hw_linear.specs.Programmes.{weight_of};
 ghost use Rattle.hw_linear.specs.Rows.{SpanFits, span_terms, term_at, terms_of};
 
+use crate::limits::MOST_SPAN_WEIGHT;
 use hw_flat::Flat;
 use hw_model::{ShipId, Slot};
 
@@ -36,7 +37,7 @@ fn slot_weight(flat: &Flat, weight: u32, ship: ShipId, slot: Slot) -> u32
 pub(crate) fn span_weight(flat: &Flat, span: Span) -> u32
     requires fits { SpanFits flat.now span }
     ensures value { result ≡ weight_of (span_terms flat.now span) }
-    ensures small { result ≤ 32_832 }
+    ensures small { result ≤ MOST_SPAN_WEIGHT }
 {
     let _slots = flat.shape();
     let mut sum = 0;

@@ -1,27 +1,28 @@
 //! A few spans, without memory.
 
 ghost use Rattle.std.specs.Prelude.{◌≡◌, ◌<◌, ◌++◌, [], ◌∷◌, length};
-ghost use Rattle.hw_model.specs.declared.limits.TheConstants.{MOST_SHIPS};
 
+use crate::limits::MOST_SPANS;
 use crate::span::Span;
 use std::marker::Model;
 
 /// At most as many spans as a problem has ships, seen as their list.
 #[derive(Drop)]
 pub struct Spans {
-    items: [Span; 40],
+    items: [Span; MOST_SPANS],
     len: usize,
 }
 
 impl Model for Spans {
     ghost use Rattle.std.specs.Prelude.{List, take, ◌≤◌};
     ghost use Rattle.hw_linear.specs.declared.span.Span.{Span};
+    ghost use Rattle.hw_linear.specs.declared.limits.TheConstants.{MOST_SPANS};
 
     ghost Value = { List Span };
 
     ghost view = { λ s. take s.len s.items };
 
-    ghost invariant = { λ s. s.len ≤ 40 };
+    ghost invariant = { λ s. s.len ≤ MOST_SPANS };
 }
 
 impl Spans {
@@ -36,7 +37,7 @@ impl Spans {
             weight: 0,
         };
         Spans {
-            items: [none; 40],
+            items: [none; MOST_SPANS],
             len: 0,
         }
     }
@@ -50,7 +51,7 @@ impl Spans {
 
     /// Appends one.
     pub fn push(&mut self, span: Span)
-        requires few { length self.old < MOST_SHIPS }
+        requires few { length self.old < MOST_SPANS }
         ensures { self.new ≡ self.old ++ span ∷ [] }
     {
         self.items[self.len] = span;

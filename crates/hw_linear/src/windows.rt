@@ -6,6 +6,7 @@ ghost use Rattle.hw_model.specs.Problem.{horizon};
 ghost use Rattle.hw_model.specs.declared.limits.TheConstants.{MOST_DIFFERENCE, MOST_SHIPS, MOST_SLOTS};
 ghost use Rattle.hw_linear.specs.Rows.{SpanFits, after_spans, first_window, job_span, job_spans, partner, slot_from, whole_span, width, window_spans};
 
+use crate::limits::MOST_WINDOWS;
 use crate::span::Span;
 use crate::spans::Spans;
 use hw_flat::Flat;
@@ -29,7 +30,7 @@ pub(crate) fn whole_span(flat: &Flat, ship: ShipId) -> Span
 pub(crate) fn width(hole: Hole) -> u32
     requires fits { HoleFits hole }
     ensures value { result ≡ width hole }
-    ensures small { result ≤ 1_024 }
+    ensures small { result ≤ MOST_DIFFERENCE + 1 }
 {
     slot_from(i64::from(hole.hi) - i64::from(hole.lo)) / 2 + 1
 }
@@ -45,7 +46,7 @@ fn slot_from(time: i64) -> u32
 /// The window of the first ship that ends with a slot.
 fn first_window(flat: &Flat, v: ShipId, hole: Hole, last: Slot) -> Span
     requires fits { HoleFits hole }
-    requires near { last ≤ 1_536 }
+    requires near { last ≤ MOST_WINDOWS }
     requires ship_in { v < flat.now.ships }
     ensures value { result ≡ first_window flat.now v hole last }
     ensures fits { SpanFits flat.now result }
@@ -69,7 +70,7 @@ fn partner_from(to: Slot, lo: i32) -> Slot
 
 /// The slot after the last one that a hole keeps apart from the first one of a window.
 fn partner_to(from: Slot, hi: i32) -> Slot
-    requires near { from ≤ 1_536 }
+    requires near { from ≤ MOST_WINDOWS }
     requires small { hi ≤ℤ pos MOST_DIFFERENCE }
     ensures { result ≡ slot_from ((pos from +ℤ hi) +ℤ pos 1) }
 {
@@ -79,7 +80,7 @@ fn partner_to(from: Slot, hi: i32) -> Slot
 /// The sailing slots of the second ship that a hole keeps apart from each slot of a window of the first one.
 fn partner(flat: &Flat, w: ShipId, hole: Hole, first: Span) -> Span
     requires fits { HoleFits hole }
-    requires near { first.from ≤ 1_536 }
+    requires near { first.from ≤ MOST_WINDOWS }
     requires first_in { first.to ≤ MOST_SLOTS }
     requires ship_in { w < flat.now.ships }
     ensures value { result ≡ partner flat.now w hole first }
@@ -96,7 +97,7 @@ fn partner(flat: &Flat, w: ShipId, hole: Hole, first: Span) -> Span
 /// The two windows of a hole of which the first one ends with a slot.
 pub(crate) fn window_spans(flat: &Flat, v: ShipId, w: ShipId, hole: Hole, last: Slot) -> [Span; 2]
     requires fits { HoleFits hole }
-    requires near { last ≤ 1_536 }
+    requires near { last ≤ MOST_WINDOWS }
     requires first_in { v < flat.now.ships }
     requires second_in { w < flat.now.ships }
     ensures value { result ≡ window_spans flat.now v w hole last }

@@ -2,7 +2,7 @@ use Rattle.std.proofs.Common.{◌≡◌, ◌∙◌, sym, ap, arith}
 use Rattle.hw_desk.proofs.Written.{puts_same}
 use Rattle.hw_linear.specs.Programmes.{weight_of}
 use Rattle.hw_linear.specs.Rows.{span_terms, whole_span}
-use Rattle.hw_linear.specs.Texts.{shown, terms_text}
+use Rattle.hw_linear.specs.Texts.{with_a_term, terms_text}
 use Rattle.hw_linear.proofs.Empty.{without_terms}
 use Rattle.hw_linear.proofs.Onward.{heavy_some, shown_some}
 use Rattle.hw_linear.proofs.rows.put_ship_terms.Goals as goal
@@ -10,7 +10,7 @@ use Rattle.hw_linear.proofs.rows.put_ship_terms.Goals as goal
 pub returns-then-span_weight-eq0 : goal.returns-then-span_weight-eq0
 returns-then-span_weight-eq0 g c =
     let weight : c.span_weight.result ≡ weight_of (span_terms c.args.flat.now (whole_span c.args.flat.now c.args.ship)) = rw c.whole_span-span.ensures.value at c.span_weight.ensures.value in
-    puts_same _ (ap (λ ts. terms_text c.args.flat.now.slots c.args.mark (shown ts)) (without_terms c.args.flat.now c.args.ship (sym weight ∙ c.if-span_weight-eq0.true))) c.put_no_terms.ensures
+    puts_same _ (ap (λ ts. terms_text c.args.flat.now.slots c.args.mark (with_a_term ts)) (without_terms c.args.flat.now c.args.ship (sym weight ∙ c.if-span_weight-eq0.true))) c.put_no_terms.ensures
 
 pub returns-else-span_weight-eq0 : goal.returns-else-span_weight-eq0
 returns-else-span_weight-eq0 g c =

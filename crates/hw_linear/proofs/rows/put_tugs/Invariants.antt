@@ -1,7 +1,7 @@
 use Rattle.std.proofs.Common.{◌-◌}
 use Rattle.hw_desk.specs.Writers.{WriterState, Puts}
 use Rattle.hw_model.specs.Problem.{horizon}
-use Rattle.hw_linear.specs.Rows.{job_spans, rows_from, tug_rows}
+use Rattle.hw_linear.specs.Rows.{job_spans, numbered_rows, tug_rows}
 use Rattle.hw_linear.specs.Texts.{rows_text}
 use Rattle.hw_linear.proofs.rows.put_tugs.Given as goal
 
@@ -9,4 +9,4 @@ use Rattle.hw_linear.proofs.rows.put_tugs.Given as goal
 abbrev pub invariant-loop-slot : goal.invariant-loop-slot
 invariant-loop-slot g l =
     let state = g.W.Writer.state in
-    (end : WriterState) → Puts (rows_text l.format l.flat.slots (rows_from l.flat l.fleet (job_spans l.jobs) l.slot (horizon l.flat - l.slot))) (state l.out) end → Puts (rows_text l.format l.flat.slots (tug_rows l.flat l.fleet l.jobs)) (state l.fn.out) end
+    (end : WriterState) → Puts (rows_text l.format l.flat.slots (numbered_rows l.flat l.fleet (job_spans l.jobs) l.slot (horizon l.flat - l.slot))) (state l.out) end → Puts (rows_text l.format l.flat.slots (tug_rows l.flat l.fleet l.jobs)) (state l.fn.out) end
