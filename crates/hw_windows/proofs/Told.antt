@@ -1,5 +1,5 @@
 -- What the line of a run says of each of its slots.
-use Rattle.std.proofs.Common.{◌≡◌, ◌↔◌, ◌<◌, ◌≤◌, ◌+◌, ℕ, ℤ, pos, negsuc, ◌≤ℤ◌, ◌<ℤ◌, int_le, Bool, true, false, Option, Some, IsTrue, slice_get, length, refl, sym, ap, subst, arith}
+use Rattle.std.proofs.Common.{◌≡◌, ◌↔◌, ◌≤◌, ◌+◌, ℕ, ℤ, pos, negsuc, ◌≤ℤ◌, int_le, true, Some, slice_get, refl, subst, arith}
 use Rattle.std.proofs.lemmas.Bool.{and_from, and_parts}
 use Rattle.std.proofs.lemmas.Int.{ints}
 use Rattle.hw_port.proofs.Keeping.{le_from_test}
@@ -8,7 +8,7 @@ use Rattle.hw_port.specs.Parts.{ShipParts}
 use Rattle.hw_port.specs.Whole.{Parts}
 use Rattle.hw_tide.specs.Levels.{TideParts}
 use Rattle.hw_port_rules.specs.Numbers.{whole}
-use Rattle.hw_port_rules.specs.Drafts.{in_window, sailing_draft}
+use Rattle.hw_port_rules.specs.Drafts.{sailing_draft}
 use Rattle.hw_windows.specs.declared.run.Run.{Run}
 use Rattle.hw_windows.specs.declared.status.Status.{Status}
 use Rattle.hw_windows.specs.declared.status.Status.TheVariants.{Sails, Shallow, TidesEnd}

@@ -1,7 +1,7 @@
 //! The report of when each ship of a port may sail, and why not.
 //!
-//! The slots from a ship's earliest to its latest are told in the longest runs of one kind. They are told of by the port's own
-//! drafts and its tide, and the text is a function of these two. It takes no memory.
+//! The slots from a ship's earliest to its latest are told in the longest runs of one kind, by the port's own drafts and its
+//! tide. The text is a function of these two, and takes no memory.
 #![tactic(auto)]
 
 mod asked;

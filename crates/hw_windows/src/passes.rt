@@ -7,7 +7,7 @@ ghost use Rattle.hw_port.specs.Kept.{PassKept, PortKept, WaypointKept, Within};
 ghost use Rattle.hw_port_rules.specs.Numbers.{whole};
 ghost use Rattle.hw_port_rules.specs.Drafts.{draft_at};
 ghost use Rattle.hw_tide.specs.Levels.{height_at};
-ghost use Rattle.hw_windows.specs.Passes.{last_pass, later, limiting, made_at};
+ghost use Rattle.hw_windows.specs.Passes.{last_pass, limiting};
 ghost use Rattle.hw_windows.specs.Windows.{waypoint_name};
 
 use hw_model::{MOST_SLOTS, Slot};
@@ -117,33 +117,6 @@ pub fn limiting(parts: &PortParts, tide: &Tide, slot: Slot, draft: i64, route: &
     }
 }
 
-/// The waypoint of a pass, and how many slots after sailing it is made.
-fn made_at(waypoints: usize, pass: &Pass) -> LastPass
-    requires few { waypoints ≤ 16 }
-    requires pass { PassKept (pos waypoints) pass.now }
-    ensures value { result ≡ made_at pass.now }
-    ensures few { result.offset ≤ 1_023 }
-{
-    LastPass {
-        waypoint: natural(pass.waypoint),
-        offset: natural(pass.offset),
-    }
-}
-
-/// The later of two passes.
-fn later(one: LastPass, other: LastPass) -> LastPass
-    requires one { one.offset ≤ 1_023 }
-    requires other { other.offset ≤ 1_023 }
-    ensures value { result ≡ later one other }
-    ensures few { result.offset ≤ 1_023 }
-{
-    if one.offset < other.offset {
-        other
-    } else {
-        one
-    }
-}
-
 /// The last pass of a route.
 pub fn last_pass(waypoints: usize, route: &[Pass]) -> LastPass
     requires few { waypoints ≤ 16 }
@@ -151,11 +124,19 @@ pub fn last_pass(waypoints: usize, route: &[Pass]) -> LastPass
     ensures value { result ≡ last_pass route.now }
     ensures few { result.offset ≤ 1_023 }
 {
-    match route {
-        [] => LastPass {
+    let [pass, more @ ..] = route else {
+        return LastPass {
             waypoint: 0,
             offset: 0,
-        },
-        [pass, more @ ..] => later(made_at(waypoints, pass), last_pass(waypoints, more)),
+        };
+    };
+    let last = last_pass(waypoints, more);
+    let offset = natural(pass.offset);
+    if offset < last.offset {
+        return last;
+    }
+    LastPass {
+        waypoint: natural(pass.waypoint),
+        offset,
     }
 }
