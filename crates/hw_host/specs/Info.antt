@@ -25,7 +25,7 @@ info_of (word ∷ other ∷ words) = None
 abbrev pub form_text : Form → List ℕ → List ℕ
 form_text form purpose = codes "  " ++ usage form ++ codes "\n      " ++ purpose ++ codes "\n"
 
--- some forms, each with its own of these
+-- forms, each with what it does
 abbrev pub forms_text : List Form → List (List ℕ) → List ℕ
 forms_text [] purposes = []
 forms_text (form ∷ more) [] = []

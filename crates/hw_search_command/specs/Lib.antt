@@ -4,3 +4,4 @@ pub mod Certified
 pub mod Finding
 pub mod Searching
 pub mod Searches
+pub mod Rows

@@ -8,11 +8,13 @@
 
 mod command;
 mod finding;
+mod laws;
 mod order;
 mod reporting;
 mod searcher;
 mod searching;
 
 pub use command::search_subject;
+pub use laws::cut_rows;
 pub use order::{MOST_TURNS, Order};
 pub use searcher::Search;
