@@ -67,8 +67,7 @@ stands_for s v table d m permits e =
 pub best_of : (s : Subject) (v : s.Value) (table : List ℕ) (d : ℕ) → IsModelled s v → IsBest (judged s v) table d → IsBestOf s v table (own_worth (s.plan v) (s.problem v).ships d) × (moved_by (s.plan v) table ≡ own_moves (s.plan v) (s.problem v).ships d)
 best_of s v table d m best =
     let own = stands_for s v table d m best.permitted best.worth in
-    let first = leads (s.problem v) (s.plan v) table d m.fits best in
-    (
+    let first = leads (s.problem v) (s.plan v) table d m.fits best in (
       record {
         permitted = own.permitted;
         worth = own.worth;

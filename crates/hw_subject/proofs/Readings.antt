@@ -16,7 +16,6 @@ use Rattle.hw_command.proofs.FlatForms.{gives_problem}
 use Rattle.hw_command.proofs.PortForms.{port_given, gives_tide}
 use Rattle.hw_command.proofs.Stops.{further}
 use Rattle.hw_repair.specs.Repaired.{repaired}
-
 use Rattle.hw_subject.specs.PlanInputs.{ReadsRepair, report_of_plan}
 use Rattle.hw_subject.specs.Plans.{IsPlanOf, IsPlanText}
 use Rattle.hw_subject.specs.Reading.{AllGive, ReadsSubject, StopsAtSubject}
