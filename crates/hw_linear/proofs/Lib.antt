@@ -5,3 +5,4 @@ pub mod Kept
 pub mod Found
 pub mod Onward
 pub mod Empty
+pub mod Few

@@ -1,12 +1,14 @@
 -- The laws of the programme of a flat problem.
-use Rattle.std.specs.Prelude.{◌≡◌, ◌<◌, ◌+◌, ℕ, List, Some, slice_index, nat_eq, IsSome}
+use Rattle.std.specs.Prelude.{◌≡◌, ◌<◌, ◌≤◌, ◌+◌, ◌*◌, ℕ, List, length, Some, slice_index, nat_eq, IsSome}
+use Rattle.hw_model.specs.declared.limits.TheConstants.{MOST_SHIPS, MOST_RULES}
+use Rattle.hw_linear.specs.declared.limits.TheConstants.{MOST_RULE_ROWS}
 use Rattle.hw_model.specs.Problem.{Problem, value_at}
 use Rattle.hw_model.specs.Limits.{IsFlat}
 use Rattle.hw_model.specs.Timetables.{Permits, cargo}
 use Rattle.hw_linear.specs.declared.format.Format.{Format}
 use Rattle.hw_linear.specs.declared.format.Format.TheVariants.{Lp, Opb}
 use Rattle.hw_linear.specs.Programmes.{Point, Satisfies, total}
-use Rattle.hw_linear.specs.Rows.{most_from, programme_of}
+use Rattle.hw_linear.specs.Rows.{most_from, programme_of, rows_of}
 
 -- of each ship the variable of its slot in the timetable is 1, and its others are 0
 abbrev pub IsPointOf : Problem → List ℕ → Point → Type 0
@@ -22,3 +24,7 @@ pub record PointsArePermitted : Type 0 where
 pub record ObjectiveIsCargo : Type 0 where
   pub greatest : (f : Problem) (table : List ℕ) (p : Point) → Permits f table → IsPointOf f table p → cargo f table ≡ Some (total p (programme_of Lp f).objective)
   pub least : (f : Problem) (table : List ℕ) (p : Point) (c : ℕ) → Permits f table → IsPointOf f table p → cargo f table ≡ Some c → total p (programme_of Opb f).objective + c ≡ most_from f 0 f.ships
+
+-- a row for each ship, and some for each rule
+abbrev pub RowsAreFew : Type 0
+RowsAreFew = (f : Problem) → IsFlat f → length (rows_of f) ≤ MOST_SHIPS + MOST_RULES * MOST_RULE_ROWS

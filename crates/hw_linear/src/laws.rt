@@ -1,6 +1,6 @@
 //! The laws of the programme of a flat problem.
 
-ghost use Rattle.hw_linear.specs.Laws.{ObjectiveIsCargo, PointsArePermitted};
+ghost use Rattle.hw_linear.specs.Laws.{ObjectiveIsCargo, PointsArePermitted, RowsAreFew};
 ghost use Rattle.hw_linear.specs.Worked.{WorkedRows, WorkedTexts};
 
 /// The 0-1 points that satisfy the programme are those of the permitted timetables, one for each.
@@ -22,4 +22,9 @@ pub fn worked_rows()
 /// The texts of small problems, worked out by hand.
 pub fn worked_texts()
     ensures { WorkedTexts }
+{}
+
+/// There are at most 49,120,040 rows.
+pub fn rows_are_few()
+    ensures { RowsAreFew }
 {}

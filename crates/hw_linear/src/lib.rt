@@ -19,7 +19,7 @@ mod terms;
 mod windows;
 
 pub use format::{Format, Mark, Sense};
-pub use laws::{objective_is_cargo, points_are_permitted, worked_rows, worked_texts};
+pub use laws::{objective_is_cargo, points_are_permitted, rows_are_few, worked_rows, worked_texts};
 pub use limits::{MOST_RULE_ROWS, MOST_SPAN_WEIGHT, MOST_SPANS, MOST_WINDOWS};
 pub use programme::{put_model, put_opb};
 pub use span::Span;
