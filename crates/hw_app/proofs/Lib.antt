@@ -1,7 +1,5 @@
-mod FlattenWorks
 mod RunFaults
 mod Owned
-mod Demonstrated
 mod Told
 mod Decided
 mod Reports

@@ -24,7 +24,7 @@ use Rattle.hw_chart_command.proofs.Decided.{DrawnBy, decided as chart_decided}
 use Rattle.hw_chart_command.proofs.Verified.{alike, checked_by}
 use Rattle.hw_clash_command.specs.Texts.{plan_report}
 use Rattle.hw_clash_command.proofs.Decided.{ReportedBy as ClashReportedBy, decided as clash_decided, one_clash_report_law}
-use Rattle.hw_app.specs.Flattening.{FlattensTexts}
+use Rattle.hw_problem_command.specs.Flattening.{FlattensTexts}
 use Rattle.hw_app.specs.LawsOfReports.{ChartOf, ClashCheckOf, OneCertificateReport, OneChart, OneClashReport, OneFlatText, PrintedBounds, VerifiedAsChecked, ChartsAsVerified, ChartsAsChecked}
 use Rattle.hw_app.specs.Told.{itself, plainly}
 use Rattle.hw_app.proofs.Decided.{Last, IsReported, as_check, by_cert, carried, check_reported, one_across, one_check}

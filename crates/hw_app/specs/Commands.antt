@@ -6,7 +6,7 @@ use Rattle.hw_subject.specs.Subjects.{Origin, Topic, flat_text, port_of, origin_
 use Rattle.hw_search_command.specs.Orders.{order_in}
 use Rattle.hw_search_command.specs.declared.searcher.Search.{Search}
 use Rattle.hw_search_command.specs.declared.searcher.Search.TheVariants.{Solve, Prove, Crew}
-use Rattle.hw_app.specs.Demo.{CanDraw}
+use Rattle.hw_problem_command.specs.Demo.{CanDraw}
 use Rattle.hw_app.specs.Forms.{form_of, name_in, number_in, word_in, words_of}
 use Rattle.hw_app.specs.declared.command.Command.{Command as Told}
 use Rattle.hw_app.specs.declared.command.Command.TheVariants as told

@@ -14,7 +14,7 @@ use Rattle.hw_chart_command.specs.Charts.{Charts}
 use Rattle.hw_chart_command.specs.Laws.{IsChartOf}
 use Rattle.hw_clash_command.specs.CheckClash.{ClashChecks}
 use Rattle.hw_clash_command.specs.ExplainPort.{ExplainsTexts}
-use Rattle.hw_app.specs.Flattening.{FlattensTexts}
+use Rattle.hw_problem_command.specs.Flattening.{FlattensTexts}
 use Rattle.hw_app.specs.Told.{OriginTold, IsTold, plainly}
 
 -- no two reports are said

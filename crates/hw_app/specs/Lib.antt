@@ -1,5 +1,3 @@
-pub mod Flattening
-pub mod Demo
 pub mod Forms
 pub mod Usage
 pub mod Commands

@@ -18,9 +18,9 @@ use Rattle.hw_clash_command.specs.CheckClash.{check_clash_task}
 use Rattle.hw_clash_command.specs.ExplainPort.{explain_port_task}
 use Rattle.hw_listing_command.specs.Listings.{model_task, opb_task, windows_task}
 use Rattle.hw_audit_command.specs.AuditPort.{audit_port_task}
+use Rattle.hw_problem_command.specs.Flattening.{flatten_task}
+use Rattle.hw_problem_command.specs.Demo.{demo_task}
 use Rattle.hw_app.specs.Commands.{Command, search, check, verify, renew, chart, clash, check_clash, explain, windows, model, opb, audit, flatten, demo, command_of}
-use Rattle.hw_app.specs.Flattening.{flatten_task}
-use Rattle.hw_app.specs.Demo.{demo_task}
 
 -- what a command has to do
 abbrev pub task_of : Command → Task

@@ -1,7 +1,7 @@
 //! A command, with its names and numbers.
 
-use crate::demo::Draw;
 use hw_command::PortNames;
+use hw_problem_command::Draw;
 use hw_search_command::Search;
 use hw_subject::{Source, Subject};
 

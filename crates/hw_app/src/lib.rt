@@ -1,14 +1,12 @@
 //! The top call: the words of a command line become a command, whose work over a desk ends in a report.
 //!
-//! The forms of the commands are a table, and each command is read by it. `flatten` and `demo` stand
-//! here, the other commands in crates of their own; what every command keeps is said and proved in
-//! `hw_command`.
+//! The forms of the commands are a table, and each command is read by it. What a command has to do is its
+//! task (`task_of`), which `run` carries out by the crate of that command; the laws speak of several runs
+//! and of their reports. What every command keeps is said and proved in `hw_command`.
 #![tactic(auto)]
 
 mod calm;
 mod command;
-mod demo;
-mod flatten;
 mod form;
 mod laws;
 mod report_laws;

@@ -6,8 +6,6 @@ ghost use Rattle.hw_desk.specs.State.{IsNewDesk};
 ghost use Rattle.hw_app.specs.Run.{RunMeets};
 
 use crate::command::Command;
-use crate::demo::demo;
-use crate::flatten::flatten_port;
 use crate::words::read_command;
 use hw_audit_command::audit_port;
 use hw_chart_command::chart;
@@ -16,6 +14,7 @@ use hw_clash_command::{check_clash, clash, explain_port};
 use hw_command::{Status, finish};
 use hw_desk::Desk;
 use hw_listing_command::{list_model, list_opb, list_windows};
+use hw_problem_command::{demo, flatten_port};
 use hw_report::Report;
 use hw_search_command::search_subject;
 use std::alloc::Global;

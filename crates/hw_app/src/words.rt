@@ -3,12 +3,11 @@
 ghost use Rattle.std.specs.Prelude.{◌≡◌, ◌≤◌, IfOk, length, map, string_bytes};
 ghost use Rattle.hw_search_command.specs.Orders.{order_in};
 ghost use Rattle.hw_subject.specs.Subjects.{origin_seen, plan_seen, topic_seen};
+ghost use Rattle.hw_problem_command.specs.Demo.{CanDraw};
 ghost use Rattle.hw_app.specs.Commands.{KeepsLimits, command_by, command_in, command_of, command_seen, origin_in, read_seen, search_in, topic_in};
-ghost use Rattle.hw_app.specs.Demo.{CanDraw};
 ghost use Rattle.hw_app.specs.Forms.{agreed, first_fitting, form_of, furthest, is_value, least_of, most_of, name_in, number_in, takes, word_in, word_where};
 
 use crate::command::Command;
-use crate::demo::Draw;
 use crate::form::{
     AUDIT, CHART, CHECK, CLASH, CREW, EXPLAIN, FLATTEN, FORMS, Form, MODEL, OPB, PROVE, Quantity,
     RENEW, REPAIR, SOLVE, VERIFY, Value, WINDOWS, Wanted, keyword_text, least_of, most_of,
@@ -16,6 +15,7 @@ use crate::form::{
 };
 use hw_command::PortNames;
 use hw_desk::Feed;
+use hw_problem_command::Draw;
 use hw_search::Branching;
 use hw_search_command::{Order, Search};
 use hw_subject::{Source, Subject};

@@ -1,6 +1,6 @@
 use Rattle.hw_flat.specs.Demonstration.{demonstration}
-use Rattle.hw_app.proofs.Demonstrated.{memory_meets, sent_meets, broken_meets}
-use Rattle.hw_app.proofs.demo.demo.Goals as goal
+use Rattle.hw_problem_command.proofs.Demonstrated.{memory_meets, sent_meets, broken_meets}
+use Rattle.hw_problem_command.proofs.demonstration.demo.Goals as goal
 
 pub returns-in-Err : goal.returns-in-Err
 returns-in-Err g c = memory_meets (demonstration c.args.draw.number c.args.draw.ships c.args.draw.slots) c.args.budget c.args.proof.now c.finish.ensures

@@ -1,5 +1,5 @@
-use Rattle.hw_app.proofs.Demonstrated.{never_failed, demonstrates_of}
-use Rattle.hw_app.proofs.demo.show.Goals as goal
+use Rattle.hw_problem_command.proofs.Demonstrated.{never_failed, demonstrates_of}
+use Rattle.hw_problem_command.proofs.demonstration.show.Goals as goal
 
 pub head_of-requires : goal.head_of-requires
 head_of-requires c = record { logged = never_failed c.solve_kept-solved.ensures }

@@ -1,5 +1,5 @@
-use Rattle.hw_app.proofs.FlattenWorks.{flatten_stops, memory_meets, text_meets}
-use Rattle.hw_app.proofs.flatten.flatten_port.Goals as goal
+use Rattle.hw_problem_command.proofs.FlattenWorks.{flatten_stops, memory_meets, text_meets}
+use Rattle.hw_problem_command.proofs.flatten.flatten_port.Goals as goal
 
 pub returns-in-Err : goal.returns-in-Err
 returns-in-Err g c = flatten_stops c.args.port.instance.now c.args.port.tides.now c.in-Err.ensures.no_problem c.finish.ensures

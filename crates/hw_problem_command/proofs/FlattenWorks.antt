@@ -18,7 +18,7 @@ use Rattle.hw_command.specs.declared.status.Status.{Status}
 use Rattle.hw_command.proofs.Begun.{answers, wants_memory}
 use Rattle.hw_command.proofs.PortForms.{by_fault, port_given}
 use Rattle.hw_command.proofs.Stops.{stops_carries}
-use Rattle.hw_app.specs.Flattening.{IsFlatTextOf, FlattenSays, flatten_task}
+use Rattle.hw_problem_command.specs.Flattening.{IsFlatTextOf, FlattenSays, flatten_task}
 
 -- there is no port
 pub flatten_stops : {x y z : DeskState} {r : Report} {s : Status} (instance table : List ℕ) → StopsAtPort instance table x y r → Ends (r ∷ []) y z s → Carries (flatten_task instance table) x z s

@@ -15,7 +15,7 @@ ghost use Rattle.hw_report.specs.Printing.{CanPrint};
 ghost use Rattle.hw_report.specs.Reports.{demo as summary_of};
 ghost use Rattle.hw_report.specs.Seen.{report_seen};
 ghost use Rattle.hw_command.specs.Carries.{Carries};
-ghost use Rattle.hw_app.specs.Demo.{CanDraw, Demonstrates, best_in, demo_task, head_of};
+ghost use Rattle.hw_problem_command.specs.Demo.{CanDraw, Demonstrates, best_in, demo_task, head_of};
 
 use hw_cert::{Line, MemoryLog, Verdict};
 use hw_check::{CheckStop, Checker};
@@ -47,7 +47,7 @@ struct Shown {
 }
 
 /// Draws the problem, solves it and checks the certificate in memory, and then sends the certificate
-/// to Proof and reports. Proof isn't made if memory runs out.
+/// to Proof and reports. The budget is in lemmas. Proof isn't made if memory runs out.
 pub fn demo<D: Desk>(alloc: Global, desk: &mut D, draw: Draw, budget: u32, proof: &str) -> Status
     requires draw { CanDraw draw.ships draw.slots }
     requires least { 1 ≤ budget }

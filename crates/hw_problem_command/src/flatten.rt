@@ -7,7 +7,7 @@ ghost use Rattle.hw_report.specs.Printing.{CanPrint};
 ghost use Rattle.hw_report.specs.Reports.{whole_text};
 ghost use Rattle.hw_report.specs.Seen.{report_seen};
 ghost use Rattle.hw_command.specs.Carries.{Carries};
-ghost use Rattle.hw_app.specs.Flattening.{flatten_task};
+ghost use Rattle.hw_problem_command.specs.Flattening.{flatten_task};
 
 use hw_command::{PortNames, Status, finish, read_port_problem};
 use hw_desk::Desk;

@@ -26,7 +26,7 @@ use Rattle.hw_report.specs.Reports.{demo, no_memory}
 use Rattle.hw_report.specs.declared.report.Head.{Head}
 use Rattle.hw_report.specs.declared.report.Head.TheVariants as heads
 use Rattle.hw_command.specs.Carries.{Carries}
-use Rattle.hw_app.specs.Demo.{Demonstrates, IsFound, best_in, head_of, demo_task}
+use Rattle.hw_problem_command.specs.Demo.{Demonstrates, IsFound, best_in, head_of, demo_task}
 use Rattle.hw_command.specs.Ends.{Ends}
 use Rattle.hw_command.specs.Sending.{SendsTo}
 use Rattle.hw_command.specs.declared.status.Status.{Status}

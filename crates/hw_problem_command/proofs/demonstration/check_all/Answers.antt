@@ -1,6 +1,6 @@
 use Rattle.std.proofs.Common.{◌<◌, length, arith}
-use Rattle.hw_app.proofs.Demonstrated.{can_take, next_fits, next_plain, next_line, one_taken}
-use Rattle.hw_app.proofs.demo.check_all.Goals as goal
+use Rattle.hw_problem_command.proofs.Demonstrated.{can_take, next_fits, next_plain, next_line, one_taken}
+use Rattle.hw_problem_command.proofs.demonstration.check_all.Goals as goal
 
 pub check_one-requires-clause-valid : goal.check_one-requires-clause-valid
 check_one-requires-clause-valid c =

@@ -1,0 +1,2 @@
+mod FlattenWorks
+mod Demonstrated
