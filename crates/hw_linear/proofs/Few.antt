@@ -12,7 +12,7 @@ use Rattle.hw_laws.proofs.Horizon.{slots_le}
 use Rattle.hw_linear.specs.declared.format.Sense.TheVariants.{AtMost}
 use Rattle.hw_linear.specs.declared.span.Span.{Span}
 use Rattle.hw_linear.specs.Programmes.{Row, weight_of}
-use Rattle.hw_linear.specs.Rows.{terms_of, row_at_most, numbered_rows, slot_from, width, window_spans, window_rows, hole_rows, after_spans, job_spans, rule_rows, rules_rows, rows_of, ship_rows}
+use Rattle.hw_linear.specs.Rows.{terms_of, row_at_most, numbered_rows, slot_from, width, group_spans, window_rows, hole_rows, after_spans, job_spans, rule_rows, rules_rows, rows_of, ship_rows}
 use Rattle.hw_linear.proofs.Holes.{le_slot_from}
 use Rattle.hw_linear.proofs.Empty.{length-ship_rows}
 
@@ -37,7 +37,7 @@ width_few hole fits =
     half n few = omega (arith, few)
 
 windows_few : (f : Problem) (v w : ℕ) (hole : Hole) → horizon f ≤ 512 → HoleFits hole → length (window_rows f v w hole) ≤ 1535
-windows_few f v w hole short fits = omega (arith, numbered_few f 1 (window_spans f v w hole) 0 (horizon f + width hole - 1), width_few hole fits, short)
+windows_few f v w hole short fits = omega (arith, numbered_few f 1 (group_spans f v w hole) 0 (horizon f + width hole - 1), width_few hole fits, short)
 
 holes_few : (f : Problem) (v w : ℕ) (holes : List Hole) → horizon f ≤ 512 → All HoleFits holes → length (hole_rows f v w holes) ≤ 1535 * length holes
 holes_few f v w [] short fit = omega arith

@@ -15,7 +15,9 @@ use Rattle.hw_linear.specs.Programmes.{Point, total, Satisfies, SatisfiesRows}
 use Rattle.hw_linear.specs.Rows.{term_at, terms_from, span_terms, whole_span, ship_rows, rules_rows, programme_of, counts, most, most_from, value_terms, ships_terms, SpanFits}
 use Rattle.hw_linear.proofs.Sums.{total-append, satisfies-append, satisfies_parts}
 use Rattle.hw_linear.proofs.Sits.{Sits, in_span, values_inside}
-use Rattle.hw_linear.proofs.Kept.{Seated, rules_satisfied, rules_kept}
+use Rattle.hw_linear.proofs.Grouped.{Seated}
+use Rattle.hw_linear.proofs.Kept.{rules_satisfied, rules_kept}
+use Rattle.hw_linear.proofs.Cleared.{keeps_clear}
 
 -- ---- one slot of a ship
 
@@ -119,7 +121,7 @@ permitted_seated f table p permits point ship lt = record {
 pub satisfied : (format : Format) (f : Problem) (table : List ℕ) (p : Point) → IsFlat f → Permits f table → IsPointOf f table p → Satisfies p (programme_of format f)
 satisfied format f table p flat permits point =
     let seated = permitted_seated f table p permits point in
-    satisfies-append p (ship_rows f 0 f.ships) (rules_rows f f.rules) (ships_satisfied f p table 0 f.ships seated (omega arith)) (rules_satisfied f p table f.rules seated flat.each_rule permits.keeps)
+    satisfies-append p (ship_rows f 0 f.ships) (rules_rows f f.rules) (ships_satisfied f p table 0 f.ships seated (omega arith)) (rules_satisfied f p table f.rules seated (keeps_clear f table permits.keeps) flat.each_rule permits.keeps)
 
 pub permitted : (format : Format) (f : Problem) (p : Point) → IsFlat f → Satisfies p (programme_of format f) → (table : List ℕ) × Permits f table × IsPointOf f table p
 permitted format f p flat satisfies =

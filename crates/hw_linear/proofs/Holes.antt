@@ -6,6 +6,7 @@ use Rattle.std.proofs.Math.Nat.{div-le_self}
 use Rattle.hw_model.specs.declared.rule.Hole.{Hole}
 use Rattle.hw_model.specs.Problem.{Problem, horizon}
 use Rattle.hw_model.specs.Rules.{misses}
+use Rattle.hw_linear.specs.declared.span.Span.{Span}
 use Rattle.hw_linear.specs.Rows.{slot_from, width, first_window, partner}
 use Rattle.hw_linear.proofs.Sits.{IsIn}
 
@@ -41,12 +42,12 @@ width_le hole le =
 
 -- ---- what windows keep apart
 
--- slots of the two windows lie in the hole
-pub window_in_hole : (f : Problem) (v w : ℕ) (hole : Hole) (last x y : ℕ) → IsIn x (first_window f v hole last) → IsIn y (partner f w hole (first_window f v hole last)) → misses (pos y -ℤ pos x) hole ≡ false
-window_in_hole f v w hole last x y i j =
-    held (last + 1 - width hole) (min (last + 1) (horizon f)) i.0 i.1
-    (slot_from_le ((pos (min (last + 1) (horizon f)) -ℤ pos 1) +ℤ hole.lo) y j.0)
-    (lt_slot_from ((pos (last + 1 - width hole) +ℤ hole.hi) +ℤ pos 1) y (omega (arith, j.1)))
+-- slots of a span and of its partner lie in the hole
+pub partner_in_hole : (f : Problem) (w : ℕ) (hole : Hole) (span : Span) (x y : ℕ) → IsIn x span → IsIn y (partner f w hole span) → misses (pos y -ℤ pos x) hole ≡ false
+partner_in_hole f w hole span x y i j =
+    held span.from span.to i.0 i.1
+    (slot_from_le ((pos span.to -ℤ pos 1) +ℤ hole.lo) y j.0)
+    (lt_slot_from ((pos span.from +ℤ hole.hi) +ℤ pos 1) y (omega (arith, j.1)))
   where
     between : (d : ℤ) → hole.lo ≤ℤ d → d ≤ℤ hole.hi → misses d hole ≡ false
     between d p q = grind (arith, ints)

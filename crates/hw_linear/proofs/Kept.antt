@@ -3,7 +3,7 @@ use Rattle.std.proofs.Common.{◌≡◌, ℕ, zero, suc, ◌+◌, ◌-◌, ◌<�
 use Rattle.std.specs.Prelude.{◌-ℤ◌, ◌⊎◌}
 use Rattle.std.specs.List.{list_all}
 use Rattle.std.proofs.lemmas.Bool.{and_parts, and_from, and_left, and_right, or_cases, or_left, or_right, both_ways, cases_Bool, cases_lt, leb-true, le-leb, lt-leb, lt-ltb, le-ltb, not_from_false}
-use Rattle.std.proofs.lemmas.List.Elements.{All-head, All-map, All-tail}
+use Rattle.std.proofs.lemmas.List.Elements.{All-cons, All-head, All-map, All-nil, All-tail}
 use Rattle.std.proofs.lemmas.List.Sums.{sum_by-cons}
 use Rattle.hw_model.specs.declared.rule.Hole.{Hole}
 use Rattle.hw_model.specs.declared.rule.Job.{Job}
@@ -16,14 +16,11 @@ use Rattle.hw_laws.proofs.Counting.{all_of_range, range_all}
 use Rattle.hw_laws.proofs.Horizon.{horizon_le}
 use Rattle.hw_linear.specs.declared.span.Span.{Span}
 use Rattle.hw_linear.specs.Programmes.{Point, total, SatisfiesRows}
-use Rattle.hw_linear.specs.Rows.{SpanFits, span_terms, terms_of, first_window, partner, window_spans, window_rows, hole_rows, width, after_spans, job_span, job_spans, rule_rows, rules_rows}
+use Rattle.hw_linear.specs.Rows.{SpanFits, span_terms, terms_of, first_window, partner, window_spans, group_spans, window_rows, hole_rows, width, after_spans, job_span, job_spans, rule_rows, rules_rows}
 use Rattle.hw_linear.proofs.Sums.{total-append, satisfies-append, satisfies_parts, rows_hold, rows_give}
-use Rattle.hw_linear.proofs.Sits.{Sits, IsIn, in_span, not_in_span, in_or_not, AreTwo, two_hold, two_apart}
-use Rattle.hw_linear.proofs.Holes.{window_in_hole, IsFound, find_window}
-
--- each ship sits in its slot of the timetable
-abbrev pub Seated : Problem → Point → List ℕ → Type 0
-Seated f p table = (ship : ℕ) → ship < f.ships → Sits f p ship (slice_index table ship)
+use Rattle.hw_linear.proofs.Sits.{IsIn, in_span, not_in_span, in_or_not, AreTwo, two_hold, two_apart}
+use Rattle.hw_linear.proofs.Holes.{partner_in_hole, IsFound, find_window}
+use Rattle.hw_linear.proofs.Grouped.{Seated, Clear, Sails, grown_holds, grown_more}
 
 -- ---- pairs
 
@@ -43,12 +40,18 @@ window_two f p table v w hole last seated a b = record {
   second_one = refl;
 }
 
-hole_satisfied : (f : Problem) (p : Point) (table : List ℕ) (v w : ℕ) (hole : Hole) → Seated f p table → v < f.ships → w < f.ships
+window_sails : (f : Problem) (v w : ℕ) (hole : Hole) (last : ℕ) → v < f.ships → w < f.ships → All (Sails f) (window_spans f v w hole last)
+window_sails f v w hole last a b =
+    All-cons (Sails f) (first_window f v hole last) (partner f w hole (first_window f v hole last) ∷ []) (record { ship_in = a; slots_in = omega arith; one = refl })
+    (All-cons (Sails f) (partner f w hole (first_window f v hole last)) [] (record { ship_in = b; slots_in = omega arith; one = refl }) (All-nil (Sails f)))
+
+hole_satisfied : (f : Problem) (p : Point) (table : List ℕ) (v w : ℕ) (hole : Hole) → Seated f p table → Clear f table → v < f.ships → w < f.ships
     → ((slice_index table v < horizon f) → (slice_index table w < horizon f) → misses (pos (slice_index table w) -ℤ pos (slice_index table v)) hole ≡ true) → SatisfiesRows p (window_rows f v w hole)
-hole_satisfied f p table v w hole seated a b holds =
-    rows_hold f p 1 (window_spans f v w hole) 0 (horizon f + width hole - 1)
-    (λ last le lt. two_hold f p (slice_index table v) (slice_index table w) (first_window f v hole last) (partner f w hole (first_window f v hole last)) (window_two f p table v w hole last seated a b)
-    (λ i j. both_ways _ (window_in_hole f v w hole last (slice_index table v) (slice_index table w) i j) (holds (omega (arith, i.1)) (omega (arith, j.1)))))
+hole_satisfied f p table v w hole seated clear a b holds =
+    rows_hold f p 1 (group_spans f v w hole) 0 (horizon f + width hole - 1)
+    (λ last le lt. grown_holds f p table (window_spans f v w hole last) 0 f.ships seated clear (omega arith) (window_sails f v w hole last a b)
+    (two_hold f p (slice_index table v) (slice_index table w) (first_window f v hole last) (partner f w hole (first_window f v hole last)) (window_two f p table v w hole last seated a b)
+    (λ i j. both_ways _ (partner_in_hole f w hole (first_window f v hole last) (slice_index table v) (slice_index table w) i j) (holds (omega (arith, i.1)) (omega (arith, j.1))))))
 
 hole_kept : (f : Problem) (p : Point) (table : List ℕ) (v w : ℕ) (hole : Hole) → Seated f p table → v < f.ships → w < f.ships → hole.lo ≤ℤ hole.hi
     → slice_index table v < horizon f → slice_index table w < horizon f → SatisfiesRows p (window_rows f v w hole) → misses (pos (slice_index table w) -ℤ pos (slice_index table v)) hole ≡ true
@@ -56,19 +59,19 @@ hole_kept f p table v w hole seated a b ordered x_in y_in satisfied = by (cases_
   where
     against : IsFound f v w hole (slice_index table v) (slice_index table w) → ⊥
     against found = two_apart f p (slice_index table v) (slice_index table w) (first_window f v hole found.last) (partner f w hole (first_window f v hole found.last)) (window_two f p table v w hole found.last seated a b)
-        (rows_give f p 1 (window_spans f v w hole) 0 (horizon f + width hole - 1) satisfied found.last (omega arith) (omega (arith, found.few))) found.first found.second
+        (omega (arith, grown_more f p (window_spans f v w hole found.last) 0 f.ships, rows_give f p 1 (group_spans f v w hole) 0 (horizon f + width hole - 1) satisfied found.last (omega arith) (omega (arith, found.few)))) found.first found.second
 
     by : (misses (pos (slice_index table w) -ℤ pos (slice_index table v)) hole ≡ true) ⊎ (misses (pos (slice_index table w) -ℤ pos (slice_index table v)) hole ≡ false) → misses (pos (slice_index table w) -ℤ pos (slice_index table v)) hole ≡ true
     by (inl e) = e
     by (inr e) = absurd (against (find_window f v w hole (slice_index table v) (slice_index table w) x_in y_in ordered e))
 
-holes_satisfied : (f : Problem) (p : Point) (table : List ℕ) (v w : ℕ) (holes : List Hole) → Seated f p table → v < f.ships → w < f.ships
+holes_satisfied : (f : Problem) (p : Point) (table : List ℕ) (v w : ℕ) (holes : List Hole) → Seated f p table → Clear f table → v < f.ships → w < f.ships
     → ((slice_index table v < horizon f) → (slice_index table w < horizon f) → list_all (misses (pos (slice_index table w) -ℤ pos (slice_index table v))) holes ≡ true) → SatisfiesRows p (hole_rows f v w holes)
-holes_satisfied f p table v w [] seated a b holds = tt
-holes_satisfied f p table v w (hole ∷ holes) seated a b holds =
+holes_satisfied f p table v w [] seated clear a b holds = tt
+holes_satisfied f p table v w (hole ∷ holes) seated clear a b holds =
     satisfies-append p (window_rows f v w hole) (hole_rows f v w holes)
-    (hole_satisfied f p table v w hole seated a b (λ x_in y_in. (and_parts _ _ (holds x_in y_in)).0))
-    (holes_satisfied f p table v w holes seated a b (λ x_in y_in. (and_parts _ _ (holds x_in y_in)).1))
+    (hole_satisfied f p table v w hole seated clear a b (λ x_in y_in. (and_parts _ _ (holds x_in y_in)).0))
+    (holes_satisfied f p table v w holes seated clear a b (λ x_in y_in. (and_parts _ _ (holds x_in y_in)).1))
 
 holes_kept : (f : Problem) (p : Point) (table : List ℕ) (v w : ℕ) (holes : List Hole) → Seated f p table → v < f.ships → w < f.ships → All HoleFits holes
     → slice_index table v < horizon f → slice_index table w < horizon f → SatisfiesRows p (hole_rows f v w holes) → list_all (misses (pos (slice_index table w) -ℤ pos (slice_index table v))) holes ≡ true
@@ -171,7 +174,7 @@ tugs_kept f p table fleet jobs seated fit satisfied =
 -- ---- rules
 
 -- a pair that holds clears its holes where both ships sail
-cleared : (f : Problem) (x y : ℕ) (c : Bool) → (stays f x || stays f y || c) ≡ true → x < horizon f → y < horizon f → c ≡ true
+pub cleared : (f : Problem) (x y : ℕ) (c : Bool) → (stays f x || stays f y || c) ≡ true → x < horizon f → y < horizon f → c ≡ true
 cleared f x y c holds x_in y_in = by (or_cases _ c holds)
   where
     neither : (stays f x ≡ true) ⊎ (stays f y ≡ true) → ⊥
@@ -190,22 +193,22 @@ clears f x y c h = by (cases_lt x (horizon f)) (cases_lt y (horizon f))
     by (inl lt) (inr past) = or_left (stays f x || stays f y) c (or_right (stays f x) (stays f y) (le-leb _ _ past))
     by (inl lt) (inl lt') = or_right (stays f x || stays f y) c (h lt lt')
 
-rule_satisfied : (f : Problem) (p : Point) (table : List ℕ) (rule : Rule) → Seated f p table → RuleFits f.ships rule → rule_holds f table rule ≡ true → SatisfiesRows p (rule_rows f rule)
-rule_satisfied f p table (Pair v w holes) seated fits holds = holes_satisfied f p table v w holes seated (omega (arith, fits.ascends, fits.ship_in)) fits.ship_in (λ x_in y_in. cleared f (slice_index table v) (slice_index table w) _ holds x_in y_in)
-rule_satisfied f p table (After v w gap) seated fits holds = after_satisfied f p table v w gap seated fits.first_in fits.second_in holds
-rule_satisfied f p table (Tugs fleet jobs) seated fits holds = tugs_satisfied f p table fleet jobs seated fits.each_job holds
+rule_satisfied : (f : Problem) (p : Point) (table : List ℕ) (rule : Rule) → Seated f p table → Clear f table → RuleFits f.ships rule → rule_holds f table rule ≡ true → SatisfiesRows p (rule_rows f rule)
+rule_satisfied f p table (Pair v w holes) seated clear fits holds = holes_satisfied f p table v w holes seated clear (omega (arith, fits.ascends, fits.ship_in)) fits.ship_in (λ x_in y_in. cleared f (slice_index table v) (slice_index table w) _ holds x_in y_in)
+rule_satisfied f p table (After v w gap) seated clear fits holds = after_satisfied f p table v w gap seated fits.first_in fits.second_in holds
+rule_satisfied f p table (Tugs fleet jobs) seated clear fits holds = tugs_satisfied f p table fleet jobs seated fits.each_job holds
 
 rule_kept : (f : Problem) (p : Point) (table : List ℕ) (rule : Rule) → Seated f p table → RuleFits f.ships rule → SatisfiesRows p (rule_rows f rule) → rule_holds f table rule ≡ true
 rule_kept f p table (Pair v w holes) seated fits satisfied = clears f (slice_index table v) (slice_index table w) (list_all (misses (pos (slice_index table w) -ℤ pos (slice_index table v))) holes) (λ x_in y_in. holes_kept f p table v w holes seated (omega (arith, fits.ascends, fits.ship_in)) fits.ship_in fits.each_hole x_in y_in satisfied)
 rule_kept f p table (After v w gap) seated fits satisfied = after_kept f p table v w gap seated fits.first_in fits.second_in satisfied
 rule_kept f p table (Tugs fleet jobs) seated fits satisfied = tugs_kept f p table fleet jobs seated fits.each_job satisfied
 
-pub rules_satisfied : (f : Problem) (p : Point) (table : List ℕ) (rules : List Rule) → Seated f p table → All (RuleFits f.ships) rules → ((place : ℕ) → IfSome (slice_get rules place) (λ rule. IsTrue (rule_holds f table rule))) → SatisfiesRows p (rules_rows f rules)
-rules_satisfied f p table [] seated fit keeps = tt
-rules_satisfied f p table (rule ∷ rules) seated fit keeps =
+pub rules_satisfied : (f : Problem) (p : Point) (table : List ℕ) (rules : List Rule) → Seated f p table → Clear f table → All (RuleFits f.ships) rules → ((place : ℕ) → IfSome (slice_get rules place) (λ rule. IsTrue (rule_holds f table rule))) → SatisfiesRows p (rules_rows f rules)
+rules_satisfied f p table [] seated clear fit keeps = tt
+rules_satisfied f p table (rule ∷ rules) seated clear fit keeps =
     satisfies-append p (rule_rows f rule) (rules_rows f rules)
-    (rule_satisfied f p table rule seated (All-head (RuleFits f.ships) rule rules fit) (keeps 0))
-    (rules_satisfied f p table rules seated (All-tail (RuleFits f.ships) rule rules fit) (λ place. keeps (suc place)))
+    (rule_satisfied f p table rule seated clear (All-head (RuleFits f.ships) rule rules fit) (keeps 0))
+    (rules_satisfied f p table rules seated clear (All-tail (RuleFits f.ships) rule rules fit) (λ place. keeps (suc place)))
 
 pub rules_kept : (f : Problem) (p : Point) (table : List ℕ) (rules : List Rule) → Seated f p table → All (RuleFits f.ships) rules → SatisfiesRows p (rules_rows f rules) → (place : ℕ) → IfSome (slice_get rules place) (λ rule. IsTrue (rule_holds f table rule))
 rules_kept f p table [] seated fit satisfied place = tt

@@ -1,7 +1,10 @@
 pub mod Sums
 pub mod Sits
 pub mod Holes
+pub mod Grouped
 pub mod Kept
+pub mod Between
+pub mod Cleared
 pub mod Found
 pub mod Onward
 pub mod Empty

@@ -1,6 +1,7 @@
 -- The 0-1 linear programme of a flat problem.
-use Rattle.std.specs.Prelude.{◌≤◌, ◌<◌, ℕ, zero, suc, ◌+◌, ◌-◌, ◌/◌, min, ℤ, pos, negsuc, ◌+ℤ◌, ◌-ℤ◌, nat_lt, is_some, if◌then◌else◌, List, [], ◌∷◌, ◌++◌, map, Option, Some, None}
-use Rattle.hw_model.specs.declared.limits.TheConstants.{MOST_TUGS}
+use Rattle.std.specs.Prelude.{◌≡◌, ◌≤◌, ◌<◌, ℕ, zero, suc, ◌+◌, ◌-◌, ◌/◌, min, max, ℤ, pos, negsuc, neg_ℤ, ◌+ℤ◌, ◌-ℤ◌, nat_eq, nat_lt, ◌&&◌, is_some, if◌then◌else◌, List, [], ◌∷◌, ◌++◌, map, slice_get, slice_index_or, Option, Some, None}
+use Rattle.hw_model.specs.declared.limits.TheConstants.{MOST_SHIPS, MOST_TUGS}
+use Rattle.hw_linear.specs.declared.limits.TheConstants.{MOST_WINDOWS}
 use Rattle.hw_model.specs.declared.rule.Hole.{Hole}
 use Rattle.hw_model.specs.declared.rule.Job.{Job}
 use Rattle.hw_model.specs.declared.rule.Rule.{Rule}
@@ -113,9 +114,86 @@ partner f w hole first = record { ship = w; from = slot_from ((pos first.to -ℤ
 abbrev pub window_spans : Problem → ℕ → ℕ → Hole → ℕ → List Span
 window_spans f v w hole last = first_window f v hole last ∷ partner f w hole (first_window f v hole last) ∷ []
 
+-- ---- groups of ships
+
+-- a hole of a pair, seen from its second ship
+abbrev pub turned : Hole → Hole
+turned hole = record { lo = neg_ℤ hole.hi; hi = neg_ℤ hole.lo }
+
+abbrev pub turned_of : Option Hole → Option Hole
+turned_of None = None
+turned_of (Some hole) = Some (turned hole)
+
+-- the first hole of a pair, seen from the first of these two ships; none in a rule on others
+abbrev pub hole_in : Rule → ℕ → ℕ → Option Hole
+hole_in (Pair a b holes) v w = if nat_eq a v && nat_eq b w then slice_get holes 0 else if nat_eq a w && nat_eq b v then turned_of (slice_get holes 0) else None
+hole_in (After a b gap) v w = None
+hole_in (Tugs fleet jobs) v w = None
+
+abbrev pub or_else : Option Hole → Option Hole → Option Hole
+or_else None other = other
+or_else (Some hole) other = Some hole
+
+-- that of the first pair of these two ships
+abbrev pub hole_between : List Rule → ℕ → ℕ → Option Hole
+hole_between [] v w = None
+hole_between (rule ∷ rules) v w = or_else (hole_in rule v w) (hole_between rules v w)
+
+-- a table has it for each two ships
+abbrev pub IsTable : Problem → List (List (Option Hole)) → Type 0
+IsTable f table = (v w : ℕ) → v < MOST_SHIPS → w < MOST_SHIPS → slice_index_or (slice_index_or table v []) w None ≡ hole_between f.rules v w
+
+-- all slots in which a ship may sail
+abbrev pub sailing : Problem → ℕ → Span
+sailing f ship = record { ship = ship; from = 0; to = horizon f; weight = 1 }
+
+-- the sailing slots of a ship that a hole keeps apart from each slot of a span; none where the two ships have no hole
+abbrev pub apart_by : Problem → ℕ → Span → Option Hole → Span
+apart_by f ship span None = record { ship = ship; from = 0; to = 0; weight = 1 }
+apart_by f ship span (Some hole) = partner f ship hole span
+
+abbrev pub apart_from : Problem → ℕ → Span → Span
+apart_from f ship span = apart_by f ship span (hole_between f.rules span.ship ship)
+
+-- the slots of two spans
+abbrev pub meet : Span → Span → Span
+meet a b = record { ship = a.ship; from = max a.from b.from; to = min a.to b.to; weight = 1 }
+
+-- those of a span that are kept apart from each slot of some spans
+abbrev pub joint_from : Problem → ℕ → Span → List Span → Span
+joint_from f ship joint [] = joint
+joint_from f ship joint (span ∷ spans) = joint_from f ship (meet joint (apart_from f ship span)) spans
+
+abbrev pub joint : Problem → ℕ → List Span → Span
+joint f ship spans = joint_from f ship (sailing f ship) spans
+
+-- spans of which at most one is sailed in, and with them the span of a ship that is kept apart from all of them, where it has a value there
+abbrev pub with_ship : Problem → List Span → ℕ → List Span
+with_ship f spans ship = if nat_eq (weight_of (span_terms f (joint f ship spans))) 0 then spans else spans ++ joint f ship spans ∷ []
+
+-- grown by `count` ships from this one on
+abbrev pub grown_from : Problem → List Span → ℕ → ℕ → List Span
+grown_from f spans ship zero = spans
+grown_from f spans ship (suc more) = grown_from f (with_ship f spans ship) (ship + 1) more
+
+-- grown by each ship in turn
+abbrev pub grown : Problem → List Span → List Span
+grown f spans = grown_from f spans 0 f.ships
+
+-- a span of sailing slots of weight 1
+pub record IsWindow (f : Problem) (span : Span) : Type 0 where
+  pub ship_in : span.ship < f.ships
+  pub near : span.from ≤ MOST_WINDOWS
+  pub slots_in : span.to ≤ horizon f
+  pub one : span.weight ≡ 1
+
+-- two windows of a hole, grown to a group of ships of which at most one sails in its window
+abbrev pub group_spans : Problem → ℕ → ℕ → Hole → ℕ → List Span
+group_spans f v w hole last = grown f (window_spans f v w hole last)
+
 -- the windows of a hole: the first ship's end with each slot of the horizon, and after it while they begin in it
 abbrev pub window_rows : Problem → ℕ → ℕ → Hole → List Row
-window_rows f v w hole = numbered_rows f 1 (window_spans f v w hole) 0 (horizon f + width hole - 1)
+window_rows f v w hole = numbered_rows f 1 (group_spans f v w hole) 0 (horizon f + width hole - 1)
 
 abbrev pub hole_rows : Problem → ℕ → ℕ → List Hole → List Row
 hole_rows f v w [] = []

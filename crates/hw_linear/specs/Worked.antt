@@ -30,6 +30,10 @@ most_tugs fleet terms = record { terms = terms; sense = AtMost; bound = fleet }
 abbrev pub two_apart : Problem
 two_apart = record { ships = 2; slots = 3; stay = false; values = Some 10 ∷ Some 20 ∷ Some 30 ∷ Some 10 ∷ None ∷ Some 30 ∷ []; rules = Pair 0 1 (record { lo = neg_ℤ (pos 1); hi = pos 1 } ∷ []) ∷ [] }
 
+-- three ships that want the one slot, and a fourth one that is kept apart from the first alone
+abbrev pub three_apart : Problem
+three_apart = record { ships = 4; slots = 1; stay = false; values = Some 10 ∷ Some 20 ∷ Some 30 ∷ Some 40 ∷ []; rules = Pair 0 1 (record { lo = pos 0; hi = pos 0 } ∷ []) ∷ Pair 0 2 (record { lo = pos 0; hi = pos 0 } ∷ []) ∷ Pair 1 2 (record { lo = pos 0; hi = pos 0 } ∷ []) ∷ Pair 0 3 (record { lo = pos 0; hi = pos 0 } ∷ []) ∷ [] }
+
 -- the second ship sails a slot after the first or later, and only the first one may stay
 abbrev pub one_waits : Problem
 one_waits = record { ships = 2; slots = 3; stay = true; values = Some 1 ∷ Some 2 ∷ Some 0 ∷ Some 3 ∷ Some 4 ∷ None ∷ []; rules = After 0 1 1 ∷ [] }
@@ -44,6 +48,7 @@ nowhere = record { ships = 1; slots = 1; stay = false; values = None ∷ []; rul
 
 pub record WorkedRows : Type 0 where
   pub two_apart_rows : rows_of two_apart ≡ exactly_one (one 0 0 ∷ one 0 1 ∷ one 0 2 ∷ []) ∷ exactly_one (one 1 0 ∷ one 1 2 ∷ []) ∷ most_one (one 0 0 ∷ one 1 0 ∷ []) ∷ most_one (one 0 0 ∷ one 0 1 ∷ one 1 0 ∷ []) ∷ most_one (one 0 1 ∷ one 0 2 ∷ one 1 2 ∷ []) ∷ most_one (one 0 2 ∷ one 1 2 ∷ []) ∷ []
+  pub three_apart_rows : rules_rows three_apart three_apart.rules ≡ most_one (one 0 0 ∷ one 1 0 ∷ one 2 0 ∷ []) ∷ most_one (one 0 0 ∷ one 2 0 ∷ one 1 0 ∷ []) ∷ most_one (one 1 0 ∷ one 2 0 ∷ one 0 0 ∷ []) ∷ most_one (one 0 0 ∷ one 3 0 ∷ []) ∷ []
   pub one_waits_rows : rules_rows one_waits one_waits.rules ≡ most_one (one 0 0 ∷ one 0 1 ∷ one 0 2 ∷ one 1 0 ∷ []) ∷ most_one (one 0 1 ∷ one 0 2 ∷ one 1 0 ∷ one 1 1 ∷ []) ∷ most_one (one 0 2 ∷ one 1 0 ∷ one 1 1 ∷ []) ∷ []
   pub three_tugs_rows : rules_rows (tug_pair 3) (tug_pair 3).rules ≡ most_tugs 3 (two 0 0 ∷ two 1 0 ∷ []) ∷ most_tugs 3 (two 0 0 ∷ two 0 1 ∷ two 1 1 ∷ []) ∷ []
   pub four_tugs_rows : rules_rows (tug_pair 4) (tug_pair 4).rules ≡ most_tugs 4 (two 0 0 ∷ two 0 1 ∷ two 1 1 ∷ []) ∷ []

@@ -2,8 +2,11 @@
 
 use hw_model::{MOST_DIFFERENCE, MOST_HOLES, MOST_SHIPS, MOST_SLOTS, MOST_TUGS};
 
-/// Spans of a row.
-pub const MOST_SPANS: usize = MOST_SHIPS as usize;
+/// Ships of a group.
+pub const MOST_GROUP: usize = MOST_SHIPS as usize;
+
+/// Spans of a row: two windows of a hole, and one for each ship that may be added to them.
+pub const MOST_SPANS: usize = MOST_GROUP + 2;
 
 /// The weight of all terms of a span.
 pub const MOST_SPAN_WEIGHT: u32 = MOST_TUGS * (MOST_SLOTS + 1);

@@ -1,11 +1,10 @@
 //! Slots of a ship, and the terms of their variables.
 
 ghost use Rattle.std.specs.Prelude.{◌≡◌, ◌<◌, ◌≤◌, ◌*◌, All, length};
-ghost use Rattle.hw_model.specs.declared.limits.TheConstants.{MOST_SHIPS};
 ghost use Rattle.hw_linear.specs.Programmes.{weight_of};
 ghost use Rattle.hw_linear.specs.Rows.{SpanFits, span_terms, term_at, terms_of};
 
-use crate::limits::MOST_SPAN_WEIGHT;
+use crate::limits::{MOST_SPAN_WEIGHT, MOST_SPANS};
 use hw_flat::Flat;
 use hw_model::{ShipId, Slot};
 
@@ -50,7 +49,7 @@ pub(crate) fn span_weight(flat: &Flat, span: Span) -> u32
 /// The weight of all terms of some spans.
 pub(crate) fn weight(flat: &Flat, spans: &[Span]) -> u32
     requires fit { All (SpanFits flat.now) spans.now }
-    requires few { length spans.now ≤ MOST_SHIPS }
+    requires few { length spans.now ≤ MOST_SPANS }
     ensures value { result ≡ weight_of (terms_of flat.now spans.now) }
 {
     let mut sum = 0;

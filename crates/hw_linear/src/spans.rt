@@ -6,7 +6,7 @@ use crate::limits::MOST_SPANS;
 use crate::span::Span;
 use std::marker::Model;
 
-/// At most as many spans as a problem has ships, seen as their list.
+/// At most `MOST_SPANS` spans, seen as their list.
 #[derive(Drop)]
 pub struct Spans {
     items: [Span; MOST_SPANS],

@@ -4,7 +4,7 @@ ghost use Rattle.std.specs.Prelude.{◌≡◌, ◌<◌, ◌≤◌, ◌≤ℤ◌,
 ghost use Rattle.hw_model.specs.Limits.{HoleFits, JobFits};
 ghost use Rattle.hw_model.specs.Problem.{horizon};
 ghost use Rattle.hw_model.specs.declared.limits.TheConstants.{MOST_DIFFERENCE, MOST_SHIPS, MOST_SLOTS};
-ghost use Rattle.hw_linear.specs.Rows.{SpanFits, after_spans, first_window, job_span, job_spans, partner, slot_from, whole_span, width, window_spans};
+ghost use Rattle.hw_linear.specs.Rows.{IsWindow, SpanFits, after_spans, first_window, job_span, job_spans, partner, slot_from, whole_span, width, window_spans};
 
 use crate::limits::MOST_WINDOWS;
 use crate::span::Span;
@@ -49,7 +49,7 @@ fn first_window(flat: &Flat, v: ShipId, hole: Hole, last: Slot) -> Span
     requires near { last ≤ MOST_WINDOWS }
     requires ship_in { v < flat.now.ships }
     ensures value { result ≡ first_window flat.now v hole last }
-    ensures fits { SpanFits flat.now result }
+    ensures window { IsWindow flat.now result }
 {
     Span {
         ship: v,
@@ -78,13 +78,13 @@ fn partner_to(from: Slot, hi: i32) -> Slot
 }
 
 /// The sailing slots of the second ship that a hole keeps apart from each slot of a window of the first one.
-fn partner(flat: &Flat, w: ShipId, hole: Hole, first: Span) -> Span
+pub(crate) fn partner(flat: &Flat, w: ShipId, hole: Hole, first: Span) -> Span
     requires fits { HoleFits hole }
     requires near { first.from ≤ MOST_WINDOWS }
     requires first_in { first.to ≤ MOST_SLOTS }
     requires ship_in { w < flat.now.ships }
     ensures value { result ≡ partner flat.now w hole first }
-    ensures fits { SpanFits flat.now result }
+    ensures window { IsWindow flat.now result }
 {
     Span {
         ship: w,
@@ -95,17 +95,21 @@ fn partner(flat: &Flat, w: ShipId, hole: Hole, first: Span) -> Span
 }
 
 /// The two windows of a hole of which the first one ends with a slot.
-pub(crate) fn window_spans(flat: &Flat, v: ShipId, w: ShipId, hole: Hole, last: Slot) -> [Span; 2]
+pub(crate) fn window_spans(flat: &Flat, v: ShipId, w: ShipId, hole: Hole, last: Slot) -> Spans
     requires fits { HoleFits hole }
     requires near { last ≤ MOST_WINDOWS }
     requires first_in { v < flat.now.ships }
     requires second_in { w < flat.now.ships }
     ensures value { result ≡ window_spans flat.now v w hole last }
-    ensures fits { All (SpanFits flat.now) result }
+    ensures windows { All (IsWindow flat.now) result }
+    ensures two { length result ≤ 2 }
 {
     let _slots = flat.horizon();
     let first = first_window(flat, v, hole, last);
-    [first, partner(flat, w, hole, first)]
+    let mut two = Spans::new();
+    two.push(first);
+    two.push(partner(flat, w, hole, first));
+    two
 }
 
 /// The slots of two ships that a precedence keeps apart, where the first one has a slot or a later one.

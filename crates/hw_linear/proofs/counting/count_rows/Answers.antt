@@ -6,6 +6,6 @@ use Rattle.hw_linear.proofs.counting.count_rows.Goals as goal
 
 pub returns : goal.returns
 returns c = record {
-  value = omega (arith, length-append (ship_rows c.args.flat.now 0 c.args.flat.now.ships) (rules_rows c.args.flat.now c.args.flat.now.rules), length-ship_rows c.args.flat.now 0 c.args.flat.now.ships, rw c.rules.ensures.value at c.count_rules.ensures.value, ap (λ (s : Shape). s.ships) c.shape.ensures.value);
+  value = omega (arith, length-append (ship_rows c.args.flat.now 0 c.args.flat.now.ships) (rules_rows c.args.flat.now c.args.flat.now.rules), length-ship_rows c.args.flat.now 0 c.args.flat.now.ships, rw (c.rules.ensures.value, c.new-apart.ensures) at c.count_rules.ensures.value, ap (λ (s : Shape). s.ships) c.shape.ensures.value);
   few = omega (arith, c.count_rules.ensures.small, c.shape.ensures.fits.few_ships);
 }

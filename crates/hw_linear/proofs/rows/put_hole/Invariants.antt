@@ -1,7 +1,7 @@
 use Rattle.std.proofs.Common.{◌+◌, ◌-◌}
 use Rattle.hw_desk.specs.Writers.{WriterState, Puts}
 use Rattle.hw_model.specs.Problem.{horizon}
-use Rattle.hw_linear.specs.Rows.{numbered_rows, width, window_rows, window_spans}
+use Rattle.hw_linear.specs.Rows.{numbered_rows, width, window_rows, group_spans}
 use Rattle.hw_linear.specs.Texts.{rows_text}
 use Rattle.hw_linear.proofs.rows.put_hole.Given as goal
 
@@ -9,4 +9,4 @@ use Rattle.hw_linear.proofs.rows.put_hole.Given as goal
 abbrev pub invariant-loop-last : goal.invariant-loop-last
 invariant-loop-last g l =
     let state = g.W.Writer.state in
-    (end : WriterState) → Puts (rows_text l.format l.flat.slots (numbered_rows l.flat 1 (window_spans l.flat l.v l.w l.hole) l.last (horizon l.flat + width l.hole - 1 - l.last))) (state l.out) end → Puts (rows_text l.format l.flat.slots (window_rows l.flat l.v l.w l.hole)) (state l.fn.out) end
+    (end : WriterState) → Puts (rows_text l.format l.apart.slots (numbered_rows l.apart 1 (group_spans l.apart l.v l.w l.hole) l.last (horizon l.apart + width l.hole - 1 - l.last))) (state l.out) end → Puts (rows_text l.format l.apart.slots (window_rows l.apart l.v l.w l.hole)) (state l.fn.out) end

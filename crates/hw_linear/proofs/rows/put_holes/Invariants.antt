@@ -8,4 +8,4 @@ use Rattle.hw_linear.proofs.rows.put_holes.Given as goal
 abbrev pub invariant-loop-hole : goal.invariant-loop-hole
 invariant-loop-hole g l =
     let state = g.W.Writer.state in
-    (end : WriterState) → Puts (rows_text l.format l.flat.slots (hole_rows l.flat l.v l.w (drop l.hole-index l.holes))) (state l.out) end → Puts (rows_text l.format l.flat.slots (hole_rows l.flat l.v l.w l.holes)) (state l.fn.out) end
+    (end : WriterState) → Puts (rows_text l.format l.apart.slots (hole_rows l.apart l.v l.w (drop l.hole-index l.holes))) (state l.out) end → Puts (rows_text l.format l.apart.slots (hole_rows l.apart l.v l.w l.holes)) (state l.fn.out) end

@@ -6,7 +6,7 @@ use Rattle.hw_linear.proofs.Onward.{rows_text-append, items_next, items_end}
 use Rattle.hw_linear.proofs.rows.put_rules.Goals as goal
 
 pub loop-rule-preserved : goal.loop-rule-preserved
-loop-rule-preserved g c = λ end h. c.loop-rule.invariant end (puts_same _ (items_next (rows_text c.args.format c.args.flat.now.slots) (rows_text-append c.args.format c.args.flat.now.slots) (rule_rows c.args.flat.now) (rules_rows c.args.flat.now) (λ x xs. refl) c.loop-rule.rule-index c.args.rules.now c.rule-item.result c.loop-rule-test.true c.rule-item.is) (puts_on c.put_rule.ensures h))
+loop-rule-preserved g c = λ end h. c.loop-rule.invariant end (puts_same _ (items_next (rows_text c.args.format c.args.apart.now.slots) (rows_text-append c.args.format c.args.apart.now.slots) (rule_rows c.args.apart.now) (rules_rows c.args.apart.now) (λ x xs. refl) c.loop-rule.rule-index c.args.rules.now c.rule-item.result c.loop-rule-test.true c.rule-item.is) (puts_on c.put_rule.ensures h))
 
 pub returns : goal.returns
-returns g c = c.loop-rule.invariant _ (puts_same _ (items_end (rows_text c.args.format c.args.flat.now.slots) (rules_rows c.args.flat.now) refl c.loop-rule.rule-index c.args.rules.now c.loop-rule-test.false) (puts_nothing _))
+returns g c = c.loop-rule.invariant _ (puts_same _ (items_end (rows_text c.args.format c.args.apart.now.slots) (rules_rows c.args.apart.now) refl c.loop-rule.rule-index c.args.rules.now c.loop-rule-test.false) (puts_nothing _))

@@ -8,4 +8,4 @@ use Rattle.hw_linear.proofs.rows.put_rules.Given as goal
 abbrev pub invariant-loop-rule : goal.invariant-loop-rule
 invariant-loop-rule g l =
     let state = g.W.Writer.state in
-    (end : WriterState) → Puts (rows_text l.format l.flat.slots (rules_rows l.flat (drop l.rule-index l.rules))) (state l.out) end → Puts (rows_text l.format l.flat.slots (rules_rows l.flat l.rules)) (state l.fn.out) end
+    (end : WriterState) → Puts (rows_text l.format l.apart.slots (rules_rows l.apart (drop l.rule-index l.rules))) (state l.out) end → Puts (rows_text l.format l.apart.slots (rules_rows l.apart l.rules)) (state l.fn.out) end
