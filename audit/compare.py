@@ -199,8 +199,25 @@ def flat_drawn(r):
     return "\n".join([*lines, "end", ""])
 
 
+def closed_drawn(r, slots):
+    """The closed slots of something, mostly none, below this number."""
+    starts = [r.randrange(slots) for _ in range(r.choice([0, 0, 0, 1, 1, 2]))]
+    return {"closed": [{"from": start, "to": r.randrange(start, min(slots, start + 3))} for start in starts]}
+
+
+def third_drawn(r, port):
+    """The same port in the third version: with a start, heights, closed slots and ships after others."""
+    ships = range(len(port["ships"]))
+    after = [{"first": first, "second": second, "gap": r.randrange(port["slots"] + 1)} for first, second in
+             ((r.choice(ships), r.choice(ships)) for _ in range(r.randrange(3))) if first != second]
+    start = f"{r.choice(['2028-02-29', '2027-02-28', '1970-01-01', '9999-12-31'])} {r.randrange(24):02}:{r.randrange(60):02}"
+    return {**port, "start": start, "heights": r.choice(["start", "least"]), **closed_drawn(r, port["slots"]), "after": after,
+            "waypoints": [{**waypoint, **closed_drawn(r, port["slots"] + 5)} for waypoint in port["waypoints"]],
+            "ships": [{**ship, **closed_drawn(r, port["slots"])} for ship in port["ships"]]}
+
+
 def port_drawn(r):
-    slots, classes, version, sections = r.randrange(1, 12), r.randrange(1, 3), r.randrange(1, 3), r.randrange(3)
+    slots, classes, version, sections = r.randrange(1, 12), r.randrange(1, 3), r.randrange(1, 4), r.randrange(3)
     names = ["Berth", "Bar", "Sill"][:r.randrange(1, 4)]
     ships = []
     for place in range(r.randrange(1, 5)):
@@ -212,7 +229,7 @@ def port_drawn(r):
                          for _ in range(r.randrange(1, 4))]
         ship["channel"] = [{"section": section, "enter": enter, "leave": enter + r.randrange(1, 4)}
                            for section in range(sections) if r.randrange(3) for enter in [r.randrange(4)]]
-        if version == 2:
+        if version > 1:
             ship["may_stay"] = r.randrange(3) == 0
         ships.append(ship)
     sides = [[place for place, ship in enumerate(ships) if ship["direction"] == side] for side in ("outgoing", "incoming")]
@@ -221,6 +238,7 @@ def port_drawn(r):
     port = {"version": version, "slots": slots, "slot_minutes": 15, "waypoints": [{"name": name, "depth": r.randrange(20)} for name in names],
             "sections": [f"Cut {n}" for n in range(sections)], "separation": [[r.randrange(1, 4) for _ in range(classes)] for _ in range(classes)],
             "turnaround": {"outgoing": r.randrange(3), "incoming": r.randrange(3)}, "fleet": r.randrange(1, 8), "ships": ships, "berths": berths}
+    port = third_drawn(r, port) if version == 3 else port
     kind, end = r.choice(["slot", "water"]), slots + r.randrange(7)
     times = list(range(end)) if kind == "slot" else [0, *sorted(r.sample(range(1, end + 1), r.randrange(min(end, 4))))]
     rows = [[kind, *names], *([str(time), *[str(r.randrange(-9, 20)) for _ in names]] for time in times)]

@@ -6,16 +6,23 @@
 PORT.json is an instance without version and ships, and with names where an instance has places. It has three members more:
 `start`, the time at which slot 0 begins, as "2027-03-14 03:40"; `classes`, the names of the rows of `separation`; and
 `routes`, each with its name, a `route` over waypoints by name, and a `channel` over sections by name. Its `berths` have a
-name and a `clear` each.
+name and a `clear` each. It may have `heights`, which is `least` or `start`, and `closed`, as each waypoint may: a list of
+objects with `from` and `to`, which are dates and times, or times alone for every day.
 
 SHIPS.csv is a table as a spreadsheet saves it, with commas or semicolons. Its first row names the columns, in any order:
 
-    name, direction, class, earliest, latest, tpc, light, deep, route, berth, tugs, job, may_stay
+    name, direction, class, earliest, latest, tpc, light, deep, route, berth, tugs, job, may_stay, closed, after, gap
 
 `earliest` and `latest` are dates and times; the earliest is rounded up to the beginning of a slot, and the latest down.
 Where one is empty, or lies outside the slots, it is the first or the last slot. `berth` may be missing or empty: an outgoing
 ship leaves the berth, and an incoming one of the same berth waits until it is clear. With `may_stay` (yes or no) the instance
 has the version 2. `tpc` and `deep` of an incoming ship may be empty. The other columns are as in an instance.
+
+With `heights`, with something closed, or with one of the last three columns the instance has the version 3, in which heights
+are `least` unless the base file says `start`. These columns may be empty. `closed` is `2027-03-14 05:00 to 2027-03-14 07:30`,
+or `20:00 to 05:30` for every day, with | between two; a slot is closed if a moment of it is. `after` names another ship of
+the table, as the one that came in to sail as this one, and `gap` has the hours and minutes from that ship's last waypoint to
+this one's sailing, as `18:00`, rounded up to slots.
 
 A fault is told with its row and column, the first row being 1, or with its place in PORT.json. What depends on several
 ships or on the tides, Tidewise says.
@@ -27,24 +34,32 @@ import os
 import re
 import sys
 from collections import namedtuple
+from datetime import date
 
-from tides import Refused, minute_of
+from tides import Refused, clock_of, minute_of
 
 HERE = os.path.dirname(os.path.abspath(__file__))
 NEEDED = ["name", "direction", "class", "earliest", "latest", "tpc", "light", "deep", "route", "tugs", "job"]
-COLUMNS = [*NEEDED, "berth", "may_stay"]
+THIRD = ["closed", "after", "gap"]
+COLUMNS = [*NEEDED, "berth", "may_stay", *THIRD]
 NUMBERS = ["tpc", "light", "deep", "tugs", "job"]
 PLAIN = ["slots", "slot_minutes", "waypoints", "sections", "separation", "turnaround", "fleet"]
 MEMBERS = ["start", *PLAIN, "classes", "berths", "routes"]
+# The greatest slot in which a waypoint may be closed: ships pass it after the last slot too.
+LAST_PASS = 1534
+DAY = 24 * 60
 KINDS = {"object": dict, "array": list, "string": str, "integer": int, "boolean": bool}
 
 with open(os.path.join(HERE, "instance.schema.json"), encoding="utf-8") as _file:
     SCHEMA = json.load(_file)
 SHIP = SCHEMA["properties"]["ships"]["items"]
+TIMES = {"type": "array", "items": {"type": "object", "additionalProperties": False, "required": ["from", "to"],
+                                    "properties": {"from": {"type": "string"}, "to": {"type": "string"}}}}
 
 # What a base file says: the members that an instance has too, the minute at which slot 0 begins, the names of what has some,
-# each route with places for names, and the berths; and the order of dates in the table.
-Port = namedtuple("Port", "members start names routes berths order")
+# each route with places for names, the berths, and what closes the port and each waypoint; the order of dates in the table;
+# and whether the instance has the third version, whatever is in the table.
+Port = namedtuple("Port", "members start names routes berths closed waypoints order third")
 
 
 class Fault(Exception):
@@ -138,6 +153,46 @@ def route_of(route, waypoints, sections, place):
     return {"route": passes, "channel": sorted(channel, key=lambda item: item["section"])}
 
 
+def minute_at(text, order):
+    """The minute of a date and a time, and the seconds after it."""
+    found = re.fullmatch(r"(\S+?)[ T]+([0-9]{1,2}:[0-9]{2})(?::([0-9]{2}))?", text)
+    if not found:
+        raise Refused(f"{text} is no date and time, such as 2027-03-14 03:40")
+    return minute_of(found[1], found[2], order), int(found[3] or 0)
+
+
+def spans_of(first, last, start, minutes, order):
+    """The spans from one time to another, in minutes from slot 0: one, or of times without a date one for each day."""
+    if re.fullmatch("[0-9]{1,2}:[0-9]{2}", first) and re.fullmatch("[0-9]{1,2}:[0-9]{2}", last):
+        low, high = clock_of(first), clock_of(last)
+        if low == high:
+            raise Refused(f"from {first} to {last} there is no moment")
+        midnight = -(start % DAY)
+        return [(day + low, day + high + DAY * (high < low)) for day in range(midnight - DAY, minutes, DAY)]
+    low, high = minute_at(first, order), minute_at(last, order)
+    if high <= low:
+        raise Refused(f"{last} isn't after {first}")
+    return [(low[0] - start, high[0] - start + (high[1] > 0))]
+
+
+def closed_of(first, last, start, length, end, order=None):
+    """The closed slots from one time to another, up to the slot `end`: each of which some moment is closed."""
+    slots = [(max(0, low // length), min(end, -(-high // length) - 1))
+             for low, high in spans_of(first, last, start, (end + 1) * length, order)]
+    return [{"from": low, "to": high} for low, high in slots if low <= high]
+
+
+def closed_at(items, place, start, length, end):
+    """The same of a list in a base file; faults name the place."""
+    found = []
+    for number, item in enumerate(items):
+        try:
+            found += closed_of(item["from"], item["to"], start, length, end)
+        except Refused as cause:
+            raise Fault((*place, number), f"{cause}") from None
+    return found
+
+
 def port_of(base, order):
     """What a base file says."""
     any_name = {"$ref": "#/definitions/name"}
@@ -148,9 +203,14 @@ def port_of(base, order):
         return {"type": "array", "items": {**items, "properties": {**items["properties"], member: any_name}}}
 
     properties = SCHEMA["properties"]
+    depth = properties["waypoints"]["items"]["properties"]["depth"]
+    waypoints = {"type": "array", "minItems": 1, "maxItems": 16, "items": {
+        "type": "object", "additionalProperties": False, "required": ["name", "depth"],
+        "properties": {"name": any_name, "depth": depth, "closed": TIMES}}}
     check(base, {
         "type": "object", "additionalProperties": False, "required": MEMBERS,
-        "properties": {**{member: properties[member] for member in PLAIN}, "start": {"type": "string"},
+        "properties": {**{member: properties[member] for member in PLAIN}, "start": {"type": "string"}, "closed": TIMES,
+                       "heights": {"type": "string", "enum": ["start", "least"]}, "waypoints": waypoints,
                        "classes": {"type": "array", "items": any_name, "minItems": 1, "maxItems": 8},
                        "berths": named(0, clear=properties["berths"]["items"]["properties"]["clear"]),
                        "routes": named(1, route=inner("route", "waypoint"), channel=inner("channel", "section"))}})
@@ -167,7 +227,14 @@ def port_of(base, order):
         raise Fault(("start",), f"{json.dumps(base['start'])} is no time such as 2027-03-14 03:40") from None
     routes = {route["name"]: route_of(route, names["waypoints"], names["sections"], ("routes", number))
               for number, route in enumerate(base["routes"])}
-    return Port({member: base[member] for member in PLAIN}, start, names, routes, base["berths"], order)
+    length = base["slot_minutes"]
+    closed = closed_at(base.get("closed", []), ("closed",), start, length, base["slots"] - 1)
+    passes = [closed_at(item.get("closed", []), ("waypoints", number, "closed"), start, length, LAST_PASS)
+              for number, item in enumerate(base["waypoints"])]
+    third = "heights" in base or "closed" in base or any("closed" in item for item in base["waypoints"])
+    members = {**{member: base[member] for member in PLAIN}, "heights": base.get("heights", "least"),
+               "waypoints": [{"name": item["name"], "depth": item["depth"]} for item in base["waypoints"]]}
+    return Port(members, start, names, routes, base["berths"], closed, passes, order, third)
 
 
 def slot_of(text, port, member):
@@ -175,15 +242,24 @@ def slot_of(text, port, member):
     last = port.members["slots"] - 1
     if not text:
         return 0 if member == "earliest" else last
-    found = re.fullmatch(r"(\S+?)[ T]+([0-9]{1,2}:[0-9]{2})(?::([0-9]{2}))?", text)
-    if not found:
-        raise Refused(f"{text} is no date and time, such as 2027-03-14 03:40")
-    seconds = (minute_of(found[1], found[2], port.order) - port.start) * 60 + int(found[3] or 0)
+    minute, more = minute_at(text, port.order)
+    seconds = (minute - port.start) * 60 + more
     length = port.members["slot_minutes"] * 60
     slot = max(0, -(-seconds // length)) if member == "earliest" else min(last, seconds // length)
     if not 0 <= slot <= last:
         raise Refused("no slot is left: it is after the last slot" if member == "earliest" else "it is before slot 0")
     return slot
+
+
+def closed_in(text, port):
+    """The closed slots of a cell."""
+    length, count, found = port.members["slot_minutes"], port.members["slots"], []
+    for part in text.split("|") if text else []:
+        first, middle, last = part.partition(" to ")
+        if not middle:
+            raise Refused(f"{json.dumps(part.strip())} has no to between two times")
+        found += closed_of(first.strip(), last.strip(), port.start, length, count - 1, port.order)
+    return found
 
 
 def cell_of(column, text, row, port):
@@ -199,6 +275,8 @@ def cell_of(column, text, row, port):
         if text.lower() not in ("yes", "no"):
             raise Refused("it is neither yes nor no")
         return text.lower() == "yes"
+    if column == "closed":
+        return closed_in(text, port)
     if column in NUMBERS:
         if not text and column in ("tpc", "deep") and row["direction"] == "incoming":
             return 0 if column == "tpc" else cell_of("light", row["light"], row, port)
@@ -211,7 +289,7 @@ def cell_of(column, text, row, port):
 def ship_of(row, port):
     """A ship, by the members of an instance; faults name the column."""
     ship = {}
-    for column in (column for column in COLUMNS if column in row and column != "berth"):
+    for column in (column for column in COLUMNS if column in row and column not in ("berth", "after", "gap")):
         try:
             ship[column] = cell_of(column, row[column], row, port)
         except (Refused, Fault) as cause:
@@ -241,6 +319,36 @@ def berths_of(rows, berths):
             if (berth["name"], "outgoing") in ships and (berth["name"], "incoming") in ships]
 
 
+def gap_of(text, length):
+    """The slots of hours and minutes, rounded up."""
+    found = re.fullmatch("([0-9]{1,4}):([0-5][0-9])", text)
+    if not found:
+        raise Refused(f"{json.dumps(text)} is no number of hours and minutes, such as 18:00")
+    return -(-(int(found[1]) * 60 + int(found[2])) // length)
+
+
+def after_of(rows, ships, port):
+    """The ships that sail after others; faults name the row and the column."""
+    names, found = [ship["name"] for ship in ships], []
+    for second, (place, row) in enumerate(rows):
+        other, gap = row.get("after", ""), row.get("gap", "")
+        if not other and gap:
+            raise Fault((place, "gap"), "no ship is named in the column after")
+        if not other:
+            continue
+        if other not in names or names.index(other) == second:
+            raise Fault((place, "after"), f"{json.dumps(other)} is no other ship of the table")
+        first = names.index(other)
+        try:
+            slots = gap_of(gap, port.members["slot_minutes"]) + max(item["offset"] for item in ships[first]["route"])
+        except Refused as cause:
+            raise Fault((place, "gap"), f"{cause}") from None
+        if slots > 512:
+            raise Fault((place, "gap"), f"these are {slots} slots after {other}, and not 0 to 512")
+        found.append({"first": first, "second": second, "gap": slots})
+    return found
+
+
 def cells_of(text):
     """The cells of each row of a table."""
     reader = csv.reader(io.StringIO(text, newline=""), delimiter=";" if ";" in text.partition("\n")[0] else ",")
@@ -267,7 +375,8 @@ def rows_of(text):
 
 
 def ships_of(text, port):
-    """The ships and the pairs at berths of a table; faults name the row and the column."""
+    """The ships of a table, their pairs at berths and those after others, and whether it has a column for the third version;
+    faults name the row and the column."""
     rows, ships = list(rows_of(text)), []
     for place, row in rows:
         try:
@@ -277,7 +386,8 @@ def ships_of(text, port):
         if ship["name"] in [other["name"] for other in ships]:
             raise Fault((place, "name"), "there is a ship of this name already")
         ships.append(ship)
-    return ships, berths_of(rows, port.berths)
+    third = any(column in row for _, row in rows for column in THIRD)
+    return ships, berths_of(rows, port.berths), after_of(rows, ships, port), third
 
 
 def read_port(name, text, order):
@@ -294,20 +404,37 @@ def read_port(name, text, order):
         raise Refused(f"{name}, {'.'.join(map(str, fault.place)) or 'root'}: {fault.cause}") from None
 
 
+def third_of(instance, port, after):
+    """The same instance in the third version."""
+    if port.start // DAY < date(1970, 1, 1).toordinal():
+        raise Fault(("start",), "the year is before 1970")
+    start = f"{date.fromordinal(port.start // DAY)} {port.start % DAY // 60:02}:{port.start % 60:02}"
+    front = {"version": 3, "start": start, "slots": instance["slots"], "slot_minutes": instance["slot_minutes"],
+             "heights": port.members["heights"], "closed": port.closed}
+    waypoints = [{**item, "closed": closed} for item, closed in zip(instance["waypoints"], port.waypoints)]
+    later = {"may_stay": False, "closed": []}
+    ships = [{**ship, **{member: ship.get(member, without) for member, without in later.items()}} for ship in instance["ships"]]
+    return {**front, **instance, **front, "waypoints": waypoints, "ships": ships, "after": after}
+
+
 def instance_of(ships, base, order=None):
     """The instance of a table of ships and a base file; both are names and texts."""
     port = read_port(*base, order)
     name, text = ships
     try:
-        made, berths = ships_of(text, port)
-        instance = {"version": 2 if any("may_stay" in ship for ship in made) else 1, **port.members, "ships": made,
-                    "berths": berths}
-        # What is left to test is the number of ships.
+        made, berths, after, third = ships_of(text, port)
+        instance = {"version": 2 if any("may_stay" in ship for ship in made) else 1,
+                    **{member: port.members[member] for member in PLAIN}, "ships": made, "berths": berths}
+        # What is left to test is the number of ships, and of the third version how much is closed, and the year.
         if not 1 <= len(made) <= SCHEMA["properties"]["ships"]["maxItems"]:
             raise Fault((2, "name"), f"there are {len(made)} ships, and not 1 to 40")
-        check(instance, SCHEMA)
     except Fault as fault:
         raise Refused(f"{name}, row {fault.place[0]}, column {fault.place[1]}: {fault.cause}") from None
+    try:
+        instance = third_of(instance, port, after) if third or port.third else instance
+        check(instance, SCHEMA)
+    except Fault as fault:
+        raise Refused(f"{base[0]}, {'.'.join(map(str, fault.place))}: {fault.cause}") from None
     return instance
 
 

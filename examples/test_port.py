@@ -34,6 +34,13 @@ def text_of(name):
 SHIPS = text_of("ships.csv")
 BASE = text_of("port.json")
 DAY = json.loads(text_of("day.json"))
+# The same day in version 3, with an item in each list.
+CLOSED = [{"from": 0, "to": 0}]
+DAY_3 = {**DAY, "version": 3, "start": "2027-03-27 00:00", "heights": "start", "closed": CLOSED,
+         "waypoints": [{**point, "closed": CLOSED} for point in DAY["waypoints"]],
+         "ships": [{**ship, "may_stay": False, "closed": CLOSED} for ship in DAY["ships"]],
+         "after": [{"first": 0, "second": 1, "gap": 0}]}
+LATER = {"may_stay", "start", "heights", "closed", "after"}
 
 
 def made(ships=SHIPS, base=BASE, order=None):
@@ -105,6 +112,62 @@ class Made(unittest.TestCase):
         self.assertEqual(done.stdout.splitlines()[0], "optimal 308296.0")
 
 
+def third(**members):
+    """The day in the third version, with these members."""
+    return {**DAY, "version": 3, "start": "2027-03-14 03:40", "heights": "least", "closed": [], "after": [],
+            "waypoints": [{**item, "closed": []} for item in DAY["waypoints"]],
+            "ships": [{**ship, "may_stay": False, "closed": []} for ship in DAY["ships"]], **members}
+
+
+def with_closed(times, place="port"):
+    """The base file with closed times of the port, or of its second waypoint."""
+    base = json.loads(BASE)
+    (base if place == "port" else base["waypoints"][1])["closed"] = [{"from": first, "to": last} for first, last in times]
+    return json.dumps(base)
+
+
+def slots(*pairs):
+    return [{"from": first, "to": last} for first, last in pairs]
+
+
+class Third(unittest.TestCase):
+    def test_calls(self):
+        self.assertEqual(made(text_of("calls.csv"), text_of("calls-port.json")), json.loads(text_of("calls.json")))
+
+    def test_heights(self):
+        for heights in ("start", "least"):
+            self.assertEqual(made(base=BASE.replace("{", f'{{"heights":"{heights}",', 1)), third(heights=heights))
+        early = BASE.replace("{", '{"heights":"least",', 1).replace("2027-03-14 03:40", "1999-12-31 0:05")
+        self.assertEqual(made(SHIPS.replace("2027-03-14", "1999-12-31"), early)["start"], "1999-12-31 00:05")
+
+    def test_closed(self):
+        # Slot 0 begins at 03:40, and slot 8 at 05:40; a slot is closed if a moment of it is.
+        day = "2027-03-14 "
+        for first, last, found in [
+                (day + "05:40", day + "05:55", slots((8, 8))), (day + "05:41", day + "05:56", slots((8, 9))),
+                (day + "05:54:59", day + "05:55:01", slots((8, 9))), ("2027-03-13 00:00", day + "03:40", []),
+                ("2027-03-13 00:00", day + "03:40:01", slots((0, 0))), ("2027-03-15 03:30", "2027-04-01 00:00", slots((95, 95))),
+                ("20:00", "05:30", slots((0, 7), (65, 95))), ("03:40", "3:55", slots((0, 0)))]:
+            self.assertEqual(made(base=with_closed([(first, last)])), third(closed=found), (first, last))
+            self.assertEqual(made(with_column("closed", [f"{first} to {last}"] + [""] * 9))["ships"][0]["closed"], found)
+        # Waypoints are passed after the last slot too, up to slot 1534: every day slot 0, 96, and so on.
+        bar = made(base=with_closed([("03:40", "03:55")], "Bar"))["waypoints"][1]["closed"]
+        self.assertEqual(bar, slots(*((slot, slot) for slot in range(0, 1535, 96))))
+        cell = "14/03/2027 05:40 to 14/03/2027 05:55|20:00 to 05:30"
+        other = with_column("closed", [""] * 9 + [cell]).replace("2027-03-14", "14/03/2027")
+        self.assertEqual(made(other, order="dmy")["ships"][9]["closed"], slots((8, 8), (0, 7), (65, 95)))
+
+    def test_after(self):
+        # Gannet comes in, and is at her berth 4 slots after she sails.
+        for gap, count in [("18:00", 76), ("18:01", 77), ("0:00", 4), ("127:00", 512)]:
+            table = with_column("after,gap", [",", f"Gannet,{gap}"] + [","] * 8).replace("after,gap,", "after,gap")
+            self.assertEqual(made(table), third(after=[{"first": 6, "second": 1, "gap": count}]))
+
+    def test_may_stay(self):
+        table = with_column("may_stay,closed", ["yes,", "No,"] + ["no,"] * 8)
+        self.assertEqual([ship["may_stay"] for ship in made(table)["ships"]], [True] + [False] * 9)
+
+
 class Refused(unittest.TestCase):
     def refused(self, cause, **texts):
         with self.assertRaises(port.Refused) as raised:
@@ -170,6 +233,34 @@ class Refused(unittest.TestCase):
         for text in ["[" * 100000, "9" * 5000]:
             self.refused("port.json, root: a number is too long, or lists stand too deep in each other", base=text)
 
+    def test_third(self):
+        when = "2027-03-14 05:00"
+        for cell, cause in [
+                ("05:00", '"05:00" has no to between two times'), ("|", '"" has no to between two times'),
+                (f"{when} to 05:00", "05:00 is no date and time, such as 2027-03-14 03:40"),
+                ("05:00 to 05:00", "from 05:00 to 05:00 there is no moment"), ("5:00 to 25:00", "the time 25:00 doesn't exist"),
+                (f"{when} to {when}", f"{when} isn't after {when}")]:
+            self.refused(f"ships.csv, row 3, column closed: {cause}", ships=with_column("closed", ["", cell] + [""] * 8))
+        for cells, column, cause in [
+                ("Stork,1:00", "after", '"Stork" is no other ship of the table'),
+                ("Bittern,1:00", "after", '"Bittern" is no other ship of the table'),
+                (",1:00", "gap", "no ship is named in the column after"),
+                ("Gannet,", "gap", '"" is no number of hours and minutes, such as 18:00'),
+                ("Gannet,18", "gap", '"18" is no number of hours and minutes, such as 18:00'),
+                ("Gannet,127:01", "gap", "these are 513 slots after Gannet, and not 0 to 512")]:
+            self.refused(f"ships.csv, row 3, column {column}: {cause}", ships=with_column("after,gap", [",", cells] + [","] * 8))
+        for times, place, cause in [
+                ([("5:00", "6:00"), ("6h00", "7:00")], "port", "closed.1: 6h00 is no date and time, such as 2027-03-14 03:40"),
+                ([(when, when)], "Bar", f"waypoints.1.closed.0: {when} isn't after {when}"),
+                ([(when, "2027-03-14 05:01")] * 65, "port", "closed: there are 65 items, and not 0 to 64"),
+                ([("5:00", "6:00")] * 3, "Bar", "waypoints.1.closed: there are 48 items, and not 0 to 32")]:
+            self.refused(f"port.json, {cause}", base=with_closed(times, place))
+        self.refused("port.json, closed.0.to: this member is missing", base=BASE.replace("{", '{"closed":[{"from":"5:00"}],', 1))
+        self.refused("""port.json, heights: "end" is none of ['start', 'least']""",
+                     base=BASE.replace("{", '{"heights":"end",', 1))
+        early = BASE.replace("{", '{"heights":"least",', 1).replace("2027-03-14", "1969-12-31")
+        self.refused("port.json, start: the year is before 1970", ships=SHIPS.replace("2027-03-14", "1969-12-31"), base=early)
+
     def test_words(self):
         for words, cause in [([], "usage: port.py [--dates dmy|mdy|ymd] SHIPS.csv PORT.json"),
                              (["none.csv", "port.json"], "none.csv: No such file or directory"),
@@ -181,7 +272,7 @@ class Refused(unittest.TestCase):
 def places():
     """The rows of the table of places: place, kind and meaning."""
     with open(os.path.join(HERE, "..", "docs", "FORMATS.md"), encoding="utf-8") as file:
-        return [(place, kind, meaning.strip()) for place, kind, meaning in
+        return [(place, kind, re.sub("^`[23]`", "", meaning.strip()).strip()) for place, kind, meaning in
                 re.findall(r"^\| [0-9]+ \| `([a-z_.*]+)` \| ([a-z ]+) \|(.*)\|$", file.read(), re.MULTILINE)]
 
 
@@ -204,7 +295,7 @@ def range_of(meaning):
         return int(found[1]), int(found[2])
     lists = {"a slot": "slots", "one of the classes": "separation", "the place of a waypoint": "waypoints",
              "the place of a section": "sections", "the place of an outgoing ship": "ships",
-             "the place of an incoming ship": "ships"}
+             "the place of an incoming ship": "ships", "the place of a ship": "ships"}
     place = lists[meaning.partition(",")[0]]
     schema = schema_at(place)
     return 0, schema.get("maxItems", schema.get("maximum")) - 1
@@ -213,7 +304,7 @@ def range_of(meaning):
 class Schema(unittest.TestCase):
     def test_kinds(self):
         kinds = {"object": "object", "list": "array", "text": "string", "number": "integer", "truth value": "boolean"}
-        self.assertEqual(len(places()), 45)
+        self.assertEqual(len(places()), 64)
         for place, kind, _ in places():
             self.assertEqual(schema_at(place)["type"], kinds[kind], place)
 
@@ -225,14 +316,14 @@ class Schema(unittest.TestCase):
                            if other.startswith(front) and other != "root" and "." not in other[len(front):]}
                 schema = schema_at(place)
                 self.assertEqual(set(schema["properties"]), members, place)
-                self.assertEqual(set(schema["required"]), members - {"may_stay"}, place)
+                self.assertEqual(set(schema["required"]), members - LATER, place)
                 self.assertIs(schema["additionalProperties"], False)
 
     def test_limits(self):
         for place, kind, meaning in places():
             schema = schema_at(place)
             if place == "version":
-                self.assertEqual((schema["enum"], meaning), ([1, 2], "1, or 2 where ships may stay"))
+                self.assertEqual((schema["enum"], meaning), ([1, 2, 3], "1, or 2 where ships may stay, or 3 with all places"))
             elif kind == "number":
                 self.assertEqual((schema["minimum"], schema["maximum"]), range_of(meaning), place)
             elif place == "separation.*":
@@ -241,7 +332,9 @@ class Schema(unittest.TestCase):
             elif kind == "list":
                 found = re.match("([0-9]+) to ([0-9]+) items", meaning)
                 self.assertEqual((schema["minItems"], schema["maxItems"]), (int(found[1]), int(found[2])), place)
-            elif place.endswith("direction"):
+            elif place == "start":
+                self.assertTrue(re.fullmatch(schema["pattern"], DAY_3["start"]))
+            elif place == "heights" or place.endswith("direction"):
                 self.assertEqual(schema["enum"], re.findall("`([a-z]+)`", meaning))
             elif kind == "text":
                 self.assertTrue(meaning.startswith("a name "))
@@ -262,10 +355,22 @@ class Schema(unittest.TestCase):
                 port.check(instance, port.SCHEMA)
                 count += 1
         self.assertGreater(count, 8)
-        for change, place in [({"slots": 2.0}, "slots"), ({"version": 2}, "ships.0.may_stay"), ({"version": 3}, "version"),
+        for change, place in [({"slots": 2.0}, "slots"), ({"version": 2}, "ships.0.may_stay"), ({"version": 3}, "start"),
+                              ({"version": 4}, "version"), ({"start": DAY_3["start"]}, "start"), ({"after": []}, "after"),
                               ({"ships": [{**DAY["ships"][0], "may_stay": True}]}, "ships.0.may_stay")]:
             with self.assertRaises(port.Fault) as raised:
                 port.check({**DAY, **change}, port.SCHEMA)
+            self.assertEqual(".".join(map(str, raised.exception.place)), place)
+        port.check(DAY_3, port.SCHEMA)
+        for place in ["start", "heights", "closed", "after", "waypoints.0.closed", "ships.0.closed", "ships.0.may_stay"]:
+            *front, last = [int(word) if word.isdigit() else word for word in place.split(".")]
+            instance = copy.deepcopy(DAY_3)
+            item = instance
+            for word in front:
+                item = item[word]
+            del item[last]
+            with self.assertRaises(port.Fault) as raised:
+                port.check(instance, port.SCHEMA)
             self.assertEqual(".".join(map(str, raised.exception.place)), place)
 
     def test_program(self):
@@ -282,7 +387,7 @@ class Schema(unittest.TestCase):
 
     def out_of_range(self, place, number):
         """Whether the program finds this number out of its range there."""
-        instance = copy.deepcopy(DAY)
+        instance = copy.deepcopy(DAY_3)
         *front, last = [int(word) if word.isdigit() else word for word in place.split(".")]
         item = instance
         for word in front:

@@ -8,9 +8,10 @@ use Rattle.hw_model.specs.declared.rule.Job.{Job}
 use Rattle.hw_model.specs.declared.rule.Rule.{Rule}
 use Rattle.hw_model.specs.declared.rule.Rule.TheVariants.{Pair, After, Tugs}
 use Rattle.hw_port.specs.declared.parts.BerthPair.{BerthPair}
+use Rattle.hw_port.specs.declared.parts.AfterPair.{AfterPair}
 use Rattle.hw_port.specs.Parts.{ShipParts}
 use Rattle.hw_port.specs.Whole.{Parts}
-use Rattle.hw_port_rules.specs.Flattened.{holes_of, pair_rule, pairs_with, pairs_from, berth_rule, jobs_from, tug_rule, rules_of}
+use Rattle.hw_port_rules.specs.Flattened.{holes_of, pair_rule, pairs_with, pairs_from, berth_rule, after_rule, jobs_from, tug_rule, rules_of}
 use Rattle.hw_port_rules.specs.Numbers.{whole}
 use Rattle.hw_audit.specs.Keeping.{TugsComeLast}
 
@@ -43,6 +44,10 @@ pub all_berths : (berths : List BerthPair) → Each2 (map berth_rule berths)
 all_berths [] = tt
 all_berths (b ∷ berths) = (tt, all_berths berths)
 
+pub all_after : (pairs : List AfterPair) → Each2 (map after_rule pairs)
+all_after [] = tt
+all_after (a ∷ pairs) = (tt, all_after pairs)
+
 not_tugs : (rules : List Rule) (place fleet : ℕ) (jobs : List Job) → Each2 rules → slice_get rules place ≡ Some (Tugs fleet jobs) → ⊥
 not_tugs [] place fleet jobs each e = absurd cc
 not_tugs (rule ∷ rules) zero fleet jobs each e = subst On2 (same_Some rule (Tugs fleet jobs) e) each.0
@@ -64,5 +69,7 @@ behind rules last place fleet jobs each own e = elim (cases_lt place (length rul
 
 pub tugs_last : (p : Parts) → TugsComeLast (rules_of p)
 tugs_last p place fleet jobs e =
-    behind (pairs_from p 0 p.ships) (map berth_rule p.berths ++ tug_rule (whole p.fleet) (jobs_from p 0 p.ships)) place fleet jobs (all_pairs p 0 p.ships)
-    (λ i h. behind (map berth_rule p.berths) (tug_rule (whole p.fleet) (jobs_from p 0 p.ships)) i fleet jobs (all_berths p.berths) (λ k. at_last (whole p.fleet) k fleet (jobs_from p 0 p.ships) jobs) h) e
+    let tugs = tug_rule (whole p.fleet) (jobs_from p 0 p.ships) in
+    behind (pairs_from p 0 p.ships) (map berth_rule p.berths ++ (map after_rule p.after ++ tugs)) place fleet jobs (all_pairs p 0 p.ships)
+    (λ i h. behind (map berth_rule p.berths) (map after_rule p.after ++ tugs) i fleet jobs (all_berths p.berths)
+    (λ j k. behind (map after_rule p.after) tugs j fleet jobs (all_after p.after) (λ m. at_last (whole p.fleet) m fleet (jobs_from p 0 p.ships) jobs) k) h) e

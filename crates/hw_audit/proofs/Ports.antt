@@ -14,14 +14,14 @@ use Rattle.hw_port.specs.Whole.{Parts}
 use Rattle.hw_tide.specs.Levels.{TideParts}
 use Rattle.hw_port_laws.proofs.Permits.{same_permitted_law}
 use Rattle.hw_port_laws.proofs.Wholes.{within}
-use Rattle.hw_port_rules.specs.Flattened.{pairs_from, berth_rule, jobs_from, tug_rule, flattened}
+use Rattle.hw_port_rules.specs.Flattened.{pairs_from, berth_rule, after_rule, jobs_from, tug_rule, flattened}
 use Rattle.hw_port_rules.specs.Numbers.{whole}
 use Rattle.hw_port_rules.specs.Permitted.{PortPermits}
 use Rattle.hw_audit.specs.Laws.{fewer_tugs, NonePortBroken, NonePortBrokenAfter}
 use Rattle.hw_audit.specs.Watching.{Watched, watched, IsWatched, after_all, lessened_rule, lessened, broken_now}
 use Rattle.hw_audit.proofs.Begun.{of_port, watched_first}
 use Rattle.hw_audit.proofs.Broken.{none_broken}
-use Rattle.hw_audit.proofs.PortRules.{Each2, all_pairs, all_berths}
+use Rattle.hw_audit.proofs.PortRules.{Each2, all_pairs, all_berths, all_after}
 use Rattle.hw_audit.proofs.Taken.{all_taken}
 
 -- ---- rules
@@ -37,14 +37,16 @@ lessened_tugs : (withdrawn fleet : ℕ) (jobs : List Job) → map (lessened_rule
 lessened_tugs withdrawn fleet [] = refl
 lessened_tugs withdrawn fleet (job ∷ jobs) = refl
 
-lessened_rules : (withdrawn fleet : ℕ) (pairs berths : List Rule) (jobs : List Job) → Each2 pairs → Each2 berths
-    → map (lessened_rule withdrawn) (pairs ++ (berths ++ tug_rule fleet jobs)) ≡ pairs ++ (berths ++ tug_rule (fleet - withdrawn) jobs)
-lessened_rules withdrawn fleet pairs berths jobs p b =
+lessened_rules : (withdrawn fleet : ℕ) (pairs berths after : List Rule) (jobs : List Job) → Each2 pairs → Each2 berths → Each2 after
+    → map (lessened_rule withdrawn) (pairs ++ (berths ++ (after ++ tug_rule fleet jobs))) ≡ pairs ++ (berths ++ (after ++ tug_rule (fleet - withdrawn) jobs))
+lessened_rules withdrawn fleet pairs berths after jobs p b a =
     let f = lessened_rule withdrawn in
-    map-append f pairs (berths ++ tug_rule fleet jobs)
-    ∙ (ap₂ ◌++◌ (two_as_they_are withdrawn pairs p)
-    (map-append f berths (tug_rule fleet jobs)
-    ∙ ap₂ ◌++◌ (two_as_they_are withdrawn berths b) (lessened_tugs withdrawn fleet jobs)))
+    map-append f pairs (berths ++ (after ++ tug_rule fleet jobs))
+    ∙ ap₂ ◌++◌ (two_as_they_are withdrawn pairs p)
+    (map-append f berths (after ++ tug_rule fleet jobs)
+    ∙ ap₂ ◌++◌ (two_as_they_are withdrawn berths b)
+    (map-append f after (tug_rule fleet jobs)
+    ∙ ap₂ ◌++◌ (two_as_they_are withdrawn after a) (lessened_tugs withdrawn fleet jobs)))
 
 -- ---- the problem
 
@@ -55,7 +57,7 @@ pub lessened_port : (p : Parts) (h : TideParts) (withdrawn : ℕ) → lessened w
 unfolding with_rules
 lessened_port p h withdrawn =
     ap (with_rules (flattened p h))
-    (lessened_rules withdrawn (whole p.fleet) (pairs_from p 0 p.ships) (map berth_rule p.berths) (jobs_from p 0 p.ships) (all_pairs p 0 p.ships) (all_berths p.berths))
+    (lessened_rules withdrawn (whole p.fleet) (pairs_from p 0 p.ships) (map berth_rule p.berths) (map after_rule p.after) (jobs_from p 0 p.ships) (all_pairs p 0 p.ships) (all_berths p.berths) (all_after p.after))
 
 -- ---- the port is still one
 
@@ -78,6 +80,7 @@ ship_kept p withdrawn s k = record {
   ascends = k.ascends;
   tugs = k.tugs;
   job = k.job;
+  closed = k.closed;
 }
 
 fewer : (fleet withdrawn : ℕ) → fleet ≤ 1_000 → Within (pos 0) (pos 1_000) (pos (fleet - withdrawn))
@@ -86,8 +89,11 @@ fewer fleet withdrawn le = record { low = omega (arith, ints); high = omega (ari
 port_kept : (p : Parts) (withdrawn : ℕ) → PortKept p → PortKept (fewer_tugs withdrawn p)
 port_kept p withdrawn k = record {
   version = k.version;
+  start = k.start;
   slots = k.slots;
   slot_minutes = k.slot_minutes;
+  heights = k.heights;
+  closed = k.closed;
   waypoint_count = k.waypoint_count;
   waypoints = k.waypoints;
   waypoint_names = k.waypoint_names;
@@ -104,6 +110,8 @@ port_kept p withdrawn k = record {
   ship_names = k.ship_names;
   berth_count = k.berth_count;
   berths = k.berths;
+  after_count = k.after_count;
+  after = k.after;
 }
 
 -- ---- nothing broken

@@ -4,4 +4,5 @@ pub mod Keeping
 pub mod Audits
 pub mod Laws
 pub mod Text
+pub mod Calls
 pub mod Rows

@@ -1,5 +1,6 @@
 //! The laws of a timetable that is watched: each is the clause of a function without a body.
 
+ghost use Rattle.hw_audit.specs.Calls.{CallRows};
 ghost use Rattle.hw_audit.specs.Laws.{TakenKeeps, AllTakenKeep, LessenedFits, BrokenExactly, NoneBroken, NoneBrokenFirst, NonePortBroken, NonePortBrokenAfter, SameTimetables};
 ghost use Rattle.hw_audit.specs.Rows.{WatchRows, TextRows};
 
@@ -58,4 +59,9 @@ pub fn watch_rows()
 /// Worked rows: what texts of timetables and of events say.
 pub fn text_rows()
     ensures { TextRows }
+{}
+
+/// Worked rows: what is broken where ships are delayed into closed slots, or after other ships.
+pub fn call_rows()
+    ensures { CallRows }
 {}

@@ -23,7 +23,7 @@ bar_where s (Some a) between =
 
 pub bars_are_slots : (chart : ChartParts) (v slot : ℕ) (s : ShipParts) → PortKept chart.port → slice_get chart.port.ships v ≡ Some s → (bar_level chart v s slot < foot_of s) ↔ IsSome (value chart.port chart.tide v slot)
 bars_are_slots chart v slot s kept at =
-    rw at (bar_where s (usable_draft chart.port.waypoints chart.tide s slot) (sails_between chart.port chart.tide s slot (ship_kept chart.port v s kept at).load))
+    rw at (bar_where s (usable_draft chart.port chart.tide s slot) (sails_between chart.port chart.tide s slot (ship_kept chart.port v s kept at).load))
 
 pub full_where : (b : Bool) (tall : ℕ) (P : Type 0) → 0 < tall → (b ≡ true) ↔ P → (◌≡◌ {A = ℕ} (if b then 0 else tall) 0) ↔ P
 full_where true tall P some means = (λ e. means.0 refl, λ p. refl)

@@ -10,7 +10,7 @@ use Rattle.hw_port.specs.Parts.{ShipParts}
 use Rattle.hw_port.specs.Whole.{Parts}
 use Rattle.hw_tide.specs.Levels.{TideParts}
 use Rattle.hw_port_laws.proofs.Ships.{ship_kept}
-use Rattle.hw_port_rules.specs.Drafts.{allowed_draft, floating, in_window, loaded, sailing, sailing_draft}
+use Rattle.hw_port_rules.specs.Drafts.{allowed_draft, floating, in_window, loaded, may_sail, sailing, sailing_draft}
 use Rattle.hw_port_rules.specs.Numbers.{is_outgoing, whole}
 use Rattle.hw_svg.specs.Numbers.{metres}
 use Rattle.hw_port_chart.proofs.Bounds.{sails_between}
@@ -108,8 +108,9 @@ late z slot low lt le = grind (arith, ints)
 
 outside : (p : Parts) (h : TideParts) (s : ShipParts) (slot : ℕ) → ShipKept p s → (slot < whole s.earliest) ⊎ (whole s.latest < slot) → sailing_draft p h s slot ≡ None
 outside p h s slot k out =
-    outside_by (in_window s slot) s (option_and_then (floating s) (allowed_draft p.waypoints h s slot)) (λ e.
-    let w = and_parts (int_le s.earliest (pos slot)) (int_le (pos slot) s.latest) e in
+    outside_by (may_sail p s slot) s (option_and_then (floating s) (allowed_draft p h s slot)) (λ e.
+    let m = and_parts (in_window s slot) _ e in
+    let w = and_parts (int_le s.earliest (pos slot)) (int_le (pos slot) s.latest) m.0 in
     elim out [
       | inl before ↦ early s.earliest slot k.earliest.low before (le_from_test s.earliest (pos slot) w.0)
       | inr after ↦ late s.latest slot k.latest.low after (le_from_test (pos slot) s.latest w.1)

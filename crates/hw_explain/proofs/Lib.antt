@@ -3,3 +3,4 @@ pub mod Parallel
 pub mod Windows
 pub mod Means
 pub mod Numbers
+pub mod Told

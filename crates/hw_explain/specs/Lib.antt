@@ -1,4 +1,5 @@
 pub mod Restrictions
+pub mod Closed
 pub mod Lines
 pub mod Meaning
 pub mod Laws

@@ -4,14 +4,16 @@ use Rattle.std.specs.Option.{option_map_or}
 use Rattle.hw_port.specs.Whole.{Parts}
 use Rattle.hw_flat.specs.TextWritten.{led}
 use Rattle.hw_explain.specs.declared.named.Named.{Named}
-use Rattle.hw_explain.specs.declared.named.Named.TheVariants.{Window, Separation, Sections, Berth, Tugs}
+use Rattle.hw_explain.specs.declared.named.Named.TheVariants.{Window, Separation, Sections, Berth, After, Tugs}
 use Rattle.hw_explain.specs.Restrictions.{named_restrictions}
+use Rattle.hw_explain.specs.Closed.{window_told}
 
 abbrev pub kind_text : Named → List ℕ
 kind_text (Window ship) = codes "window"
 kind_text (Separation v w after before) = codes "separation"
 kind_text (Sections v w sections) = codes "sections"
 kind_text (Berth v w clear) = codes "berth"
+kind_text (After v w gap) = codes "after"
 kind_text (Tugs fleet) = codes "tugs"
 
 -- the numbers after the kind
@@ -20,6 +22,7 @@ numbers_of (Window ship) = ship ∷ []
 numbers_of (Separation v w after before) = v ∷ w ∷ after ∷ before ∷ []
 numbers_of (Sections v w sections) = v ∷ w ∷ sections
 numbers_of (Berth v w clear) = v ∷ w ∷ clear ∷ []
+numbers_of (After v w gap) = v ∷ w ∷ gap ∷ []
 numbers_of (Tugs fleet) = fleet ∷ []
 
 abbrev pub ship_name : Parts → ℕ → List ℕ
@@ -34,6 +37,7 @@ names_of p (Window ship) = ship_name p ship ∷ []
 names_of p (Separation v w after before) = ship_name p v ∷ ship_name p w ∷ []
 names_of p (Sections v w sections) = ship_name p v ∷ ship_name p w ∷ map (section_name p) sections
 names_of p (Berth v w clear) = ship_name p v ∷ ship_name p w ∷ []
+names_of p (After v w gap) = ship_name p v ∷ ship_name p w ∷ []
 names_of p (Tugs fleet) = []
 
 -- names, each after a slash
@@ -46,9 +50,18 @@ abbrev pub names_text : List (List ℕ) → List ℕ
 names_text [] = []
 names_text (name ∷ names) = codes " " ++ name ++ slashed names
 
+-- after the line of a window stands what closes slots of it
+abbrev pub with_closed : Parts → Named → List ℕ → List ℕ
+with_closed p (Window ship) text = text ++ window_told p ship
+with_closed p (Separation v w after before) text = text
+with_closed p (Sections v w sections) text = text
+with_closed p (Berth v w clear) text = text
+with_closed p (After v w gap) text = text
+with_closed p (Tugs fleet) text = text
+
 -- the line of a restriction: its number, its kind, numbers and names
 abbrev pub named_line : Parts → ℕ → Named → List ℕ
-named_line p number named = decimal number ++ 32 ∷ kind_text named ++ led (map decimal (numbers_of named)) ++ names_text (names_of p named)
+named_line p number named = with_closed p named (decimal number ++ 32 ∷ kind_text named ++ led (map decimal (numbers_of named)) ++ names_text (names_of p named))
 
 -- the lines of restrictions, the first of which has this number
 abbrev pub named_lines : Parts → ℕ → List Named → List ℕ

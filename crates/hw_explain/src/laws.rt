@@ -1,5 +1,6 @@
 //! The laws of a port's restrictions, each a function without a body whose clause is the law.
 
+ghost use Rattle.hw_explain.specs.Closed.{ToldCloses};
 ghost use Rattle.hw_explain.specs.Laws.{EachIsNamed, NamedByRule, NamedMeans};
 
 /// As many restrictions are named as the flat problem of the port has.
@@ -16,4 +17,9 @@ pub fn named_by_rule()
 /// restriction of that number does.
 pub fn named_means()
     ensures { NamedMeans }
+{}
+
+/// Closed slots are told with a ship's window exactly where they close one of its slots.
+pub fn told_closes()
+    ensures { ToldCloses }
 {}

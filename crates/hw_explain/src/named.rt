@@ -45,6 +45,12 @@ pub enum Named {
         incoming: ShipId,
         clear: u32,
     },
+    /// The second ship sails at least `gap` slots after the first.
+    After {
+        first: ShipId,
+        second: ShipId,
+        gap: u32,
+    },
     /// In no slot are more tugs held than the fleet has.
     Tugs {
         fleet: u32,

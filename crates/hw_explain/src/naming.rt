@@ -2,17 +2,17 @@
 
 ghost use Rattle.std.specs.Prelude.{◌≡◌, ◌+◌, ◌<◌, ◌≤◌, ◌≤ℤ◌, pos, ◌++◌, ◌∷◌, [], length, map, All, OnOk, IfOk, slice_index_or};
 ghost use Rattle.std.specs.List.{list_any, range_with_len};
-ghost use Rattle.hw_port.specs.Kept.{RowKept, StretchKept, BerthKept, ShipKept, PortKept};
+ghost use Rattle.hw_port.specs.Kept.{RowKept, StretchKept, BerthKept, AfterKept, ShipKept, PortKept};
 ghost use Rattle.hw_port_rules.specs.Numbers.{whole, alike as same_direction, separation_of};
-ghost use Rattle.hw_explain.specs.Restrictions.{windows, uses, shared_sections, sharing, separation as apart, pair_named, named_with, named_from, berth_named, has_tugs, tugs_named, named_restrictions};
+ghost use Rattle.hw_explain.specs.Restrictions.{windows, uses, shared_sections, sharing, separation as apart, pair_named, named_with, named_from, berth_named, after_named, has_tugs, tugs_named, named_restrictions};
 
 use crate::named::{Named, Places};
 use hw_model::{MOST_SHIPS, NoMemory, ShipId};
-use hw_port::{BerthPair, Port, PortParts, Row, Section, Ship, Stretch};
+use hw_port::{AfterPair, BerthPair, Port, PortParts, Row, Section, Ship, Stretch};
 use std::alloc::{AllocError, Global};
 
 /// A number of a port that is never negative.
-fn natural(number: i64) -> u32
+pub(crate) fn natural(number: i64) -> u32
     requires least { pos 0 ≤ℤ number }
     requires most { number ≤ℤ pos 1_000 }
     ensures { result ≡ whole number }
@@ -234,6 +234,31 @@ fn push_berths(
     Ok(())
 }
 
+/// What a ship after another one asks for, where there are this many ships.
+fn after(ships: u32, pair: &AfterPair) -> Named
+    requires few { ships ≤ 40 }
+    requires pair { AfterKept (pos ships) pair.now }
+    ensures { result ≡ after_named pair.now }
+{
+    Named::After {
+        first: natural(pair.first),
+        second: natural(pair.second),
+        gap: natural(pair.gap),
+    }
+}
+
+/// Appends what ships after others ask for.
+fn push_after(list: &mut Vec<Named>, ships: u32, pairs: &[AfterPair]) -> Result<(), AllocError>
+    requires few { ships ≤ 40 }
+    requires pairs { All (AfterKept (pos ships)) pairs.now }
+    ensures { OnOk result (list.new.items ≡ list.old.items ++ map after_named pairs.now) }
+{
+    for pair in pairs {
+        list.push(after(ships, pair))?;
+    }
+    Ok(())
+}
+
 /// Whether some ship has tugs.
 fn some_have_tugs(ships: &[Ship]) -> bool
     ensures { result ≡ list_any has_tugs ships.now }
@@ -255,8 +280,8 @@ fn push_tugs(list: &mut Vec<Named>, parts: &PortParts) -> Result<(), AllocError>
 }
 
 /// What each restriction of a port's flat problem stands for, by its number: a window for each
-/// ship, a separation or shared sections for pairs of ships that have any, the berths, and the
-/// tugs where ships have some.
+/// ship, a separation or shared sections for pairs of ships that have any, the berths, the ships
+/// after others, and the tugs where ships have some.
 pub fn name_restrictions(alloc: Global, port: &Port) -> Result<Vec<Named>, NoMemory>
     ensures { IfOk result (λ list. list.items ≡ named_restrictions port.now) }
 {
@@ -265,6 +290,7 @@ pub fn name_restrictions(alloc: Global, port: &Port) -> Result<Vec<Named>, NoMem
     push_windows(&mut list, parts.ships.len() as u32)?;
     push_pairs(&mut list, parts, &parts.ships)?;
     push_berths(&mut list, &parts.ships, &parts.berths)?;
+    push_after(&mut list, parts.ships.len() as u32, &parts.after)?;
     push_tugs(&mut list, parts)?;
     Ok(list)
 }

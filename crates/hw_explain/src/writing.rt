@@ -1,9 +1,11 @@
 //! The text that explains a port's restrictions.
 
 ghost use Rattle.std.specs.Prelude.{◌≡◌, ◌+◌, ◌<◌, ◌≤◌, ◌^◌, ◌++◌, ◌∷◌, [], length, map, codes, decimal, OnOk, IfOk};
+ghost use Rattle.hw_port.specs.Kept.{PortKept};
 ghost use Rattle.hw_flat.specs.TextWritten.{led};
 ghost use Rattle.hw_explain.specs.Lines.{ship_name as name_of_ship, section_name as name_of_section, slashed, names_text, named_line, named_lines, explained};
 
+use crate::closed::put_closed;
 use crate::named::Named;
 use crate::naming::name_restrictions;
 use hw_model::{NoMemory, ShipId};
@@ -98,13 +100,15 @@ fn put_named(
     number: u64,
     named: &Named,
 ) -> Result<(), AllocError>
+    requires { PortKept parts.now }
     ensures { OnOk result (out.new.items ≡ out.old.items ++ named_line parts.now number named.now) }
 {
     match named {
         Named::Window { ship } => {
             put_head(out, number, b"window")?;
             put_numbers(out, &[*ship])?;
-            put_ship(out, parts, *ship)
+            put_ship(out, parts, *ship)?;
+            put_closed(out, parts, *ship)
         }
         Named::Separation {
             first,
@@ -136,6 +140,11 @@ fn put_named(
             put_numbers(out, &[*outgoing, *incoming, *clear])?;
             put_ships(out, parts, *outgoing, *incoming)
         }
+        Named::After { first, second, gap } => {
+            put_head(out, number, b"after")?;
+            put_numbers(out, &[*first, *second, *gap])?;
+            put_ships(out, parts, *first, *second)
+        }
         Named::Tugs { fleet } => {
             put_head(out, number, b"tugs")?;
             put_numbers(out, &[*fleet])
@@ -145,6 +154,7 @@ fn put_named(
 
 /// Appends the lines of restrictions, the first of which has the number 0.
 fn put_lines(out: &mut Vec<u8>, parts: &PortParts, list: &[Named]) -> Result<(), AllocError>
+    requires { PortKept parts.now }
     ensures { OnOk result (out.new.items ≡ out.old.items ++ named_lines parts.now 0 list.now) }
 {
     for (number, named) in list.iter().enumerate() {
@@ -158,7 +168,8 @@ fn put_lines(out: &mut Vec<u8>, parts: &PortParts, list: &[Named]) -> Result<(),
 /// problem one line, and `end`.
 ///
 /// A line has the number, the kind, the places of the ships and other numbers, and at its end the
-/// names, with a slash between two, since a name may hold any printable sign.
+/// names, with a slash between two, since a name may hold any printable sign. After the name of a
+/// window's ship stands what closes slots of the window.
 pub fn explain(alloc: Global, port: &Port) -> Result<Vec<u8>, NoMemory>
     ensures { IfOk result (λ text. text.items ≡ explained port.now) }
 {

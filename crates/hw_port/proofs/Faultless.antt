@@ -1,5 +1,5 @@
 -- A port that keeps the meaning rules has no fault.
-use Rattle.std.proofs.Common.{◌≡◌, ℕ, zero, suc, ◌+◌, ◌≤◌, ◌≤ℤ◌, ◌<ℤ◌, ℤ, pos, negsuc, Bool, true, false, not, ◌&&◌, List, [], ◌∷◌, length, take, slice_get, Option, Some, None, refl, sym, ap, subst, arith, All, nat_le, int_le, int_lt}
+use Rattle.std.proofs.Common.{◌≡◌, ℕ, zero, suc, ◌+◌, ◌≤◌, ◌≤ℤ◌, ◌<ℤ◌, ℤ, pos, negsuc, Bool, true, false, not, ◌&&◌, List, [], ◌∷◌, length, take, slice_get, Option, Some, None, IfSome, refl, sym, ap, subst, arith, All, nat_le, int_le, int_lt}
 use Rattle.std.proofs.lemmas.Bool.{and_from}
 use Rattle.std.proofs.lemmas.Bool.Decides.{nat_tests}
 use Rattle.std.proofs.lemmas.Int.{ints}
@@ -13,14 +13,20 @@ use Rattle.hw_port.specs.declared.parts.Section.{Section}
 use Rattle.hw_port.specs.declared.parts.Pass.{Pass}
 use Rattle.hw_port.specs.declared.parts.Stretch.{Stretch}
 use Rattle.hw_port.specs.declared.parts.BerthPair.{BerthPair}
+use Rattle.hw_port.specs.declared.parts.Closing.{Closing}
+use Rattle.hw_port.specs.declared.parts.AfterPair.{AfterPair}
+use Rattle.hw_port.specs.declared.places.Place.{Place}
+use Rattle.std.specs.Ordering.{int_eq}
 use Rattle.hw_port.specs.Parts.{ShipParts}
 use Rattle.hw_port.specs.Whole.{Parts}
-use Rattle.hw_port.specs.Faults.{◌or_else◌, unless, each, at_item}
-use Rattle.hw_port.specs.Rules.{in_range, is_place, is_name, is_direction, range, place, count, at_least, above, new_name, among}
+use Rattle.hw_port.specs.Faults.{◌or_else◌, unless, each, at, at_item}
+use Rattle.hw_port.specs.Rules.{in_range, is_place, is_name, is_direction, range, place, count, at_least, above, new_name, among, is_heights}
 use Rattle.hw_port.specs.Ships.{sort_fault, window_fault, load_fault, pass_fault, route_fault, stretch_fault, stretches_fault, channel_fault, tugs_fault, ship_fault}
-use Rattle.hw_port.specs.Meaning.{calendar_fault, waypoint_fault, waypoints_fault, section_fault, sections_fault, gap_fault, row_fault, separation_fault, tug_fault, ships_fault, has_direction, ship_at, side_fault, berth_fault, berths_fault, port_fault}
-use Rattle.hw_port.specs.Kept.{Within, IsPlace, Counts, WaypointKept, SectionKept, RowKept, PassKept, StretchKept, Ascends, ShipKept, BerthKept, PortKept, FaultlessIsKept, IsName, Sails}
-use Rattle.hw_port.proofs.Wording.{from_name, from_direction, from_sails}
+use Rattle.hw_port.specs.Meaning.{start_fault, calendar_fault, waypoint_fault, waypoints_fault, section_fault, sections_fault, gap_fault, row_fault, separation_fault, tug_fault, ships_fault, has_direction, ship_at, side_fault, berth_fault, berths_fault, heights_fault, after_fault, afters_fault, port_fault}
+use Rattle.hw_port.specs.Starts.{is_start}
+use Rattle.hw_port.specs.Closings.{closing_fault, closed_fault}
+use Rattle.hw_port.specs.Kept.{ClosingKept, ClosedKept, AfterKept, Within, IsPlace, Counts, WaypointKept, SectionKept, RowKept, PassKept, StretchKept, Ascends, ShipKept, BerthKept, PortKept, FaultlessIsKept, IsStart, IsName, Sails}
+use Rattle.hw_port.proofs.Wording.{from_name, from_direction, from_heights, from_differ, from_sails}
 use Rattle.hw_port.proofs.Differing.{fresh_by}
 use Rattle.hw_port.proofs.KeptPorts.{port_kept}
 
@@ -82,9 +88,17 @@ kept_at P (y ∷ ys) (suc k) x all get = kept_at P ys k x (λ i d lt. all (suc i
 
 -- ---- the rules
 
+good_closing : (from to : Place) (outer : Option ℕ) (many : ℤ) (k : ℕ) (c : Closing) → ClosingKept many c → closing_fault from to outer many k c ≡ None
+unfolding closing_fault
+good_closing from to outer many k c kept = both _ _ (in_its_place _ _ _ kept.from) (both _ _ (in_its_place _ _ _ kept.to) (is_at_least _ _ _ kept.order))
+
+good_closed : (list : Path) (from to : Place) (outer : Option ℕ) (most : ℕ) (many : ℤ) (closings : List Closing) → ClosedKept most many closings → closed_fault list from to outer most many closings ≡ None
+unfolding closed_fault
+good_closed list from to outer most many closings kept = both _ _ (so_many _ _ _ _ kept.size) (each_good (closing_fault from to outer many) (ClosingKept many) (good_closing from to outer many) 0 closings kept.each)
+
 good_waypoint : (all : List Waypoint) (i : ℕ) (w : Waypoint) → WaypointKept w → among (λ v. v.name) w.name (take i all) ≡ false → waypoint_fault all i w ≡ None
 unfolding waypoint_fault
-good_waypoint all i w kept fresh = both _ _ (named _ _ _ kept.name fresh) (in_its_range _ _ _ _ kept.depth)
+good_waypoint all i w kept fresh = both _ _ (named _ _ _ kept.name fresh) (both _ _ (in_its_range _ _ _ _ kept.depth) (good_closed _ _ _ _ _ _ _ kept.closed))
 
 good_section : (all : List Section) (i : ℕ) (s : Section) → SectionKept s → among (λ v. v.name) s.name (take i all) ≡ false → section_fault all i s ≡ None
 unfolding section_fault
@@ -118,7 +132,8 @@ good_ship p i s kept fresh =
     (both (load_fault i s.tpc s.light s.deep) _ (both _ _ (in_its_range _ _ _ _ kept.tpc) (both _ _ (in_its_range _ _ _ _ kept.light) (both _ _ (in_its_range _ _ _ _ kept.deep) (is_at_least _ _ _ kept.load))))
     (both (route_fault i (pos (length p.waypoints)) s.route) _ (both _ _ (so_many _ _ _ _ kept.passes) (each_good (pass_fault i (pos (length p.waypoints))) (PassKept (pos (length p.waypoints))) (good_pass i (pos (length p.waypoints))) 0 s.route kept.route))
     (both (channel_fault i (pos (length p.sections)) s.channel) _ (both _ _ (so_many _ _ _ _ kept.stretches) (good_stretches i (pos (length p.sections)) 0 (negsuc 0) s.channel kept.channel kept.ascends))
-    (both _ _ (in_its_range _ _ _ _ kept.tugs) (in_its_range _ _ _ _ kept.job))))))
+    (both (tugs_fault i s.tugs s.job) _ (both _ _ (in_its_range _ _ _ _ kept.tugs) (in_its_range _ _ _ _ kept.job))
+    (good_closed _ _ _ _ _ _ _ kept.closed))))))
 
 good_side : (path : Path) (direction : List ℕ) (ships : List ShipParts) (ship : ℤ) → IsPlace (pos (length ships)) ship → Sails direction ships ship → side_fault path direction ships ship ≡ None
 unfolding side_fault
@@ -128,10 +143,21 @@ good_berth : (ships : List ShipParts) (i : ℕ) (b : BerthPair) → BerthKept sh
 unfolding berth_fault
 good_berth ships i b kept = both _ _ (good_side _ _ _ _ kept.outgoing_place kept.outgoing_side) (both _ _ (good_side _ _ _ _ kept.incoming_place kept.incoming_side) (in_its_range _ _ _ _ kept.clear))
 
+good_after : (ships : ℤ) (i : ℕ) (a : AfterPair) → AfterKept ships a → after_fault ships i a ≡ None
+unfolding after_fault
+good_after ships i a kept = both _ _ (in_its_place _ _ _ kept.first) (both _ _ (in_its_place _ _ _ kept.second) (both _ _ (holds (at_item places.AfterSecond i) Order (not (int_eq a.first a.second)) (from_differ a.first a.second kept.differ)) (in_its_range _ _ _ _ kept.gap)))
+
+good_start : (start : Option (List ℕ)) → IfSome start IsStart → start_fault start ≡ None
+unfolding start_fault
+good_start None h = refl
+good_start (Some text) h = holds (at places.Start) Name (is_start text) h
+
 port_good : (p : Parts) → PortKept p → port_fault p ≡ None
-unfolding port_fault calendar_fault waypoints_fault sections_fault separation_fault tug_fault ships_fault berths_fault
+unfolding port_fault calendar_fault heights_fault afters_fault waypoints_fault sections_fault separation_fault tug_fault ships_fault berths_fault
 port_good p kept =
-    both (calendar_fault p.version p.slots p.slot_minutes) _ (both _ _ (in_its_range _ _ _ _ kept.version) (both _ _ (in_its_range _ _ _ _ kept.slots) (in_its_range _ _ _ _ kept.slot_minutes)))
+    both (calendar_fault p.version p.start p.slots p.slot_minutes) _ (both _ _ (in_its_range _ _ _ _ kept.version) (both (start_fault p.start) _ (good_start p.start kept.start) (both _ _ (in_its_range _ _ _ _ kept.slots) (in_its_range _ _ _ _ kept.slot_minutes))))
+    (both (heights_fault p.heights) _ (holds (at places.Heights) Name (is_heights p.heights) (from_heights p.heights kept.heights))
+    (both _ _ (good_closed _ _ _ _ _ _ _ kept.closed)
     (both (waypoints_fault p.waypoints) _ (both _ _ (so_many _ _ _ _ kept.waypoint_count) (no_fault (waypoint_fault p.waypoints) 0 p.waypoints (λ k at w e get.
     let here : at ≡ k = omega (arith, e) in
     subst (λ n. waypoint_fault p.waypoints n w ≡ None) (sym here) (good_waypoint p.waypoints k w (kept_at WaypointKept p.waypoints k w kept.waypoints get) (fresh_by (λ v. v.name) p.waypoints kept.waypoint_names k w get)))))
@@ -143,7 +169,8 @@ port_good p kept =
     (both (ships_fault p) _ (both _ _ (so_many _ _ _ _ kept.ship_count) (no_fault (ship_fault p) 0 p.ships (λ k at s e get.
     let here : at ≡ k = omega (arith, e) in
     subst (λ n. ship_fault p n s ≡ None) (sym here) (good_ship p k s (kept_at (ShipKept p) p.ships k s kept.ships get) (fresh_by (λ v. v.name) p.ships kept.ship_names k s get)))))
-    (both _ _ (so_many _ _ _ _ kept.berth_count) (each_good (berth_fault p.ships) (BerthKept p.ships) (good_berth p.ships) 0 p.berths kept.berths)))))))
+    (both (berths_fault p.ships p.berths) _ (both _ _ (so_many _ _ _ _ kept.berth_count) (each_good (berth_fault p.ships) (BerthKept p.ships) (good_berth p.ships) 0 p.berths kept.berths))
+    (both _ _ (so_many _ _ _ _ kept.after_count) (each_good (after_fault (pos (length p.ships))) (AfterKept (pos (length p.ships))) (good_after (pos (length p.ships))) 0 p.after kept.after))))))))))
 
 pub faultless_law : FaultlessIsKept
 faultless_law = λ p. (port_kept p, port_good p)

@@ -11,12 +11,18 @@ use Rattle.hw_port.specs.declared.parts.Turnaround.{Turnaround}
 use Rattle.hw_port.specs.declared.parts.Pass.{Pass}
 use Rattle.hw_port.specs.declared.parts.Stretch.{Stretch}
 use Rattle.hw_port.specs.declared.parts.BerthPair.{BerthPair}
+use Rattle.hw_port.specs.declared.parts.Closing.{Closing}
+use Rattle.hw_port.specs.declared.parts.AfterPair.{AfterPair}
+use Rattle.hw_port.specs.declared.places.Place.{Place}
+use Rattle.std.specs.Ordering.{int_eq}
 use Rattle.hw_port.specs.Parts.{ShipParts}
 use Rattle.hw_port.specs.Whole.{Parts}
-use Rattle.hw_port.specs.Faults.{◌or_else◌, unless, each, fault_of, at_item}
-use Rattle.hw_port.specs.Rules.{range, place, count, at_least, above, new_name, is_name, is_direction, in_range, is_place}
+use Rattle.hw_port.specs.Faults.{◌or_else◌, unless, each, fault_of, at, at_item}
+use Rattle.hw_port.specs.Rules.{range, place, count, at_least, above, new_name, is_name, is_direction, in_range, is_place, is_heights}
+use Rattle.hw_port.specs.Starts.{is_start}
+use Rattle.hw_port.specs.Closings.{closing_fault, closed_fault}
 use Rattle.hw_port.specs.Ships.{sort_fault, window_fault, load_fault, pass_fault, route_fault, stretch_fault, stretches_fault, channel_fault, tugs_fault, ship_fault}
-use Rattle.hw_port.specs.Meaning.{calendar_fault, waypoint_fault, waypoints_fault, section_fault, sections_fault, gap_fault, row_fault, separation_fault, tug_fault, ships_fault, has_direction, ship_at, side_fault, berth_fault, berths_fault, port_fault, IsMeaning}
+use Rattle.hw_port.specs.Meaning.{start_fault, calendar_fault, waypoint_fault, waypoints_fault, section_fault, sections_fault, gap_fault, row_fault, separation_fault, tug_fault, ships_fault, has_direction, ship_at, side_fault, berth_fault, berths_fault, heights_fault, after_fault, afters_fault, port_fault, IsMeaning}
 
 -- no fault, or one of meaning
 abbrev Means : Option PortFault → Type 0
@@ -59,9 +65,17 @@ of_name : (path : Path) (used : Bool) (text : List ℕ) → Means (new_name path
 unfolding new_name
 of_name path used text = either (unless path Name (is_name text)) (unless path Repeat (not used)) (of_test path Name (is_name text) tt) (of_test path Repeat (not used) tt)
 
+of_closing : (from to : Place) (outer : Option ℕ) (many : ℤ) (k : ℕ) (c : Closing) → Means (closing_fault from to outer many k c)
+unfolding closing_fault
+of_closing from to outer many k c = either _ _ (of_place _ _ _) (either _ _ (of_place _ _ _) (of_least _ _ _))
+
+of_closed : (list : Path) (from to : Place) (outer : Option ℕ) (most : ℕ) (many : ℤ) (closings : List Closing) → Means (closed_fault list from to outer most many closings)
+unfolding closed_fault
+of_closed list from to outer most many closings = either _ _ (of_count _ _ _ _) (of_each (closing_fault from to outer many) (of_closing from to outer many) 0 closings)
+
 of_waypoint : (all : List Waypoint) (i : ℕ) (w : Waypoint) → Means (waypoint_fault all i w)
 unfolding waypoint_fault
-of_waypoint all i w = either _ _ (of_name _ _ _) (of_range _ _ _ _)
+of_waypoint all i w = either _ _ (of_name _ _ _) (either _ _ (of_range _ _ _ _) (of_closed _ _ _ _ _ _ _))
 
 of_section : (all : List Section) (i : ℕ) (s : Section) → Means (section_fault all i s)
 unfolding section_fault
@@ -113,7 +127,7 @@ of_tugs i tugs job = either _ _ (of_range _ _ _ _) (of_range _ _ _ _)
 
 of_ship : (p : Parts) (i : ℕ) (s : ShipParts) → Means (ship_fault p i s)
 unfolding ship_fault
-of_ship p i s = either _ _ (of_sort _ _ _ _) (either _ _ (of_window _ _ _ _) (either _ _ (of_load _ _ _ _) (either _ _ (of_route _ _ _) (either _ _ (of_channel _ _ _) (of_tugs _ _ _)))))
+of_ship p i s = either _ _ (of_sort _ _ _ _) (either _ _ (of_window _ _ _ _) (either _ _ (of_load _ _ _ _) (either _ _ (of_route _ _ _) (either _ _ (of_channel _ _ _) (either _ _ (of_tugs _ _ _) (of_closed _ _ _ _ _ _ _))))))
 
 of_side : (path : Path) (direction : List ℕ) (ships : List ShipParts) (ship : ℤ) → Means (side_fault path direction ships ship)
 unfolding side_fault
@@ -123,9 +137,14 @@ of_berth : (ships : List ShipParts) (i : ℕ) (b : BerthPair) → Means (berth_f
 unfolding berth_fault
 of_berth ships i b = either _ _ (of_side _ _ _ _) (either _ _ (of_side _ _ _ _) (of_range _ _ _ _))
 
-of_calendar : (version slots slot_minutes : ℤ) → Means (calendar_fault version slots slot_minutes)
+of_start : (start : Option (List ℕ)) → Means (start_fault start)
+unfolding start_fault
+of_start None = tt
+of_start (Some text) = of_test (at places.Start) Name (is_start text) tt
+
+of_calendar : (version : ℤ) (start : Option (List ℕ)) (slots slot_minutes : ℤ) → Means (calendar_fault version start slots slot_minutes)
 unfolding calendar_fault
-of_calendar version slots slot_minutes = either _ _ (of_range _ _ _ _) (either _ _ (of_range _ _ _ _) (of_range _ _ _ _))
+of_calendar version start slots slot_minutes = either _ _ (of_range _ _ _ _) (either _ _ (of_start start) (either _ _ (of_range _ _ _ _) (of_range _ _ _ _)))
 
 of_waypoints : (all : List Waypoint) → Means (waypoints_fault all)
 unfolding waypoints_fault
@@ -151,9 +170,21 @@ of_berths : (ships : List ShipParts) (berths : List BerthPair) → Means (berths
 unfolding berths_fault
 of_berths ships berths = either _ _ (of_count _ _ _ _) (of_each (berth_fault ships) (of_berth ships) 0 berths)
 
+of_heights : (text : List ℕ) → Means (heights_fault text)
+unfolding heights_fault
+of_heights text = of_test (at places.Heights) Name (is_heights text) tt
+
+of_after : (ships : ℤ) (i : ℕ) (a : AfterPair) → Means (after_fault ships i a)
+unfolding after_fault
+of_after ships i a = either _ _ (of_place _ _ _) (either _ _ (of_place _ _ _) (either _ _ (of_test (at_item places.AfterSecond i) Order (not (int_eq a.first a.second)) tt) (of_range _ _ _ _)))
+
+of_afters : (ships : ℤ) (pairs : List AfterPair) → Means (afters_fault ships pairs)
+unfolding afters_fault
+of_afters ships pairs = either _ _ (of_count _ _ _ _) (of_each (after_fault ships) (of_after ships) 0 pairs)
+
 of_port : (p : Parts) → Means (port_fault p)
 unfolding port_fault
-of_port p = either _ _ (of_calendar _ _ _) (either _ _ (of_waypoints _) (either _ _ (of_sections _) (either _ _ (of_rows _) (either _ _ (of_turnaround _ _) (either _ _ (of_ships _) (of_berths _ _))))))
+of_port p = either _ _ (of_calendar _ _ _ _) (either _ _ (of_heights _) (either _ _ (of_closed _ _ _ _ _ _ _) (either _ _ (of_waypoints _) (either _ _ (of_sections _) (either _ _ (of_rows _) (either _ _ (of_turnaround _ _) (either _ _ (of_ships _) (either _ _ (of_berths _ _) (of_afters _ _)))))))))
 
 pub told_meaning : {A : Type 0} (r : Result A PortFault) (p : Parts) → fault_of r ≡ port_fault p → IfErr r (λ f. IsMeaning f.word)
 told_meaning (Ok x) p e = tt

@@ -1,13 +1,16 @@
 -- What the parts of a port that keeps the meaning rules are like, as callers use it.
-use Rattle.std.specs.Prelude.{◌≡◌, ◌≢◌, ◌↔◌, ◌⊎◌, ◌-◌, ◌<◌, ◌≤◌, ◌≤ℤ◌, ◌<ℤ◌, ℕ, ℤ, pos, negsuc, List, [], ◌∷◌, length, All, IsSomeAnd, Some, None, slice_get, slice_index}
+use Rattle.std.specs.Prelude.{◌≡◌, ◌≢◌, ◌↔◌, ◌⊎◌, ◌-◌, ◌<◌, ◌≤◌, ◌≤ℤ◌, ◌<ℤ◌, ℕ, ℤ, pos, negsuc, List, [], ◌∷◌, length, All, IfSome, IsSomeAnd, Some, None, true, slice_get, slice_index}
 use Rattle.hw_port.specs.declared.parts.Waypoint.{Waypoint}
 use Rattle.hw_port.specs.declared.parts.Section.{Section}
 use Rattle.hw_port.specs.declared.parts.Pass.{Pass}
 use Rattle.hw_port.specs.declared.parts.Stretch.{Stretch}
 use Rattle.hw_port.specs.declared.parts.BerthPair.{BerthPair}
+use Rattle.hw_port.specs.declared.parts.Closing.{Closing}
+use Rattle.hw_port.specs.declared.parts.AfterPair.{AfterPair}
 use Rattle.hw_port.specs.Parts.{ShipParts}
 use Rattle.hw_port.specs.Whole.{Parts}
-use Rattle.hw_port.specs.Rules.{outgoing, incoming}
+use Rattle.hw_port.specs.Rules.{outgoing, incoming, start_heights, least_heights}
+use Rattle.hw_port.specs.Starts.{is_start}
 use Rattle.hw_port.specs.Meaning.{ship_at, port_fault}
 
 -- a number from low to high
@@ -40,6 +43,14 @@ pub record IsName (text : List ℕ) : Type 0 where
 abbrev pub IsDirection : List ℕ → Type 0
 IsDirection text = (text ≡ outgoing) ⊎ (text ≡ incoming)
 
+-- one of the two ways to take the height of a slot
+abbrev pub IsHeights : List ℕ → Type 0
+IsHeights text = (text ≡ start_heights) ⊎ (text ≡ least_heights)
+
+-- the text of a date and a time
+abbrev pub IsStart : List ℕ → Type 0
+IsStart text = is_start text ≡ true
+
 -- the ship of this place sails in this direction
 abbrev pub Sails : List ℕ → List ShipParts → ℤ → Type 0
 Sails direction ships place = IsSomeAnd (ship_at ships place) (λ s. s.direction ≡ direction)
@@ -48,9 +59,21 @@ Sails direction ships place = IsSomeAnd (ship_at ships place) (λ s. s.direction
 abbrev pub Differ : {A : Type 0} → (A → List ℕ) → List A → Type 0
 Differ {A} named xs = (i j : ℕ) (x y : A) → i < j → slice_get xs i ≡ Some x → slice_get xs j ≡ Some y → named x ≢ named y
 
+-- both ends are slots below `many`, and the last isn't before the first
+pub record ClosingKept (many : ℤ) (c : Closing) : Type 0 where
+  pub from : IsPlace many c.from
+  pub to : IsPlace many c.to
+  pub order : c.from ≤ℤ c.to
+
+-- at most so many, each of slots below `many`
+pub record ClosedKept (most : ℕ) (many : ℤ) (closings : List Closing) : Type 0 where
+  pub size : Counts 0 most (length closings)
+  pub each : All (ClosingKept many) closings
+
 pub record WaypointKept (w : Waypoint) : Type 0 where
   pub name : IsName w.name
   pub depth : Within (pos 0) (pos 10000) w.depth
+  pub closed : ClosedKept 32 (pos 1535) w.closed
 
 abbrev pub SectionKept : Section → Type 0
 SectionKept s = IsName s.name
@@ -95,6 +118,7 @@ pub record ShipKept (p : Parts) (s : ShipParts) : Type 0 where
   pub ascends : Ascends (negsuc 0) s.channel
   pub tugs : Within (pos 0) (pos 64) s.tugs
   pub job : Within (pos 1) (pos 512) s.job
+  pub closed : ClosedKept 32 p.slots s.closed
 
 -- the rules of a berth pair: an outgoing and an incoming ship, and the number of slots to clear
 pub record BerthKept (ships : List ShipParts) (b : BerthPair) : Type 0 where
@@ -104,11 +128,21 @@ pub record BerthKept (ships : List ShipParts) (b : BerthPair) : Type 0 where
   pub incoming_side : Sails incoming ships b.incoming
   pub clear : Within (pos 1) (pos 512) b.clear
 
+-- the rules of a pair of ships one after the other: two different ones, and the number of slots between them
+pub record AfterKept (ships : ℤ) (a : AfterPair) : Type 0 where
+  pub first : IsPlace ships a.first
+  pub second : IsPlace ships a.second
+  pub differ : a.first ≢ a.second
+  pub gap : Within (pos 0) (pos 512) a.gap
+
 -- the rules of a port, field by field, as relations
 pub record PortKept (p : Parts) : Type 0 where
-  pub version : Within (pos 1) (pos 2) p.version
+  pub version : Within (pos 1) (pos 3) p.version
+  pub start : IfSome p.start IsStart
   pub slots : Within (pos 1) (pos 512) p.slots
   pub slot_minutes : Within (pos 1) (pos 1440) p.slot_minutes
+  pub heights : IsHeights p.heights
+  pub closed : ClosedKept 64 p.slots p.closed
   pub waypoint_count : Counts 1 16 (length p.waypoints)
   pub waypoints : All WaypointKept p.waypoints
   pub waypoint_names : Differ (λ w. w.name) p.waypoints
@@ -125,6 +159,8 @@ pub record PortKept (p : Parts) : Type 0 where
   pub ship_names : Differ (λ s. s.name) p.ships
   pub berth_count : Counts 0 200 (length p.berths)
   pub berths : All (BerthKept p.ships) p.berths
+  pub after_count : Counts 0 200 (length p.after)
+  pub after : All (AfterKept (pos (length p.ships))) p.after
 
 -- parts have no fault exactly where they are kept
 abbrev pub FaultlessIsKept : Type 0

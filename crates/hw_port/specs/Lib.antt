@@ -3,6 +3,8 @@ pub mod Whole
 pub mod Places
 pub mod Faults
 pub mod Rules
+pub mod Closings
+pub mod Starts
 pub mod Ships
 pub mod Meaning
 pub mod Kept

@@ -1,6 +1,7 @@
 -- The meaning rules of a port, in the order of the table.
-use Rattle.std.specs.Prelude.{ℕ, ℤ, pos, negsuc, List, length, take, Bool, false, Option, Some, None, Result, Ok, Err, bytes_eq}
+use Rattle.std.specs.Prelude.{ℕ, ℤ, pos, negsuc, List, length, take, Bool, false, not, Option, Some, None, Result, Ok, Err, bytes_eq}
 use Rattle.std.specs.List.{slice_get}
+use Rattle.std.specs.Ordering.{int_eq}
 use Rattle.hw_port.specs.declared.fault.Path.{Path}
 use Rattle.hw_port.specs.declared.fault.PortFault.{PortFault}
 use Rattle.hw_port.specs.declared.places.Place.TheVariants as places
@@ -10,22 +11,36 @@ use Rattle.hw_port.specs.declared.parts.Waypoint.{Waypoint}
 use Rattle.hw_port.specs.declared.parts.Section.{Section}
 use Rattle.hw_port.specs.declared.parts.Turnaround.{Turnaround}
 use Rattle.hw_port.specs.declared.parts.BerthPair.{BerthPair}
+use Rattle.hw_port.specs.declared.parts.AfterPair.{AfterPair}
 use Rattle.hw_port.specs.Parts.{ShipParts}
 use Rattle.hw_port.specs.Whole.{Parts}
 use Rattle.hw_port.specs.Faults.{◌or_else◌, unless, each, at, at_item, at_part}
-use Rattle.hw_port.specs.Rules.{range, place, count, new_name, among, outgoing, incoming}
+use Rattle.hw_port.specs.Rules.{range, place, count, new_name, among, outgoing, incoming, is_heights}
+use Rattle.hw_port.specs.Starts.{is_start}
+use Rattle.hw_port.specs.Closings.{closed_fault}
 use Rattle.hw_port.specs.Ships.{ship_fault}
 
-unfoldable pub calendar_fault : ℤ → ℤ → ℤ → Option PortFault
-calendar_fault version slots slot_minutes =
-    range (at places.Version) (pos 1) (pos 2) version
+-- where there is a start, it is a date and time
+unfoldable pub start_fault : Option (List ℕ) → Option PortFault
+start_fault None = None
+start_fault (Some text) = unless (at places.Start) Name (is_start text)
+
+unfoldable pub calendar_fault : ℤ → Option (List ℕ) → ℤ → ℤ → Option PortFault
+calendar_fault version start slots slot_minutes =
+    range (at places.Version) (pos 1) (pos 3) version
+    or_else start_fault start
     or_else range (at places.Slots) (pos 1) (pos 512) slots
     or_else range (at places.SlotMinutes) (pos 1) (pos 1440) slot_minutes
 
+unfoldable pub heights_fault : List ℕ → Option PortFault
+heights_fault heights = unless (at places.Heights) Name (is_heights heights)
+
+-- a waypoint is passed up to 1023 slots after the last one in which a ship sails, so it is closed in one of 1535 slots
 unfoldable pub waypoint_fault : List Waypoint → ℕ → Waypoint → Option PortFault
 waypoint_fault all i w =
     new_name (at_item places.WaypointName i) (among (λ v. v.name) w.name (take i all)) w.name
     or_else range (at_item places.WaypointDepth i) (pos 0) (pos 10000) w.depth
+    or_else closed_fault (at_item places.WaypointClosed i) places.WaypointClosingFrom places.WaypointClosingTo (Some i) 32 (pos 1535) w.closed
 
 unfoldable pub waypoints_fault : List Waypoint → Option PortFault
 waypoints_fault waypoints =
@@ -91,16 +106,32 @@ berths_fault ships berths =
     count (at places.Berths) 0 200 (length berths)
     or_else each (berth_fault ships) 0 berths
 
+-- the places of two different ships, and how many slots later the second sails at least
+unfoldable pub after_fault : ℤ → ℕ → AfterPair → Option PortFault
+after_fault ships i a =
+    place (at_item places.AfterFirst i) ships a.first
+    or_else place (at_item places.AfterSecond i) ships a.second
+    or_else unless (at_item places.AfterSecond i) Order (not (int_eq a.first a.second))
+    or_else range (at_item places.AfterGap i) (pos 0) (pos 512) a.gap
+
+unfoldable pub afters_fault : ℤ → List AfterPair → Option PortFault
+afters_fault ships pairs =
+    count (at places.After) 0 200 (length pairs)
+    or_else each (after_fault ships) 0 pairs
+
 -- the first fault of meaning, in the order of the table
 unfoldable pub port_fault : Parts → Option PortFault
 port_fault p =
-    calendar_fault p.version p.slots p.slot_minutes
+    calendar_fault p.version p.start p.slots p.slot_minutes
+    or_else heights_fault p.heights
+    or_else closed_fault (at places.Closed) places.ClosingFrom places.ClosingTo None 64 p.slots p.closed
     or_else waypoints_fault p.waypoints
     or_else sections_fault p.sections
     or_else separation_fault p.separation
     or_else tug_fault p.turnaround p.fleet
     or_else ships_fault p
     or_else berths_fault p.ships p.berths
+    or_else afters_fault (pos (length p.ships)) p.after
 
 -- the port of these parts, or their first fault
 abbrev pub refused_by : Option PortFault → Parts → Result Parts PortFault

@@ -54,6 +54,25 @@ line_of places.BerthOutgoing = (41, codes "berths.*.outgoing")
 line_of places.BerthIncoming = (42, codes "berths.*.incoming")
 line_of places.BerthClear = (43, codes "berths.*.clear")
 line_of places.ShipMayStay = (44, codes "ships.*.may_stay")
+line_of places.Heights = (45, codes "heights")
+line_of places.Closed = (46, codes "closed")
+line_of places.Closing = (47, codes "closed.*")
+line_of places.ClosingFrom = (48, codes "closed.*.from")
+line_of places.ClosingTo = (49, codes "closed.*.to")
+line_of places.WaypointClosed = (50, codes "waypoints.*.closed")
+line_of places.WaypointClosing = (51, codes "waypoints.*.closed.*")
+line_of places.WaypointClosingFrom = (52, codes "waypoints.*.closed.*.from")
+line_of places.WaypointClosingTo = (53, codes "waypoints.*.closed.*.to")
+line_of places.ShipClosed = (54, codes "ships.*.closed")
+line_of places.ShipClosing = (55, codes "ships.*.closed.*")
+line_of places.ShipClosingFrom = (56, codes "ships.*.closed.*.from")
+line_of places.ShipClosingTo = (57, codes "ships.*.closed.*.to")
+line_of places.After = (58, codes "after")
+line_of places.AfterPair = (59, codes "after.*")
+line_of places.AfterFirst = (60, codes "after.*.first")
+line_of places.AfterSecond = (61, codes "after.*.second")
+line_of places.AfterGap = (62, codes "after.*.gap")
+line_of places.Start = (63, codes "start")
 
 -- the number of a place
 abbrev pub number_of : Place → ℕ
@@ -65,7 +84,7 @@ text_of place = (line_of place).1
 
 -- the places in the order of their numbers
 abbrev pub all_places : List Place
-all_places = places.Root ∷ places.Version ∷ places.Slots ∷ places.SlotMinutes ∷ places.Waypoints ∷ places.Waypoint ∷ places.WaypointName ∷ places.WaypointDepth ∷ places.Sections ∷ places.Section ∷ places.Separation ∷ places.SeparationRow ∷ places.SeparationGap ∷ places.Turnaround ∷ places.TurnaroundOutgoing ∷ places.TurnaroundIncoming ∷ places.Fleet ∷ places.Ships ∷ places.Ship ∷ places.ShipName ∷ places.ShipDirection ∷ places.ShipClass ∷ places.ShipEarliest ∷ places.ShipLatest ∷ places.ShipTpc ∷ places.ShipLight ∷ places.ShipDeep ∷ places.ShipRoute ∷ places.Pass ∷ places.PassWaypoint ∷ places.PassOffset ∷ places.PassClearance ∷ places.ShipChannel ∷ places.Stretch ∷ places.StretchSection ∷ places.StretchEnter ∷ places.StretchLeave ∷ places.ShipTugs ∷ places.ShipJob ∷ places.Berths ∷ places.BerthPair ∷ places.BerthOutgoing ∷ places.BerthIncoming ∷ places.BerthClear ∷ places.ShipMayStay ∷ []
+all_places = places.Root ∷ places.Version ∷ places.Slots ∷ places.SlotMinutes ∷ places.Waypoints ∷ places.Waypoint ∷ places.WaypointName ∷ places.WaypointDepth ∷ places.Sections ∷ places.Section ∷ places.Separation ∷ places.SeparationRow ∷ places.SeparationGap ∷ places.Turnaround ∷ places.TurnaroundOutgoing ∷ places.TurnaroundIncoming ∷ places.Fleet ∷ places.Ships ∷ places.Ship ∷ places.ShipName ∷ places.ShipDirection ∷ places.ShipClass ∷ places.ShipEarliest ∷ places.ShipLatest ∷ places.ShipTpc ∷ places.ShipLight ∷ places.ShipDeep ∷ places.ShipRoute ∷ places.Pass ∷ places.PassWaypoint ∷ places.PassOffset ∷ places.PassClearance ∷ places.ShipChannel ∷ places.Stretch ∷ places.StretchSection ∷ places.StretchEnter ∷ places.StretchLeave ∷ places.ShipTugs ∷ places.ShipJob ∷ places.Berths ∷ places.BerthPair ∷ places.BerthOutgoing ∷ places.BerthIncoming ∷ places.BerthClear ∷ places.ShipMayStay ∷ places.Heights ∷ places.Closed ∷ places.Closing ∷ places.ClosingFrom ∷ places.ClosingTo ∷ places.WaypointClosed ∷ places.WaypointClosing ∷ places.WaypointClosingFrom ∷ places.WaypointClosingTo ∷ places.ShipClosed ∷ places.ShipClosing ∷ places.ShipClosingFrom ∷ places.ShipClosingTo ∷ places.After ∷ places.AfterPair ∷ places.AfterFirst ∷ places.AfterSecond ∷ places.AfterGap ∷ places.Start ∷ []
 
 -- the place of a number, if there is one
 abbrev pub place_at : ℕ → Option Place

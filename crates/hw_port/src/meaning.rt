@@ -1,24 +1,58 @@
 //! The meaning rules of a port, in the order of the table.
 
-ghost use Rattle.std.specs.Prelude.{◌≡◌, ◌≤◌, length, IfErr};
-ghost use Rattle.hw_port.specs.Faults.{fault_of, each};
+ghost use Rattle.std.specs.Prelude.{◌≡◌, ◌≤◌, length, pos, None, IfErr};
+ghost use Rattle.hw_port.specs.declared.places.Place.TheVariants as places;
+ghost use Rattle.hw_port.specs.Faults.{fault_of, each, at as at_path};
+ghost use Rattle.hw_port.specs.Closings.{closed_fault};
 ghost use Rattle.hw_port.specs.Rules.{among};
 ghost use Rattle.hw_port.specs.Ships.{ship_fault};
-ghost use Rattle.hw_port.specs.Meaning.{calendar_fault, waypoint_fault, waypoints_fault, section_fault, sections_fault, gap_fault, row_fault, separation_fault, tug_fault, ships_fault, has_direction, ship_at, side_fault, berth_fault, berths_fault, port_fault, IsMeaning};
+ghost use Rattle.hw_port.specs.Meaning.{start_fault, calendar_fault, waypoint_fault, waypoints_fault, section_fault, sections_fault, gap_fault, row_fault, separation_fault, tug_fault, ships_fault, has_direction, ship_at, side_fault, berth_fault, berths_fault, port_fault, heights_fault, after_fault, afters_fault, IsMeaning};
 
+use crate::closings::each_closing;
 use crate::fault::{Path, PortFault, PortWord};
-use crate::parts::{BerthPair, PortParts, Row, Section, Ship, Turnaround, Waypoint};
+use crate::parts::{
+    AfterPair, BerthPair, Closing, PortParts, Row, Section, Ship, Text, Turnaround, Waypoint,
+};
 use crate::places::Place;
-use crate::rules::{at, at_item, at_part, count, new_name, place, range, unless};
+use crate::rules::{at, at_item, at_part, count, is_heights, new_name, place, range, unless};
 use crate::ships::test_ship;
+use crate::starts::is_start;
+
+/// The fault `Name`, where there is a start that is no date and time.
+#[tactic(auto, unfolding(crate::specs::Meaning::start_fault))]
+fn start(start: &Option<Text>) -> Result<(), PortFault>
+    ensures { fault_of result ≡ start_fault start.now }
+{
+    match start {
+        None => Ok(()),
+        Some(text) => unless(at(Place::Start), PortWord::Name, is_start(&text.items)),
+    }
+}
 
 #[tactic(auto, unfolding(crate::specs::Meaning::calendar_fault))]
-fn calendar(version: i64, slots: i64, slot_minutes: i64) -> Result<(), PortFault>
-    ensures { fault_of result ≡ calendar_fault version slots slot_minutes }
+fn calendar(p: &PortParts) -> Result<(), PortFault>
+    ensures { fault_of result ≡ calendar_fault p.now.version p.now.start p.now.slots p.now.slot_minutes }
 {
-    range(at(Place::Version), 1, 2, version)?;
-    range(at(Place::Slots), 1, 512, slots)?;
-    range(at(Place::SlotMinutes), 1, 1440, slot_minutes)
+    range(at(Place::Version), 1, 3, p.version)?;
+    start(&p.start)?;
+    range(at(Place::Slots), 1, 512, p.slots)?;
+    range(at(Place::SlotMinutes), 1, 1440, p.slot_minutes)
+}
+
+#[tactic(auto, unfolding(crate::specs::Meaning::heights_fault))]
+fn heights(text: &[u8]) -> Result<(), PortFault>
+    ensures { fault_of result ≡ heights_fault text.now }
+{
+    unless(at(Place::Heights), PortWord::Name, is_heights(text))
+}
+
+/// The slots in which no ship of the port sails, which has `slots` of them.
+#[tactic(auto, unfolding(crate::specs::Closings::closed_fault))]
+fn closed(slots: i64, closings: &[Closing]) -> Result<(), PortFault>
+    ensures { fault_of result ≡ closed_fault (at_path places.Closed) places.ClosingFrom places.ClosingTo None 64 slots closings.now }
+{
+    count(at(Place::Closed), 0, 64, closings.len())?;
+    each_closing(Place::ClosingFrom, Place::ClosingTo, None, slots, closings)
 }
 
 /// Whether an earlier waypoint has the name.
@@ -28,14 +62,27 @@ fn waypoint_has(name: &[u8], earlier: &[Waypoint]) -> bool
     earlier.iter().any(|w| w.name.items.as_slice() == name)
 }
 
-#[tactic(auto, unfolding(crate::specs::Meaning::waypoint_fault))]
+#[tactic(auto, unfolding(crate::specs::Meaning::waypoint_fault, crate::specs::Closings::closed_fault))]
 fn test_waypoint(all: &[Waypoint], i: u32, w: &Waypoint) -> Result<(), PortFault>
     requires { i ≤ length all.now }
     ensures { fault_of result ≡ waypoint_fault all.now i w.now }
 {
     let used = waypoint_has(&w.name.items, &all[..i as usize]);
     new_name(at_item(Place::WaypointName, i), used, &w.name.items)?;
-    range(at_item(Place::WaypointDepth, i), 0, 10000, w.depth)
+    range(at_item(Place::WaypointDepth, i), 0, 10000, w.depth)?;
+    count(
+        at_item(Place::WaypointClosed, i),
+        0,
+        32,
+        w.closed.items.len(),
+    )?;
+    each_closing(
+        Place::WaypointClosingFrom,
+        Place::WaypointClosingTo,
+        Some(i),
+        1535,
+        &w.closed.items,
+    )
 }
 
 fn each_waypoint(all: &[Waypoint]) -> Result<(), PortFault>
@@ -225,18 +272,53 @@ fn berths(ships: &[Ship], pairs: &[BerthPair]) -> Result<(), PortFault>
     each_berth(ships, pairs)
 }
 
+#[tactic(auto, unfolding(crate::specs::Meaning::after_fault))]
+fn after(ships: i64, i: u32, pair: &AfterPair) -> Result<(), PortFault>
+    ensures { fault_of result ≡ after_fault ships i pair.now }
+{
+    place(at_item(Place::AfterFirst, i), ships, pair.first)?;
+    place(at_item(Place::AfterSecond, i), ships, pair.second)?;
+    unless(
+        at_item(Place::AfterSecond, i),
+        PortWord::Order,
+        pair.first != pair.second,
+    )?;
+    range(at_item(Place::AfterGap, i), 0, 512, pair.gap)
+}
+
+fn each_after(ships: i64, pairs: &[AfterPair]) -> Result<(), PortFault>
+    requires { length pairs.now ≤ 200 }
+    ensures { fault_of result ≡ each (after_fault ships) 0 pairs.now }
+{
+    for (i, pair) in pairs.iter().enumerate() {
+        after(ships, i as u32, pair)?;
+    }
+    Ok(())
+}
+
+#[tactic(auto, unfolding(crate::specs::Meaning::afters_fault))]
+fn afters(ships: i64, pairs: &[AfterPair]) -> Result<(), PortFault>
+    ensures { fault_of result ≡ afters_fault ships pairs.now }
+{
+    count(at(Place::After), 0, 200, pairs.len())?;
+    each_after(ships, pairs)
+}
+
 /// All rules, in the order of the table.
 #[tactic(auto, unfolding(crate::specs::Meaning::port_fault))]
 fn all_rules(p: &PortParts) -> Result<(), PortFault>
     ensures { fault_of result ≡ port_fault p.now }
 {
-    calendar(p.version, p.slots, p.slot_minutes)?;
+    calendar(p)?;
+    heights(&p.heights.items)?;
+    closed(p.slots, &p.closed.items)?;
     waypoints(&p.waypoints)?;
     sections(&p.sections)?;
     separation(&p.separation)?;
     tug_times(&p.turnaround, p.fleet)?;
     ships(p)?;
-    berths(&p.ships, &p.berths)
+    berths(&p.ships, &p.berths)?;
+    afters(p.ships.len() as i64, &p.after)
 }
 
 /// The first fault of meaning.

@@ -1,7 +1,7 @@
 //! The parts of a port, as an instance gives them.
 
 ghost use Rattle.std.specs.Prelude.{◌≡◌, bytes_eq};
-ghost use Rattle.hw_port.specs.Rules.{outgoing};
+ghost use Rattle.hw_port.specs.Rules.{outgoing, least_heights};
 
 use std::marker::Model;
 
@@ -19,11 +19,35 @@ impl Model for Text {
     ghost view = { λ s. s.items.items };
 }
 
-/// A place on a route, with its charted depth in centimetres.
+/// Slots that are closed: those from `from` up to `to`, both among them.
+#[derive(Clone, Copy)]
+pub struct Closing {
+    pub from: i64,
+    pub to: i64,
+}
+
+/// All that is closed for a port, a ship or a waypoint, seen as the list of it.
+#[derive(Drop)]
+pub struct Closings {
+    pub items: Vec<Closing>,
+}
+
+impl Model for Closings {
+    ghost use Rattle.std.specs.Prelude.{List};
+    ghost use Rattle.hw_port.specs.declared.parts.Closing.{Closing};
+
+    ghost Value = { List Closing };
+
+    ghost view = { λ s. s.items.items };
+}
+
+/// A place on a route, with its charted depth in centimetres, and the slots in which no ship passes
+/// it.
 #[derive(Drop)]
 pub struct Waypoint {
     pub name: Text,
     pub depth: i64,
+    pub closed: Closings,
 }
 
 /// A stretch of the channel that is used in one direction at a time.
@@ -72,7 +96,7 @@ pub struct Stretch {
 }
 
 /// A ship: its first and last slot, its tenths of a tonne per centimetre, its light and its deepest
-/// draft in centimetres, its tugs and the slots of their job.
+/// draft in centimetres, its tugs and the slots of their job, and the slots in which it doesn't sail.
 ///
 /// Seen as a record of the same fields.
 #[derive(Drop)]
@@ -90,6 +114,7 @@ pub struct Ship {
     pub tugs: i64,
     pub job: i64,
     pub may_stay: bool,
+    pub closed: Closings,
 }
 
 impl Model for Ship {
@@ -97,7 +122,7 @@ impl Model for Ship {
 
     ghost Value = { ShipParts };
 
-    ghost view = { λ s. record { name = s.name; direction = s.direction; class = s.class; earliest = s.earliest; latest = s.latest; tpc = s.tpc; light = s.light; deep = s.deep; route = s.route.items; channel = s.channel.items; tugs = s.tugs; job = s.job; may_stay = s.may_stay } };
+    ghost view = { λ s. record { name = s.name; direction = s.direction; class = s.class; earliest = s.earliest; latest = s.latest; tpc = s.tpc; light = s.light; deep = s.deep; route = s.route.items; channel = s.channel.items; tugs = s.tugs; job = s.job; may_stay = s.may_stay; closed = s.closed } };
 }
 
 impl Ship {
@@ -118,12 +143,23 @@ pub struct BerthPair {
     pub clear: i64,
 }
 
-/// All parts of a port. Seen as a record of the same fields.
+/// Two ships, by their places, of which the second sails at least `gap` slots after the first.
+#[derive(Clone, Copy)]
+pub struct AfterPair {
+    pub first: i64,
+    pub second: i64,
+    pub gap: i64,
+}
+
+/// All parts of a port; `start` is the date and time at which slot 0 begins. Seen as a record of the same fields.
 #[derive(Drop)]
 pub struct PortParts {
     pub version: i64,
+    pub start: Option<Text>,
     pub slots: i64,
     pub slot_minutes: i64,
+    pub heights: Text,
+    pub closed: Closings,
     pub waypoints: Vec<Waypoint>,
     pub sections: Vec<Section>,
     pub separation: Vec<Row>,
@@ -131,6 +167,7 @@ pub struct PortParts {
     pub fleet: i64,
     pub ships: Vec<Ship>,
     pub berths: Vec<BerthPair>,
+    pub after: Vec<AfterPair>,
 }
 
 impl Model for PortParts {
@@ -138,5 +175,14 @@ impl Model for PortParts {
 
     ghost Value = { Parts };
 
-    ghost view = { λ p. record { version = p.version; slots = p.slots; slot_minutes = p.slot_minutes; waypoints = p.waypoints.items; sections = p.sections.items; separation = p.separation.items; turnaround = p.turnaround; fleet = p.fleet; ships = p.ships.items; berths = p.berths.items } };
+    ghost view = { λ p. record { version = p.version; start = p.start; slots = p.slots; slot_minutes = p.slot_minutes; heights = p.heights; closed = p.closed; waypoints = p.waypoints.items; sections = p.sections.items; separation = p.separation.items; turnaround = p.turnaround; fleet = p.fleet; ships = p.ships.items; berths = p.berths.items; after = p.after.items } };
+}
+
+impl PortParts {
+    /// Whether a pass is judged by the lesser of the heights at both ends of its slot.
+    pub fn is_least(&self) -> bool
+        ensures { result ≡ bytes_eq self.now.heights least_heights }
+    {
+        self.heights.items.as_slice() == b"least".as_slice()
+    }
 }

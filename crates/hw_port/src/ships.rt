@@ -5,6 +5,7 @@ ghost use Rattle.hw_port.specs.Faults.{fault_of, each};
 ghost use Rattle.hw_port.specs.Rules.{among};
 ghost use Rattle.hw_port.specs.Ships.{sort_fault, window_fault, load_fault, pass_fault, route_fault, stretch_fault, stretches_fault, channel_fault, tugs_fault, ship_fault};
 
+use crate::closings::each_closing;
 use crate::fault::{PortFault, PortWord};
 use crate::parts::{Pass, PortParts, Ship, Stretch};
 use crate::places::Place;
@@ -124,7 +125,7 @@ fn tugs(i: u32, tugs: i64, job: i64) -> Result<(), PortFault>
 }
 
 /// All rules of the ship at a place.
-#[tactic(auto, unfolding(crate::specs::Ships::ship_fault))]
+#[tactic(auto, unfolding(crate::specs::Ships::ship_fault, crate::specs::Closings::closed_fault))]
 pub fn test_ship(p: &PortParts, i: u32, s: &Ship) -> Result<(), PortFault>
     requires { i ≤ length p.now.ships }
     ensures { fault_of result ≡ ship_fault p.now i s.now }
@@ -134,5 +135,13 @@ pub fn test_ship(p: &PortParts, i: u32, s: &Ship) -> Result<(), PortFault>
     load(i, s.tpc, s.light, s.deep)?;
     route(i, p.waypoints.len() as i64, &s.route)?;
     channel(i, p.sections.len() as i64, &s.channel)?;
-    tugs(i, s.tugs, s.job)
+    tugs(i, s.tugs, s.job)?;
+    count(at_item(Place::ShipClosed, i), 0, 32, s.closed.items.len())?;
+    each_closing(
+        Place::ShipClosingFrom,
+        Place::ShipClosingTo,
+        Some(i),
+        p.slots,
+        &s.closed.items,
+    )
 }

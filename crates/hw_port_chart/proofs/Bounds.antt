@@ -12,7 +12,7 @@ use Rattle.hw_tide.specs.Levels.{TideParts}
 use Rattle.hw_port_laws.proofs.Eachs.{if_some}
 use Rattle.hw_port_laws.proofs.Ships.{ship_kept}
 use Rattle.hw_port_rules.specs.Numbers.{is_outgoing}
-use Rattle.hw_port_rules.specs.Drafts.{allowed_draft, floating, in_window, loaded, sailing, sailing_draft}
+use Rattle.hw_port_rules.specs.Drafts.{allowed_draft, floating, loaded, may_sail, sailing, sailing_draft}
 use Rattle.hw_port_chart.specs.Charts.{full_of}
 
 abbrev Between : ShipParts → ℤ → Type 0
@@ -33,11 +33,14 @@ window_by true s (Some a) le = floating_by (int_lt a s.light) s a refl le
 
 -- a sailing draft lies between the light and the full one
 pub sails_between : (p : Parts) (h : TideParts) (s : ShipParts) (slot : ℕ) → s.light ≤ℤ s.deep → IfSome (sailing_draft p h s slot) (λ d. (s.light ≤ℤ d) × (d ≤ℤ full_of s))
-sails_between p h s slot le = window_by (in_window s slot) s (allowed_draft p.waypoints h s slot) le
+sails_between p h s slot le = window_by (may_sail p s slot) s (allowed_draft p h s slot) le
 
 full_by : (b : Bool) (light deep : ℤ) → Within (pos 0) (pos 10_000) light → Within (pos 0) (pos 10_000) deep → cond b deep light ≤ℤ pos 10_000
 full_by true light deep l d = d.high
 full_by false light deep l d = l.high
+
+at_most : (a b c : ℤ) → a ≤ℤ b → b ≤ℤ c → a ≤ℤ c
+at_most a b c p q = grind (arith, ints)
 
 small_by : (p : Parts) (h : TideParts) (ship slot : ℕ) (draft : ℤ) → PortKept p → (o : Option ShipParts) → slice_get p.ships ship ≡ o → option_and_then (λ s. sailing_draft p h s slot) o ≡ Some draft → (pos 0 ≤ℤ draft) × (draft ≤ℤ pos 10_000)
 small_by p h ship slot draft kept None at is = absurd cc
@@ -48,7 +51,7 @@ small_by p h ship slot draft kept (Some s) at is =
     let high = full_by (is_outgoing s) s.light s.deep k.light k.deep in
     let least : s.light ≤ℤ draft = b.0 in
     let most : draft ≤ℤ full_of s = b.1 in
-    (grind (arith, ints, low, least), grind (arith, ints, high, most))
+    (at_most (pos 0) s.light draft low least, at_most draft (full_of s) (pos 10_000) most high)
 
 pub draft_least : (p : Parts) (h : TideParts) (ship slot : ℕ) → PortKept p → (o : Option ℤ) → o ≡ sailing p h ship slot → IfSome o (λ d. pos 0 ≤ℤ d)
 draft_least p h ship slot kept None is = search rules

@@ -1,11 +1,13 @@
 -- A port with its tide, and a timetable or none: what a picture is drawn from.
 use Rattle.std.specs.Prelude.{◌≡◌, ◌<◌, ◌≤◌, length, IfSome, min, ℕ, ◌+◌, ◌*◌, ◌/◌, ℤ, pos, ◌-ℤ◌, List, [], codes, Option, slice_get, option_and_then, unwrap_or, unsigned_abs, if◌then◌else◌}
+use Rattle.std.specs.Int.{int_min}
 use Rattle.std.specs.Option.{option_map_or}
 use Rattle.hw_port.specs.Kept.{PortKept}
 use Rattle.hw_port.specs.Parts.{ShipParts}
 use Rattle.hw_port.specs.Whole.{Parts}
-use Rattle.hw_tide.specs.Levels.{TideParts}
+use Rattle.hw_tide.specs.Levels.{TideParts, height_at}
 use Rattle.hw_port_rules.specs.Numbers.{whole, horizon_of, is_outgoing}
+use Rattle.hw_port_rules.specs.Closed.{is_least}
 use Rattle.hw_port_rules.specs.Drafts.{allowed, sailing, value}
 use Rattle.hw_chart.specs.declared.course.Course.{Course}
 use Rattle.hw_chart.specs.Courses.{course_of}
@@ -70,6 +72,10 @@ waypoint_name chart place = option_map_or (λ w. w.name) (slice_get chart.port.w
 -- the charted depth at a waypoint
 abbrev pub depth_in : ChartParts → ℕ → ℤ
 depth_in chart place = option_map_or (λ w. w.depth) (slice_get chart.port.waypoints place) (pos 0)
+
+-- the height that judges a pass in a slot at a waypoint: that at the beginning of the slot, or the lesser of those at both ends
+abbrev pub judged : ChartParts → ℕ → ℕ → ℤ
+judged chart slot place = if is_least chart.port then int_min (height_at chart.tide slot place) (height_at chart.tide (slot + 1) place) else height_at chart.tide slot place
 
 -- the class of a ship's shapes, by its direction
 abbrev pub way : ShipParts → List ℕ

@@ -8,7 +8,6 @@ use Rattle.hw_svg.specs.Shapes.{titled}
 use Rattle.hw_svg.specs.declared.area.Area.{Area}
 use Rattle.hw_port.specs.declared.parts.Pass.{Pass}
 use Rattle.hw_port.specs.Parts.{ShipParts}
-use Rattle.hw_tide.specs.Levels.{height_at}
 use Rattle.hw_port_rules.specs.Numbers.{whole}
 use Rattle.hw_port_rules.specs.Drafts.{passing_slot}
 use Rattle.hw_chart.specs.declared.course.Course.{Course}
@@ -16,15 +15,15 @@ use Rattle.hw_chart.specs.declared.course.Course.TheVariants.{Unplanned, Stays, 
 use Rattle.hw_port_chart.specs.declared.passing.Strip.{Strip}
 use Rattle.hw_port_chart.specs.declared.passing.Underway.{Underway}
 use Rattle.hw_port_chart.specs.declared.passing.Passing.{Passing}
-use Rattle.hw_port_chart.specs.Charts.{ChartParts, course, draft_in, mark_class, minutes_to, tall_between, waypoint_name}
+use Rattle.hw_port_chart.specs.Charts.{ChartParts, course, draft_in, judged, mark_class, minutes_to, tall_between, waypoint_name}
 
 -- the tide without which a ship of this draft would not keep its clearance, or the lowest tide where that is higher
 abbrev pub need : Strip → ℕ → ℕ → ℤ
 need strip draft clearance = int_max strip.low (pos draft +ℤ pos clearance -ℤ pos strip.depth)
 
--- the depth of the water at a waypoint in a slot
+-- the depth of the water at a waypoint in a slot, by the height that judges passes there
 abbrev pub water : ChartParts → Strip → ℕ → ℤ
-water chart strip slot = pos strip.depth +ℤ height_at chart.tide slot strip.place
+water chart strip slot = pos strip.depth +ℤ judged chart slot strip.place
 
 -- how a ship that is under way makes a pass: when, with how much water and how much of it under the keel
 abbrev pub passing : ChartParts → Strip → Underway → Pass → Passing

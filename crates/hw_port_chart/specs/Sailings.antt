@@ -16,7 +16,7 @@ control_by pass = record { by = whole pass.waypoint; clearance = whole pass.clea
 -- those of the first pass of a route that leaves just this draft
 abbrev pub control_among : ChartParts → ℕ → ℤ → List Pass → Control
 control_among chart slot draft [] = record { by = 0; clearance = 0 }
-control_among chart slot draft (pass ∷ more) = if int_eq (draft_at chart.port.waypoints chart.tide slot pass) draft then control_by pass else control_among chart slot draft more
+control_among chart slot draft (pass ∷ more) = if int_eq (draft_at chart.port chart.tide slot pass) draft then control_by pass else control_among chart slot draft more
 
 -- what decides the allowed draft of a ship
 abbrev pub deciding : ChartParts → ℕ → ShipParts → ℕ → Control

@@ -7,7 +7,7 @@ ghost use Rattle.hw_port_rules.specs.Numbers.{horizon_of, whole};
 ghost use Rattle.hw_port_rules.specs.Drafts.{sailing as sailing_draft};
 ghost use Rattle.hw_chart.specs.Courses.{SailsBefore};
 ghost use Rattle.hw_tide.specs.Levels.{height_at};
-ghost use Rattle.hw_port_chart.specs.Charts.{allowed_in, cargo_in, course as course_of_ship, depth_in, draft_in, minutes_to, slot_at as slot_or_0, shown, slot_in, waypoint_name};
+ghost use Rattle.hw_port_chart.specs.Charts.{allowed_in, cargo_in, course as course_of_ship, depth_in, draft_in, judged as judged_height, minutes_to, slot_at as slot_or_0, shown, slot_in, waypoint_name};
 ghost use Rattle.hw_port_chart.specs.Moves.{could_move, HasMoves};
 
 use crate::numbers::{natural, product};
@@ -242,6 +242,20 @@ impl Chart<'_> {
             tide.height(slot, place)
         } else {
             0
+        }
+    }
+
+    /// The height that judges a pass in a slot at a waypoint.
+    pub fn judged(&self, slot: Slot, place: u32) -> i32
+        requires place { place < length self.now.port.waypoints }
+        requires slot { slot ≤ 2_000 }
+        ensures { result ≡ judged_height self.now slot place }
+    {
+        let here = self.height(slot, place);
+        if self.parts().is_least() {
+            here.min(self.height(slot + 1, place))
+        } else {
+            here
         }
     }
 

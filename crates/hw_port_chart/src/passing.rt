@@ -65,19 +65,21 @@ fn need(strip: Strip, draft: u32, clearance: u32) -> i64
 
 /// The depth of the water in a slot.
 fn water(chart: &Chart, strip: Strip, slot: Slot) -> i64
-    requires { strip.place < length chart.now.port.waypoints }
+    requires place { strip.place < length chart.now.port.waypoints }
+    requires slot { slot ≤ 2_000 }
     ensures value { result ≡ water_of chart.now strip slot }
     ensures low { neg_ℤ (pos 5_000_000_000) ≤ℤ result }
     ensures high { result ≤ℤ pos 7_000_000_000 }
 {
-    i64::from(strip.depth) + i64::from(chart.height(slot, strip.place))
+    i64::from(strip.depth) + i64::from(chart.judged(slot, strip.place))
 }
 
 /// The slot in which a ship that sails in a slot makes a pass.
 pub fn slot_of_pass(waypoints: usize, slot: Slot, pass: &Pass) -> Slot
     requires slot { slot < MOST_SLOTS }
     requires pass { PassKept (pos waypoints) pass.now }
-    ensures { result ≡ passing_slot slot pass.now }
+    ensures value { result ≡ passing_slot slot pass.now }
+    ensures few { result ≤ 2_000 }
 {
     slot + natural(pass.offset)
 }

@@ -46,11 +46,11 @@ fn left(depth: i64, height: i32, clearance: i64) -> i64
 fn draft_at(chart: &Chart, slot: Slot, pass: &Pass) -> i64
     requires slot { slot < MOST_SLOTS }
     requires pass { PassKept (pos (length chart.now.port.waypoints)) pass.now }
-    ensures { result ≡ draft_left chart.now.port.waypoints chart.now.tide slot pass.now }
+    ensures { result ≡ draft_left chart.now.port chart.now.tide slot pass.now }
 {
     let place = place_of(chart, pass);
     let row = slot_of_pass(chart.parts().waypoints.len(), slot, pass);
-    let height = chart.height(row, place);
+    let height = chart.judged(row, place);
     left(chart.depth(place), height, pass.clearance)
 }
 
@@ -58,7 +58,7 @@ fn draft_at(chart: &Chart, slot: Slot, pass: &Pass) -> i64
 fn leaves(chart: &Chart, slot: Slot, draft: i64, pass: &Pass) -> bool
     requires slot { slot < MOST_SLOTS }
     requires pass { PassKept (pos (length chart.now.port.waypoints)) pass.now }
-    ensures { result ≡ int_eq (draft_left chart.now.port.waypoints chart.now.tide slot pass.now) draft }
+    ensures { result ≡ int_eq (draft_left chart.now.port chart.now.tide slot pass.now) draft }
 {
     draft_at(chart, slot, pass) == draft
 }

@@ -6,6 +6,9 @@ use Rattle.hw_port.specs.declared.parts.Turnaround.{Turnaround}
 use Rattle.hw_port.specs.declared.parts.Pass.{Pass}
 use Rattle.hw_port.specs.declared.parts.Stretch.{Stretch}
 use Rattle.hw_port.specs.declared.parts.BerthPair.{BerthPair}
+use Rattle.hw_port.specs.declared.parts.Closing.{Closing}
+use Rattle.hw_port.specs.declared.parts.AfterPair.{AfterPair}
+use Rattle.hw_port.specs.Rules.{start_heights}
 use Rattle.hw_port.specs.Parts.{ShipParts}
 use Rattle.hw_port.specs.Whole.{Parts}
 use Rattle.serde_json.specs.Data.{Data, Items, no_items, item}
@@ -38,9 +41,20 @@ abbrev pub each_part : {A : Type 0} → (Data → A) → Items → List A
 each_part part no_items = []
 each_part part (item d ds) = part d ∷ each_part part ds
 
+-- the text of a member, if there is one
+abbrev pub some_text_in : List ℕ → Data → Option (List ℕ)
+some_text_in name d = option_and_then as_str (get name d)
+
+-- closed slots of a value
+abbrev pub closing_part : Data → Closing
+closing_part d = record { from = number_in (codes "from") d; to = number_in (codes "to") d }
+
+abbrev pub closed_in : Data → List Closing
+closed_in d = each_part closing_part (items_in (codes "closed") d)
+
 -- a waypoint of a value
 abbrev pub waypoint_part : Data → Waypoint
-waypoint_part d = record { name = text_in (codes "name") d; depth = number_in (codes "depth") d }
+waypoint_part d = record { name = text_in (codes "name") d; depth = number_in (codes "depth") d; closed = closed_in d }
 
 -- a section of a value
 abbrev pub section_part : Data → Section
@@ -80,17 +94,29 @@ ship_part d = record {
   tugs = number_in (codes "tugs") d;
   job = number_in (codes "job") d;
   may_stay = truth_in (codes "may_stay") d;
+  closed = closed_in d;
 }
 
 -- a berth pair of a value
 abbrev pub berth_part : Data → BerthPair
 berth_part d = record { outgoing = number_in (codes "outgoing") d; incoming = number_in (codes "incoming") d; clear = number_in (codes "clear") d }
 
+-- a pair of ships, the one after the other, of a value
+abbrev pub after_part : Data → AfterPair
+after_part d = record { first = number_in (codes "first") d; second = number_in (codes "second") d; gap = number_in (codes "gap") d }
+
+-- the heights that judge a pass: those at the beginning of its slot, where a value doesn't say
+abbrev pub heights_in : Data → List ℕ
+heights_in d = unwrap_or (some_text_in (codes "heights") d) start_heights
+
 unfoldable pub port_parts : Data → Parts
 port_parts d = record {
   version = number_in (codes "version") d;
+  start = some_text_in (codes "start") d;
   slots = number_in (codes "slots") d;
   slot_minutes = number_in (codes "slot_minutes") d;
+  heights = heights_in d;
+  closed = closed_in d;
   waypoints = each_part waypoint_part (items_in (codes "waypoints") d);
   sections = each_part section_part (items_in (codes "sections") d);
   separation = each_part row_part (items_in (codes "separation") d);
@@ -98,4 +124,5 @@ port_parts d = record {
   fleet = number_in (codes "fleet") d;
   ships = each_part ship_part (items_in (codes "ships") d);
   berths = each_part berth_part (items_in (codes "berths") d);
+  after = each_part after_part (items_in (codes "after") d);
 }

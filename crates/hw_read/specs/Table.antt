@@ -11,7 +11,7 @@ use Rattle.serde_json.specs.Data.{Data, Items, no_items, item, Members as JsonMe
 use Rattle.serde_json.specs.Find.{get, as_str, as_bool, as_array, as_object}
 use Rattle.hw_read.specs.declared.stars.Stars.{Stars}
 use Rattle.hw_read.specs.declared.table.Version.{Version}
-use Rattle.hw_read.specs.declared.table.Version.TheVariants.{First, Second}
+use Rattle.hw_read.specs.declared.table.Version.TheVariants.{First, Second, Third}
 use Rattle.hw_read.specs.Places.{path, deeper, no_stars}
 use Rattle.hw_read.specs.Form.{whole_number, all_named}
 
@@ -28,10 +28,35 @@ mutual
     no_more : Members
     member : List ℕ → Entry → Members → Members
 
-abbrev pub waypoint : Entry
-waypoint = object places.Waypoint (
+-- members that stand in the third version's table alone
+abbrev pub in_third : Version → Members → Members
+in_third First ms = no_more
+in_third Second ms = no_more
+in_third Third ms = ms
+
+-- the slots that are closed, from one to another
+abbrev pub closing : Place → Place → Place → Entry
+closing whole from to = object whole (
+    member (codes "from") (number from) (
+    member (codes "to") (number to) no_more))
+
+abbrev pub closed : Place → Entry → Members
+closed place inner = member (codes "closed") (list place inner) no_more
+
+abbrev pub port_closing : Entry
+port_closing = closing places.Closing places.ClosingFrom places.ClosingTo
+
+abbrev pub waypoint_closing : Entry
+waypoint_closing = closing places.WaypointClosing places.WaypointClosingFrom places.WaypointClosingTo
+
+abbrev pub ship_closing : Entry
+ship_closing = closing places.ShipClosing places.ShipClosingFrom places.ShipClosingTo
+
+abbrev pub waypoint_members : Version → Members
+waypoint_members version =
     member (codes "name") (text places.WaypointName) (
-    member (codes "depth") (number places.WaypointDepth) no_more))
+    member (codes "depth") (number places.WaypointDepth) (
+    in_third version (closed places.WaypointClosed waypoint_closing)))
 
 abbrev pub turnaround : Entry
 turnaround = object places.Turnaround (
@@ -50,10 +75,11 @@ stretch = object places.Stretch (
     member (codes "enter") (number places.StretchEnter) (
     member (codes "leave") (number places.StretchLeave) no_more)))
 
--- the member of ships that may stay, which stands in the second version's table alone
+-- the member of ships that may stay, which the first version's table hasn't, and the closed slots of the third
 abbrev pub staying : Version → Members
 staying First = no_more
 staying Second = member (codes "may_stay") (truth places.ShipMayStay) no_more
+staying Third = member (codes "may_stay") (truth places.ShipMayStay) (closed places.ShipClosed ship_closing)
 
 abbrev pub ship_members : Version → Members
 ship_members version =
@@ -77,27 +103,46 @@ berth = object places.BerthPair (
     member (codes "incoming") (number places.BerthIncoming) (
     member (codes "clear") (number places.BerthClear) no_more)))
 
+abbrev pub after : Entry
+after = object places.AfterPair (
+    member (codes "first") (number places.AfterFirst) (
+    member (codes "second") (number places.AfterSecond) (
+    member (codes "gap") (number places.AfterGap) no_more)))
+
+-- the date and time at which slot 0 begins
+abbrev pub with_start : Version → Members → Members
+with_start First ms = ms
+with_start Second ms = ms
+with_start Third ms = member (codes "start") (text places.Start) ms
+
+-- the heights that judge a pass, and the closed slots
+abbrev pub with_heights : Version → Members → Members
+with_heights First ms = ms
+with_heights Second ms = ms
+with_heights Third ms = member (codes "heights") (text places.Heights) (member (codes "closed") (list places.Closed port_closing) ms)
+
 abbrev pub port_members : Version → Members
 port_members version =
-    member (codes "version") (number places.Version) (
+    member (codes "version") (number places.Version) (with_start version (
     member (codes "slots") (number places.Slots) (
-    member (codes "slot_minutes") (number places.SlotMinutes) (
-    member (codes "waypoints") (list places.Waypoints waypoint) (
+    member (codes "slot_minutes") (number places.SlotMinutes) (with_heights version (
+    member (codes "waypoints") (list places.Waypoints (object places.Waypoint (waypoint_members version))) (
     member (codes "sections") (list places.Sections (text places.Section)) (
     member (codes "separation") (list places.Separation (list places.SeparationRow (number places.SeparationGap))) (
     member (codes "turnaround") turnaround (
     member (codes "fleet") (number places.Fleet) (
     member (codes "ships") (list places.Ships (object places.Ship (ship_members version))) (
-    member (codes "berths") (list places.Berths berth) no_more)))))))))
+    member (codes "berths") (list places.Berths berth) (
+    in_third version (member (codes "after") (list places.After after) no_more)))))))))))))
 
 unfoldable pub port : Version → Entry
 port version = object places.Root (port_members version)
 
 abbrev pub version_by : Option ℤ → Version
 version_by None = First
-version_by (Some z) = if int_eq z (pos 2) then Second else First
+version_by (Some z) = if int_eq z (pos 3) then Third else if int_eq z (pos 2) then Second else First
 
--- the second version where the member `version` is the number 2, and the first elsewhere
+-- the second or third version where the member `version` is the number 2 or 3, and the first elsewhere
 abbrev pub version_of : Data → Version
 version_of d = version_by (option_and_then whole_number (get (codes "version") d))
 

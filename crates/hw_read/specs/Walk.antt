@@ -9,9 +9,9 @@ use Rattle.hw_read.specs.declared.fault.ReadFault.{ReadFault}
 use Rattle.hw_read.specs.declared.fault.ReadFault.TheVariants as faults
 use Rattle.hw_read.specs.declared.stars.Stars.{Stars}
 use Rattle.hw_read.specs.declared.table.Version.{Version}
-use Rattle.hw_read.specs.declared.table.Version.TheVariants.{First, Second}
+use Rattle.hw_read.specs.declared.table.Version.TheVariants.{First, Second, Third}
 use Rattle.hw_read.specs.declared.table.Form.{Form}
-use Rattle.hw_read.specs.declared.table.Form.TheVariants.{Number, Text, Truth, List', Object', Member', Stays', End}
+use Rattle.hw_read.specs.declared.table.Form.TheVariants.{Number, Text, Truth, List', Object', Member', Stays', Later', End}
 use Rattle.hw_read.specs.Places.{path, deeper}
 use Rattle.hw_read.specs.Form.{number_form, text_form, truth_form, items_form, object_form, member_form}
 use Rattle.hw_read.specs.Table.{Entry, Members, number, text, truth, list, object, no_more, member, place_of, names_in, port, version_of}
@@ -45,10 +45,17 @@ abbrev mutual
   members_fault no_more s d = None
   members_fault (member name p ms) s d = member_fault (entry_fault p) s (member_form (path (place_of p) s) name d) or_else members_fault ms s d
 
--- what is said of the second version alone
+-- what is said of the second and the third version
 abbrev pub where_second : {A : Type 0} → A → Version → A → A
 where_second none First x = none
 where_second none Second x = x
+where_second none Third x = x
+
+-- what is said of the third version, and what of those before
+abbrev pub where_third : {A : Type 0} → A → Version → A → A
+where_third before First x = before
+where_third before Second x = before
+where_third before Third x = x
 
 abbrev pub form_fault : Version → Form → Test
 form_fault version (Number field) s d = fault_of (number_form (path field s) d)
@@ -58,6 +65,7 @@ form_fault version (List' field p inner) s d = items_fault (form_fault version i
 form_fault version (Object' field names p members) s d = fault_of (object_form (path field s) (names_of version names) d) or_else form_fault version members s d
 form_fault version (Member' field name p form q more) s d = member_fault (form_fault version form) s (member_form (path field s) name.now d) or_else form_fault version more s d
 form_fault version (Stays' p more) s d = where_second None version (form_fault version more s d)
+form_fault version (Later' p more q before) s d = where_third (form_fault version before s d) version (form_fault version more s d)
 form_fault version End s d = None
 
 -- ---- lists whose items have more numbers than a path can tell
@@ -100,6 +108,7 @@ form_long version (List' field p inner) d = items_long (form_long version inner)
 form_long version (Object' field names p members) d = form_long version members d
 form_long version (Member' field name p form q more) d = member_long (form_long version form) (get name.now d) || form_long version more d
 form_long version (Stays' p more) d = where_second false version (form_long version more d)
+form_long version (Later' p more q before) d = where_third (form_long version before d) version (form_long version more d)
 form_long version End d = false
 
 -- what a walk tells: no fault, where no list is too long; the first fault; or that a list is too long

@@ -1,13 +1,14 @@
 //! The parts of a value whose form was tested.
 
-ghost use Rattle.std.specs.Prelude.{◌≡◌, IfOk};
+ghost use Rattle.std.specs.Prelude.{◌≡◌, IfOk, codes};
 ghost use Rattle.serde_json.specs.Data.{Data};
 ghost use Rattle.serde_json.specs.View.{view, items_view};
-ghost use Rattle.hw_read.specs.Parts.{number_in, text_in, truth_in, items_in, each_part, waypoint_part, section_part, row_part, turnaround_part, pass_part, stretch_part, ship_part, berth_part, port_parts};
+ghost use Rattle.hw_read.specs.Parts.{number_in, text_in, truth_in, items_in, each_part, closing_part, closed_in, waypoint_part, section_part, row_part, turnaround_part, pass_part, stretch_part, ship_part, berth_part, after_part, some_text_in, heights_in, port_parts};
 ghost use Rattle.hw_read.specs.Parts.{number_of as number_value, text_of as text_value, items_of as items_value};
 
 use hw_port::{
-    BerthPair, Pass, PortParts, Row, Section, Ship, Stretch, Text, Turnaround, Waypoint,
+    AfterPair, BerthPair, Closing, Closings, Pass, PortParts, Row, Section, Ship, Stretch, Text,
+    Turnaround, Waypoint,
 };
 use serde_json::Value;
 use std::alloc::{AllocError, Global};
@@ -84,6 +85,25 @@ impl Part for i64 {
     }
 }
 
+impl Part for Closing {
+    ghost part = { closing_part };
+
+    fn build(_alloc: Global, value: &Value) -> Result<Closing, AllocError> {
+        Ok(Closing {
+            from: number("from", value),
+            to: number("to", value),
+        })
+    }
+}
+
+/// The closed slots of a port, a ship or a waypoint.
+fn closed(alloc: Global, value: &Value) -> Result<Closings, AllocError>
+    ensures { IfOk result (λ c. c ≡ closed_in (view value.now)) }
+{
+    let items = build_each(alloc, items("closed", value))?;
+    Ok(Closings { items })
+}
+
 impl Part for Waypoint {
     ghost part = { waypoint_part };
 
@@ -91,6 +111,7 @@ impl Part for Waypoint {
         Ok(Waypoint {
             name: text(alloc, "name", value)?,
             depth: number("depth", value),
+            closed: closed(alloc, value)?,
         })
     }
 }
@@ -158,6 +179,7 @@ impl Part for Ship {
             tugs: number("tugs", value),
             job: number("job", value),
             may_stay: truth("may_stay", value),
+            closed: closed(alloc, value)?,
         })
     }
 }
@@ -172,6 +194,43 @@ impl Part for BerthPair {
             clear: number("clear", value),
         })
     }
+}
+
+impl Part for AfterPair {
+    ghost part = { after_part };
+
+    fn build(_alloc: Global, value: &Value) -> Result<AfterPair, AllocError> {
+        Ok(AfterPair {
+            first: number("first", value),
+            second: number("second", value),
+            gap: number("gap", value),
+        })
+    }
+}
+
+/// The date and time at which slot 0 begins, if a value has it.
+fn start(alloc: Global, value: &Value) -> Result<Option<Text>, AllocError>
+    ensures { IfOk result (λ t. t ≡ some_text_in (codes "start") (view value.now)) }
+{
+    match value.get("start").and_then(Value::as_str) {
+        Some(text) => {
+            let items = Vec::from_slice(alloc, text.as_bytes())?;
+            Ok(Some(Text { items }))
+        }
+        None => Ok(None),
+    }
+}
+
+/// The heights that judge a pass: those at the beginning of its slot, where a value doesn't say.
+fn heights(alloc: Global, value: &Value) -> Result<Text, AllocError>
+    ensures { IfOk result (λ t. t ≡ heights_in (view value.now)) }
+{
+    let text = value
+        .get("heights")
+        .and_then(Value::as_str)
+        .unwrap_or("start");
+    let items = Vec::from_slice(alloc, text.as_bytes())?;
+    Ok(Text { items })
 }
 
 fn turnaround(value: &Value) -> Turnaround
@@ -197,8 +256,11 @@ pub fn build_parts(alloc: Global, value: &Value) -> Result<PortParts, AllocError
 {
     Ok(PortParts {
         version: number("version", value),
+        start: start(alloc, value)?,
         slots: number("slots", value),
         slot_minutes: number("slot_minutes", value),
+        heights: heights(alloc, value)?,
+        closed: closed(alloc, value)?,
         waypoints: build_each(alloc, items("waypoints", value))?,
         sections: build_each(alloc, items("sections", value))?,
         separation: build_each(alloc, items("separation", value))?,
@@ -206,5 +268,6 @@ pub fn build_parts(alloc: Global, value: &Value) -> Result<PortParts, AllocError
         fleet: number("fleet", value),
         ships: build_each(alloc, items("ships", value))?,
         berths: build_each(alloc, items("berths", value))?,
+        after: build_each(alloc, items("after", value))?,
     })
 }

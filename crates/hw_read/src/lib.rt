@@ -5,6 +5,7 @@
 mod building;
 mod fault;
 mod members;
+mod names;
 mod reading;
 mod stars;
 mod table;

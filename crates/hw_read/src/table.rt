@@ -1,10 +1,5 @@
 //! The table of places: what stands where in an instance.
 
-ghost use Rattle.std.specs.Prelude.{◌≡◌};
-ghost use Rattle.hw_read.specs.declared.table.Names.TheVariants.{Ship};
-ghost use Rattle.hw_read.specs.Names.{names_of};
-
-use hw_lexicon::Lexicon;
 use hw_port::Place;
 
 /// The kinds of objects.
@@ -17,44 +12,17 @@ pub enum Names {
     Pass,
     Stretch,
     Berth,
+    After,
+    Closing,
 }
 
-/// The version of an instance, which its table goes by: in the second ships may stay.
+/// The version of an instance, which its table goes by: in the second and the third ships may stay, and
+/// the third has a start, heights, closed slots and ships after others.
 #[derive(Clone, Copy)]
 pub enum Version {
     First,
     Second,
-}
-
-/// The names of a ship's members.
-fn ship_lexicon(version: Version) -> Lexicon<'static>
-    ensures { result ≡ names_of version Ship }
-{
-    match version {
-        Version::First => Lexicon::new(
-            b"name direction class earliest latest tpc light deep route channel tugs job",
-        ),
-        Version::Second => Lexicon::new(
-            b"name direction class earliest latest tpc light deep route channel tugs job may_stay",
-        ),
-    }
-}
-
-/// The names of an object's members; a ship has one more in the second version.
-pub fn lexicon_of(names: Names, version: Version) -> Lexicon<'static>
-    ensures { result ≡ names_of version names }
-{
-    match names {
-        Names::Port => Lexicon::new(
-            b"version slots slot_minutes waypoints sections separation turnaround fleet ships berths",
-        ),
-        Names::Waypoint => Lexicon::new(b"name depth"),
-        Names::Turnaround => Lexicon::new(b"outgoing incoming"),
-        Names::Ship => ship_lexicon(version),
-        Names::Pass => Lexicon::new(b"waypoint offset clearance"),
-        Names::Stretch => Lexicon::new(b"section enter leave"),
-        Names::Berth => Lexicon::new(b"outgoing incoming clear"),
-    }
+    Third,
 }
 
 /// What a value looks like, with its places.
@@ -71,8 +39,10 @@ pub enum Form<'t> {
     Object(Place, Names, &'t Form<'t>),
     /// A member of the object by its name, its form, and the object's further members.
     Member(Place, &'t str, &'t Form<'t>, &'t Form<'t>),
-    /// Further members in the second version, and none in the first.
+    /// Further members in the second and the third version, and none in the first.
     Stays(&'t Form<'t>),
+    /// Further members in the third version, and those in the versions before.
+    Later(&'t Form<'t>, &'t Form<'t>),
     /// No further member.
     End,
 }
@@ -86,8 +56,12 @@ const VERSION: Entry = Form::Member(
     Place::Version,
     "version",
     &Form::Number(Place::Version),
-    &SLOTS,
+    &STARTS,
 );
+
+const STARTS: Entry = Form::Later(&START, &SLOTS);
+
+const START: Entry = Form::Member(Place::Start, "start", &Form::Text(Place::Start), &SLOTS);
 
 const SLOTS: Entry = Form::Member(
     Place::Slots,
@@ -100,7 +74,39 @@ const SLOT_MINUTES: Entry = Form::Member(
     Place::SlotMinutes,
     "slot_minutes",
     &Form::Number(Place::SlotMinutes),
+    &JUDGED,
+);
+
+const JUDGED: Entry = Form::Later(&HEIGHTS, &WAYPOINTS);
+
+const HEIGHTS: Entry = Form::Member(
+    Place::Heights,
+    "heights",
+    &Form::Text(Place::Heights),
+    &CLOSED,
+);
+
+const CLOSED: Entry = Form::Member(
+    Place::Closed,
+    "closed",
+    &Form::List(Place::Closed, &CLOSING),
     &WAYPOINTS,
+);
+
+const CLOSING: Entry = Form::Object(Place::Closing, Names::Closing, &CLOSING_FROM);
+
+const CLOSING_FROM: Entry = Form::Member(
+    Place::ClosingFrom,
+    "from",
+    &Form::Number(Place::ClosingFrom),
+    &CLOSING_TO,
+);
+
+const CLOSING_TO: Entry = Form::Member(
+    Place::ClosingTo,
+    "to",
+    &Form::Number(Place::ClosingTo),
+    &Form::End,
 );
 
 const WAYPOINTS: Entry = Form::Member(
@@ -123,6 +129,35 @@ const DEPTH: Entry = Form::Member(
     Place::WaypointDepth,
     "depth",
     &Form::Number(Place::WaypointDepth),
+    &BARS,
+);
+
+const BARS: Entry = Form::Later(&WAYPOINT_CLOSED, &Form::End);
+
+const WAYPOINT_CLOSED: Entry = Form::Member(
+    Place::WaypointClosed,
+    "closed",
+    &Form::List(Place::WaypointClosed, &WAYPOINT_CLOSING),
+    &Form::End,
+);
+
+const WAYPOINT_CLOSING: Entry = Form::Object(
+    Place::WaypointClosing,
+    Names::Closing,
+    &WAYPOINT_CLOSING_FROM,
+);
+
+const WAYPOINT_CLOSING_FROM: Entry = Form::Member(
+    Place::WaypointClosingFrom,
+    "from",
+    &Form::Number(Place::WaypointClosingFrom),
+    &WAYPOINT_CLOSING_TO,
+);
+
+const WAYPOINT_CLOSING_TO: Entry = Form::Member(
+    Place::WaypointClosingTo,
+    "to",
+    &Form::Number(Place::WaypointClosingTo),
     &Form::End,
 );
 
@@ -297,6 +332,31 @@ const MAY_STAY: Entry = Form::Member(
     Place::ShipMayStay,
     "may_stay",
     &Form::Truth(Place::ShipMayStay),
+    &RESTS,
+);
+
+const RESTS: Entry = Form::Later(&SHIP_CLOSED, &Form::End);
+
+const SHIP_CLOSED: Entry = Form::Member(
+    Place::ShipClosed,
+    "closed",
+    &Form::List(Place::ShipClosed, &SHIP_CLOSING),
+    &Form::End,
+);
+
+const SHIP_CLOSING: Entry = Form::Object(Place::ShipClosing, Names::Closing, &SHIP_CLOSING_FROM);
+
+const SHIP_CLOSING_FROM: Entry = Form::Member(
+    Place::ShipClosingFrom,
+    "from",
+    &Form::Number(Place::ShipClosingFrom),
+    &SHIP_CLOSING_TO,
+);
+
+const SHIP_CLOSING_TO: Entry = Form::Member(
+    Place::ShipClosingTo,
+    "to",
+    &Form::Number(Place::ShipClosingTo),
     &Form::End,
 );
 
@@ -304,7 +364,7 @@ const BERTHS: Entry = Form::Member(
     Place::Berths,
     "berths",
     &Form::List(Place::Berths, &BERTH),
-    &Form::End,
+    &AFTERS,
 );
 
 const BERTH: Entry = Form::Object(Place::BerthPair, Names::Berth, &BERTH_OUTGOING);
@@ -327,5 +387,37 @@ const CLEAR: Entry = Form::Member(
     Place::BerthClear,
     "clear",
     &Form::Number(Place::BerthClear),
+    &Form::End,
+);
+
+const AFTERS: Entry = Form::Later(&AFTER, &Form::End);
+
+const AFTER: Entry = Form::Member(
+    Place::After,
+    "after",
+    &Form::List(Place::After, &AFTER_PAIR),
+    &Form::End,
+);
+
+const AFTER_PAIR: Entry = Form::Object(Place::AfterPair, Names::After, &AFTER_FIRST);
+
+const AFTER_FIRST: Entry = Form::Member(
+    Place::AfterFirst,
+    "first",
+    &Form::Number(Place::AfterFirst),
+    &AFTER_SECOND,
+);
+
+const AFTER_SECOND: Entry = Form::Member(
+    Place::AfterSecond,
+    "second",
+    &Form::Number(Place::AfterSecond),
+    &AFTER_GAP,
+);
+
+const AFTER_GAP: Entry = Form::Member(
+    Place::AfterGap,
+    "gap",
+    &Form::Number(Place::AfterGap),
     &Form::End,
 );

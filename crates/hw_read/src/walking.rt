@@ -2,15 +2,16 @@
 
 ghost use Rattle.std.specs.Prelude.{◌≡◌};
 ghost use Rattle.serde_json.specs.View.{view};
-ghost use Rattle.hw_read.specs.declared.table.Version.TheVariants.{First, Second};
+ghost use Rattle.hw_read.specs.declared.table.Version.TheVariants.{First, Second, Third};
 ghost use Rattle.hw_read.specs.Places.{no_stars};
 ghost use Rattle.hw_read.specs.Table.{port, version_of as told_version, first_of, instance_faults};
 ghost use Rattle.hw_read.specs.Walk.{Tells, form_fault, form_long, entry_fault, entry_long, instance_long};
 
 use crate::fault::ReadFault;
 use crate::members::{items, member, number, object, text, truth};
+use crate::names::lexicon_of;
 use crate::stars::{Stars, path_of, stars_of};
-use crate::table::{Form, PORT, Version, lexicon_of};
+use crate::table::{Form, PORT, Version};
 use serde_json::Value;
 
 const NO_STARS: Stars = Stars {
@@ -59,7 +60,13 @@ fn walk(form: &Form<'_>, version: Version, stars: Stars, value: &Value) -> Resul
         Form::Stays(more) => {
             match version {
                 Version::First => Ok(()),
-                Version::Second => walk(more, version, stars, value),
+                Version::Second | Version::Third => walk(more, version, stars, value),
+            }
+        }
+        Form::Later(more, before) => {
+            match version {
+                Version::First | Version::Second => walk(before, version, stars, value),
+                Version::Third => walk(more, version, stars, value),
             }
         }
         Form::End => Ok(()),
@@ -72,6 +79,7 @@ fn version_of(value: &Value) -> Version
 {
     match value.get("version").and_then(Value::as_i64) {
         Some(2) => Version::Second,
+        Some(3) => Version::Third,
         _ => Version::First,
     }
 }
@@ -90,12 +98,20 @@ fn test_second(value: &Value) -> Result<(), ReadFault>
     walk(&PORT, Version::Second, NO_STARS, value)
 }
 
+#[tactic(auto, unfolding(crate::specs::Table::port))]
+fn test_third(value: &Value) -> Result<(), ReadFault>
+    ensures { Tells (entry_long (port Third) (view value.now)) result (entry_fault (port Third) no_stars (view value.now)) }
+{
+    walk(&PORT, Version::Third, NO_STARS, value)
+}
+
 fn test_by(version: Version, value: &Value) -> Result<(), ReadFault>
     ensures { Tells (entry_long (port version) (view value.now)) result (entry_fault (port version) no_stars (view value.now)) }
 {
     match version {
         Version::First => test_first(value),
         Version::Second => test_second(value),
+        Version::Third => test_third(value),
     }
 }
 

@@ -1,12 +1,12 @@
 //! The lines of reports.
 
-ghost use Rattle.std.specs.Prelude.{◌≡◌, ◌≤◌, ◌<◌, ◌*◌, length, pos, unwrap_or};
+ghost use Rattle.std.specs.Prelude.{◌≡◌, ◌≤◌, ◌<◌, ◌*◌, ◌∷◌, [], length, pos, unwrap_or, false, nat_le, codes};
 ghost use Rattle.hw_model.specs.Problem.{IsTimetable};
 ghost use Rattle.hw_port.specs.Kept.{Within};
 ghost use Rattle.hw_port_rules.specs.Drafts.{sailing as sailing_draft};
 ghost use Rattle.hw_port_rules.specs.Numbers.{whole, horizon_of};
 ghost use Rattle.hw_report.specs.Lines.{numbered, carried, cargo_text, so_far, unfinished_text, head_text, bound_text, moved_line, number_line, name_in, sail_line, sailing_line, name_line, ship_line, ship_lines, table_text};
-ghost use Rattle.hw_report.specs.Pieces.{piece_text};
+ghost use Rattle.hw_report.specs.Pieces.{piece_text, joined};
 ghost use Rattle.hw_report.specs.Printing.{AreNamesOf, IsTableOf};
 ghost use Rattle.hw_desk.specs.Writers.{Puts};
 ghost use Rattle.hw_report.specs.Seen.{names_seen, table_seen};
@@ -191,22 +191,40 @@ fn put_sailing<W: Writer>(out: &mut W, port: &Port, tide: &Tide, ship: ShipId, s
     put_sail(out, slot, minute, draft, cargo, name(&parts.ships, ship));
 }
 
+/// Whether a ship with this slot stays.
+fn stays(port: &Port, slot: Slot) -> bool
+    ensures told { result ≡ nat_le (horizon_of port.now) slot }
+    ensures sails { result ≡ false → slot < horizon_of port.now }
+{
+    port.parts().slots.unsigned_abs() <= u64::from(slot)
+}
+
+/// Puts the line of a ship that stays.
+fn put_stay<W: Writer>(out: &mut W, ships: &[Ship], ship: ShipId)
+    requires { ship < length ships.now }
+    ensures { Puts (joined (codes "stay " ∷ name_in ships.now ship ∷ codes "\n" ∷ [])) (W.state out.old) (W.state out.new) }
+{
+    put_pieces(
+        out,
+        &[
+            Piece::Word(b"stay "),
+            Piece::Word(name(ships, ship)),
+            Piece::Word(b"\n"),
+        ],
+    );
+}
+
 /// Puts a ship's line by a port's names.
 fn put_name_line<W: Writer>(out: &mut W, port: &Port, tide: &Tide, ship: ShipId, slot: Slot)
     requires ship_in { ship < length port.now.ships }
     requires columns { tide.now.columns ≡ length port.now.waypoints }
     ensures { Puts (name_line port.now tide.now ship slot) (W.state out.old) (W.state out.new) }
 {
-    let parts = port.parts();
-    if u64::from(slot) < parts.slots.unsigned_abs() {
+    if stays(port, slot) {
+        put_stay(out, &port.parts().ships, ship);
+    } else {
         put_sailing(out, port, tide, ship, slot);
-        return;
     }
-    let name = name(&parts.ships, ship);
-    put_pieces(
-        out,
-        &[Piece::Word(b"stay "), Piece::Word(name), Piece::Word(b"\n")],
-    );
 }
 
 /// Puts a ship's line.

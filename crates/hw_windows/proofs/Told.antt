@@ -8,16 +8,19 @@ use Rattle.hw_port.specs.Parts.{ShipParts}
 use Rattle.hw_port.specs.Whole.{Parts}
 use Rattle.hw_tide.specs.Levels.{TideParts}
 use Rattle.hw_port_rules.specs.Numbers.{whole}
+use Rattle.hw_port_rules.specs.Closed.{is_least}
 use Rattle.hw_port_rules.specs.Drafts.{sailing_draft}
 use Rattle.hw_windows.specs.declared.run.Run.{Run}
 use Rattle.hw_windows.specs.declared.status.Status.{Status}
-use Rattle.hw_windows.specs.declared.status.Status.TheVariants.{Sails, Shallow, TidesEnd}
-use Rattle.hw_windows.specs.Statuses.{alike, draft_of, is_shallow, sails, tides_end}
+use Rattle.hw_windows.specs.declared.status.Status.TheVariants.{Sails, Closed, Shallow, TidesEnd}
+use Rattle.hw_windows.specs.Statuses.{alike, draft_of, is_closed, is_shallow, sails, tides_end}
+use Rattle.hw_windows.specs.Closings.{IsClosedFor}
 use Rattle.hw_windows.specs.Runs.{deepest_in}
-use Rattle.hw_windows.specs.Passes.{last_pass}
+use Rattle.hw_windows.specs.Passes.{last_pass, needed}
 use Rattle.hw_windows.specs.Windows.{AskedParts, drafts, greatest_draft, least_draft, span_of, statuses}
 use Rattle.hw_windows.specs.Laws.{IsLongest, IsToldOf, IsTooShallow, IsTrueOf, IsWithin, LinesAreTrue, SpanIsWindow}
 use Rattle.hw_windows.proofs.Extremes.{extremes_law}
+use Rattle.hw_windows.proofs.Routes.{judged_up_to}
 use Rattle.hw_windows.proofs.Statuses.{reason}
 
 -- ---- the window
@@ -49,16 +52,25 @@ window_law = λ p s slot kept. (
 module _ (p : Parts) (h : TideParts) (s : ShipParts) (slot : ℕ) where
   sails_told : (here : Status) (low high : ℤ) → sails here ≡ true → IsTrueOf p h s slot here → low ≤ℤ draft_of here → draft_of here ≤ℤ high → (d : ℤ) × (sailing_draft p h s slot ≡ Some d) × (low ≤ℤ d) × (d ≤ℤ high)
   sails_told (Sails d) low high kind is above below = (d, is, above, below)
+  sails_told Closed low high kind is above below = absurd cc
   sails_told (Shallow d) low high kind is above below = absurd cc
   sails_told TidesEnd low high kind is above below = absurd cc
 
+  closed_told : (here : Status) → is_closed here ≡ true → IsTrueOf p h s slot here → IsClosedFor p s slot
+  closed_told (Sails d) kind is = absurd cc
+  closed_told Closed kind is = is
+  closed_told (Shallow d) kind is = absurd cc
+  closed_told TidesEnd kind is = absurd cc
+
   shallow_told : (here : Status) → is_shallow here ≡ true → IsTrueOf p h s slot here → IsTooShallow p h s slot (draft_of here)
   shallow_told (Sails d) kind is = absurd cc
+  shallow_told Closed kind is = absurd cc
   shallow_told (Shallow d) kind is = is
   shallow_told TidesEnd kind is = absurd cc
 
-  ended_told : (here : Status) → tides_end here ≡ true → IsTrueOf p h s slot here → h.rows ≤ slot + (last_pass s.route).offset
+  ended_told : (here : Status) → tides_end here ≡ true → IsTrueOf p h s slot here → h.rows ≤ needed p slot (last_pass s.route)
   ended_told (Sails d) kind is = absurd cc
+  ended_told Closed kind is = absurd cc
   ended_told (Shallow d) kind is = absurd cc
   ended_told TidesEnd kind is = is
 
@@ -75,14 +87,15 @@ module _ (a : AskedParts) (run : Run) (slot : ℕ) (there : slice_get a.port.shi
   told_by (Sails d) e within =
       let bounds = extremes_law (drafts a) run longest.forward in
       sails_told a.port a.tide a.ship slot (statuses a slot) (least_draft a run) (greatest_draft a run) (kind_of slot (Sails d) e within) (true_of slot within) (bounds.least slot within) (bounds.greatest slot within)
+  told_by Closed e within = closed_told a.port a.tide a.ship slot (statuses a slot) (kind_of slot Closed e within) (true_of slot within)
   told_by (Shallow d) e within =
       let bounds = extremes_law (drafts a) run longest.forward in
       let deep = deepest_in (drafts a) run in
       let most = shallow_told a.port a.tide a.ship deep (statuses a deep) (kind_of deep (Shallow d) e bounds.deep_within) (true_of deep bounds.deep_within) in
       (draft_of (statuses a slot), shallow_told a.port a.tide a.ship slot (statuses a slot) (kind_of slot (Shallow d) e within) (true_of slot within), bounds.greatest slot within, most.less)
   told_by TidesEnd e within =
-      let last = within.high in
-      (ended_told a.port a.tide a.ship slot (statuses a slot) (kind_of slot TidesEnd e within) (true_of slot within), omega (arith, last))
+      let last : slot + (last_pass a.ship.route).offset ≤ run.last + (last_pass a.ship.route).offset = omega (arith, within.high) in
+      (ended_told a.port a.tide a.ship slot (statuses a slot) (kind_of slot TidesEnd e within) (true_of slot within), judged_up_to (is_least a.port) (slot + (last_pass a.ship.route).offset) (run.last + (last_pass a.ship.route).offset) last)
 
 pub lines_law : LinesAreTrue
 lines_law = λ a run slot there kept from longest within. told_by a run slot there kept from longest (statuses a run.first) refl within

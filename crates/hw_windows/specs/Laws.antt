@@ -8,13 +8,14 @@ use Rattle.hw_tide.specs.Levels.{TideParts}
 use Rattle.hw_port_rules.specs.Numbers.{whole}
 use Rattle.hw_port_rules.specs.Drafts.{draft_at, in_window, IsAllowedDraft, sailing_draft, value}
 use Rattle.hw_windows.specs.declared.status.Status.{Status}
-use Rattle.hw_windows.specs.declared.status.Status.TheVariants.{Sails, Shallow, TidesEnd}
+use Rattle.hw_windows.specs.declared.status.Status.TheVariants.{Sails, Closed, Shallow, TidesEnd}
 use Rattle.hw_windows.specs.declared.passes.LastPass.{LastPass}
 use Rattle.hw_windows.specs.declared.run.Run.{Run}
+use Rattle.hw_windows.specs.Closings.{IsClosedFor}
 use Rattle.hw_windows.specs.Statuses.{alike, sails, status_in}
 use Rattle.hw_windows.specs.Runs.{deepest_in, lightest_in, runs_within}
 use Rattle.hw_windows.specs.Windows.{AskedParts, greatest_draft, least_draft, span_of, statuses}
-use Rattle.hw_windows.specs.Passes.{last_pass, limiting, made_at}
+use Rattle.hw_windows.specs.Passes.{last_pass, limiting, made_at, needed}
 
 -- a run that begins in this slot and ends before another one: its slots are of one kind, and the slot after it is of another
 pub record IsLongest (status : ℕ → Status) (from end : ℕ) (run : Run) : Type 0 where
@@ -35,15 +36,16 @@ RunsAreLongest = (status : ℕ → Status) (span : Run) → span.first ≤ span.
 
 -- in this slot the water allows this draft, less than the light one, and a pass at that waypoint leaves no more
 pub record IsTooShallow (p : Parts) (h : TideParts) (s : ShipParts) (slot : ℕ) (draft : ℤ) : Type 0 where
-  pub allowed : IsAllowedDraft p.waypoints h s slot draft
+  pub allowed : IsAllowedDraft p h s slot draft
   pub less : draft <ℤ s.light
-  pub limited : (pass : Pass) × Contains s.route pass × (draft_at p.waypoints h slot pass ≡ draft) × (whole pass.waypoint ≡ limiting p.waypoints h slot draft s.route)
+  pub limited : (pass : Pass) × Contains s.route pass × (draft_at p h slot pass ≡ draft) × (whole pass.waypoint ≡ limiting p h slot draft s.route)
 
 -- what a status says of a slot
 abbrev pub IsTrueOf : Parts → TideParts → ShipParts → ℕ → Status → Type 0
 IsTrueOf p h s slot (Sails draft) = sailing_draft p h s slot ≡ Some draft
+IsTrueOf p h s slot Closed = IsClosedFor p s slot
 IsTrueOf p h s slot (Shallow draft) = IsTooShallow p h s slot draft
-IsTrueOf p h s slot TidesEnd = h.rows ≤ slot + (last_pass s.route).offset
+IsTrueOf p h s slot TidesEnd = h.rows ≤ needed p slot (last_pass s.route)
 
 -- it is true of each slot for which the ship asks
 abbrev pub ReasonTrue : Type 0
@@ -83,8 +85,9 @@ SpanIsWindow = (p : Parts) (s : ShipParts) (slot : ℕ) → ShipKept p s → (Is
 -- what the line of a run says of one of its slots
 abbrev pub IsToldOf : AskedParts → Run → ℕ → Status → Type 0
 IsToldOf a run slot (Sails draft) = (d : ℤ) × (sailing_draft a.port a.tide a.ship slot ≡ Some d) × (least_draft a run ≤ℤ d) × (d ≤ℤ greatest_draft a run)
+IsToldOf a run slot Closed = IsClosedFor a.port a.ship slot
 IsToldOf a run slot (Shallow draft) = (d : ℤ) × IsTooShallow a.port a.tide a.ship slot d × (d ≤ℤ greatest_draft a run) × (greatest_draft a run <ℤ a.ship.light)
-IsToldOf a run slot TidesEnd = (a.tide.rows ≤ slot + (last_pass a.ship.route).offset) × (slot + (last_pass a.ship.route).offset ≤ run.last + (last_pass a.ship.route).offset)
+IsToldOf a run slot TidesEnd = (a.tide.rows ≤ needed a.port slot (last_pass a.ship.route)) × (needed a.port slot (last_pass a.ship.route) ≤ needed a.port run.last (last_pass a.ship.route))
 
 -- it is true of each slot of a longest run of those for which the ship asks
 abbrev pub LinesAreTrue : Type 0

@@ -1,3 +1,4 @@
+pub mod Closings
 pub mod Statuses
 pub mod Runs
 pub mod Passes

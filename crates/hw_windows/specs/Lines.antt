@@ -32,6 +32,10 @@ full_word full = if full then codes "full\n" else codes "short\n"
 unfoldable pub sails_line : Run → ℕ → ℤ → ℤ → Bool → List ℕ
 sails_line run minutes least greatest full = joined (codes "from " ∷ decimal run.first ∷ codes " " ∷ decimal (run.first * minutes) ∷ codes " to " ∷ decimal run.last ∷ codes " " ∷ decimal (run.last * minutes) ∷ codes " draft " ∷ signed_decimal least ∷ codes " " ∷ signed_decimal greatest ∷ codes " " ∷ full_word full ∷ [])
 
+-- the slots in which something is closed for the ship
+unfoldable pub closed_line : Run → List ℕ
+closed_line run = joined (codes "closed " ∷ decimal run.first ∷ codes " " ∷ decimal run.last ∷ codes "\n" ∷ [])
+
 -- the slots in which the water allows less than the light draft: that draft, the most that is allowed, and where this is
 unfoldable pub shallow_line : Run → ℤ → ℤ → List ℕ → List ℕ
 shallow_line run light at_most name = joined (codes "shallow " ∷ decimal run.first ∷ codes " " ∷ decimal run.last ∷ codes " needs " ∷ signed_decimal light ∷ codes " at most " ∷ signed_decimal at_most ∷ codes " " ∷ name ∷ codes "\n" ∷ [])

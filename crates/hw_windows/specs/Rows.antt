@@ -1,10 +1,11 @@
 -- A small port, worked out by hand: a ship that goes out over a bar, and one that comes in over it.
-use Rattle.std.specs.Prelude.{◌≡◌, ℕ, pos, negsuc, ℤ, [], ◌∷◌, false, codes, slice_index_or}
+use Rattle.std.specs.Prelude.{◌≡◌, ℕ, pos, negsuc, ℤ, List, [], ◌∷◌, None, false, codes, slice_index_or}
+use Rattle.hw_port.specs.declared.parts.Closing.{Closing}
 use Rattle.hw_port.specs.Parts.{ShipParts}
 use Rattle.hw_port.specs.Whole.{Parts}
 use Rattle.hw_tide.specs.Levels.{TideParts}
 use Rattle.hw_windows.specs.declared.status.Status.{Status}
-use Rattle.hw_windows.specs.declared.status.Status.TheVariants.{Sails, Shallow, TidesEnd}
+use Rattle.hw_windows.specs.declared.status.Status.TheVariants.{Sails, Closed, Shallow, TidesEnd}
 use Rattle.hw_windows.specs.Statuses.{status_in}
 use Rattle.hw_windows.specs.Runs.{deepest, lightest, runs}
 use Rattle.hw_windows.specs.Passes.{last_pass, limiting}
@@ -27,6 +28,7 @@ ada deep = record {
   tugs = pos 2;
   job = pos 2;
   may_stay = false;
+  closed = [];
 }
 
 -- the ship that comes in
@@ -45,21 +47,43 @@ gull = record {
   tugs = pos 2;
   job = pos 1;
   may_stay = false;
+  closed = [];
 }
 
 abbrev pub port : ℤ → Parts
 port deep = record {
   version = pos 1;
+  start = None;
   slots = pos 6;
   slot_minutes = pos 30;
-  waypoints = record { name = codes "Berth"; depth = pos 1_300 } ∷ record { name = codes "Bar"; depth = pos 1_000 } ∷ [];
+  heights = codes "start";
+  closed = [];
+  waypoints = record { name = codes "Berth"; depth = pos 1_300; closed = [] } ∷ record { name = codes "Bar"; depth = pos 1_000; closed = [] } ∷ [];
   sections = record { name = codes "Cut" } ∷ [];
   separation = (pos 2 ∷ pos 4 ∷ []) ∷ (pos 1 ∷ pos 3 ∷ []) ∷ [];
   turnaround = record { outgoing = pos 1; incoming = pos 0 };
   fleet = pos 3;
   ships = ada deep ∷ gull ∷ [];
   berths = record { outgoing = pos 0; incoming = pos 1; clear = pos 1 } ∷ [];
+  after = [];
 }
+
+-- slots closed, from the first to the last
+abbrev pub from_to : ℤ → ℤ → List Closing
+from_to from to = record { from = from; to = to } ∷ []
+
+-- the same port, where its bar is closed in slot 2, the port in slot 4 and Gull in slot 2
+abbrev pub shut_port : Parts
+shut_port = record (port (pos 1_150)) {
+  version = pos 3;
+  closed = from_to (pos 4) (pos 4);
+  waypoints = record { name = codes "Berth"; depth = pos 1_300; closed = [] } ∷ record { name = codes "Bar"; depth = pos 1_000; closed = from_to (pos 2) (pos 2) } ∷ [];
+  ships = ada (pos 1_150) ∷ record gull { closed = from_to (pos 2) (pos 2) } ∷ [];
+}
+
+-- the same port, where heights are the lesser of those at both ends of a slot
+abbrev pub least_port : Parts
+least_port = record (port (pos 1_150)) { version = pos 3; heights = codes "least" }
 
 -- seven slots
 abbrev pub tide : TideParts
@@ -93,7 +117,7 @@ pub record WindowRows : Type 0 where
   pub least : lightest heights 0 4 ≡ 2
   pub of_the_last_two : lightest heights 3 1 ≡ 4
   -- passes
-  pub bar_limits : limiting ((port (pos 1_150)).waypoints) tide 4 (pos 1_040) ((ada (pos 1_150)).route) ≡ 1
+  pub bar_limits : limiting (port (pos 1_150)) tide 4 (pos 1_040) ((ada (pos 1_150)).route) ≡ 1
   pub berth_is_last : last_pass gull.route ≡ record { waypoint = 0; offset = 2 }
   -- a draft below 0
   pub aground : shallow_line (record { first = 3; last = 5 }) (pos 900) (negsuc 9) (codes "Mud") ≡ codes "shallow 3 5 needs 900 at most -10 Mud\n"
@@ -103,3 +127,9 @@ pub record WindowRows : Type 0 where
   pub kept_back : ship_text (port (pos 1_170)) tide 0 (ada (pos 1_170)) ≡ codes "ship 0 Ada\nfrom 0 0 to 3 90 draft 1080 1160 short\nshallow 4 4 needs 1050 at most 1040 Bar\n"
   -- a tide table that ends early
   pub short_table : windows_text (port (pos 1_150)) short_tide ≡ codes "ship 0 Ada\nfrom 0 0 to 0 0 draft 1080 1080 short\ntides end 1 4 needs slot 5 Bar\nship 1 Gull\ntides end 1 5 needs slot 7 Berth\nend\n"
+  -- closed slots: in slot 1 the ship would be over the bar in slot 2; in slot 4 the port is closed, whatever the water
+  pub bar_closed : status_in shut_port tide 0 1 ≡ Closed
+  pub port_closed : status_in shut_port tide 0 4 ≡ Closed
+  pub shut_report : windows_text shut_port tide ≡ codes "ship 0 Ada\nfrom 0 0 to 0 0 draft 1080 1080 short\nclosed 1 1\nfrom 2 60 to 3 90 draft 1120 1150 full\nclosed 4 4\nship 1 Gull\nshallow 1 1 needs 1100 at most 1080 Bar\nclosed 2 2\nfrom 3 90 to 3 90 draft 1100 1100 full\nclosed 4 4\ntides end 5 5 needs slot 7 Berth\nend\n"
+  -- the lesser heights: the ship that sails in slot 3 is over the bar in slot 4, whose water falls from 220 to 140
+  pub least_report : windows_text least_port tide ≡ codes "ship 0 Ada\nfrom 0 0 to 2 60 draft 1080 1140 short\nshallow 3 4 needs 1050 at most 1040 Bar\nship 1 Gull\nshallow 1 1 needs 1100 at most 1080 Bar\nfrom 2 60 to 3 90 draft 1100 1100 full\ntides end 4 5 needs slot 8 Berth\nend\n"

@@ -8,12 +8,12 @@ use Rattle.hw_port.specs.Whole.{Parts}
 use Rattle.hw_tide.specs.Levels.{TideParts}
 use Rattle.hw_port_rules.specs.Numbers.{whole}
 use Rattle.hw_windows.specs.declared.status.Status.{Status}
-use Rattle.hw_windows.specs.declared.status.Status.TheVariants.{Sails, Shallow, TidesEnd}
+use Rattle.hw_windows.specs.declared.status.Status.TheVariants.{Sails, Closed, Shallow, TidesEnd}
 use Rattle.hw_windows.specs.declared.run.Run.{Run}
 use Rattle.hw_windows.specs.Statuses.{draft_in, full_draft, status_in}
 use Rattle.hw_windows.specs.Runs.{deepest_in, lightest_in, runs_within}
-use Rattle.hw_windows.specs.Passes.{last_pass, limiting}
-use Rattle.hw_windows.specs.Lines.{sails_line, shallow_line, ship_line, tides_line}
+use Rattle.hw_windows.specs.Passes.{last_pass, limiting, needed}
+use Rattle.hw_windows.specs.Lines.{closed_line, sails_line, shallow_line, ship_line, tides_line}
 
 -- a ship of a port, its number, and the tide: of this it is asked when it may sail
 pub record AskedParts : Type 0 where
@@ -48,7 +48,7 @@ waypoint_name p place = option_map_or (λ w. w.name) (slice_get p.waypoints plac
 
 -- where the water is shallowest in the slot of a run in which it allows the most
 abbrev pub shallowest : AskedParts → Run → ℕ
-shallowest a run = limiting a.port.waypoints a.tide (deepest_in (drafts a) run) (greatest_draft a run) a.ship.route
+shallowest a run = limiting a.port a.tide (deepest_in (drafts a) run) (greatest_draft a run) a.ship.route
 
 -- a run in which the ship may sail: whether it does so with its full draft, somewhere in the run
 abbrev pub sails_in : AskedParts → Run → List ℕ
@@ -60,11 +60,12 @@ shallow_in a run = shallow_line run a.ship.light (greatest_draft a run) (waypoin
 
 -- a run in which it makes a pass after the end of the tide table
 abbrev pub ended_in : AskedParts → Run → List ℕ
-ended_in a run = tides_line run (run.last + (last_pass a.ship.route).offset) (waypoint_name a.port ((last_pass a.ship.route).waypoint))
+ended_in a run = tides_line run (needed a.port run.last (last_pass a.ship.route)) (waypoint_name a.port ((last_pass a.ship.route).waypoint))
 
 -- the line of a run, by the status of its slots
 abbrev pub line_of_kind : AskedParts → Run → Status → List ℕ
 line_of_kind a run (Sails draft) = sails_in a run
+line_of_kind a run Closed = closed_line run
 line_of_kind a run (Shallow allowed) = shallow_in a run
 line_of_kind a run TidesEnd = ended_in a run
 

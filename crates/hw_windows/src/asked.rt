@@ -4,9 +4,10 @@ ghost use Rattle.std.specs.Prelude.{◌≡◌, ◌<◌, ◌≤◌, ◌+◌, leng
 ghost use Rattle.std.specs.Ordering.{int_eq};
 ghost use Rattle.hw_port.specs.Kept.{PortKept, ShipKept};
 ghost use Rattle.hw_port_rules.specs.Numbers.{horizon_of, whole};
-ghost use Rattle.hw_windows.specs.Statuses.{alike, full_draft};
+ghost use Rattle.hw_windows.specs.Statuses.{alike, full_draft, reason_in};
 ghost use Rattle.hw_windows.specs.Windows.{drafts, span_of, statuses};
 
+use crate::closings::is_closed_in;
 use crate::passes::natural;
 use crate::run::Run;
 use crate::status::Status;
@@ -81,14 +82,26 @@ impl Asked<'_> {
         let port = self.port;
         match hw_draft::sailing(port, self.tide, self.number, slot) {
             Some(draft) => Status::Sails { draft },
-            None => match hw_draft::draft(port, self.tide, self.number, slot) {
-                Some(allowed) => Status::Shallow { allowed },
-                None => Status::TidesEnd,
-            },
+            None => self.reason(slot),
         }
     }
 
-    /// The draft with which the ship may sail in a slot, or that the water allows it; 0 where that isn't known.
+    /// Why the ship doesn't sail in a slot in which it doesn't.
+    fn reason(&self, slot: Slot) -> Status
+        requires { slot < horizon_of self.now.port }
+        ensures { result ≡ reason_in self.now.port self.now.tide self.now.number slot }
+    {
+        let port = self.port;
+        if is_closed_in(self.parts(), self.number, slot) {
+            return Status::Closed;
+        }
+        match hw_draft::draft(port, self.tide, self.number, slot) {
+            Some(allowed) => Status::Shallow { allowed },
+            None => Status::TidesEnd,
+        }
+    }
+
+    /// The draft with which the ship may sail in a slot, or that the water allows it; 0 where neither is told.
     pub fn draft(&self, slot: Slot) -> i64
         requires { slot < horizon_of self.now.port }
         ensures { result ≡ drafts self.now slot }

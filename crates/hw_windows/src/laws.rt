@@ -9,8 +9,9 @@ pub fn runs_are_longest()
     ensures { RunsAreLongest }
 {}
 
-/// What is said of a slot that a ship asks for is true of it: with which draft the ship sails, or that the water allows less
-/// than its light draft, or that the last pass of its route lies after the end of the tide table.
+/// What is said of a slot that a ship asks for is true of it: with which draft the ship sails, or what is closed for it, or
+/// that the water allows less than its light draft, or that the tide table lacks a slot whose height judges the last pass of
+/// its route.
 pub fn reason_true()
     ensures { ReasonTrue }
 {}

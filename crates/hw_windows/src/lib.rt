@@ -5,6 +5,7 @@
 #![tactic(auto)]
 
 mod asked;
+mod closings;
 mod laws;
 mod lines;
 mod passes;

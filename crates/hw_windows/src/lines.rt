@@ -2,7 +2,7 @@
 
 ghost use Rattle.std.specs.Prelude.{◌≡◌, ◌*◌};
 ghost use Rattle.hw_desk.specs.Writers.{Puts};
-ghost use Rattle.hw_windows.specs.Lines.{full_word, sails_line, shallow_line, ship_line, tides_line};
+ghost use Rattle.hw_windows.specs.Lines.{closed_line, full_word, sails_line, shallow_line, ship_line, tides_line};
 
 use crate::piece::{Piece, put_pieces};
 use crate::run::Run;
@@ -69,6 +69,23 @@ pub fn put_sails_line<W: Writer>(
             Piece::Draft(greatest),
             Piece::Word(b" "),
             Piece::Word(full_word(full)),
+        ],
+    );
+}
+
+/// Puts the line of a run in which something is closed.
+#[tactic(auto, unfolding(crate::specs::Lines::closed_line))]
+pub fn put_closed_line<W: Writer>(out: &mut W, run: Run)
+    ensures { Puts (closed_line run) (W.state out.old) (W.state out.new) }
+{
+    put_pieces(
+        out,
+        &[
+            Piece::Word(b"closed "),
+            Piece::Number(u64::from(run.first)),
+            Piece::Word(b" "),
+            Piece::Number(u64::from(run.last)),
+            Piece::Word(b"\n"),
         ],
     );
 }

@@ -1,13 +1,13 @@
 //! The passes of a route that keep a ship back.
 
-ghost use Rattle.std.specs.Prelude.{◌≡◌, ◌<◌, ◌≤◌, ◌≤ℤ◌, ◌+ℤ◌, ◌-ℤ◌, pos, length, All, slice_get};
+ghost use Rattle.std.specs.Prelude.{◌≡◌, ◌<◌, ◌≤◌, ◌+◌, ◌≤ℤ◌, ◌+ℤ◌, ◌-ℤ◌, pos, length, All, slice_get, if◌then◌else◌};
+ghost use Rattle.std.specs.Int.{int_min};
 ghost use Rattle.std.specs.Option.{option_map_or};
-ghost use Rattle.std.specs.Ordering.{int_eq};
 ghost use Rattle.hw_port.specs.Kept.{PassKept, PortKept, WaypointKept, Within};
 ghost use Rattle.hw_port_rules.specs.Numbers.{whole};
 ghost use Rattle.hw_port_rules.specs.Drafts.{draft_at};
 ghost use Rattle.hw_tide.specs.Levels.{height_at};
-ghost use Rattle.hw_windows.specs.Passes.{last_pass, limiting};
+ghost use Rattle.hw_windows.specs.Passes.{last_pass, leaves_just, limiting, needed};
 ghost use Rattle.hw_windows.specs.Windows.{waypoint_name};
 
 use hw_model::{MOST_SLOTS, Slot};
@@ -63,6 +63,20 @@ fn height(tide: &Tide, row: u32, place: u32) -> i32
     }
 }
 
+/// The height at the beginning of a slot, or the lesser of those at both ends of it; 0 outside the tide.
+fn height_judged(tide: &Tide, row: u32, place: u32, least: bool) -> i32
+    requires row { row ≤ 2_000 }
+    requires place { place < tide.now.columns }
+    ensures { result ≡ (if least then int_min (height_at tide.now row place) (height_at tide.now (row + 1) place) else height_at tide.now row place) }
+{
+    let begins = height(tide, row, place);
+    if least {
+        begins.min(height(tide, row + 1, place))
+    } else {
+        begins
+    }
+}
+
 /// Depth and height less the clearance.
 fn left(depth: i64, height: i32, clearance: i64) -> i64
     requires low { pos 0 ≤ℤ depth }
@@ -79,20 +93,22 @@ fn draft_left(parts: &PortParts, tide: &Tide, slot: Slot, pass: &Pass) -> i64
     requires columns { tide.now.columns ≡ length parts.now.waypoints }
     requires slot { slot ≤ MOST_SLOTS }
     requires pass { PassKept (pos (length parts.now.waypoints)) pass.now }
-    ensures { result ≡ draft_at parts.now.waypoints tide.now slot pass.now }
+    ensures { result ≡ draft_at parts.now tide.now slot pass.now }
 {
     let place = natural(pass.waypoint);
-    let height = height(tide, slot + natural(pass.offset), place);
+    let row = slot + natural(pass.offset);
+    let height = height_judged(tide, row, place, parts.is_least());
     left(depth(&parts.waypoints, place), height, pass.clearance)
 }
 
 /// Whether a pass leaves just this draft.
+#[tactic(auto, unfolding(crate::specs::Passes::leaves_just))]
 fn leaves(parts: &PortParts, tide: &Tide, slot: Slot, draft: i64, pass: &Pass) -> bool
     requires kept { PortKept parts.now }
     requires columns { tide.now.columns ≡ length parts.now.waypoints }
     requires slot { slot ≤ MOST_SLOTS }
     requires pass { PassKept (pos (length parts.now.waypoints)) pass.now }
-    ensures { result ≡ int_eq (draft_at parts.now.waypoints tide.now slot pass.now) draft }
+    ensures { result ≡ leaves_just parts.now tide.now slot draft pass.now }
 {
     draft_left(parts, tide, slot, pass) == draft
 }
@@ -103,7 +119,7 @@ pub fn limiting(parts: &PortParts, tide: &Tide, slot: Slot, draft: i64, route: &
     requires columns { tide.now.columns ≡ length parts.now.waypoints }
     requires slot { slot ≤ MOST_SLOTS }
     requires route { All (PassKept (pos (length parts.now.waypoints))) route.now }
-    ensures { result ≡ limiting parts.now.waypoints tide.now slot draft route.now }
+    ensures { result ≡ limiting parts.now tide.now slot draft route.now }
 {
     match route {
         [] => 0,
@@ -115,6 +131,16 @@ pub fn limiting(parts: &PortParts, tide: &Tide, slot: Slot, draft: i64, route: &
             }
         }
     }
+}
+
+/// The last slot whose height judges the last pass of a ship that sails in the slot.
+pub fn needed(parts: &PortParts, slot: Slot, last: LastPass) -> Slot
+    requires slot { slot ≤ MOST_SLOTS }
+    requires offset { last.offset ≤ 1_023 }
+    ensures { result ≡ needed parts.now slot last }
+{
+    let passed = slot + last.offset;
+    if parts.is_least() { passed + 1 } else { passed }
 }
 
 /// The last pass of a route.

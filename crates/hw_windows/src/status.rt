@@ -8,9 +8,11 @@ ghost use Rattle.hw_windows.specs.Statuses.{alike, draft_of};
 pub enum Status {
     /// It may sail, with this draft.
     Sails { draft: i64 },
+    /// The port or the ship is closed, or a waypoint of its route when it is passed.
+    Closed,
     /// The water allows this draft, which is less than its light one.
     Shallow { allowed: i64 },
-    /// It would make a pass after the end of the tide table.
+    /// It would make a pass whose height isn't in the tide table.
     TidesEnd,
 }
 
@@ -21,19 +23,20 @@ impl Status {
     {
         match self {
             Status::Sails { .. } => matches!(other, Status::Sails { .. }),
+            Status::Closed => matches!(other, Status::Closed),
             Status::Shallow { .. } => matches!(other, Status::Shallow { .. }),
             Status::TidesEnd => matches!(other, Status::TidesEnd),
         }
     }
 
-    /// The draft with which the ship may sail, or that the water allows it; 0 where that isn't known.
+    /// The draft with which the ship may sail, or that the water allows it; 0 where neither is told.
     pub fn draft(self) -> i64
         ensures { result ≡ draft_of self }
     {
         match self {
             Status::Sails { draft } => draft,
             Status::Shallow { allowed } => allowed,
-            Status::TidesEnd => 0,
+            Status::Closed | Status::TidesEnd => 0,
         }
     }
 }

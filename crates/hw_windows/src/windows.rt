@@ -9,8 +9,10 @@ ghost use Rattle.hw_windows.specs.Runs.{runs_within};
 ghost use Rattle.hw_windows.specs.Windows.{asked_text, ended_in, run_line, run_lines, sails_in, shallow_in, ship_text, ships_from, span_of, statuses, windows_text};
 
 use crate::asked::Asked;
-use crate::lines::{put_sails_line, put_shallow_line, put_ship_line, put_tides_line};
-use crate::passes::{last_pass, limiting, waypoint_name};
+use crate::lines::{
+    put_closed_line, put_sails_line, put_shallow_line, put_ship_line, put_tides_line,
+};
+use crate::passes::{last_pass, limiting, needed, waypoint_name};
 use crate::run::{Run, extremes_in, first_run};
 use crate::status::Status;
 use hw_desk::Writer;
@@ -46,19 +48,15 @@ fn put_shallow<W: Writer>(out: &mut W, asked: &Asked, run: Run)
     put_shallow_line(out, run, ship.light, at_most, waypoint_name(parts, place));
 }
 
-/// Puts a run in which a ship makes a pass after the end of the tide table.
+/// Puts a run in which a ship makes a pass whose height isn't in the tide table.
 fn put_ended<W: Writer>(out: &mut W, asked: &Asked, run: Run)
     requires { run.last < horizon_of asked.now.port }
     ensures { Puts (ended_in asked.now run) (W.state out.old) (W.state out.new) }
 {
     let parts = asked.parts();
     let last = last_pass(parts.waypoints.len(), &asked.ship().route);
-    put_tides_line(
-        out,
-        run,
-        run.last + last.offset,
-        waypoint_name(parts, last.waypoint),
-    );
+    let needed = needed(parts, run.last, last);
+    put_tides_line(out, run, needed, waypoint_name(parts, last.waypoint));
 }
 
 /// Puts a run, by the status of its slots.
@@ -69,6 +67,7 @@ fn put_run<W: Writer>(out: &mut W, asked: &Asked, run: Run)
 {
     match asked.status(run.first) {
         Status::Sails { .. } => put_sails(out, asked, run),
+        Status::Closed => put_closed_line(out, run),
         Status::Shallow { .. } => put_shallow(out, asked, run),
         Status::TidesEnd => put_ended(out, asked, run),
     }

@@ -1,10 +1,11 @@
 use Rattle.std.proofs.Common.{refl}
 use Rattle.std.specs.Fmt.{digits}
-use Rattle.hw_windows.specs.Lines.{sails_line, shallow_line, ship_line, tides_line}
+use Rattle.hw_windows.specs.Passes.{leaves_just}
+use Rattle.hw_windows.specs.Lines.{closed_line, sails_line, shallow_line, ship_line, tides_line}
 use Rattle.hw_windows.proofs.laws.window_rows.Goals as goal
 
 pub returns : goal.returns
-unfolding digits sails_line shallow_line ship_line tides_line
+unfolding digits leaves_just closed_line sails_line shallow_line ship_line tides_line
 returns c = record {
   first_slot = refl;
   full = refl;
@@ -22,4 +23,8 @@ returns c = record {
   report = refl;
   kept_back = refl;
   short_table = refl;
+  bar_closed = refl;
+  port_closed = refl;
+  shut_report = refl;
+  least_report = refl;
 }
