@@ -1,6 +1,6 @@
 //! Whoever advises a search by prices.
 
-use hw_flat::{Flat, Room};
+use hw_flat::{Flat, Room, Timetable};
 use hw_lits::Clause;
 use hw_model::{Lit, NoMemory};
 use hw_tolls::{Tariff, Toll};
@@ -74,6 +74,11 @@ pub trait Adviser {
     fn bound(&mut self, alloc: Global, scene: &Scene<'_>) -> Result<Option<Bounding>, NoMemory>
         requires { IsScene scene.now }
         ensures bound { IfOk result (λ answer. IfSome answer (IsBoundIn scene.now)) };
+
+    /// A timetable that may be better than the best; none if it knows none. Whoever asks tests it: it may
+    /// be anything. An error says that memory ran out.
+    fn propose(&mut self, alloc: Global, scene: &Scene<'_>) -> Result<Option<Timetable>, NoMemory>
+        requires { IsScene scene.now };
 
     /// A literal that the room leaves open, by which to decide; none if it prefers none.
     fn prefer(&mut self, scene: &Scene<'_>) -> Option<Lit>

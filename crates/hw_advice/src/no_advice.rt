@@ -1,10 +1,11 @@
 //! The adviser that has nothing to say.
 
 use crate::adviser::{Advice, Adviser, Bounding, Scene};
+use hw_flat::Timetable;
 use hw_model::{Lit, NoMemory};
 use std::alloc::Global;
 
-/// Says nothing, knows no bound and prefers no literal.
+/// Says nothing, knows no bound, proposes no timetable and prefers no literal.
 #[derive(Clone, Copy, PartialEq, Eq)]
 pub struct NoAdvice;
 
@@ -14,6 +15,14 @@ impl Adviser for NoAdvice {
     }
 
     fn bound(&mut self, _alloc: Global, _scene: &Scene<'_>) -> Result<Option<Bounding>, NoMemory> {
+        Ok(None)
+    }
+
+    fn propose(
+        &mut self,
+        _alloc: Global,
+        _scene: &Scene<'_>,
+    ) -> Result<Option<Timetable>, NoMemory> {
         Ok(None)
     }
 

@@ -3,6 +3,7 @@
 use crate::answering::open_bound;
 use crate::mind::Mind;
 use hw_advice::{Advice, Adviser, Bounding, Scene};
+use hw_flat::Timetable;
 use hw_model::{Lit, NoMemory};
 use std::alloc::Global;
 
@@ -61,6 +62,14 @@ impl Adviser for PricingAdviser {
             None => Ok(None),
             Some(mind) => mind.bound(alloc, scene, spent),
         }
+    }
+
+    fn propose(
+        &mut self,
+        _alloc: Global,
+        _scene: &Scene<'_>,
+    ) -> Result<Option<Timetable>, NoMemory> {
+        Ok(None)
     }
 
     fn prefer(&mut self, scene: &Scene<'_>) -> Option<Lit> {

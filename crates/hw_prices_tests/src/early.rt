@@ -8,7 +8,7 @@ ghost use Rattle.hw_lines.specs.Valid.{LineFits};
 
 use hw_advice::{Advice, Adviser, Bounding, Scene, Standing};
 use hw_cert::{Line, MemoryLog};
-use hw_flat::Flat;
+use hw_flat::{Flat, Timetable};
 use hw_model::{Lit, NoMemory};
 use hw_prices::PricingAdviser;
 use hw_search::{Proved, prove};
@@ -38,6 +38,11 @@ impl Adviser for Early {
     fn bound(&mut self, alloc: Global, scene: &Scene<'_>) -> Result<Option<Bounding>, NoMemory> {
         let standing = later(scene.standing, self.ahead);
         self.adviser.bound(alloc, &Scene { standing, ..*scene })
+    }
+
+    fn propose(&mut self, alloc: Global, scene: &Scene<'_>) -> Result<Option<Timetable>, NoMemory> {
+        let standing = later(scene.standing, self.ahead);
+        self.adviser.propose(alloc, &Scene { standing, ..*scene })
     }
 
     fn prefer(&mut self, scene: &Scene<'_>) -> Option<Lit> {

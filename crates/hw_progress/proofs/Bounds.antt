@@ -169,5 +169,12 @@ few_numbers s is over few =
     let a : (most_events s.problem.ships s.problem.slots + 2) * s.lemmas ≤ 21262 * 99999 = product (most_events s.problem.ships s.problem.slots + 2) 21262 s.lemmas 99999 (omega (arith, m)) (omega (arith, few)) in
     omega (arith, a, m, is.few_lines over, is.few_priced)
 
+-- also after the last lemma there is a number for one more line
+pub few_last : (s : SearchModel) → IsSearch s → s.over ≡ false → s.lemmas ≤ 100000 → s.clause_lines + 1 < 2 ^ 32
+few_last s is over few =
+    let m = most_is s.problem is.flat in
+    let a : (most_events s.problem.ships s.problem.slots + 2) * s.lemmas ≤ 21262 * 100000 = product (most_events s.problem.ships s.problem.slots + 2) 21262 s.lemmas 100000 (omega (arith, m)) few in
+    omega (arith, a, is.few_lines over, is.few_priced)
+
 pub few_restarts : (s : SearchModel) → IsSearch s → s.over ≡ false → s.lemmas < 100000 → s.restarts + 1 ≤ 100000
 few_restarts s is over few = omega (arith, few, is.few_restarts over)

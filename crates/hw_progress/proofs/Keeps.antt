@@ -130,7 +130,7 @@ new_kept f branching flat = record {
   quiet_below = λ level lt. absurd (omega (arith, lt));
   new = λ i j d lt in'. absurd (omega (arith, in'));
   permitted = tt;
-  prices = record { few = omega arith; tolls = All-nil (IsToll f); tariff = tt; bound = tt };
+  prices = record { few = omega arith; tolls = All-nil (IsToll f); tariff = tt; ascend = tt; bound = tt; shown = tt };
   counted = λ e. refl;
   few_lines = λ e. omega arith;
   few_priced = omega arith;

@@ -1,6 +1,6 @@
 -- What a whole solution with advice meets.
 use Rattle.std.proofs.Common.{◌≡◌, ℕ, ◌+◌, ◌<◌, ◌≤◌, true, false, List, [], ◌∷◌, ◌++◌, Option, Some, None, IfSome, length, refl, sym, ap, ◌∙◌, subst, arith, append-nil}
-use Rattle.std.proofs.lemmas.List.Elements.{All-append, All-nil, filter_map-append}
+use Rattle.std.proofs.lemmas.List.Elements.{filter_map-append}
 use Rattle.hw_model.specs.Problem.{Problem}
 use Rattle.hw_model.specs.Limits.{IsFlat}
 use Rattle.hw_model.specs.Timetables.{Permits, cargo}
@@ -10,9 +10,9 @@ use Rattle.hw_lines.specs.declared.line.Line.{Line}
 use Rattle.hw_lines.specs.declared.line.Line.TheVariants as lines
 use Rattle.hw_lines.specs.Lines.{last_table, is_closed, ends}
 use Rattle.hw_lines.specs.Tolled.{bound_of}
-use Rattle.hw_lines.specs.Valid.{LineFits}
 use Rattle.hw_lines.specs.Lemmas.{lemma_of, lemmas_of}
 use Rattle.hw_lines.proofs.Closed.{closed_from}
+use Rattle.hw_lines.proofs.Pushed.{last_push}
 use Rattle.hw_cert.specs.Logs.{LogTold, LogModel, WhereTold, Grows, IsEmpty, IsWhole}
 use Rattle.hw_progress.specs.declared.outcome.Branching.{Branching}
 use Rattle.hw_progress.specs.declared.outcome.Turn.{Turn}
@@ -21,40 +21,26 @@ use Rattle.hw_progress.specs.declared.outcome.Solved.{Solved}
 use Rattle.hw_progress.specs.declared.outcome.Solved.TheVariants as answers
 use Rattle.hw_progress.specs.Living.{FewLiveFrom}
 use Rattle.hw_progress.specs.Prices.{PriceModel, NoneAbove}
-use Rattle.hw_progress.specs.Searches.{SearchModel, IsSearch, LogFits, new_search}
-use Rattle.hw_progress.specs.Turns.{TurnMeets, TurnWrites, WritesWell, FitsAfter, FailsNext, is_last}
+use Rattle.hw_progress.specs.Searches.{SearchModel, IsSearch, LogFits, new_search, best_cargo}
+use Rattle.hw_progress.specs.Turns.{TurnMeets, TurnWrites, FitsAfter, FailsNext, is_last}
 use Rattle.hw_progress.specs.Solving.{AnswerTells, AnswerMeans, is_proved, may_be_spent}
 use Rattle.hw_progress.specs.Advised.{WritesGood, HeedWrites, Heeds, Lowers, Prefers, IsCutOff, StopsBy, Stopped, StopsBound, FollowsAdvice, AdvisedMeets}
 use Rattle.hw_progress.specs.Advised.FollowsAdvice.{by_turn, by_preference, by_stop}
-use Rattle.hw_progress.specs.Proving.{WrittenGood, ProveWrites, ProveMeets, ProvedSoFar, Proving, IsEndOf}
+use Rattle.hw_progress.specs.Closing.{IsReached, last_priced, WritesLast, Closes}
+use Rattle.hw_progress.specs.Proposing.{TakesProposal}
+use Rattle.hw_progress.specs.Proving.{WrittenGood, ProveWrites, IsAbove, ProveMeets, ProvedSoFar, Proving, IsEndOf}
 use Rattle.hw_progress.specs.Laws.{EndedMeans, ProvingGoesOn, ProvingEnds}
 use Rattle.hw_progress.proofs.Backs.{decided_open, decided_live}
 use Rattle.hw_progress.proofs.Bounds.{few_stored}
+use Rattle.hw_progress.proofs.Closings.{not_reached, last_closes, last_means}
+use Rattle.hw_progress.proofs.Lines.{same_lemmas, clause_told}
+use Rattle.hw_progress.proofs.Priced.{priced_is}
 use Rattle.hw_progress.proofs.Boundless.{last_bound}
-use Rattle.hw_progress.proofs.Heeded.{valid_append, lean_append}
-use Rattle.hw_progress.proofs.Living.{throughout, none_live}
+use Rattle.hw_progress.proofs.Goods.{good_more, no_line, well_good}
 use Rattle.hw_progress.proofs.OneLemma.{few_lemmas}
 use Rattle.hw_progress.proofs.Told.{told_same, told_on, told_and, told_both, told_so, where_and, where_so, where_grown}
-use Rattle.hw_progress.proofs.Trues.{ended as ended_means}
+use Rattle.hw_progress.proofs.Trues.{ended as ended_means, ended_by}
 use Rattle.hw_progress.proofs.Turned.{starts}
-
--- ---- lines after lines
-
-good_more : (f : Problem) (a b : List Line) → WrittenGood f a → WritesGood f a b → FewLiveFrom f a b → WrittenGood f (a ++ b)
-good_more f a b w m few = record {
-  fit = All-append (LineFits f) a b w.fit m.fit;
-  valid = valid_append f [] a b w.valid m.valid;
-  lean = lean_append f [] a b w.lean m.lean;
-  new = m.new w.new;
-  few_live = throughout f a b w.few_live few;
-}
-
-no_line : (f : Problem) → WrittenGood f []
-no_line f = record { fit = All-nil (LineFits f); valid = tt; lean = tt; new = λ i j d a b. absurd (omega (arith, b)); few_live = none_live f }
-
--- what is written well is good
-well_good : (f : Problem) (before more : List Line) → WritesWell f before more → WritesGood f before more
-well_good f before more w = record { fit = w.fit; valid = w.valid; lean = w.lean; new = w.new }
 
 -- ---- a solution begins
 
@@ -108,6 +94,17 @@ lowered f budget s u old here now g l =
       told = told_on old l.then now (λ was told. ProvedSoFar f l.mid told) (λ was told. (told.lines ≡ was.lines ++ lines.Bound l.bound ∷ []) × HeedWrites l.mid u was told) (λ was told. ProvedSoFar f u told) m.told l.line.writes (λ was mid told a w.
           heeded_lines f l.mid u mid told m.same_problem (ap (λ (x : SearchModel). x.lemmas) l.after_is) a w.1);
     }
+
+-- a better timetable that was proposed
+proposed : (f : Problem) (budget : ℕ) (s u : SearchModel) (old here now : LogModel) → Proving f budget s old here → TakesProposal s u here now → Proving f budget u old now
+proposed f budget s u old here now g t = record {
+  same_problem = ap (λ (x : SearchModel). x.problem) t.takes ∙ g.same_problem;
+  going = ap (λ (x : SearchModel). x.over) t.takes ∙ g.going;
+  within = omega (arith, ap (λ (x : SearchModel). x.lemmas) t.takes, g.within);
+  later = omega (arith, g.later, t.same_faults);
+  told = told_on old here now (λ was told. ProvedSoFar f s told) (λ was told. (told.lines ≡ was.lines ++ lines.Table t.table ∷ []) × HeedWrites s u was told) (λ was told. ProvedSoFar f u told) g.told t.writes (λ was mid told a w.
+      heeded_lines f s u mid told g.same_problem (ap (λ (x : SearchModel). x.lemmas) t.takes) a w.1);
+}
 
 same : (f : Problem) (budget : ℕ) (s u : SearchModel) (old here now : LogModel) → Proving f budget s old here → u ≡ s → now ≡ here → Proving f budget u old now
 same f budget s u old here now g e l = subst (λ (x : SearchModel). Proving f budget x old now) (sym e) (subst (Proving f budget s old) (sym l) g)
@@ -206,6 +203,7 @@ no_search f budget log empty = record {
   worth = tt;
   means = tt;
   bounded = tt;
+  above = tt;
   ends = where_so log (λ told. (told.lines ≡ []) × (told.behind ≡ [])) (λ told. told.behind ≡ []) empty (λ told e. e.1);
 }
 
@@ -221,8 +219,8 @@ whole : (f : Problem) (budget : ℕ) (s : SearchModel) (old now : LogModel) → 
 whole f budget s old now g = where_so now (λ told. LogFits told s) (λ told. told.behind ≡ []) (to_fit f budget s old now g) (λ told h. h.nothing_behind)
 
 -- the budget is spent
-spent : (f : Problem) (budget : ℕ) (s : SearchModel) (old now : LogModel) → IsSearch s → Proving f budget s old now → budget ≤ s.lemmas → ProveMeets f budget old (answers.Unfinished s.best) s.prices.bound now
-spent f budget s old now is g le = record {
+spent : (f : Problem) (budget : ℕ) (s : SearchModel) (old now : LogModel) → IsSearch s → Proving f budget s old now → budget ≤ s.lemmas → (IsReached s → ⊥) → ProveMeets f budget old (answers.Unfinished s.best) s.prices.bound now
+spent f budget s old now is g le under = record {
   later = g.later;
   writes = told_so old now (λ was told. ProvedSoFar f s told) (λ was told. ProveWrites f budget (answers.Unfinished s.best) s.prices.bound old.faults now.faults told.lines) g.told (λ was told h.
       let fit = h.fits.fits in
@@ -231,6 +229,7 @@ spent f budget s old now is g le = record {
   worth = tt;
   means = subst (λ (p : Problem). budget ≤ room_count p) g.same_problem (omega (arith, few_stored s is, is.counted g.going, le));
   bounded = above f s is g.same_problem;
+  above = subst (λ (p : Problem). IsAbove p (answers.Unfinished s.best) s.prices.bound) g.same_problem (not_reached s.prices.bound (best_cargo s) under);
   ends = whole f budget s old now g;
 }
 
@@ -245,6 +244,7 @@ rests f budget s old now is g = record {
   worth = tt;
   means = tt;
   bounded = above f s is g.same_problem;
+  above = tt;
   ends = whole f budget s old now g;
 }
 
@@ -271,6 +271,7 @@ advice_failed f budget s u old here now is g x =
       worth = tt;
       means = tt;
       bounded = above f s is g.same_problem;
+      above = tt;
       ends = (rose, subst (λ (p : Problem). WhereTold now (IsCutOff p)) g.same_problem x.cause.1);
     })
 
@@ -308,6 +309,7 @@ turn_stopped f budget s u old here now is g lt t =
       worth = tt;
       means = tt;
       bounded = above_after f s u is g.same_problem t.same_prices;
+      above = tt;
       ends = where_so now (λ told. (told.behind ≡ []) × (is_closed told.lines ≡ false)) (λ told. told.behind ≡ []) t.fits (λ told a. a.0);
     }
 
@@ -327,45 +329,95 @@ turn_failed f budget s u old here now is g lt t =
       worth = tt;
       means = tt;
       bounded = above_after f s u is g.same_problem t.same_prices;
+      above = tt;
       ends = (rose, where_so now (FailsNext f) (IsCutOff f) (subst (λ (p : Problem). WhereTold now (FailsNext p)) g.same_problem t.does.failed) (cut_off f));
     }
 
--- the search ended
-turn_ended : (f : Problem) (budget : ℕ) (s u : SearchModel) (answer : Solved) (old here now : LogModel) → IsSearch s → Proving f budget s old here → s.lemmas < budget → TurnMeets s here turns.Ended u now → IsEndOf f u.best answer → ProveMeets f budget old answer u.prices.bound now
-turn_ended f budget s u answer old here now is g lt t e = by u.best refl answer e
+-- what a search that ended leaves: nothing beats its best
+record EndsWith (f : Problem) (budget : ℕ) (s u : SearchModel) (old now : LogModel) : Type 0 where
+  pub kept : IsSearch s
+  pub same_problem : s.problem ≡ f
+  pub same_best : u.best ≡ s.best
+  pub same_prices : u.prices ≡ s.prices
+  pub means : EndedMeans s
+  pub few : u.lemmas ≤ budget
+  pub later : old.faults ≤ now.faults
+  pub told : Grows old now (λ was told. Closed f u told × (is_closed told.lines ≡ true))
+  pub whole : IsWhole now
+
+search_ended : (f : Problem) (budget : ℕ) (s u : SearchModel) (answer : Solved) (old now : LogModel) → EndsWith f budget s u old now → IsEndOf f u.best answer → ProveMeets f budget old answer u.prices.bound now
+search_ended f budget s u answer old now x e = by u.best refl answer e
   where
-    means : EndedMeans s
-    means = ended_means s u here now is t.does
-
-    few : u.lemmas ≤ s.lemmas + 1
-    few = few_lemmas turns.Ended s u here now t.does
-
     writes : (answer : Solved) → is_proved answer ≡ true → ((all : List Line) → last_table all ≡ u.best → AnswerTells f budget answer all) → Grows old now (λ was told. ProveWrites f budget answer u.prices.bound old.faults now.faults told.lines)
-    writes answer proved tells = told_and old now (λ was told. Closed f u told) (λ was told. ProveWrites f budget answer u.prices.bound old.faults now.faults told.lines) (λ told. (told.behind ≡ []) × (is_closed told.lines ≡ true)) (closes f budget s u turns.Ended old here now g refl t) t.fits (λ was told c h.
-        prove_writes f budget answer u.prices.bound old.faults now.faults told.lines c.good (h.1 ∙ sym proved) (tells told.lines c.best) c.bound (omega (arith, c.lemmas, few, lt)) (λ a b d. absurd (let z : true ≡ false = sym h.1 ∙ d in cc)))
-
-    all_told : IsWhole now
-    all_told = where_so now (λ told. (told.behind ≡ []) × (is_closed told.lines ≡ true)) (λ told. told.behind ≡ []) t.fits (λ told a. a.0)
+    writes answer proved tells = told_so old now (λ was told. Closed f u told × (is_closed told.lines ≡ true)) (λ was told. ProveWrites f budget answer u.prices.bound old.faults now.faults told.lines) x.told (λ was told h.
+        prove_writes f budget answer u.prices.bound old.faults now.faults told.lines h.0.good (h.1 ∙ sym proved) (tells told.lines h.0.best) h.0.bound (omega (arith, h.0.lemmas, x.few)) (λ a b d. absurd (let z : true ≡ false = sym h.1 ∙ d in cc)))
 
     by : (best : Option (List ℕ)) → u.best ≡ best → (answer : Solved) → IsEndOf f best answer → ProveMeets f budget old answer u.prices.bound now
     by None none answer e = subst (λ (a : Solved). ProveMeets f budget old a u.prices.bound now) (sym e) (record {
-      later = omega (arith, g.later, t.later);
+      later = x.later;
       writes = writes answers.Infeasible refl (λ all h. h ∙ none);
       permitted = tt;
       worth = tt;
-      means = subst (λ (p : Problem). AnswerMeans p budget answers.Infeasible) g.same_problem (means.infeasible (sym (t.best_stays refl) ∙ none));
-      bounded = above_after f s u is g.same_problem t.same_prices;
-      ends = all_told;
+      means = subst (λ (p : Problem). AnswerMeans p budget answers.Infeasible) x.same_problem (x.means.infeasible (sym x.same_best ∙ none));
+      bounded = above_after f s u x.kept x.same_problem x.same_prices;
+      above = tt;
+      ends = x.whole;
     })
     by (Some table) some answer e = subst (λ (a : Solved). ProveMeets f budget old a u.prices.bound now) (sym e.1) (record {
-      later = omega (arith, g.later, t.later);
+      later = x.later;
       writes = writes (answers.Optimal table e.0) refl (λ all h. (h ∙ some, e.2));
-      permitted = subst (λ (o : Option (List ℕ)). IfSome o (Permits f)) (sym (t.best_stays refl) ∙ some) (allowed f s is g.same_problem);
+      permitted = subst (λ (o : Option (List ℕ)). IfSome o (Permits f)) (sym x.same_best ∙ some) (allowed f s x.kept x.same_problem);
       worth = e.2;
-      means = subst (λ (p : Problem). AnswerMeans p budget (answers.Optimal table e.0)) g.same_problem (means.optimal table e.0 (sym (t.best_stays refl) ∙ some) (subst (λ (p : Problem). cargo p table ≡ Some e.0) (sym g.same_problem) e.2));
-      bounded = above_after f s u is g.same_problem t.same_prices;
-      ends = all_told;
+      means = subst (λ (p : Problem). AnswerMeans p budget (answers.Optimal table e.0)) x.same_problem (x.means.optimal table e.0 (sym x.same_best ∙ some) (subst (λ (p : Problem). cargo p table ≡ Some e.0) (sym x.same_problem) e.2));
+      bounded = above_after f s u x.kept x.same_problem x.same_prices;
+      above = tt;
+      ends = x.whole;
     })
+
+-- the search ended in a turn
+turn_ended : (f : Problem) (budget : ℕ) (s u : SearchModel) (answer : Solved) (old here now : LogModel) → IsSearch s → Proving f budget s old here → s.lemmas < budget → TurnMeets s here turns.Ended u now → IsEndOf f u.best answer → ProveMeets f budget old answer u.prices.bound now
+turn_ended f budget s u answer old here now is g lt t e = search_ended f budget s u answer old now (record {
+  kept = is;
+  same_problem = g.same_problem;
+  same_best = t.best_stays refl;
+  same_prices = t.same_prices;
+  means = ended_means s u here now is t.does;
+  few = omega (arith, few_lemmas turns.Ended s u here now t.does, lt);
+  later = omega (arith, g.later, t.later);
+  told = told_and old now (λ was told. Closed f u told) (λ was told. Closed f u told × (is_closed told.lines ≡ true)) (λ told. (told.behind ≡ []) × (is_closed told.lines ≡ true)) (closes f budget s u turns.Ended old here now g refl t) t.fits (λ was told c h. (c, h.1));
+  whole = where_so now (λ told. (told.behind ≡ []) × (is_closed told.lines ≡ true)) (λ told. told.behind ≡ []) t.fits (λ told a. a.0);
+}) e
+
+-- it was closed by its own bound
+last_told : (f : Problem) (mid u : SearchModel) (here now : LogTold) → mid.problem ≡ f → u ≡ record mid { over = true } → ProvedSoFar f mid here → WritesLast mid.problem here now → Closed f u now × (is_closed now.lines ≡ true)
+last_told f mid u here now same over h w =
+    let v : WritesLast f here now = subst (λ (p : Problem). WritesLast p here now) same w in
+    let fit = h.fits.fits in (
+      record {
+        good = subst (WrittenGood f) (sym v.lines) (good_more f here.lines (last_priced ∷ []) h.good v.good v.few_live);
+        best = ap last_table v.lines ∙ last_push here.lines last_priced ∙ fit.best ∙ sym (ap (λ (x : SearchModel). x.best) over);
+        lemmas = ap (λ xs. length (lemmas_of xs)) v.lines ∙ ap length (same_lemmas here.lines last_priced refl) ∙ h.lemmas ∙ sym (ap (λ (x : SearchModel). x.lemmas) over);
+        bound = ap bound_of v.lines ∙ (clause_told mid.problem here.lines last_priced [] mid.prices (priced_is []) fit.prices).bound ∙ sym (ap (λ (x : SearchModel). x.prices.bound) over);
+      },
+      ap is_closed v.lines ∙ last_closes f here.lines,
+    )
+
+closed_at : (f : Problem) (budget : ℕ) (s u : SearchModel) (answer : Solved) (old here now : LogModel) → Proving f budget s old here → Closes s u here now → IsEndOf f u.best answer → ProveMeets f budget old answer u.prices.bound now
+closed_at f budget s u answer old here now g x e =
+    let m : Proving f budget x.mid old x.then = heeded f budget s x.mid old here x.then g x.heeds in
+    search_ended f budget x.mid u answer old now
+    (record {
+      kept = x.heeds.kept;
+      same_problem = m.same_problem;
+      same_best = ap (λ (y : SearchModel). y.best) x.over;
+      same_prices = ap (λ (y : SearchModel). y.prices) x.over;
+      means = ended_by x.mid x.heeds.kept (last_means x.mid x.heeds.kept x.shown);
+      few = omega (arith, m.within, ap (λ (y : SearchModel). y.lemmas) x.over);
+      later = omega (arith, m.later, x.same_faults);
+      told = told_on old x.then now (λ was told. ProvedSoFar f x.mid told) (WritesLast x.mid.problem) (λ was told. Closed f u told × (is_closed told.lines ≡ true)) m.told x.writes (λ was mid told h w. last_told f x.mid u mid told m.same_problem x.over h w);
+      whole = where_grown x.then now (WritesLast x.mid.problem) (λ told. told.behind ≡ []) x.writes (λ was told w. w.nothing_behind);
+    })
+    e
 
 -- ---- the answers
 
@@ -421,13 +473,15 @@ proving f budget = (
     begins = begins f budget;
     turns = λ s after turn old here new g lt last a. goes_on f budget s after turn old here new g lt last a;
     lower = λ s after old here new g l. lowered f budget s after old here new g l;
+    proposed = λ s after old here new g t. proposed f budget s after old here new g t;
     same = λ s after old here new g e. same f budget s after old here new g e.0 e.1;
   },
   λ s old here is g. record {
-    spent = λ le. spent f budget s old here is g le;
+    spent = λ le under. spent f budget s old here is g le under;
     ended = λ after new lt a answer e. ends_at f budget s after answer old here new g lt a e;
     stopped = λ after new lt a. stopped f budget s after old here new g lt a;
     failed = λ after new lt a. failed f budget s after old here new g lt a;
+    closed = λ after new x answer e. closed_at f budget s after answer old here new g x e;
     bound_stopped = λ after new b. bound_stopped f budget s after old here new g b;
     bound_failed = λ after new b. bound_failed f budget s after old here new g b;
   },

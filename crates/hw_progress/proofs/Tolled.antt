@@ -6,7 +6,8 @@ use Rattle.std.proofs.lemmas.List.{length-map, get_or-map}
 use Rattle.std.proofs.lemmas.List.Elements.{All-push, All-map, All-weaker}
 use Rattle.hw_model.specs.declared.rule.Rule.{Rule}
 use Rattle.hw_model.specs.declared.rule.Rule.TheVariants as rules
-use Rattle.hw_model.specs.Problem.{Problem}
+use Rattle.hw_model.specs.Problem.{Problem, shape_of}
+use Rattle.hw_model.specs.Rooms.{whole_room}
 use Rattle.hw_model.specs.Limits.{IsFlat, RuleFits}
 use Rattle.hw_laws.proofs.Counting.{at_place}
 use Rattle.hw_laws.proofs.Horizon.{horizon_le}
@@ -17,7 +18,7 @@ use Rattle.hw_tolls.specs.declared.toll.Toll.{Toll}
 use Rattle.hw_tolls.specs.declared.toll.Toll.TheVariants as tolls
 use Rattle.hw_tolls.specs.Tolls.{Apart, IsToll, WeighsUpTo}
 use Rattle.hw_tolls.specs.Prices.{DueFits, TariffFits, PricesBound}
-use Rattle.hw_tolls.proofs.More.{fits_more}
+use Rattle.hw_tolls.proofs.More.{fits_more, more_tolls}
 use Rattle.hw_tolls.proofs.Sound.{bounded}
 use Rattle.hw_lines.specs.declared.line.Line.{Line}
 use Rattle.hw_lines.specs.declared.line.Line.TheVariants as lines
@@ -34,7 +35,7 @@ use Rattle.hw_story.specs.declared.event.Why.TheVariants as whys
 use Rattle.hw_story.specs.Learning.{reason_at}
 use Rattle.hw_store.specs.declared.store.Stored.{Stored}
 use Rattle.hw_progress.specs.Living.{FewLive}
-use Rattle.hw_progress.specs.Prices.{PriceModel, NoneAbove, ArePrices, PricesTold, with_toll, with_tariff, with_bound, toll_line, price_of, tariff_line, DuesAscend}
+use Rattle.hw_progress.specs.Prices.{PriceModel, NoneAbove, HoldsBound, ArePrices, PricesTold, older_or, bound_tariff, with_toll, with_tariff, with_bound, toll_line, price_of, tariff_line, DuesAscend}
 use Rattle.hw_progress.specs.Searches.{SearchModel, IsReason, IsSearch, FitsOpen, LiveKept, written_at, why_at}
 use Rattle.hw_progress.specs.Laws.{PriceLine, PriceTaken}
 use Rattle.hw_progress.proofs.Lines.{same_lemmas}
@@ -186,9 +187,32 @@ toll_lean f before (tolls.Tugs place slot weights most) = tt
 numbered : (before : List Line) (line : Line) → IsPriceLine line → IfSome (clause_of line) (λ clause. clause_count before + 1 < 2 ^ 32)
 numbered before line q = subst (λ o. IfSome o (λ clause. clause_count before + 1 < 2 ^ 32)) (sym q.none) tt
 
-pub tariff_more : (ts : List Toll) (toll : Toll) (o : Option Tariff) → IfSome o (TariffFits (length ts)) → IfSome o (TariffFits (length (ts ++ toll ∷ [])))
+tariff_more : (ts : List Toll) (toll : Toll) (o : Option Tariff) → IfSome o (TariffFits (length ts)) → IfSome o (TariffFits (length (ts ++ toll ∷ [])))
 tariff_more ts toll None h = tt
 tariff_more ts toll (Some tariff) h = fits_more ts (toll ∷ []) tariff h
+
+some_and_weaker : {A : Type 0} (P Q : A → Type 0) → ((x : A) → P x → Q x) → (o : Option A) → IsSomeAnd o P → IsSomeAnd o Q
+some_and_weaker P Q h None p = absurd p
+some_and_weaker P Q h (Some x) p = h x p
+
+-- what shows a bound shows it with one more toll
+holds_more : (f : Problem) (ts : List Toll) (new : Toll) (bound : ℕ) (tariff : Tariff) → HoldsBound f ts bound tariff → HoldsBound f (ts ++ new ∷ []) bound tariff
+holds_more f ts new bound tariff h = record {
+  fits = fits_more ts (new ∷ []) tariff h.fits;
+  ascend = h.ascend;
+  scaled = h.scaled;
+  bounds = (more_tolls f ts (new ∷ []) tariff (Some bound) (whole_room (shape_of f)) h.fits).1 h.bounds;
+}
+
+pub toll_prices : (f : Problem) (p : PriceModel) (new : Toll) → ArePrices f p → IsToll f new → length p.tolls < 10_000 → ArePrices f (with_toll p new)
+toll_prices f p new are of few = record {
+  few = omega (arith, few, length-append p.tolls (new ∷ []));
+  tolls = All-push (IsToll f) p.tolls new are.tolls of;
+  tariff = tariff_more p.tolls new p.tariff are.tariff;
+  ascend = are.ascend;
+  bound = are.bound;
+  shown = some_weaker (λ bound. IsSomeAnd (bound_tariff p) (HoldsBound f p.tolls bound)) (λ bound. IsSomeAnd (bound_tariff p) (HoldsBound f (p.tolls ++ new ∷ []) bound)) (λ bound h. some_and_weaker (HoldsBound f p.tolls bound) (HoldsBound f (p.tolls ++ new ∷ []) bound) (holds_more f p.tolls new bound) (bound_tariff p) h) p.bound are.shown;
+}
 
 pub toll : (s : SearchModel) (toll : Toll) → IsSearch s → IsToll s.problem toll → length s.prices.tolls < 10_000
     → PriceTaken s (toll_line s.problem toll) (record s { prices = with_toll s.prices toll })
@@ -197,12 +221,7 @@ toll s new is of few =
     let line = toll_line f new in
     let q = toll_is f new in
     price_taken s line (with_toll s.prices new) is q
-    (record {
-      few = omega (arith, few, length-append s.prices.tolls (new ∷ []));
-      tolls = All-push (IsToll f) s.prices.tolls new is.prices.tolls of;
-      tariff = tariff_more s.prices.tolls new s.prices.tariff is.prices.tariff;
-      bound = is.prices.bound;
-    })
+    (toll_prices f s.prices new is.prices of few)
     (λ before fit.
     let added = toll_added f before line new (toll_back f new) in
     let room : length (tolls_of f before) < 10_000 = omega (arith, few, ap length fit.prices.tolls) in
@@ -254,6 +273,21 @@ numbers_ascend (d ∷ dues) rises k lt =
         let a : k < length (map price_of all) = omega (arith, lt, length-map all price_of) in
         get_or-map (λ (one : Price). one.toll) (map price_of all) k (price_of d) 0 a ∙ ap (λ (one : Price). one.toll) (get_or-map price_of all k d (price_of d) lt) ∙ ap (λ n. n + 1) (sym (get_or-map (λ (due : Due). due.toll) all k d 0 lt))
 
+-- the tariff that shows the last bound stays
+older_stays : (P : Tariff → Type 0) (o new : Option Tariff) → IsSomeAnd o P → IsSomeAnd (older_or o new) P
+older_stays P None new h = absurd h
+older_stays P (Some tariff) new h = h
+
+pub tariff_prices : (f : Problem) (p : PriceModel) (new : Tariff) → ArePrices f p → TariffFits (length p.tolls) new → DuesAscend new → ArePrices f (with_tariff p new)
+tariff_prices f p new are fits ascend = record {
+  few = are.few;
+  tolls = are.tolls;
+  tariff = fits;
+  ascend = ascend;
+  bound = are.bound;
+  shown = some_weaker (λ bound. IsSomeAnd (bound_tariff p) (HoldsBound f p.tolls bound)) (λ bound. IsSomeAnd (older_or (bound_tariff p) (Some new)) (HoldsBound f p.tolls bound)) (λ bound h. older_stays (HoldsBound f p.tolls bound) (bound_tariff p) (Some new) h) p.bound are.shown;
+}
+
 pub tariff : (s : SearchModel) (tariff : Tariff) → IsSearch s → TariffFits (length s.prices.tolls) tariff → DuesAscend tariff
     → PriceTaken s (tariff_line tariff) (record s { prices = with_tariff s.prices tariff })
 tariff s new is fits ascend =
@@ -261,7 +295,7 @@ tariff s new is fits ascend =
     let prices = map price_of new.dues in
     let line = tariff_line new in
     price_taken s line (with_tariff s.prices new) is (tariff_is new.scale prices)
-    (record { few = is.prices.few; tolls = is.prices.tolls; tariff = fits; bound = is.prices.bound })
+    (tariff_prices f s.prices new is.prices fits ascend)
     (λ before fit.
     let added = tariff_added f before new.scale prices in
     let e : length (tolls_of f before) ≡ length s.prices.tolls = ap length fit.prices.tolls in (
@@ -296,12 +330,27 @@ none_above : (f : Problem) (ts : List Toll) (bound : ℕ) (o : Option Tariff) �
 none_above f ts bound None flat are shown = absurd shown
 none_above f ts bound (Some tariff) flat are shown = λ table c permits worth. bounded f ts tariff bound table c flat are shown.1 permits worth
 
+-- the tariff in force shows its bound
+holds_now : (f : Problem) (ts : List Toll) (bound : ℕ) (o : Option Tariff) → IfSome o (TariffFits (length ts)) → IfSome o DuesAscend → IsSomeAnd o (λ tariff. (1 ≤ tariff.scale) × PricesBound f ts tariff bound) → IsSomeAnd o (HoldsBound f ts bound)
+holds_now f ts bound None fits ascend shown = absurd shown
+holds_now f ts bound (Some tariff) fits ascend shown = record { fits = fits; ascend = ascend; scaled = shown.0; bounds = shown.1 }
+
+bound_prices : (f : Problem) (p : PriceModel) (new : ℕ) → IsFlat f → ArePrices f p → IsSomeAnd p.tariff (λ tariff. (1 ≤ tariff.scale) × PricesBound f p.tolls tariff new) → ArePrices f (with_bound p new)
+bound_prices f p new flat are shown = record {
+  few = are.few;
+  tolls = are.tolls;
+  tariff = are.tariff;
+  ascend = are.ascend;
+  bound = none_above f p.tolls new p.tariff flat are.tolls shown;
+  shown = holds_now f p.tolls new p.tariff are.tariff are.ascend shown;
+}
+
 pub bound : (s : SearchModel) (bound : ℕ) → IsSearch s → bound ≤ 40_000_000_000_000 → IfSome s.prices.bound (λ last. bound < last) → IsSomeAnd s.prices.tariff (λ tariff. (1 ≤ tariff.scale) × PricesBound s.problem s.prices.tolls tariff bound)
     → PriceTaken s (lines.Bound bound) (record s { prices = with_bound s.prices bound })
 bound s new is small below shown =
     let f = s.problem in
     price_taken s (lines.Bound new) (with_bound s.prices new) is (bound_is new)
-    (record { few = is.prices.few; tolls = is.prices.tolls; tariff = is.prices.tariff; bound = none_above f s.prices.tolls new s.prices.tariff is.flat is.prices.tolls shown })
+    (bound_prices f s.prices new is.flat is.prices shown)
     (λ before fit.
     let added = bound_added f before new in
     let bounds : IsSomeAnd (tariff_of before) (λ tariff. (1 ≤ tariff.scale) × PricesBound f (tolls_of f before) tariff new) =

@@ -93,7 +93,7 @@ pushed_true s lemma all one table c permits worth above = All-append (λ clause.
 
 -- ---- where a turn ended, nothing permitted beats the best
 
-never : (table : List ℕ) → clause_holds table [] ≡ true → ⊥
+pub never : (table : List ℕ) → clause_holds table [] ≡ true → ⊥
 never table e = cc
 
 implied_none : (s mid : SearchModel) (settled : Settled) → Settles s mid settled → OfBetter mid (λ table. ⊥) → NothingBetter s
@@ -105,9 +105,8 @@ nothing_better s after old new (at_conflict e) =
 nothing_better s after old new (at_lemma e) =
     implied_none s e.mid (Conflict e.why) e.analysed.settles (λ table c permits worth above. never table (lemma_true e.mid e.analysed.settles.kept e.why [] e.back e.places e.analysed.settles.ends e.analysed.learns table c permits worth above))
 
-pub ended : (s after : SearchModel) (old new : LogModel) → IsSearch s → DoesEnd s after old new → EndedMeans s
-ended s after old new is does =
-    let none = nothing_better s after old new does in
+pub ended_by : (s : SearchModel) → IsSearch s → NothingBetter s → EndedMeans s
+ended_by s is none =
     record {
       nothing_better = none;
       optimal = λ table c e worth. record {
@@ -122,3 +121,6 @@ ended s after old new is does =
           let c = has_cargo s.problem table permits in
           none table c.0 permits c.1 (subst (λ o. IsTrue (beats c.0 o)) (sym (ap (option_and_then (cargo s.problem)) e)) refl);
     }
+
+pub ended : (s after : SearchModel) (old new : LogModel) → IsSearch s → DoesEnd s after old new → EndedMeans s
+ended s after old new is does = ended_by s is (nothing_better s after old new does)

@@ -42,9 +42,11 @@ use Rattle.hw_tolls.specs.declared.tariff.Tariff.{Tariff}
 use Rattle.hw_tolls.specs.declared.toll.Toll.{Toll}
 use Rattle.hw_tolls.specs.Tolls.{IsToll}
 use Rattle.hw_tolls.specs.Prices.{TariffFits, PricesBound}
-use Rattle.hw_progress.specs.Prices.{toll_line, tariff_line, with_toll, with_tariff, with_bound, DuesAscend}
+use Rattle.hw_progress.specs.Prices.{toll_line, tariff_line, bound_tariff, with_toll, with_tariff, with_bound, DuesAscend}
 use Rattle.hw_progress.specs.Advised.{Heeds, HeedsLine, AdvisedMeets, BoundMeets, with_priced}
 use Rattle.hw_progress.specs.Living.{FewLive, FewLiveThroughout, FewLiveFrom}
+use Rattle.hw_progress.specs.Closing.{IsReached, last_priced, Closes}
+use Rattle.hw_progress.specs.Proposing.{TakesProposal}
 use Rattle.hw_progress.specs.Solving.{SolveWrites, AnswerMeans}
 use Rattle.hw_progress.specs.Proving.{ProveMeets, Proving, IsEndOf}
 
@@ -127,6 +129,14 @@ PricedLine = (s : SearchModel) (clause : List Lit) (lit : Lit) → IsSearch s �
 abbrev pub PricesTrue : Type 0
 PricesTrue = (s : SearchModel) (clause : List Lit) → IsSearch s → IsClause (shape_of s.problem) clause → PricesShow s clause → IsReason s (whys.Priced clause)
 
+-- where the best reaches the last bound, the tariff that shows the bound leaves nothing
+abbrev pub ReachedShown : Type 0
+ReachedShown = (s : SearchModel) → IsSearch s → IsReached s → s.prices.tariff ≡ bound_tariff s.prices → PricesShow s []
+
+-- what the prices in force leave nothing of is closed by a line, also after the last lemma of the largest budget
+abbrev pub LastLine : Type 0
+LastLine = (s : SearchModel) → IsSearch s → s.over ≡ false → s.lemmas ≤ MOST_BUDGET → PricesShow s [] → (before : List Line) → FitsOpen before s → PriceLine s.problem before last_priced × (LiveKept before s → FewLiveFrom s.problem before (last_priced ∷ []))
+
 -- advice that is heeded in parts is heeded
 abbrev pub HeedsOn : Type 0
 HeedsOn = ((s : SearchModel) (log : LogModel) → IsSearch s → WhereTold log (λ told. LogFits told s) → Heeds s s log log)
@@ -145,14 +155,16 @@ pub record ProvingGoesOn (f : Problem) (budget : ℕ) : Type 0 where
   pub begins : (branching : Branching) (log : LogModel) → IsFlat f → IsEmpty log → Proving f budget (new_search f branching) log log
   pub turns : (s after : SearchModel) (turn : Turn) (old here new : LogModel) → Proving f budget s old here → s.lemmas < budget → is_last turn ≡ false → AdvisedMeets s here turn after new → Proving f budget after old new
   pub lower : (s after : SearchModel) (old here new : LogModel) → Proving f budget s old here → BoundMeets s here bounds.Lower after new → Proving f budget after old new
+  pub proposed : (s after : SearchModel) (old here new : LogModel) → Proving f budget s old here → TakesProposal s after here new → Proving f budget after old new
   pub same : (s after : SearchModel) (old here new : LogModel) → Proving f budget s old here → BoundMeets s here bounds.Same after new → Proving f budget after old new
 
 -- what its answers meet, with the bound of the search
 pub record ProvingEnds (f : Problem) (budget : ℕ) (s : SearchModel) (old here : LogModel) : Type 0 where
-  pub spent : budget ≤ s.lemmas → ProveMeets f budget old (answers.Unfinished s.best) s.prices.bound here
+  pub spent : budget ≤ s.lemmas → (IsReached s → ⊥) → ProveMeets f budget old (answers.Unfinished s.best) s.prices.bound here
   pub ended : (after : SearchModel) (new : LogModel) → s.lemmas < budget → AdvisedMeets s here turns.Ended after new → (answer : Solved) → IsEndOf f after.best answer → ProveMeets f budget old answer after.prices.bound new
   pub stopped : (after : SearchModel) (new : LogModel) → s.lemmas < budget → AdvisedMeets s here turns.NoMemory after new → ProveMeets f budget old (answers.NoMemory after.best) after.prices.bound new
   pub failed : (after : SearchModel) (new : LogModel) → s.lemmas < budget → AdvisedMeets s here turns.LogFailed after new → ProveMeets f budget old answers.LogFailed after.prices.bound new
+  pub closed : (after : SearchModel) (new : LogModel) → Closes s after here new → (answer : Solved) → IsEndOf f after.best answer → ProveMeets f budget old answer after.prices.bound new
   pub bound_stopped : (after : SearchModel) (new : LogModel) → BoundMeets s here bounds.NoMemory after new → ProveMeets f budget old (answers.NoMemory after.best) after.prices.bound new
   pub bound_failed : (after : SearchModel) (new : LogModel) → BoundMeets s here bounds.LogFailed after new → ProveMeets f budget old answers.LogFailed after.prices.bound new
 

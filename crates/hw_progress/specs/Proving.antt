@@ -1,5 +1,5 @@
 -- What a whole solution with advice meets, and what holds of one that goes on.
-use Rattle.std.specs.Prelude.{◌≡◌, ℕ, ◌≤◌, true, false, List, Option, Some, None, All, IfSome, length}
+use Rattle.std.specs.Prelude.{◌≡◌, ℕ, ◌<◌, ◌≤◌, true, false, List, Option, Some, None, All, IfSome, length, option_and_then, ⊤}
 use Rattle.hw_model.specs.Problem.{Problem}
 use Rattle.hw_model.specs.Timetables.{Permits, cargo}
 use Rattle.hw_desk.specs.State.{Rose}
@@ -44,6 +44,14 @@ ProveFails f old new (Unfinished table) = IsWhole new
 ProveFails f old new (NoMemory table) = IsWhole new
 ProveFails f old new LogFailed = Rose old.faults new.faults × WhereTold new (IsCutOff f)
 
+-- a bound beside Unfinished is above the cargo of its timetable: the two together would have closed the search
+abbrev pub IsAbove : Problem → Solved → Option ℕ → Type 0
+IsAbove f (Optimal table c) bound = ⊤
+IsAbove f Infeasible bound = ⊤
+IsAbove f (Unfinished table) bound = IfSome bound (λ most. IfSome (option_and_then (cargo f) table) (λ c. c < most))
+IsAbove f (NoMemory table) bound = ⊤
+IsAbove f LogFailed bound = ⊤
+
 -- what a solution with advice meets. It needs a budget in its limit and a log without lines
 pub record ProveMeets (f : Problem) (budget : ℕ) (old : LogModel) (answer : Solved) (bound : Option ℕ) (new : LogModel) : Type 0 where
   pub later : old.faults ≤ new.faults
@@ -52,6 +60,7 @@ pub record ProveMeets (f : Problem) (budget : ℕ) (old : LogModel) (answer : So
   pub worth : IsWorth f answer
   pub means : AnswerMeans f budget answer
   pub bounded : IfSome bound (NoneAbove f)
+  pub above : IsAbove f answer bound
   pub ends : ProveFails f old new answer
 
 -- ---- on the way

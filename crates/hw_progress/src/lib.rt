@@ -17,4 +17,4 @@ pub use laws::{
     solved_sound, sources_once, stop_kept, table_line, tariff_line, toll_line, turn_live,
 };
 pub use limits::{MOST_BUDGET, MOST_PRICED};
-pub use outcome::{Bounded, Branching, Proved, Settled, Solved, Turn};
+pub use outcome::{Bounded, Branching, Closed, Proposed, Proved, Settled, Solved, Turn};

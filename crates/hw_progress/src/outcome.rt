@@ -53,6 +53,32 @@ pub enum Bounded {
     LogFailed,
 }
 
+/// What the call for a timetable that an adviser proposes did. After the last two the search is over.
+#[derive(Clone, Copy, PartialEq, Eq)]
+pub enum Proposed {
+    /// It is permitted and beats the best: it was written, and is the best so far.
+    Better,
+    /// There was none, or not such a one.
+    Same,
+    /// Memory ran out.
+    NoMemory,
+    /// The log didn't take a line.
+    LogFailed,
+}
+
+/// What the call that closes a search by its own bound did. After the last three the search is over.
+#[derive(Clone, Copy, PartialEq, Eq)]
+pub enum Closed {
+    /// The best timetable carries less than the last bound, or one of the two is missing.
+    Open,
+    /// It carries as much: a line without literals was written.
+    Ended,
+    /// Memory ran out.
+    NoMemory,
+    /// The log didn't take a line.
+    LogFailed,
+}
+
 /// How solving ends. `table` is the best timetable found, if there is one.
 #[derive(Debug, Drop)]
 pub enum Solved {

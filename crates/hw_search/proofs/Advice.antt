@@ -115,7 +115,7 @@ nothing line zero was now le h = (h.lines ∙ append-nil was.lines, h.behind)
 nothing line (suc n) was now le h = absurd (omega (arith, le))
 
 -- nothing was written, and what follows still fits
-no_more : (s : SearchModel) (was now : LogTold) → LogFits was s → (now.lines ≡ was.lines) × (now.behind ≡ []) → HeedWrites s s was now
+pub no_more : (s : SearchModel) (was now : LogTold) → LogFits was s → (now.lines ≡ was.lines) × (now.behind ≡ []) → HeedWrites s s was now
 no_more s was now fit n = record {
   more = [];
   lines = n.0 ∙ sym (append-nil was.lines);
@@ -126,7 +126,7 @@ no_more s was now fit n = record {
 }
 
 -- nothing was heeded
-same_heeds : (s : SearchModel) (old new : LogModel) → IsSearch s → new.faults ≡ old.faults → Grows old new (HeedWrites s s) → Heeds s s old new
+pub same_heeds : (s : SearchModel) (old new : LogModel) → IsSearch s → new.faults ≡ old.faults → Grows old new (HeedWrites s s) → Heeds s s old new
 same_heeds s old new is faults writes = record {
   more = [];
   implied = All-nil (λ (event : Event). IsSome event.why);

@@ -97,7 +97,7 @@ decide_more s u old new h =
       omega (arith, few.0, after.each_event),
     )
 
-rank_rises : (c : ℕ) (best : Option ℕ) → IsTrue (beats c best) → rank best < c + 1
+pub rank_rises : (c : ℕ) (best : Option ℕ) → IsTrue (beats c best) → rank best < c + 1
 rank_rises c None h = omega arith
 rank_rises c (Some b) h = let lt = ltb-true b c h in omega (arith, lt)
 

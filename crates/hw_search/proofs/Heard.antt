@@ -1,6 +1,5 @@
 -- Advice that an engine heeds, in the words of its calls. `e` is what the fields say, `u` what the call sees.
 use Rattle.std.proofs.Common.{◌≡◌, ℕ, ◌+◌, ◌<◌, ◌≤◌, ◌^◌, true, false, List, [], ◌∷◌, ◌++◌, Some, All, length, get_or, refl, sym, ap, ◌∙◌, subst, arith, append-nil, append_assoc, length-append}
-use Rattle.std.proofs.lemmas.List.Elements.{All-push}
 use Rattle.hw_model.specs.declared.lit.Lit.{Lit}
 use Rattle.hw_model.specs.declared.lit.LitTruth.TheVariants.{Free, False}
 use Rattle.hw_model.specs.declared.narrowing.Narrowed.TheVariants.{Cut}
@@ -17,12 +16,12 @@ use Rattle.hw_story.specs.declared.event.Why.TheVariants as whys
 use Rattle.hw_story.specs.Trails.{TrailModel, trail_shape, implied}
 use Rattle.hw_cert.specs.declared.log.LogStop.{LogStop}
 use Rattle.hw_cert.specs.Logs.{LogModel, WhereTold}
-use Rattle.hw_progress.specs.Prices.{ArePrices, toll_line, tariff_line, with_toll, with_tariff, DuesAscend}
+use Rattle.hw_progress.specs.Prices.{PriceModel, toll_line, tariff_line, with_toll, with_tariff, DuesAscend}
 use Rattle.hw_progress.specs.Searches.{SearchModel, IsSearch, LogFits, PricesShow, room_in}
 use Rattle.hw_progress.specs.Advised.{Heeds, with_priced}
 use Rattle.hw_progress.proofs.Bounds.{few_numbers}
 use Rattle.hw_progress.proofs.Priced.{true_reason, priced, priced_good, priced_search}
-use Rattle.hw_progress.proofs.Tolled.{toll, tariff, tariff_more, price_search}
+use Rattle.hw_progress.proofs.Tolled.{toll, tariff, toll_prices, tariff_prices, price_search}
 use Rattle.hw_store.specs.declared.store.Stored.{Stored}
 use Rattle.hw_search.specs.Engines.{EngineModel}
 use Rattle.hw_search.specs.Handing.{TakesAll, StopsWithin}
@@ -32,16 +31,8 @@ use Rattle.hw_search.proofs.Advice.{heeds_none, prices_heeded, priced_heeded, li
 
 -- ---- a toll
 
-toll_prices : (s : SearchModel) (new : Toll) → IsSearch s → IsToll s.problem new → length s.prices.tolls < 10_000 → ArePrices s.problem (with_toll s.prices new)
-toll_prices s new is of few = record {
-  few = omega (arith, few, length-append s.prices.tolls (new ∷ []));
-  tolls = All-push (IsToll s.problem) s.prices.tolls new is.prices.tolls of;
-  tariff = tariff_more s.prices.tolls new s.prices.tariff is.prices.tariff;
-  bound = is.prices.bound;
-}
-
 toll_search : (s : SearchModel) (new : Toll) → IsSearch s → IsToll s.problem new → length s.prices.tolls < 10_000 → IsSearch (priced_by s (with_toll s.prices new))
-toll_search s new is of few = price_search s (with_toll s.prices new) is (toll_prices s new is of few)
+toll_search s new is of few = price_search s (with_toll s.prices new) is (toll_prices s.problem s.prices new is.prices of few)
 
 -- what a toll must be
 pub record IsNewToll (s : SearchModel) (new : Toll) : Type 0 where
@@ -55,6 +46,10 @@ held_is e u held same h = ap (λ ts. priced_by e.search (record e.search.prices 
 pub declared_is : (e u : EngineModel) (new : Toll) (held tolls : List Toll) → e ≡ u → held ≡ e.search.prices.tolls → tolls ≡ held ++ new ∷ [] → priced_by e.search (record e.search.prices { tolls = tolls }) ≡ priced_by u.search (with_toll u.search.prices new)
 declared_is e u new held tolls same h t =
     ap (λ ts. priced_by e.search (record e.search.prices { tolls = ts })) (t ∙ ap (λ ts. ts ++ new ∷ []) h) ∙ ap (λ (x : EngineModel). priced_by x.search (with_toll x.search.prices new)) same
+
+-- what the search is then, as its tolls are held
+pub declared_kept : (s : SearchModel) (new : Toll) (held tolls : List Toll) → IsSearch s → IsNewToll s new → held ≡ s.prices.tolls → tolls ≡ held ++ new ∷ [] → IsSearch (priced_by s (record s.prices { tolls = tolls }))
+declared_kept s new held tolls is of h t = subst (λ ts. IsSearch (priced_by s (record s.prices { tolls = ts }))) (sym (t ∙ ap (λ ts. ts ++ new ∷ []) h)) (toll_search s new is of.toll of.few)
 
 pub declared_heeds : (s : SearchModel) (new : Toll) (old log : LogModel) → IsSearch s → IsNewToll s new → WhereTold old (λ told. LogFits told s) → TakesAll (toll_line s.problem new ∷ []) old log → Heeds s (priced_by s (with_toll s.prices new)) old log
 declared_heeds s new old log is of fits t = prices_heeded s (with_toll s.prices new) (new ∷ []) (toll_line s.problem new) old log (toll_search s new is of.toll of.few) refl refl (toll s new is of.toll of.few).meets fits t
@@ -85,10 +80,14 @@ pub record IsNewTariff (s : SearchModel) (new : Tariff) : Type 0 where
   pub ascend : DuesAscend new
 
 tariff_search : (s : SearchModel) (new : Tariff) → IsSearch s → IsNewTariff s new → IsSearch (priced_by s (with_tariff s.prices new))
-tariff_search s new is of = price_search s (with_tariff s.prices new) is (record { few = is.prices.few; tolls = is.prices.tolls; tariff = of.fits; bound = is.prices.bound })
+tariff_search s new is of = price_search s (with_tariff s.prices new) is (tariff_prices s.problem s.prices new is.prices of.fits of.ascend)
 
-pub forced_is : (e u : EngineModel) (new : Tariff) → e ≡ u → priced_by e.search (with_tariff e.search.prices new) ≡ priced_by u.search (with_tariff u.search.prices new)
-forced_is e u new same = ap (λ (x : EngineModel). priced_by x.search (with_tariff x.search.prices new)) same
+pub forced_is : (e u : EngineModel) (p : PriceModel) (new : Tariff) → e ≡ u → p ≡ with_tariff e.search.prices new → priced_by e.search p ≡ priced_by u.search (with_tariff u.search.prices new)
+forced_is e u p new same is = ap (λ x. priced_by e.search x) is ∙ ap (λ (x : EngineModel). priced_by x.search (with_tariff x.search.prices new)) same
+
+-- what the parts of an engine keep then
+pub forced_kept : (s : SearchModel) (p : PriceModel) (new : Tariff) → IsSearch s → IsNewTariff s new → p ≡ with_tariff s.prices new → IsSearch (priced_by s p)
+forced_kept s p new is of same = subst (λ x. IsSearch (priced_by s x)) (sym same) (tariff_search s new is of)
 
 pub forced_heeds : (s : SearchModel) (new : Tariff) (old log : LogModel) → IsSearch s → IsNewTariff s new → WhereTold old (λ told. LogFits told s) → TakesAll (tariff_line new ∷ []) old log → Heeds s (priced_by s (with_tariff s.prices new)) old log
 forced_heeds s new old log is of fits t = prices_heeded s (with_tariff s.prices new) [] (tariff_line new) old log (tariff_search s new is of) (sym (append-nil s.prices.tolls)) refl (tariff s new is of.fits of.ascend).meets fits t

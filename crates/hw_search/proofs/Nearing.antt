@@ -1,19 +1,29 @@
 -- Each turn with advice brings a solution nearer to its end, and a bound keeps it as near.
-use Rattle.std.proofs.Common.{◌≡◌, ℕ, ◌+◌, ◌-◌, ◌*◌, ◌<◌, ◌≤◌, false, length, sym, ap, ◌∙◌, subst, arith, length-append}
-use Rattle.hw_model.specs.Problem.{Problem}
-use Rattle.hw_story.specs.Trails.{most_events}
+use Rattle.std.proofs.Common.{◌≡◌, ℕ, ◌+◌, ◌-◌, ◌*◌, ◌<◌, ◌≤◌, true, false, [], ◌∷◌, ◌++◌, Option, Some, None, IsSomeAnd, length, sym, ap, ◌∙◌, subst, arith, length-append}
+use Rattle.hw_model.specs.declared.lit.Lit.{Lit}
+use Rattle.hw_model.specs.declared.lit.LitTruth.TheVariants.{Free}
+use Rattle.hw_model.specs.Lits.{lit_fits}
+use Rattle.hw_model.specs.Narrowing.{truth}
+use Rattle.hw_model.specs.Problem.{Problem, shape_of}
+use Rattle.hw_model.specs.Rooms.{point_of}
+use Rattle.hw_story.specs.Trails.{most_events, trail_shape, decided}
+use Rattle.hw_progress.specs.Branches.{branch_literal}
 use Rattle.hw_cert.specs.Logs.{LogModel}
 use Rattle.hw_progress.specs.declared.outcome.Turn.{Turn}
 use Rattle.hw_progress.specs.declared.outcome.Turn.TheVariants as turns
-use Rattle.hw_progress.specs.Searches.{SearchModel, IsSearch, best_cargo}
-use Rattle.hw_progress.specs.Turns.{DoesLemma, is_last}
+use Rattle.hw_progress.specs.Searches.{SearchModel, IsSearch, room_in, best_cargo}
+use Rattle.hw_progress.specs.Turns.{DoesDecide, DoesBetter, DoesLemma, TurnDoes, is_last}
 use Rattle.hw_progress.specs.Advised.{Heeds, Lowers, Prefers, StopsBy, FollowsAdvice, AdvisedMeets}
 use Rattle.hw_progress.specs.Advised.FollowsAdvice.{by_turn, by_preference, by_stop}
+use Rattle.hw_progress.proofs.Choices.{branch_open}
+use Rattle.hw_progress.proofs.Keeps.{decided_search, better_search}
 use Rattle.hw_progress.proofs.Stops.{past}
+use Rattle.hw_progress.proofs.Turned.{point_table}
 use Rattle.hw_search.specs.Going.{rank, most_cargo, turns_left}
 use Rattle.hw_search.proofs.Advice.{same_problem, no_fewer}
 use Rattle.hw_search.proofs.Counting.{nearer, less_decided, same_cargo, same_left}
-use Rattle.hw_search.proofs.Kept.{few_in}
+use Rattle.hw_search.proofs.Kept.{few_in, room_here}
+use Rattle.hw_search.proofs.Turns.{same_fits}
 
 -- ---- what is left
 
@@ -70,17 +80,43 @@ lowered_left budget s u old new l =
 
 -- ---- what is kept
 
--- after a turn that found a lemma there is a search
+-- after a decision by the branching rule there is a search
+decided_kept : (s u : SearchModel) (old new : LogModel) → DoesDecide s u old new → IsSearch u
+decided_kept s u old new h = by (branch_literal h.mid.branching h.mid.problem (room_in h.mid)) h.decides (branch_open h.mid.branching h.mid.problem (room_in h.mid) (room_here h.mid is) h.open_room)
+  where
+    is : IsSearch h.mid
+    is = h.settles.kept
+
+    by : (o : Option Lit) → IsSomeAnd o (λ lit. u ≡ record h.mid { trail = decided h.mid.trail lit; written = h.mid.written ++ None ∷ [] }) → IsSomeAnd o (λ lit. (lit_fits (shape_of h.mid.problem) lit ≡ true) × (truth (room_in h.mid) lit ≡ Free)) → IsSearch u
+    by None d open' = absurd d
+    by (Some lit) d open' = subst IsSearch (sym d) (decided_search h.mid lit is h.settles.ends (same_fits (trail_shape h.mid.trail) (shape_of h.mid.problem) lit is.same_ships is.same_slots ∙ open'.0) open'.1)
+
+-- after a better timetable there is one
+better_kept : (s u : SearchModel) (old new : LogModel) → DoesBetter s u old new → IsSearch u
+better_kept s u old new h =
+    let p = point_table h.mid h.settles.kept h.settles.ends h.point in
+    subst IsSearch (sym h.better) (better_search h.mid (point_of (room_in h.mid)) p.1 h.settles.kept p.0 p.2 p.3)
+
+-- after a turn that found a lemma there is one
 lemma_kept : (s u : SearchModel) (old new : LogModel) → s.over ≡ false → DoesLemma s u old new → IsSearch u
 lemma_kept s u old new going h =
     let a = h.analysed in
     let over : h.mid.over ≡ false = ap (λ (x : SearchModel). x.over) a.settles.implies.only ∙ going in
     subst IsSearch (sym h.search) (past h.mid a.settles.kept h.why h.lemma h.back h.places over a.settles.ends a.learns h.some_literal).kept
 
-pub lemma_search : (s u : SearchModel) (old new : LogModel) → s.over ≡ false → AdvisedMeets s old turns.Lemma u new → IsSearch u
-lemma_search s u old new going a = by a.follows
+turn_kept : (turn : Turn) (s u : SearchModel) (old new : LogModel) → is_last turn ≡ false → s.over ≡ false → TurnDoes s old turn u new → IsSearch u
+turn_kept turns.Decided s u old new last going h = decided_kept s u old new h
+turn_kept turns.Better s u old new last going h = better_kept s u old new h
+turn_kept turns.Lemma s u old new last going h = lemma_kept s u old new going h
+turn_kept turns.Ended s u old new last going h = absurd cc
+turn_kept turns.NoMemory s u old new last going h = absurd cc
+turn_kept turns.LogFailed s u old new last going h = absurd cc
+
+-- after a turn that isn't the last there is one
+pub turn_search : (turn : Turn) (s u : SearchModel) (old new : LogModel) → is_last turn ≡ false → s.over ≡ false → AdvisedMeets s old turn u new → IsSearch u
+turn_search turn s u old new last going a = by a.follows
   where
-    by : FollowsAdvice a.mid a.then turns.Lemma u new → IsSearch u
-    by (by_turn t) = lemma_kept a.mid u a.then new (ap (λ (x : SearchModel). x.over) a.heeds.same ∙ going) t.does
+    by : FollowsAdvice a.mid a.then turn u new → IsSearch u
+    by (by_turn t) = turn_kept turn a.mid u a.then new last (ap (λ (x : SearchModel). x.over) a.heeds.same ∙ going) t.does
     by (by_preference p) = p.kept
-    by (by_stop x) = absurd x.cause
+    by (by_stop x) = absurd (no_stop a.mid.problem turn a.then new last x.cause)

@@ -1,5 +1,5 @@
 -- What a solution with advice goes on with, and what its answers meet.
-use Rattle.std.proofs.Common.{◌≡◌, ◌⊎◌, ℕ, ◌<◌, ◌≤◌, sym, ap, ◌∙◌, subst, inl, inr, arith}
+use Rattle.std.proofs.Common.{◌≡◌, ◌⊎◌, ℕ, ◌≤◌, sym, ap, ◌∙◌, subst, inl, inr, arith}
 use Rattle.hw_model.specs.Problem.{Problem}
 use Rattle.hw_cert.specs.Logs.{LogModel}
 use Rattle.hw_progress.specs.declared.outcome.Bounded.{Bounded}
@@ -46,9 +46,6 @@ same_goes f budget s u old here now is g h k = record {
 pub bound_goes : (f : Problem) (budget : ℕ) (b : Bounded) (s u : SearchModel) (old here now : LogModel) → (b ≡ bounds.Lower) ⊎ (b ≡ bounds.Same) → IsSearch s → Proving f budget s old here → BoundMeets s here b u now → BoundKeepsFaults b here now → GoesOn f budget s u old here now
 bound_goes f budget b s u old here now (inl e) is g h k = lower_goes f budget s u old here now g (subst (λ x. BoundMeets s here x u now) e h) (subst (λ x. BoundKeepsFaults x here now) e k)
 bound_goes f budget b s u old here now (inr e) is g h k = same_goes f budget s u old here now is g (subst (λ x. BoundMeets s here x u now) e h) (subst (λ x. BoundKeepsFaults x here now) e k)
-
-pub fewer_after : (budget : ℕ) (s u w : SearchModel) → turns_left budget u < turns_left budget s → turns_left budget w ≤ turns_left budget u → turns_left budget w < turns_left budget s
-fewer_after budget s u w a b = omega (arith, a, b)
 
 -- ---- its answers
 

@@ -9,12 +9,11 @@ use Rattle.hw_advice.specs.Advisers.{IsBoundAdvice}
 use Rattle.hw_lines.specs.declared.line.Line.TheVariants as lines
 use Rattle.hw_cert.specs.declared.log.LogStop.{LogStop}
 use Rattle.hw_cert.specs.Logs.{LogTold, LogModel, WhereTold}
-use Rattle.hw_progress.specs.Prices.{with_bound, NoneAbove}
+use Rattle.hw_progress.specs.Prices.{PriceModel, with_bound, NoneAbove}
 use Rattle.hw_progress.specs.Searches.{SearchModel, IsSearch, LogFits}
 use Rattle.hw_progress.specs.Advised.{HeedWrites, Heeds}
 use Rattle.hw_progress.proofs.Tolled.{bound}
-use Rattle.hw_search.specs.Engines.{EngineModel, KeepsEngine}
-use Rattle.hw_search.specs.Speaking.{SpeakersModel}
+use Rattle.hw_search.specs.Engines.{EngineModel}
 use Rattle.hw_search.specs.Handing.{TakesAll, StopsWithin}
 use Rattle.hw_search.specs.Heeding.{HeedStops, priced_by, with_tolls, with_given}
 use Rattle.hw_search.specs.Bounding.{IsBelow, ShowsBound, TellsBound, IsBounded}
@@ -27,8 +26,8 @@ pub record IsNewBound (s : SearchModel) (new : ℕ) : Type 0 where
   pub below : IsBelow s new
   pub shows : ShowsBound s new
 
-pub bound_is : (e u : EngineModel) (new : ℕ) → e ≡ u → priced_by e.search (with_bound e.search.prices new) ≡ priced_by u.search (with_bound u.search.prices new)
-bound_is e u new same = ap (λ (x : EngineModel). priced_by x.search (with_bound x.search.prices new)) same
+pub bound_is : (e u : EngineModel) (p : PriceModel) (new : ℕ) → e ≡ u → p ≡ with_bound e.search.prices new → priced_by e.search p ≡ priced_by u.search (with_bound u.search.prices new)
+bound_is e u p new same is = ap (λ x. priced_by e.search x) is ∙ ap (λ (x : EngineModel). priced_by x.search (with_bound x.search.prices new)) same
 
 pub bound_told : (s : SearchModel) (new : ℕ) (old log : LogModel) → IsSearch s → IsNewBound s new → WhereTold old (λ told. LogFits told s) → TakesAll (lines.Bound new ∷ []) old log → TellsBound s new (priced_by s (with_bound s.prices new)) old log
 bound_told s new old log is of fits t =
@@ -45,20 +44,9 @@ bound_told s new old log is of fits t =
 pub bound_stops : (s : SearchModel) (new : ℕ) (stop : LogStop) (old log : LogModel) → IsSearch s → IsNewBound s new → WhereTold old (λ told. LogFits told s) → StopsWithin stop (lines.Bound new ∷ []) 0 old log → HeedStops s s old stop log
 bound_stops s new stop old log is of fits t = line_stops s (lines.Bound new) stop old log is fits (λ before fit. ((bound s new is of.small of.below of.shows).meets before fit).good) t
 
--- what the parts of an engine keep then
-pub kept_bound : (e : EngineModel) (table : SpeakersModel) (goal : ℕ) (worth : Option ℕ) (reserved : ℕ) (new : ℕ) → KeepsEngine e table goal worth reserved → IsNewBound e.search new → KeepsEngine (record e { search = priced_by e.search (with_bound e.search.prices new) }) table goal worth reserved
-kept_bound e table goal worth reserved new k of = record {
-  search = (bound e.search new k.search of.small of.below of.shows).kept;
-  once = k.once;
-  of_problem = k.of_problem;
-  each_mark = k.each_mark;
-  quiet = k.quiet;
-  quiet_below = k.quiet_below;
-  speakers = k.speakers;
-  goal_at = k.goal_at;
-  worth_is = k.worth_is;
-  room = k.room;
-}
+-- what the search is then
+pub bound_kept : (s : SearchModel) (p : PriceModel) (new : ℕ) → IsSearch s → IsNewBound s new → p ≡ with_bound s.prices new → IsSearch (priced_by s p)
+bound_kept s p new is of same = subst (λ x. IsSearch (priced_by s x)) (sym same) (bound s new is of.small of.below of.shows).kept
 
 -- what prices show is a bound
 shown_bounds : (s : SearchModel) (new : ℕ) → IsSearch s → ShowsBound s new → NoneAbove s.problem new

@@ -39,7 +39,7 @@ pub record IsOpenIn (s : SearchModel) (lit : Lit) : Type 0 where
   pub free : truth (room_in s) lit ≡ Free
   pub here : IsLitOf s.problem.ships lit
 
-same_fits : (a b : Shape) (lit : Lit) → a.ships ≡ b.ships → a.slots ≡ b.slots → lit_fits a lit ≡ lit_fits b lit
+pub same_fits : (a b : Shape) (lit : Lit) → a.ships ≡ b.ships → a.slots ≡ b.slots → lit_fits a lit ≡ lit_fits b lit
 same_fits a b (lits.AtOrAfter ship slot) e f = ap (λ n. nat_lt ship n && (nat_le 1 slot && nat_lt slot a.slots)) e ∙ ap (λ n. nat_lt ship b.ships && (nat_le 1 slot && nat_lt slot n)) f
 same_fits a b (lits.Before ship slot) e f = ap (λ n. nat_lt ship n && (nat_le 1 slot && nat_lt slot a.slots)) e ∙ ap (λ n. nat_lt ship b.ships && (nat_le 1 slot && nat_lt slot n)) f
 same_fits a b (lits.First v w) e f = ap (λ n. nat_lt v w && nat_lt w n) e

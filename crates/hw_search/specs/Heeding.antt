@@ -9,7 +9,7 @@ use Rattle.hw_advice.specs.declared.adviser.Advice.{Advice}
 use Rattle.hw_advice.specs.declared.adviser.Standing.{Standing}
 use Rattle.hw_advice.specs.Advisers.{in_force, IsAdvice}
 use Rattle.hw_progress.specs.declared.outcome.Turn.{Turn}
-use Rattle.hw_progress.specs.Prices.{PriceModel}
+use Rattle.hw_progress.specs.Prices.{PriceModel, bound_tariff}
 use Rattle.hw_progress.specs.Searches.{SearchModel, best_cargo, room_in}
 use Rattle.hw_progress.specs.Settling.{IsConflict}
 use Rattle.hw_progress.specs.Advised.{Heeds, StopsBy, AdvisedMeets}
@@ -30,9 +30,14 @@ IsAdviceFor s advice = IsAdvice s.problem s.prices.tolls s.prices.tariff (best_c
 abbrev pub with_tolls : PriceModel → List Toll → PriceModel
 with_tolls p tolls = record p { tolls = p.tolls ++ tolls }
 
+-- the older tariff that is kept, where another comes into force
+abbrev pub older_given : PriceModel → Option Tariff → Option Tariff
+older_given p None = p.older
+older_given p (Some tariff) = bound_tariff p
+
 -- another tariff in force, where one is given
 abbrev pub with_given : PriceModel → Option Tariff → PriceModel
-with_given p tariff = record p { tariff = in_force p.tariff tariff }
+with_given p tariff = record p { tariff = in_force p.tariff tariff; older = older_given p tariff }
 
 -- the search with other prices
 abbrev pub priced_by : SearchModel → PriceModel → SearchModel

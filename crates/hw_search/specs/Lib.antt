@@ -10,6 +10,7 @@ pub mod Ledgers
 pub mod Naming
 pub mod Turning
 pub mod Branching
+pub mod Closing
 pub mod Any
 pub mod Going
 pub mod GoingBack
@@ -17,3 +18,5 @@ pub mod Faults
 pub mod Heeding
 pub mod Bounding
 pub mod MadeFor
+pub mod Proposing
+pub mod Stepping

@@ -4,4 +4,4 @@ use Rattle.hw_search.specs.declared.prices.Declared.{Declared}
 
 -- the tolls and prices that were told
 abbrev pub prices_of : Declared → PriceModel
-prices_of d = record { tolls = d.tolls.items; tariff = d.tariff; bound = d.bound }
+prices_of d = record { tolls = d.tolls.items; tariff = d.tariff; bound = d.bound; older = d.older }

@@ -1,22 +1,26 @@
 //! A search with an adviser, as its callers see it.
 
-ghost use Rattle.std.specs.Prelude.{◌≡◌, ◌<◌, [], false, All, IfOk, map};
+ghost use Rattle.std.specs.Prelude.{◌≡◌, ◌<◌, ◌≤◌, [], false, All, IfOk, map};
 ghost use Rattle.std.specs.Option.{option_copied};
 ghost use Rattle.hw_model.specs.Problem.{shape_of};
 ghost use Rattle.hw_model.specs.Rooms.{whole_room};
 ghost use Rattle.hw_cert.specs.Logs.{WhereTold};
 ghost use Rattle.hw_progress.specs.Searches.{LogFits, new_search, room_in, IsSearch};
 ghost use Rattle.hw_progress.specs.Advised.{AdvisedMeets, BoundMeets};
+ghost use Rattle.hw_progress.specs.Closing.{CloseMeets};
+ghost use Rattle.hw_progress.specs.Proposing.{ProposeMeets};
 ghost use Rattle.hw_progress.specs.Starting.{EachSourceOnce};
 ghost use Rattle.hw_search.specs.Bounding.{BoundKeepsFaults};
+ghost use Rattle.hw_search.specs.Closing.{CloseKeepsFaults};
 ghost use Rattle.hw_search.specs.Faults.{TurnKeepsFaults};
+ghost use Rattle.hw_search.specs.Proposing.{ProposeKeepsFaults};
 
 use crate::engine::Engine;
 use hw_advice::Adviser;
 use hw_cert::Log;
 use hw_flat::{Flat, Room, Timetable};
 use hw_model::NoMemory;
-use hw_progress::{Bounded, Branching, MOST_BUDGET, Turn};
+use hw_progress::{Bounded, Branching, Closed, MOST_BUDGET, Proposed, Turn};
 use hw_prop::Propagator;
 use hw_store::Store;
 use std::alloc::Global;
@@ -85,6 +89,32 @@ impl<'f, S: Store + Drop, P: Propagator + Drop, A: Adviser + Drop> Advised<'f, S
         ensures same_reference { L.anchor log.new ≡ L.anchor log.old }
     {
         self.engine.advised_bound(&mut self.adviser, log)
+    }
+
+    /// Closes the search where its best timetable reaches the last bound: the tariff that shows the bound
+    /// comes into force again, and a line without literals ends the certificate. After the last three
+    /// answers the search is over; what was written stays.
+    pub fn close<L: Log>(&mut self, log: &mut L) -> Closed
+        requires going { self.old.over ≡ false }
+        requires few { self.old.lemmas ≤ MOST_BUDGET }
+        requires fits { WhereTold (L.state log.old) (λ told. LogFits told self.old) }
+        ensures closes { CloseMeets self.old (L.state log.old) result self.new (L.state log.new) }
+        ensures kept { CloseKeepsFaults result (L.state log.old) (L.state log.new) }
+        ensures same_reference { L.anchor log.new ≡ L.anchor log.old }
+    {
+        self.engine.close(log)
+    }
+
+    /// Asks the adviser for a timetable, and takes it where it is permitted and beats the best, as
+    /// `Search::offer` does. After `NoMemory` and `LogFailed` the search is over; what was written stays.
+    pub fn propose<L: Log>(&mut self, log: &mut L) -> Proposed
+        requires going { self.old.over ≡ false }
+        requires fits { WhereTold (L.state log.old) (λ told. LogFits told self.old) }
+        ensures proposes { ProposeMeets self.old (L.state log.old) result self.new (L.state log.new) }
+        ensures kept { ProposeKeepsFaults result (L.state log.old) (L.state log.new) }
+        ensures same_reference { L.anchor log.new ≡ L.anchor log.old }
+    {
+        self.engine.propose(&mut self.adviser, log)
     }
 
     /// The best timetable so far.

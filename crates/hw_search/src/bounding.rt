@@ -47,7 +47,7 @@ impl<'f, S: Store + Drop, P: Propagator + Drop> Engine<'f, S, P> {
     {
         let _ = &self.trail;
         hand_bound(bound, log)?;
-        self.prices.bound = Some(bound);
+        self.prices.lower_to(bound);
         Ok(())
     }
 

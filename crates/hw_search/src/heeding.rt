@@ -66,8 +66,8 @@ impl<'f, S: Store + Drop, P: Propagator + Drop> Engine<'f, S, P> {
         Ok(())
     }
 
-    // Puts a tariff on the declared tolls in force.
-    fn put_in_force<L: Log>(&mut self, tariff: Tariff, log: &mut L) -> Result<(), LogStop>
+    /// Puts a tariff on the declared tolls in force.
+    pub fn put_in_force<L: Log>(&mut self, tariff: Tariff, log: &mut L) -> Result<(), LogStop>
         requires tariff { TariffFits (length self.old.search.prices.tolls) tariff }
         requires ascend { DuesAscend tariff }
         requires fits { WhereTold (L.state log.old) (λ told. LogFits told self.old.search) }
@@ -76,7 +76,7 @@ impl<'f, S: Store + Drop, P: Propagator + Drop> Engine<'f, S, P> {
         ensures same_reference { L.anchor log.new ≡ L.anchor log.old }
     {
         hand_tariff(self.alloc, &tariff, log)?;
-        self.prices.tariff = Some(tariff);
+        self.prices.change_to(tariff);
         Ok(())
     }
 

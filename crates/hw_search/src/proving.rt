@@ -1,5 +1,5 @@
-//! A whole solution with advice: turn after turn of a search with an adviser, and a bound after each
-//! lemma, until it ended or the budget is spent.
+//! A whole solution with advice: turn after turn of a search with an adviser, whom it asks for a timetable
+//! before each turn and for a bound after each lemma, until it ended or the budget is spent.
 ghost use Rattle.std.specs.Prelude.{◌≡◌, ◌≤◌, IfOk, IfSome};
 ghost use Rattle.hw_cert.specs.Logs.{IsEmpty};
 ghost use Rattle.hw_model.specs.Timetables.{Permits};
@@ -8,18 +8,15 @@ ghost use Rattle.hw_progress.specs.Searches.{new_search};
 ghost use Rattle.hw_search.specs.Faults.{SolvedKeepsFaults};
 
 use crate::advised::Advised;
-use crate::any::AnyPropagator;
 use crate::solving::{propagators, proved};
+use crate::stepping::{Prover, Step, look, proceed};
 use hw_advice::Adviser;
 use hw_cert::Log;
 use hw_flat::Flat;
 use hw_model::NoMemory;
-use hw_progress::{Bounded, Branching, MOST_BUDGET, Proved, Solved, Turn};
+use hw_progress::{Branching, MOST_BUDGET, Proved, Solved};
 use hw_store::WatchStore;
 use std::alloc::Global;
-
-/// The search of which a solution with advice is made.
-type Prover<'f, A> = Advised<'f, WatchStore, AnyPropagator, A>;
 
 // A search that has done nothing.
 fn start<'f, A: Adviser + Drop>(
@@ -96,28 +93,26 @@ fn run<'f, A: Adviser + Drop, L: Log>(
 {
     let _shape = flat.shape();
     'turns: while search.lemmas() < budget {
-        match search.turn(log) {
-            Turn::Decided | Turn::Better => {}
-            Turn::Lemma => match search.bound(log) {
-                Bounded::Lower | Bounded::Same => {}
-                Bounded::NoMemory => return out_of_memory(search),
-                Bounded::LogFailed => return log_failed(search),
-            },
-            Turn::Ended => return ended(flat, search),
-            Turn::NoMemory => return out_of_memory(search),
-            Turn::LogFailed => return log_failed(search),
+        match proceed(&mut search, log) {
+            Step::GoesOn => {}
+            Step::Ended => return ended(flat, search),
+            Step::NoMemory => return out_of_memory(search),
+            Step::LogFailed => return log_failed(search),
         }
     }
-    match search.bound(log) {
-        Bounded::Lower | Bounded::Same => unfinished(search),
-        Bounded::NoMemory => out_of_memory(search),
-        Bounded::LogFailed => log_failed(search),
+    match look(&mut search, log) {
+        Step::GoesOn => unfinished(search),
+        Step::Ended => ended(flat, search),
+        Step::NoMemory => out_of_memory(search),
+        Step::LogFailed => log_failed(search),
     }
 }
 
 /// Finds a best timetable, or shows that none is permitted, or finds as many lemmas as the budget
-/// says, with an adviser who may know prices. After each lemma, and where the budget is spent, it asks
-/// the adviser for a bound. All lines go to the log, whose lines alone prove the answer and the bound.
+/// says, with an adviser who may know prices and timetables. Before each turn it asks the adviser for a
+/// timetable, which it tests. After each lemma, and where the budget is spent, it asks for a bound. As
+/// soon as the best timetable reaches the last bound, that ends the search. All lines go to the log,
+/// whose lines alone prove the answer and the bound.
 ///
 /// If memory runs out, even before the first turn, it answers `NoMemory` with the best timetable and
 /// the bound so far; then the lines that were written stay.

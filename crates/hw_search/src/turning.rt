@@ -42,8 +42,8 @@ fn turn_of(stop: LogStop) -> Turn
 }
 
 impl<'f, S: Store + Drop, P: Propagator + Drop> Engine<'f, S, P> {
-    // The search is over.
-    fn finish(&mut self)
+    /// The search is over.
+    pub fn finish(&mut self)
         ensures search { self.new.search ≡ record self.old.search { over = true } }
     {
         self.over = true;

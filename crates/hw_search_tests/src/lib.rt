@@ -11,6 +11,8 @@ mod levels;
 #[cfg(test)]
 mod problems;
 #[cfg(test)]
+mod proposing;
+#[cfg(test)]
 mod proving;
 #[cfg(test)]
 mod restarts;

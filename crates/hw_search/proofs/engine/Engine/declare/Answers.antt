@@ -8,8 +8,19 @@ use Rattle.hw_search.specs.Engines.{EngineModel}
 use Rattle.hw_search.specs.Handing.{TakesAll, StopsWithin}
 use Rattle.hw_search.specs.Heeding.{HeedStops}
 use Rattle.hw_search.proofs.Advice.{memory_stops}
-use Rattle.hw_search.proofs.Heard.{IsNewToll, held_is, declared_is, declared_heeds, declared_stops}
+use Rattle.hw_search.proofs.Closings.{kept_prices}
+use Rattle.hw_search.proofs.Kept.{of_view}
+use Rattle.hw_search.proofs.Heard.{IsNewToll, declared_kept, held_is, declared_is, declared_heeds, declared_stops}
 use Rattle.hw_search.proofs.engine.Engine.declare.Goals as goal
+
+pub invariant_of-self-2 : goal.invariant_of-self-2
+invariant_of-self-2 g c =
+    let of = of_view _ _ (λ (e : EngineModel). IsNewToll e.search c.args.toll) c.self.view_is (record { toll = c.requires.toll; few = c.requires.few }) in (
+      kept_prices _ _ _ _ _ _ c.self.invariant.0 (declared_kept _ c.args.toll _ _ c.self.invariant.0.search of c.reserve.ensures.items c.push_reserved.ensures.items),
+      c.self.invariant.1,
+      c.self.invariant.2,
+      c.self.invariant.3,
+    )
 
 pub returns-in_default-clause-heeds : goal.returns-in_default-clause-heeds
 returns-in_default-clause-heeds g c =

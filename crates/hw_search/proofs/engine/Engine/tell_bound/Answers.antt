@@ -3,14 +3,15 @@ use Rattle.std.proofs.lemmas.Result.{err_from_is_err_and}
 use Rattle.hw_progress.specs.Searches.{SearchModel, IsSearch}
 use Rattle.hw_search.specs.Engines.{EngineModel}
 use Rattle.hw_search.specs.Bounding.{TellsBound}
-use Rattle.hw_search.proofs.ToldBounds.{IsNewBound, bound_is, bound_told, bound_stops, kept_bound}
+use Rattle.hw_search.proofs.ToldBounds.{IsNewBound, bound_is, bound_told, bound_stops, bound_kept}
+use Rattle.hw_search.proofs.Closings.{kept_prices}
 use Rattle.hw_search.proofs.Kept.{of_view}
 use Rattle.hw_search.proofs.engine.Engine.tell_bound.Goals as goal
 
 pub invariant_of-self : goal.invariant_of-self
 invariant_of-self g c =
     let of = of_view _ _ (λ (e : EngineModel). IsNewBound e.search c.args.bound) c.self.view_is (record { small = c.requires.small; below = c.requires.below; shows = c.requires.shows }) in (
-      kept_bound _ _ _ _ _ c.args.bound c.self.invariant.0 of,
+      kept_prices _ _ _ _ _ _ c.self.invariant.0 (bound_kept _ _ c.args.bound c.self.invariant.0.search of c.lower_to.ensures.value),
       c.self.invariant.1,
       c.self.invariant.2,
       c.self.invariant.3,
@@ -31,4 +32,4 @@ returns-clause-tells g c =
     let new = g.L.Log.state c.hand_bound.new.log in
     let is : IsSearch s = subst (λ (e : EngineModel). IsSearch e.search) c.self.view_is c.self.invariant.0.search in
     let of : IsNewBound s c.args.bound = record { small = c.requires.small; below = c.requires.below; shows = c.requires.shows } in
-    subst (λ (x : SearchModel). TellsBound s c.args.bound x old new) (sym (bound_is _ _ c.args.bound c.self.view_is)) (bound_told s c.args.bound old new is of c.requires.fits c.in_ok-hand_bound.ensures.takes)
+    subst (λ (x : SearchModel). TellsBound s c.args.bound x old new) (sym (bound_is _ _ _ c.args.bound c.self.view_is c.lower_to.ensures.value)) (bound_told s c.args.bound old new is of c.requires.fits c.in_ok-hand_bound.ensures.takes)
