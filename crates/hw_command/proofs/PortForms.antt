@@ -9,6 +9,8 @@ use Rattle.hw_model.specs.Limits.{IsFlat}
 use Rattle.hw_model.specs.Problem.{Problem}
 use Rattle.hw_port.specs.declared.fault.PortFault.{PortFault}
 use Rattle.hw_port.specs.Whole.{Parts}
+use Rattle.hw_port.specs.Kept.{PortKept}
+use Rattle.hw_read.specs.Instance.{Reads as ReadsPort}
 use Rattle.hw_tide.specs.Levels.{IsTide, TideParts}
 use Rattle.hw_tide.specs.Whole.{Reads as ReadsHeights, tide_by_header, waypoint_names}
 use Rattle.hw_tide.specs.declared.fault.TideFault.{TideFault}
@@ -31,6 +33,13 @@ pub reads_tide : {name : List ℕ} {x y : DeskState} {v : Vec ℕ Global} {p : P
 reads_tide {name = name} {x = x} {v = v} {p = p} {t = t} h reads limits columns = record {
   enters = h.enters;
   answer = (limits, columns, of_whole (λ bytes. ReadsHeights bytes (tide_by_header (waypoint_names p)) (Ok t)) (x.held name) v.items h.answer.0 reads, h.answer.1);
+}
+
+-- what was read as a port that keeps the meaning rules is the port of the instance
+pub reads_instance : {name : List ℕ} {x y : DeskState} {v : Vec ℕ Global} {p : Parts} → ReadsInput Instance name x y (Ok v) → ReadsPort v.items (Ok p) → PortKept p → ReadsInstance name x y (Ok p)
+reads_instance {name = name} {x = x} {v = v} {p = p} h reads kept = record {
+  enters = h.enters;
+  answer = (kept, of_whole (λ bytes. ReadsPort bytes (Ok p)) (x.held name) v.items h.answer.0 reads, h.answer.1);
 }
 
 -- the instance was begun

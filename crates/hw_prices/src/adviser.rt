@@ -2,6 +2,7 @@
 
 use crate::answering::open_bound;
 use crate::mind::Mind;
+use crate::workshop::Workshop;
 use hw_advice::{Advice, Adviser, Bounding, Scene};
 use hw_flat::Timetable;
 use hw_model::{Lit, NoMemory};
@@ -13,30 +14,66 @@ const FIRST: u32 = 32;
 /// Advises a search by prices on tolls. It looks for prices for the whole problem once, and then moves
 /// them a little in each room that it is shown.
 ///
-/// It is silent in the first 32 lemmas, in a point room, and as long as there is no best. It gives a
-/// bound after 32 lemmas, or when a smaller budget is spent; when the budget is spent it looks for a
-/// lower one. It looks at no clock, and each call ends after a fixed number of steps.
+/// It is silent in the first 32 lemmas, in a point room, and as long as there is no best. As long as there
+/// is none it proposes timetables from the first lemma on, and later those that it makes by its prices
+/// now and then. It gives a bound after 32 lemmas, or when a smaller budget is spent; when the budget is
+/// spent it looks for a lower one. It looks at no clock, and each call ends after a fixed number of
+/// steps.
 #[derive(Drop)]
 pub struct PricingAdviser {
     /// How many lemmas the search finds at most.
     budget: u32,
     /// None before it is needed.
     mind: Option<Mind>,
+    /// None before it is needed.
+    shop: Option<Workshop>,
+    /// After how many lemmas a timetable was last made without prices.
+    made: u32,
 }
 
 impl PricingAdviser {
     /// An adviser of a search of at most `budget` lemmas. It has not looked at a problem yet, and takes no
     /// memory.
     pub fn new(budget: u32) -> PricingAdviser {
-        PricingAdviser { budget, mind: None }
+        PricingAdviser {
+            budget,
+            mind: None,
+            shop: None,
+            made: 0,
+        }
     }
 
     /// Looks at the problem of a scene, unless it did so before.
     fn look(&mut self, alloc: Global, scene: &Scene<'_>) -> Result<(), NoMemory> {
+        self.get_ready(alloc, scene)?;
         if self.mind.is_none() {
-            self.mind = Some(Mind::new(alloc, scene)?);
+            if let Some(shop) = &mut self.shop {
+                self.mind = Some(Mind::new(alloc, scene, shop)?);
+            }
         }
         Ok(())
+    }
+
+    /// Gets ready to make timetables.
+    fn get_ready(&mut self, alloc: Global, scene: &Scene<'_>) -> Result<(), NoMemory> {
+        if self.shop.is_none() {
+            self.shop = Some(Workshop::new(alloc, scene.flat)?);
+        }
+        Ok(())
+    }
+
+    /// Makes a timetable without prices, where none is known: once after each of the first lemmas.
+    fn make(&mut self, alloc: Global, scene: &Scene<'_>) -> Result<(), NoMemory> {
+        let lemmas = scene.standing.lemmas;
+        if scene.best.is_some() || FIRST <= lemmas || lemmas <= self.made {
+            return Ok(());
+        }
+        self.made = lemmas;
+        self.get_ready(alloc, scene)?;
+        match &mut self.shop {
+            None => Ok(()),
+            Some(shop) => shop.make(alloc, scene.room),
+        }
     }
 }
 
@@ -46,9 +83,9 @@ impl Adviser for PricingAdviser {
             return Ok(None);
         }
         self.look(alloc, scene)?;
-        match &mut self.mind {
-            None => Ok(None),
-            Some(mind) => mind.advise(alloc, scene),
+        match (&mut self.mind, &mut self.shop) {
+            (Some(mind), Some(shop)) => mind.advise(alloc, scene, shop),
+            _ => Ok(None),
         }
     }
 
@@ -64,12 +101,12 @@ impl Adviser for PricingAdviser {
         }
     }
 
-    fn propose(
-        &mut self,
-        _alloc: Global,
-        _scene: &Scene<'_>,
-    ) -> Result<Option<Timetable>, NoMemory> {
-        Ok(None)
+    fn propose(&mut self, alloc: Global, scene: &Scene<'_>) -> Result<Option<Timetable>, NoMemory> {
+        self.make(alloc, scene)?;
+        match &self.shop {
+            None => Ok(None),
+            Some(shop) => shop.better(alloc, scene.best),
+        }
     }
 
     fn prefer(&mut self, scene: &Scene<'_>) -> Option<Lit> {

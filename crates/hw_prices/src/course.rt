@@ -14,6 +14,15 @@ const PROGRESS: i64 = 2_000;
 /// The target stays at least 1/50 below the best total.
 const DISTANCE: i64 = 50;
 
+/// What a room may earn at most to be refuted under a best, in parts.
+pub(crate) fn goal(best: u64) -> i64 {
+    i64::try_from(best)
+        .unwrap_or(i64::MAX)
+        .saturating_add(1)
+        .saturating_mul(SCALE)
+        .saturating_sub(1)
+}
+
 /// What to do in a room.
 #[derive(Clone, Copy)]
 pub(crate) struct Course {

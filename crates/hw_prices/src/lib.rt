@@ -23,5 +23,6 @@ mod rounds;
 mod rows;
 mod separation;
 mod table;
+mod workshop;
 
 pub use adviser::PricingAdviser;

@@ -6,15 +6,15 @@ ghost use Rattle.hw_tolls.specs.Tolls.{IsToll};
 ghost use Rattle.hw_advice.specs.Advisers.{IsAdviceIn, IsBoundIn, IsScene};
 
 use crate::answering::{advice_anew, advice_in_force, bounding};
-use crate::course::{Course, FULL_PACE};
+use crate::course::{Course, FULL_PACE, goal};
 use crate::cuts::cuts;
 use crate::drafts::{Draft, draft_of, follow, name_rows};
-use crate::lanes::SCALE;
 use crate::loosening::loosened;
 use crate::preferring::{by_earnings, by_regret};
 use crate::pricer::{Pricer, price_at};
 use crate::rounds::{add_tolls, find_prices};
 use crate::table::Table;
+use crate::workshop::Workshop;
 use hw_advice::{Advice, Bounding, Scene, Standing};
 use hw_flat::Room;
 use hw_model::{Lit, NoMemory};
@@ -22,8 +22,9 @@ use hw_tariff::RulesByPair;
 use hw_tolls::MOST_TOLLS;
 use std::alloc::Global;
 
-/// Steps in a room, from the last prices.
-const STEPS: u32 = 50;
+/// Steps in a room, from the last prices: chosen among 50 and 120 on demo-5-24-192, demo-11-12-96 and
+/// demo-3-16-36.
+const STEPS: u32 = 120;
 
 /// How fast they begin.
 const PACE: i64 = FULL_PACE / 16;
@@ -44,6 +45,9 @@ const DEEPEST: u32 = 6;
 
 /// No room is looked through once there are this many candidates or declared tolls.
 const ENOUGH: usize = 3_000;
+
+/// In one of this many rooms timetables are made.
+const MADE: u32 = 8;
 
 /// After this many rooms the candidates that had no price in any of them are dropped.
 const IDLE: u32 = 32;
@@ -86,10 +90,14 @@ struct Plan {
 
 impl Mind {
     /// Finds the prices for the whole room.
-    pub(crate) fn new(alloc: Global, scene: &Scene<'_>) -> Result<Mind, NoMemory> {
+    pub(crate) fn new(
+        alloc: Global,
+        scene: &Scene<'_>,
+        shop: &mut Workshop,
+    ) -> Result<Mind, NoMemory> {
         let mut pricer = Pricer::new(alloc, scene.flat)?;
         let whole = Room::whole(alloc, scene.flat.shape())?;
-        let least = find_prices(alloc, scene.flat, &mut pricer, &whole, scene.best.map(goal))?;
+        let least = find_prices(alloc, scene.flat, &mut pricer, &whole, scene.best, shop)?;
         let root = Vec::from_slice(alloc, &pricer.prices)?;
         Ok(Mind {
             pricer,
@@ -112,28 +120,36 @@ impl Mind {
         &mut self,
         alloc: Global,
         scene: &Scene<'_>,
+        shop: &mut Workshop,
     ) -> Result<Option<Advice>, NoMemory>
         requires { IsScene scene.now }
         ensures advice { IfOk result (λ answer. IfSome answer (IsAdviceIn scene.now)) }
     {
         let Some(best) = scene.best else {
-            self.explore(alloc, scene)?;
+            self.explore(alloc, scene, shop)?;
             return Ok(None);
         };
         if let Some(lits) = self.lits_in_force(alloc, scene, best)? {
             return advice_in_force(alloc, scene, lits);
         }
-        match self.plan(alloc, scene, best)? {
+        match self.plan(alloc, scene, best, shop)? {
             None => Ok(None),
             Some(plan) => self.carry_out(alloc, scene, plan),
         }
     }
 
     /// Finds prices that tell which slots are worth most, where there is no best.
-    fn explore(&mut self, alloc: Global, scene: &Scene<'_>) -> Result<(), NoMemory> {
+    fn explore(
+        &mut self,
+        alloc: Global,
+        scene: &Scene<'_>,
+        shop: &mut Workshop,
+    ) -> Result<(), NoMemory> {
         self.pricer
             .improve(scene.room, Course::towards(None, EXPLORED, PACE))?;
-        self.latest = Some(self.present(alloc)?);
+        let table = self.present(alloc)?;
+        shop.make_by(alloc, scene.room, &table, None)?;
+        self.latest = Some(table);
         Ok(())
     }
 
@@ -176,9 +192,13 @@ impl Mind {
         alloc: Global,
         scene: &Scene<'_>,
         best: u64,
+        shop: &mut Workshop,
     ) -> Result<Option<Plan>, NoMemory> {
         self.move_prices(alloc, scene, goal(best))?;
         let table = self.present(alloc)?;
+        if self.rooms % MADE == 0 {
+            shop.make_by(alloc, scene.room, &table, scene.best)?;
+        }
         let limit = table.limit(best);
         if table.total(scene.room) <= limit {
             let lits = loosened(alloc, &table, scene.room, None, limit)?;
@@ -346,13 +366,4 @@ impl Mind {
             _ => by_regret(scene.flat, scene.room),
         }
     }
-}
-
-/// What a room may earn at most to be refuted under a best, in parts.
-fn goal(best: u64) -> i64 {
-    i64::try_from(best)
-        .unwrap_or(i64::MAX)
-        .saturating_add(1)
-        .saturating_mul(SCALE)
-        .saturating_sub(1)
 }

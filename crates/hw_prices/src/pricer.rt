@@ -38,6 +38,8 @@ pub(crate) struct Pricer {
     allowance: i64,
     /// How many steps there were.
     pub(crate) steps: i64,
+    /// Prices that were met on the way, where they are kept.
+    pub(crate) samples: Vec<Vec<i64>>,
 }
 
 impl Pricer {
@@ -60,6 +62,7 @@ impl Pricer {
             held: Vec::new(alloc),
             allowance: 0,
             steps: 0,
+            samples: Vec::new(alloc),
         };
         for toll in tolls {
             pricer.add(alloc, flat, toll)?;
@@ -145,20 +148,53 @@ impl Pricer {
         self.begin(room)?;
         let mut bout = Bout::new(course);
         for _step in 0..course.steps {
-            self.steps = self.steps.wrapping_add(1);
-            let total = self.choose()?;
-            if total < bout.best {
-                copy_prices(&mut self.best, &self.prices);
-            }
-            let goes_on = bout.goes_on(total);
-            let norm = if goes_on { self.aim() } else { 0 };
-            if norm <= 0 {
+            let goes_on = self.step(&mut bout)?;
+            if !goes_on {
                 break;
             }
-            self.move_prices(bout.unit(total, norm))?;
         }
         copy_prices(&mut self.prices, &self.best);
         Ok(bout.best)
+    }
+
+    /// Like `improve`, and keeps the prices of one step in each this many as samples.
+    pub(crate) fn improve_sampled(
+        &mut self,
+        alloc: Global,
+        room: &Room,
+        course: Course,
+        each: u32,
+    ) -> Result<i64, NoMemory> {
+        self.samples.clear();
+        self.begin(room)?;
+        let mut bout = Bout::new(course);
+        for step in 1..course.steps.saturating_add(1) {
+            let goes_on = self.step(&mut bout)?;
+            if step % each.max(1) == 0 {
+                self.samples.push(Vec::from_slice(alloc, &self.prices)?)?;
+            }
+            if !goes_on {
+                break;
+            }
+        }
+        copy_prices(&mut self.prices, &self.best);
+        Ok(bout.best)
+    }
+
+    /// Takes a step of a bout. Whether more of them are worth it.
+    fn step(&mut self, bout: &mut Bout) -> Result<bool, NoMemory> {
+        self.steps = self.steps.wrapping_add(1);
+        let total = self.choose()?;
+        if total < bout.best {
+            copy_prices(&mut self.best, &self.prices);
+        }
+        let goes_on = bout.goes_on(total);
+        let norm = if goes_on { self.aim() } else { 0 };
+        if norm <= 0 {
+            return Ok(false);
+        }
+        self.move_prices(bout.unit(total, norm))?;
+        Ok(true)
     }
 
     /// Takes other prices, with none for rows that were added since, and forgets those that were held

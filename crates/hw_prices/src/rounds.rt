@@ -1,10 +1,12 @@
 //! The prices of the whole room, with tolls that are found on the way, and tolls for other rooms.
 
-use crate::course::{Course, FULL_PACE};
+use crate::course::{Course, FULL_PACE, goal};
 use crate::covers::find_covers;
 use crate::finds::Finds;
 use crate::pricer::Pricer;
 use crate::separation::{Choices, find_narrows};
+use crate::table::Table;
+use crate::workshop::Workshop;
 use hw_flat::{Flat, Room};
 use hw_model::NoMemory;
 use hw_tolls::Toll;
@@ -15,6 +17,9 @@ const STEPS: u32 = 1_000;
 
 /// Steps of a round in which the chosen slots are counted.
 const COUNTED: u32 = STEPS / 3;
+
+/// For one in this many of these steps timetables are made.
+const SAMPLED: u32 = 250;
 
 /// At most this many rounds of tolls that are found.
 const ROUNDS: u32 = 20;
@@ -28,36 +33,65 @@ const COUNTED_IN_ROOM: u32 = 100;
 /// At most this many tolls for another room.
 const FOUND_IN_ROOM: usize = 3;
 
-/// Finds prices for a room from nothing, and adds tolls that help. It ends once the room earns no more
-/// than the goal, if there is one. Returns what the room earns under the prices, with what they give
-/// back, in parts.
+/// Finds prices for a room from nothing, adds tolls that help, and makes timetables by the prices that
+/// it meets. It ends once the room earns no more than the best timetable carries, if there is one.
+/// Returns what the room earns under the prices, with what they give back, in parts.
 pub(crate) fn find_prices(
     alloc: Global,
     flat: &Flat,
     pricer: &mut Pricer,
     room: &Room,
-    goal: Option<i64>,
+    best: Option<u64>,
+    shop: &mut Workshop,
 ) -> Result<i64, NoMemory> {
-    let course = Course::towards(goal, STEPS, FULL_PACE);
-    let mut least = pricer.improve(room, course)?;
+    let first = Course::towards(best.map(goal), STEPS, FULL_PACE);
+    let mut least = pricer.improve_sampled(alloc, room, first, SAMPLED)?;
+    make_by_samples(alloc, pricer, room, shop)?;
     for _round in 0..ROUNDS {
-        if least <= course.stop {
+        let aim = greater(best, shop.cargo()).map(goal);
+        if least <= aim.unwrap_or(i64::MIN) {
             break;
         }
         forget_counts(pricer);
         let near = least.saturating_sub(least.saturating_abs() / 200);
+        let course = Course::towards(aim, COUNTED, FULL_PACE / 8);
         let counting = Course {
             target: course.target.max(near),
-            ..Course::towards(goal, COUNTED, FULL_PACE / 8)
+            ..course
         };
-        least = least.min(pricer.improve(room, counting)?);
+        least = least.min(pricer.improve_sampled(alloc, room, counting, SAMPLED)?);
+        make_by_samples(alloc, pricer, room, shop)?;
         if !add_found(alloc, flat, pricer, FOUND)? {
             break;
         }
-        let improving = Course::towards(goal, STEPS, FULL_PACE / 2);
-        least = least.min(pricer.improve(room, improving)?);
+        let improving = Course::towards(aim, STEPS, FULL_PACE / 2);
+        least = least.min(pricer.improve_sampled(alloc, room, improving, SAMPLED)?);
+        make_by_samples(alloc, pricer, room, shop)?;
     }
     Ok(least)
+}
+
+/// The greater of two cargoes that may be known.
+fn greater(one: Option<u64>, other: Option<u64>) -> Option<u64> {
+    match (one, other) {
+        (Some(one), Some(other)) => Some(one.max(other)),
+        (None, other) => other,
+        (one, None) => one,
+    }
+}
+
+/// Makes timetables by what ships earn under the prices that were kept as samples.
+fn make_by_samples(
+    alloc: Global,
+    pricer: &Pricer,
+    room: &Room,
+    shop: &mut Workshop,
+) -> Result<(), NoMemory> {
+    for prices in pricer.samples.iter() {
+        let table = Table::new(alloc, &pricer.lanes, &pricer.rows, prices)?;
+        shop.make_by(alloc, room, &table, None)?;
+    }
+    Ok(())
 }
 
 /// Adds a few tolls that are overfilled in a room, under prices that were moved for it. Whether there

@@ -14,6 +14,9 @@ const OFTEN: i64 = 1;
 /// A row counts as violated if its average usage exceeds the capacity by this many hundredths.
 pub(crate) const OVERFILLED: i64 = 2;
 
+/// Slots this far from a seed, or farther, aren't tried for other ships.
+const REACH: u32 = 64;
+
 /// How often a ship chose a slot.
 #[derive(Clone, Copy)]
 struct Spot {
@@ -212,29 +215,34 @@ fn add_ships(choices: &Choices<'_>, slot: Slot, blocks: &mut Vec<Block>) -> Resu
     Ok(())
 }
 
-/// The slot of a ship that is apart from all blocks and nearest to a slot.
+/// The slot of a ship that is apart from all blocks and nearest to a slot, the earlier one of two.
 fn nearest_apart(
     choices: &Choices<'_>,
     ship: ShipId,
     slot: Slot,
     blocks: &[Block],
 ) -> Option<Slot> {
-    let mut nearest: Option<Slot> = None;
-    for at in 0..choices.flat.horizon() {
-        let block = Block {
-            ship,
-            low: at,
-            high: at,
-        };
-        let nearer = match nearest {
-            None => true,
-            Some(old) => at.abs_diff(slot) < old.abs_diff(slot),
-        };
-        if nearer && choices.distances.apart_from_all(block, blocks) {
-            nearest = Some(at);
+    for away in 0..REACH {
+        let before = slot.saturating_sub(away);
+        if is_apart(choices, ship, before, blocks) {
+            return Some(before);
+        }
+        let after = slot.saturating_add(away);
+        if is_apart(choices, ship, after, blocks) {
+            return Some(after);
         }
     }
-    nearest
+    None
+}
+
+/// Whether a ship's slot is apart from all blocks.
+fn is_apart(choices: &Choices<'_>, ship: ShipId, at: Slot, blocks: &[Block]) -> bool {
+    let block = Block {
+        ship,
+        low: at,
+        high: at,
+    };
+    at < choices.flat.horizon() && choices.distances.apart_from_all(block, blocks)
 }
 
 /// Widens blocks by a slot at a time, as far as they stay apart.

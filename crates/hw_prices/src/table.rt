@@ -54,6 +54,11 @@ impl Table {
         }
     }
 
+    /// What ships earn, by ship and slot.
+    pub(crate) fn rows(&self) -> &[Vec<i64>] {
+        &self.earnings
+    }
+
     /// A room is refuted where the ships' greatest earnings in their ranges are at most this
     /// together.
     pub(crate) fn limit(&self, best: u64) -> i64 {

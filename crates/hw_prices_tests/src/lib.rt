@@ -13,4 +13,6 @@ mod early;
 #[cfg(test)]
 mod limits;
 #[cfg(test)]
+mod made;
+#[cfg(test)]
 mod walked;

@@ -1,0 +1,106 @@
+//! Where timetables are made.
+
+use crate::table::Table;
+use hw_flat::{Flat, Room, Timetable};
+use hw_making::{Maker, Ranking};
+use hw_model::{Hole, Job, NoMemory, Rule};
+use std::alloc::Global;
+
+/// No timetables are made of a problem whose ships rule out more slots for each other than this,
+/// counted once for each rule: each timetable would take too long.
+const MOST_EFFORT: u64 = 200_000;
+
+/// A slot for which a job holds its tugs counts as much as this many.
+const TUGS: u64 = 16;
+
+/// Makes timetables, where that doesn't take too long.
+#[derive(Drop)]
+pub(crate) struct Workshop {
+    maker: Option<Maker>,
+}
+
+impl Workshop {
+    pub(crate) fn new(alloc: Global, flat: &Flat) -> Result<Workshop, NoMemory> {
+        if MOST_EFFORT < effort(flat) {
+            return Ok(Workshop { maker: None });
+        }
+        Ok(Workshop {
+            maker: Some(Maker::new(alloc, flat)?),
+        })
+    }
+
+    /// Makes a timetable by what ships carry.
+    pub(crate) fn make(&mut self, alloc: Global, room: &Room) -> Result<(), NoMemory> {
+        match &mut self.maker {
+            None => Ok(()),
+            Some(maker) => maker.make(alloc, room, None, Ranking::Regret, None),
+        }
+    }
+
+    /// Makes timetables by what ships earn.
+    pub(crate) fn make_by(
+        &mut self,
+        alloc: Global,
+        room: &Room,
+        table: &Table,
+        best: Option<u64>,
+    ) -> Result<(), NoMemory> {
+        match &mut self.maker {
+            None => Ok(()),
+            Some(maker) => {
+                maker.make(alloc, room, Some(table.rows()), Ranking::Regret, best)?;
+                maker.make(alloc, room, Some(table.rows()), Ranking::Earnings, best)
+            }
+        }
+    }
+
+    /// What the best timetable that was made carries, in tenths of a tonne.
+    pub(crate) fn cargo(&self) -> Option<u64> {
+        match &self.maker {
+            None => None,
+            Some(maker) => maker.cargo(),
+        }
+    }
+
+    /// A copy of it, if it carries more than `best`.
+    pub(crate) fn better(
+        &self,
+        alloc: Global,
+        best: Option<u64>,
+    ) -> Result<Option<Timetable>, NoMemory> {
+        match &self.maker {
+            None => Ok(None),
+            Some(maker) => maker.better(alloc, best),
+        }
+    }
+}
+
+/// How many slots ships rule out for each other, counted once for each rule.
+fn effort(flat: &Flat) -> u64 {
+    let mut sum: u64 = 0;
+    for rule in flat.rules() {
+        let more = match rule {
+            Rule::Pair { holes, .. } => width(&holes.items),
+            Rule::After { .. } => u64::from(flat.horizon()),
+            Rule::Tugs { jobs, .. } => held(&jobs.items).saturating_mul(TUGS),
+        };
+        sum = sum.saturating_add(more);
+    }
+    sum
+}
+
+fn width(holes: &[Hole]) -> u64 {
+    let mut sum: u64 = 0;
+    for hole in holes {
+        sum = sum.saturating_add(u64::from(hole.hi.abs_diff(hole.lo)));
+    }
+    sum
+}
+
+fn held(jobs: &[Job]) -> u64 {
+    let mut sum: u64 = 0;
+    for job in jobs {
+        sum = sum.saturating_add(u64::from(job.hold));
+    }
+    sum
+}
