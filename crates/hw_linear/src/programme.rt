@@ -42,8 +42,9 @@ fn put_objective<W: Writer>(out: &mut W, flat: &Flat, format: Format)
 /// Puts the problem in the LP format: maximise the cargo, in tenths of a tonne.
 ///
 /// The variable of a ship and a slot is `x_SHIP_SLOT`. There is a row for each ship; for each hole of a pair at most
-/// 1,535 rows, one for each window, with the windows of other ships that are kept apart from it; for each precedence one for each slot; and for a rule on tugs one for each slot in
-/// which ships sail. Rows that all points satisfy are left out. A row has at most 20,520 terms, a line each.
+/// 1,535 rows, one for each window, with the windows of other ships that are kept apart from it; for each precedence one
+/// for each slot; and for a rule on tugs one for each slot in which ships sail. Rows that all points satisfy are left
+/// out. A row has at most 20,520 terms, a line each.
 pub fn put_model<W: Writer>(out: &mut W, flat: &Flat)
     ensures { Puts (lp_text flat.now) (W.state out.old) (W.state out.new) }
 {
