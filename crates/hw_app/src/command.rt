@@ -31,6 +31,11 @@ pub enum Command<'w> {
         source: Source<'w>,
         cert: &'w str,
     },
+    ExplainRepair {
+        source: Source<'w>,
+        plan: &'w str,
+        cert: &'w str,
+    },
     Clash {
         source: Source<'w>,
         budget: u32,

@@ -54,6 +54,10 @@ pub enum Form {
     VerifyRepairFlat,
     /// `verify repair port INSTANCE TIDES PLAN CERT` checks a certificate of the repair of a port's plan, which may be of the third version, with its bound.
     VerifyRepairPort,
+    /// `explain repair flat NAME PLAN CERT` tells what a certificate's repair makes of each ship of a plan.
+    ExplainRepairFlat,
+    /// `explain repair port INSTANCE TIDES PLAN CERT` tells what a certificate's repair makes of each ship of a port's plan.
+    ExplainRepairPort,
     /// `clash flat NAME BUDGET PROOF` searches for the restrictions of a flat text that can't be met together, up to BUDGET lemmas a step.
     ClashFlat,
     /// `clash port INSTANCE TIDES BUDGET PROOF` searches for the restrictions of a port that can't be met together, up to BUDGET lemmas a step.
@@ -139,7 +143,7 @@ pub enum Wanted {
 }
 
 /// The forms that there are.
-pub const FORMS: [Form; 35] = [
+pub const FORMS: [Form; 37] = [
     Form::SolveFlat,
     Form::SolvePort,
     Form::ProveFlat,
@@ -162,6 +166,8 @@ pub const FORMS: [Form; 35] = [
     Form::CheckRepairPort,
     Form::VerifyRepairFlat,
     Form::VerifyRepairPort,
+    Form::ExplainRepairFlat,
+    Form::ExplainRepairPort,
     Form::ClashFlat,
     Form::ClashPort,
     Form::CheckClash,
@@ -264,6 +270,8 @@ pub fn words_of(form: Form) -> &'static [Wanted]
         Form::CheckRepairPort => &[CHECK, REPAIR, PORT, INSTANCE, TIDES, PLAN, CERT],
         Form::VerifyRepairFlat => &[VERIFY, REPAIR, FLAT, NAME, PLAN, CERT],
         Form::VerifyRepairPort => &[VERIFY, REPAIR, PORT, INSTANCE, TIDES, PLAN, CERT],
+        Form::ExplainRepairFlat => &[EXPLAIN, REPAIR, FLAT, NAME, PLAN, CERT],
+        Form::ExplainRepairPort => &[EXPLAIN, REPAIR, PORT, INSTANCE, TIDES, PLAN, CERT],
         Form::ClashFlat => &[CLASH, FLAT, NAME, BUDGET, PROOF],
         Form::ClashPort => &[CLASH, PORT, INSTANCE, TIDES, BUDGET, PROOF],
         Form::CheckClash => &[CHECK, CLASH, NAME, PLAN, CERT],

@@ -15,6 +15,7 @@ use hw_command::{Status, finish};
 use hw_desk::Desk;
 use hw_listing_command::{list_model, list_opb, list_windows};
 use hw_problem_command::{demo, flatten_port};
+use hw_repair_command::explain_repair;
 use hw_report::Report;
 use hw_search_command::search_subject;
 use std::alloc::Global;
@@ -45,6 +46,9 @@ pub fn run<D: Desk>(alloc: Global, words: &[String], desk: &mut D) -> Status
             proof,
         } => renew(alloc, desk, subject, cert, proof),
         Command::Chart { source, cert } => chart(alloc, desk, source, cert),
+        Command::ExplainRepair { source, plan, cert } => {
+            explain_repair(alloc, desk, source, plan, cert)
+        }
         Command::Clash {
             source,
             budget,

@@ -161,6 +161,11 @@ fn command_by<'w>(wanted: &[Wanted], form: Form, words: &'w [String]) -> Command
             budget: number_in(form, words, Quantity::Budget),
             proof: name_in(form, words, Value::Proof),
         },
+        [EXPLAIN, REPAIR, ..] => Command::ExplainRepair {
+            source: source_in(form, words),
+            plan: input_in(form, words, Feed::Plan),
+            cert: input_in(form, words, Feed::Certificate),
+        },
         [EXPLAIN, ..] => Command::Explain {
             port: port_in(form, words),
         },

@@ -16,7 +16,7 @@ Commands:
 ";
 
 /// What the commands do, in a line each, in the order of `FORMS`.
-pub const PURPOSES: [&str; 35] = [
+pub const PURPOSES: [&str; 37] = [
     "looks for a best timetable of a flat text, and writes a certificate to PROOF",
     "looks for a best timetable of a port, and writes a certificate to PROOF",
     "looks for a best timetable of a flat text with prices, and writes a certificate to PROOF",
@@ -39,6 +39,8 @@ pub const PURPOSES: [&str; 35] = [
     "says what a certificate shows of the repair of a port's plan",
     "says what a certificate shows of a plan's repair, with its bound, or its first bad line",
     "says what a certificate shows of the repair of a port's plan, with its bound",
+    "tells which ships a certificate's repair moves, and the cargo each wins or loses against the plan",
+    "the same for a port's plan, in tonnes and by the ships' names",
     "lists restrictions that can't be met together, none of which can be left out",
     "the same for a port, whose restrictions `explain port` tells by their numbers",
     "says whether the restrictions that a clash lists can't be met together",

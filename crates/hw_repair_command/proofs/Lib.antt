@@ -1,0 +1,2 @@
+mod Explained
+pub mod Decided
