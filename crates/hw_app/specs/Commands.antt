@@ -27,6 +27,8 @@ pub data Command : Type 0 where
   renew : Topic → List ℕ → List ℕ → Command
   -- of what a plan is drawn, the certificate
   chart : Origin → List ℕ → Command
+  -- of what a plan is put into a table, the certificate
+  table : Topic → List ℕ → Command
   -- of what a repair is told, the plan, the certificate
   explain_repair : Origin → List ℕ → List ℕ → Command
   -- what is searched, the budget, Proof
@@ -74,6 +76,7 @@ command_by (Keyword key.Check ∷ more) form words = check (topic_in form words)
 command_by (Keyword key.Verify ∷ more) form words = verify (topic_in form words) (name_in form words (Input feed.Certificate))
 command_by (Keyword key.Renew ∷ more) form words = renew (topic_in form words) (name_in form words (Input feed.Certificate)) (name_in form words Proof)
 command_by (Keyword key.Chart ∷ more) form words = chart (origin_in form words) (name_in form words (Input feed.Certificate))
+command_by (Keyword key.Table ∷ more) form words = table (topic_in form words) (name_in form words (Input feed.Certificate))
 command_by (Keyword key.Clash ∷ more) form words = clash (origin_in form words) (number_in form words counts.Budget) (name_in form words Proof)
 command_by (Keyword key.Explain ∷ Keyword key.Repair ∷ more) form words = explain_repair (origin_in form words) (name_in form words (Input feed.Plan)) (name_in form words (Input feed.Certificate))
 command_by (Keyword key.Explain ∷ more) form words = explain (name_in form words (Input feed.Instance)) (name_in form words (Input feed.Tides))
@@ -114,6 +117,7 @@ command_seen (told.Check subject cert) = check (topic_seen subject) cert.now
 command_seen (told.Verify subject cert) = verify (topic_seen subject) cert.now
 command_seen (told.Renew subject cert proof) = renew (topic_seen subject) cert.now proof.now
 command_seen (told.Chart source cert) = chart (origin_seen source) cert.now
+command_seen (told.Table subject cert) = table (topic_seen subject) cert.now
 command_seen (told.ExplainRepair source plan cert) = explain_repair (origin_seen source) plan.now cert.now
 command_seen (told.Clash source budget proof) = clash (origin_seen source) budget proof.now
 command_seen (told.CheckClash source plan cert) = check_clash (origin_seen source) plan.now cert.now

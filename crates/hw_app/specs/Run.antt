@@ -18,10 +18,11 @@ use Rattle.hw_clash_command.specs.Clashes.{clash_task}
 use Rattle.hw_clash_command.specs.CheckClash.{check_clash_task}
 use Rattle.hw_clash_command.specs.ExplainPort.{explain_port_task}
 use Rattle.hw_listing_command.specs.Listings.{model_task, opb_task, windows_task}
+use Rattle.hw_listing_command.specs.Tables.{table_task}
 use Rattle.hw_audit_command.specs.AuditPort.{audit_port_task}
 use Rattle.hw_problem_command.specs.Flattening.{flatten_task}
 use Rattle.hw_problem_command.specs.Demo.{demo_task}
-use Rattle.hw_app.specs.Commands.{Command, search, check, verify, renew, chart, explain_repair, clash, check_clash, explain, windows, model, opb, audit, flatten, demo, command_of}
+use Rattle.hw_app.specs.Commands.{Command, search, check, verify, renew, chart, table, explain_repair, clash, check_clash, explain, windows, model, opb, audit, flatten, demo, command_of}
 
 -- what a command has to do
 abbrev pub task_of : Command → Task
@@ -30,6 +31,7 @@ task_of (check topic cert) = check_task (topic_subject topic) Two cert
 task_of (verify topic cert) = check_task (topic_subject topic) Three cert
 task_of (renew topic cert proof) = renew_task (topic_subject topic) cert proof
 task_of (chart origin cert) = chart_task (origin_subject origin) cert
+task_of (table topic cert) = table_task (topic_subject topic) cert
 task_of (explain_repair origin plan cert) = explain_repair_task (repair_of (origin_subject origin) plan) cert
 task_of (clash origin budget proof) = clash_task (origin_subject origin) budget proof
 task_of (check_clash origin plan cert) = check_clash_task (origin_subject origin) plan cert

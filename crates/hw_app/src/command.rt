@@ -31,6 +31,10 @@ pub enum Command<'w> {
         source: Source<'w>,
         cert: &'w str,
     },
+    Table {
+        subject: Subject<'w>,
+        cert: &'w str,
+    },
     ExplainRepair {
         source: Source<'w>,
         plan: &'w str,

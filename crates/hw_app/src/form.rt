@@ -30,6 +30,10 @@ pub enum Form {
     ChartFlat,
     /// `chart port INSTANCE TIDES CERT` draws the plan that a certificate of a port shows.
     ChartPort,
+    /// `table port INSTANCE TIDES CERT` prints the plan that a certificate of a port shows as CSV.
+    TablePort,
+    /// `table repair port INSTANCE TIDES PLAN CERT` prints the plan that a certificate of the repair of a port's plan shows as CSV.
+    TableRepairPort,
     /// `renew flat NAME CERT PROOF` checks a certificate of a flat text and writes it again, with deletions.
     RenewFlat,
     /// `renew port INSTANCE TIDES CERT PROOF` checks a certificate of a port and writes it again, with deletions.
@@ -94,6 +98,7 @@ pub enum Keyword {
     Check,
     Verify,
     Chart,
+    Table,
     Renew,
     Crew,
     Repair,
@@ -143,7 +148,7 @@ pub enum Wanted {
 }
 
 /// The forms that there are.
-pub const FORMS: [Form; 37] = [
+pub const FORMS: [Form; 39] = [
     Form::SolveFlat,
     Form::SolvePort,
     Form::ProveFlat,
@@ -154,6 +159,8 @@ pub const FORMS: [Form; 37] = [
     Form::VerifyPort,
     Form::ChartFlat,
     Form::ChartPort,
+    Form::TablePort,
+    Form::TableRepairPort,
     Form::RenewFlat,
     Form::RenewPort,
     Form::CrewFlat,
@@ -192,6 +199,8 @@ pub const CHECK: Wanted = Wanted::Keyword(Keyword::Check);
 pub const VERIFY: Wanted = Wanted::Keyword(Keyword::Verify);
 
 pub const CHART: Wanted = Wanted::Keyword(Keyword::Chart);
+
+pub const TABLE: Wanted = Wanted::Keyword(Keyword::Table);
 
 pub const RENEW: Wanted = Wanted::Keyword(Keyword::Renew);
 
@@ -258,6 +267,8 @@ pub fn words_of(form: Form) -> &'static [Wanted]
         Form::VerifyPort => &[VERIFY, PORT, INSTANCE, TIDES, CERT],
         Form::ChartFlat => &[CHART, FLAT, NAME, CERT],
         Form::ChartPort => &[CHART, PORT, INSTANCE, TIDES, CERT],
+        Form::TablePort => &[TABLE, PORT, INSTANCE, TIDES, CERT],
+        Form::TableRepairPort => &[TABLE, REPAIR, PORT, INSTANCE, TIDES, PLAN, CERT],
         Form::RenewFlat => &[RENEW, FLAT, NAME, CERT, PROOF],
         Form::RenewPort => &[RENEW, PORT, INSTANCE, TIDES, CERT, PROOF],
         Form::CrewFlat => &[CREW, FLAT, NAME, ORDER, BUDGET, PROOF],
@@ -298,6 +309,7 @@ pub fn keyword_text(keyword: Keyword) -> &'static str
         Keyword::Check => "check",
         Keyword::Verify => "verify",
         Keyword::Chart => "chart",
+        Keyword::Table => "table",
         Keyword::Renew => "renew",
         Keyword::Crew => "crew",
         Keyword::Repair => "repair",

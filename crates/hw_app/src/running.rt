@@ -13,7 +13,7 @@ use hw_check_command::{check, renew, verify};
 use hw_clash_command::{check_clash, clash, explain_port};
 use hw_command::{Status, finish};
 use hw_desk::Desk;
-use hw_listing_command::{list_model, list_opb, list_windows};
+use hw_listing_command::{list_model, list_opb, list_table, list_windows};
 use hw_problem_command::{demo, flatten_port};
 use hw_repair_command::explain_repair;
 use hw_report::Report;
@@ -46,6 +46,7 @@ pub fn run<D: Desk>(alloc: Global, words: &[String], desk: &mut D) -> Status
             proof,
         } => renew(alloc, desk, subject, cert, proof),
         Command::Chart { source, cert } => chart(alloc, desk, source, cert),
+        Command::Table { subject, cert } => list_table(alloc, desk, subject, cert),
         Command::ExplainRepair { source, plan, cert } => {
             explain_repair(alloc, desk, source, plan, cert)
         }

@@ -10,7 +10,7 @@ ghost use Rattle.hw_app.specs.Forms.{agreed, first_fitting, form_of, furthest, i
 use crate::command::Command;
 use crate::form::{
     AUDIT, CHART, CHECK, CLASH, CREW, EXPLAIN, FLATTEN, FORMS, Form, MODEL, OPB, PROVE, Quantity,
-    RENEW, REPAIR, SOLVE, VERIFY, Value, WINDOWS, Wanted, keyword_text, least_of, most_of,
+    RENEW, REPAIR, SOLVE, TABLE, VERIFY, Value, WINDOWS, Wanted, keyword_text, least_of, most_of,
     words_of,
 };
 use hw_command::PortNames;
@@ -154,6 +154,10 @@ fn command_by<'w>(wanted: &[Wanted], form: Form, words: &'w [String]) -> Command
         },
         [CHART, ..] => Command::Chart {
             source: source_in(form, words),
+            cert: input_in(form, words, Feed::Certificate),
+        },
+        [TABLE, ..] => Command::Table {
+            subject: subject_in(form, words),
             cert: input_in(form, words, Feed::Certificate),
         },
         [CLASH, ..] => Command::Clash {

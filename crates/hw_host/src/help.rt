@@ -16,7 +16,7 @@ Commands:
 ";
 
 /// What the commands do, in a line each, in the order of `FORMS`.
-pub const PURPOSES: [&str; 37] = [
+pub const PURPOSES: [&str; 39] = [
     "looks for a best timetable of a flat text, and writes a certificate to PROOF",
     "looks for a best timetable of a port, and writes a certificate to PROOF",
     "looks for a best timetable of a flat text with prices, and writes a certificate to PROOF",
@@ -27,6 +27,8 @@ pub const PURPOSES: [&str; 37] = [
     "says what a certificate shows of a port, with its bound, or its first bad line",
     "prints the plan that a certificate of a flat text shows, as an SVG picture",
     "prints the plan that a certificate of a port shows, as an SVG picture",
+    "prints the plan that a certificate of a port shows, as CSV for a spreadsheet",
+    "the same of a repaired plan",
     "checks a certificate of a flat text, and writes a leaner one to PROOF",
     "checks a certificate of a port, and writes a leaner one to PROOF",
     "lets searchers take turns on a flat text, and writes a certificate to PROOF",

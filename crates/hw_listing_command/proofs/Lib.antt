@@ -1,2 +1,4 @@
 mod Carried
 pub mod Decided
+mod Tabled
+pub mod Told

@@ -1,3 +1,4 @@
 pub mod Listings
 pub mod Listed
+pub mod Tables
 pub mod Laws

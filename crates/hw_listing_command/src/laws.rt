@@ -1,8 +1,18 @@
-//! The law of listings: a function without a body.
+//! The laws of listings and of tables: functions without a body.
 
-ghost use Rattle.hw_listing_command.specs.Laws.{OneListing};
+ghost use Rattle.hw_listing_command.specs.Laws.{OneListing, OneTable, TablesAsVerified};
 
 /// The bytes of the inputs decide the report, unless a call fails or memory runs out.
 pub fn one_listing()
     ensures { OneListing }
+{}
+
+/// The bytes of the inputs and of the certificate decide the table, unless a call fails or memory runs out.
+pub fn one_table()
+    ensures { OneTable }
+{}
+
+/// What `verify` shows is put into the table, and what it refuses is refused.
+pub fn tables_as_verified()
+    ensures { TablesAsVerified }
 {}

@@ -1,17 +1,21 @@
 //! A text of what was read is sent.
 
-ghost use Rattle.std.specs.Prelude.{◌∷◌, []};
+ghost use Rattle.std.specs.Prelude.{◌∷◌, [], option_map};
 ghost use Rattle.hw_desk.specs.Whole.{SendsText};
 ghost use Rattle.hw_desk.specs.Writers.{Puts};
 ghost use Rattle.hw_report.specs.Reports.{whole_text};
 ghost use Rattle.hw_command.specs.Ends.{Ends};
-ghost use Rattle.hw_listing_command.specs.Listed.{CanList, listing_text};
+ghost use Rattle.hw_subject.specs.Reading.{naming_of};
+ghost use Rattle.hw_listing_command.specs.Listed.{CanList, HasTable, listing_text};
+ghost use Rattle.hw_listing_command.specs.Tables.{table_of};
 
 use hw_command::Status;
 use hw_desk::{Desk, DeskFailed, Tray, TrayWriter, Writer};
-use hw_flat::Flat;
+use hw_flat::{Flat, Timetable};
 use hw_linear::{put_model, put_opb};
 use hw_port::Port;
+use hw_subject::Named;
+use hw_table::put_table;
 use hw_tide::Tide;
 use hw_windows::put_windows;
 
@@ -19,11 +23,23 @@ use hw_windows::put_windows;
 #[derive(Clone, Copy)]
 pub(crate) enum Listing<'g> {
     /// When each ship of a port may sail.
-    Windows { port: &'g Port, tide: &'g Tide },
+    Windows {
+        port: &'g Port,
+        tide: &'g Tide,
+    },
     /// The linear programme of a problem, in the LP format.
-    Model { flat: &'g Flat },
+    Model {
+        flat: &'g Flat,
+    },
     /// The same in the OPB format.
-    Opb { flat: &'g Flat },
+    Opb {
+        flat: &'g Flat,
+    },
+    /// The table of a port's plan, with a timetable or none.
+    Table {
+        named: &'g Named,
+        table: Option<&'g Timetable>,
+    },
 }
 
 /// Sends it piece by piece. Returns `Optimal`, or `WriteFault` if a write failed.
@@ -38,7 +54,7 @@ pub(crate) fn list<D: Desk>(desk: &mut D, listing: Listing) -> Status
 }
 
 /// Sends its text. It takes no memory.
-fn send_listing<D: Desk>(desk: &mut D, listing: Listing) -> Result<(), DeskFailed>
+pub(crate) fn send_listing<D: Desk>(desk: &mut D, listing: Listing) -> Result<(), DeskFailed>
     requires { CanList listing }
     ensures { SendsText Tray.Report (listing_text listing.entry) (D.state desk.old) (D.state desk.new) result }
 {
@@ -56,5 +72,20 @@ fn put_listing<W: Writer>(out: &mut W, listing: Listing)
         Listing::Windows { port, tide } => put_windows(out, port, tide),
         Listing::Model { flat } => put_model(out, flat),
         Listing::Opb { flat } => put_opb(out, flat),
+        Listing::Table { named, table } => put_plan(out, named, table),
+    }
+}
+
+/// Puts the table of a port's plan; of a flat text nothing.
+fn put_plan<W: Writer>(out: &mut W, named: &Named, table: Option<&Timetable>)
+    requires { HasTable named.now }
+    ensures { Puts (table_of (naming_of named.now) (option_map (λ table. table.now) table)) (W.state out.old) (W.state out.new) }
+{
+    match named {
+        Named::ByNumber => out.put(b""),
+        Named::ByName { port, tide } => match table {
+            Some(table) => put_table(out, port, tide, Some(table.as_slice())),
+            None => put_table(out, port, tide, None),
+        },
     }
 }

@@ -1,0 +1,220 @@
+//! A ship that sails in a slot.
+
+ghost use Rattle.std.specs.Prelude.{◌≡◌, ◌<◌, ◌≤◌, ◌+◌, ◌*◌, pos, length, IfSome};
+ghost use Rattle.hw_desk.specs.Writers.{Puts};
+ghost use Rattle.hw_port.specs.Kept.{PassKept, PortKept, ShipKept, Within};
+ghost use Rattle.hw_port_rules.specs.Drafts.{allowed, sailing, value};
+ghost use Rattle.csv.specs.Writing.{default_writer, fields_text};
+ghost use Rattle.hw_table.specs.Fields.{field_of};
+ghost use Rattle.hw_table.specs.Passes.{clearance_of, limit_name, offset_at};
+ghost use Rattle.hw_table.specs.Sailings.{figure_fields, keel_of, limit_of, pass_fields, pass_text, sailing_fields, time_text};
+
+use crate::field::{Field, put_fields, put_next};
+use crate::passes::{keel_at, limiting_pass, natural, offset_at, waypoint_name};
+use hw_desk::Writer;
+use hw_model::{MOST_SLOTS, ShipId, Slot};
+use hw_port::{Pass, Port, PortParts, Ship, Waypoint};
+use hw_tide::Tide;
+use std::marker::Model;
+
+/// A ship of a port with its number, a slot in which it sails, and the tide.
+#[derive(Drop)]
+pub struct Sailing<'p> {
+    pub port: &'p Port,
+    pub tide: &'p Tide,
+    pub number: ShipId,
+    pub ship: &'p Ship,
+    pub slot: Slot,
+}
+
+impl<'p> Model for Sailing<'p> {
+    ghost use Rattle.hw_table.specs.Sailings.{IsSailing, SailingParts};
+
+    ghost Value = { SailingParts };
+
+    ghost view = { λ a. record { port = a.port.now; tide = a.tide.now; number = a.number; ship = a.ship.now; slot = a.slot } };
+
+    ghost invariant = { λ a. IsSailing (record { port = a.port.now; tide = a.tide.now; number = a.number; ship = a.ship.now; slot = a.slot }) };
+}
+
+/// When a slot begins: minutes from the beginning of slot 0.
+fn time(parts: &PortParts, slot: Slot) -> Field<'static>
+    requires { PortKept parts.now }
+    ensures { field_of result ≡ time_text parts.now slot }
+{
+    Field::Number(u64::from(slot) * u64::from(natural(parts.slot_minutes)))
+}
+
+/// The name of a pass's waypoint.
+fn limit_name(parts: &PortParts, limit: Option<Pass>) -> Field<'_>
+    requires kept { PortKept parts.now }
+    requires limit { IfSome limit (PassKept (pos (length parts.now.waypoints))) }
+    ensures { field_of result ≡ limit_name parts.now limit }
+{
+    match limit {
+        Some(pass) => Field::Text(waypoint_name(parts, natural(pass.waypoint))),
+        None => Field::Text(b""),
+    }
+}
+
+/// The clearance of a pass.
+fn clearance_of(limit: Option<Pass>) -> Option<i64>
+    ensures { result ≡ clearance_of limit }
+{
+    match limit {
+        Some(pass) => Some(pass.clearance),
+        None => None,
+    }
+}
+
+/// When a pass is made that comes so many slots after sailing.
+fn pass_time(parts: &PortParts, slot: Slot, offset: Option<u32>) -> Field<'static>
+    requires kept { PortKept parts.now }
+    requires slot { slot ≤ MOST_SLOTS }
+    requires few { IfSome offset (λ offset. offset ≤ 1_023) }
+    ensures { field_of result ≡ pass_text parts.now slot offset }
+{
+    match offset {
+        Some(offset) => time(parts, slot + offset),
+        None => Field::Text(b""),
+    }
+}
+
+impl Sailing<'_> {
+    /// The parts of the port.
+    fn parts(&self) -> &PortParts
+        ensures parts { result.now ≡ self.now.port }
+        ensures kept { PortKept result.now }
+        ensures columns { self.now.tide.columns ≡ length result.now.waypoints }
+    {
+        self.port.parts()
+    }
+
+    /// The ship.
+    fn ship(&self) -> &Ship
+        ensures value { result.now ≡ self.now.ship }
+        ensures kept { ShipKept self.now.port result.now }
+    {
+        self.ship
+    }
+
+    /// The slot.
+    fn slot(&self) -> Slot
+        ensures value { result ≡ self.now.slot }
+        ensures few { result < MOST_SLOTS }
+    {
+        let _few = self.parts();
+        self.slot
+    }
+
+    /// The draft at which the ship sails, or none where it may not.
+    fn draft(&self) -> Option<i64>
+        ensures value { result ≡ sailing self.now.port self.now.tide self.now.number self.now.slot }
+        ensures kept { IfSome result (Within (pos 0) (pos 10_000)) }
+    {
+        let port = self.port;
+        let _kept = port.parts();
+        hw_draft::sailing(port, self.tide, self.number, self.slot)
+    }
+
+    /// The draft that the water allows it, or none where that isn't known.
+    fn allowed(&self) -> Option<i64>
+        ensures { result ≡ allowed self.now.port self.now.tide self.now.number self.now.slot }
+    {
+        hw_draft::draft(self.port, self.tide, self.number, self.slot)
+    }
+
+    /// What it carries, or none where it may not sail.
+    fn cargo(&self) -> Option<u64>
+        ensures { result ≡ value self.now.port self.now.tide self.now.number self.now.slot }
+    {
+        hw_draft::value(self.port, self.tide, self.number, self.slot)
+    }
+
+    /// The pass that leaves just the allowed draft.
+    fn limit(&self) -> Option<Pass>
+        ensures value { result ≡ limit_of self.now }
+        ensures kept { IfSome result (PassKept (pos (length self.now.port.waypoints))) }
+    {
+        match self.allowed() {
+            Some(draft) => limiting_pass(
+                self.parts(),
+                self.tide,
+                self.slot(),
+                draft,
+                &self.ship().route,
+            ),
+            None => None,
+        }
+    }
+
+    /// The water under the keel at that pass.
+    fn keel(&self) -> Option<i64>
+        ensures { result ≡ keel_of self.now }
+    {
+        keel_at(
+            self.parts(),
+            self.tide,
+            self.slot(),
+            self.draft(),
+            self.limit(),
+        )
+    }
+}
+
+/// Puts the fields of a sailing but those of its passes.
+fn put_figures<W: Writer>(out: &mut W, sailing: &Sailing)
+    ensures { Puts (fields_text default_writer (figure_fields sailing.now)) (W.state out.old) (W.state out.new) }
+{
+    let parts = sailing.parts();
+    let limit = sailing.limit();
+    put_fields(
+        out,
+        &[
+            Field::Number(u64::from(sailing.slot())),
+            time(parts, sailing.slot()),
+            Field::Centimetres(sailing.draft()),
+            Field::Centimetres(sailing.allowed()),
+            limit_name(parts, limit),
+            Field::Centimetres(sailing.keel()),
+            Field::Centimetres(clearance_of(limit)),
+            Field::Tonnes(sailing.cargo()),
+        ],
+    );
+}
+
+/// When a ship first passes a waypoint.
+fn passes_at(sailing: &Sailing, place: u32) -> Field<'static>
+    ensures { field_of result ≡ pass_text sailing.now.port sailing.now.slot (offset_at sailing.now.ship.route place) }
+{
+    let parts = sailing.parts();
+    let offset = offset_at(parts.waypoints.len(), &sailing.ship().route, place);
+    pass_time(parts, sailing.slot(), offset)
+}
+
+/// Puts a field for each waypoint from a place on.
+#[tactic(auto, unfolding(csv::specs::Writing::fields_text))]
+fn put_passes<W: Writer>(out: &mut W, sailing: &Sailing, place: u32, waypoints: &[Waypoint])
+    requires { place + length waypoints.now ≤ 16 }
+    ensures { Puts (fields_text default_writer (pass_fields sailing.now place waypoints.now)) (W.state out.old) (W.state out.new) }
+{
+    if let [_, more @ ..] = waypoints {
+        put_next(out, passes_at(sailing, place));
+        put_passes(out, sailing, place + 1, more);
+    }
+}
+
+/// Puts a field for each waypoint.
+fn put_all_passes<W: Writer>(out: &mut W, sailing: &Sailing)
+    ensures { Puts (fields_text default_writer (pass_fields sailing.now 0 sailing.now.port.waypoints)) (W.state out.old) (W.state out.new) }
+{
+    put_passes(out, sailing, 0, &sailing.parts().waypoints);
+}
+
+/// Puts the fields of a sailing.
+pub fn put_sailing<W: Writer>(out: &mut W, sailing: &Sailing)
+    ensures { Puts (fields_text default_writer (sailing_fields sailing.now)) (W.state out.old) (W.state out.new) }
+{
+    put_figures(out, sailing);
+    put_all_passes(out, sailing);
+}
