@@ -5,7 +5,6 @@
 
 With the path of a built program the made instance is planned too, and the limits of the schema are those of the program.
 """
-import copy
 import csv
 import glob
 import io
@@ -34,7 +33,7 @@ def text_of(name):
 SHIPS = text_of("ships.csv")
 BASE = text_of("port.json")
 DAY = json.loads(text_of("day.json"))
-# The same day in version 3, with an item in each list.
+# The same day in version 3, with an item in each list. The lists share it, so a test that changes one copies all by JSON.
 CLOSED = [{"from": 0, "to": 0}]
 DAY_3 = {**DAY, "version": 3, "start": "2027-03-27 00:00", "heights": "start", "closed": CLOSED,
          "waypoints": [{**point, "closed": CLOSED} for point in DAY["waypoints"]],
@@ -364,7 +363,7 @@ class Schema(unittest.TestCase):
         port.check(DAY_3, port.SCHEMA)
         for place in ["start", "heights", "closed", "after", "waypoints.0.closed", "ships.0.closed", "ships.0.may_stay"]:
             *front, last = [int(word) if word.isdigit() else word for word in place.split(".")]
-            instance = copy.deepcopy(DAY_3)
+            instance = json.loads(json.dumps(DAY_3))
             item = instance
             for word in front:
                 item = item[word]
@@ -387,7 +386,7 @@ class Schema(unittest.TestCase):
 
     def out_of_range(self, place, number):
         """Whether the program finds this number out of its range there."""
-        instance = copy.deepcopy(DAY_3)
+        instance = json.loads(json.dumps(DAY_3))
         *front, last = [int(word) if word.isdigit() else word for word in place.split(".")]
         item = instance
         for word in front:

@@ -79,7 +79,7 @@ fn put_listing<W: Writer>(out: &mut W, listing: Listing)
 /// Puts the table of a port's plan; of a flat text nothing.
 fn put_plan<W: Writer>(out: &mut W, named: &Named, table: Option<&Timetable>)
     requires { HasTable named.now }
-    ensures { Puts (table_of (naming_of named.now) (option_map (λ table. table.now) table)) (W.state out.old) (W.state out.new) }
+    ensures { Puts (table_of (naming_of named.now) (option_map (λ table. table.now) table.entry)) (W.state out.old) (W.state out.new) }
 {
     match named {
         Named::ByNumber => out.put(b""),

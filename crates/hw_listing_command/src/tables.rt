@@ -59,7 +59,7 @@ fn send_table<D: Desk>(
     verdict: Verdict,
 ) -> Status
     requires { HasTable named.now }
-    ensures { Ends (picture verdict (table_of (naming_of named.now) (option_map (λ table. table.now) table)) ∷ []) (D.state desk.old) (D.state desk.new) result }
+    ensures { Ends (picture verdict (table_of (naming_of named.now) (option_map (λ t. t.now) table.entry)) ∷ []) (D.state desk.old) (D.state desk.new) result }
 {
     match send_listing(desk, Listing::Table { named, table }) {
         Ok(()) => status_of_verdict(verdict),

@@ -20,4 +20,4 @@ pub send_table-requires : goal.send_table-requires
 send_table-requires g c = has_table _ _ c.in-Ok.ensures.given.printable
 
 pub returns : goal.returns
-returns g c = table_sent (topic_seen c.args.subject) c.in-Shows.verdict c.in-Shows.is c.in-Ok.ensures.given (rw c.searched.ensures at c.in-Ok-read_cert.ensures) c.send_table.ensures
+returns g c = table_sent (topic_seen c.args.subject) c.in-Shows.verdict c.in-Shows.is c.in-Ok.ensures.given (rw c.searched.ensures at c.in-Ok-read_cert.ensures) (rw c.as_ref.ensures.value at c.send_table.ensures)
