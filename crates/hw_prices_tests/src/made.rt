@@ -51,7 +51,7 @@ fn is_best(alloc: Global, flat: &Flat, carried: Option<u64>) -> Result<bool, Fai
     }
 }
 
-/// Whether at least a fifth of what is made of problems from a number on is best.
+/// Whether at least a tenth of what is made of problems from a number on is best; some of them permit nothing.
 fn serve(rt: &impl Abort, alloc: Global, first: u32, ranking: Ranking) -> Result<(), Fail> {
     let mut best = 0u32;
     for count in 0..MANY {
@@ -61,7 +61,7 @@ fn serve(rt: &impl Abort, alloc: Global, first: u32, ranking: Ranking) -> Result
             best = best.saturating_add(1);
         }
     }
-    assert!(rt; MANY <= best.saturating_mul(5), "{best}");
+    assert!(rt; MANY <= best.saturating_mul(10), "{best}");
     Ok(())
 }
 
