@@ -1,10 +1,20 @@
 -- Numbers call for no quotes.
-use Rattle.std.proofs.Common.{◌≡◌, ◌<◌, ◌+◌, ◌%◌, ◌/◌, ◌∙◌, ◌++◌, ◌==◌, ◌||◌, ℕ, zero, suc, ℤ, pos, negsuc, Bool, true, false, cond, List, [], ◌∷◌, codes, decimal, refl, arith}
+use Rattle.std.proofs.Common.{◌≡◌, ◌<◌, ◌≤◌, ◌+◌, ◌*◌, ◌%◌, ◌/◌, ◌∙◌, ◌++◌, ◌==◌, ◌||◌, ℕ, zero, suc, ℤ, pos, negsuc, Bool, true, false, cond, List, [], ◌∷◌, codes, decimal, Option, Some, None, IfSome, refl, sym, ap, arith}
 use Rattle.std.specs.Fmt.{digit_glyph, digits, digits_onto, signed_decimal}
 use Rattle.std.proofs.lemmas.Bool.{lt-ltb, ne_eqb}
 use Rattle.std.proofs.lemmas.List.Folds.{list_any-append}
 use Rattle.csv.specs.Writing.{default_writer, field_text, needs_byte, needs_quotes, quoted}
+use Rattle.hw_port.specs.Kept.{IsStart}
+use Rattle.hw_port.specs.Whole.{Parts}
+use Rattle.hw_port_rules.specs.Numbers.{whole}
+use Rattle.hw_dates.specs.declared.moment.Moment.{Moment}
+use Rattle.hw_dates.specs.Moments.{IsMoment, moment_after, start_of}
+use Rattle.hw_dates.specs.Texts.{clock_text, date_text, moment_text, two_digits}
+use Rattle.hw_dates.proofs.Days.{size_most, within}
+use Rattle.hw_dates.proofs.Moments.{counts_law}
+use Rattle.hw_dates.proofs.Texts.{start_kept}
 use Rattle.hw_table.specs.Fields.{tonnes_text}
+use Rattle.hw_table.specs.Sailings.{minutes_text, time_text}
 
 -- none of the bytes calls for quotes
 abbrev pub IsPlain : List ℕ → Type 0
@@ -60,3 +70,36 @@ signed_as_it_is (negsuc n) = as_it_is (45 ∷ decimal (suc n)) (plain_on (45 ∷
 
 pub tonnes_as_they_are : (t : ℕ) → field_text default_writer (tonnes_text t) ≡ tonnes_text t
 tonnes_as_they_are t = as_it_is (tonnes_text t) (plain_on (decimal (t / 10)) (codes "." ++ decimal (t % 10)) (plain_decimal (t / 10)) (plain_on (codes ".") (decimal (t % 10)) refl (plain_decimal (t % 10))))
+
+-- ---- dates
+
+pair : (n : ℕ) → n < 100 → IsPlain (two_digits n)
+pair n lt = plain_on ((48 + n / 10) ∷ []) ((48 + n % 10) ∷ []) (digit (n / 10) (omega (arith, lt))) (digit (n % 10) (omega arith))
+
+moment_plain : (m : Moment) → IsMoment m → IsPlain (moment_text m)
+moment_plain m is =
+    let w = within m.date.year m.date.month m.date.day is.date in
+    let hour = is.hour in
+    let minute = is.minute in
+    let last = w.last in
+    plain_on (date_text m.date) (codes " " ++ clock_text m)
+    (plain_on (decimal m.date.year) (codes "-" ++ (two_digits m.date.month ++ (codes "-" ++ two_digits m.date.day))) (plain_decimal m.date.year)
+    (plain_on (codes "-") (two_digits m.date.month ++ (codes "-" ++ two_digits m.date.day)) refl
+    (plain_on (two_digits m.date.month) (codes "-" ++ two_digits m.date.day) (pair m.date.month (omega (arith, last)))
+    (plain_on (codes "-") (two_digits m.date.day) refl (pair m.date.day (below w.ends (size_most m.date.year m.date.month)))))))
+    (plain_on (codes " ") (clock_text m) refl
+    (plain_on (two_digits m.hour) (codes ":" ++ two_digits m.minute) (pair m.hour (omega (arith, hour))) (plain_on (codes ":") (two_digits m.minute) refl (pair m.minute (omega (arith, minute))))))
+  where
+    below : {a b : ℕ} → a ≤ b → b ≤ 31 → a < 100
+    below p q = omega (arith, p, q)
+
+minutes_as_they_are : (start : Option (List ℕ)) (minutes : ℕ) → IfSome start IsStart → field_text default_writer (minutes_text start minutes) ≡ minutes_text start minutes
+minutes_as_they_are None minutes is = number_as_it_is minutes
+minutes_as_they_are (Some start) minutes is = as_it_is (moment_text (moment_after start minutes)) (moment_plain (moment_after start minutes) (counts_law (start_of start) minutes (start_kept start is)).moment)
+
+-- a slot's time after a comma
+pub time_as_it_is : (p : Parts) (start : Option (List ℕ)) (slot minutes : ℕ) → start ≡ p.start → IfSome p.start IsStart → minutes ≡ slot * whole p.slot_minutes → codes "," ++ field_text default_writer (time_text p slot) ≡ codes "," ++ minutes_text start minutes
+time_as_it_is p start slot minutes from is same =
+    let plain : field_text default_writer (time_text p slot) ≡ time_text p slot = minutes_as_they_are p.start (slot * whole p.slot_minutes) is in
+    let long : time_text p slot ≡ minutes_text start minutes = λ i. minutes_text (sym from i) (sym same i) in
+    ap (λ t. 44 ∷ t) (plain ∙ long)

@@ -1,5 +1,5 @@
 -- The text of a record, part by part.
-use Rattle.std.proofs.Common.{◌≡◌, ◌==◌, ◌<◌, ◌≤◌, ◌+◌, ◌-◌, ◌∙◌, ◌++◌, ℕ, zero, suc, Bool, true, false, cond, List, [], ◌∷◌, map, length, drop, get_or, codes, add-one, append_assoc, append-nil, refl, sym, ap, arith}
+use Rattle.std.proofs.Common.{◌≡◌, ◌==◌, ◌<◌, ◌≤◌, ◌+◌, ◌-◌, ◌∙◌, ◌++◌, ℕ, zero, suc, Bool, true, false, cond, List, [], ◌∷◌, map, length, drop, get_or, codes, decimal, add-one, append_assoc, append-nil, refl, sym, ap, arith}
 use Rattle.std.proofs.Math.ListN.{drop_of_length-le}
 use Rattle.std.proofs.Math.Seq.{drop-cons}
 use Rattle.csv.specs.Writing.{default_writer, escaped, field_text, fields_text, is_blank, row_text}
@@ -9,6 +9,7 @@ use Rattle.hw_tide.specs.Levels.{TideParts}
 use Rattle.hw_port.specs.Parts.{ShipParts}
 use Rattle.hw_port_rules.specs.Numbers.{horizon_of}
 use Rattle.hw_table.specs.Entries.{Entry, entries, entries_from, entries_in, entry, entry_in, has_slot}
+use Rattle.hw_table.specs.Sailings.{SailingParts, figure_fields, time_text, water_fields}
 use Rattle.hw_table.specs.Tables.{PlanParts, columns_text, empty_fields, header, records_text, ship_record, slot_text, slots_text}
 
 -- some fields and then others
@@ -30,6 +31,10 @@ record_is x n d course =
 pub header_is : (p : Parts) → row_text default_writer (header p) ≡ columns_text ++ (fields_text default_writer (map (λ w. w.name) p.waypoints) ++ codes "\n")
 unfolding fields_text is_blank
 header_is p = refl
+
+pub figures_is : (a : SailingParts) → fields_text default_writer (figure_fields a) ≡ (codes "," ++ field_text default_writer (decimal a.slot)) ++ ((codes "," ++ field_text default_writer (time_text a.port a.slot)) ++ fields_text default_writer (water_fields a))
+unfolding fields_text
+figures_is a = refl
 
 pub stays_is : (waypoints : List Waypoint) → fields_text default_writer (empty_fields waypoints) ≡ codes ",,,,,,,," ++ fields_text default_writer (map (λ w. []) waypoints)
 unfolding fields_text

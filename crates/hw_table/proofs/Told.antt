@@ -1,5 +1,5 @@
 -- What is told of a ship is true of it by the port's rules.
-use Rattle.std.proofs.Common.{◌≡◌, ◌⊎◌, ◌∙◌, ◌<◌, ℕ, zero, suc, ℤ, ◌≤ℤ◌, ◌+ℤ◌, ◌-ℤ◌, int_lt, nat_lt, Bool, true, false, cond, List, [], ◌∷◌, length, map, decimal, Contains, Option, Some, None, IsSome, option_map, option_and_then, slice_get, get_or, refl, ap, inl, inr, arith}
+use Rattle.std.proofs.Common.{◌≡◌, ◌⊎◌, ◌∙◌, ◌<◌, ◌*◌, ℕ, zero, suc, ℤ, ◌≤ℤ◌, ◌+ℤ◌, ◌-ℤ◌, int_lt, nat_lt, Bool, true, false, cond, List, [], ◌∷◌, length, map, decimal, Contains, Option, Some, None, IsSome, option_map, option_and_then, slice_get, get_or, refl, ap, inl, inr, arith}
 use Rattle.std.proofs.lemmas.Bool.{le-ltb}
 use Rattle.std.proofs.lemmas.Bool.Decides.{Decides-int_eq}
 use Rattle.std.proofs.lemmas.Int.{ints}
@@ -11,14 +11,25 @@ use Rattle.hw_port.specs.Whole.{Parts}
 use Rattle.hw_tide.specs.Levels.{TideParts}
 use Rattle.hw_port_laws.proofs.Drafts.{least_draft_law}
 use Rattle.hw_port_laws.proofs.Eachs.{Each, all_of_each}
-use Rattle.hw_port_rules.specs.Numbers.{horizon_of, is_outgoing}
+use Rattle.hw_port_rules.specs.Numbers.{horizon_of, is_outgoing, whole}
 use Rattle.hw_port_rules.specs.Drafts.{allowed, allowed_draft, carried, depth_of, draft_at, floating, height_of, may_sail, loaded, sailing, sailing_draft, ship_value, value}
 use Rattle.hw_port_rules.specs.Permitted.{Stays}
+use Rattle.hw_dates.specs.Moments.{moment_after, start_of}
+use Rattle.hw_dates.proofs.Moments.{counts_law}
+use Rattle.hw_dates.proofs.Texts.{start_kept}
 use Rattle.hw_table.specs.Fields.{centimetres, tonnes}
-use Rattle.hw_table.specs.Laws.{IsToldOf, RecordsAreTrue}
+use Rattle.hw_table.specs.Laws.{IsToldOf, RecordsAreTrue, TimesAreTrue}
 use Rattle.hw_table.specs.Passes.{clearance_of, keel_at, leaves_just, limit_name, limiting_pass, under_keel}
-use Rattle.hw_table.specs.Sailings.{figure_fields, limit_of, sailing_fields, time_text}
+use Rattle.hw_table.specs.Sailings.{figure_fields, limit_of, minutes_text, sailing_fields, time_text}
 use Rattle.hw_table.specs.Tables.{course_fields, empty_fields, sailing_in}
+
+-- ---- when
+
+pub times_law : TimesAreTrue
+times_law = record {
+  dated = λ p slot start is kept. let c = counts_law (start_of start) (slot * whole p.slot_minutes) (start_kept start kept) in record { moment = moment_after start (slot * whole p.slot_minutes); exists = c.moment; later = c.count; written = ap (λ o. minutes_text o (slot * whole p.slot_minutes)) is };
+  counted = λ p slot is. ap (λ o. minutes_text o (slot * whole p.slot_minutes)) is;
+}
 
 -- ---- the pass that limits
 

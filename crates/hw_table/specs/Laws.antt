@@ -1,9 +1,10 @@
 -- What a table says, in the words of the port's rules.
-use Rattle.std.specs.Prelude.{◌≡◌, ◌↔◌, ◌⊎◌, ℕ, ◌<◌, ℤ, ◌≤ℤ◌, List, [], ◌∷◌, length, map, All, Contains, Option, Some, None, decimal, ⊤}
+use Rattle.std.specs.Prelude.{◌≡◌, ◌↔◌, ◌⊎◌, ℕ, ◌<◌, ◌+◌, ◌*◌, ℤ, ◌≤ℤ◌, List, [], ◌∷◌, length, map, All, Contains, Option, Some, None, decimal, ⊤}
 use Rattle.std.specs.Fmt.{signed_decimal}
 use Rattle.csv.specs.Reading.{AreRecords, default_config, strip_bom}
 use Rattle.csv.specs.declared.parser.State.TheVariants as st
 use Rattle.hw_port.specs.declared.parts.Pass.{Pass}
+use Rattle.hw_port.specs.Kept.{IsStart}
 use Rattle.hw_port.specs.Parts.{ShipParts}
 use Rattle.hw_port.specs.Whole.{Parts}
 use Rattle.hw_tide.specs.Levels.{TideParts}
@@ -11,6 +12,9 @@ use Rattle.hw_port_rules.specs.Numbers.{whole}
 use Rattle.hw_port_rules.specs.Drafts.{draft_at, IsAllowedDraft, sailing_draft, ship_value}
 use Rattle.hw_port_rules.specs.Permitted.{PortPermits, Stays}
 use Rattle.hw_port_rules.specs.Timetables.{IsGiven, IsPortTimetable, SailsIn}
+use Rattle.hw_dates.specs.declared.moment.Moment.{Moment}
+use Rattle.hw_dates.specs.Moments.{IsMoment, minutes_of, start_of}
+use Rattle.hw_dates.specs.Texts.{moment_text}
 use Rattle.hw_table.specs.Entries.{Entry, entries}
 use Rattle.hw_table.specs.Fields.{tonnes_text}
 use Rattle.hw_table.specs.Passes.{under_keel, waypoint_name}
@@ -47,6 +51,20 @@ InOrder (e ∷ more) = All (Precedes e) more × InOrder more
 pub record ShipsInOrder : Type 0 where
   pub ordered : (p : Parts) (table : List ℕ) → InOrder (entries p table)
   pub told : (p : Parts) (table : List ℕ) (e : Entry) → IsPortTimetable p table → (Contains (entries p table) e ↔ IsGiven p table e.number e.ship e.slot)
+
+-- ---- when
+
+-- a text is that of the date and time that stands some minutes after a start
+pub record IsDated (start : List ℕ) (minutes : ℕ) (text : List ℕ) : Type 0 where
+  pub moment : Moment
+  pub exists : IsMoment moment
+  pub later : minutes_of moment ≡ minutes_of (start_of start) + minutes
+  pub written : text ≡ moment_text moment
+
+-- a slot begins as many minutes after slot 0 as the slots before it have: told from the start of slot 0, or as a number where the port doesn't say when this is
+pub record TimesAreTrue : Type 0 where
+  pub dated : (p : Parts) (slot : ℕ) (start : List ℕ) → p.start ≡ Some start → IsStart start → IsDated start (slot * whole p.slot_minutes) (time_text p slot)
+  pub counted : (p : Parts) (slot : ℕ) → p.start ≡ None → time_text p slot ≡ decimal (slot * whole p.slot_minutes)
 
 -- ---- what is told of a ship
 

@@ -76,6 +76,10 @@ head_line = codes "ship,name,direction,slot,time,draft cm,allowed draft cm,limit
 abbrev pub Tells : ℕ → ℕ → List ℕ → Type 0
 Tells first second text = table_text (port (pos 1_150)) tide (Some (first ∷ second ∷ [])) ≡ head_line ++ text
 
+-- the same where the port says when slot 0 begins
+abbrev pub dated : Parts
+dated = record (port (pos 1_150)) { version = pos 3; start = Some (codes "2027-12-31 23:00") }
+
 -- what these definitions say of them
 pub record TableRows : Type 0 where
   -- fields
@@ -98,4 +102,6 @@ pub record TableRows : Type 0 where
   pub stays : Tells 6 4 (codes "1,Gull,incoming,4,120,1100,1120,Bar,120,100,0.0,180,120\n0,Ada,outgoing,,,,,,,,,,\n")
   -- the water is too shallow for her in this slot
   pub too_shallow : Tells 4 2 (codes "1,Gull,incoming,2,60,1100,1140,Bar,140,100,0.0,120,60\n0,Ada,outgoing,4,120,,1040,Bar,,100,,120,150\n")
+  -- over the end of a year
+  pub new_year : table_text dated tide (Some (2 ∷ 4 ∷ [])) ≡ head_line ++ codes "0,Ada,outgoing,2,2028-01-01 00:00,1150,1160,Bar,110,100,1000.0,2028-01-01 00:00,2028-01-01 00:30\n1,Gull,incoming,4,2028-01-01 01:00,1100,1120,Bar,120,100,0.0,2028-01-01 02:00,2028-01-01 01:00\n"
   pub no_plan : table_text (port (pos 1_150)) tide None ≡ head_line

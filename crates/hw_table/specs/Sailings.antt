@@ -8,6 +8,8 @@ use Rattle.hw_port.specs.Whole.{Parts}
 use Rattle.hw_tide.specs.Levels.{TideParts}
 use Rattle.hw_port_rules.specs.Numbers.{horizon_of, whole}
 use Rattle.hw_port_rules.specs.Drafts.{allowed, sailing, value}
+use Rattle.hw_dates.specs.Moments.{moment_after}
+use Rattle.hw_dates.specs.Texts.{moment_text}
 use Rattle.hw_table.specs.Fields.{centimetres, tonnes}
 use Rattle.hw_table.specs.Passes.{clearance_of, keel_at, limit_name, limiting_pass, offset_at}
 
@@ -26,9 +28,14 @@ pub record IsSailing (a : SailingParts) : Type 0 where
   pub inside : a.slot < horizon_of a.port
   pub columns : a.tide.columns ≡ length a.port.waypoints
 
--- when a slot begins: minutes from the beginning of slot 0
+-- what time it is some minutes after the beginning of slot 0: the date and time where the port says when that is, else the minutes
+abbrev pub minutes_text : Option (List ℕ) → ℕ → List ℕ
+minutes_text None minutes = decimal minutes
+minutes_text (Some start) minutes = moment_text (moment_after start minutes)
+
+-- when a slot begins
 abbrev pub time_text : Parts → ℕ → List ℕ
-time_text p slot = decimal (slot * whole p.slot_minutes)
+time_text p slot = minutes_text p.start (slot * whole p.slot_minutes)
 
 -- ---- what limits the draft
 
@@ -45,20 +52,27 @@ abbrev pub pass_text : Parts → ℕ → Option ℕ → List ℕ
 pass_text p slot None = []
 pass_text p slot (Some offset) = time_text p (slot + offset)
 
+-- when a ship first passes a waypoint
+abbrev pub passed_text : SailingParts → ℕ → List ℕ
+passed_text a place = pass_text a.port a.slot (offset_at a.ship.route place)
+
 -- one field for each waypoint, from this place on
 abbrev pub pass_fields : SailingParts → ℕ → List Waypoint → List (List ℕ)
 pass_fields a place [] = []
-pass_fields a place (waypoint ∷ more) = pass_text a.port a.slot (offset_at a.ship.route place) ∷ pass_fields a (place + 1) more
+pass_fields a place (waypoint ∷ more) = passed_text a place ∷ pass_fields a (place + 1) more
 
 -- ---- the fields
 
--- the slot and when it begins, the sailing draft and the allowed one, the waypoint that limits it, the water under the keel there and how much there must be, and the cargo
-abbrev pub figure_fields : SailingParts → List (List ℕ)
-figure_fields a =
-    decimal a.slot ∷ time_text a.port a.slot
-    ∷ centimetres (sailing a.port a.tide a.number a.slot) ∷ centimetres (allowed a.port a.tide a.number a.slot)
+-- the sailing draft and the allowed one, the waypoint that limits it, the water under the keel there and how much there must be, and the cargo
+abbrev pub water_fields : SailingParts → List (List ℕ)
+water_fields a =
+    centimetres (sailing a.port a.tide a.number a.slot) ∷ centimetres (allowed a.port a.tide a.number a.slot)
     ∷ limit_name a.port (limit_of a) ∷ centimetres (keel_of a) ∷ centimetres (clearance_of (limit_of a))
     ∷ tonnes (value a.port a.tide a.number a.slot) ∷ []
+
+-- before these the slot and when it begins
+abbrev pub figure_fields : SailingParts → List (List ℕ)
+figure_fields a = decimal a.slot ∷ time_text a.port a.slot ∷ water_fields a
 
 -- and when each waypoint is passed
 abbrev pub sailing_fields : SailingParts → List (List ℕ)

@@ -1,6 +1,6 @@
 //! What the table says.
 
-ghost use Rattle.hw_table.specs.Laws.{RecordsAreTrue, SameColumns, ShipsInOrder, TableReadsBack};
+ghost use Rattle.hw_table.specs.Laws.{RecordsAreTrue, SameColumns, ShipsInOrder, TableReadsBack, TimesAreTrue};
 ghost use Rattle.hw_table.specs.Rows.{TableRows};
 
 /// What a reader of CSV reads is the header and the ships' records, whatever commas and quotes are in the names.
@@ -22,6 +22,12 @@ pub fn ships_in_order()
 /// that limits this, with the clearance there, which is kept, and its cargo. That of a ship that stays has empty fields.
 pub fn records_are_true()
     ensures { RecordsAreTrue }
+{}
+
+/// The time of a slot is the date and time that stands its minutes after the start of slot 0, where the port gives that, and
+/// otherwise the number of its minutes.
+pub fn times_are_true()
+    ensures { TimesAreTrue }
 {}
 
 /// Worked rows: plans of a small port with its tide.

@@ -10,6 +10,9 @@ mod passes;
 mod record;
 mod sailing;
 mod table;
+mod time;
 
-pub use laws::{records_are_true, same_columns, ships_in_order, table_reads_back, table_rows};
+pub use laws::{
+    records_are_true, same_columns, ships_in_order, table_reads_back, table_rows, times_are_true,
+};
 pub use table::put_table;

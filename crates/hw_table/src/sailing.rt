@@ -1,16 +1,17 @@
 //! A ship that sails in a slot.
 
-ghost use Rattle.std.specs.Prelude.{◌≡◌, ◌<◌, ◌≤◌, ◌+◌, ◌*◌, pos, length, IfSome};
+ghost use Rattle.std.specs.Prelude.{◌≡◌, ◌<◌, ◌≤◌, ◌+◌, ◌++◌, codes, decimal, pos, length, IfSome};
 ghost use Rattle.hw_desk.specs.Writers.{Puts};
 ghost use Rattle.hw_port.specs.Kept.{PassKept, PortKept, ShipKept, Within};
 ghost use Rattle.hw_port_rules.specs.Drafts.{allowed, sailing, value};
-ghost use Rattle.csv.specs.Writing.{default_writer, fields_text};
+ghost use Rattle.csv.specs.Writing.{default_writer, field_text, fields_text};
 ghost use Rattle.hw_table.specs.Fields.{field_of};
-ghost use Rattle.hw_table.specs.Passes.{clearance_of, limit_name, offset_at};
-ghost use Rattle.hw_table.specs.Sailings.{figure_fields, keel_of, limit_of, pass_fields, pass_text, sailing_fields, time_text};
+ghost use Rattle.hw_table.specs.Passes.{clearance_of, limit_name};
+ghost use Rattle.hw_table.specs.Sailings.{figure_fields, keel_of, limit_of, pass_fields, passed_text, sailing_fields, time_text, water_fields};
 
 use crate::field::{Field, put_fields, put_next};
 use crate::passes::{keel_at, limiting_pass, natural, offset_at, waypoint_name};
+use crate::time::{put_pass_time, put_time};
 use hw_desk::Writer;
 use hw_model::{MOST_SLOTS, ShipId, Slot};
 use hw_port::{Pass, Port, PortParts, Ship, Waypoint};
@@ -37,14 +38,6 @@ impl<'p> Model for Sailing<'p> {
     ghost invariant = { λ a. IsSailing (record { port = a.port.now; tide = a.tide.now; number = a.number; ship = a.ship.now; slot = a.slot }) };
 }
 
-/// When a slot begins: minutes from the beginning of slot 0.
-fn time(parts: &PortParts, slot: Slot) -> Field<'static>
-    requires { PortKept parts.now }
-    ensures { field_of result ≡ time_text parts.now slot }
-{
-    Field::Number(u64::from(slot) * u64::from(natural(parts.slot_minutes)))
-}
-
 /// The name of a pass's waypoint.
 fn limit_name(parts: &PortParts, limit: Option<Pass>) -> Field<'_>
     requires kept { PortKept parts.now }
@@ -64,19 +57,6 @@ fn clearance_of(limit: Option<Pass>) -> Option<i64>
     match limit {
         Some(pass) => Some(pass.clearance),
         None => None,
-    }
-}
-
-/// When a pass is made that comes so many slots after sailing.
-fn pass_time(parts: &PortParts, slot: Slot, offset: Option<u32>) -> Field<'static>
-    requires kept { PortKept parts.now }
-    requires slot { slot ≤ MOST_SLOTS }
-    requires few { IfSome offset (λ offset. offset ≤ 1_023) }
-    ensures { field_of result ≡ pass_text parts.now slot offset }
-{
-    match offset {
-        Some(offset) => time(parts, slot + offset),
-        None => Field::Text(b""),
     }
 }
 
@@ -162,17 +142,15 @@ impl Sailing<'_> {
     }
 }
 
-/// Puts the fields of a sailing but those of its passes.
-fn put_figures<W: Writer>(out: &mut W, sailing: &Sailing)
-    ensures { Puts (fields_text default_writer (figure_fields sailing.now)) (W.state out.old) (W.state out.new) }
+/// Puts what the water allows a ship, and its cargo.
+fn put_water<W: Writer>(out: &mut W, sailing: &Sailing)
+    ensures { Puts (fields_text default_writer (water_fields sailing.now)) (W.state out.old) (W.state out.new) }
 {
     let parts = sailing.parts();
     let limit = sailing.limit();
     put_fields(
         out,
         &[
-            Field::Number(u64::from(sailing.slot())),
-            time(parts, sailing.slot()),
             Field::Centimetres(sailing.draft()),
             Field::Centimetres(sailing.allowed()),
             limit_name(parts, limit),
@@ -183,13 +161,36 @@ fn put_figures<W: Writer>(out: &mut W, sailing: &Sailing)
     );
 }
 
-/// When a ship first passes a waypoint.
-fn passes_at(sailing: &Sailing, place: u32) -> Field<'static>
-    ensures { field_of result ≡ pass_text sailing.now.port sailing.now.slot (offset_at sailing.now.ship.route place) }
+/// Puts the slot of a sailing.
+fn put_slot<W: Writer>(out: &mut W, sailing: &Sailing)
+    ensures { Puts (codes "," ++ field_text default_writer (decimal sailing.now.slot)) (W.state out.old) (W.state out.new) }
+{
+    put_next(out, Field::Number(u64::from(sailing.slot())));
+}
+
+/// Puts when it begins.
+fn put_begin<W: Writer>(out: &mut W, sailing: &Sailing)
+    ensures { Puts (codes "," ++ field_text default_writer (time_text sailing.now.port sailing.now.slot)) (W.state out.old) (W.state out.new) }
+{
+    put_time(out, sailing.parts(), sailing.slot());
+}
+
+/// Puts the fields of a sailing but those of its passes.
+fn put_figures<W: Writer>(out: &mut W, sailing: &Sailing)
+    ensures { Puts (fields_text default_writer (figure_fields sailing.now)) (W.state out.old) (W.state out.new) }
+{
+    put_slot(out, sailing);
+    put_begin(out, sailing);
+    put_water(out, sailing);
+}
+
+/// Puts when a ship first passes a waypoint.
+fn put_pass<W: Writer>(out: &mut W, sailing: &Sailing, place: u32)
+    ensures { Puts (codes "," ++ field_text default_writer (passed_text sailing.now place)) (W.state out.old) (W.state out.new) }
 {
     let parts = sailing.parts();
     let offset = offset_at(parts.waypoints.len(), &sailing.ship().route, place);
-    pass_time(parts, sailing.slot(), offset)
+    put_pass_time(out, parts, sailing.slot(), offset);
 }
 
 /// Puts a field for each waypoint from a place on.
@@ -199,7 +200,7 @@ fn put_passes<W: Writer>(out: &mut W, sailing: &Sailing, place: u32, waypoints: 
     ensures { Puts (fields_text default_writer (pass_fields sailing.now place waypoints.now)) (W.state out.old) (W.state out.new) }
 {
     if let [_, more @ ..] = waypoints {
-        put_next(out, passes_at(sailing, place));
+        put_pass(out, sailing, place);
         put_passes(out, sailing, place + 1, more);
     }
 }

@@ -1,11 +1,12 @@
 use Rattle.std.proofs.Common.{refl}
 use Rattle.std.specs.Fmt.{digits}
 use Rattle.csv.specs.Writing.{escaped, fields_text, is_blank}
+use Rattle.hw_dates.specs.Dates.{days_after}
 use Rattle.hw_table.specs.Passes.{leaves_just, under_keel}
 use Rattle.hw_table.proofs.laws.table_rows.Goals as goal
 
 pub returns : goal.returns
-unfolding digits escaped fields_text is_blank leaves_just under_keel
+unfolding digits days_after escaped fields_text is_blank leaves_just under_keel
 returns c = record {
   plain = refl;
   comma = refl;
@@ -20,5 +21,6 @@ returns c = record {
   by_number = refl;
   stays = refl;
   too_shallow = refl;
+  new_year = refl;
   no_plan = refl;
 }
