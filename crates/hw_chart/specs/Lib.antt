@@ -6,3 +6,4 @@ pub mod Figures
 pub mod Rows
 pub mod Panels
 pub mod Grids
+pub mod Hatches

@@ -19,9 +19,9 @@ pub enum Scale {
 }
 
 /// How many minutes there may be from one mark to the next.
-pub const MINUTES: [u32; 20] = [
+pub const MINUTES: [u32; 21] = [
     1, 2, 5, 10, 15, 30, 60, 120, 180, 240, 360, 720, 1440, 2880, 5760, 11520, 23040, 46080, 92160,
-    184320,
+    184320, 368640,
 ];
 
 /// How many slots there may be from one mark to the next.
@@ -54,8 +54,8 @@ fn first_step(steps: &[u32], total: u32) -> u32
     }
 }
 
-/// The step from one mark to the next.
-fn step(scale: Scale, total: u32) -> u32
+/// The step from one mark to the next, by which at most twelve stand on an axis that counts this much.
+pub fn step(scale: Scale, total: u32) -> u32
     ensures value { result ≡ step_of scale total }
     ensures some { 0 < result }
 {
@@ -92,7 +92,7 @@ fn axis_over(scale: Scale, span: u32, bottom: u32) -> Axis
 }
 
 /// Puts the path of the line at a mark.
-fn put_line_path<W: Writer>(out: &mut W, axis: Axis, at: u32)
+pub fn put_line_path<W: Writer>(out: &mut W, axis: Axis, at: u32)
     requires { at < axis.total }
     ensures { Puts (line_path axis at) (W.state out.old) (W.state out.new) }
 {

@@ -4,6 +4,7 @@
 
 mod course;
 mod grid;
+mod hatch;
 mod heading;
 mod layout;
 mod levels;
@@ -13,7 +14,8 @@ mod row;
 mod style;
 
 pub use course::{Course, course_at};
-pub use grid::{Axis, MINUTES, SLOTS, Scale, put_grid, put_span_end};
+pub use grid::{Axis, MINUTES, SLOTS, Scale, put_grid, put_line_path, put_span_end, step};
+pub use hatch::{HATCH, put_entry_below, put_hatch};
 pub use heading::{Entry, put_heading, put_legend};
 pub use layout::{place, plot, put_pin, put_stripe, rank};
 pub use levels::{Full, Rising, greatest};

@@ -11,6 +11,7 @@ use Rattle.hw_svg.specs.Widths.{width_of}
 use Rattle.hw_svg.specs.declared.area.Area.{Area}
 use Rattle.hw_svg.specs.declared.sheet.Window.{Window}
 use Rattle.hw_svg.proofs.Words.{name_is_word}
+use Rattle.hw_chart.specs.Hatches.{hatch}
 use Rattle.hw_chart_laws.specs.Trees.{is_plain}
 use Rattle.hw_chart_laws.proofs.Plain.{Plain, area, number}
 use Rattle.hw_chart_laws.proofs.Spelled.{Spelled}
@@ -103,6 +104,10 @@ still_window : (w : Window) → Still (window_begin w)
 unfolding window_begin
 still_window w = both (fixed (codes "<svg x=\"") refl) (both (plain (number w.x)) (both (fixed (codes "\" y=\"") refl) (both (plain (number w.y)) (both (fixed (codes "\" width=\"") refl) (both (plain (number w.width)) (both (fixed (codes "\" height=\"") refl) (both (plain (number w.height)) (both (fixed (codes "\" viewBox=\"0 0 ") refl) (both (plain (number w.across)) (both (fixed (codes " ") refl) (both (plain (number w.down)) (both (fixed (codes "\" preserveAspectRatio=\"none\">\n") refl) (fixed [] refl)))))))))))))
 
+still_hatch : Still hatch
+unfolding hatch
+still_hatch = fixed hatch refl
+
 -- the same, whatever elements are open
 pub record Calm (before : Tags) (text : List ℕ) (after : Tags) : Type 0 where
   pub still : Still text
@@ -118,4 +123,5 @@ calm_writing = record {
   opened = λ w. record { still = still_window w };
   closed = record { still = fixed svg_end refl };
   finished = record { still = fixed group_end refl };
+  hatching = record { still = still_hatch };
 }

@@ -13,6 +13,7 @@ use Rattle.hw_svg.specs.Widths.{width_of}
 use Rattle.hw_svg.specs.declared.area.Area.{Area}
 use Rattle.hw_svg.specs.declared.sheet.Window.{Window}
 use Rattle.hw_svg.proofs.Nested.{name_nested, titled_nested}
+use Rattle.hw_chart.specs.Hatches.{hatch}
 use Rattle.hw_chart_laws.specs.Trees.{are_attributes, are_trees, is_attribute, is_name, is_other, is_tree}
 use Rattle.hw_chart_laws.proofs.Plain.{Plain, area, both, letters, number}
 use Rattle.hw_chart_laws.proofs.Spelled.{Spelled}
@@ -108,6 +109,24 @@ leads_group_end : {o : Tags} → Leads (group ∷ o) group_end o
 unfolding byte_text
 leads_group_end = onward (closes group) (grows newline refl)
 
+-- the hatch: a style sheet, and a pattern
+hatch_nodes : Nodes
+hatch_nodes =
+    let path : Nodes = node (shape_node (codes "be") (codes "M0 6L6 0H4L0 4zM6 6V4L4 6z") no_more) no_more in
+    let attributes : List Attribute = attribute (codes "id") (codes "ha") ∷ attribute (codes "width") (codes "6") ∷ attribute (codes "height") (codes "6") ∷ attribute (codes "patternUnits") (codes "userSpaceOnUse") ∷ [] in
+    node (element (codes "style") [] (node (words (codes ".ha{fill:url(#ha)}")) no_more)) (node (words (codes "\n")) (node (element (codes "pattern") attributes path) newline))
+
+hatch_same : hatch ≡ nodes_text hatch_nodes
+unfolding hatch hatch_nodes byte_text
+hatch_same = refl
+
+hatch_trees : are_trees hatch_nodes ≡ true
+unfolding hatch_nodes
+hatch_trees = refl
+
+leads_hatch : {o : Tags} → Leads o hatch o
+leads_hatch = likewise hatch_same (grows hatch_nodes hatch_trees)
+
 pub tree_writing : Writing Leads
 tree_writing = record {
   none = unmoved;
@@ -119,6 +138,7 @@ tree_writing = record {
   opened = leads_window;
   closed = leads_svg_end;
   finished = leads_group_end;
+  hatching = leads_hatch;
 }
 
 -- a list begins

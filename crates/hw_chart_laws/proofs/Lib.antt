@@ -12,6 +12,7 @@ pub mod FlatParts
 pub mod FlatTrees
 pub mod FlatReading
 pub mod PortTexts
+pub mod Dated
 pub mod PortRows
 pub mod PortPanels
 pub mod PortTrees
@@ -29,3 +30,4 @@ pub mod Bands
 pub mod LaneBlocks
 pub mod Stretches
 pub mod OneWay
+pub mod Hatched

@@ -1,14 +1,16 @@
 -- The head of a port's picture, its tides, sections and tugs, made of what a picture is written with.
-use Rattle.std.proofs.Common.{◌≡◌, true, ◌+◌, ◌-◌, ℕ, nat_eq, is_some, Option, Some, None, List, [], ◌∷◌, codes, refl, if◌then◌else◌}
+use Rattle.std.proofs.Common.{◌≡◌, true, ◌+◌, ◌-◌, ℕ, nat_eq, nat_lt, length, is_some, Option, Some, None, List, [], ◌∷◌, codes, refl, if◌then◌else◌}
 use Rattle.std.specs.List.{list_all}
 use Rattle.hw_port.specs.declared.parts.Pass.{Pass}
 use Rattle.hw_port.specs.declared.parts.Section.{Section}
 use Rattle.hw_port.specs.declared.parts.Stretch.{Stretch}
 use Rattle.hw_port.specs.declared.parts.Waypoint.{Waypoint}
 use Rattle.hw_port.specs.Parts.{ShipParts}
+use Rattle.hw_port.specs.Whole.{Parts}
 use Rattle.hw_port_rules.specs.Numbers.{is_outgoing, whole}
 use Rattle.hw_chart.specs.declared.course.Course.{Course}
 use Rattle.hw_chart.specs.declared.course.Course.TheVariants.{Unplanned, Stays, Sails}
+use Rattle.hw_chart.specs.Hatches.{entry_below}
 use Rattle.hw_chart.specs.Layout.{plot}
 use Rattle.hw_port_chart.specs.declared.heights.Heights.{Heights}
 use Rattle.hw_port_chart.specs.declared.passing.Strip.{Strip}
@@ -18,6 +20,8 @@ use Rattle.hw_port_chart.specs.Fleets.{fleet_panel, held_in, panel_of}
 use Rattle.hw_port_chart.specs.Heads.{columns, columns_where, entry, legend, other_entries, sailing_entries, way_entries}
 use Rattle.hw_port_chart.specs.Lanes.{course_stays, lane_begin, lane_text, lane_y, lanes_from, stay_of, stays_from, stretch_marks}
 use Rattle.hw_port_chart.specs.Passings.{course_marks, marks_from, pass_marks, passing, passing_area, underway}
+use Rattle.hw_port_chart.specs.Pictures.{legend_of}
+use Rattle.hw_port_chart.specs.Signs.{closed_sign, has_closings, stay_signs}
 use Rattle.hw_port_chart.specs.Strips.{greatest_of, height_in, heights_of, least_of, strip_at_place, strip_heights, strip_label, strip_of, strip_text, strip_y, strips, strips_from, water_level}
 use Rattle.hw_chart_laws.specs.Trees.{is_plain}
 use Rattle.hw_chart_laws.proofs.Plain.{letters}
@@ -42,8 +46,20 @@ module _ {P : Tags → List ℕ → Tags → Type 0} (w : Writing P) where
   unfolding other_entries
   of_other_entries = three w (of_entry (codes "ba") refl 734 (fixed (codes "tugs turn round") refl)) (of_entry (codes "be") refl 838 (fixed (codes "berth not yet clear") refl)) (of_entry (codes "fu") refl 962 (fixed (codes "whole fleet held") refl))
 
-  pub of_legend : {a : Tags} → P a legend a
+  of_legend : {a : Tags} → P a legend a
   of_legend = three w of_sailing_entries of_way_entries of_other_entries
+
+  of_entry_below : {a : Tags} (class : List ℕ) (p : list_all is_plain class ≡ true) (x : ℕ) {text : List ℕ} → Spelled text → P a (entry_below class x text) a
+  of_entry_below class p x text = w.onward (filled w class p (record { left = x; right = x + 10; top = 93; bottom = 103 })) (says w (codes "m") refl (x + 14) 102 text)
+
+  of_closed_sign : {a : Tags} → P a closed_sign a
+  of_closed_sign = w.onward w.hatching (of_entry_below (codes "ha") refl 16 (fixed (codes "closed") refl))
+
+  of_stay_signs : {a : Tags} → P a stay_signs a
+  of_stay_signs = w.onward (of_entry_below (codes "be") refl 70 (fixed (codes "must wait for the ship before") refl)) (of_entry_below (codes "wi") refl 258 (fixed (codes "waits on") refl))
+
+  pub of_legend_of : {a : Tags} (p : Parts) → P a (legend_of p) a
+  of_legend_of p = w.onward of_legend (w.onward (if_so w (has_closings p) of_closed_sign) (if_so w (nat_lt 0 (length p.after)) of_stay_signs))
 
   of_columns : {a : Tags} (y : ℕ) → P a (columns y) a
   of_columns y = five w (says w (codes "m r") refl 956 y (fixed (codes "sails") refl)) (says w (codes "m r") refl 1020 y (fixed (codes "draft m") refl)) (says w (codes "m r") refl 1094 y (fixed (codes "allowed m") refl)) (says w (codes "m r") refl 1176 y (fixed (codes "under keel m") refl)) (says w (codes "m r") refl 1268 y (fixed (codes "cargo t") refl))

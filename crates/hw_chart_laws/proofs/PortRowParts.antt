@@ -14,6 +14,7 @@ use Rattle.hw_chart.specs.declared.course.Course.TheVariants.{Unplanned, Stays, 
 use Rattle.hw_chart.specs.declared.row.Sailings.{Sailings}
 use Rattle.hw_chart.specs.Layout.{plot, stripe}
 use Rattle.hw_port_chart.specs.Charts.{ChartParts, course, full_of, mark_class, tall_between, way}
+use Rattle.hw_port_chart.specs.Closings.{closings}
 use Rattle.hw_port_chart.specs.Drafts.{draft_level, draft_steps, full_sailings, full_steps, fullness_level, moves_text, sailing_where, window_of}
 use Rattle.hw_port_chart.specs.Rows.{arrow, arrow_path, full_word, rank_in, ranked_row, row_name, row_right, row_y}
 use Rattle.hw_chart_laws.proofs.Marked.{AsMany, Begins, begins_either, both, fixed, line_first, name_first, of_block, of_line, of_name, of_shape, of_window, past_stripe, shape_first, spelled, told, window_first}
@@ -26,7 +27,7 @@ use Rattle.hw_chart_laws.proofs.Spelled.{Spelled, also, fixed as words, nothing,
 
 -- what follows the drafts
 abbrev rest_on : ChartParts → ℕ → ShipParts → ℕ → List ℕ
-rest_on chart v s y = full_steps chart v s (window_of chart s y) ++ (sailing_where chart v s (window_of chart s y) (course chart v) ++ (svg_end ++ (moves_text chart v y ++ (row_right chart v s y (course chart v) ++ group_end))))
+rest_on chart v s y = full_steps chart v s (window_of chart s y) ++ (sailing_where chart v s (window_of chart s y) (course chart v) ++ (svg_end ++ (moves_text chart v y ++ (closings chart v (window_of chart s y) ++ (row_right chart v s y (course chart v) ++ group_end)))))
 
 abbrev drafts_on : ChartParts → ℕ → ShipParts → ℕ → List ℕ
 drafts_on chart v s y = draft_steps chart v s (window_of chart s y) ++ rest_on chart v s y
@@ -66,14 +67,14 @@ stripe_on chart v s rank = stripe rank (row_y chart rank) ++ arrow_on chart v s 
 abbrev title_in : ChartParts → ℕ → ShipParts → List ℕ
 title_in chart v s = item_begin ++ (port_title chart v s ++ title_end)
 
-spread : (st ar na nu wi bl dr fl wh se mo ri ge : List ℕ) → st ++ ((ar ++ (na ++ nu)) ++ ((((wi ++ bl) ++ (dr ++ (fl ++ (wh ++ (se ++ []))))) ++ mo) ++ (ri ++ ge))) ≡ st ++ (ar ++ (na ++ (nu ++ (wi ++ (bl ++ (dr ++ (fl ++ (wh ++ (se ++ (mo ++ (ri ++ ge)))))))))))
-spread st ar na nu wi bl dr fl wh se mo ri ge = simp (append_assoc, append-nil)
+spread : (st ar na nu wi bl dr fl wh se mo cl ri ge : List ℕ) → st ++ ((ar ++ (na ++ nu)) ++ ((((wi ++ bl) ++ (dr ++ (fl ++ (wh ++ (se ++ []))))) ++ (mo ++ (cl ++ []))) ++ (ri ++ ge))) ≡ st ++ (ar ++ (na ++ (nu ++ (wi ++ (bl ++ (dr ++ (fl ++ (wh ++ (se ++ (mo ++ (cl ++ (ri ++ ge))))))))))))
+spread st ar na nu wi bl dr fl wh se mo cl ri ge = simp (append_assoc, append-nil)
 
 rest_is : (chart : ChartParts) (v : ℕ) (s : ShipParts) (rank : ℕ) → port_rest chart v s rank ≡ stripe_on chart v s rank
 rest_is chart v s rank =
     let y = row_y chart rank in
     let window = window_of chart s y in
-    spread (stripe rank y) (arrow s y) (row_name s y) (number_in v s y) (window_begin (window_in chart s y)) (block (codes "wi") (ground_area s)) (draft_steps chart v s window) (full_steps chart v s window) (sailing_where chart v s window (course chart v)) svg_end (moves_text chart v y) (row_right chart v s y (course chart v)) group_end
+    spread (stripe rank y) (arrow s y) (row_name s y) (number_in v s y) (window_begin (window_in chart s y)) (block (codes "wi") (ground_area s)) (draft_steps chart v s window) (full_steps chart v s window) (sailing_where chart v s window (course chart v)) svg_end (moves_text chart v y) (closings chart v window) (row_right chart v s y (course chart v)) group_end
 
 row_is : (chart : ChartParts) (v : ℕ) (s : ShipParts) → ranked_row chart v s ≡ title_in chart v s ++ stripe_on chart v s (rank_in chart.table v)
 row_is chart v s = ranked_is chart v s ∙ ap (λ (l : List ℕ). title_in chart v s ++ l) (rest_is chart v s (rank_in chart.table v))
@@ -115,7 +116,7 @@ where_first chart v s window (Sails slot) t = shape_first (mark_class s) (area_p
 
 rest_first : (chart : ChartParts) (v : ℕ) (s : ShipParts) (y : ℕ) → Begins (rest_on chart v s y)
 rest_first chart v s y =
-    let more : List ℕ = moves_text chart v y ++ (row_right chart v s y (course chart v) ++ group_end) in
+    let more : List ℕ = moves_text chart v y ++ (closings chart v (window_of chart s y) ++ (row_right chart v s y (course chart v) ++ group_end)) in
     let window = window_of chart s y in
     begins_either (is_outgoing s) (full_sailings chart v s window) (sailing_where chart v s window (course chart v) ++ (svg_end ++ more)) (shape_first (codes "fl") (steps_path (fullness_level chart v (full_of s) window.tall) window.first (window.end - window.first) window.tall) (sailing_where chart v s window (course chart v) ++ (svg_end ++ more))) (where_first chart v s window (course chart v) more)
 

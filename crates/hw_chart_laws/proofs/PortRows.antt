@@ -1,7 +1,8 @@
 -- The rows of a port's picture, made of what a picture is written with.
-use Rattle.std.proofs.Common.{◌++◌, ◌+◌, ◌-◌, ℕ, nat_eq, nat_lt, is_none, is_some, List, [], ◌∷◌, codes, refl, if◌then◌else◌}
+use Rattle.std.proofs.Common.{◌++◌, ◌+◌, ◌-◌, ℕ, zero, suc, nat_eq, nat_lt, is_none, is_some, List, [], ◌∷◌, codes, refl, if◌then◌else◌}
 use Rattle.std.specs.List.{list_all, range_with_len}
 use Rattle.hw_svg.specs.Sheets.{group_end}
+use Rattle.hw_port.specs.declared.parts.AfterPair.{AfterPair}
 use Rattle.hw_port.specs.declared.parts.BerthPair.{BerthPair}
 use Rattle.hw_port.specs.Parts.{ShipParts}
 use Rattle.hw_port_rules.specs.Drafts.{sailing}
@@ -11,15 +12,18 @@ use Rattle.hw_chart.specs.declared.course.Course.TheVariants.{Unplanned, Stays, 
 use Rattle.hw_chart.specs.declared.row.Sailings.{Sailings}
 use Rattle.hw_chart.specs.Layout.{plot, stripe}
 use Rattle.hw_port_chart.specs.declared.sailing.Sailing.{Sailing}
+use Rattle.hw_port_chart.specs.declared.stays.Wait.{Wait}
 use Rattle.hw_port_chart.specs.Bars.{bars, clearings}
 use Rattle.hw_port_chart.specs.Charts.{ChartParts, course, full_of, slot_at, waypoint_name}
+use Rattle.hw_port_chart.specs.Closings.{closings_from}
 use Rattle.hw_port_chart.specs.Drafts.{draft_level, drafts_text, fullness_level, open_level, sailing_where, window_of}
 use Rattle.hw_port_chart.specs.Figures.{allowed_figures, capacity, cargo_figures, draft_figures, figures, keel_figures, keel_of, time_figures}
 use Rattle.hw_port_chart.specs.Rows.{row_left, row_number, row_right, row_windows, row_y}
 use Rattle.hw_port_chart.specs.Sailings.{sailing_of}
 use Rattle.hw_port_chart.specs.Spans.{last_pass}
+use Rattle.hw_port_chart.specs.Stays.{ship_name, stays_of, wait_of}
 use Rattle.hw_chart_laws.proofs.Plain.{letters}
-use Rattle.hw_chart_laws.proofs.PortTexts.{plain_arrow, plain_mark, plain_tight, plain_way, spelled_full, spelled_short}
+use Rattle.hw_chart_laws.proofs.PortTexts.{plain_arrow, plain_mark, plain_tight, plain_way, spelled_closing, spelled_full, spelled_short, spelled_wait}
 use Rattle.hw_chart_laws.proofs.Shared.{figure, five, if_so, of_bar, of_mark, of_moves, of_no_slot, of_pin, of_sailings, of_stays, of_stripe, says, three}
 use Rattle.hw_chart_laws.proofs.Spelled.{also, fixed, nothing, of_clock, of_metres, of_number, of_tenths}
 use Rattle.hw_chart_laws.proofs.Writing.{Tags, Writing, group}
@@ -40,16 +44,26 @@ module _ {P : Tags → List ℕ → Tags → Type 0} (w : Writing P) where
   of_drafts chart v s window course =
       five w (of_sailings w window) (figure w (codes "dr") refl (draft_level chart v (full_of s) window.tall) window.first (window.end - window.first) window.tall) (if_so w (is_outgoing s) (figure w (codes "fl") refl (fullness_level chart v (full_of s) window.tall) window.first (window.end - window.first) window.tall)) (of_where chart v s window course) w.closed
 
+  of_closings : {a : Tags} (chart : ChartParts) (v : ℕ) (window : Sailings) (slot count : ℕ) → P a (closings_from chart v window slot count) a
+  of_closings chart v window slot zero = w.none
+  of_closings chart v window slot (suc more) = w.onward (if_so w _ (w.named _ (letters (codes "ha") refl) (spelled_closing chart slot _))) (of_closings chart v window (slot + 1) more)
+
   of_windows : {a : Tags} (chart : ChartParts) (v : ℕ) (s : ShipParts) (y : ℕ) → P a (row_windows chart v s y) a
-  of_windows chart v s y = w.onward (of_drafts chart v s (window_of chart s y) (course chart v)) (if_so w (is_some chart.table) (of_moves w y chart.span (open_level chart v) (horizon_of chart.port)))
+  of_windows chart v s y = three w (of_drafts chart v s (window_of chart s y) (course chart v)) (if_so w (is_some chart.table) (of_moves w y chart.span (open_level chart v) (horizon_of chart.port))) (of_closings chart v (window_of chart s y) (whole s.earliest) (whole s.latest + 1 - whole s.earliest))
 
   of_clearings : {a : Tags} (chart : ChartParts) (v : ℕ) (berths : List BerthPair) → P a (clearings chart v berths) a
   of_clearings chart v [] = w.none
   of_clearings chart v (b ∷ more) = w.onward (if_so w (nat_eq (whole b.incoming) v) (of_bar w (slot_at chart (whole b.outgoing)) (slot_at chart (whole b.outgoing) + whole b.clear) 0 (letters (codes "be") refl))) (of_clearings chart v more)
 
+  of_waits : {a : Tags} (chart : ChartParts) (v : ℕ) (pairs : List AfterPair) → P a (stays_of chart v pairs) a
+  of_waits chart v [] = w.none
+  of_waits chart v (pair ∷ more) =
+      let wait : Wait = wait_of chart pair in
+      w.onward (if_so w (nat_eq (whole pair.second) v) (w.onward (w.named (record { left = wait.from; right = wait.until; top = 0; bottom = 1 }) (letters (codes "wi") refl) (spelled_wait (ship_name chart (whole pair.second)) (ship_name chart (whole pair.first)) wait)) (of_bar w wait.from wait.free 0 (letters (codes "be") refl)))) (of_waits chart v more)
+
   of_bars : {a : Tags} (chart : ChartParts) (v : ℕ) (s : ShipParts) (slot y : ℕ) → P a (bars chart v s slot y) a
   of_bars chart v s slot y =
-      five w (w.opened (plot (y + 31) 8 chart.span 2)) (of_clearings chart v chart.port.berths) (of_bar w slot (slot + last_pass s.route + 1) 0 (plain_way s)) (if_so w (nat_lt 0 (whole s.tugs)) (w.onward (of_bar w slot (slot + whole s.job) 1 (letters (codes "tu") refl)) (of_bar w (slot + whole s.job) (slot + hold_of chart.port s) 1 (letters (codes "ba") refl)))) w.closed
+      w.onward (w.opened (plot (y + 31) 8 chart.span 2)) (five w (of_clearings chart v chart.port.berths) (of_waits chart v chart.port.after) (of_bar w slot (slot + last_pass s.route + 1) 0 (plain_way s)) (if_so w (nat_lt 0 (whole s.tugs)) (w.onward (of_bar w slot (slot + whole s.job) 1 (letters (codes "tu") refl)) (of_bar w (slot + whole s.job) (slot + hold_of chart.port s) 1 (letters (codes "ba") refl)))) w.closed)
 
   of_time : {a : Tags} (g : Sailing) (y : ℕ) → P a (time_figures g y) a
   of_time g y = w.onward (says w (codes "r b") refl 956 (y + 17) (of_clock g.time)) (says w (codes "r m") refl 956 (y + 33) (also (fixed (codes "slot ") refl) (also (of_number g.slot) nothing)))

@@ -1,5 +1,5 @@
 -- The texts of a port's picture: classes without marks, and titles as elements hold them.
-use Rattle.std.proofs.Common.{◌+◌, ℕ, nat_eq, List, codes, refl}
+use Rattle.std.proofs.Common.{◌+◌, ◌-◌, ℕ, nat_eq, List, codes, refl}
 use Rattle.hw_port.specs.Parts.{ShipParts}
 use Rattle.hw_port.specs.Whole.{Parts}
 use Rattle.hw_port_rules.specs.Numbers.{is_outgoing}
@@ -8,13 +8,16 @@ use Rattle.hw_chart.specs.declared.course.Course.TheVariants.{Unplanned, Stays, 
 use Rattle.hw_port_chart.specs.declared.lane.Stay.{Stay}
 use Rattle.hw_port_chart.specs.declared.passing.Passing.{Passing}
 use Rattle.hw_port_chart.specs.declared.sailing.Sailing.{Sailing}
-use Rattle.hw_port_chart.specs.Charts.{ChartParts, mark_class, way, waypoint_name}
+use Rattle.hw_port_chart.specs.declared.stays.Wait.{Wait}
+use Rattle.hw_port_chart.specs.Charts.{ChartParts, mark_class, minutes_to, way, waypoint_name}
+use Rattle.hw_port_chart.specs.Closings.{closing_title}
 use Rattle.hw_port_chart.specs.Figures.{shortness, tight}
 use Rattle.hw_port_chart.specs.Heads.{sizes, sizes_text}
 use Rattle.hw_port_chart.specs.Lanes.{stay_class, stay_title}
 use Rattle.hw_port_chart.specs.Passings.{passing_title}
 use Rattle.hw_port_chart.specs.Rows.{arrow_in, arrow_out, arrow_path, full_word}
 use Rattle.hw_port_chart.specs.Sailings.{sailing_of}
+use Rattle.hw_port_chart.specs.Stays.{wait_title}
 use Rattle.hw_port_chart.specs.Titles.{course_title, load_title, row_title, ship_title, time_title}
 use Rattle.hw_chart_laws.proofs.Plain.{Plain, both, letters, nothing as no_letters, number}
 use Rattle.hw_chart_laws.proofs.Shared.{either as either_plain}
@@ -82,3 +85,11 @@ spelled_stay ship section stay = also (name ship) (also (fixed (codes " in ") re
 pub spelled_passing : (ship waypoint : List ℕ) (p : Passing) → Spelled (passing_title ship waypoint p)
 unfolding passing_title
 spelled_passing ship waypoint p = also (name ship) (also (fixed (codes " passes ") refl) (also (name waypoint) (also (fixed (codes " in slot ") refl) (also (of_number p.slot) (also (fixed (codes ", ") refl) (also (of_clock p.time) (also (fixed (codes ": draft ") refl) (also (of_metres p.draft) (also (fixed (codes ", water ") refl) (also (of_metres p.water) (also (fixed (codes ", under keel ") refl) (also (of_metres p.keel) (also (fixed (codes ", at least ") refl) (also (of_metres p.clearance) nothing))))))))))))))
+
+pub spelled_closing : (chart : ChartParts) (from end : ℕ) → Spelled (closing_title chart from end)
+unfolding closing_title
+spelled_closing chart from end = also (fixed (codes "closed in slots ") refl) (also (of_number from) (also (fixed (codes " to ") refl) (also (of_number (end - 1)) (also (fixed (codes ", ") refl) (also (of_clock (minutes_to chart from)) (also (fixed (codes " to ") refl) (also (of_clock (minutes_to chart end)) nothing)))))))
+
+pub spelled_wait : (second first : List ℕ) (wait : Wait) → Spelled (wait_title second first wait)
+unfolding wait_title
+spelled_wait second first wait = also (name second) (also (fixed (codes " after ") refl) (also (name first) (also (fixed (codes ": ") refl) (also (of_clock wait.waited) (also (fixed (codes ", at least ") refl) (also (of_clock wait.least) nothing))))))

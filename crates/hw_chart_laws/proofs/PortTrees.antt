@@ -3,28 +3,28 @@ use Rattle.std.proofs.Common.{◌≡◌, ◌++◌, ◌+◌, ℕ, Option, List, [
 use Rattle.hw_port.specs.Parts.{ShipParts}
 use Rattle.hw_port.specs.Whole.{Parts}
 use Rattle.hw_tide.specs.Levels.{TideParts}
-use Rattle.hw_port_rules.specs.Numbers.{horizon_of, whole}
+use Rattle.hw_port_rules.specs.Numbers.{horizon_of}
 use Rattle.hw_svg.specs.Sheets.{group_end, item_begin, picture, picture_begin, svg_end, title_end}
-use Rattle.hw_chart.specs.declared.grid.Scale.TheVariants.{Minutes}
 use Rattle.hw_chart.specs.declared.outcome.CargoUnit.TheVariants.{Tonnes}
 use Rattle.hw_chart.specs.declared.outcome.Outcome.{Outcome}
 use Rattle.hw_chart.specs.Headings.{ground, heading_lines, style}
 use Rattle.hw_chart.specs.Layout.{stripe}
 use Rattle.hw_chart.specs.Outcomes.{badge, title_text}
 use Rattle.hw_port_chart.specs.Charts.{ChartParts, course}
-use Rattle.hw_port_chart.specs.Heads.{legend, places, sizes}
-use Rattle.hw_port_chart.specs.Pictures.{bottom, chart_of, horizon_line, panels, picture_of, port_picture, times}
+use Rattle.hw_port_chart.specs.Heads.{places, sizes}
+use Rattle.hw_port_chart.specs.Pictures.{bottom, chart_of, horizon_line, legend_of, panels, picture_of, port_picture, times}
 use Rattle.hw_port_chart.specs.Rows.{rank_in, ranked_row, row_left, row_right, row_windows, row_y, rows_from, ship_list}
 use Rattle.hw_port_chart.specs.Titles.{row_title}
 use Rattle.hw_chart_laws.specs.Trees.{IsPicture}
+use Rattle.hw_chart_laws.proofs.Dated.{of_times}
 use Rattle.hw_chart_laws.proofs.Elements.{leads_item, leads_list, tree_writing}
 use Rattle.hw_chart_laws.proofs.FlatTrees.{arranged}
 use Rattle.hw_chart_laws.proofs.Open.{Leads, likewise, onward, unmoved}
-use Rattle.hw_chart_laws.proofs.PortPanels.{of_fleet, of_heads, of_lanes, of_legend, of_strips}
+use Rattle.hw_chart_laws.proofs.PortPanels.{of_fleet, of_heads, of_lanes, of_legend_of, of_strips}
 use Rattle.hw_chart_laws.proofs.PortRows.{of_row_rest}
 use Rattle.hw_chart_laws.proofs.PortTexts.{spelled_row, spelled_sizes}
 use Rattle.hw_chart_laws.proofs.Reading.{item_text}
-use Rattle.hw_chart_laws.proofs.Shared.{five, head_lines, of_badge, of_grid, of_ground, of_span_end}
+use Rattle.hw_chart_laws.proofs.Shared.{five, head_lines, of_badge, of_ground, of_span_end}
 use Rattle.hw_chart_laws.proofs.Titles.{plain_title}
 use Rattle.hw_chart_laws.proofs.Whole.{one_picture}
 use Rattle.hw_chart_laws.proofs.Writing.{Tags, group}
@@ -61,15 +61,15 @@ abbrev height_of : ChartParts → ℕ
 height_of chart = (places chart.port).bottom + 28
 
 abbrev middle : ChartParts → Outcome → List ℕ
-middle chart outcome = ground (height_of chart) ++ (badge outcome.verdict ++ (heading_lines Tonnes outcome (sizes chart.port) ++ (legend ++ (panels chart ++ (times chart ++ horizon_line chart)))))
+middle chart outcome = ground (height_of chart) ++ (badge outcome.verdict ++ (heading_lines Tonnes outcome (sizes chart.port) ++ (legend_of chart.port ++ (panels chart ++ (times chart ++ horizon_line chart)))))
 
 picture_is : (chart : ChartParts) (outcome : Outcome) → picture_of chart outcome ≡ picture 1280 (height_of chart) (title_text Tonnes outcome) (style ++ middle chart outcome)
 unfolding picture_of
-picture_is chart outcome = arranged (picture_begin 1280 (height_of chart) (title_text Tonnes outcome)) style (ground (height_of chart)) (badge outcome.verdict) (heading_lines Tonnes outcome (sizes chart.port)) legend (panels chart) (times chart) (horizon_line chart) svg_end
+picture_is chart outcome = arranged (picture_begin 1280 (height_of chart) (title_text Tonnes outcome)) style (ground (height_of chart)) (badge outcome.verdict) (heading_lines Tonnes outcome (sizes chart.port)) (legend_of chart.port) (panels chart) (times chart) (horizon_line chart) svg_end
 
 lead_middle : (chart : ChartParts) (outcome : Outcome) → Leads [] (middle chart outcome) []
 lead_middle chart outcome =
-    onward (of_ground tree_writing (height_of chart)) (onward (of_badge tree_writing outcome.verdict) (onward (head_lines tree_writing Tonnes outcome (spelled_sizes chart.port)) (onward (of_legend tree_writing) (onward (lead_panels chart) (onward (of_grid tree_writing (Minutes (whole chart.port.slot_minutes)) chart.span (bottom chart)) (of_span_end tree_writing (horizon_of chart.port) chart.span (bottom chart)))))))
+    onward (of_ground tree_writing (height_of chart)) (onward (of_badge tree_writing outcome.verdict) (onward (head_lines tree_writing Tonnes outcome (spelled_sizes chart.port)) (onward (of_legend_of tree_writing chart.port) (onward (lead_panels chart) (onward (of_times tree_writing chart chart.port.start) (of_span_end tree_writing (horizon_of chart.port) chart.span (bottom chart)))))))
 
 pub port_trees : (p : Parts) (h : TideParts) (table : Option (List ℕ)) (outcome : Outcome) → IsPicture (port_picture p h table outcome)
 unfolding port_picture

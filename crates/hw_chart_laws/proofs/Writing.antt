@@ -5,6 +5,7 @@ use Rattle.hw_svg.specs.Shapes.{shape, titled}
 use Rattle.hw_svg.specs.Sheets.{group_end, svg_end, window_begin}
 use Rattle.hw_svg.specs.declared.area.Area.{Area}
 use Rattle.hw_svg.specs.declared.sheet.Window.{Window}
+use Rattle.hw_chart.specs.Hatches.{hatch}
 use Rattle.hw_chart_laws.proofs.Plain.{Plain}
 use Rattle.hw_chart_laws.proofs.Spelled.{Spelled}
 
@@ -28,3 +29,4 @@ pub record Writing (P : Tags → List ℕ → Tags → Type 0) : Type 0 where
   pub opened : {a : Tags} (w : Window) → P a (window_begin w) (svg ∷ a)
   pub closed : {a : Tags} → P (svg ∷ a) svg_end a
   pub finished : {a : Tags} → P (group ∷ a) group_end a
+  pub hatching : {a : Tags} → P a hatch a

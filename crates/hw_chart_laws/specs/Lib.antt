@@ -4,3 +4,4 @@ pub mod Alike
 pub mod Bands
 pub mod Lanes
 pub mod Sheet
+pub mod Thirds

@@ -4,7 +4,8 @@ ghost use Rattle.hw_chart_laws.specs.Alike.{FlatRowsReadBack, PortRowsReadBack};
 ghost use Rattle.hw_chart_laws.specs.Bands.{FlatPartsLieApart, PortPartsLieApart};
 ghost use Rattle.hw_chart_laws.specs.Lanes.{BlocksAreOccupations, LanesAreBlocks, OneWayIsSeen};
 ghost use Rattle.hw_chart_laws.specs.Laws.{BarsAreSlots, FlatPicturesAreTrees, FlatPlansReadBack, FullBarsAreFullDrafts, PortPicturesAreTrees, PortPlansReadBack};
-ghost use Rattle.hw_chart_laws.specs.Sheet.{FetchesNothing};
+ghost use Rattle.hw_chart_laws.specs.Sheet.{FetchesNothing, HatchFetchesNothing};
+ghost use Rattle.hw_chart_laws.specs.Thirds.{HatchesAreClosings};
 
 /// The picture of a flat problem is one element of trees.
 pub fn flat_pictures_are_trees()
@@ -75,4 +76,14 @@ pub fn one_way_is_seen()
 /// The style sheet of every picture imports no other sheet and names no address, so that a viewer fetches nothing for it.
 pub fn style_fetches_nothing()
     ensures { FetchesNothing }
+{}
+
+/// The sheet of the hatch imports no other sheet either, and what it names stands beside it in the same picture.
+pub fn hatch_fetches_nothing()
+    ensures { HatchFetchesNothing }
+{}
+
+/// A hatch reaches over a slot of a ship's window exactly where that is closed for the ship.
+pub fn hatches_are_closings()
+    ensures { HatchesAreClosings }
 {}

@@ -3,3 +3,4 @@ pub mod Values
 pub mod Fleets
 pub mod Rows
 pub mod Pictures
+pub mod Rests

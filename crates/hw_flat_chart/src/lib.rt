@@ -13,6 +13,7 @@ mod moves;
 mod panels;
 mod picture;
 mod plan;
+mod rest;
 mod row;
 mod rows;
 mod span;
@@ -20,6 +21,7 @@ mod values;
 
 pub use fleets::{Fleets, Found};
 pub use laws::{bars_are_values, moves_are_permitted};
-pub use picture::put_flat_picture;
+pub use picture::{bottom, put_flat_picture, sizes};
 pub use plan::Plan;
+pub use rest::{put_flat_rest, slots_shown};
 pub use row::Row;

@@ -4,7 +4,7 @@ ghost use Rattle.std.specs.Prelude.{◌≡◌, ◌≤◌, ◌<◌, IfSome, None,
 ghost use Rattle.hw_desk.specs.Writers.{Puts};
 ghost use Rattle.hw_flat_chart.specs.Fleets.{span_of};
 ghost use Rattle.hw_flat_chart.specs.Moves.{IsPlan};
-ghost use Rattle.hw_flat_chart.specs.Pictures.{body, bottom, columns, flat_picture, foot, head, legend, other_entries, panels_y, planned_body, sailing_entries, sizes, unplanned_body};
+ghost use Rattle.hw_flat_chart.specs.Pictures.{body, bottom, columns, flat_picture, foot, head, legend, other_entries, panels_y, planned_body, sailing_entries, sizes as sizes_of, unplanned_body};
 ghost use Rattle.hw_svg.specs.Pieces.{pieces_text};
 
 use crate::fleets::{count, fleets_of};
@@ -77,7 +77,7 @@ fn put_other_entries<W: Writer>(out: &mut W)
 }
 
 /// Puts what the colours say.
-fn put_colours<W: Writer>(out: &mut W)
+pub(crate) fn put_colours<W: Writer>(out: &mut W)
     ensures { Puts legend (W.state out.old) (W.state out.new) }
 {
     put_sailing_entries(out);
@@ -93,29 +93,36 @@ fn panels_y(flat: &Flat) -> u32
 }
 
 /// Where the plot ends.
-fn bottom(flat: &Flat) -> u32
+pub fn bottom(flat: &Flat) -> u32
     ensures value { result ≡ bottom flat.now }
     ensures small { result ≤ 3_000 }
 {
     panels_y(flat) + 66 * count(fleets_of(flat))
 }
 
-/// Puts the head of the picture: what a certificate shows, the sizes of the problem, and what the colours say.
-#[tactic(auto, unfolding(crate::specs::Pictures::head, crate::specs::Pictures::sizes))]
-fn put_head<W: Writer>(out: &mut W, flat: &Flat, outcome: Outcome)
-    ensures { Puts (head flat.now outcome) (W.state out.old) (W.state out.new) }
+/// The sizes of the problem, in pieces.
+#[tactic(auto, unfolding(crate::specs::Pictures::sizes))]
+pub fn sizes(flat: &Flat) -> [Piece<'static>; 6]
+    ensures { pieces_text result ≡ sizes_of flat.now }
 {
     let shape = flat.shape();
-    let sizes = [
+    [
         Piece::Word(b"ships "),
         Piece::Number(u64::from(shape.ships)),
         Piece::Word(b", slots "),
         Piece::Number(u64::from(flat.horizon())),
         Piece::Word(b", rules "),
         Piece::Number(u64::from(shape.rules)),
-    ];
+    ]
+}
+
+/// Puts the head of the picture: what a certificate shows, the sizes of the problem, and what the colours say.
+#[tactic(auto, unfolding(crate::specs::Pictures::head))]
+fn put_head<W: Writer>(out: &mut W, flat: &Flat, outcome: Outcome)
+    ensures { Puts (head flat.now outcome) (W.state out.old) (W.state out.new) }
+{
     let height = u64::from(bottom(flat)) + 28;
-    put_heading(out, CargoUnit::Plain, outcome, height, &sizes);
+    put_heading(out, CargoUnit::Plain, outcome, height, &sizes(flat));
     put_colours(out);
 }
 
@@ -130,7 +137,7 @@ fn put_columns<W: Writer>(out: &mut W)
 
 /// Puts the rows and panels of a timetable.
 #[tactic(auto, unfolding(crate::specs::Pictures::planned_body))]
-fn put_planned_body<W: Writer>(out: &mut W, flat: &Flat, plan: &Plan, span: u32)
+pub(crate) fn put_planned_body<W: Writer>(out: &mut W, flat: &Flat, plan: &Plan, span: u32)
     requires planned { IsPlan flat.now plan.now }
     requires span { span ≡ span_of flat.now (Some plan.now.table) }
     requires some { 0 < span }
@@ -152,7 +159,7 @@ fn put_planned_body<W: Writer>(out: &mut W, flat: &Flat, plan: &Plan, span: u32)
 
 /// Puts the rows and panels where there is no timetable.
 #[tactic(auto, unfolding(crate::specs::Pictures::unplanned_body))]
-fn put_unplanned_body<W: Writer>(out: &mut W, flat: &Flat)
+pub(crate) fn put_unplanned_body<W: Writer>(out: &mut W, flat: &Flat)
     ensures { Puts (unplanned_body flat.now) (W.state out.old) (W.state out.new) }
 {
     put_list_begin(out);

@@ -3,3 +3,4 @@ pub mod Extremes
 pub mod Openings
 pub mod Ranks
 pub mod Drawn
+pub mod Runs

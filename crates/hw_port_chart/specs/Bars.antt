@@ -1,4 +1,5 @@
--- The bars of a sailing: when its berth isn't clear yet, when the ship is under way, and when it holds its tugs.
+-- The bars of a sailing: when its berth isn't clear yet, when it stays after another ship, when it is under way, and when it holds
+-- its tugs.
 use Rattle.std.specs.Prelude.{ℕ, ◌+◌, List, [], ◌∷◌, ◌++◌, codes, nat_eq, nat_lt, if◌then◌else◌}
 use Rattle.hw_svg.specs.Joined.{joined}
 use Rattle.hw_svg.specs.Sheets.{svg_end}
@@ -8,6 +9,7 @@ use Rattle.hw_port_rules.specs.Numbers.{whole, hold_of}
 use Rattle.hw_chart.specs.Rows.{bar, bars_begin}
 use Rattle.hw_port_chart.specs.Charts.{ChartParts, slot_at, way}
 use Rattle.hw_port_chart.specs.Spans.{last_pass}
+use Rattle.hw_port_chart.specs.Stays.{stays_of}
 
 -- from the sailing of the outgoing ship until the berth is clear
 abbrev pub clearing : ChartParts → BerthPair → List ℕ
@@ -34,4 +36,4 @@ abbrev pub tugs_where : ChartParts → ShipParts → ℕ → List ℕ
 tugs_where chart s slot = if nat_lt 0 (whole s.tugs) then tug_bars chart s slot else []
 
 abbrev pub bars : ChartParts → ℕ → ShipParts → ℕ → ℕ → List ℕ
-bars chart v s slot y = joined (bars_begin y chart.span ∷ clearings chart v chart.port.berths ∷ voyage s slot ∷ tugs_where chart s slot ∷ svg_end ∷ [])
+bars chart v s slot y = joined (bars_begin y chart.span ∷ clearings chart v chart.port.berths ∷ stays_of chart v chart.port.after ∷ voyage s slot ∷ tugs_where chart s slot ∷ svg_end ∷ [])

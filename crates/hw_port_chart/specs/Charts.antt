@@ -1,5 +1,5 @@
 -- A port with its tide, and a timetable or none: what a picture is drawn from.
-use Rattle.std.specs.Prelude.{◌≡◌, ◌<◌, ◌≤◌, length, IfSome, min, ℕ, ◌+◌, ◌*◌, ◌/◌, ℤ, pos, ◌-ℤ◌, List, [], codes, Option, slice_get, option_and_then, unwrap_or, unsigned_abs, if◌then◌else◌}
+use Rattle.std.specs.Prelude.{◌≡◌, ◌<◌, ◌≤◌, length, IfSome, min, ℕ, ◌+◌, ◌*◌, ◌/◌, ℤ, pos, ◌-ℤ◌, List, [], codes, Option, Some, None, slice_get, option_and_then, unwrap_or, unsigned_abs, if◌then◌else◌}
 use Rattle.std.specs.Int.{int_min}
 use Rattle.std.specs.Option.{option_map_or}
 use Rattle.hw_port.specs.Kept.{PortKept}
@@ -9,6 +9,7 @@ use Rattle.hw_tide.specs.Levels.{TideParts, height_at}
 use Rattle.hw_port_rules.specs.Numbers.{whole, horizon_of, is_outgoing}
 use Rattle.hw_port_rules.specs.Closed.{is_least}
 use Rattle.hw_port_rules.specs.Drafts.{allowed, sailing, value}
+use Rattle.hw_calendar.specs.Calendars.{midnight}
 use Rattle.hw_chart.specs.declared.course.Course.{Course}
 use Rattle.hw_chart.specs.Courses.{course_of}
 
@@ -33,9 +34,14 @@ course chart ship = course_in chart.port chart.table ship
 abbrev pub slot_at : ChartParts → ℕ → ℕ
 slot_at chart ship = unwrap_or (slot_in chart.table ship) 0
 
--- the minutes from the beginning of slot 0 to that of a slot
+-- the minutes from midnight to the beginning of slot 0, where that has a date
+abbrev pub midnight_of : Option (List ℕ) → ℕ
+midnight_of None = 0
+midnight_of (Some start) = midnight start
+
+-- the minutes to the beginning of a slot: from that of slot 0, or from the midnight before it, where that has a date
 abbrev pub minutes_to : ChartParts → ℕ → ℕ
-minutes_to chart slot = slot * whole chart.port.slot_minutes
+minutes_to chart slot = slot * whole chart.port.slot_minutes + midnight_of chart.port.start
 
 -- how tall a window is that shows this many units: an eighth more, so that nothing is too low to be seen
 abbrev pub tall_over : ℕ → ℕ

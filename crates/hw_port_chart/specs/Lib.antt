@@ -7,6 +7,9 @@ pub mod Strips
 pub mod Sailings
 pub mod Titles
 pub mod Drafts
+pub mod Closings
+pub mod Stays
+pub mod Signs
 pub mod Bars
 pub mod Figures
 pub mod Rows
@@ -14,3 +17,4 @@ pub mod Lanes
 pub mod Fleets
 pub mod Pictures
 pub mod Laws
+pub mod Rests

@@ -1,5 +1,5 @@
 -- The whole picture of a port's plan.
-use Rattle.std.specs.Prelude.{ℕ, ◌+◌, Option, List, [], ◌∷◌, ◌++◌}
+use Rattle.std.specs.Prelude.{ℕ, ◌+◌, Option, Some, None, List, [], ◌∷◌, ◌++◌}
 use Rattle.hw_svg.specs.Joined.{joined}
 use Rattle.hw_svg.specs.Sheets.{svg_end}
 use Rattle.hw_port.specs.Whole.{Parts}
@@ -8,19 +8,25 @@ use Rattle.hw_port_rules.specs.Numbers.{whole, horizon_of}
 use Rattle.hw_chart.specs.declared.grid.Scale.TheVariants.{Minutes}
 use Rattle.hw_chart.specs.declared.outcome.CargoUnit.TheVariants.{Tonnes}
 use Rattle.hw_chart.specs.declared.outcome.Outcome.{Outcome}
+use Rattle.hw_calendar.specs.Calendars.{dated_grid}
 use Rattle.hw_chart.specs.Grids.{grid, span_end}
 use Rattle.hw_chart.specs.Headings.{heading}
 use Rattle.hw_port_chart.specs.Charts.{ChartParts}
 use Rattle.hw_port_chart.specs.Spans.{span_of}
 use Rattle.hw_port_chart.specs.Heads.{columns_where, legend, places, sizes}
+use Rattle.hw_port_chart.specs.Signs.{signs}
 use Rattle.hw_port_chart.specs.Strips.{strips}
 use Rattle.hw_port_chart.specs.Rows.{ship_list}
 use Rattle.hw_port_chart.specs.Lanes.{lanes_from}
 use Rattle.hw_port_chart.specs.Fleets.{fleet_panel}
 
+-- what the colours say, also of what only some ports show
+abbrev pub legend_of : Parts → List ℕ
+legend_of p = legend ++ signs p
+
 -- what was proved, the sizes of the port, and what the colours say
 abbrev pub head : ChartParts → Outcome → List ℕ
-head chart outcome = heading Tonnes outcome ((places chart.port).bottom + 28) (sizes chart.port) ++ legend
+head chart outcome = heading Tonnes outcome ((places chart.port).bottom + 28) (sizes chart.port) ++ legend_of chart.port
 
 -- the tides, the ships, the sections and the tugs, one below another
 abbrev pub panels : ChartParts → List ℕ
@@ -30,9 +36,13 @@ panels chart = joined (strips chart ∷ columns_where chart.table ((places chart
 abbrev pub bottom : ChartParts → ℕ
 bottom chart = (places chart.port).bottom
 
--- the grid over them
+-- the grid over them: with dates where slot 0 has one
+abbrev pub times_from : ChartParts → Option (List ℕ) → List ℕ
+times_from chart None = grid (Minutes (whole chart.port.slot_minutes)) chart.span (bottom chart)
+times_from chart (Some start) = dated_grid start (whole chart.port.slot_minutes) chart.span (bottom chart)
+
 abbrev pub times : ChartParts → List ℕ
-times chart = grid (Minutes (whole chart.port.slot_minutes)) chart.span (bottom chart)
+times chart = times_from chart chart.port.start
 
 -- the end of the slots in which ships sail
 abbrev pub horizon_line : ChartParts → List ℕ

@@ -17,6 +17,7 @@ use Rattle.hw_port_chart.specs.Charts.{ChartParts, course, full_of, way}
 use Rattle.hw_port_chart.specs.Heads.{places}
 use Rattle.hw_port_chart.specs.Titles.{row_title}
 use Rattle.hw_port_chart.specs.Drafts.{drafts_text, moves_text, window_of}
+use Rattle.hw_port_chart.specs.Closings.{closings}
 use Rattle.hw_port_chart.specs.Sailings.{sailing_of}
 use Rattle.hw_port_chart.specs.Bars.{bars}
 use Rattle.hw_port_chart.specs.Figures.{figures}
@@ -74,8 +75,9 @@ row_right chart v s y Unplanned = no_slot_where chart v y
 row_right chart v s y Stays = stays y
 row_right chart v s y (Sails slot) = sailing_parts chart v s slot y
 
+-- drafts and moves, and over the drafts what is closed
 abbrev pub row_windows : ChartParts → ℕ → ShipParts → ℕ → List ℕ
-row_windows chart v s y = drafts_text chart v s (window_of chart s y) (course chart v) ++ moves_text chart v y
+row_windows chart v s y = joined (drafts_text chart v s (window_of chart s y) (course chart v) ∷ moves_text chart v y ∷ closings chart v (window_of chart s y) ∷ [])
 
 -- what follows the beginning of a row
 abbrev pub row_rest : ChartParts → ℕ → ShipParts → ℕ → List ℕ

@@ -10,6 +10,7 @@ ghost use Rattle.hw_port_chart.specs.Bars.{bars, clearing, clearing_for, clearin
 use crate::chart::Chart;
 use crate::numbers::{natural, way};
 use crate::span::{hold, last_pass};
+use crate::stays::put_stays;
 use hw_chart::{put_bar, put_bars_begin};
 use hw_desk::Writer;
 use hw_model::{ShipId, Slot};
@@ -155,6 +156,7 @@ pub fn put_bars<W: Writer>(
 {
     put_begin(out, chart, y);
     put_all_clearings(out, chart, number);
+    put_stays(out, chart, number);
     put_voyage(out, chart, ship, slot);
     put_tugs_where(out, chart, ship, slot);
     put_svg_end(out);

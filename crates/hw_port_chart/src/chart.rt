@@ -7,7 +7,7 @@ ghost use Rattle.hw_port_rules.specs.Numbers.{horizon_of, whole};
 ghost use Rattle.hw_port_rules.specs.Drafts.{sailing as sailing_draft};
 ghost use Rattle.hw_chart.specs.Courses.{SailsBefore};
 ghost use Rattle.hw_tide.specs.Levels.{height_at};
-ghost use Rattle.hw_port_chart.specs.Charts.{allowed_in, cargo_in, course as course_of_ship, depth_in, draft_in, judged as judged_height, minutes_to, slot_at as slot_or_0, shown, slot_in, waypoint_name};
+ghost use Rattle.hw_port_chart.specs.Charts.{allowed_in, cargo_in, course as course_of_ship, depth_in, draft_in, judged as judged_height, midnight_of, minutes_to, slot_at as slot_or_0, shown, slot_in, waypoint_name};
 ghost use Rattle.hw_port_chart.specs.Moves.{could_move, HasMoves};
 
 use crate::numbers::{natural, product};
@@ -110,11 +110,22 @@ impl Chart<'_> {
         natural(self.parts().slot_minutes)
     }
 
-    /// The minutes from the beginning of slot 0 to that of a slot.
+    /// The minutes from midnight to the beginning of slot 0, where that has a date.
+    fn midnight(&self) -> u32
+        ensures value { result ≡ midnight_of self.now.port.start }
+        ensures few { result < 1_440 }
+    {
+        match &self.parts().start {
+            Some(start) => hw_calendar::midnight(&start.items),
+            None => 0,
+        }
+    }
+
+    /// The minutes to the beginning of a slot: from that of slot 0, or from the midnight before it, where that has a date.
     pub fn minutes_to(&self, slot: Slot) -> u64
         ensures { result ≡ minutes_to self.now slot }
     {
-        product(slot, self.slot_minutes())
+        product(slot, self.slot_minutes()) + u64::from(self.midnight())
     }
 
     /// Whether there is a timetable.

@@ -5,11 +5,12 @@ ghost use Rattle.hw_desk.specs.Writers.{Puts};
 ghost use Rattle.hw_svg.specs.Pieces.{pieces_text};
 ghost use Rattle.hw_port.specs.Kept.{PortKept};
 ghost use Rattle.hw_port_chart.specs.Heads.{columns, columns_where, legend, other_entries, sailing_entries, way_entries, sizes as sizes_of, sizes_text};
-ghost use Rattle.hw_port_chart.specs.Pictures.{head};
+ghost use Rattle.hw_port_chart.specs.Pictures.{head, legend_of};
 
 use crate::chart::Chart;
 use crate::numbers::natural;
 use crate::places::places_of;
+use crate::signs::put_signs;
 use hw_chart::{CargoUnit, Entry, Outcome, put_heading, put_legend};
 use hw_desk::Writer;
 use hw_port::PortParts;
@@ -112,7 +113,7 @@ fn put_all_entries<W: Writer>(out: &mut W)
 
 /// The sizes of a port, in pieces.
 #[tactic(auto, unfolding(crate::specs::Heads::sizes_text))]
-fn sizes(parts: &PortParts) -> [Piece<'static>; 8]
+pub fn sizes(parts: &PortParts) -> [Piece<'static>; 8]
     requires { PortKept parts.now }
     ensures { pieces_text result ≡ sizes_of parts.now }
 {
@@ -128,6 +129,21 @@ fn sizes(parts: &PortParts) -> [Piece<'static>; 8]
     ]
 }
 
+/// Puts what the colours say, also of what only some ports show.
+fn put_legend_of<W: Writer>(out: &mut W, parts: &PortParts)
+    ensures { Puts (legend_of parts.now) (W.state out.old) (W.state out.new) }
+{
+    put_all_entries(out);
+    put_signs(out, parts);
+}
+
+/// Puts what the colours of a chart say.
+pub fn put_chart_legend<W: Writer>(out: &mut W, chart: &Chart)
+    ensures { Puts (legend_of chart.now.port) (W.state out.old) (W.state out.new) }
+{
+    put_legend_of(out, chart.parts());
+}
+
 /// Puts the head of a picture: what was proved, the sizes of the port, and what the colours say.
 pub fn put_head<W: Writer>(out: &mut W, chart: &Chart, outcome: Outcome)
     ensures { Puts (head chart.now outcome) (W.state out.old) (W.state out.new) }
@@ -135,7 +151,7 @@ pub fn put_head<W: Writer>(out: &mut W, chart: &Chart, outcome: Outcome)
     let parts = chart.parts();
     let height = u64::from(places_of(parts).bottom) + 28;
     put_heading(out, CargoUnit::Tonnes, outcome, height, &sizes(parts));
-    put_all_entries(out);
+    put_chart_legend(out, chart);
 }
 
 /// Puts the heads of the columns.

@@ -7,6 +7,7 @@
 
 mod bars;
 mod chart;
+mod closings;
 mod drafts;
 mod figures;
 mod fleet;
@@ -18,11 +19,17 @@ mod numbers;
 mod passing;
 mod picture;
 mod places;
+mod rest;
 mod row;
 mod sailing;
+mod signs;
 mod span;
+mod stays;
 mod strip;
 mod title;
 
+pub use head::sizes;
 pub use laws::{fleet_suffices, moves_are_permitted, sails_between};
 pub use picture::put_port_picture;
+pub use places::{Places, places_of};
+pub use rest::{put_port_rest, slots_shown};

@@ -18,7 +18,8 @@ pub fn natural(number: i64) -> u32
 
 /// The product of two numbers.
 pub fn product(a: u32, b: u32) -> u64
-    ensures { result ≡ a * b }
+    ensures value { result ≡ a * b }
+    ensures few { result ≤ 18_446_744_065_119_617_025 }
 {
     u64::from(a) * u64::from(b)
 }

@@ -1,10 +1,11 @@
 //! The whole picture.
 
-ghost use Rattle.std.specs.Prelude.{◌≡◌, ◌≤◌, ◌<◌, length, option_map};
+ghost use Rattle.std.specs.Prelude.{◌≡◌, ◌≤◌, ◌<◌, length, None, Some, option_map};
 ghost use Rattle.hw_desk.specs.Writers.{Puts};
+ghost use Rattle.hw_port.specs.Kept.{IsStart};
 ghost use Rattle.hw_port_chart.specs.Heads.{columns_where, places};
 ghost use Rattle.hw_port_chart.specs.Moves.{HasMoves};
-ghost use Rattle.hw_port_chart.specs.Pictures.{bottom, foot, horizon_line, panels, picture_of, port_picture, times};
+ghost use Rattle.hw_port_chart.specs.Pictures.{bottom, foot, horizon_line, panels, picture_of, port_picture, times, times_from};
 
 use crate::chart::Chart;
 use crate::fleet::put_fleet;
@@ -14,6 +15,7 @@ use crate::places::places_of;
 use crate::row::put_ships;
 use crate::span::span;
 use crate::strip::put_strips;
+use hw_calendar::put_dated_grid;
 use hw_chart::{Outcome, Scale, put_grid, put_span_end};
 use hw_desk::Writer;
 use hw_flat_chart::Plan;
@@ -36,7 +38,7 @@ fn put_heads<W: Writer>(out: &mut W, chart: &Chart)
 }
 
 /// Puts the tides, the ships, the sections and the tugs, one below another.
-fn put_panels<W: Writer>(out: &mut W, chart: &Chart)
+pub fn put_panels<W: Writer>(out: &mut W, chart: &Chart)
     ensures { Puts (panels chart.now) (W.state out.old) (W.state out.new) }
 {
     put_strips(out, chart);
@@ -53,16 +55,40 @@ fn bottom_of(chart: &Chart) -> u32
     places_of(chart.parts()).bottom
 }
 
-/// Puts the grid over the panels.
-fn put_times<W: Writer>(out: &mut W, chart: &Chart)
-    ensures { Puts (times chart.now) (W.state out.old) (W.state out.new) }
+/// Puts the grid over the panels, by the hours after slot 0.
+fn put_hours<W: Writer>(out: &mut W, chart: &Chart)
+    ensures { Puts (times_from chart.now None) (W.state out.old) (W.state out.new) }
 {
     let scale = Scale::Minutes(chart.slot_minutes());
     put_grid(out, scale, chart.span(), bottom_of(chart));
 }
 
+/// Puts the grid over the panels, by dates.
+fn put_dates<W: Writer>(out: &mut W, chart: &Chart, start: &[u8])
+    requires { IsStart start.now }
+    ensures { Puts (times_from chart.now (Some start.now)) (W.state out.old) (W.state out.new) }
+{
+    put_dated_grid(
+        out,
+        start,
+        chart.slot_minutes(),
+        chart.span(),
+        bottom_of(chart),
+    );
+}
+
+/// Puts the grid over the panels.
+pub fn put_times<W: Writer>(out: &mut W, chart: &Chart)
+    ensures { Puts (times chart.now) (W.state out.old) (W.state out.new) }
+{
+    match &chart.parts().start {
+        Some(start) => put_dates(out, chart, &start.items),
+        None => put_hours(out, chart),
+    }
+}
+
 /// Puts the line at the end of the slots in which ships sail.
-fn put_horizon<W: Writer>(out: &mut W, chart: &Chart)
+pub fn put_horizon<W: Writer>(out: &mut W, chart: &Chart)
     ensures { Puts (horizon_line chart.now) (W.state out.old) (W.state out.new) }
 {
     put_span_end(out, chart.horizon(), chart.span(), bottom_of(chart));
@@ -88,7 +114,7 @@ fn put_picture<W: Writer>(out: &mut W, chart: &Chart, outcome: Outcome)
 
 /// Puts the picture of a port with its tide, a timetable of its flat problem or none, and what a certificate proves.
 ///
-/// The picture is one SVG, below 1,600,000 bytes, each a line feed or from the space to the tilde. The timetable need not
+/// The picture is one SVG, below 3,000,000 bytes, each a line feed or from the space to the tilde. The timetable need not
 /// be permitted, nor the outcome be true of it: what is printed is the picture of these. It takes no memory.
 pub fn put_port_picture<W: Writer>(
     out: &mut W,

@@ -9,6 +9,7 @@ ghost use Rattle.hw_port_rules.specs.Drafts.{sailing as sailing_draft};
 ghost use Rattle.hw_chart.specs.Courses.{SailsBefore};
 ghost use Rattle.hw_chart.specs.Layout.{pin, stripe};
 ghost use Rattle.hw_port_chart.specs.Charts.{course, way as way_of};
+ghost use Rattle.hw_port_chart.specs.Closings.{closings};
 ghost use Rattle.hw_port_chart.specs.Drafts.{drafts_text, window_of};
 ghost use Rattle.hw_port_chart.specs.Figures.{figures};
 ghost use Rattle.hw_port_chart.specs.Sailings.{sailing_of as sailing_numbers};
@@ -17,6 +18,7 @@ ghost use Rattle.hw_port_chart.specs.Rows.{arrow, arrow_in, arrow_out, arrow_pat
 
 use crate::bars::put_bars;
 use crate::chart::Chart;
+use crate::closings::put_closings;
 use crate::drafts::{put_drafts, put_moves, window};
 use crate::figures::put_figures;
 use crate::numbers::{natural_full, way};
@@ -216,7 +218,16 @@ fn put_window<W: Writer>(out: &mut W, chart: &Chart, number: ShipId, ship: &Ship
     put_drafts(out, chart, number, ship, window, chart.course(number));
 }
 
-/// Puts the windows of a row: drafts and moves.
+/// Puts what is closed in the window of a ship.
+fn put_closed<W: Writer>(out: &mut W, chart: &Chart, number: ShipId, ship: &Ship, y: u32)
+    requires ship_in { number < length chart.now.port.ships }
+    requires ship { ShipKept chart.now.port ship.now }
+    ensures { Puts (closings chart.now number (window_of chart.now ship.now y)) (W.state out.old) (W.state out.new) }
+{
+    put_closings(out, chart, number, window(chart, ship, y));
+}
+
+/// Puts the windows of a row: drafts and moves, and over the drafts what is closed.
 fn put_windows<W: Writer>(out: &mut W, chart: &Chart, number: ShipId, ship: &Ship, y: u32)
     requires ship_in { number < length chart.now.port.ships }
     requires ship { ShipKept chart.now.port ship.now }
@@ -224,6 +235,7 @@ fn put_windows<W: Writer>(out: &mut W, chart: &Chart, number: ShipId, ship: &Shi
 {
     put_window(out, chart, number, ship, y);
     put_moves(out, chart, number, y);
+    put_closed(out, chart, number, ship, y);
 }
 
 /// Whether there is no slot in which a ship may sail.

@@ -14,6 +14,7 @@ mod run;
 mod status;
 mod windows;
 
+pub use closings::is_closed_in;
 pub use laws::{
     drafts_are_extremes, last_pass_is_last, lines_are_true, reason_true, runs_are_longest,
     span_is_window, value_exactly_outside, window_rows,

@@ -1,0 +1,16 @@
+-- What a picture has between its head and its end.
+use Rattle.std.specs.Prelude.{ℕ, List, [], ◌∷◌, ◌++◌, Option}
+use Rattle.hw_model.specs.Problem.{Problem, horizon}
+use Rattle.hw_svg.specs.Joined.{joined}
+use Rattle.hw_chart.specs.declared.grid.Scale.TheVariants.{Slots}
+use Rattle.hw_chart.specs.Grids.{grid, span_end}
+use Rattle.hw_flat_chart.specs.Fleets.{span_of}
+use Rattle.hw_flat_chart.specs.Pictures.{body, bottom, legend}
+
+-- the grid over this many slots
+unfoldable pub lines_over : Problem → ℕ → List ℕ
+lines_over f span = grid Slots span (bottom f) ++ span_end (horizon f) span (bottom f)
+
+-- what the colours say, rows, panels and grid
+unfoldable pub flat_rest : Problem → Option (List ℕ) → List ℕ
+flat_rest f table = joined (legend ∷ body f table ∷ lines_over f (span_of f table) ∷ [])
