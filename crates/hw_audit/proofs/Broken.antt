@@ -1,19 +1,17 @@
 -- What is broken now.
-use Rattle.std.proofs.Common.{◌≡◌, inl, inr, ℕ, zero, suc, ◌+◌, ◌-◌, ◌<◌, Bool, true, false, cond, not, List, [], ◌∷◌, map, filter, find, Option, Some, None, All, Contains, length, get_or, refl, sym, ap, subst, ◌∙◌, arith}
+use Rattle.std.proofs.Common.{◌≡◌, inl, inr, ℕ, zero, suc, ◌+◌, ◌<◌, Bool, true, false, cond, not, List, [], ◌∷◌, filter, find, Option, Some, None, All, Contains, length, get_or, refl, sym, ap, subst, ◌∙◌, arith}
 use Rattle.std.proofs.lemmas.Bool.{not_from_false}
 use Rattle.std.proofs.lemmas.List.{length-map}
-use Rattle.std.proofs.lemmas.List.Elements.{All-map, All-weaker, All-contains, All-filter, All-from_get_or, filter_passes, Contains-append_right, Contains-append_cases}
+use Rattle.std.proofs.lemmas.List.Elements.{All-contains, All-filter, All-from_get_or, filter_passes, Contains-append_right, Contains-append_cases}
 use Rattle.std.proofs.lemmas.List.FromFn.{length-range_with_len, get_or-range_with_len}
 use Rattle.std.proofs.lemmas.List.Kept.{IsStrictlyIncreasing-filter}
 use Rattle.std.specs.List.{range_with_len}
+use Rattle.hw_derived.specs.Fleets.{lessened_rule, lessened}
+use Rattle.hw_derived.proofs.Fleets.{lessened_fits as fleet_fits, same_problem}
 use Rattle.hw_derived.proofs.Grids.{increasing_range}
 use Rattle.hw_laws.proofs.Broken.{permits_from, from_permits}
-use Rattle.hw_model.specs.declared.rule.Rule.{Rule}
-use Rattle.hw_model.specs.declared.rule.Rule.TheVariants.{Pair, After, Tugs}
-use Rattle.hw_model.specs.Problem.{Problem}
-use Rattle.hw_model.specs.Limits.{RuleFits}
 use Rattle.hw_model.specs.Timetables.{Permits, restriction_holds, restriction_count}
-use Rattle.hw_audit.specs.Watching.{watched, lessened_rule, lessened, is_broken}
+use Rattle.hw_audit.specs.Watching.{watched, is_broken}
 use Rattle.hw_audit.specs.Laws.{NoneBroken, NoneBrokenFirst, LessenedFits, BrokenExactly}
 
 -- ---- what is listed
@@ -71,39 +69,8 @@ broken_exactly f s =
 
 -- ---- a lessened fleet
 
-rule_fits : (ships withdrawn : ℕ) (rule : Rule) → RuleFits ships rule → RuleFits ships (lessened_rule withdrawn rule)
-rule_fits ships withdrawn (Pair v w holes) fits = fits
-rule_fits ships withdrawn (After v w gap) fits = fits
-rule_fits ships withdrawn (Tugs fleet jobs) fits = record { small_fleet = omega (arith, fits.small_fleet); some_job = fits.some_job; few_jobs = fits.few_jobs; each_job = fits.each_job; ascends = fits.ascends }
-
 pub lessened_fits : LessenedFits
-lessened_fits f withdrawn flat = record {
-  some_ship = flat.some_ship;
-  few_ships = flat.few_ships;
-  some_slot = flat.some_slot;
-  few_slots = flat.few_slots;
-  each_value = flat.each_value;
-  last_value = flat.last_value;
-  small_values = flat.small_values;
-  few_rules = omega (arith, length-map f.rules (lessened_rule withdrawn), flat.few_rules);
-  each_rule = All-map (RuleFits f.ships) (lessened_rule withdrawn) f.rules (All-weaker (RuleFits f.ships) (λ rule. RuleFits f.ships (lessened_rule withdrawn rule)) (rule_fits f.ships withdrawn) f.rules flat.each_rule);
-}
-
-same_rule : (rule : Rule) → lessened_rule 0 rule ≡ rule
-same_rule (Pair v w holes) = refl
-same_rule (After v w gap) = refl
-same_rule (Tugs fleet jobs) = let e : fleet - 0 ≡ fleet = omega arith in ap (λ n. Tugs n jobs) e
-
-same_rules : (rules : List Rule) → map (lessened_rule 0) rules ≡ rules
-same_rules [] = refl
-same_rules (rule ∷ rules) = ap (λ r. r ∷ map (lessened_rule 0) rules) (same_rule rule) ∙ ap (λ rs. rule ∷ rs) (same_rules rules)
-
-with_rules : Problem → List Rule → Problem
-with_rules f rules = record { ships = f.ships; slots = f.slots; stay = f.stay; values = f.values; rules = rules }
-
-pub same_problem : (f : Problem) → lessened 0 f ≡ f
-unfolding with_rules
-same_problem f = ap (with_rules f) (same_rules f.rules)
+lessened_fits f withdrawn flat = fleet_fits f withdrawn flat
 
 -- ---- nothing broken
 

@@ -8,6 +8,7 @@ use Rattle.hw_model.specs.declared.rule.Rule.{Rule}
 use Rattle.hw_model.specs.declared.rule.Rule.TheVariants.{Pair, After, Tugs}
 use Rattle.hw_model.specs.Problem.{Problem, IsTimetable}
 use Rattle.hw_model.specs.Timetables.{Permits}
+use Rattle.hw_derived.specs.Fleets.{lessened_rule, lessened}
 use Rattle.hw_port.specs.Kept.{Within, ShipKept, PortKept}
 use Rattle.hw_port.specs.Parts.{ShipParts}
 use Rattle.hw_port.specs.Whole.{Parts}
@@ -18,7 +19,7 @@ use Rattle.hw_port_rules.specs.Flattened.{pairs_from, berth_rule, after_rule, jo
 use Rattle.hw_port_rules.specs.Numbers.{whole}
 use Rattle.hw_port_rules.specs.Permitted.{PortPermits}
 use Rattle.hw_audit.specs.Laws.{fewer_tugs, NonePortBroken, NonePortBrokenAfter}
-use Rattle.hw_audit.specs.Watching.{Watched, watched, IsWatched, after_all, lessened_rule, lessened, broken_now}
+use Rattle.hw_audit.specs.Watching.{Watched, watched, IsWatched, after_all, broken_now}
 use Rattle.hw_audit.proofs.Begun.{of_port, watched_first}
 use Rattle.hw_audit.proofs.Broken.{none_broken}
 use Rattle.hw_audit.proofs.PortRules.{Each2, all_pairs, all_berths, all_after}
@@ -86,7 +87,7 @@ ship_kept p withdrawn s k = record {
 fewer : (fleet withdrawn : ℕ) → fleet ≤ 1_000 → Within (pos 0) (pos 1_000) (pos (fleet - withdrawn))
 fewer fleet withdrawn le = record { low = omega (arith, ints); high = omega (arith, ints, le) }
 
-port_kept : (p : Parts) (withdrawn : ℕ) → PortKept p → PortKept (fewer_tugs withdrawn p)
+pub port_kept : (p : Parts) (withdrawn : ℕ) → PortKept p → PortKept (fewer_tugs withdrawn p)
 port_kept p withdrawn k = record {
   version = k.version;
   start = k.start;

@@ -1,6 +1,7 @@
 -- The laws of a timetable that is watched.
 use Rattle.std.specs.Prelude.{◌≡◌, ◌↔◌, ℕ, ◌-◌, ◌<◌, pos, false, List, [], None, Contains}
 use Rattle.std.specs.List.Sorted.{IsStrictlyIncreasing}
+use Rattle.hw_derived.specs.Fleets.{lessened}
 use Rattle.hw_model.specs.Problem.{Problem, IsTimetable}
 use Rattle.hw_model.specs.Limits.{IsFlat}
 use Rattle.hw_model.specs.Timetables.{Permits, restriction_count, restriction_holds}
@@ -12,7 +13,7 @@ use Rattle.hw_port_rules.specs.Numbers.{whole}
 use Rattle.hw_port_rules.specs.Permitted.{PortPermits}
 use Rattle.hw_port_rules.specs.Timetables.{IsPortTimetable}
 use Rattle.hw_audit.specs.declared.event.PortEvent.{PortEvent}
-use Rattle.hw_audit.specs.Watching.{Watched, watched, IsWatched, refused, after, after_all, first_refused, lessened, broken_now}
+use Rattle.hw_audit.specs.Watching.{Watched, watched, IsWatched, refused, after, after_all, first_refused, broken_now}
 
 -- a state keeps its limits through an event that is taken
 abbrev pub TakenKeeps : Type 0

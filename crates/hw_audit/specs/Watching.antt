@@ -1,8 +1,7 @@
 -- A timetable that is watched: what events change, which are refused, and what is broken now.
-use Rattle.std.specs.Prelude.{◌≡◌, ℕ, ◌+◌, ◌-◌, ◌≤◌, Bool, true, false, ◌&&◌, not, nat_lt, if◌then◌else◌, List, [], ◌∷◌, length, map, filter, fold, replicate, Option, Some, None, slice_index, slice_index_or, slice_set}
+use Rattle.std.specs.Prelude.{◌≡◌, ℕ, ◌+◌, ◌-◌, ◌≤◌, Bool, true, false, ◌&&◌, not, nat_lt, if◌then◌else◌, List, [], ◌∷◌, length, filter, fold, replicate, Option, Some, None, slice_index, slice_index_or, slice_set}
 use Rattle.std.specs.List.{range_with_len}
-use Rattle.hw_model.specs.declared.rule.Rule.{Rule}
-use Rattle.hw_model.specs.declared.rule.Rule.TheVariants.{Pair, After, Tugs}
+use Rattle.hw_derived.specs.Fleets.{lessened}
 use Rattle.hw_model.specs.Problem.{Problem, IsTimetable, horizon, stays}
 use Rattle.hw_model.specs.Timetables.{restriction_count, restriction_holds}
 use Rattle.hw_audit.specs.declared.event.PortEvent.{PortEvent}
@@ -73,16 +72,6 @@ first_refused f fleet place s [] = None
 first_refused f fleet place s (event ∷ events) = refused_or place (refused f fleet s event) (first_refused f fleet (place + 1) (after s event) events)
 
 -- ---- what is broken
-
--- the rule with this many tugs fewer in its fleet
-abbrev pub lessened_rule : ℕ → Rule → Rule
-lessened_rule withdrawn (Pair v w holes) = Pair v w holes
-lessened_rule withdrawn (After v w gap) = After v w gap
-lessened_rule withdrawn (Tugs fleet jobs) = Tugs (fleet - withdrawn) jobs
-
--- the problem with this many tugs fewer in the fleet
-abbrev pub lessened : ℕ → Problem → Problem
-lessened withdrawn f = record { ships = f.ships; slots = f.slots; stay = f.stay; values = f.values; rules = map (lessened_rule withdrawn) f.rules }
 
 -- a restriction of the problem doesn't hold with the tugs that are left
 abbrev pub is_broken : Problem → Watched → ℕ → Bool

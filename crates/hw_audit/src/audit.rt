@@ -179,4 +179,25 @@ impl Audit {
     {
         &self.broken[..self.many]
     }
+
+    /// The slots of the ships now. It takes no memory.
+    pub fn slots(&self) -> &[Slot]
+        ensures value { result.now ≡ self.now.state.table }
+    {
+        &self.table
+    }
+
+    /// Which ships have sailed. It takes no memory.
+    pub fn sailed(&self) -> &[bool]
+        ensures value { result.now ≡ self.now.state.sailed }
+    {
+        &self.sailed
+    }
+
+    /// How many tugs are withdrawn now. It takes no memory.
+    pub fn withdrawn(&self) -> u32
+        ensures value { result ≡ self.now.state.withdrawn }
+    {
+        self.withdrawn
+    }
 }

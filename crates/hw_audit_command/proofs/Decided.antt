@@ -1,4 +1,4 @@
--- The reports of an audit are one function of its files' bytes.
+-- The reports of an audit, and of `carry`, are functions of their files' bytes.
 use Rattle.std.proofs.Common.{◌≡◌, ◌≤◌, ◌<◌, ◌⊎◌, ◌∙◌, ℕ, List, [], ◌∷◌, length, Option, Some, None, Result, Ok, Err, inl, inr, refl, sym, ap, subst, arith}
 use Rattle.std.specs.Prelude.{◌≢◌}
 use Rattle.hw_model.specs.Problem.{Problem, shape_of}
@@ -15,18 +15,22 @@ use Rattle.hw_tide.specs.declared.fault.TideFault.TheVariants as tide
 use Rattle.hw_tide.proofs.OneList.{one_list_law}
 use Rattle.hw_port_rules.specs.Flattened.{flattened}
 use Rattle.hw_port_rules.specs.Numbers.{whole}
-use Rattle.hw_report.specs.Reports.{Report, too_long, bad_json, bad_field, bad_tides, bad_text}
+use Rattle.hw_report.specs.Reports.{Report, too_long, bad_json, bad_field, bad_tides, bad_text, whole_text}
 use Rattle.hw_derived.specs.Reading.{Fault}
 use Rattle.hw_audit.specs.Text.{table_text, events_text}
-use Rattle.hw_audit.specs.Watching.{Watched, watched, first_refused}
+use Rattle.hw_audit.specs.Watching.{Watched, watched, after_all, first_refused}
 use Rattle.hw_audit.specs.Words.{word_text}
 use Rattle.hw_audit.specs.declared.event.PortEvent.{PortEvent}
 use Rattle.hw_audit.specs.declared.fault.AuditWord.{AuditWord}
+use Rattle.hw_repair.specs.Written.{written_plan}
+use Rattle.hw_carry.specs.Carried.{carried}
 use Rattle.hw_command.specs.PortInputs.{NoPort, IsBadTable}
 use Rattle.hw_command.specs.Values.{most_bytes, IsLong, IsPortOf, GivesPort}
 use Rattle.hw_command.proofs.OneReading.{Limited, one_instance, one_limited, one_table}
-use Rattle.hw_audit_command.specs.AuditPort.{audit_reports, Audits, EventsFail, by_form, by_event, NoAudit, AuditsTexts}
-use Rattle.hw_audit_command.specs.Laws.{OneAudit}
+use Rattle.hw_audit_command.specs.AuditPort.{audit_reports, Audits, AuditsTexts}
+use Rattle.hw_audit_command.specs.CarryPort.{CarriesDay, CarryTells}
+use Rattle.hw_audit_command.specs.Refusals.{EventsFail, by_form, by_event, NoDay}
+use Rattle.hw_audit_command.specs.Laws.{OneAudit, OneCarry}
 use Rattle.hw_audit_command.specs.Values.{IsPlanOf}
 
 -- ---- one list of reports
@@ -37,35 +41,39 @@ One Says = (rs others : List Report) → Says rs → Says others → rs ≡ othe
 
 -- ---- the events, and before them the plan
 
-abbrev of_trial : Problem → Watched → List PortEvent → Option (ℕ × AuditWord) → List Report
-of_trial f s happened None = audit_reports f s happened
-of_trial f s happened (Some refusal) = bad_text Events refusal.0 (word_text refusal.1) ∷ []
+-- what is printed of a day
+abbrev Printed : Type 0
+Printed = Problem → Watched → List PortEvent → List Report
 
-abbrev of_events : Problem → ℕ → Watched → Result (List PortEvent) (Fault AuditWord) → List Report
-of_events f fleet s (Ok happened) = of_trial f s happened (first_refused f fleet 2 s happened)
-of_events f fleet s (Err bad) = bad_text Events bad.number (word_text bad.word) ∷ []
+abbrev of_trial : Printed → Problem → Watched → List PortEvent → Option (ℕ × AuditWord) → List Report
+of_trial all f s happened None = all f s happened
+of_trial all f s happened (Some refusal) = bad_text Events refusal.0 (word_text refusal.1) ∷ []
 
-abbrev EventsSay : Parts → TideParts → List ℕ → List ℕ → List Report → Type 0
-EventsSay p h events table rs = Limited events (too_long Events ∷ []) (λ rs. rs ≡ of_events (flattened p h) (whole p.fleet) (watched table) (events_text events)) rs
+abbrev of_events : Printed → Problem → ℕ → Watched → Result (List PortEvent) (Fault AuditWord) → List Report
+of_events all f fleet s (Ok happened) = of_trial all f s happened (first_refused f fleet 2 s happened)
+of_events all f fleet s (Err bad) = bad_text Events bad.number (word_text bad.word) ∷ []
 
-abbrev PlanSays : Parts → TideParts → List ℕ → Result (List ℕ) (Fault AuditWord) → List Report → Type 0
-PlanSays p h events (Ok table) rs = EventsSay p h events table rs
-PlanSays p h events (Err bad) rs = rs ≡ bad_text Plan bad.number (word_text bad.word) ∷ []
+abbrev EventsSay : Printed → Parts → TideParts → List ℕ → List ℕ → List Report → Type 0
+EventsSay all p h events table rs = Limited events (too_long Events ∷ []) (λ rs. rs ≡ of_events all (flattened p h) (whole p.fleet) (watched table) (events_text events)) rs
 
-abbrev LastSays : List ℕ → List ℕ → Parts → TideParts → List Report → Type 0
-LastSays plan events p h rs = Limited plan (too_long Plan ∷ []) (PlanSays p h events (table_text (shape_of (flattened p h)) plan)) rs
+abbrev PlanSays : Printed → Parts → TideParts → List ℕ → Result (List ℕ) (Fault AuditWord) → List Report → Type 0
+PlanSays all p h events (Ok table) rs = EventsSay all p h events table rs
+PlanSays all p h events (Err bad) rs = rs ≡ bad_text Plan bad.number (word_text bad.word) ∷ []
+
+abbrev LastSays : Printed → List ℕ → List ℕ → Parts → TideParts → List Report → Type 0
+LastSays all plan events p h rs = Limited plan (too_long Plan ∷ []) (PlanSays all p h events (table_text (shape_of (flattened p h)) plan)) rs
 
 one_equal : (these : List Report) → One (λ rs. rs ≡ these)
 one_equal these rs others h g = h ∙ sym g
 
-one_plan : (p : Parts) (h : TideParts) (events : List ℕ) (what : Result (List ℕ) (Fault AuditWord)) → One (PlanSays p h events what)
-one_plan p h events (Ok table) rs others says says_too =
-    one_limited events (too_long Events ∷ []) (λ rs. rs ≡ of_events (flattened p h) (whole p.fleet) (watched table) (events_text events)) (one_equal (of_events (flattened p h) (whole p.fleet) (watched table) (events_text events))) rs others says says_too
-one_plan p h events (Err bad) rs others says says_too = says ∙ sym says_too
+one_plan : (all : Printed) (p : Parts) (h : TideParts) (events : List ℕ) (what : Result (List ℕ) (Fault AuditWord)) → One (PlanSays all p h events what)
+one_plan all p h events (Ok table) rs others says says_too =
+    one_limited events (too_long Events ∷ []) (λ rs. rs ≡ of_events all (flattened p h) (whole p.fleet) (watched table) (events_text events)) (one_equal (of_events all (flattened p h) (whole p.fleet) (watched table) (events_text events))) rs others says says_too
+one_plan all p h events (Err bad) rs others says says_too = says ∙ sym says_too
 
-one_last : (plan events : List ℕ) (p : Parts) (h : TideParts) → One (LastSays plan events p h)
-one_last plan events p h rs others says says_too =
-    one_limited plan (too_long Plan ∷ []) (PlanSays p h events (table_text (shape_of (flattened p h)) plan)) (one_plan p h events (table_text (shape_of (flattened p h)) plan)) rs others says says_too
+one_last : (all : Printed) (plan events : List ℕ) (p : Parts) (h : TideParts) → One (LastSays all plan events p h)
+one_last all plan events p h rs others says says_too =
+    one_limited plan (too_long Plan ∷ []) (PlanSays all p h events (table_text (shape_of (flattened p h)) plan)) (one_plan all p h events (table_text (shape_of (flattened p h)) plan)) rs others says says_too
 
 -- ---- the tide table, and before it the instance
 
@@ -159,37 +167,61 @@ no_port_files instance table Last (too_long Tides) says = of_long_table Last say
 no_port_files instance table Last r says = absurd says
 
 -- a plan that is read as this
-by_plan : (plan : List ℕ) (p : Parts) (h : TideParts) (events : List ℕ) (what : Result (List ℕ) (Fault AuditWord)) (rs : List Report) → length plan ≤ most_bytes → table_text (shape_of (flattened p h)) plan ≡ what → PlanSays p h events what rs → LastSays plan events p h rs
-by_plan plan p h events what rs short reads says = inr (short, subst (λ (read_as : Result (List ℕ) (Fault AuditWord)). PlanSays p h events read_as rs) (sym reads) says)
+by_plan : (all : Printed) (plan : List ℕ) (p : Parts) (h : TideParts) (events : List ℕ) (what : Result (List ℕ) (Fault AuditWord)) (rs : List Report) → length plan ≤ most_bytes → table_text (shape_of (flattened p h)) plan ≡ what → PlanSays all p h events what rs → LastSays all plan events p h rs
+by_plan all plan p h events what rs short reads says = inr (short, subst (λ (read_as : Result (List ℕ) (Fault AuditWord)). PlanSays all p h events read_as rs) (sym reads) says)
 
 -- a timetable, and events that are read as this
-by_events : (plan events : List ℕ) (p : Parts) (h : TideParts) (table : List ℕ) (what : Result (List PortEvent) (Fault AuditWord)) (rs : List Report) → IsPlanOf (Some plan) p h table → length events ≤ most_bytes → events_text events ≡ what → rs ≡ of_events (flattened p h) (whole p.fleet) (watched table) what → LastSays plan events p h rs
-by_events plan events p h table what rs planned short reads says =
-    by_plan plan p h events (Ok table) rs planned.reads.0 planned.reads.1 (inr (short, subst (λ (read_as : Result (List PortEvent) (Fault AuditWord)). rs ≡ of_events (flattened p h) (whole p.fleet) (watched table) read_as) (sym reads) says))
+by_events : (all : Printed) (plan events : List ℕ) (p : Parts) (h : TideParts) (table : List ℕ) (what : Result (List PortEvent) (Fault AuditWord)) (rs : List Report) → IsPlanOf (Some plan) p h table → length events ≤ most_bytes → events_text events ≡ what → rs ≡ of_events all (flattened p h) (whole p.fleet) (watched table) what → LastSays all plan events p h rs
+by_events all plan events p h table what rs planned short reads says =
+    by_plan all plan p h events (Ok table) rs planned.reads.0 planned.reads.1 (inr (short, subst (λ (read_as : Result (List PortEvent) (Fault AuditWord)). rs ≡ of_events all (flattened p h) (whole p.fleet) (watched table) read_as) (sym reads) says))
 
-by_failure : (plan events : List ℕ) (p : Parts) (h : TideParts) (table : List ℕ) (number : ℕ) (cause : AuditWord) → IsPlanOf (Some plan) p h table → EventsFail (flattened p h) (whole p.fleet) (watched table) (Some events) number cause → LastSays plan events p h (bad_text Events number (word_text cause) ∷ [])
-by_failure plan events p h table number cause planned (by_form form) = by_events plan events p h table (Err (record { number = number; word = cause })) (bad_text Events number (word_text cause) ∷ []) planned form.0 form.1 refl
-by_failure plan events p h table number cause planned (by_event happened told refusal) =
-    by_events plan events p h table (Ok happened) (bad_text Events number (word_text cause) ∷ []) planned told.0 told.1 (sym (ap (of_trial (flattened p h) (watched table) happened) refusal))
+by_failure : (all : Printed) (plan events : List ℕ) (p : Parts) (h : TideParts) (table : List ℕ) (number : ℕ) (cause : AuditWord) → IsPlanOf (Some plan) p h table → EventsFail (flattened p h) (whole p.fleet) (watched table) (Some events) number cause → LastSays all plan events p h (bad_text Events number (word_text cause) ∷ [])
+by_failure all plan events p h table number cause planned (by_form form) = by_events all plan events p h table (Err (record { number = number; word = cause })) (bad_text Events number (word_text cause) ∷ []) planned form.0 form.1 refl
+by_failure all plan events p h table number cause planned (by_event happened told refusal) =
+    by_events all plan events p h table (Ok happened) (bad_text Events number (word_text cause) ∷ []) planned told.0 told.1 (sym (ap (of_trial all (flattened p h) (watched table) happened) refusal))
 
-lone_files : (instance tides plan events : List ℕ) (r : Report) → NoAudit (Some instance) (Some tides) (Some plan) (Some events) r → OfFiles instance tides (LastSays plan events) (r ∷ [])
-lone_files instance tides plan events (bad_text Plan number word) says =
-    of_port (LastSays plan events) (bad_text Plan number word ∷ []) says.gives (by_plan plan says.port says.tide events (Err (record { number = number; word = says.cause })) (bad_text Plan number word ∷ []) says.reads.0 says.reads.1 (ap (λ (w : List ℕ). bad_text Plan number w ∷ []) says.named))
-lone_files instance tides plan events (bad_text Events number word) says =
-    of_port (LastSays plan events) (bad_text Events number word ∷ []) says.gives (subst (λ (w : List ℕ). LastSays plan events says.port says.tide (bad_text Events number w ∷ [])) (sym says.named) (by_failure plan events says.port says.tide says.table number says.cause says.planned says.fail))
-lone_files instance tides plan events (too_long Plan) says = of_port (LastSays plan events) (too_long Plan ∷ []) says.0.reads (inl (says.1, refl))
-lone_files instance tides plan events (too_long Events) says =
-    of_port (LastSays plan events) (too_long Events ∷ []) says.0.reads (by_plan plan says.0.port says.0.tide events (Ok says.0.table) (too_long Events ∷ []) says.0.planned.reads.0 says.0.planned.reads.1 (inl (says.1, refl)))
-lone_files instance tides plan events r says = no_port_files instance tides (LastSays plan events) r says
+lone_files : (all : Printed) (instance tides plan events : List ℕ) (r : Report) → NoDay (Some instance) (Some tides) (Some plan) (Some events) r → OfFiles instance tides (LastSays all plan events) (r ∷ [])
+lone_files all instance tides plan events (bad_text Plan number word) says =
+    of_port (LastSays all plan events) (bad_text Plan number word ∷ []) says.gives (by_plan all plan says.port says.tide events (Err (record { number = number; word = says.cause })) (bad_text Plan number word ∷ []) says.reads.0 says.reads.1 (ap (λ (w : List ℕ). bad_text Plan number w ∷ []) says.named))
+lone_files all instance tides plan events (bad_text Events number word) says =
+    of_port (LastSays all plan events) (bad_text Events number word ∷ []) says.gives (subst (λ (w : List ℕ). LastSays all plan events says.port says.tide (bad_text Events number w ∷ [])) (sym says.named) (by_failure all plan events says.port says.tide says.table number says.cause says.planned says.fail))
+lone_files all instance tides plan events (too_long Plan) says = of_port (LastSays all plan events) (too_long Plan ∷ []) says.0.reads (inl (says.1, refl))
+lone_files all instance tides plan events (too_long Events) says =
+    of_port (LastSays all plan events) (too_long Events ∷ []) says.0.reads (by_plan all plan says.0.port says.0.tide events (Ok says.0.table) (too_long Events ∷ []) says.0.planned.reads.0 says.0.planned.reads.1 (inl (says.1, refl)))
+lone_files all instance tides plan events r says = no_port_files instance tides (LastSays all plan events) r says
 
-all_files : (instance tides plan events : List ℕ) (rs : List Report) → Audits (Some instance) (Some tides) (Some plan) (Some events) rs → OfFiles instance tides (LastSays plan events) rs
+abbrev audit_prints : Printed
+audit_prints f s happened = audit_reports f s happened
+
+all_files : (instance tides plan events : List ℕ) (rs : List Report) → Audits (Some instance) (Some tides) (Some plan) (Some events) rs → OfFiles instance tides (LastSays audit_prints plan events) rs
 all_files instance tides plan events rs h =
-    of_port (LastSays plan events) rs h.reads (by_events plan events h.port h.tide h.table (Ok h.happened) rs h.planned h.told.0 h.told.1 (h.printed ∙ sym (ap (of_trial (flattened h.port h.tide) (watched h.table) h.happened) h.taken)))
+    of_port (LastSays audit_prints plan events) rs h.reads (by_events audit_prints plan events h.port h.tide h.table (Ok h.happened) rs h.planned h.told.0 h.told.1 (h.printed ∙ sym (ap (of_trial audit_prints (flattened h.port h.tide) (watched h.table) h.happened) h.taken)))
 
-files : (instance tides plan events : List ℕ) (rs : List Report) → AuditsTexts (Some instance) (Some tides) (Some plan) (Some events) rs → OfFiles instance tides (LastSays plan events) rs
+files : (instance tides plan events : List ℕ) (rs : List Report) → AuditsTexts (Some instance) (Some tides) (Some plan) (Some events) rs → OfFiles instance tides (LastSays audit_prints plan events) rs
 files instance tides plan events [] says = absurd says
-files instance tides plan events (r ∷ []) says = lone_files instance tides plan events r says
+files instance tides plan events (r ∷ []) says = lone_files audit_prints instance tides plan events r says
 files instance tides plan events (r ∷ next ∷ more) says = all_files instance tides plan events (r ∷ next ∷ more) says
 
 pub one_audit : OneAudit
-one_audit instance tides plan events reports others says says_too = one_of_files instance tides (LastSays plan events) (one_last plan events) reports others (files instance tides plan events reports says) (files instance tides plan events others says_too)
+one_audit instance tides plan events reports others says says_too = one_of_files instance tides (LastSays audit_prints plan events) (one_last audit_prints plan events) reports others (files instance tides plan events reports says) (files instance tides plan events others says_too)
+
+-- ---- what `carry` says is said of its files
+
+abbrev carry_prints : Printed
+carry_prints f s happened = whole_text (written_plan (carried s.table (after_all s happened))) ∷ []
+
+day_files : (instance tides plan events text : List ℕ) → CarriesDay (Some instance) (Some tides) (Some plan) (Some events) text → OfFiles instance tides (LastSays carry_prints plan events) (whole_text text ∷ [])
+day_files instance tides plan events text h =
+    of_port (LastSays carry_prints plan events) (whole_text text ∷ []) h.reads (by_events carry_prints plan events h.port h.tide h.table (Ok h.happened) (whole_text text ∷ []) h.planned h.told.0 h.told.1
+    (ap (λ (xs : List ℕ). whole_text xs ∷ []) h.is_text ∙ sym (ap (of_trial carry_prints (flattened h.port h.tide) (watched h.table) h.happened) h.taken)))
+
+told_files : (instance tides plan events : List ℕ) (r : Report) → CarryTells (Some instance) (Some tides) (Some plan) (Some events) r → OfFiles instance tides (LastSays carry_prints plan events) (r ∷ [])
+told_files instance tides plan events (whole_text text) says = day_files instance tides plan events text says
+told_files instance tides plan events r says = lone_files carry_prints instance tides plan events r says
+
+same_lone : (r t : Report) → r ∷ [] ≡ t ∷ [] → r ≡ t
+same_lone r t e = cc
+
+pub one_carry : OneCarry
+one_carry instance tides plan events r t says says_too =
+    same_lone r t (one_of_files instance tides (LastSays carry_prints plan events) (one_last carry_prints plan events) (r ∷ []) (t ∷ []) (told_files instance tides plan events r says) (told_files instance tides plan events t says_too))

@@ -21,7 +21,7 @@ use Rattle.hw_command.specs.Values.{IsPortOf}
 use Rattle.hw_command.specs.Works.{Stops}
 use Rattle.hw_command.proofs.Begun.{entered_on, input_stops, refuses}
 use Rattle.hw_command.proofs.PortForms.{port_given, gives_tide}
-use Rattle.hw_audit_command.specs.AuditPort.{by_form, NoAudit}
+use Rattle.hw_audit_command.specs.Refusals.{by_form, NoDay}
 use Rattle.hw_audit_command.specs.Reading.{ReadsAs, ReadsText, report_of_text}
 use Rattle.hw_audit_command.specs.Values.{IsPlanOf, AreEventsOf, GivesPlan, AuditGives}
 use Rattle.hw_audit_command.specs.declared.reading.TextStop.{TextStop}
@@ -63,7 +63,7 @@ plan_read {plan = plan} {x = x} {p = p} {h = h} {f = f} {table = table} read m s
 
 -- the plan gives no timetable
 pub plan_stops : {instance tides plan : List ℕ} {x y z : DeskState} {p : Parts} {h : TideParts} {f : Problem} (events : List ℕ) (stop : TextStop) → ReadsPortProblem instance tides x y p h f → ReadsText Plan (table_text (shape_of f)) plan y z (Err stop)
-    → Stops (named Instance instance ∷ named Tides tides ∷ named Plan plan ∷ []) (AuditGives instance tides plan x.held) (NoAudit (x.held instance) (x.held tides) (x.held plan) (x.held events)) x z (report_of_text Plan stop)
+    → Stops (named Instance instance ∷ named Tides tides ∷ named Plan plan ∷ []) (AuditGives instance tides plan x.held) (NoDay (x.held instance) (x.held tides) (x.held plan) (x.held events)) x z (report_of_text Plan stop)
 plan_stops {instance = instance} {tides = tides} {plan = plan} {y = y} {z = z} events (Input stop) read m =
     input_stops y (named Instance instance ∷ named Tides tides ∷ []) Plan plan [] stop (λ long. (gives_tide read, long)) refl (plan_entered read m) (port_given read, (gives_tide read, tt)) read.read_faults (subst (λ (told : Option (List ℕ)). StopsFor told y z stop) (plan_held plan read) m.answer)
 plan_stops {instance = instance} {tides = tides} {plan = plan} {x = x} {p = p} {h = h} {f = f} events (Line number word) read m = record {
@@ -116,7 +116,7 @@ all_read {events = events} {happened = happened} read m = record {
 
 -- the events aren't there
 pub events_stop : {instance tides plan events : List ℕ} {x y z : DeskState} {p : Parts} {h : TideParts} {table : List ℕ} (stop : TextStop) → PlanRead instance tides plan x y p h table → ReadsText Events events_text events y z (Err stop)
-    → Stops (named Instance instance ∷ named Tides tides ∷ named Plan plan ∷ named Events events ∷ []) (AuditGives instance tides plan x.held) (NoAudit (x.held instance) (x.held tides) (x.held plan) (x.held events)) x z (report_of_text Events stop)
+    → Stops (named Instance instance ∷ named Tides tides ∷ named Plan plan ∷ named Events events ∷ []) (AuditGives instance tides plan x.held) (NoDay (x.held instance) (x.held tides) (x.held plan) (x.held events)) x z (report_of_text Events stop)
 events_stop {instance = instance} {tides = tides} {plan = plan} {events = events} {y = y} {z = z} (Input stop) read m =
     input_stops y (named Instance instance ∷ named Tides tides ∷ named Plan plan ∷ []) Events events [] stop (λ long. (gives_plan read, long)) refl (events_entered read m) (three_give events read) read.read_faults (subst (λ (told : Option (List ℕ)). StopsFor told y z stop) (events_held events read) m.answer)
 events_stop {instance = instance} {tides = tides} {plan = plan} {events = events} {p = p} {h = h} {table = table} (Line number word) read m = record {

@@ -1,29 +1,23 @@
 -- `audit port INSTANCE TIDES PLAN EVENTS`: watches a port's plan through events.
-use Rattle.std.specs.Prelude.{◌≡◌, ◌↔◌, ◌+◌, ◌≤◌, ℕ, List, [], ◌∷◌, ◌++◌, length, map, take, Option, Some, None, IfSome}
+use Rattle.std.specs.Prelude.{◌≡◌, ◌↔◌, ◌+◌, ◌≤◌, ℕ, List, [], ◌∷◌, ◌++◌, length, map, take, Option, None}
 use Rattle.std.specs.List.{range_with_len}
-use Rattle.hw_model.specs.Problem.{Problem, shape_of}
+use Rattle.hw_model.specs.Problem.{Problem}
 use Rattle.hw_desk.specs.State.{DeskState}
-use Rattle.hw_desk.specs.declared.desk.Feed.TheVariants.{Instance, Tides, Plan, Events}
 use Rattle.hw_port.specs.Whole.{Parts}
 use Rattle.hw_tide.specs.Levels.{TideParts}
 use Rattle.hw_port_rules.specs.Flattened.{flattened}
 use Rattle.hw_port_rules.specs.Numbers.{whole}
 use Rattle.hw_port_rules.specs.Permitted.{PortPermits}
-use Rattle.hw_report.specs.Reports.{Report, after, audit_end, bad_text, too_long}
+use Rattle.hw_report.specs.Reports.{Report, after, audit_end}
 use Rattle.hw_audit.specs.Audits.{Audited}
 use Rattle.hw_audit.specs.Laws.{fewer_tugs}
-use Rattle.hw_derived.specs.Reading.{fault}
-use Rattle.hw_audit.specs.Text.{table_text, events_text}
 use Rattle.hw_audit.specs.Watching.{Watched, watched, after as after_event, after_all, first_refused, broken_now}
-use Rattle.hw_audit.specs.Words.{word_text}
 use Rattle.hw_audit.specs.declared.event.PortEvent.{PortEvent}
-use Rattle.hw_audit.specs.declared.fault.AuditWord.{AuditWord}
 use Rattle.hw_command.specs.Carries.{Task}
-use Rattle.hw_command.specs.PortInputs.{NoPort}
-use Rattle.hw_command.specs.Scope.{named}
-use Rattle.hw_command.specs.Values.{IsLong, IsPortOf, GivesTide}
-use Rattle.hw_audit_command.specs.Reading.{ReadsAs}
-use Rattle.hw_audit_command.specs.Values.{IsPlanOf, AreEventsOf, GivesPlan, AuditGives}
+use Rattle.hw_command.specs.Values.{IsPortOf}
+use Rattle.hw_audit_command.specs.Days.{day_inputs}
+use Rattle.hw_audit_command.specs.Refusals.{NoDay}
+use Rattle.hw_audit_command.specs.Values.{IsPlanOf, AreEventsOf, AuditGives}
 
 -- ---- the whole report
 
@@ -61,44 +55,12 @@ pub record Audits (instance tides plan events : Option (List ℕ)) (reports : Li
   pub printed : reports ≡ audit_reports (flattened port tide) (watched table) happened
   pub means : TellsOfPort port tide table happened
 
--- ---- a report that ends the run early
-
--- the first bad line of the plan
-pub record IsBadPlan (instance tides plan : Option (List ℕ)) (number : ℕ) (word : List ℕ) : Type 0 where
-  pub port : Parts
-  pub tide : TideParts
-  pub gives : IsPortOf instance tides port tide
-  pub cause : AuditWord
-  pub named : word ≡ word_text cause
-  pub reads : IfSome plan (ReadsAs (table_text (shape_of (flattened port tide))) (fault number cause))
-
--- the first bad line of the events, or else the line of the first refused event. The first event is line 2
-pub data EventsFail (f : Problem) (fleet : ℕ) (s : Watched) (text : Option (List ℕ)) (number : ℕ) (cause : AuditWord) : Type 0 where
-  by_form : IfSome text (ReadsAs events_text (fault number cause)) → EventsFail f fleet s text number cause
-  by_event : (events : List PortEvent) → AreEventsOf text events → first_refused f fleet 2 s events ≡ Some (number, cause) → EventsFail f fleet s text number cause
-
-pub record AreBadEvents (instance tides plan events : Option (List ℕ)) (number : ℕ) (word : List ℕ) : Type 0 where
-  pub port : Parts
-  pub tide : TideParts
-  pub gives : IsPortOf instance tides port tide
-  pub table : List ℕ
-  pub planned : IsPlanOf plan port tide table
-  pub cause : AuditWord
-  pub named : word ≡ word_text cause
-  pub fail : EventsFail (flattened port tide) (whole port.fleet) (watched table) events number cause
-
--- what a lone report says of the four texts, as far as they are told
-abbrev pub NoAudit : Option (List ℕ) → Option (List ℕ) → Option (List ℕ) → Option (List ℕ) → Report → Type 0
-NoAudit instance tides plan events (bad_text Plan number word) = IsBadPlan instance tides plan number word
-NoAudit instance tides plan events (bad_text Events number word) = AreBadEvents instance tides plan events number word
-NoAudit instance tides plan events (too_long Plan) = GivesTide instance tides × IfSome plan IsLong
-NoAudit instance tides plan events (too_long Events) = GivesPlan instance tides plan × IfSome events IsLong
-NoAudit instance tides plan events r = NoPort instance tides r
+-- ---- what is said
 
 -- what the reports say of the four texts, as far as they are told. If all are told, one list of reports alone holds, apart from out of memory
 abbrev pub AuditsTexts : Option (List ℕ) → Option (List ℕ) → Option (List ℕ) → Option (List ℕ) → List Report → Type 0
 AuditsTexts instance tides plan events [] = ⊥
-AuditsTexts instance tides plan events (r ∷ []) = NoAudit instance tides plan events r
+AuditsTexts instance tides plan events (r ∷ []) = NoDay instance tides plan events r
 AuditsTexts instance tides plan events (r ∷ next ∷ more) = Audits instance tides plan events (r ∷ next ∷ more)
 
 abbrev pub AuditPortSays : List ℕ → List ℕ → List ℕ → List ℕ → DeskState → List Report → Type 0
@@ -106,7 +68,7 @@ AuditPortSays instance tides plan events old reports = AuditsTexts (old.held ins
 
 abbrev pub audit_port_task : List ℕ → List ℕ → List ℕ → List ℕ → Task
 audit_port_task instance tides plan events = record {
-  inputs = named Instance instance ∷ named Tides tides ∷ named Plan plan ∷ named Events events ∷ [];
+  inputs = day_inputs instance tides plan events;
   Gives = AuditGives instance tides plan;
   proof = None;
   Says = λ old mid. AuditPortSays instance tides plan events old;

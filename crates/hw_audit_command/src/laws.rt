@@ -1,8 +1,13 @@
-//! The law of an audit: a function without a body whose clause is the statement.
+//! The laws of audits and of the plans of days: functions without a body whose clauses are the statements.
 
-ghost use Rattle.hw_audit_command.specs.Laws.{OneAudit};
+ghost use Rattle.hw_audit_command.specs.Laws.{OneAudit, OneCarry};
 
 /// The bytes of the four files decide what is reported, unless a call fails or memory runs out.
 pub fn one_audit()
     ensures { OneAudit }
+{}
+
+/// The bytes of the four files decide the plan that is reported, unless a call fails or memory runs out.
+pub fn one_carry()
+    ensures { OneCarry }
 {}

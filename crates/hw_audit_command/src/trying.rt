@@ -28,7 +28,7 @@ fn watch(alloc: Global, problem: &PortProblem, table: &Timetable) -> Result<Audi
 
 /// Applies the events up to the first one that is refused, and returns the line of that one and why;
 /// none where all were taken. The first event is line 2. It takes no memory.
-fn first_refused(audit: &mut Audit, events: &[PortEvent]) -> Option<(u64, AuditWord)>
+pub(crate) fn first_refused(audit: &mut Audit, events: &[PortEvent]) -> Option<(u64, AuditWord)>
     ensures refused { result ≡ first_refused audit.old.problem audit.old.fleet 2 audit.old.state events.now }
     ensures taken { result ≡ None → audit.new ≡ in_state audit.old (after_all audit.old.state events.now) }
 {

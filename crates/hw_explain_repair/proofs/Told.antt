@@ -54,7 +54,7 @@ counted f (wish ∷ plan) (slot ∷ table) = ap (λ b. cond b (1 + count is_move
 pub each_is_moved_law : EachIsMoved
 each_is_moved_law f = record {
   each = λ wish slot. (λ e is. apart_from (slot == wished wish) (told_moved (slot == wished wish) (has_sailed f wish) e) (eq-eqb slot (wished wish) is), λ ne. ap (λ same. by_tests same (has_sailed f wish)) (ne_eqb slot (wished wish) ne));
-  many = λ plan table. sym (count_is is_moved (fates f plan table)) ∙ counted f plan table ∙ count_is moves (zip plan table);
+  many = λ plan table. sym (count_is is_moved (fates f plan.wishes table)) ∙ counted f plan.wishes table ∙ count_is moves (zip plan.wishes table);
 }
 
 -- ---- cargo

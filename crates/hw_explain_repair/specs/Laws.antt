@@ -3,14 +3,14 @@ use Rattle.std.specs.Prelude.{◌≡◌, ◌≢◌, ◌↔◌, ℕ, ◌+◌, ◌
 use Rattle.hw_model.specs.Problem.{Problem, value_at}
 use Rattle.hw_model.specs.Timetables.{cargo}
 use Rattle.hw_repair.specs.declared.plan.Wish.{Wish}
-use Rattle.hw_repair.specs.Wishes.{wished, moved}
+use Rattle.hw_repair.specs.Wishes.{PlanParts, wished, moved}
 use Rattle.hw_explain_repair.specs.declared.fate.Fate.TheVariants.{Moved}
 use Rattle.hw_explain_repair.specs.Fates.{fate, fates, is_moved, worth, worths}
 
 -- a ship is told as moved exactly where its slot isn't the wish's, and as many are as the repair moves
 pub record AreMoved (f : Problem) : Type 0 where
   pub each : (wish : Wish) (slot : ℕ) → (fate f wish slot ≡ Moved ↔ slot ≢ wished wish)
-  pub many : (plan : List Wish) (table : List ℕ) → count_by is_moved (fates f plan table) ≡ moved plan table
+  pub many : (plan : PlanParts) (table : List ℕ) → count_by is_moved (fates f plan.wishes table) ≡ moved plan table
 
 abbrev pub EachIsMoved : Type 0
 EachIsMoved = (f : Problem) → AreMoved f

@@ -2,7 +2,7 @@
 use Rattle.std.specs.Prelude.{ℕ, ◌+◌, List, [], ◌∷◌, ◌++◌, map, codes}
 use Rattle.hw_model.specs.Problem.{Problem}
 use Rattle.hw_repair.specs.declared.plan.Wish.{Wish}
-use Rattle.hw_repair.specs.Wishes.{wished}
+use Rattle.hw_repair.specs.Wishes.{PlanParts, wished}
 use Rattle.hw_report.specs.Pieces.{joined}
 use Rattle.hw_report.specs.Reports.{Naming}
 use Rattle.hw_explain_repair.specs.declared.fate.Fate.{Fate}
@@ -39,5 +39,5 @@ change_lines f names ship (wish ∷ plan) (slot ∷ table) = change_in f names s
 abbrev pub total_in : Problem → Naming → List Wish → List ℕ → List ℕ
 total_in f names plan table = total_line names (worths f 0 (map wished plan)) (worths f 0 table)
 
-abbrev pub repair_text : Problem → Naming → List Wish → List ℕ → List ℕ
-repair_text f names plan table = joined (ship_lines f names 0 plan table ∷ change_lines f names 0 plan table ∷ total_in f names plan table ∷ codes "end\n" ∷ [])
+abbrev pub repair_text : Problem → Naming → PlanParts → List ℕ → List ℕ
+repair_text f names plan table = joined (ship_lines f names 0 plan.wishes table ∷ change_lines f names 0 plan.wishes table ∷ total_in f names plan.wishes table ∷ codes "end\n" ∷ [])

@@ -11,7 +11,7 @@ mod lines;
 mod piece;
 mod telling;
 
-pub use fate::Fate;
+pub use fate::{Fate, fate_of, wished};
 pub use laws::{
     each_is_moved, explained_rows, sums_are_cargo, total_is_of_changes, value_or_nothing,
 };

@@ -121,8 +121,8 @@ pub fn put_repair<W: Writer>(out: &mut W, flat: &Flat, names: Names, plan: &Plan
     ensures { Puts (repair_text flat.now (names_seen names.entry) plan.now table.now) (W.state out.old) (W.state out.new) }
 {
     let slots = table.as_slice();
-    put_ships(out, flat, names, 0, &plan.items, slots);
-    put_changes(out, flat, names, 0, &plan.items, slots);
-    put_sums(out, flat, names, &plan.items, slots);
+    put_ships(out, flat, names, 0, &plan.wishes, slots);
+    put_changes(out, flat, names, 0, &plan.wishes, slots);
+    put_sums(out, flat, names, &plan.wishes, slots);
     out.put(b"end\n");
 }

@@ -6,7 +6,7 @@ use Rattle.std.proofs.lemmas.List.Recursion.{is_count_by}
 use Rattle.hw_model.specs.Problem.{Problem, value_at}
 use Rattle.hw_model.specs.Timetables.{plus, cargo_from}
 use Rattle.hw_repair.specs.declared.plan.Wish.{Wish}
-use Rattle.hw_repair.specs.Wishes.{wished, moves, moved}
+use Rattle.hw_repair.specs.Wishes.{wished, moves}
 use Rattle.hw_repair.specs.Repaired.{repaired_worth}
 
 -- ---- moved ships, one after the other
@@ -23,7 +23,11 @@ count_cons : (given : Wish × ℕ) (more : List (Wish × ℕ)) → count_by move
 unfolding count
 count_cons given more = sym (count_is (given ∷ more)) ∙ ap (λ n. cond (moves given) (1 + n) n) (count_is more)
 
-pub few_moved : (plan : List Wish) (table : List ℕ) → length plan ≡ length table → moved plan table ≤ length table
+-- how many ships are moved by a list of wishes
+abbrev pub moving : List Wish → List ℕ → ℕ
+moving plan table = count_by moves (zip plan table)
+
+pub few_moved : (plan : List Wish) (table : List ℕ) → length plan ≡ length table → moving plan table ≤ length table
 few_moved plan table same = omega (arith, count_by-le-length moves (zip plan table), zipped plan table same)
   where
     zipped : (plan : List Wish) (table : List ℕ) → length plan ≡ length table → length (zip plan table) ≡ length table
@@ -55,7 +59,7 @@ kept_or_moved false n = omega arith
 pub record Carries (r : Problem) (ship times : ℕ) (plan : List Wish) (slots : List ℕ) (c : ℕ) : Type 0 where
   pub sum : ℕ
   pub carried : cargo_from r ship slots ≡ Some sum
-  pub counted : sum + moved plan slots ≡ times * c + length slots
+  pub counted : sum + moving plan slots ≡ times * c + length slots
 
 step_sum : (times a b c d m one more n : ℕ) → a + b ≡ c → one + more ≡ 1 + m → d + m ≡ times * b + n → (a * times + one) + d + more ≡ times * c + (1 + n)
 step_sum times a b c d m one more n e k h =
@@ -81,5 +85,5 @@ carries f r ship (w ∷ ws) (x ∷ xs) c same at e =
       sum = (parts.first * (f.ships + 1) + one) + more.sum;
       carried = both;
       counted = ap (λ n. (parts.first * (f.ships + 1) + one) + more.sum + n) (count_cons (w, x) (zip ws xs))
-          ∙ (step_sum (f.ships + 1) parts.first parts.others c more.sum (moved ws xs) one (cond (not (x == wished w)) (1 + moved ws xs) (moved ws xs)) (length xs) parts.sum (kept_or_moved (x == wished w) (moved ws xs)) more.counted ∙ omega arith);
+          ∙ (step_sum (f.ships + 1) parts.first parts.others c more.sum (moving ws xs) one (cond (not (x == wished w)) (1 + moving ws xs) (moving ws xs)) (length xs) parts.sum (kept_or_moved (x == wished w) (moving ws xs)) more.counted ∙ omega arith);
     }

@@ -1,5 +1,5 @@
 -- A plan that is read fits its problem.
-use Rattle.std.proofs.Common.{◌≡◌, inl, inr, ℕ, zero, suc, ◌+◌, ◌-◌, ◌*◌, ◌/◌, ◌%◌, ◌<◌, ◌≤◌, Bool, true, false, cond, nat_lt, List, [], ◌∷◌, Option, Some, None, Result, Ok, slice_get, unwrap_or, option_and_then, All, length, get_or, bytes_eq, codes, refl, sym, ap, subst, ◌∙◌, arith}
+use Rattle.std.proofs.Common.{◌≡◌, inl, inr, ℕ, zero, suc, ◌+◌, ◌*◌, ◌/◌, ◌%◌, ◌<◌, ◌≤◌, Bool, true, false, cond, nat_lt, List, [], ◌∷◌, Option, Some, None, Result, Ok, slice_get, unwrap_or, option_and_then, All, length, get_or, bytes_eq, codes, refl, sym, ap, subst, ◌∙◌, arith}
 use Rattle.std.proofs.lemmas.Bool.{ltb-false, or_parts, cases_eq}
 use Rattle.std.proofs.lemmas.Option.{same_Some, slice_get-get_or}
 use Rattle.std.proofs.lemmas.Nat.{div-add-mod', div_below, mod_below}
@@ -13,7 +13,7 @@ use Rattle.hw_repair.specs.declared.fault.PlanWord.{PlanWord}
 use Rattle.hw_repair.specs.declared.fault.PlanWord.TheVariants as words
 use Rattle.hw_repair.specs.declared.plan.Wish.{Wish}
 use Rattle.hw_repair.specs.declared.plan.Wish.TheVariants.{Kept, Planned}
-use Rattle.hw_repair.specs.Wishes.{WishFits, IsRepairable, PlanFits}
+use Rattle.hw_repair.specs.Wishes.{PlanParts, WishFits, IsRepairable, PlanFits}
 use Rattle.hw_derived.proofs.Reading.{bind_ok, formed_ok, slot_below}
 use Rattle.hw_derived.specs.Reading.{Fault, ◌>>=◌, fault, formed, line_at}
 use Rattle.hw_repair.specs.Text.{kept_by, planned_by, kept_words, planned_words, wish_words, wish_form, is_large, wish_at, wishes_at}
@@ -62,19 +62,19 @@ pub record WishRead (f : Problem) (ship : ℕ) (wish : Wish) : Type 0 where
 first_of : (a b : Wish × List (List ℕ)) → a ≡ b → a.0 ≡ b.0
 first_of a b e = ap (λ (x : Wish × List (List ℕ)). x.0) e
 
-abbrev after_wish : Problem → ℕ → List (List ℕ) → Wish → Result (Wish × List (List ℕ)) (Fault PlanWord)
-after_wish f ship rest wish = cond (is_large f ship) (fault (2 + ship) words.Large) (Ok (wish, rest))
+abbrev after_wish : Problem → ℕ → ℕ → List (List ℕ) → Wish → Result (Wish × List (List ℕ)) (Fault PlanWord)
+after_wish f first ship rest wish = cond (is_large f ship) (fault (first + ship) words.Large) (Ok (wish, rest))
 
-abbrev after_line : Problem → ℕ → List ℕ × List (List ℕ) → Result (Wish × List (List ℕ)) (Fault PlanWord)
-after_line f ship line = formed (2 + ship) words.Ship (wish_form f.slots line.0) >>= after_wish f ship line.1
+abbrev after_line : Problem → ℕ → ℕ → List ℕ × List (List ℕ) → Result (Wish × List (List ℕ)) (Fault PlanWord)
+after_line f first ship line = formed (first + ship) words.Ship (wish_form f.slots line.0) >>= after_wish f first ship line.1
 
-wish_read : (f : Problem) (ship : ℕ) (parts : List (List ℕ)) (read : Wish × List (List ℕ)) → 0 < f.slots → wish_at f ship parts ≡ Ok read → WishRead f ship read.0
+wish_read : (f : Problem) (first ship : ℕ) (parts : List (List ℕ)) (read : Wish × List (List ℕ)) → 0 < f.slots → wish_at f first ship parts ≡ Ok read → WishRead f ship read.0
 unfolding wish_at
-wish_read f ship parts read some e =
-    let line = bind_ok (line_at (2 + ship) words.Ship parts) (after_line f ship) read e in
-    let wish = bind_ok (formed (2 + ship) words.Ship (wish_form f.slots line.value.0)) (after_wish f ship line.value.1) read line.then' in
-    let last = not_faulty (is_large f ship) (2 + ship) words.Large (wish.value, line.value.1) read wish.then' in
-    let form = formed_ok (2 + ship) words.Ship (wish_form f.slots line.value.0) wish.value wish.is in
+wish_read f first ship parts read some e =
+    let line = bind_ok (line_at (first + ship) words.Ship parts) (after_line f first ship) read e in
+    let wish = bind_ok (formed (first + ship) words.Ship (wish_form f.slots line.value.0)) (after_wish f first ship line.value.1) read line.then' in
+    let last = not_faulty (is_large f ship) (first + ship) words.Large (wish.value, line.value.1) read wish.then' in
+    let form = formed_ok (first + ship) words.Ship (wish_form f.slots line.value.0) wish.value wish.is in
     record {
       fits = subst (WishFits f.slots) (first_of (wish.value, line.value.1) read last.1) (words_fit f.slots (words_of line.value.0) wish.value some form);
       small = last.0;
@@ -97,23 +97,23 @@ small_more f ship many here more s low high = elim (cases_eq ship s) [
 abbrev after_more : Wish → List Wish × List (List ℕ) → Result (List Wish × List (List ℕ)) (Fault PlanWord)
 after_more wish more = Ok (wish ∷ more.0, more.1)
 
-abbrev after_first : Problem → ℕ → ℕ → Wish × List (List ℕ) → Result (List Wish × List (List ℕ)) (Fault PlanWord)
-after_first f ship many wish = wishes_at f (ship + 1) many wish.1 >>= after_more wish.0
+abbrev after_first : Problem → ℕ → ℕ → ℕ → Wish × List (List ℕ) → Result (List Wish × List (List ℕ)) (Fault PlanWord)
+after_first f first ship many wish = wishes_at f first (ship + 1) many wish.1 >>= after_more wish.0
 
-pub wishes_read : (f : Problem) (ship many : ℕ) (parts : List (List ℕ)) (read : List Wish × List (List ℕ)) → 0 < f.slots → wishes_at f ship many parts ≡ Ok read → WishesRead f ship many read.0
+pub wishes_read : (f : Problem) (first ship many : ℕ) (parts : List (List ℕ)) (read : List Wish × List (List ℕ)) → 0 < f.slots → wishes_at f first ship many parts ≡ Ok read → WishesRead f ship many read.0
 unfolding wishes_at
-wishes_read f ship zero parts read some e =
+wishes_read f first ship zero parts read some e =
     let none : [] ≡ read.0 = parts_equal ([], parts) read e in
     record {
       each_ship = ap length (sym none);
       each_wish = subst (All (WishFits f.slots)) none (All-nil (WishFits f.slots));
       small = λ s low high. absurd (omega (arith, low, high));
     }
-wishes_read f ship (suc many) parts read some e =
-    let wish = bind_ok (wish_at f ship parts) (after_first f ship many) read e in
-    let more = bind_ok (wishes_at f (ship + 1) many wish.value.1) (after_more wish.value.0) read wish.then' in
-    let one = wish_read f ship parts wish.value some wish.is in
-    let rest = wishes_read f (ship + 1) many wish.value.1 more.value some more.is in
+wishes_read f first ship (suc many) parts read some e =
+    let wish = bind_ok (wish_at f first ship parts) (after_first f first ship many) read e in
+    let more = bind_ok (wishes_at f first (ship + 1) many wish.value.1) (after_more wish.value.0) read wish.then' in
+    let one = wish_read f first ship parts wish.value some wish.is in
+    let rest = wishes_read f first (ship + 1) many wish.value.1 more.value some more.is in
     let all : wish.value.0 ∷ more.value.0 ≡ read.0 = parts_equal (wish.value.0 ∷ more.value.0, more.value.1) read more.then' in
     record {
       each_ship = ap length (sym all) ∙ ap suc rest.each_ship;
@@ -142,9 +142,9 @@ at_place f i lt some =
     let is : i / f.slots * f.slots + i % f.slots ≡ i = div-add-mod' i f.slots in
     ap (λ n. option_and_then (λ (v : Option ℕ). v) (slice_get f.values n)) is ∙ ap (option_and_then (λ (v : Option ℕ). v)) (slice_get-get_or f.values i None lt)
 
-pub plan_fits : (f : Problem) (parts : List (List ℕ)) (wishes : List Wish) (rest : List (List ℕ)) → IsFlat f → 0 < f.slots → wishes_at f 0 f.ships parts ≡ Ok (wishes, rest) → PlanFits f wishes
-plan_fits f parts wishes rest flat some e =
-    let read = wishes_read f 0 f.ships parts (wishes, rest) some e in
+pub plan_fits : (f : Problem) (first : ℕ) (parts : List (List ℕ)) (plan : PlanParts) (rest : List (List ℕ)) → IsFlat f → 0 < f.slots → wishes_at f first 0 f.ships parts ≡ Ok (plan.wishes, rest) → PlanFits f plan
+plan_fits f first parts plan rest flat some e =
+    let read = wishes_read f first 0 f.ships parts (plan.wishes, rest) some e in
     record {
       each_ship = read.each_ship;
       each_wish = read.each_wish;

@@ -5,7 +5,9 @@ use Rattle.std.proofs.lemmas.Bool.{cases_lt}
 use Rattle.std.proofs.lemmas.Nat.{div-mul-add, mod-mul-add}
 use Rattle.std.proofs.lemmas.Option.{same_Some, get_or_from_slice_get}
 use Rattle.std.proofs.lemmas.List.Elements.{All-get_or}
+use Rattle.hw_derived.specs.Fleets.{lessened}
 use Rattle.hw_derived.proofs.Alike.{rules_alike}
+use Rattle.hw_derived.proofs.Fleets.{lessened_fits, lessened_cargo}
 use Rattle.hw_derived.proofs.Grids.{grid_length, grid_all, grid_value}
 use Rattle.hw_derived.proofs.Places.{get_within, has_get}
 use Rattle.hw_laws.proofs.Permitted.{has_cargo}
@@ -14,7 +16,7 @@ use Rattle.hw_model.specs.Limits.{IsFlat}
 use Rattle.hw_model.specs.Rules.{rule_holds}
 use Rattle.hw_model.specs.Timetables.{Permits, cargo}
 use Rattle.hw_repair.specs.declared.plan.Wish.{Wish}
-use Rattle.hw_repair.specs.Wishes.{Grants, PlanFits, PermitsPlan, moved}
+use Rattle.hw_repair.specs.Wishes.{PlanParts, Grants, PlanFits, PermitsPlan, moved}
 use Rattle.hw_repair.specs.Repaired.{repaired_worth, value_by, repaired, IsBestRepair}
 use Rattle.hw_repair.specs.Laws.{RepairedValue, RepairedFits, RepairedPermits, RepairedCargo, RepairedMeets, BestRepair, NoneRepair}
 use Rattle.hw_repair.proofs.Values.{value_is, granted_value, value_there, there_value, value_repairable, repaired_small, repaired_last, none_else}
@@ -40,11 +42,11 @@ repaired_fits f plan flat writable fits = record {
   last_value = λ ship lt stay.
       let at_last : value_at (repaired f plan) ship (horizon f) ≡ value_by f plan ship (horizon f) = grid_value (repaired f plan) (value_by f plan) ship (horizon f) refl lt (last_in f flat stay) in
       subst (λ o. unwrap_or o 0 ≤ 1) (sym at_last)
-      (none_else (λ n. n ≤ 1) (slice_get plan ship) _ (omega arith) (λ w. repaired_last f.ships w (horizon f) (value_at f ship (horizon f)) (writable ship lt stay)));
+      (none_else (λ n. n ≤ 1) (slice_get plan.wishes ship) _ (omega arith) (λ w. repaired_last f.ships w (horizon f) (value_at f ship (horizon f)) (writable ship lt stay)));
   small_values = grid_all (λ v. unwrap_or v 0 ≤ 1_000_000_000_000) (value_by f plan) f.ships f.slots (λ ship slot lt in'.
-      none_else (λ n. n ≤ 1_000_000_000_000) (slice_get plan ship) _ (omega arith) (λ w. repaired_small f.ships w slot (value_at f ship slot) (value_repairable f plan ship slot flat.few_ships fits)));
-  few_rules = flat.few_rules;
-  each_rule = flat.each_rule;
+      none_else (λ n. n ≤ 1_000_000_000_000) (slice_get plan.wishes ship) _ (omega arith) (λ w. repaired_small f.ships w slot (value_at f ship slot) (value_repairable f plan ship slot flat.few_ships fits)));
+  few_rules = (lessened_fits f plan.withdrawn flat).few_rules;
+  each_rule = (lessened_fits f plan.withdrawn flat).each_rule;
 }
 
 -- ---- what is permitted
@@ -52,8 +54,8 @@ repaired_fits f plan flat writable fits = record {
 slot_in : (f : Problem) (table : List ℕ) (ship : ℕ) → IsTimetable f table → ship < f.ships → get_or table ship 0 < f.slots
 slot_in f table ship listed lt = All-get_or (λ slot. slot < f.slots) table ship 0 (omega (arith, lt, listed.each_ship)) listed.each_slot
 
-wish_of : (f : Problem) (plan : List Wish) (ship : ℕ) → PlanFits f plan → ship < f.ships → (w : Wish) × (slice_get plan ship ≡ Some w)
-wish_of f plan ship fits lt = has_get plan ship (omega (arith, lt, fits.each_ship))
+wish_of : (f : Problem) (plan : PlanParts) (ship : ℕ) → PlanFits f plan → ship < f.ships → (w : Wish) × (slice_get plan.wishes ship ≡ Some w)
+wish_of f plan ship fits lt = has_get plan.wishes ship (omega (arith, lt, fits.each_ship))
 
 if_some_from : {A : Type 0} (P : A → Type 0) (o : Option A) → ((x : A) → o ≡ Some x → P x) → IfSome o P
 if_some_from P None h = tt
@@ -66,31 +68,32 @@ keeps_from : (f r : Problem) (table : List ℕ) (place : ℕ) → r.slots ≡ f.
 keeps_from f r table place slots stay h =
     if_some_from _ (slice_get f.rules place) (λ rule e. subst (λ b. IsTrue b) (sym (rules_alike f r table rule slots stay)) (some_of_if (λ rule. IsTrue (rule_holds f table rule)) (slice_get f.rules place) rule e h))
 
-to_plan : (f : Problem) (plan : List Wish) (table : List ℕ) → PlanFits f plan → Permits (repaired f plan) table → PermitsPlan f plan table
+to_plan : (f : Problem) (plan : PlanParts) (table : List ℕ) → PlanFits f plan → Permits (repaired f plan) table → PermitsPlan f plan table
 to_plan f plan table fits permits =
     let listed : IsTimetable f table = record { each_ship = permits.listed.each_ship; each_slot = permits.listed.each_slot } in
     record {
       permitted = record {
-        listed = listed;
+        listed = record { each_ship = listed.each_ship; each_slot = listed.each_slot };
         sails = λ ship lt.
             let w = wish_of f plan ship fits lt in
             (value_there f plan ship (get_or table ship 0) w.0 fits.each_ship w.1 (slot_in f table ship listed lt) (permits.sails ship lt)).1;
-        keeps = λ place. keeps_from (repaired f plan) f table place refl refl (permits.keeps place);
+        keeps = λ place. keeps_from (repaired f plan) (lessened plan.withdrawn f) table place refl refl (permits.keeps place);
       };
-      granted = λ ship. if_some_from _ (slice_get plan ship) (λ wish e.
-          let lt : ship < f.ships = omega (arith, get_within plan ship wish e, fits.each_ship) in
+      granted = λ ship. if_some_from _ (slice_get plan.wishes ship) (λ wish e.
+          let lt : ship < f.ships = omega (arith, get_within plan.wishes ship wish e, fits.each_ship) in
           (value_there f plan ship (get_or table ship 0) wish fits.each_ship e (slot_in f table ship listed lt) (permits.sails ship lt)).0);
     }
 
-from_plan : (f : Problem) (plan : List Wish) (table : List ℕ) → PlanFits f plan → PermitsPlan f plan table → Permits (repaired f plan) table
+from_plan : (f : Problem) (plan : PlanParts) (table : List ℕ) → PlanFits f plan → PermitsPlan f plan table → Permits (repaired f plan) table
 from_plan f plan table fits meets =
     let permits = meets.permitted in
+    let listed : IsTimetable f table = record { each_ship = permits.listed.each_ship; each_slot = permits.listed.each_slot } in
     record {
-      listed = record { each_ship = permits.listed.each_ship; each_slot = permits.listed.each_slot };
+      listed = record { each_ship = listed.each_ship; each_slot = listed.each_slot };
       sails = λ ship lt.
           let w = wish_of f plan ship fits lt in
-          there_value f plan ship (get_or table ship 0) w.0 fits.each_ship w.1 (slot_in f table ship permits.listed lt) (some_of_if (λ wish. Grants wish (get_or table ship 0)) (slice_get plan ship) w.0 w.1 (meets.granted ship)) (permits.sails ship lt);
-      keeps = λ place. keeps_from f (repaired f plan) table place refl refl (permits.keeps place);
+          there_value f plan ship (get_or table ship 0) w.0 fits.each_ship w.1 (slot_in f table ship listed lt) (some_of_if (λ wish. Grants wish (get_or table ship 0)) (slice_get plan.wishes ship) w.0 w.1 (meets.granted ship)) (permits.sails ship lt);
+      keeps = λ place. keeps_from (lessened plan.withdrawn f) (repaired f plan) table place refl refl (permits.keeps place);
     }
 
 pub repaired_permits : RepairedPermits
@@ -101,16 +104,17 @@ repaired_permits f plan table fits = (to_plan f plan table fits, from_plan f pla
 pub repaired_cargo : RepairedCargo
 repaired_cargo f plan table c fits meets e =
     let permits = meets.permitted in
-    let same : length plan ≡ length table = fits.each_ship ∙ sym permits.listed.each_ship in
-    let at = λ (i s slot : ℕ) (wish : Wish) (here : s ≡ 0 + i) (p : slice_get plan i ≡ Some wish) (q : slice_get table i ≡ Some slot).
+    let listed : IsTimetable f table = record { each_ship = permits.listed.each_ship; each_slot = permits.listed.each_slot } in
+    let same : length plan.wishes ≡ length table = fits.each_ship ∙ sym permits.listed.each_ship in
+    let at = λ (i s slot : ℕ) (wish : Wish) (here : s ≡ 0 + i) (p : slice_get plan.wishes i ≡ Some wish) (q : slice_get table i ≡ Some slot).
     let there : s ≡ i = omega (arith, here) in
     let lt : i < f.ships = omega (arith, get_within table i slot q, permits.listed.each_ship) in
     let is_slot : get_or table i 0 ≡ slot = get_or_from_slice_get table i slot 0 q in
-    let in' : slot < f.slots = subst (λ n. n < f.slots) is_slot (slot_in f table i permits.listed lt) in
-    let g : Grants wish slot = subst (Grants wish) is_slot (some_of_if (λ wish. Grants wish (get_or table i 0)) (slice_get plan i) wish p (meets.granted i)) in
+    let in' : slot < f.slots = subst (λ n. n < f.slots) is_slot (slot_in f table i listed lt) in
+    let g : Grants wish slot = subst (Grants wish) is_slot (some_of_if (λ wish. Grants wish (get_or table i 0)) (slice_get plan.wishes i) wish p (meets.granted i)) in
     subst (λ n. value_at (repaired f plan) n slot ≡ option_map (repaired_worth f.ships wish slot) (value_at f n slot)) (sym there) (granted_value f plan i slot wish fits.each_ship p in' g) in
-    let sum = carries f (repaired f plan) 0 plan table c same at e in
-    let few : moved plan table ≤ f.ships = omega (arith, few_moved plan table same, permits.listed.each_ship) in
+    let sum = carries f (repaired f plan) 0 plan.wishes table c same at e in
+    let few : moved plan table ≤ f.ships = omega (arith, few_moved plan.wishes table same, permits.listed.each_ship) in
     let is : sum.sum ≡ (f.ships + 1) * c + f.ships - moved plan table = omega (arith, sum.counted, permits.listed.each_ship, few) in
     record { few = few; carries = sum.carried ∙ ap (λ n. Some n) is }
 
@@ -120,8 +124,10 @@ cargo_of : (o : Option ℕ) → IsSome o → (c : ℕ) × (o ≡ Some c)
 cargo_of None h = absurd cc
 cargo_of (Some c) h = (c, refl)
 
-has : (f : Problem) (plan : List Wish) (table : List ℕ) → PermitsPlan f plan table → (c : ℕ) × (cargo f table ≡ Some c)
-has f plan table meets = cargo_of (cargo f table) (has_cargo f table meets.permitted)
+has : (f : Problem) (plan : PlanParts) (table : List ℕ) → PermitsPlan f plan table → (c : ℕ) × (cargo f table ≡ Some c)
+has f plan table meets =
+    let c = cargo_of (cargo (lessened plan.withdrawn f) table) (has_cargo (lessened plan.withdrawn f) table meets.permitted) in
+    (c.0, sym (lessened_cargo plan.withdrawn f 0 table) ∙ c.1)
 
 -- cargo counts first, and then the ships that aren't moved
 more_cargo : (n c d m k : ℕ) → m ≤ n → k ≤ n → (n + 1) * d + n - k ≤ (n + 1) * c + n - m → d ≤ c

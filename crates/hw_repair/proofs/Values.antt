@@ -8,7 +8,7 @@ use Rattle.hw_derived.proofs.Places.{get_within}
 use Rattle.hw_model.specs.Problem.{Problem, value_at}
 use Rattle.hw_repair.specs.declared.plan.Wish.{Wish}
 use Rattle.hw_repair.specs.declared.plan.Wish.TheVariants.{Kept, Planned}
-use Rattle.hw_repair.specs.Wishes.{Grants, grants, IsRepairable, PlanFits}
+use Rattle.hw_repair.specs.Wishes.{PlanParts, Grants, grants, IsRepairable, PlanFits}
 use Rattle.hw_repair.specs.Repaired.{repaired_worth, repaired_value, value_by, repaired}
 use Rattle.hw_repair.specs.Laws.{RepairedValue}
 
@@ -24,12 +24,12 @@ of_grants (Planned planned from) slot h = le-leb from slot h
 
 pub value_is : RepairedValue
 value_is f plan ship slot wish same e lt =
-    let in' : ship < f.ships = omega (arith, get_within plan ship wish e, same) in
+    let in' : ship < f.ships = omega (arith, get_within plan.wishes ship wish e, same) in
     grid_value (repaired f plan) (value_by f plan) ship slot refl in' lt
     ∙ ap (option_and_then (λ w. repaired_value f.ships w slot (value_at f ship slot))) e
 
 -- what a granted slot carries
-pub granted_value : (f : Problem) (plan : List Wish) (ship slot : ℕ) (wish : Wish) → length plan ≡ f.ships → slice_get plan ship ≡ Some wish → slot < f.slots → Grants wish slot
+pub granted_value : (f : Problem) (plan : PlanParts) (ship slot : ℕ) (wish : Wish) → length plan.wishes ≡ f.ships → slice_get plan.wishes ship ≡ Some wish → slot < f.slots → Grants wish slot
     → value_at (repaired f plan) ship slot ≡ option_map (repaired_worth f.ships wish slot) (value_at f ship slot)
 granted_value f plan ship slot wish same e lt g =
     value_is f plan ship slot wish same e lt
@@ -45,12 +45,12 @@ some_map : (g : ℕ → ℕ) (o : Option ℕ) → IsSome o → IsSome (option_ma
 some_map g None h = absurd cc
 some_map g (Some x) h = refl
 
-pub value_there : (f : Problem) (plan : List Wish) (ship slot : ℕ) (wish : Wish) → length plan ≡ f.ships → slice_get plan ship ≡ Some wish → slot < f.slots → IsSome (value_at (repaired f plan) ship slot) → Grants wish slot × IsSome (value_at f ship slot)
+pub value_there : (f : Problem) (plan : PlanParts) (ship slot : ℕ) (wish : Wish) → length plan.wishes ≡ f.ships → slice_get plan.wishes ship ≡ Some wish → slot < f.slots → IsSome (value_at (repaired f plan) ship slot) → Grants wish slot × IsSome (value_at f ship slot)
 value_there f plan ship slot wish same e lt h =
     let p = some_parts (grants wish slot) (repaired_worth f.ships wish slot) (value_at f ship slot) (subst (λ o. IsSome o) (value_is f plan ship slot wish same e lt) h) in
     (grants_of wish slot p.0, p.1)
 
-pub there_value : (f : Problem) (plan : List Wish) (ship slot : ℕ) (wish : Wish) → length plan ≡ f.ships → slice_get plan ship ≡ Some wish → slot < f.slots → Grants wish slot → IsSome (value_at f ship slot) → IsSome (value_at (repaired f plan) ship slot)
+pub there_value : (f : Problem) (plan : PlanParts) (ship slot : ℕ) (wish : Wish) → length plan.wishes ≡ f.ships → slice_get plan.wishes ship ≡ Some wish → slot < f.slots → Grants wish slot → IsSome (value_at f ship slot) → IsSome (value_at (repaired f plan) ship slot)
 there_value f plan ship slot wish same e lt g h =
     subst (λ o. IsSome o) (sym (granted_value f plan ship slot wish same e lt g)) (some_map (repaired_worth f.ships wish slot) (value_at f ship slot) h)
 
@@ -64,7 +64,7 @@ at_value P values i none each = by_case (slice_get values i) refl
     by_case None e = none
     by_case (Some v) e = subst (λ w. P (unwrap_or w 0)) (get_or_from_slice_get values i v v e) (All-get_or (λ w. P (unwrap_or w 0)) values i v (get_within values i v e) each)
 
-pub value_repairable : (f : Problem) (plan : List Wish) (ship slot : ℕ) → f.ships ≤ 40 → PlanFits f plan → IsRepairable f.ships (unwrap_or (value_at f ship slot) 0)
+pub value_repairable : (f : Problem) (plan : PlanParts) (ship slot : ℕ) → f.ships ≤ 40 → PlanFits f plan → IsRepairable f.ships (unwrap_or (value_at f ship slot) 0)
 value_repairable f plan ship slot few fits = at_value (IsRepairable f.ships) f.values (ship * f.slots + slot) (omega (arith, few)) fits.each_value
 
 -- a granted slot's worth and one that isn't granted
@@ -96,9 +96,9 @@ none_else P (Some w) g z each = each w
 
 -- ---- a value as it is computed
 
-pub row_value : (f : Problem) (plan : List Wish) (ship slot : ℕ) (d : Wish) (v : Option ℕ) (ships : ℕ) → length plan ≡ f.ships → ship < f.ships → ships ≡ f.ships → v ≡ value_at f ship slot → repaired_value ships (get_or plan ship d) slot v ≡ value_by f plan ship slot
+pub row_value : (f : Problem) (plan : PlanParts) (ship slot : ℕ) (d : Wish) (v : Option ℕ) (ships : ℕ) → length plan.wishes ≡ f.ships → ship < f.ships → ships ≡ f.ships → v ≡ value_at f ship slot → repaired_value ships (get_or plan.wishes ship d) slot v ≡ value_by f plan ship slot
 row_value f plan ship slot d v ships same lt s e =
-    let there : slice_get plan ship ≡ Some (get_or plan ship d) = slice_get-get_or plan ship d (omega (arith, lt, same)) in
-    ap (λ n. repaired_value n (get_or plan ship d) slot v) s
-    ∙ (ap (λ o. repaired_value f.ships (get_or plan ship d) slot o) e
+    let there : slice_get plan.wishes ship ≡ Some (get_or plan.wishes ship d) = slice_get-get_or plan.wishes ship d (omega (arith, lt, same)) in
+    ap (λ n. repaired_value n (get_or plan.wishes ship d) slot v) s
+    ∙ (ap (λ o. repaired_value f.ships (get_or plan.wishes ship d) slot o) e
     ∙ sym (ap (option_and_then (λ w. repaired_value f.ships w slot (value_at f ship slot))) there))

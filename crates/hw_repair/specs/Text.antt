@@ -1,15 +1,19 @@
 -- The text of a plan, over the list of its lines.
-use Rattle.std.specs.Prelude.{ℕ, zero, suc, ◌+◌, ◌*◌, Bool, List, [], ◌∷◌, Option, Some, None, Result, Ok, codes, bytes_eq, nat_lt, unwrap_or, if◌then◌else◌}
-use Rattle.std.specs.List.{list_any, range_with_len}
+use Rattle.std.specs.Prelude.{ℕ, zero, suc, ◌+◌, ◌*◌, Bool, true, List, [], ◌∷◌, Option, Some, None, option_and_then, Result, Ok, codes, bytes_eq, nat_lt, nat_le, unwrap_or, if◌then◌else◌}
+use Rattle.std.specs.List.{list_all, list_any, range_with_len}
 use Rattle.hw_model.specs.declared.limits.TheConstants.{MOST_VALUE}
+use Rattle.hw_model.specs.declared.rule.Rule.{Rule}
+use Rattle.hw_model.specs.declared.rule.Rule.TheVariants.{Tugs}
 use Rattle.hw_model.specs.Problem.{Problem, value_at}
 use Rattle.hw_derived.specs.Reading.{Fault, ◌>>=◌, fault, formed, line_at, only_at, ended_at}
 use Rattle.hw_derived.specs.Slots.{slot_form}
+use Rattle.hw_text.specs.Numbers.{number_from_to}
 use Rattle.hw_text.specs.Parts.{parts_of, words_of}
 use Rattle.hw_repair.specs.declared.fault.PlanWord.{PlanWord}
 use Rattle.hw_repair.specs.declared.fault.PlanWord.TheVariants as words
 use Rattle.hw_repair.specs.declared.plan.Wish.{Wish}
 use Rattle.hw_repair.specs.declared.plan.Wish.TheVariants.{Kept, Planned}
+use Rattle.hw_repair.specs.Wishes.{PlanParts}
 
 -- ---- the lines' forms
 
@@ -45,31 +49,71 @@ wish_form slots line = wish_words slots (words_of line)
 abbrev pub is_large : Problem → ℕ → Bool
 is_large f ship = list_any (λ slot. nat_lt MOST_VALUE (unwrap_or (value_at f ship slot) 0 * (f.ships + 1) + 1)) (range_with_len 0 f.slots)
 
+-- a rule on tugs has this many
+abbrev pub has_tugs : ℕ → Rule → Bool
+has_tugs withdrawn (Tugs fleet jobs) = nat_le withdrawn fleet
+has_tugs withdrawn rule = true
+
+abbrev pub within_fleet : List Rule → ℕ → Option ℕ
+within_fleet rules withdrawn = if list_all (has_tugs withdrawn) rules then Some withdrawn else None
+
+abbrev pub withdrawn_words : List Rule → List (List ℕ) → Option ℕ
+withdrawn_words rules (key ∷ count ∷ []) = if bytes_eq key (codes "w") then option_and_then (within_fleet rules) (number_from_to 1 1_000 count) else None
+withdrawn_words rules _ = None
+
+-- `w COUNT`: a tug or more is withdrawn, no more than each rule on tugs has
+abbrev pub withdrawn_form : List Rule → List ℕ → Option ℕ
+withdrawn_form rules line = withdrawn_words rules (words_of line)
+
 -- ---- the lines of the text
 
--- the wish of a ship on the next line, where the ship's values can be repaired
-unfoldable pub wish_at : Problem → ℕ → List (List ℕ) → Result (Wish × List (List ℕ)) (Fault PlanWord)
-wish_at f ship parts = do
-  line ← line_at (2 + ship) words.Ship parts
-  wish ← formed (2 + ship) words.Ship (wish_form f.slots line.0)
-  if is_large f ship then fault (2 + ship) words.Large else Ok (wish, line.1)
+-- what stands before the ships' lines: the tugs withdrawn, the number of the first ship's line, and the parts from there on
+abbrev pub Opening : Type 0
+Opening = ℕ × ℕ × List (List ℕ)
+
+-- of a plan of the second version, from its second line on
+unfoldable pub withdrawn_at : List Rule → List (List ℕ) → Result Opening (Fault PlanWord)
+withdrawn_at rules parts = do
+  line ← line_at 2 words.Fleet parts
+  withdrawn ← formed 2 words.Fleet (withdrawn_form rules line.0)
+  Ok (withdrawn, 3, line.1)
+
+-- by the first line; the first version withdraws no tugs
+abbrev pub opening_by : List Rule → List ℕ → List (List ℕ) → Result Opening (Fault PlanWord)
+opening_by rules line parts =
+    if bytes_eq line (codes "plan 1") then Ok (0, 2, parts)
+    else if bytes_eq line (codes "plan 2") then withdrawn_at rules parts
+    else fault 1 words.Header
+
+-- of a plan of either version
+unfoldable pub opening_at : List Rule → List (List ℕ) → Result Opening (Fault PlanWord)
+opening_at rules parts = do
+  line ← line_at 1 words.Header parts
+  opening_by rules line.0 line.1
+
+-- the wish of a ship on the next line, where the ship's values can be repaired. Ship 0 has the first line
+unfoldable pub wish_at : Problem → ℕ → ℕ → List (List ℕ) → Result (Wish × List (List ℕ)) (Fault PlanWord)
+wish_at f first ship parts = do
+  line ← line_at (first + ship) words.Ship parts
+  wish ← formed (first + ship) words.Ship (wish_form f.slots line.0)
+  if is_large f ship then fault (first + ship) words.Large else Ok (wish, line.1)
 
 -- the wishes of this many ships, from this ship on
-unfoldable pub wishes_at : Problem → ℕ → ℕ → List (List ℕ) → Result (List Wish × List (List ℕ)) (Fault PlanWord)
-wishes_at f ship zero parts = Ok ([], parts)
-wishes_at f ship (suc many) parts = do
-  wish ← wish_at f ship parts
-  more ← wishes_at f (ship + 1) many wish.1
+unfoldable pub wishes_at : Problem → ℕ → ℕ → ℕ → List (List ℕ) → Result (List Wish × List (List ℕ)) (Fault PlanWord)
+wishes_at f first ship zero parts = Ok ([], parts)
+wishes_at f first ship (suc many) parts = do
+  wish ← wish_at f first ship parts
+  more ← wishes_at f first (ship + 1) many wish.1
   Ok (wish.0 ∷ more.0, more.1)
 
 -- the plan of the lines, or the first bad line
-unfoldable pub plan_of : Problem → List (List ℕ) → Result (List Wish) (Fault PlanWord)
+unfoldable pub plan_of : Problem → List (List ℕ) → Result PlanParts (Fault PlanWord)
 plan_of f parts = do
-  ships ← only_at 1 words.Header (codes "plan 1") parts
-  read ← wishes_at f 0 f.ships ships
-  rest ← only_at (2 + f.ships) words.Tail (codes "end") read.1
-  ended_at (3 + f.ships) words.Tail read.0 rest
+  head ← opening_at f.rules parts
+  read ← wishes_at f head.1 0 f.ships head.2
+  rest ← only_at (head.1 + f.ships) words.Tail (codes "end") read.1
+  ended_at (head.1 + f.ships + 1) words.Tail (record { withdrawn = head.0; wishes = read.0 }) rest
 
 -- what a text says: a plan of the problem, or the first line that isn't of the form demanded at its place
-abbrev pub plan_text : Problem → List ℕ → Result (List Wish) (Fault PlanWord)
+abbrev pub plan_text : Problem → List ℕ → Result PlanParts (Fault PlanWord)
 plan_text f bytes = plan_of f (parts_of 10 bytes)

@@ -1,8 +1,9 @@
--- Plans: what each wish says, which timetables meet a plan, and how many ships they move.
+-- Plans: the tugs withdrawn, what each wish says, which timetables meet a plan, and how many ships they move.
 use Rattle.std.specs.Prelude.{◌≡◌, ◌==◌, ℕ, ◌+◌, ◌*◌, ◌<◌, ◌≤◌, Bool, not, nat_le, List, length, All, count_by, zip, unwrap_or, slice_get, slice_index, IfSome}
 use Rattle.hw_model.specs.declared.limits.TheConstants.{MOST_VALUE}
 use Rattle.hw_model.specs.Problem.{Problem}
 use Rattle.hw_model.specs.Timetables.{Permits}
+use Rattle.hw_derived.specs.Fleets.{lessened}
 use Rattle.hw_repair.specs.declared.plan.Wish.{Wish}
 use Rattle.hw_repair.specs.declared.plan.Wish.TheVariants.{Kept, Planned}
 
@@ -30,21 +31,26 @@ WishFits slots (Planned planned from) = (planned < slots) × (from < slots)
 abbrev pub IsRepairable : ℕ → ℕ → Type 0
 IsRepairable ships value = value * (ships + 1) + 1 ≤ MOST_VALUE
 
+-- a plan: how many tugs of the fleet are withdrawn, and a wish for each ship
+pub record PlanParts : Type 0 where
+  pub withdrawn : ℕ
+  pub wishes : List Wish
+
 -- a wish for each ship, with slots of the problem, and all values can be repaired
-pub record PlanFits (f : Problem) (plan : List Wish) : Type 0 where
-  pub each_ship : length plan ≡ f.ships
-  pub each_wish : All (WishFits f.slots) plan
+pub record PlanFits (f : Problem) (plan : PlanParts) : Type 0 where
+  pub each_ship : length plan.wishes ≡ f.ships
+  pub each_wish : All (WishFits f.slots) plan.wishes
   pub each_value : All (λ value. IsRepairable f.ships (unwrap_or value 0)) f.values
 
--- permitted, and each ship has its kept slot or a slot from its earliest one on
-pub record PermitsPlan (f : Problem) (plan : List Wish) (table : List ℕ) : Type 0 where
-  pub permitted : Permits f table
-  pub granted : (ship : ℕ) → IfSome (slice_get plan ship) (λ wish. Grants wish (slice_index table ship))
+-- permitted with the tugs that are left, and each ship has its kept slot or a slot from its earliest one on
+pub record PermitsPlan (f : Problem) (plan : PlanParts) (table : List ℕ) : Type 0 where
+  pub permitted : Permits (lessened plan.withdrawn f) table
+  pub granted : (ship : ℕ) → IfSome (slice_get plan.wishes ship) (λ wish. Grants wish (slice_index table ship))
 
 -- the ship has another slot than its wish's
 abbrev pub moves : Wish × ℕ → Bool
 moves given = not (given.1 == wished given.0)
 
 -- how many ships have another slot than their wish's
-abbrev pub moved : List Wish → List ℕ → ℕ
-moved plan table = count_by moves (zip plan table)
+abbrev pub moved : PlanParts → List ℕ → ℕ
+moved plan table = count_by moves (zip plan.wishes table)

@@ -8,8 +8,10 @@ use hw_derived::LineFault;
 /// What was demanded at the first bad line.
 #[derive(Clone, Copy, PartialEq, Eq)]
 pub enum PlanWord {
-    /// The first line, `plan 1`.
+    /// The first line, `plan 1` or `plan 2`.
     Header,
+    /// The second line of `plan 2`: tugs withdrawn, no more than there are.
+    Fleet,
     /// The wish of a ship.
     Ship,
     /// A ship with values small enough to be repaired: each of them, times one more than the number
@@ -26,6 +28,7 @@ impl PlanWord {
     {
         match self {
             PlanWord::Header => b"header",
+            PlanWord::Fleet => b"fleet",
             PlanWord::Ship => b"ship",
             PlanWord::Large => b"large",
             PlanWord::Tail => b"tail",

@@ -1,13 +1,14 @@
 //! The forms of a plan's lines.
 
 ghost use Rattle.std.specs.Prelude.{◌≡◌, ◌<◌};
-ghost use Rattle.hw_repair.specs.Text.{kept_words, planned_words, wish_form, is_large};
+ghost use Rattle.std.specs.List.{list_all};
+ghost use Rattle.hw_repair.specs.Text.{kept_words, planned_words, wish_form, has_tugs, withdrawn_form, is_large};
 
 use crate::plan::Wish;
 use hw_derived::slot_of;
 use hw_flat::Flat;
-use hw_model::{MOST_VALUE, ShipId};
-use hw_text::{Words, is_text};
+use hw_model::{MOST_VALUE, Rule, ShipId};
+use hw_text::{Words, is_text, read_small};
 
 /// `SLOT`, of a ship that has sailed.
 fn kept_of(mut words: Words<'_>, slots: u32) -> Option<Wish>
@@ -43,6 +44,35 @@ pub fn wish_of(line: &[u8], slots: u32) -> Option<Wish>
         Some(key) if is_text(key, b"k") => kept_of(words, slots),
         Some(key) if is_text(key, b"o") => planned_of(words, slots),
         _ => None,
+    }
+}
+
+/// Whether each rule on tugs has this many.
+fn have_tugs(rules: &[Rule], withdrawn: u32) -> bool
+    ensures { result ≡ list_all (has_tugs withdrawn) rules.now }
+{
+    rules.iter().all(|rule| match rule {
+        Rule::Tugs { fleet, .. } => withdrawn <= *fleet,
+        _ => true,
+    })
+}
+
+/// `w COUNT`, of tugs that are withdrawn.
+pub fn withdrawn_of(line: &[u8], rules: &[Rule]) -> Option<u32>
+    ensures form { result ≡ withdrawn_form rules.now line.now }
+{
+    let mut words = Words::of(line);
+    let key = words.word()?;
+    let count = words.word()?;
+    words.end()?;
+    if !is_text(key, b"w") {
+        return None;
+    }
+    let withdrawn = read_small(count, 1, 1000)?;
+    if have_tugs(rules, withdrawn) {
+        Some(withdrawn)
+    } else {
+        None
     }
 }
 

@@ -1,7 +1,7 @@
 //! The laws of a plan's repair, each a function without a body whose clause is the law.
 
-ghost use Rattle.hw_repair.specs.Laws.{RepairedValue, RepairedFits, RepairedPermits, RepairedCargo, RepairedMeets, BestRepair, NoneRepair};
-ghost use Rattle.hw_repair.specs.Rows.{RepairRows, PlanRows};
+ghost use Rattle.hw_repair.specs.Laws.{RepairedValue, RepairedFits, RepairedPermits, RepairedCargo, RepairedMeets, BestRepair, NoneRepair, WrittenReads};
+ghost use Rattle.hw_repair.specs.Rows.{RepairRows, PlanRows, WrittenRows};
 
 /// The value of a ship in a slot, by its wish and the problem's value there.
 pub fn repaired_value()
@@ -39,6 +39,11 @@ pub fn none_repair()
     ensures { NoneRepair }
 {}
 
+/// A plan that is written reads as itself.
+pub fn written_reads()
+    ensures { WrittenReads }
+{}
+
 /// Worked rows: values of repairs.
 pub fn repair_rows()
     ensures { RepairRows }
@@ -47,4 +52,9 @@ pub fn repair_rows()
 /// Worked rows: what texts of plans say.
 pub fn plan_rows()
     ensures { PlanRows }
+{}
+
+/// Worked rows: the texts of plans.
+pub fn written_rows()
+    ensures { WrittenRows }
 {}

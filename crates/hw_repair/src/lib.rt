@@ -16,7 +16,7 @@ mod repairing;
 pub use fault::{PlanFault, PlanWord};
 pub use laws::{
     best_repair, none_repair, plan_rows, repair_rows, repaired_cargo, repaired_fits,
-    repaired_meets, repaired_permits, repaired_value,
+    repaired_meets, repaired_permits, repaired_value, written_reads, written_rows,
 };
 pub use moving::moved;
 pub use plan::{Plan, Wish};

@@ -19,11 +19,11 @@ fn wished(wish: &Wish) -> Slot
 
 /// The number of ships whose slot isn't their wish's slot. It takes no memory.
 pub fn moved(plan: &Plan, table: &Timetable) -> u32
-    requires same_length { length plan.now ≡ length table.now }
+    requires same_length { length plan.now.wishes ≡ length table.now }
     ensures value { result ≡ moved plan.now table.now }
     ensures few { result ≤ length table.now }
 {
-    let wishes: &[Wish] = &plan.items;
+    let wishes: &[Wish] = &plan.wishes;
     let mut count = 0;
     for ship in 0..table.len() {
         if table.slot(ship) != wished(&wishes[ship as usize]) {

@@ -1,4 +1,4 @@
-//! A plan: a wish for each ship.
+//! A plan: the tugs withdrawn, and a wish for each ship.
 
 use hw_model::Slot;
 use std::marker::Model;
@@ -12,17 +12,18 @@ pub enum Wish {
     Planned { slot: Slot, from: Slot },
 }
 
-/// A wish for each ship, ship 0 first. Contracts see the list of the wishes.
+/// How many tugs of the fleet are withdrawn, and a wish for each ship, ship 0 first. Contracts see
+/// the number and the list of the wishes.
 #[derive(Drop)]
 pub struct Plan {
-    pub items: Vec<Wish>,
+    pub withdrawn: u32,
+    pub wishes: Vec<Wish>,
 }
 
 impl Model for Plan {
-    ghost use Rattle.std.specs.Prelude.{List};
-    ghost use Rattle.hw_repair.specs.declared.plan.Wish.{Wish};
+    ghost use Rattle.hw_repair.specs.Wishes.{PlanParts};
 
-    ghost Value = { List Wish };
+    ghost Value = { PlanParts };
 
-    ghost view = { λ s. s.items.items };
+    ghost view = { λ s. record { withdrawn = s.withdrawn; wishes = s.wishes.items } };
 }

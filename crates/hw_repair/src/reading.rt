@@ -3,25 +3,79 @@
 ghost use Rattle.std.specs.Prelude.{◌≡◌, ◌≤◌, ◌<◌, ◌+◌, IfOk};
 ghost use Rattle.hw_text.specs.Parts.{parts_of};
 ghost use Rattle.hw_derived.specs.Reading.{Gives};
-ghost use Rattle.hw_repair.specs.Text.{wish_at, wishes_at, plan_of, plan_text};
+ghost use Rattle.hw_repair.specs.Text.{withdrawn_at, opening_at, wish_at, wishes_at, plan_of, plan_text};
 ghost use Rattle.hw_repair.specs.Wishes.{PlanFits};
 
 use crate::fault::{PlanFault, PlanWord};
-use crate::forms::{is_large, wish_of};
+use crate::forms::{is_large, wish_of, withdrawn_of};
 use crate::plan::{Plan, Wish};
 use hw_derived::{LineFault, line_of, only};
 use hw_flat::Flat;
-use hw_model::ShipId;
-use hw_text::is_end;
+use hw_model::{Rule, ShipId};
+use hw_text::{is_end, is_text};
 use std::alloc::Global;
 
-/// The wish of a ship on the next line.
-#[tactic(auto, unfolding(crate::specs::Text::wish_at))]
-fn wish_line<'b>(bytes: &'b [u8], flat: &Flat, ship: ShipId) -> Result<(Wish, &'b [u8]), PlanFault>
-    requires ship_in { ship < flat.now.ships }
-    ensures { Gives (λ x. (x.0, parts_of 10 x.1.now)) result (wish_at flat.now ship (parts_of 10 bytes.now)) }
+/// What stands before the ships' lines: the tugs withdrawn, the number of the first ship's line, and
+/// the bytes from there on.
+struct Opening<'b> {
+    withdrawn: u32,
+    first: u32,
+    rest: &'b [u8],
+}
+
+/// The tugs withdrawn, in the second line.
+#[tactic(auto, unfolding(crate::specs::Text::withdrawn_at))]
+fn withdrawn_line<'b>(bytes: &'b [u8], rules: &[Rule]) -> Result<Opening<'b>, PlanFault>
+    ensures { Gives (λ x. (x.withdrawn, x.first, parts_of 10 x.rest.now)) result (withdrawn_at rules.now (parts_of 10 bytes.now)) }
 {
-    let number = 2 + u64::from(ship);
+    let (line, rest) = line_of(bytes, 2, PlanWord::Fleet)?;
+    let Some(withdrawn) = withdrawn_of(line, rules) else {
+        return Err(LineFault::Line {
+            number: 2,
+            word: PlanWord::Fleet,
+        });
+    };
+    Ok(Opening {
+        withdrawn,
+        first: 3,
+        rest,
+    })
+}
+
+/// The lines of either version before those of the ships.
+#[tactic(auto, unfolding(crate::specs::Text::opening_at))]
+fn opening_of<'b>(bytes: &'b [u8], rules: &[Rule]) -> Result<Opening<'b>, PlanFault>
+    ensures { Gives (λ x. (x.withdrawn, x.first, parts_of 10 x.rest.now)) result (opening_at rules.now (parts_of 10 bytes.now)) }
+{
+    let (line, rest) = line_of(bytes, 1, PlanWord::Header)?;
+    if is_text(line, b"plan 1") {
+        return Ok(Opening {
+            withdrawn: 0,
+            first: 2,
+            rest,
+        });
+    }
+    if is_text(line, b"plan 2") {
+        return withdrawn_line(rest, rules);
+    }
+    Err(LineFault::Line {
+        number: 1,
+        word: PlanWord::Header,
+    })
+}
+
+/// The wish of a ship on the next line. Ship 0 has the line `first`.
+#[tactic(auto, unfolding(crate::specs::Text::wish_at))]
+fn wish_line<'b>(
+    bytes: &'b [u8],
+    flat: &Flat,
+    first: u32,
+    ship: ShipId,
+) -> Result<(Wish, &'b [u8]), PlanFault>
+    requires ship_in { ship < flat.now.ships }
+    ensures { Gives (λ x. (x.0, parts_of 10 x.1.now)) result (wish_at flat.now first ship (parts_of 10 bytes.now)) }
+{
+    let number = u64::from(first) + u64::from(ship);
     let (line, rest) = line_of(bytes, number, PlanWord::Ship)?;
     let Some(wish) = wish_of(line, flat.shape().slots) else {
         return Err(LineFault::Line {
@@ -43,13 +97,14 @@ fn wishes_of<'b>(
     alloc: Global,
     bytes: &'b [u8],
     flat: &Flat,
+    first: u32,
 ) -> Result<(Vec<Wish>, &'b [u8]), PlanFault>
-    ensures { Gives (λ x. (x.0.items, parts_of 10 x.1.now)) result (wishes_at flat.now 0 flat.now.ships (parts_of 10 bytes.now)) }
+    ensures { Gives (λ x. (x.0.items, parts_of 10 x.1.now)) result (wishes_at flat.now first 0 flat.now.ships (parts_of 10 bytes.now)) }
 {
     let mut wishes = Vec::new(alloc);
     let mut rest = bytes;
     for ship in 0..flat.shape().ships {
-        let (wish, after) = wish_line(rest, flat, ship)?;
+        let (wish, after) = wish_line(rest, flat, first, ship)?;
         wishes.push(wish)?;
         rest = after;
     }
@@ -67,15 +122,19 @@ pub fn read_plan(alloc: Global, bytes: &[u8], flat: &Flat) -> Result<Plan, PlanF
     ensures reads { Gives (λ plan. plan) result (plan_text flat.now bytes.now) }
     ensures fits { IfOk result (PlanFits flat.now) }
 {
-    let ships = u64::from(flat.shape().ships);
-    let rest = only(bytes, 1, PlanWord::Header, b"plan 1")?;
-    let (items, rest) = wishes_of(alloc, rest, flat)?;
-    let rest = only(rest, 2 + ships, PlanWord::Tail, b"end")?;
+    let Opening {
+        withdrawn,
+        first,
+        rest,
+    } = opening_of(bytes, flat.rules())?;
+    let (wishes, rest) = wishes_of(alloc, rest, flat, first)?;
+    let last = u64::from(first) + u64::from(flat.shape().ships);
+    let rest = only(rest, last, PlanWord::Tail, b"end")?;
     if !is_end(rest) {
         return Err(LineFault::Line {
-            number: 3 + ships,
+            number: last + 1,
             word: PlanWord::Tail,
         });
     }
-    Ok(Plan { items })
+    Ok(Plan { withdrawn, wishes })
 }

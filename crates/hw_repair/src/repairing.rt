@@ -1,13 +1,14 @@
 //! The problem of a plan's repair.
 
-ghost use Rattle.std.specs.Prelude.{◌≡◌, ◌==◌, ◌<◌, ◌≤◌, ◌++◌, IfOk, OnOk, unwrap_or};
+ghost use Rattle.std.specs.Prelude.{◌≡◌, ◌==◌, ◌<◌, ◌≤◌, ◌++◌, IfOk, OnOk, map, unwrap_or};
+ghost use Rattle.hw_derived.specs.Fleets.{lessened_rule};
 ghost use Rattle.hw_derived.specs.Grids.{row_of, grid};
 ghost use Rattle.hw_flat.specs.TextWritten.{IsWritable};
 ghost use Rattle.hw_repair.specs.Wishes.{grants, wished, PlanFits, IsRepairable};
 ghost use Rattle.hw_repair.specs.Repaired.{repaired_value, value_by, repaired};
 
 use crate::plan::{Plan, Wish};
-use hw_derived::copy_rules;
+use hw_derived::lessened_rules;
 use hw_flat::Flat;
 use hw_model::{MOST_SHIPS, NoMemory, Rule, ShipId, Slot};
 use std::alloc::{AllocError, Global};
@@ -50,7 +51,7 @@ fn repaired_value(ships: u32, wish: Wish, slot: Slot, value: Option<u64>) -> Opt
 fn put_row(
     out: &mut Vec<Option<u64>>,
     flat: &Flat,
-    plan: &[Wish],
+    plan: &Plan,
     ship: ShipId,
 ) -> Result<(), AllocError>
     requires ship_in { ship < flat.now.ships }
@@ -58,7 +59,8 @@ fn put_row(
     ensures { OnOk result (out.new.items ≡ out.old.items ++ row_of (value_by flat.now plan.now) flat.now.slots ship) }
 {
     let shape = flat.shape();
-    let wish = plan[ship as usize];
+    let wishes: &[Wish] = &plan.wishes;
+    let wish = wishes[ship as usize];
     for slot in 0..shape.slots {
         let value = flat.value(ship, slot);
         out.push(repaired_value(shape.ships, wish, slot, value))?;
@@ -67,7 +69,7 @@ fn put_row(
 }
 
 /// The values of all ships.
-fn repaired_rows(alloc: Global, flat: &Flat, plan: &[Wish]) -> Result<Vec<Option<u64>>, NoMemory>
+fn repaired_rows(alloc: Global, flat: &Flat, plan: &Plan) -> Result<Vec<Option<u64>>, NoMemory>
     requires fits { PlanFits flat.now plan.now }
     ensures { IfOk result (λ values. values.items ≡ grid (value_by flat.now plan.now) flat.now.ships flat.now.slots) }
 {
@@ -80,11 +82,11 @@ fn repaired_rows(alloc: Global, flat: &Flat, plan: &[Wish]) -> Result<Vec<Option
 }
 
 /// The problem of these parts, which is within its limits.
-fn assembled(flat: &Flat, plan: &[Wish], values: Vec<Option<u64>>, rules: Vec<Rule>) -> Flat
+fn assembled(flat: &Flat, plan: &Plan, values: Vec<Option<u64>>, rules: Vec<Rule>) -> Flat
     requires fits { PlanFits flat.now plan.now }
     requires writable { IsWritable flat.now }
     requires values { values.items ≡ grid (value_by flat.now plan.now) flat.now.ships flat.now.slots }
-    requires rules { rules.items ≡ flat.now.rules }
+    requires rules { rules.items ≡ map (lessened_rule plan.now.withdrawn) flat.now.rules }
     ensures { result ≡ repaired flat.now plan.now }
 {
     let shape = flat.shape();
@@ -99,8 +101,8 @@ fn assembled(flat: &Flat, plan: &[Wish], values: Vec<Option<u64>>, rules: Vec<Ru
 
 /// The problem of a plan's repair. A ship has no value in a slot that its wish doesn't grant;
 /// elsewhere its value is the problem's times one more than the number of ships, and 1 more in the
-/// wish's slot. A best timetable of it carries the greatest cargo, and of those moves the fewest
-/// ships.
+/// wish's slot. Rules on tugs have the tugs that are left. A best timetable of it carries the greatest
+/// cargo, and of those moves the fewest ships.
 ///
 /// It needs a problem that has a text: where ships may stay, each ship's value in the last slot is
 /// none or 0. It takes the time and the memory of a copy of the problem.
@@ -109,7 +111,7 @@ pub fn repaired(alloc: Global, flat: &Flat, plan: &Plan) -> Result<Flat, NoMemor
     requires writable { IsWritable flat.now }
     ensures { IfOk result (λ made. made ≡ repaired flat.now plan.now) }
 {
-    let values = repaired_rows(alloc, flat, &plan.items)?;
-    let rules = copy_rules(alloc, flat.rules())?;
-    Ok(assembled(flat, &plan.items, values, rules))
+    let values = repaired_rows(alloc, flat, plan)?;
+    let rules = lessened_rules(alloc, flat.rules(), plan.withdrawn)?;
+    Ok(assembled(flat, plan, values, rules))
 }

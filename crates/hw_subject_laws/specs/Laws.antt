@@ -7,9 +7,9 @@ use Rattle.hw_port.specs.Whole.{Parts}
 use Rattle.hw_tide.specs.Levels.{TideParts}
 use Rattle.hw_port_rules.specs.Permitted.{PortPermits, port_cargo, IsPortBest, NonePortPermitted}
 use Rattle.hw_port_verdict.specs.Laws.{IsPortBound}
+use Rattle.hw_audit.specs.Laws.{fewer_tugs}
 use Rattle.hw_repair.specs.Repaired.{IsBestRepair, NoRepair}
-use Rattle.hw_repair.specs.Wishes.{Grants, moved}
-use Rattle.hw_repair.specs.declared.plan.Wish.{Wish}
+use Rattle.hw_repair.specs.Wishes.{PlanParts, Grants, moved}
 use Rattle.hw_subject.specs.Meanings.{IsBestOf, NoneOf, IsBoundOf}
 use Rattle.hw_subject.specs.Subjects.{Harbour, Planned, flat_subject, port_subject, repair_of}
 
@@ -18,20 +18,20 @@ abbrev pub harbour : Parts → TideParts → Harbour
 harbour p h = record { port = p; tide = h }
 
 -- a problem and a plan of it, as what the repair of a flat text reads
-abbrev pub planned : (name : List ℕ) → Problem → List Wish → Planned (flat_subject name)
+abbrev pub planned : (name : List ℕ) → Problem → PlanParts → Planned (flat_subject name)
 planned name f plan = record { value = f; plan = plan }
 
 -- the same of a port
-abbrev pub port_planned : (instance tides : List ℕ) → Parts → TideParts → List Wish → Planned (port_subject instance tides)
+abbrev pub port_planned : (instance tides : List ℕ) → Parts → TideParts → PlanParts → Planned (port_subject instance tides)
 port_planned instance tides p h plan = record { value = harbour p h; plan = plan }
 
--- permitted by the port, and each ship has its kept slot or a slot from its earliest one on
-pub record PortPermitsPlan (p : Parts) (h : TideParts) (plan : List Wish) (table : List ℕ) : Type 0 where
-  pub permitted : PortPermits p h table
-  pub granted : (ship : ℕ) → IfSome (slice_get plan ship) (λ wish. Grants wish (slice_index table ship))
+-- permitted by the port with the tugs that are left, and each ship has its kept slot or a slot from its earliest one on
+pub record PortPermitsPlan (p : Parts) (h : TideParts) (plan : PlanParts) (table : List ℕ) : Type 0 where
+  pub permitted : PortPermits (fewer_tugs plan.withdrawn p) h table
+  pub granted : (ship : ℕ) → IfSome (slice_get plan.wishes ship) (λ wish. Grants wish (slice_index table ship))
 
 -- it meets the plan, with this cargo by the port; and no timetable that meets the plan has more cargo, or as much with fewer moved ships
-pub record IsBestPortRepair (p : Parts) (h : TideParts) (plan : List Wish) (table : List ℕ) (c : ℕ) : Type 0 where
+pub record IsBestPortRepair (p : Parts) (h : TideParts) (plan : PlanParts) (table : List ℕ) (c : ℕ) : Type 0 where
   pub meets : PortPermitsPlan p h plan table
   pub worth : port_cargo p h table ≡ Some c
   pub greatest : (other : List ℕ) (d : ℕ) → PortPermitsPlan p h plan other → port_cargo p h other ≡ Some d → d ≤ c
@@ -45,6 +45,6 @@ pub record SameWords : Type 0 where
   pub port_best : (instance tides : List ℕ) (p : Parts) (h : TideParts) (table : List ℕ) (c : ℕ) → (IsBestOf (port_subject instance tides) (harbour p h) table c ↔ IsPortBest p h table c)
   pub port_none : (instance tides : List ℕ) (p : Parts) (h : TideParts) → (NoneOf (port_subject instance tides) (harbour p h) ↔ NonePortPermitted p h)
   pub port_bound : (instance tides : List ℕ) (p : Parts) (h : TideParts) (bound : ℕ) → (IsBoundOf (port_subject instance tides) (harbour p h) bound ↔ IsPortBound p h bound)
-  pub repair_best : (name plan : List ℕ) (f : Problem) (wishes : List Wish) (table : List ℕ) (c : ℕ) → (IsBestOf (repair_of (flat_subject name) plan) (planned name f wishes) table c ↔ IsBestRepair f wishes table c)
-  pub repair_none : (name plan : List ℕ) (f : Problem) (wishes : List Wish) → (NoneOf (repair_of (flat_subject name) plan) (planned name f wishes) ↔ NoRepair f wishes)
-  pub port_repair_best : (instance tides plan : List ℕ) (p : Parts) (h : TideParts) (wishes : List Wish) (table : List ℕ) (c : ℕ) → (IsBestOf (repair_of (port_subject instance tides) plan) (port_planned instance tides p h wishes) table c ↔ IsBestPortRepair p h wishes table c)
+  pub repair_best : (name plan : List ℕ) (f : Problem) (parts : PlanParts) (table : List ℕ) (c : ℕ) → (IsBestOf (repair_of (flat_subject name) plan) (planned name f parts) table c ↔ IsBestRepair f parts table c)
+  pub repair_none : (name plan : List ℕ) (f : Problem) (parts : PlanParts) → (NoneOf (repair_of (flat_subject name) plan) (planned name f parts) ↔ NoRepair f parts)
+  pub port_repair_best : (instance tides plan : List ℕ) (p : Parts) (h : TideParts) (parts : PlanParts) (table : List ℕ) (c : ℕ) → (IsBestOf (repair_of (port_subject instance tides) plan) (port_planned instance tides p h parts) table c ↔ IsBestPortRepair p h parts table c)

@@ -1,0 +1,102 @@
+-- Why there is no day: from the stops of its inputs, and of its events.
+use Rattle.std.proofs.Common.{◌≡◌, ℕ, List, [], ◌∷◌, Option, Some, None, Err, refl}
+use Rattle.hw_desk.specs.State.{DeskState}
+use Rattle.hw_desk.specs.declared.desk.Feed.{Feed}
+use Rattle.hw_desk.specs.declared.desk.Feed.TheVariants.{Instance, Tides, Plan, Events}
+use Rattle.hw_desk.specs.declared.whole.ReadStop.TheVariants.{NoMemory}
+use Rattle.hw_port.specs.Whole.{Parts}
+use Rattle.hw_tide.specs.Levels.{TideParts}
+use Rattle.hw_port_rules.specs.Flattened.{flattened}
+use Rattle.hw_port_rules.specs.Numbers.{whole}
+use Rattle.hw_report.specs.Reports.{Report, bad_text, no_memory}
+use Rattle.hw_audit.specs.Audits.{audited}
+use Rattle.hw_audit.specs.Watching.{watched, first_refused}
+use Rattle.hw_audit.specs.Words.{word_text}
+use Rattle.hw_audit.specs.declared.event.PortEvent.{PortEvent}
+use Rattle.hw_audit.specs.declared.fault.AuditWord.{AuditWord}
+use Rattle.hw_command.specs.PortInputs.{StopsAtPort}
+use Rattle.hw_command.specs.Scope.{named}
+use Rattle.hw_command.specs.Values.{PortGives}
+use Rattle.hw_command.specs.Works.{Stops}
+use Rattle.hw_command.proofs.Begun.{refuses, wants_memory}
+use Rattle.hw_command.proofs.PortForms.{by_fault}
+use Rattle.hw_command.proofs.Stops.{further}
+use Rattle.hw_audit_command.specs.Days.{ReadsDay, StopsAtDay, day_inputs}
+use Rattle.hw_audit_command.specs.Reading.{report_of_text}
+use Rattle.hw_audit_command.specs.Refusals.{by_event, NoDay}
+use Rattle.hw_audit_command.specs.Trying.{Tries}
+use Rattle.hw_audit_command.specs.Values.{AuditGives}
+use Rattle.hw_audit_command.specs.declared.day.Day.{Day}
+use Rattle.hw_audit_command.specs.declared.reading.TextStop.{TextStop}
+use Rattle.hw_audit_command.specs.declared.reading.TextStop.TheVariants.{Input, Line}
+use Rattle.hw_audit_command.proofs.Inputs.{AllRead}
+
+-- ---- no port, no timetable
+
+port_gives : (instance tides plan : List ℕ) (held : List ℕ → Option (List ℕ)) (feed : Feed) → PortGives instance tides held feed → AuditGives instance tides plan held feed
+port_gives instance tides plan held Instance given = given
+port_gives instance tides plan held Tides given = given
+port_gives instance tides plan held feed given = absurd given
+
+pub port_stops : {x y : DeskState} {r : Report} (instance tides plan events : List ℕ) → StopsAtPort instance tides x y r → StopsAtDay instance tides plan events x y r
+port_stops {x = x} {r = r} instance tides plan events h = record {
+  works = further (day_inputs instance tides plan events) (named Plan plan ∷ named Events events ∷ []) None refl (port_gives instance tides plan x.held) h.early h.works;
+  early = h.early;
+  why = λ own. by_fault (x.held instance) (x.held tides) (NoDay (x.held instance) (x.held tides) (x.held plan) (x.held events)) r (λ bad. bad) (λ fault bad. bad) (λ fault bad. bad) (λ bad. bad) (λ bad. bad) (h.why own);
+}
+
+pub table_stops : {x y : DeskState} {r : Report} (instance tides plan events : List ℕ)
+    → Stops (named Instance instance ∷ named Tides tides ∷ named Plan plan ∷ []) (AuditGives instance tides plan x.held) (NoDay (x.held instance) (x.held tides) (x.held plan) (x.held events)) x y r → StopsAtDay instance tides plan events x y r
+table_stops instance tides plan events h = record {
+  works = further (day_inputs instance tides plan events) (named Events events ∷ []) None refl (λ feed given. given) h.early h.works;
+  early = h.early;
+  why = h.why;
+}
+
+-- ---- an event is refused, or memory ran out
+
+event_stops : {instance tides plan events : List ℕ} {x y : DeskState} {p : Parts} {h : TideParts} {table : List ℕ} {happened : List PortEvent} (number : ℕ) (word : AuditWord) → AllRead instance tides plan events x y p h table happened
+    → first_refused (flattened p h) (whole p.fleet) 2 (watched table) happened ≡ Some (number, word) → StopsAtDay instance tides plan events x y (bad_text Events number (word_text word))
+event_stops {instance = instance} {tides = tides} {plan = plan} {events = events} {p = p} {h = h} {table = table} {happened = happened} number word read refusal = record {
+  works = refuses None (named Instance instance ∷ named Tides tides ∷ named Plan plan ∷ []) (named Events events) [] (bad_text Events number (word_text word)) refl refl read.entered read.give read.read_faults;
+  early = λ e. absurd (cc);
+  why = λ own. record {
+    port = p;
+    tide = h;
+    gives = read.port;
+    table = table;
+    planned = read.planned;
+    cause = word;
+    named = refl;
+    fail = by_event happened read.told refusal;
+  };
+}
+
+memory_stops : {instance tides plan events : List ℕ} {x y : DeskState} {p : Parts} {h : TideParts} {table : List ℕ} {happened : List PortEvent} → AllRead instance tides plan events x y p h table happened → StopsAtDay instance tides plan events x y no_memory
+memory_stops {instance = instance} {tides = tides} {plan = plan} {events = events} read = record {
+  works = wants_memory None (day_inputs instance tides plan events) [] refl read.entered read.give read.read_faults;
+  early = λ e. absurd (cc);
+  why = λ own. absurd (cc);
+}
+
+pub trial_stops : {instance tides plan events : List ℕ} {x y : DeskState} {p : Parts} {h : TideParts} {table : List ℕ} {happened : List PortEvent} (stop : TextStop) → AllRead instance tides plan events x y p h table happened → Tries (audited p h table) happened (Err stop) → StopsAtDay instance tides plan events x y (report_of_text Events stop)
+trial_stops (Line number word) read tries = event_stops number word read tries
+trial_stops (Input NoMemory) read tries = memory_stops read
+trial_stops (Input _) read tries = absurd tries
+
+-- ---- all was read
+
+pub day_read : {instance tides plan events : List ℕ} {x y : DeskState} {p : Parts} {h : TideParts} (day : Day) → AllRead instance tides plan events x y p h day.table day.happened → day.audit ≡ audited p h day.table
+    → first_refused (flattened p h) (whole p.fleet) 2 (watched day.table) day.happened ≡ None → ReadsDay instance tides plan events x y day
+day_read {p = p} {h = h} day read audit taken = record {
+  entered = read.entered;
+  give = read.give;
+  read_faults = read.read_faults;
+  port = p;
+  tide = h;
+  reads = read.port;
+  planned = read.planned;
+  told = read.told;
+  taken = taken;
+  audit = audit;
+}

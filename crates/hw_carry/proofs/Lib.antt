@@ -1,0 +1,4 @@
+pub mod Days
+pub mod Values
+pub mod Meeting
+pub mod Reading
