@@ -7,11 +7,11 @@ use Rattle.std.proofs.lemmas.List.FromFn.{length-range_with_len, get_or-range_wi
 use Rattle.std.proofs.lemmas.List.Kept.{IsStrictlyIncreasing-filter}
 use Rattle.std.specs.List.{range_with_len}
 use Rattle.std.specs.List.Sorted.{IsStrictlyIncreasing}
-use Rattle.hw_model.specs.Problem.{Problem}
 use Rattle.hw_model.specs.Limits.{IsFlat}
-use Rattle.hw_model.specs.Timetables.{Permits, NonePermitted, restriction_holds, restriction_count}
+use Rattle.hw_model.specs.Timetables.{Permits, NonePermitted}
 use Rattle.hw_derived.proofs.Grids.{increasing_range}
 use Rattle.hw_rules.specs.Outcomes.{SomePermitted}
+use Rattle.hw_clash.specs.Wished.{Wished, wished_count, wished_holds, NoneWished}
 use Rattle.hw_clash.specs.Parts.{has, part}
 use Rattle.hw_clash.specs.Clashing.{all_numbers, without, Tries, IsLeft}
 use Rattle.hw_clash.specs.Laws.{ClashMeans, OneClash}
@@ -20,10 +20,10 @@ use Rattle.hw_clash.proofs.Parts.{part_permits, part_of_all}
 
 -- ---- fewer restrictions permit more
 
-pub fewer : (f : Problem) (few many table : List ℕ) → Within few many → Permits (part f many) table → Permits (part f few) table
+pub fewer : (f : Wished) (few many table : List ℕ) → Within few many → Permits (part f many) table → Permits (part f few) table
 fewer f few many table within permits =
     let meets = (part_permits f many table).0 permits in
-    (part_permits f few table).1 (record { listed = meets.listed; holds = all_has (λ n. IsTrue (restriction_holds f table n)) few (λ n e. has_all (λ n. IsTrue (restriction_holds f table n)) many n meets.holds (within n e)) })
+    (part_permits f few table).1 (record { listed = meets.listed; holds = all_has (λ n. IsTrue (wished_holds f table n)) few (λ n e. has_all (λ n. IsTrue (wished_holds f table n)) many n meets.holds (within n e)) })
 
 -- ---- what is left
 
@@ -37,21 +37,21 @@ range_below a n m e = has_all (λ k. k < a + n) (range_with_len a n) m (all_belo
         omega (arith, is, in'))
 
 -- what is known of the numbers that are left when those below n were tried
-pub record Known (f : Problem) (n : ℕ) (left : List ℕ) : Type 0 where
-  pub numbered : (m : ℕ) → has left m ≡ true → m < restriction_count f
+pub record Known (f : Wished) (n : ℕ) (left : List ℕ) : Type 0 where
+  pub numbered : (m : ℕ) → has left m ≡ true → m < wished_count f
   pub ascending : IsStrictlyIncreasing left
-  pub clash : NonePermitted f → NonePermitted (part f left)
+  pub clash : NoneWished f → NonePermitted (part f left)
   pub needed : (m : ℕ) → m < n → has left m ≡ true → SomePermitted (part f (without m left))
 
-known_first : (f : Problem) → Known f 0 (all_numbers f)
+known_first : (f : Wished) → Known f 0 (all_numbers f)
 known_first f = record {
-  numbered = λ m e. omega (arith, range_below 0 (restriction_count f) m e);
-  ascending = increasing_range 0 (restriction_count f);
+  numbered = λ m e. omega (arith, range_below 0 (wished_count f) m e);
+  ascending = increasing_range 0 (wished_count f);
   clash = λ none table permits. none table ((part_of_all f table).0 permits);
   needed = λ m lt e. absurd (omega (arith, lt));
 }
 
-known_taken : (f : Problem) (n : ℕ) (before : List ℕ) → Known f n before → NonePermitted (part f (without n before)) → Known f (suc n) (without n before)
+known_taken : (f : Wished) (n : ℕ) (before : List ℕ) → Known f n before → NonePermitted (part f (without n before)) → Known f (suc n) (without n before)
 known_taken f n before known none = record {
   numbered = λ m e. known.numbered m (of_without n m before e).0;
   ascending = IsStrictlyIncreasing-filter (λ m. not (m == n)) before known.ascending;
@@ -65,7 +65,7 @@ known_taken f n before known none = record {
     below : (m : ℕ) → (m ≡ n → ⊥) → m < suc n → m < n
     below m other lt = elim (cases_eq m n) [ inl same ↦ absurd (other same) | inr ne ↦ omega (arith, ne, lt) ]
 
-known_kept : (f : Problem) (n : ℕ) (before : List ℕ) → Known f n before → SomePermitted (part f (without n before)) → Known f (suc n) before
+known_kept : (f : Wished) (n : ℕ) (before : List ℕ) → Known f n before → SomePermitted (part f (without n before)) → Known f (suc n) before
 known_kept f n before known some = record {
   numbered = known.numbered;
   ascending = known.ascending;
@@ -76,45 +76,45 @@ known_kept f n before known some = record {
   ];
 }
 
-pub known_next : (f : Problem) (n : ℕ) (before after : List ℕ) → Known f n before → Tries f n before after → Known f (suc n) after
+pub known_next : (f : Wished) (n : ℕ) (before after : List ℕ) → Known f n before → Tries f n before after → Known f (suc n) after
 known_next f n before after known tries = elim tries [
   | inl taken ↦ subst (Known f (suc n)) (sym taken.1) (known_taken f n before known taken.0)
   | inr kept ↦ subst (Known f (suc n)) (sym kept.1) (known_kept f n before known kept.0)
 ]
 
-pub known : (f : Problem) (n : ℕ) (left : List ℕ) → IsLeft f n left → Known f n left
+pub known : (f : Wished) (n : ℕ) (left : List ℕ) → IsLeft f n left → Known f n left
 known f zero left is = subst (Known f 0) (sym is) (known_first f)
 known f (suc n) left is = known_next f n is.0 left (known f n is.0 is.1) is.2
 
 -- ---- the clash
 
 -- without restrictions each ship may have the first slot
-free : (f : Problem) → 0 < f.slots → SomePermitted (part f [])
+free : (f : Wished) → 0 < f.problem.slots → SomePermitted (part f [])
 free f some = (
-  replicate f.ships 0,
-  (part_permits f [] (replicate f.ships 0)).1 (record {
-    listed = record { each_ship = length-replicate f.ships 0; each_slot = All-replicate (λ slot. slot < f.slots) f.ships 0 some };
-    holds = All-nil (λ n. IsTrue (restriction_holds f (replicate f.ships 0) n));
+  replicate f.problem.ships 0,
+  (part_permits f [] (replicate f.problem.ships 0)).1 (record {
+    listed = record { each_ship = length-replicate f.problem.ships 0; each_slot = All-replicate (λ slot. slot < f.problem.slots) f.problem.ships 0 some };
+    holds = All-nil (λ n. IsTrue (wished_holds f (replicate f.problem.ships 0) n));
   }),
 )
 
-some_kept : (f : Problem) (kept : List ℕ) → 0 < f.slots → NonePermitted (part f kept) → 1 ≤ length kept
+some_kept : (f : Wished) (kept : List ℕ) → 0 < f.problem.slots → NonePermitted (part f kept) → 1 ≤ length kept
 some_kept f [] some none = absurd (let t = free f some in none t.0 t.1)
 some_kept f (n ∷ kept) some none = omega arith
 
-pub slots_there : (f : Problem) → IsFlat f → 0 < f.slots
-slots_there f flat = by_stay f.stay flat.some_slot
+pub slots_there : (f : Wished) → IsFlat f.problem → 0 < f.problem.slots
+slots_there f flat = by_stay f.problem.stay flat.some_slot
   where
-    by_stay : (b : Bool) → 1 ≤ cond b (f.slots - 1) f.slots → 0 < f.slots
+    by_stay : (b : Bool) → 1 ≤ cond b (f.problem.slots - 1) f.problem.slots → 0 < f.problem.slots
     by_stay true h = omega (arith, h)
     by_stay false h = omega (arith, h)
 
 pub clash_means : ClashMeans
 clash_means f kept flat none is =
-    let k = known f (restriction_count f) kept is in
+    let k = known f (wished_count f) kept is in
     record {
       some = some_kept f kept (slots_there f flat) (k.clash none);
-      numbered = all_has (λ n. n < restriction_count f) kept k.numbered;
+      numbered = all_has (λ n. n < wished_count f) kept k.numbered;
       ascending = k.ascending;
       clash = k.clash none;
       needed = all_has (λ n. SomePermitted (part f (without n kept))) kept (λ n e. k.needed n (k.numbered n e) e);
@@ -122,7 +122,7 @@ clash_means f kept flat none is =
 
 -- ---- only one
 
-tries_one : (f : Problem) (n : ℕ) (before one other : List ℕ) → Tries f n before one → Tries f n before other → one ≡ other
+tries_one : (f : Wished) (n : ℕ) (before one other : List ℕ) → Tries f n before one → Tries f n before other → one ≡ other
 tries_one f n before one other a b = elim a [
   | inl taken ↦ elim b [
     | inl also ↦ taken.1 ∙ sym also.1
@@ -134,9 +134,9 @@ tries_one f n before one other a b = elim a [
   ]
 ]
 
-pub left_one : (f : Problem) (n : ℕ) (one other : List ℕ) → IsLeft f n one → IsLeft f n other → one ≡ other
+pub left_one : (f : Wished) (n : ℕ) (one other : List ℕ) → IsLeft f n one → IsLeft f n other → one ≡ other
 left_one f zero one other a b = a ∙ sym b
 left_one f (suc n) one other a b = tries_one f n a.0 one other a.2 (subst (λ before. Tries f n before other) (sym (left_one f n a.0 b.0 a.1 b.1)) b.2)
 
 pub one_clash : OneClash
-one_clash f one other a b = left_one f (restriction_count f) one other a b
+one_clash f one other a b = left_one f (wished_count f) one other a b

@@ -84,11 +84,11 @@ there (r ∷ rules) (suc i) lt = there rules i (omega (arith, lt))
 
 pub part_rules : PartRules
 part_rules f kept =
-    let get : ℕ → Option Rule = λ n. slice_get f.rules (n - f.ships) in
-    let rules : rules_in kept f.ships f.rules ≡ filter_map get (rule_numbers f kept) = numbered get kept f.ships f.rules (λ i k e. let d : k - f.ships ≡ i = omega (arith, e) in ap (slice_get f.rules) d) in
+    let get : ℕ → Option Rule = λ n. slice_get f.problem.rules (n - f.problem.ships) in
+    let rules : rules_in kept f.problem.ships f.problem.rules ≡ filter_map get (rule_numbers f kept) = numbered get kept f.problem.ships f.problem.rules (λ i k e. let d : k - f.problem.ships ≡ i = omega (arith, e) in ap (slice_get f.problem.rules) d) in
     record {
       rules = rules;
       renumbered = λ place n e.
           ap (λ rs. slice_get rs place) rules
-          ∙ placed get (rule_numbers f kept) place n (each_filter (λ m. IsSome (get m)) (has kept) f.ships (length f.rules) (λ k low high. there f.rules (k - f.ships) (omega (arith, low, high)))) e;
+          ∙ placed get (rule_numbers f kept) place n (each_filter (λ m. IsSome (get m)) (has kept) f.problem.ships (length f.problem.rules) (λ k low high. there f.problem.rules (k - f.problem.ships) (omega (arith, low, high)))) e;
     }

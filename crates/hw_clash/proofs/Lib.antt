@@ -1,6 +1,7 @@
 pub mod Lists
 pub mod Kept
 pub mod Parts
+pub mod Wishes
 pub mod Irreducible
 mod Worked
 pub mod Lines

@@ -1,11 +1,11 @@
 -- Reading a clash text, one line after the other, as loops do.
 use Rattle.std.proofs.Common.{◌≡◌, ℕ, zero, suc, ◌+◌, ◌≤◌, ◌<◌, List, [], ◌∷◌, ◌++◌, drop, drop-cons, get_or, length, Result, Ok, Err, refl, sym, ap, ◌∙◌, append_assoc, arith}
 use Rattle.std.proofs.lemmas.List.{append-nil}
-use Rattle.hw_model.specs.Problem.{Problem}
 use Rattle.hw_derived.specs.declared.fault.LineFault.{LineFault}
 use Rattle.hw_derived.specs.declared.fault.LineFault.TheVariants as faults
 use Rattle.hw_derived.specs.Reading.{Fault, ◌>>=◌, Fails}
 use Rattle.hw_clash.specs.declared.fault.ClashWord.{ClashWord}
+use Rattle.hw_clash.specs.Wished.{Wished}
 use Rattle.hw_clash.specs.Text.{drop_at, drops_at}
 
 -- ---- timetables
@@ -26,7 +26,7 @@ later kept i lt =
     let one : i + 1 ≡ suc i = omega arith in
     drop-cons kept i 0 lt ∙ ap (λ n. get_or kept i 0 ∷ drop n kept) (sym one)
 
-pub drops_go_on : (f : Problem) (kept : List ℕ) (front : List (List ℕ)) (table : List ℕ) (i : ℕ) (parts after : List (List ℕ)) (total : Read) → i < length kept → drop_at f kept (3 + i) (get_or kept i 0) parts ≡ Ok (table, after)
+pub drops_go_on : (f : Wished) (kept : List ℕ) (front : List (List ℕ)) (table : List ℕ) (i : ℕ) (parts after : List (List ℕ)) (total : Read) → i < length kept → drop_at f kept (3 + i) (get_or kept i 0) parts ≡ Ok (table, after)
     → with_read front (drops_at f kept (3 + i) (drop i kept) parts) ≡ total → with_read (front ++ table ∷ []) (drops_at f kept (3 + (i + 1)) (drop (i + 1) kept) after) ≡ total
 unfolding drops_at
 drops_go_on f kept front table i parts after total lt h so_far =
@@ -35,7 +35,7 @@ drops_go_on f kept front table i parts after total lt h so_far =
     rw (later kept i lt, h, n) (regroup_tables front table (drops_at f kept (3 + (i + 1)) (drop (i + 1) kept) after)) in
     sym one ∙ so_far
 
-pub drops_fail : (e : LineFault ClashWord) (f : Problem) (kept : List ℕ) (front : List (List ℕ)) (i : ℕ) (parts : List (List ℕ)) (total : Read) → i < length kept → Fails e (drop_at f kept (3 + i) (get_or kept i 0) parts)
+pub drops_fail : (e : LineFault ClashWord) (f : Wished) (kept : List ℕ) (front : List (List ℕ)) (i : ℕ) (parts : List (List ℕ)) (total : Read) → i < length kept → Fails e (drop_at f kept (3 + i) (get_or kept i 0) parts)
     → with_read front (drops_at f kept (3 + i) (drop i kept) parts) ≡ total → Fails e total
 unfolding drops_at
 drops_fail faults.NoMemory f kept front i parts total lt h so_far = tt
@@ -43,7 +43,7 @@ drops_fail (faults.Line at word) f kept front i parts total lt h so_far =
     let one : with_read front (drops_at f kept (3 + i) (drop i kept) parts) ≡ Err (record { number = at; word = word }) = rw (later kept i lt, h) refl in
     sym so_far ∙ one
 
-pub drops_done : (f : Problem) (kept : List ℕ) (front : List (List ℕ)) (i : ℕ) (parts : List (List ℕ)) (total : Read) → drop i kept ≡ [] → with_read front (drops_at f kept (3 + i) (drop i kept) parts) ≡ total → total ≡ Ok (front, parts)
+pub drops_done : (f : Wished) (kept : List ℕ) (front : List (List ℕ)) (i : ℕ) (parts : List (List ℕ)) (total : Read) → drop i kept ≡ [] → with_read front (drops_at f kept (3 + i) (drop i kept) parts) ≡ total → total ≡ Ok (front, parts)
 unfolding drops_at
 drops_done f kept front i parts total none so_far =
     let one : with_read front (drops_at f kept (3 + i) (drop i kept) parts) ≡ Ok (front, parts) = rw none (ap (λ (ts : List (List ℕ)). Ok (ts, parts)) (append-nil front)) in

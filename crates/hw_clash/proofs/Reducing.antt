@@ -11,10 +11,10 @@ use Rattle.std.specs.List.Sorted.{IsStrictlyIncreasing}
 use Rattle.hw_derived.proofs.Places.{get_left, get_right, get_within}
 use Rattle.hw_lines.specs.declared.check.Verdict.TheVariants.{Optimal}
 use Rattle.hw_lines.specs.declared.line.Line.{Line}
-use Rattle.hw_model.specs.Problem.{Problem}
 use Rattle.hw_model.specs.Limits.{IsFlat}
-use Rattle.hw_model.specs.Timetables.{Permits, NonePermitted, restriction_count}
+use Rattle.hw_model.specs.Timetables.{Permits, NonePermitted}
 use Rattle.hw_clash.specs.Asking.{FitsAt, NoneAt, SpentAt}
+use Rattle.hw_clash.specs.Wished.{Wished, wished_count, NoneWished}
 use Rattle.hw_clash.specs.Parts.{has, part}
 use Rattle.hw_clash.specs.Clashing.{all_numbers, without, IsLeft, IsClash}
 use Rattle.hw_clash.specs.Outcomes.{Asks, IsClashFound, IsMet, MayAsk, IsSpentAt}
@@ -48,25 +48,25 @@ without_between n many front below =
 -- ---- what is kept while restrictions are tried
 
 -- those below n were tried: of these the ones in front are kept, each with a timetable that all others permit
-pub record Reducing (f : Problem) (n : ℕ) (kept : List ℕ) (drops : List (List ℕ)) : Type 0 where
+pub record Reducing (f : Wished) (n : ℕ) (kept : List ℕ) (drops : List (List ℕ)) : Type 0 where
   pub left : IsLeft f n kept
   pub front : List ℕ
   pub below : All (λ m. m < n) front
-  pub is : kept ≡ front ++ range_with_len n (restriction_count f - n)
+  pub is : kept ≡ front ++ range_with_len n (wished_count f - n)
   pub each : length drops ≡ length front
   pub met : (place m : ℕ) (table : List ℕ) → slice_get kept place ≡ Some m → slice_get drops place ≡ Some table → Permits (part f (without m kept)) table
 
-next_left : (f : Problem) (n : ℕ) (kept : List ℕ) → IsLeft f (suc n) kept → IsLeft f (n + 1) kept
+next_left : (f : Wished) (n : ℕ) (kept : List ℕ) → IsLeft f (suc n) kept → IsLeft f (n + 1) kept
 next_left f n kept h = let e : suc n ≡ n + 1 = omega arith in subst (λ k. IsLeft f k kept) e h
 
-begun : (f : Problem) (n : ℕ) (kept : List ℕ) (drops : List (List ℕ)) → n < restriction_count f → (r : Reducing f n kept drops) → kept ≡ r.front ++ range_with_len n (suc (restriction_count f - (n + 1)))
+begun : (f : Wished) (n : ℕ) (kept : List ℕ) (drops : List (List ℕ)) → n < wished_count f → (r : Reducing f n kept drops) → kept ≡ r.front ++ range_with_len n (suc (wished_count f - (n + 1)))
 begun f n kept drops lt r =
-    let k : restriction_count f - n ≡ suc (restriction_count f - (n + 1)) = omega arith in
+    let k : wished_count f - n ≡ suc (wished_count f - (n + 1)) = omega arith in
     r.is ∙ ap (λ (m : ℕ). r.front ++ range_with_len n m) k
 
-pub taken_away : (f : Problem) (n : ℕ) (kept others : List ℕ) (drops : List (List ℕ)) → n < restriction_count f → Reducing f n kept drops → others ≡ without n kept → NonePermitted (part f others) → Reducing f (n + 1) others drops
+pub taken_away : (f : Wished) (n : ℕ) (kept others : List ℕ) (drops : List (List ℕ)) → n < wished_count f → Reducing f n kept drops → others ≡ without n kept → NonePermitted (part f others) → Reducing f (n + 1) others drops
 taken_away f n kept others drops lt r e none =
-    let is : others ≡ r.front ++ range_with_len (n + 1) (restriction_count f - (n + 1)) = e ∙ (ap (without n) (begun f n kept drops lt r) ∙ without_between n (restriction_count f - (n + 1)) r.front r.below) in
+    let is : others ≡ r.front ++ range_with_len (n + 1) (wished_count f - (n + 1)) = e ∙ (ap (without n) (begun f n kept drops lt r) ∙ without_between n (wished_count f - (n + 1)) r.front r.below) in
     record {
       left = next_left f n others (kept, r.left, inl (subst (λ xs. NonePermitted (part f xs)) e none, e));
       front = r.front;
@@ -79,9 +79,9 @@ taken_away f n kept others drops lt r e none =
           fewer f (without m others) (without m kept) table (without_within m others kept (λ k h. (of_without n k kept (subst (λ xs. has xs k ≡ true) e h)).0)) (r.met place m table (sym at_front ∙ p) q);
     }
 
-pub one_kept : (f : Problem) (n : ℕ) (kept : List ℕ) (drops : List (List ℕ)) (table : List ℕ) → n < restriction_count f → Reducing f n kept drops → Permits (part f (without n kept)) table → Reducing f (n + 1) kept (drops ++ table ∷ [])
+pub one_kept : (f : Wished) (n : ℕ) (kept : List ℕ) (drops : List (List ℕ)) (table : List ℕ) → n < wished_count f → Reducing f n kept drops → Permits (part f (without n kept)) table → Reducing f (n + 1) kept (drops ++ table ∷ [])
 one_kept f n kept drops table lt r permits =
-    let rest : List ℕ = range_with_len (n + 1) (restriction_count f - (n + 1)) in
+    let rest : List ℕ = range_with_len (n + 1) (wished_count f - (n + 1)) in
     let is : kept ≡ r.front ++ n ∷ rest = begun f n kept drops lt r in
     record {
       left = next_left f n kept (kept, r.left, inr ((table, permits), refl));
@@ -101,11 +101,11 @@ one_kept f n kept drops table lt r permits =
       ];
     }
 
-none_at_all : (f : Problem) (first : List Line) → NoneAt (part f (all_numbers f)) first → NonePermitted f
+none_at_all : (f : Wished) (first : List Line) → NoneAt (part f (all_numbers f)) first → NoneWished f
 none_at_all f first none table permits = none.none table ((part_of_all f table).1 permits)
 
-pub asked_there : (f : Problem) (n : ℕ) (kept others : List ℕ) (drops : List (List ℕ)) (budget : ℕ) (first all : List Line)
-    → NoneAt (part f (all_numbers f)) first → n < restriction_count f → Reducing f n kept drops → others ≡ without n kept → SpentAt (part f others) budget all → IsSpentAt f budget (n + 1) all
+pub asked_there : (f : Wished) (n : ℕ) (kept others : List ℕ) (drops : List (List ℕ)) (budget : ℕ) (first all : List Line)
+    → NoneAt (part f (all_numbers f)) first → n < wished_count f → Reducing f n kept drops → others ≡ without n kept → SpentAt (part f others) budget all → IsSpentAt f budget (n + 1) all
 asked_there f n kept others drops budget first all none lt r e spent =
     let next : suc n ≡ n + 1 = omega arith in
     record {
@@ -120,28 +120,28 @@ asked_there f n kept others drops budget first all none lt r e spent =
     }
 
 -- the numbers that are asked about are restrictions, ascending
-pub record Numbers (f : Problem) (xs : List ℕ) : Type 0 where
-  pub numbered : All (λ n. n < restriction_count f) xs
+pub record Numbers (f : Wished) (xs : List ℕ) : Type 0 where
+  pub numbered : All (λ n. n < wished_count f) xs
   pub ascending : IsStrictlyIncreasing xs
 
-pub numbers_left : (f : Problem) (n : ℕ) (kept : List ℕ) → IsLeft f n kept → Numbers f kept
+pub numbers_left : (f : Wished) (n : ℕ) (kept : List ℕ) → IsLeft f n kept → Numbers f kept
 numbers_left f n kept h =
     let k = known f n kept h in
-    record { numbered = all_has (λ n. n < restriction_count f) kept k.numbered; ascending = k.ascending }
+    record { numbered = all_has (λ n. n < wished_count f) kept k.numbered; ascending = k.ascending }
 
-pub numbers_without : (f : Problem) (n : ℕ) (kept : List ℕ) (drops : List (List ℕ)) (m : ℕ) (others : List ℕ) → Reducing f n kept drops → others ≡ without m kept → Numbers f others
+pub numbers_without : (f : Wished) (n : ℕ) (kept : List ℕ) (drops : List (List ℕ)) (m : ℕ) (others : List ℕ) → Reducing f n kept drops → others ≡ without m kept → Numbers f others
 numbers_without f n kept drops m others r e =
     let k = numbers_left f n kept r.left in
-    subst (Numbers f) (sym e) (record { numbered = All-filter (λ i. not (i == m)) (λ i. i < restriction_count f) kept k.numbered; ascending = IsStrictlyIncreasing-filter (λ i. not (i == m)) kept k.ascending })
+    subst (Numbers f) (sym e) (record { numbered = All-filter (λ i. not (i == m)) (λ i. i < wished_count f) kept k.numbered; ascending = IsStrictlyIncreasing-filter (λ i. not (i == m)) kept k.ascending })
 
 -- ---- the end
 
-pub all_tried : (f : Problem) (n : ℕ) (kept : List ℕ) (drops : List (List ℕ)) (all first : List Line) → IsFlat f → restriction_count f ≤ n → n ≤ restriction_count f → Reducing f n kept drops → NoneAt (part f (all_numbers f)) first → NoneAt (part f kept) all → IsClashFound f kept drops all
+pub all_tried : (f : Wished) (n : ℕ) (kept : List ℕ) (drops : List (List ℕ)) (all first : List Line) → IsFlat f.problem → wished_count f ≤ n → n ≤ wished_count f → Reducing f n kept drops → NoneAt (part f (all_numbers f)) first → NoneAt (part f kept) all → IsClashFound f kept drops all
 all_tried f n kept drops all first flat le ge r none shown =
-    let e : n ≡ restriction_count f = omega (arith, le, ge) in
+    let e : n ≡ wished_count f = omega (arith, le, ge) in
     let clash : IsClash f kept = subst (λ k. IsLeft f k kept) e r.left in
-    let nothing : NonePermitted f = none_at_all f first none in
-    let zero' : restriction_count f - n ≡ 0 = omega (arith, le) in
+    let nothing : NoneWished f = none_at_all f first none in
+    let zero' : wished_count f - n ≡ 0 = omega (arith, le) in
     let whole : kept ≡ r.front = r.is ∙ (ap (λ k. r.front ++ range_with_len n k) zero' ∙ append-nil r.front) in
     record {
       none = nothing;
@@ -154,7 +154,7 @@ all_tried f n kept drops all first flat le ge r none shown =
 
 -- ---- the first step
 
-pub met_at_once : (f : Problem) (numbers table : List ℕ) (all : List Line) → numbers ≡ all_numbers f → FitsAt (part f numbers) table all → IsMet f table all
+pub met_at_once : (f : Wished) (numbers table : List ℕ) (all : List Line) → numbers ≡ all_numbers f → FitsAt (part f numbers) table all → IsMet f table all
 met_at_once f numbers table all e fits' =
     let fits = subst (λ xs. FitsAt (part f xs) table all) e fits' in
     let nought : 0 ≡ fits.shown.0 = same_Some 0 fits.shown.0 (sym (part_cargo f (all_numbers f) table fits.permitted) ∙ fits.shown.1) in
@@ -166,8 +166,8 @@ met_at_once f numbers table all e fits' =
     }
 
 -- the timetable of a part without a number, by the list that is asked about
-pub fits_without : (f : Problem) (n : ℕ) (kept others : List ℕ) (table : List ℕ) (all : List Line) → others ≡ without n kept → FitsAt (part f others) table all → Permits (part f (without n kept)) table
+pub fits_without : (f : Wished) (n : ℕ) (kept others : List ℕ) (table : List ℕ) (all : List Line) → others ≡ without n kept → FitsAt (part f others) table all → Permits (part f (without n kept)) table
 fits_without f n kept others table all e fits = subst (λ xs. Permits (part f xs) table) e fits.permitted
 
-pub numbers_all : (f : Problem) → Numbers f (all_numbers f)
+pub numbers_all : (f : Wished) → Numbers f (all_numbers f)
 numbers_all f = numbers_left f 0 (all_numbers f) refl

@@ -8,11 +8,12 @@ use Rattle.std.specs.Str.Parse.{digits_value}
 use Rattle.hw_derived.specs.Slots.{put_first, slot_form, slots_form}
 use Rattle.hw_text.specs.Numbers.{is_number, number_up_to, number_from_to}
 use Rattle.hw_text.specs.Parts.{words_of}
-use Rattle.hw_model.specs.Problem.{Problem, IsTimetable}
-use Rattle.hw_model.specs.Timetables.{Permits, restriction_count, first_broken}
+use Rattle.hw_model.specs.Problem.{IsTimetable}
+use Rattle.hw_model.specs.Timetables.{Permits, first_broken}
 use Rattle.hw_laws.proofs.Broken.{permits_from}
 use Rattle.hw_clash.specs.declared.fault.ClashWord.{ClashWord}
 use Rattle.hw_clash.specs.declared.fault.ClashWord.TheVariants as words
+use Rattle.hw_clash.specs.Wished.{Wished, wished_count}
 use Rattle.hw_clash.specs.Parts.{part}
 use Rattle.hw_clash.specs.Clashing.{without, AreDrops}
 use Rattle.hw_derived.proofs.Reading.{bind_ok, formed_ok, slot_below}
@@ -67,35 +68,35 @@ ids_read least many (word ∷ words) ids some e = option_and_then_some (λ id. p
       ap length (sym put.2) ∙ ap suc rest.1,
     ))
 
-pub record KeepRead (f : Problem) (kept : List ℕ) : Type 0 where
+pub record KeepRead (f : Wished) (kept : List ℕ) : Type 0 where
   pub some : 1 ≤ length kept
-  pub numbered : All (λ n. n < restriction_count f) kept
+  pub numbered : All (λ n. n < wished_count f) kept
   pub ascending : IsStrictlyIncreasing kept
 
-some_read : (f : Problem) (words : List (List ℕ)) (kept : List ℕ) → 0 < restriction_count f → some_ids (restriction_count f) words ≡ Some kept → KeepRead f kept
+some_read : (f : Wished) (words : List (List ℕ)) (kept : List ℕ) → 0 < wished_count f → some_ids (wished_count f) words ≡ Some kept → KeepRead f kept
 some_read f [] kept some e = absurd cc
 some_read f (word ∷ words) kept some e =
-    let r = ids_read 0 (restriction_count f) (word ∷ words) kept some e in
+    let r = ids_read 0 (wished_count f) (word ∷ words) kept some e in
     record { some = omega (arith, r.1); numbered = r.0.below; ascending = r.0.ascending }
 
 pub by_key : (b : Bool) (o : Option (List ℕ)) (kept : List ℕ) → cond b o None ≡ Some kept → o ≡ Some kept
 by_key true o kept e = e
 by_key false o kept e = absurd cc
 
-keep_words_read : (f : Problem) (words : List (List ℕ)) (kept : List ℕ) → 0 < restriction_count f → keep_words (restriction_count f) words ≡ Some kept → KeepRead f kept
+keep_words_read : (f : Wished) (words : List (List ℕ)) (kept : List ℕ) → 0 < wished_count f → keep_words (wished_count f) words ≡ Some kept → KeepRead f kept
 keep_words_read f [] kept some e = absurd cc
-keep_words_read f (key ∷ words) kept some e = some_read f words kept some (by_key (bytes_eq key (codes "keep")) (some_ids (restriction_count f) words) kept e)
+keep_words_read f (key ∷ words) kept some e = some_read f words kept some (by_key (bytes_eq key (codes "keep")) (some_ids (wished_count f) words) kept e)
 
 abbrev pub kept_and : List (List ℕ) → List ℕ → Result (List ℕ × List (List ℕ)) (Fault ClashWord)
 kept_and rest kept = Ok (kept, rest)
 
-abbrev pub after_keep : Problem → List ℕ × List (List ℕ) → Result (List ℕ × List (List ℕ)) (Fault ClashWord)
+abbrev pub after_keep : Wished → List ℕ × List (List ℕ) → Result (List ℕ × List (List ℕ)) (Fault ClashWord)
 after_keep f line = formed 2 words.Keep (keep_form f line.0) >>= kept_and line.1
 
 first_same : (a b : List ℕ × List (List ℕ)) → ◌≡◌ {A = Result (List ℕ × List (List ℕ)) (Fault ClashWord)} (Ok a) (Ok b) → a.0 ≡ b.0
 first_same a b e = let p : a ≡ b = cc in ap (λ (x : List ℕ × List (List ℕ)). x.0) p
 
-pub keep_read : (f : Problem) (parts : List (List ℕ)) (read : List ℕ × List (List ℕ)) → 0 < f.ships → keep_at f parts ≡ Ok read → KeepRead f read.0
+pub keep_read : (f : Wished) (parts : List (List ℕ)) (read : List ℕ × List (List ℕ)) → 0 < f.problem.ships → keep_at f parts ≡ Ok read → KeepRead f read.0
 unfolding keep_at
 keep_read f parts read some e =
     let line = bind_ok (line_at 2 words.Keep parts) (after_keep f) read e in
@@ -121,25 +122,25 @@ slots_read slots (suc many) (word ∷ words) list some e =
     let rest = slots_read slots many words p.1 some p.3 in
     (ap length (sym p.4) ∙ ap suc rest.0, subst (All (λ slot. slot < slots)) p.4 (All-cons (λ slot. slot < slots) p.0 p.1 (slot_below slots word p.0 some p.2) rest.1))
 
-drop_words_read : (f : Problem) (id : ℕ) (words : List (List ℕ)) (table : List ℕ) → 0 < f.slots → drop_words f id words ≡ Some table → IsTimetable f table
+drop_words_read : (f : Wished) (id : ℕ) (words : List (List ℕ)) (table : List ℕ) → 0 < f.problem.slots → drop_words f id words ≡ Some table → IsTimetable f.problem table
 drop_words_read f id [] table some e = absurd cc
 drop_words_read f id (key ∷ []) table some e = absurd cc
 drop_words_read f id (key ∷ word ∷ words) table some e =
-    let form = by_key (is_some (number_from_to id id word)) (slots_form f.slots f.ships words) table (by_key (bytes_eq key (codes "drop")) (cond (is_some (number_from_to id id word)) (slots_form f.slots f.ships words) None) table e) in
-    let r = slots_read f.slots f.ships words table some form in
+    let form = by_key (is_some (number_from_to id id word)) (slots_form f.problem.slots f.problem.ships words) table (by_key (bytes_eq key (codes "drop")) (cond (is_some (number_from_to id id word)) (slots_form f.problem.slots f.problem.ships words) None) table e) in
+    let r = slots_read f.problem.slots f.problem.ships words table some form in
     record { each_ship = r.0; each_slot = r.1 }
 
-abbrev pub after_form : Problem → List ℕ → ℕ → ℕ → List (List ℕ) → List ℕ → Result (List ℕ × List (List ℕ)) (Fault ClashWord)
+abbrev pub after_form : Wished → List ℕ → ℕ → ℕ → List (List ℕ) → List ℕ → Result (List ℕ × List (List ℕ)) (Fault ClashWord)
 after_form f kept number id rest table = cond (is_some (first_broken (part f (without id kept)) table)) (fault number words.Table) (Ok (table, rest))
 
-abbrev pub after_line : Problem → List ℕ → ℕ → ℕ → List ℕ × List (List ℕ) → Result (List ℕ × List (List ℕ)) (Fault ClashWord)
+abbrev pub after_line : Wished → List ℕ → ℕ → ℕ → List ℕ × List (List ℕ) → Result (List ℕ × List (List ℕ)) (Fault ClashWord)
 after_line f kept number id line = formed number words.Drop (drop_form f id line.0) >>= after_form f kept number id line.1
 
 pub unbroken : (o : Option ℕ) (number : ℕ) (x y : List ℕ × List (List ℕ)) → cond (is_some o) (fault number words.Table) (Ok x) ≡ Ok y → (o ≡ None) × (x ≡ y)
 unbroken None number x y e = (refl, cc)
 unbroken (Some n) number x y e = absurd cc
 
-drop_read : (f : Problem) (kept : List ℕ) (number id : ℕ) (parts : List (List ℕ)) (read : List ℕ × List (List ℕ)) → 0 < f.slots → drop_at f kept number id parts ≡ Ok read → Permits (part f (without id kept)) read.0
+drop_read : (f : Wished) (kept : List ℕ) (number id : ℕ) (parts : List (List ℕ)) (read : List ℕ × List (List ℕ)) → 0 < f.problem.slots → drop_at f kept number id parts ≡ Ok read → Permits (part f (without id kept)) read.0
 unfolding drop_at
 drop_read f kept number id parts read some e =
     let line = bind_ok (line_at number words.Drop parts) (after_line f kept number id) read e in
@@ -151,10 +152,10 @@ drop_read f kept number id parts read some e =
     subst (Permits (part f (without id kept))) (ap (λ (x : List ℕ × List (List ℕ)). x.0) last.1) permits
 
 -- each timetable is permitted by the part of the kept ones without its own
-abbrev MetBy : Problem → List ℕ → List ℕ → List (List ℕ) → Type 0
+abbrev MetBy : Wished → List ℕ → List ℕ → List (List ℕ) → Type 0
 MetBy f kept ids drops = (length drops ≡ length ids) × ((place n : ℕ) (table : List ℕ) → slice_get ids place ≡ Some n → slice_get drops place ≡ Some table → Permits (part f (without n kept)) table)
 
-met_more : (f : Problem) (kept ids : List ℕ) (drops : List (List ℕ)) (id : ℕ) (first : List ℕ) → Permits (part f (without id kept)) first → MetBy f kept ids drops → (place n : ℕ) (table : List ℕ) → slice_get (id ∷ ids) place ≡ Some n → slice_get (first ∷ drops) place ≡ Some table → Permits (part f (without n kept)) table
+met_more : (f : Wished) (kept ids : List ℕ) (drops : List (List ℕ)) (id : ℕ) (first : List ℕ) → Permits (part f (without id kept)) first → MetBy f kept ids drops → (place n : ℕ) (table : List ℕ) → slice_get (id ∷ ids) place ≡ Some n → slice_get (first ∷ drops) place ≡ Some table → Permits (part f (without n kept)) table
 met_more f kept ids drops id first permits more zero n table p q =
     subst (Permits (part f (without n kept))) (same_Some first table q) (subst (λ m. Permits (part f (without m kept)) first) (same_Some id n p) permits)
 met_more f kept ids drops id first permits more (suc place) n table p q = more.1 place n table p q
@@ -162,13 +163,13 @@ met_more f kept ids drops id first permits more (suc place) n table p q = more.1
 abbrev pub after_more : List ℕ → List (List ℕ) × List (List ℕ) → Result (List (List ℕ) × List (List ℕ)) (Fault ClashWord)
 after_more table more = Ok (table ∷ more.0, more.1)
 
-abbrev pub after_first : Problem → List ℕ → ℕ → List ℕ → List ℕ × List (List ℕ) → Result (List (List ℕ) × List (List ℕ)) (Fault ClashWord)
+abbrev pub after_first : Wished → List ℕ → ℕ → List ℕ → List ℕ × List (List ℕ) → Result (List (List ℕ) × List (List ℕ)) (Fault ClashWord)
 after_first f kept number ids table = drops_at f kept (number + 1) ids table.1 >>= after_more table.0
 
 lists_same : (a b : List (List ℕ) × List (List ℕ)) → ◌≡◌ {A = Result (List (List ℕ) × List (List ℕ)) (Fault ClashWord)} (Ok a) (Ok b) → a.0 ≡ b.0
 lists_same a b e = let p : a ≡ b = cc in ap (λ (x : List (List ℕ) × List (List ℕ)). x.0) p
 
-pub drops_read : (f : Problem) (kept : List ℕ) (number : ℕ) (ids : List ℕ) (parts : List (List ℕ)) (read : List (List ℕ) × List (List ℕ)) → 0 < f.slots → drops_at f kept number ids parts ≡ Ok read → MetBy f kept ids read.0
+pub drops_read : (f : Wished) (kept : List ℕ) (number : ℕ) (ids : List ℕ) (parts : List (List ℕ)) (read : List (List ℕ) × List (List ℕ)) → 0 < f.problem.slots → drops_at f kept number ids parts ≡ Ok read → MetBy f kept ids read.0
 unfolding drops_at
 drops_read f kept number [] parts read some e =
     let none : [] ≡ read.0 = lists_same ([], parts) read e in
@@ -181,7 +182,7 @@ drops_read f kept number (id ∷ ids) parts read some e =
     let all : table.value.0 ∷ more.value.0 ≡ read.0 = lists_same (table.value.0 ∷ more.value.0, more.value.1) read more.then' in
     subst (MetBy f kept (id ∷ ids)) all (ap suc rest.0, met_more f kept ids more.value.0 id table.value.0 permits rest)
 
-pub drops_are : (f : Problem) (kept : List ℕ) (parts : List (List ℕ)) (drops : List (List ℕ)) (rest : List (List ℕ)) → 0 < f.slots → drops_at f kept 3 kept parts ≡ Ok (drops, rest) → AreDrops f kept drops
+pub drops_are : (f : Wished) (kept : List ℕ) (parts : List (List ℕ)) (drops : List (List ℕ)) (rest : List (List ℕ)) → 0 < f.problem.slots → drops_at f kept 3 kept parts ≡ Ok (drops, rest) → AreDrops f kept drops
 drops_are f kept parts drops rest some e =
     let r = drops_read f kept 3 kept parts (drops, rest) some e in
     record { each_id = r.0; met = r.1 }

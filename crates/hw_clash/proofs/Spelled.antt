@@ -10,12 +10,10 @@ use Rattle.hw_text.proofs.Joins.{is_ended_lines}
 use Rattle.hw_text.proofs.Signs.{from_to_is}
 use Rattle.hw_text.proofs.Spelled.{is_spelled}
 use Rattle.hw_flat.proofs.TextWords.{same_text, rejoined}
-use Rattle.hw_model.specs.Limits.{IsFlat}
-use Rattle.hw_model.specs.Problem.{Problem}
-use Rattle.hw_model.specs.Timetables.{restriction_count}
 use Rattle.hw_clash.specs.declared.fault.ClashWord.{ClashWord}
 use Rattle.hw_clash.specs.declared.fault.ClashWord.TheVariants as words
 use Rattle.hw_clash.specs.Clashes.{Clash}
+use Rattle.hw_clash.specs.Wished.{Wished, IsWished, wished_count}
 use Rattle.hw_derived.proofs.Reading.{bind_ok, formed_ok}
 use Rattle.hw_derived.specs.Reading.{Fault, ◌>>=◌, fault, formed, line_at, only_at, ended_at}
 use Rattle.hw_cert.proofs.SmallNumbers.{few_slots}
@@ -30,7 +28,7 @@ Parts = List (List ℕ)
 
 -- ---- numbers as words
 
-ids_spelled : (least many : ℕ) (words : Parts) (ids : List ℕ) → many ≤ 4_040 → ids_from least many words ≡ Some ids → words ≡ map decimal ids
+ids_spelled : (least many : ℕ) (words : Parts) (ids : List ℕ) → many ≤ 4_080 → ids_from least many words ≡ Some ids → words ≡ map decimal ids
 ids_spelled least many [] ids few e = ap (map decimal) (same_Some [] ids e)
 ids_spelled least many (word ∷ words) ids few e = option_and_then_some (λ id. put_first (Some id) (ids_from (id + 1) many words)) (number_from_to least (many - 1) word) ids e (λ n from kept.
     let put = put_some n (ids_from (n + 1) many words) ids kept in
@@ -52,23 +50,23 @@ key_is : (b : Bool) (o : Option (List ℕ)) (list : List ℕ) → cond b o None 
 key_is true o list e = refl
 key_is false o list e = absurd cc
 
-some_ids_spelled : (many : ℕ) (words : Parts) (kept : List ℕ) → many ≤ 4_040 → some_ids many words ≡ Some kept → words ≡ map decimal kept
+some_ids_spelled : (many : ℕ) (words : Parts) (kept : List ℕ) → many ≤ 4_080 → some_ids many words ≡ Some kept → words ≡ map decimal kept
 some_ids_spelled many [] kept few e = absurd cc
 some_ids_spelled many (word ∷ words) kept few e = ids_spelled 0 many (word ∷ words) kept few e
 
-keep_words_spelled : (many : ℕ) (words : Parts) (kept : List ℕ) → many ≤ 4_040 → keep_words many words ≡ Some kept → words ≡ codes "keep" ∷ map decimal kept
+keep_words_spelled : (many : ℕ) (words : Parts) (kept : List ℕ) → many ≤ 4_080 → keep_words many words ≡ Some kept → words ≡ codes "keep" ∷ map decimal kept
 keep_words_spelled many [] kept few e = absurd cc
 keep_words_spelled many (key ∷ words) kept few e =
     ap₂ ◌∷◌ (same_text key (codes "keep") (key_is (bytes_eq key (codes "keep")) (some_ids many words) kept e)) (some_ids_spelled many words kept few (by_key (bytes_eq key (codes "keep")) (some_ids many words) kept e))
 
-keep_spelled : (f : Problem) (line kept : List ℕ) → IsFlat f → keep_form f line ≡ Some kept → line ≡ keep_line kept
-keep_spelled f line kept flat e = rejoined 32 line (codes "keep" ∷ map decimal kept) (keep_words_spelled (restriction_count f) (words_of line) kept (few_restrictions f flat) e)
+keep_spelled : (f : Wished) (line kept : List ℕ) → IsWished f → keep_form f line ≡ Some kept → line ≡ keep_line kept
+keep_spelled f line kept flat e = rejoined 32 line (codes "keep" ∷ map decimal kept) (keep_words_spelled (wished_count f) (words_of line) kept (few_restrictions f flat) e)
 
 there : (o : Option ℕ) → is_some o ≡ true → (n : ℕ) × (o ≡ Some n)
 there None e = absurd cc
 there (Some n) e = (n, refl)
 
-id_spelled : (id : ℕ) (word : List ℕ) → id ≤ 4_040 → is_some (number_from_to id id word) ≡ true → word ≡ decimal id
+id_spelled : (id : ℕ) (word : List ℕ) → id ≤ 4_080 → is_some (number_from_to id id word) ≡ true → word ≡ decimal id
 id_spelled id word few e =
     let n = there (number_from_to id id word) e in
     let is = from_to_is id id word n.0 (omega (arith, few)) n.1 in
@@ -77,17 +75,17 @@ id_spelled id word few e =
     let same : n.0 ≡ id = omega (arith, low, high) in
     is.0 ∙ ap decimal same
 
-drop_words_spelled : (f : Problem) (id : ℕ) (words : Parts) (table : List ℕ) → IsFlat f → id ≤ 4_040 → drop_words f id words ≡ Some table → words ≡ codes "drop" ∷ decimal id ∷ map decimal table
+drop_words_spelled : (f : Wished) (id : ℕ) (words : Parts) (table : List ℕ) → IsWished f → id ≤ 4_080 → drop_words f id words ≡ Some table → words ≡ codes "drop" ∷ decimal id ∷ map decimal table
 drop_words_spelled f id [] table flat few e = absurd cc
 drop_words_spelled f id (key ∷ []) table flat few e = absurd cc
 drop_words_spelled f id (key ∷ word ∷ words) table flat few e =
-    let key_true = key_is (bytes_eq key (codes "drop")) (cond (is_some (number_from_to id id word)) (slots_form f.slots f.ships words) None) table e in
-    let inner = by_key (bytes_eq key (codes "drop")) (cond (is_some (number_from_to id id word)) (slots_form f.slots f.ships words) None) table e in
-    let id_true = key_is (is_some (number_from_to id id word)) (slots_form f.slots f.ships words) table inner in
-    let slots = by_key (is_some (number_from_to id id word)) (slots_form f.slots f.ships words) table inner in
-    ap₂ ◌∷◌ (same_text key (codes "drop") key_true) (ap₂ ◌∷◌ (id_spelled id word few id_true) (slots_spelled f.slots f.ships words table (few_slots f flat) slots))
+    let key_true = key_is (bytes_eq key (codes "drop")) (cond (is_some (number_from_to id id word)) (slots_form f.problem.slots f.problem.ships words) None) table e in
+    let inner = by_key (bytes_eq key (codes "drop")) (cond (is_some (number_from_to id id word)) (slots_form f.problem.slots f.problem.ships words) None) table e in
+    let id_true = key_is (is_some (number_from_to id id word)) (slots_form f.problem.slots f.problem.ships words) table inner in
+    let slots = by_key (is_some (number_from_to id id word)) (slots_form f.problem.slots f.problem.ships words) table inner in
+    ap₂ ◌∷◌ (same_text key (codes "drop") key_true) (ap₂ ◌∷◌ (id_spelled id word few id_true) (slots_spelled f.problem.slots f.problem.ships words table (few_slots f.problem flat.limits) slots))
 
-drop_spelled : (f : Problem) (id : ℕ) (line table : List ℕ) → IsFlat f → id ≤ 4_040 → drop_form f id line ≡ Some table → line ≡ drop_line id table
+drop_spelled : (f : Wished) (id : ℕ) (line table : List ℕ) → IsWished f → id ≤ 4_080 → drop_form f id line ≡ Some table → line ≡ drop_line id table
 drop_spelled f id line table flat few e = rejoined 32 line (codes "drop" ∷ decimal id ∷ map decimal table) (drop_words_spelled f id (words_of line) table flat few e)
 
 -- ---- the lines in order
@@ -116,7 +114,7 @@ only_is number word text parts rest e =
 pair_same : {A : Type 0} (a b : A × Parts) → ◌≡◌ {A = Result (A × Parts) (Fault ClashWord)} (Ok a) (Ok b) → a ≡ b
 pair_same a b e = cc
 
-keep_is : (f : Problem) (parts : Parts) (read : List ℕ × Parts) → IsFlat f → keep_at f parts ≡ Ok read → parts ≡ keep_line read.0 ∷ read.1
+keep_is : (f : Wished) (parts : Parts) (read : List ℕ × Parts) → IsWished f → keep_at f parts ≡ Ok read → parts ≡ keep_line read.0 ∷ read.1
 unfolding keep_at
 keep_is f parts read flat e =
     let line = bind_ok (line_at 2 words.Keep parts) (after_keep f) read e in
@@ -126,7 +124,7 @@ keep_is f parts read flat e =
     ∙ ap (λ (l : List ℕ). l ∷ line.value.1) (keep_spelled f line.value.0 kept.value flat form)
     ∙ ap (λ (r : List ℕ × Parts). keep_line r.0 ∷ r.1) (pair_same (kept.value, line.value.1) read kept.then')
 
-drop_is : (f : Problem) (kept : List ℕ) (number id : ℕ) (parts : Parts) (read : List ℕ × Parts) → IsFlat f → id ≤ 4_040 → drop_at f kept number id parts ≡ Ok read → parts ≡ drop_line id read.0 ∷ read.1
+drop_is : (f : Wished) (kept : List ℕ) (number id : ℕ) (parts : Parts) (read : List ℕ × Parts) → IsWished f → id ≤ 4_080 → drop_at f kept number id parts ≡ Ok read → parts ≡ drop_line id read.0 ∷ read.1
 unfolding drop_at
 drop_is f kept number id parts read flat few e =
     let line = bind_ok (line_at number words.Drop parts) (after_line f kept number id) read e in
@@ -137,14 +135,14 @@ drop_is f kept number id parts read flat few e =
     ∙ ap (λ (l : List ℕ). l ∷ line.value.1) (drop_spelled f id line.value.0 table.value flat few form)
     ∙ ap (λ (r : List ℕ × Parts). drop_line id r.0 ∷ r.1) last.1
 
-drops_are : (f : Problem) (kept : List ℕ) (number : ℕ) (ids : List ℕ) (parts : Parts) (read : List (List ℕ) × Parts) → IsFlat f → All (λ n. n ≤ 4_040) ids → drops_at f kept number ids parts ≡ Ok read → parts ≡ drop_lines ids read.0 ++ read.1
+drops_are : (f : Wished) (kept : List ℕ) (number : ℕ) (ids : List ℕ) (parts : Parts) (read : List (List ℕ) × Parts) → IsWished f → All (λ n. n ≤ 4_080) ids → drops_at f kept number ids parts ≡ Ok read → parts ≡ drop_lines ids read.0 ++ read.1
 unfolding drops_at
 drops_are f kept number [] parts read flat few e = ap (λ (r : List (List ℕ) × Parts). drop_lines [] r.0 ++ r.1) (pair_same ([], parts) read e)
 drops_are f kept number (id ∷ ids) parts read flat few e =
     let table = bind_ok (drop_at f kept number id parts) (after_first f kept number ids) read e in
     let more = bind_ok (drops_at f kept (number + 1) ids table.value.1) (after_more table.value.0) read table.then' in
-    drop_is f kept number id parts table.value flat (All-head (λ n. n ≤ 4_040) id ids few) table.is
-    ∙ ap (λ (ps : Parts). drop_line id table.value.0 ∷ ps) (drops_are f kept (number + 1) ids table.value.1 more.value flat (All-tail (λ n. n ≤ 4_040) id ids few) more.is)
+    drop_is f kept number id parts table.value flat (All-head (λ n. n ≤ 4_080) id ids few) table.is
+    ∙ ap (λ (ps : Parts). drop_line id table.value.0 ∷ ps) (drops_are f kept (number + 1) ids table.value.1 more.value flat (All-tail (λ n. n ≤ 4_080) id ids few) more.is)
     ∙ ap (λ (r : List (List ℕ) × Parts). drop_lines (id ∷ ids) r.0 ++ r.1) (pair_same (table.value.0 ∷ more.value.0, more.value.1) read more.then')
 
 -- ---- the text
@@ -172,13 +170,13 @@ after_end kept drops rest = ended_at (4 + length kept) words.Tail (clash_by kept
 abbrev after_drops : List ℕ → List (List ℕ) × Parts → Result Clash (Fault ClashWord)
 after_drops kept drops = only_at (3 + length kept) words.Tail (codes "end") drops.1 >>= after_end kept drops.0
 
-abbrev after_kept : Problem → List ℕ × Parts → Result Clash (Fault ClashWord)
+abbrev after_kept : Wished → List ℕ × Parts → Result Clash (Fault ClashWord)
 after_kept f keep = drops_at f keep.0 3 keep.0 keep.1 >>= after_drops keep.0
 
-abbrev after_header : Problem → Parts → Result Clash (Fault ClashWord)
+abbrev after_header : Wished → Parts → Result Clash (Fault ClashWord)
 after_header f first = keep_at f first >>= after_kept f
 
-lines_are : (f : Problem) (parts : Parts) (clash : Clash) → IsFlat f → clash_of f parts ≡ Ok clash → parts ≡ clash_lines clash ++ [] ∷ []
+lines_are : (f : Wished) (parts : Parts) (clash : Clash) → IsWished f → clash_of f parts ≡ Ok clash → parts ≡ clash_lines clash ++ [] ∷ []
 unfolding clash_of
 lines_are f parts clash flat e =
     let first = bind_ok (only_at 1 words.Header (codes "clash 1") parts) (after_header f) clash e in
@@ -187,8 +185,8 @@ lines_are f parts clash flat e =
     let rest = bind_ok (only_at (3 + length keep.value.0) words.Tail (codes "end") drops.value.1) (after_end keep.value.0 drops.value.0) clash drops.then' in
     let last = ended_is (4 + length keep.value.0) words.Tail (clash_by keep.value.0 drops.value.0) clash rest.value rest.then' in
     let few = few_restrictions f flat in
-    let read = keep_read f first.value keep.value (omega (arith, flat.some_ship)) keep.is in
-    let ids : All (λ n. n ≤ 4_040) keep.value.0 = All-weaker (λ n. n < restriction_count f) (λ n. n ≤ 4_040) (λ n lt. omega (arith, lt, few)) keep.value.0 read.numbered in
+    let read = keep_read f first.value keep.value (omega (arith, flat.limits.some_ship)) keep.is in
+    let ids : All (λ n. n ≤ 4_080) keep.value.0 = All-weaker (λ n. n < wished_count f) (λ n. n ≤ 4_080) (λ n lt. omega (arith, lt, few)) keep.value.0 read.numbered in
     let tail : drops.value.1 ≡ codes "end" ∷ [] ∷ [] = only_is (3 + length keep.value.0) words.Tail (codes "end") drops.value.1 rest.value rest.is ∙ ap (λ (ps : Parts). codes "end" ∷ ps) last.1 in
     let body : keep.value.1 ≡ (drop_lines keep.value.0 drops.value.0 ++ codes "end" ∷ []) ++ [] ∷ [] =
     drops_are f keep.value.0 3 keep.value.0 keep.value.1 drops.value flat ids drops.is

@@ -1,4 +1,4 @@
--- The clash of the small problem whose two rules can't be met together.
+-- The clashes of the small problem whose two rules can't be met together, and of the one with wishes.
 use Rattle.std.proofs.Common.{◌≡◌, ℕ, zero, suc, ◌<◌, List, [], ◌∷◌, All, Some, None, length, refl, sym, ◌∙◌, arith, inl, inr}
 use Rattle.std.proofs.lemmas.List.Elements.{All-nil, All-cons, All-head, All-tail}
 use Rattle.hw_model.specs.Problem.{Problem, IsTimetable}
@@ -7,7 +7,8 @@ use Rattle.hw_laws.proofs.Broken.{permits_from, from_permits}
 use Rattle.hw_rules.specs.Outcomes.{SomePermitted}
 use Rattle.hw_clash.specs.Parts.{part}
 use Rattle.hw_clash.specs.Clashing.{IsLeft}
-use Rattle.hw_clash.specs.Rows.{no_way}
+use Rattle.hw_clash.specs.Rows.{no_way, late}
+use Rattle.hw_clash.specs.Wished.{unplanned}
 
 broken : (f : Problem) (table : List ℕ) (n : ℕ) → first_broken f table ≡ Some n → Permits f table → ⊥
 broken f table n e permits = clash (sym (from_permits f table permits) ∙ e)
@@ -40,23 +41,48 @@ of_two f ships slots a b c d p q r s table permits = by_table table permits (per
 listed : (f : Problem) (x y : ℕ) → f.ships ≡ 2 → x < f.slots → y < f.slots → IsTimetable f (x ∷ y ∷ [])
 listed f x y ships lx ly = record { each_ship = sym ships; each_slot = All-cons (λ slot. slot < f.slots) x (y ∷ []) lx (All-cons (λ slot. slot < f.slots) y [] ly (All-nil (λ slot. slot < f.slots))) }
 
-without_second : SomePermitted (part no_way (3 ∷ []))
-without_second = (0 ∷ 0 ∷ [], permits_from (part no_way (3 ∷ [])) (0 ∷ 0 ∷ []) (listed (part no_way (3 ∷ [])) 0 0 refl (omega arith) (omega arith)) refl)
+without_second : SomePermitted (part (unplanned no_way) (3 ∷ []))
+without_second = (0 ∷ 0 ∷ [], permits_from (part (unplanned no_way) (3 ∷ [])) (0 ∷ 0 ∷ []) (listed (part (unplanned no_way) (3 ∷ [])) 0 0 refl (omega arith) (omega arith)) refl)
 
-without_third : SomePermitted (part no_way (2 ∷ []))
-without_third = (0 ∷ 1 ∷ [], permits_from (part no_way (2 ∷ [])) (0 ∷ 1 ∷ []) (listed (part no_way (2 ∷ [])) 0 1 refl (omega arith) (omega arith)) refl)
+without_third : SomePermitted (part (unplanned no_way) (2 ∷ []))
+without_third = (0 ∷ 1 ∷ [], permits_from (part (unplanned no_way) (2 ∷ [])) (0 ∷ 1 ∷ []) (listed (part (unplanned no_way) (2 ∷ [])) 0 1 refl (omega arith) (omega arith)) refl)
 
-pub the_clash : IsLeft no_way 4 (2 ∷ 3 ∷ [])
+pub the_clash : IsLeft (unplanned no_way) 4 (2 ∷ 3 ∷ [])
 the_clash = (
   2 ∷ 3 ∷ [],
   (
     2 ∷ 3 ∷ [],
     (
       1 ∷ 2 ∷ 3 ∷ [],
-      (0 ∷ 1 ∷ 2 ∷ 3 ∷ [], refl, inl (of_two (part no_way (1 ∷ 2 ∷ 3 ∷ [])) refl refl 2 3 2 2 refl refl refl refl, refl)),
-      inl (of_two (part no_way (2 ∷ 3 ∷ [])) refl refl 2 3 2 2 refl refl refl refl, refl),
+      (0 ∷ 1 ∷ 2 ∷ 3 ∷ [], refl, inl (of_two (part (unplanned no_way) (1 ∷ 2 ∷ 3 ∷ [])) refl refl 2 3 2 2 refl refl refl refl, refl)),
+      inl (of_two (part (unplanned no_way) (2 ∷ 3 ∷ [])) refl refl 2 3 2 2 refl refl refl refl, refl),
     ),
     inr (without_second, refl),
   ),
   inr (without_third, refl),
+)
+
+without_rule : SomePermitted (part late (3 ∷ 4 ∷ []))
+without_rule = (1 ∷ 1 ∷ [], permits_from (part late (3 ∷ 4 ∷ [])) (1 ∷ 1 ∷ []) (listed (part late (3 ∷ 4 ∷ [])) 1 1 refl (omega arith) (omega arith)) refl)
+
+without_late : SomePermitted (part late (2 ∷ 4 ∷ []))
+without_late = (0 ∷ 1 ∷ [], permits_from (part late (2 ∷ 4 ∷ [])) (0 ∷ 1 ∷ []) (listed (part late (2 ∷ 4 ∷ [])) 0 1 refl (omega arith) (omega arith)) refl)
+
+pub the_late_clash : IsLeft late 5 (2 ∷ 3 ∷ [])
+the_late_clash = (
+  2 ∷ 3 ∷ 4 ∷ [],
+  (
+    2 ∷ 3 ∷ 4 ∷ [],
+    (
+      2 ∷ 3 ∷ 4 ∷ [],
+      (
+        1 ∷ 2 ∷ 3 ∷ 4 ∷ [],
+        (0 ∷ 1 ∷ 2 ∷ 3 ∷ 4 ∷ [], refl, inl (of_two (part late (1 ∷ 2 ∷ 3 ∷ 4 ∷ [])) refl refl 0 0 1 2 refl refl refl refl, refl)),
+        inl (of_two (part late (2 ∷ 3 ∷ 4 ∷ [])) refl refl 0 0 1 2 refl refl refl refl, refl),
+      ),
+      inr (without_rule, refl),
+    ),
+    inr (without_late, refl),
+  ),
+  inl (of_two (part late (2 ∷ 3 ∷ [])) refl refl 0 0 2 2 refl refl refl refl, refl),
 )

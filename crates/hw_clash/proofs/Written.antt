@@ -14,11 +14,11 @@ use Rattle.hw_text.proofs.Signs.{from_to_reads}
 use Rattle.hw_text.proofs.Spelled.{reads_back}
 use Rattle.hw_flat.proofs.TextLacks.{number_lacks, joined_lacks}
 use Rattle.hw_laws.proofs.Broken.{from_permits}
-use Rattle.hw_model.specs.Limits.{IsFlat}
-use Rattle.hw_model.specs.Problem.{Problem, IsTimetable}
-use Rattle.hw_model.specs.Timetables.{Permits, restriction_count}
+use Rattle.hw_model.specs.Problem.{IsTimetable}
+use Rattle.hw_model.specs.Timetables.{Permits}
 use Rattle.hw_cert.proofs.SmallNumbers.{few_slots}
 use Rattle.hw_clash.specs.Clashes.{Clash}
+use Rattle.hw_clash.specs.Wished.{Wished, IsWished, wished_count}
 use Rattle.hw_clash.specs.Parts.{part}
 use Rattle.hw_clash.specs.Clashing.{without}
 use Rattle.hw_clash.specs.Read.{SaysClash}
@@ -37,7 +37,7 @@ numbers_lack c [] other small = refl
 numbers_lack c (n ∷ ns) other small = and_from _ _ (number_lacks c n other (All-head Small n ns small)) (numbers_lack c ns other (All-tail Small n ns small))
 
 -- a number is read with the others after it
-pub ids_back : (least many : ℕ) (ids : List ℕ) → many ≤ 4_040 → All (λ n. least ≤ n) ids → All (λ n. n < many) ids → IsStrictlyIncreasing ids → ids_from least many (map decimal ids) ≡ Some ids
+pub ids_back : (least many : ℕ) (ids : List ℕ) → many ≤ 4_080 → All (λ n. least ≤ n) ids → All (λ n. n < many) ids → IsStrictlyIncreasing ids → ids_from least many (map decimal ids) ≡ Some ids
 ids_back least many [] few above below increasing = refl
 ids_back least many (n ∷ ids) few above below increasing =
     let low : least ≤ n = All-head (λ m. least ≤ m) n ids above in
@@ -62,28 +62,28 @@ keep_words_lack c kept key other small = and_from _ _ key (numbers_lack c kept o
 drop_words_lack : (c id : ℕ) (table : List ℕ) → lacks c (codes "drop") ≡ true → is_digit c ≡ false → Small id → All Small table → list_all (lacks c) (codes "drop" ∷ decimal id ∷ map decimal table) ≡ true
 drop_words_lack c id table key other small each = and_from _ _ key (and_from _ _ (number_lacks c id other small) (numbers_lack c table other each))
 
-small_below : (most : ℕ) (ns : List ℕ) → most ≤ 4_040 → All (λ n. n < most) ns → All Small ns
+small_below : (most : ℕ) (ns : List ℕ) → most ≤ 4_080 → All (λ n. n < most) ns → All Small ns
 small_below most ns few each = All-weaker (λ n. n < most) Small (λ n lt. omega (arith, lt, few)) ns each
 
-some_ids_back : (many : ℕ) (kept : List ℕ) → many ≤ 4_040 → 1 ≤ length kept → All (λ n. n < many) kept → IsStrictlyIncreasing kept → some_ids many (map decimal kept) ≡ Some kept
+some_ids_back : (many : ℕ) (kept : List ℕ) → many ≤ 4_080 → 1 ≤ length kept → All (λ n. n < many) kept → IsStrictlyIncreasing kept → some_ids many (map decimal kept) ≡ Some kept
 some_ids_back many [] few some below increasing = absurd (omega (arith, some))
 some_ids_back many (n ∷ kept) few some below increasing = ids_back 0 many (n ∷ kept) few (All-from_get_or (λ m. 0 ≤ m) (n ∷ kept) 0 (λ i lt. omega arith)) below increasing
 
-pub few_restrictions : (f : Problem) → IsFlat f → restriction_count f ≤ 4_040
-few_restrictions f flat = omega (arith, flat.few_ships, flat.few_rules)
+pub few_restrictions : (f : Wished) → IsWished f → wished_count f ≤ 4_080
+few_restrictions f flat = omega (arith, flat.limits.few_ships, flat.limits.few_rules, flat.few_wishes)
 
-keep_back : (f : Problem) (clash : Clash) → IsFlat f → SaysClash f clash → keep_form f (keep_line clash.kept) ≡ Some clash.kept
+keep_back : (f : Wished) (clash : Clash) → IsWished f → SaysClash f clash → keep_form f (keep_line clash.kept) ≡ Some clash.kept
 keep_back f clash flat says =
     let few = few_restrictions f flat in
-    let words : words_of (keep_line clash.kept) ≡ codes "keep" ∷ map decimal clash.kept = cut_joined 32 (codes "keep" ∷ map decimal clash.kept) (omega arith) (keep_words_lack 32 clash.kept refl refl (small_below (restriction_count f) clash.kept few says.numbered)) in
-    ap (keep_words (restriction_count f)) words ∙ some_ids_back (restriction_count f) clash.kept few says.some says.numbered says.ascending
+    let words : words_of (keep_line clash.kept) ≡ codes "keep" ∷ map decimal clash.kept = cut_joined 32 (codes "keep" ∷ map decimal clash.kept) (omega arith) (keep_words_lack 32 clash.kept refl refl (small_below (wished_count f) clash.kept few says.numbered)) in
+    ap (keep_words (wished_count f)) words ∙ some_ids_back (wished_count f) clash.kept few says.some says.numbered says.ascending
 
-drop_back : (f : Problem) (id : ℕ) (table : List ℕ) → IsFlat f → id < restriction_count f → IsTimetable f table → drop_form f id (drop_line id table) ≡ Some table
+drop_back : (f : Wished) (id : ℕ) (table : List ℕ) → IsWished f → id < wished_count f → IsTimetable f.problem table → drop_form f id (drop_line id table) ≡ Some table
 drop_back f id table flat lt is =
     let few = few_restrictions f flat in
-    let few' = few_slots f flat in
-    let words : words_of (drop_line id table) ≡ codes "drop" ∷ decimal id ∷ map decimal table = cut_joined 32 (codes "drop" ∷ decimal id ∷ map decimal table) (omega arith) (drop_words_lack 32 id table refl refl (omega (arith, lt, few)) (small_below f.slots table (omega (arith, few')) is.each_slot)) in
-    let read : drop_words f id (codes "drop" ∷ decimal id ∷ map decimal table) ≡ Some table = rw (from_to_reads id id id (omega (arith, lt, few)) (omega arith) (omega arith)) (slots_back f.slots f.ships table (slots_there f flat) few' is.each_ship is.each_slot) in
+    let few' = few_slots f.problem flat.limits in
+    let words : words_of (drop_line id table) ≡ codes "drop" ∷ decimal id ∷ map decimal table = cut_joined 32 (codes "drop" ∷ decimal id ∷ map decimal table) (omega arith) (drop_words_lack 32 id table refl refl (omega (arith, lt, few)) (small_below f.problem.slots table (omega (arith, few')) is.each_slot)) in
+    let read : drop_words f id (codes "drop" ∷ decimal id ∷ map decimal table) ≡ Some table = rw (from_to_reads id id id (omega (arith, lt, few)) (omega arith) (omega arith)) (slots_back f.problem.slots f.problem.ships table (slots_there f flat.limits) few' is.each_ship is.each_slot) in
     ap (drop_words f id) words ∙ read
 
 -- ---- the lines in order
@@ -100,16 +100,16 @@ full_after [] parts full = full
 full_after (x ∷ xs) parts full = (x, xs ++ parts, refl)
 
 -- each timetable is permitted by the part of the kept ones without its own
-abbrev MetBy : Problem → List ℕ → List ℕ → List (List ℕ) → Type 0
+abbrev MetBy : Wished → List ℕ → List ℕ → List (List ℕ) → Type 0
 MetBy f kept ids drops = (place n : ℕ) (table : List ℕ) → slice_get ids place ≡ Some n → slice_get drops place ≡ Some table → Permits (part f (without n kept)) table
 
-one_back : (f : Problem) (kept : List ℕ) (number id : ℕ) (table : List ℕ) (rest : Parts) → Full rest → IsFlat f → id < restriction_count f → Permits (part f (without id kept)) table → drop_at f kept number id (drop_line id table ∷ rest) ≡ Ok (table, rest)
+one_back : (f : Wished) (kept : List ℕ) (number id : ℕ) (table : List ℕ) (rest : Parts) → Full rest → IsWished f → id < wished_count f → Permits (part f (without id kept)) table → drop_at f kept number id (drop_line id table ∷ rest) ≡ Ok (table, rest)
 unfolding drop_at
 one_back f kept number id table rest full flat lt permits =
-    let is : IsTimetable f table = record { each_ship = permits.listed.each_ship; each_slot = permits.listed.each_slot } in
+    let is : IsTimetable f.problem table = record { each_ship = permits.listed.each_ship; each_slot = permits.listed.each_slot } in
     rw (full.2, drop_back f id table flat lt is, from_permits (part f (without id kept)) table permits) refl
 
-pub drops_back : (f : Problem) (kept : List ℕ) (number : ℕ) (ids : List ℕ) (drops : List (List ℕ)) (rest : Parts) → Full rest → IsFlat f → All (λ n. n < restriction_count f) ids → length drops ≡ length ids → MetBy f kept ids drops
+pub drops_back : (f : Wished) (kept : List ℕ) (number : ℕ) (ids : List ℕ) (drops : List (List ℕ)) (rest : Parts) → Full rest → IsWished f → All (λ n. n < wished_count f) ids → length drops ≡ length ids → MetBy f kept ids drops
     → drops_at f kept number ids (drop_lines ids drops ++ rest) ≡ Ok (drops, rest)
 unfolding drops_at
 drops_back f kept number [] [] rest full flat below size met = refl
@@ -117,32 +117,32 @@ drops_back f kept number [] (table ∷ drops) rest full flat below size met = ab
 drops_back f kept number (id ∷ ids) [] rest full flat below size met = absurd (omega (arith, size))
 drops_back f kept number (id ∷ ids) (table ∷ drops) rest full flat below size met =
     rw (
-      one_back f kept number id table (drop_lines ids drops ++ rest) (full_after (drop_lines ids drops) rest full) flat (All-head (λ n. n < restriction_count f) id ids below) (met 0 id table refl refl),
-      drops_back f kept (number + 1) ids drops rest full flat (All-tail (λ n. n < restriction_count f) id ids below) (omega (arith, size)) (λ place n t p q. met (suc place) n t p q),
+      one_back f kept number id table (drop_lines ids drops ++ rest) (full_after (drop_lines ids drops) rest full) flat (All-head (λ n. n < wished_count f) id ids below) (met 0 id table refl refl),
+      drops_back f kept (number + 1) ids drops rest full flat (All-tail (λ n. n < wished_count f) id ids below) (omega (arith, size)) (λ place n t p q. met (suc place) n t p q),
     ) refl
 
 -- ---- no line has a line feed
 
-drops_lack : (f : Problem) (kept ids : List ℕ) (drops : List (List ℕ)) → IsFlat f → All (λ n. n < restriction_count f) ids → MetBy f kept ids drops → list_all (lacks 10) (drop_lines ids drops) ≡ true
+drops_lack : (f : Wished) (kept ids : List ℕ) (drops : List (List ℕ)) → IsWished f → All (λ n. n < wished_count f) ids → MetBy f kept ids drops → list_all (lacks 10) (drop_lines ids drops) ≡ true
 drops_lack f kept [] drops flat below met = refl
 drops_lack f kept (id ∷ ids) [] flat below met = refl
 drops_lack f kept (id ∷ ids) (table ∷ drops) flat below met =
     let few = few_restrictions f flat in
-    let few' = few_slots f flat in
-    let lt : id < restriction_count f = All-head (λ n. n < restriction_count f) id ids below in
-    let each : All (λ slot. slot < f.slots) table = (met 0 id table refl refl).listed.each_slot in
-    and_from _ _ (joined_lacks 10 32 (codes "drop" ∷ decimal id ∷ map decimal table) refl (drop_words_lack 10 id table refl refl (omega (arith, lt, few)) (small_below f.slots table (omega (arith, few')) each)))
-    (drops_lack f kept ids drops flat (All-tail (λ n. n < restriction_count f) id ids below) (λ place n t p q. met (suc place) n t p q))
+    let few' = few_slots f.problem flat.limits in
+    let lt : id < wished_count f = All-head (λ n. n < wished_count f) id ids below in
+    let each : All (λ slot. slot < f.problem.slots) table = (met 0 id table refl refl).listed.each_slot in
+    and_from _ _ (joined_lacks 10 32 (codes "drop" ∷ decimal id ∷ map decimal table) refl (drop_words_lack 10 id table refl refl (omega (arith, lt, few)) (small_below f.problem.slots table (omega (arith, few')) each)))
+    (drops_lack f kept ids drops flat (All-tail (λ n. n < wished_count f) id ids below) (λ place n t p q. met (suc place) n t p q))
 
-lines_lack : (f : Problem) (clash : Clash) → IsFlat f → SaysClash f clash → list_all (lacks 10) (clash_lines clash) ≡ true
+lines_lack : (f : Wished) (clash : Clash) → IsWished f → SaysClash f clash → list_all (lacks 10) (clash_lines clash) ≡ true
 lines_lack f clash flat says =
     and_from _ _ refl
-    (and_from _ _ (joined_lacks 10 32 (codes "keep" ∷ map decimal clash.kept) refl (keep_words_lack 10 clash.kept refl refl (small_below (restriction_count f) clash.kept (few_restrictions f flat) says.numbered)))
+    (and_from _ _ (joined_lacks 10 32 (codes "keep" ∷ map decimal clash.kept) refl (keep_words_lack 10 clash.kept refl refl (small_below (wished_count f) clash.kept (few_restrictions f flat) says.numbered)))
     (list_all-append (lacks 10) (drop_lines clash.kept clash.drops) (codes "end" ∷ []) ∙ and_from _ _ (drops_lack f clash.kept clash.kept clash.drops flat says.numbered says.drops.met) refl))
 
 -- ---- the text
 
-lines_back : (f : Problem) (clash : Clash) → IsFlat f → SaysClash f clash → clash_of f (codes "clash 1" ∷ keep_line clash.kept ∷ (drop_lines clash.kept clash.drops ++ codes "end" ∷ [] ∷ [])) ≡ Ok clash
+lines_back : (f : Wished) (clash : Clash) → IsWished f → SaysClash f clash → clash_of f (codes "clash 1" ∷ keep_line clash.kept ∷ (drop_lines clash.kept clash.drops ++ codes "end" ∷ [] ∷ [])) ≡ Ok clash
 unfolding clash_of keep_at
 lines_back f clash flat says =
     let tail : Parts = codes "end" ∷ [] ∷ [] in

@@ -1,4 +1,5 @@
 pub mod Words
+pub mod Wished
 pub mod Parts
 pub mod Clashing
 pub mod Outcomes

@@ -1,7 +1,6 @@
 -- The text of a clash, over the list of its lines.
 use Rattle.std.specs.Prelude.{ℕ, ◌+◌, ◌-◌, List, [], ◌∷◌, Option, Some, None, Result, Ok, codes, bytes_eq, is_some, option_and_then, if◌then◌else◌, length}
-use Rattle.hw_model.specs.Problem.{Problem}
-use Rattle.hw_model.specs.Timetables.{restriction_count, first_broken}
+use Rattle.hw_model.specs.Timetables.{first_broken}
 use Rattle.hw_derived.specs.Reading.{Fault, ◌>>=◌, fault, formed, line_at, only_at, ended_at}
 use Rattle.hw_derived.specs.Slots.{slots_form, put_first}
 use Rattle.hw_text.specs.Numbers.{number_from_to}
@@ -11,6 +10,7 @@ use Rattle.hw_clash.specs.declared.fault.ClashWord.TheVariants as words
 use Rattle.hw_clash.specs.Clashes.{Clash}
 use Rattle.hw_clash.specs.Parts.{part}
 use Rattle.hw_clash.specs.Clashing.{without}
+use Rattle.hw_clash.specs.Wished.{Wished, wished_count}
 
 -- ---- the lines' forms
 
@@ -28,36 +28,36 @@ keep_words many [] = None
 keep_words many (key ∷ words) = if bytes_eq key (codes "keep") then some_ids many words else None
 
 -- `keep ID ..` with ascending restrictions, at least one
-abbrev pub keep_form : Problem → List ℕ → Option (List ℕ)
-keep_form f line = keep_words (restriction_count f) (words_of line)
+abbrev pub keep_form : Wished → List ℕ → Option (List ℕ)
+keep_form f line = keep_words (wished_count f) (words_of line)
 
-abbrev pub drop_words : Problem → ℕ → List (List ℕ) → Option (List ℕ)
+abbrev pub drop_words : Wished → ℕ → List (List ℕ) → Option (List ℕ)
 drop_words f id (key ∷ word ∷ words) =
-    if bytes_eq key (codes "drop") then (if is_some (number_from_to id id word) then slots_form f.slots f.ships words else None) else None
+    if bytes_eq key (codes "drop") then (if is_some (number_from_to id id word) then slots_form f.problem.slots f.problem.ships words else None) else None
 drop_words f id _ = None
 
 -- `drop ID SLOT ..` of this restriction, with a slot for each ship
-abbrev pub drop_form : Problem → ℕ → List ℕ → Option (List ℕ)
+abbrev pub drop_form : Wished → ℕ → List ℕ → Option (List ℕ)
 drop_form f id line = drop_words f id (words_of line)
 
 -- ---- the lines of the text
 
 -- the kept restrictions on the next line
-unfoldable pub keep_at : Problem → List (List ℕ) → Result (List ℕ × List (List ℕ)) (Fault ClashWord)
+unfoldable pub keep_at : Wished → List (List ℕ) → Result (List ℕ × List (List ℕ)) (Fault ClashWord)
 keep_at f parts = do
   line ← line_at 2 words.Keep parts
   kept ← formed 2 words.Keep (keep_form f line.0)
   Ok (kept, line.1)
 
 -- the timetable of a kept restriction on the next line: the part of the other kept ones permits it
-unfoldable pub drop_at : Problem → List ℕ → ℕ → ℕ → List (List ℕ) → Result (List ℕ × List (List ℕ)) (Fault ClashWord)
+unfoldable pub drop_at : Wished → List ℕ → ℕ → ℕ → List (List ℕ) → Result (List ℕ × List (List ℕ)) (Fault ClashWord)
 drop_at f kept number id parts = do
   line ← line_at number words.Drop parts
   table ← formed number words.Drop (drop_form f id line.0)
   if is_some (first_broken (part f (without id kept)) table) then fault number words.Table else Ok (table, line.1)
 
 -- the timetables of these restrictions, the first on the line of this number
-unfoldable pub drops_at : Problem → List ℕ → ℕ → List ℕ → List (List ℕ) → Result (List (List ℕ) × List (List ℕ)) (Fault ClashWord)
+unfoldable pub drops_at : Wished → List ℕ → ℕ → List ℕ → List (List ℕ) → Result (List (List ℕ) × List (List ℕ)) (Fault ClashWord)
 drops_at f kept number [] parts = Ok ([], parts)
 drops_at f kept number (id ∷ ids) parts = do
   table ← drop_at f kept number id parts
@@ -68,7 +68,7 @@ abbrev pub clash_by : List ℕ → List (List ℕ) → Clash
 clash_by kept drops = record { kept = kept; drops = drops }
 
 -- the clash of the lines, or the first bad line
-unfoldable pub clash_of : Problem → List (List ℕ) → Result Clash (Fault ClashWord)
+unfoldable pub clash_of : Wished → List (List ℕ) → Result Clash (Fault ClashWord)
 clash_of f parts = do
   first ← only_at 1 words.Header (codes "clash 1") parts
   keep ← keep_at f first
@@ -77,5 +77,5 @@ clash_of f parts = do
   ended_at (4 + length keep.0) words.Tail (clash_by keep.0 drops.0) rest
 
 -- what a text says: kept restrictions, each with a timetable that meets the others, or the first line that isn't of the form demanded at its place
-abbrev pub clash_text : Problem → List ℕ → Result Clash (Fault ClashWord)
+abbrev pub clash_text : Wished → List ℕ → Result Clash (Fault ClashWord)
 clash_text f bytes = clash_of f (parts_of 10 bytes)

@@ -2,13 +2,14 @@
 
 ghost use Rattle.std.specs.Prelude.{◌≡◌, ◌<◌, ◌≤◌, [], All};
 ghost use Rattle.std.specs.List.Sorted.{IsStrictlyIncreasing};
-ghost use Rattle.hw_model.specs.Timetables.{restriction_count};
 ghost use Rattle.hw_cert.specs.Logs.{memory_log};
 ghost use Rattle.hw_progress.specs.Solving.{SolveMeets};
 ghost use Rattle.hw_clash.specs.Asking.{AskMeets};
 ghost use Rattle.hw_clash.specs.Parts.{part};
+ghost use Rattle.hw_clash.specs.Wished.{wished_count};
 
 use crate::parting::part;
+use crate::wished::WishedFlat;
 use hw_cert::MemoryLog;
 use hw_flat::{Flat, Timetable};
 use hw_progress::MOST_BUDGET;
@@ -41,14 +42,14 @@ fn asked_of(solved: Solved, proof: MemoryLog, flat: &Flat, budget: u32) -> Asked
 }
 
 /// Solves the part of these restrictions with the budget.
-pub(crate) fn ask(alloc: Global, flat: &Flat, kept: &[u32], budget: u32) -> Asked
-    requires numbered { All (λ n. n < restriction_count flat.now) kept.now }
+pub(crate) fn ask(alloc: Global, wished: &WishedFlat, kept: &[u32], budget: u32) -> Asked
+    requires numbered { All (λ n. n < wished_count wished.now) kept.now }
     requires ascending { IsStrictlyIncreasing kept.now }
     requires least { 1 ≤ budget }
     requires most { budget ≤ MOST_BUDGET }
-    ensures { AskMeets (part flat.now kept.now) budget result }
+    ensures { AskMeets (part wished.now kept.now) budget result }
 {
-    let Ok(made) = part(alloc, flat, kept) else {
+    let Ok(made) = part(alloc, wished, kept) else {
         return Asked::NoMemory;
     };
     let mut proof = MemoryLog::new(alloc);

@@ -8,8 +8,9 @@ ghost use Rattle.hw_clash.specs.Parts.{part};
 
 use crate::asking::{Asked, ask};
 use crate::trying::without;
+use crate::wished::WishedFlat;
 use hw_cert::MemoryLog;
-use hw_flat::{Flat, Timetable};
+use hw_flat::Timetable;
 use hw_model::NoMemory;
 use hw_progress::MOST_BUDGET;
 use std::alloc::Global;
@@ -40,12 +41,12 @@ pub enum Clashed {
 }
 
 /// The numbers of all restrictions.
-fn all_numbers(alloc: Global, flat: &Flat) -> Result<Vec<u32>, NoMemory>
-    ensures { IfOk result (λ list. list.items ≡ all_numbers flat.now) }
+fn all_numbers(alloc: Global, wished: &WishedFlat) -> Result<Vec<u32>, NoMemory>
+    ensures { IfOk result (λ list. list.items ≡ all_numbers wished.now) }
 {
-    let shape = flat.shape();
+    let many = wished.count();
     let mut list = Vec::new(alloc);
-    for n in 0..shape.ships + shape.rules {
+    for n in 0..many {
         list.push(n)?;
     }
     Ok(list)
@@ -62,22 +63,28 @@ fn with_table(mut drops: Vec<Timetable>, table: Timetable) -> Option<Vec<Timetab
 }
 
 /// Tries each restriction in order, and takes it away where the others can't be met together.
-fn reduce(alloc: Global, flat: &Flat, budget: u32, all: Vec<u32>, first: MemoryLog) -> Clashed
+fn reduce(
+    alloc: Global,
+    wished: &WishedFlat,
+    budget: u32,
+    all: Vec<u32>,
+    first: MemoryLog,
+) -> Clashed
     requires least { 1 ≤ budget }
     requires most { budget ≤ MOST_BUDGET }
-    requires all { all.items ≡ all_numbers flat.now }
-    requires none { NoneAt (part flat.now (all_numbers flat.now)) first }
-    ensures { ClashMeets flat.now budget result }
+    requires all { all.items ≡ all_numbers wished.now }
+    requires none { NoneAt (part wished.now (all_numbers wished.now)) first }
+    ensures { ClashMeets wished.now budget result }
 {
-    let shape = flat.shape();
+    let many = wished.count();
     let mut kept = all;
     let mut proof = first;
     let mut drops = Vec::new(alloc);
-    for n in 0..shape.ships + shape.rules {
+    for n in 0..many {
         let Ok(others) = without(alloc, &kept, n) else {
             return Clashed::NoMemory;
         };
-        match ask(alloc, flat, &others, budget) {
+        match ask(alloc, wished, &others, budget) {
             Asked::NoneFits { proof: shown } => {
                 kept = others;
                 proof = shown;
@@ -101,17 +108,17 @@ fn reduce(alloc: Global, flat: &Flat, budget: u32, all: Vec<u32>, first: MemoryL
 /// of what is left without restriction n, and takes n away if that permits nothing either. Each
 /// step has the whole budget, in lemmas; a budget above the number of rooms is never spent. The
 /// certificate is held in memory. It solves as many parts as there are restrictions, and one more.
-pub fn clash(alloc: Global, flat: &Flat, budget: u32) -> Clashed
+pub fn clash(alloc: Global, wished: &WishedFlat, budget: u32) -> Clashed
     requires least { 1 ≤ budget }
     requires most { budget ≤ MOST_BUDGET }
-    ensures { ClashMeets flat.now budget result }
+    ensures { ClashMeets wished.now budget result }
 {
-    let Ok(all) = all_numbers(alloc, flat) else {
+    let Ok(all) = all_numbers(alloc, wished) else {
         return Clashed::NoMemory;
     };
-    match ask(alloc, flat, &all, budget) {
+    match ask(alloc, wished, &all, budget) {
         Asked::Fits { table, proof } => Clashed::Met { table, proof },
-        Asked::NoneFits { proof } => reduce(alloc, flat, budget, all, proof),
+        Asked::NoneFits { proof } => reduce(alloc, wished, budget, all, proof),
         Asked::Spent { proof } => Clashed::Spent { step: 0, proof },
         Asked::NoMemory => Clashed::NoMemory,
     }

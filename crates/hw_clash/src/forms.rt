@@ -2,11 +2,10 @@
 
 ghost use Rattle.std.specs.Prelude.{◌≡◌, ◌<◌, ◌≤◌, IfOk, IfSome, All, length, option_map};
 ghost use Rattle.hw_model.specs.Problem.{IsTimetable};
-ghost use Rattle.hw_model.specs.Timetables.{restriction_count};
 ghost use Rattle.hw_clash.specs.Text.{ids_from, some_ids, keep_form, drop_form};
 
+use crate::wished::WishedFlat;
 use hw_derived::slots_of;
-use hw_flat::Flat;
 use hw_model::Slot;
 use hw_text::{Words, is_text, read_small};
 use std::alloc::{AllocError, Global};
@@ -14,7 +13,7 @@ use std::alloc::{AllocError, Global};
 /// Numbers below `many`, ascending.
 fn ids_of(alloc: Global, mut words: Words<'_>, many: u32) -> Result<Option<Vec<u32>>, AllocError>
     requires some { 0 < many }
-    requires few { many ≤ 4_040 }
+    requires few { many ≤ 4_080 }
     ensures form { IfOk result (λ o. option_map (λ v. v.items) o ≡ ids_from 0 many words.entry) }
 {
     let mut ids = Vec::new(alloc);
@@ -32,7 +31,7 @@ fn ids_of(alloc: Global, mut words: Words<'_>, many: u32) -> Result<Option<Vec<u
 /// The same, at least one.
 fn some_ids(alloc: Global, words: Words<'_>, many: u32) -> Result<Option<Vec<u32>>, AllocError>
     requires some { 0 < many }
-    requires few { many ≤ 4_040 }
+    requires few { many ≤ 4_080 }
     ensures form { IfOk result (λ o. option_map (λ v. v.items) o ≡ some_ids many words.entry) }
 {
     match words.end() {
@@ -42,13 +41,17 @@ fn some_ids(alloc: Global, words: Words<'_>, many: u32) -> Result<Option<Vec<u32
 }
 
 /// `keep ID ..`.
-pub fn keep_of(alloc: Global, line: &[u8], flat: &Flat) -> Result<Option<Vec<u32>>, AllocError>
-    ensures form { IfOk result (λ o. option_map (λ v. v.items) o ≡ keep_form flat.now line.now) }
+pub fn keep_of(
+    alloc: Global,
+    line: &[u8],
+    wished: &WishedFlat,
+) -> Result<Option<Vec<u32>>, AllocError>
+    ensures form { IfOk result (λ o. option_map (λ v. v.items) o ≡ keep_form wished.now line.now) }
 {
-    let shape = flat.shape();
+    let many = wished.count();
     let mut words = Words::of(line);
     match words.word() {
-        Some(key) if is_text(key, b"keep") => some_ids(alloc, words, shape.ships + shape.rules),
+        Some(key) if is_text(key, b"keep") => some_ids(alloc, words, many),
         _ => Ok(None),
     }
 }
@@ -57,13 +60,13 @@ pub fn keep_of(alloc: Global, line: &[u8], flat: &Flat) -> Result<Option<Vec<u32
 pub fn drop_of(
     alloc: Global,
     line: &[u8],
-    flat: &Flat,
+    wished: &WishedFlat,
     id: u32,
 ) -> Result<Option<Vec<Slot>>, AllocError>
-    ensures form { IfOk result (λ o. option_map (λ v. v.items) o ≡ drop_form flat.now id line.now) }
-    ensures listed { IfOk result (λ o. IfSome o (λ v. IsTimetable flat.now v.items)) }
+    ensures form { IfOk result (λ o. option_map (λ v. v.items) o ≡ drop_form wished.now id line.now) }
+    ensures listed { IfOk result (λ o. IfSome o (λ v. IsTimetable wished.now.problem v.items)) }
 {
-    let shape = flat.shape();
+    let shape = wished.shape();
     let mut words = Words::of(line);
     let (Some(key), Some(word)) = (words.word(), words.word()) else {
         return Ok(None);

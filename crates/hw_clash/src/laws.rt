@@ -1,6 +1,6 @@
 //! The laws of parts and of the clash, each a function without a body whose clause is the law.
 
-ghost use Rattle.hw_clash.specs.Laws.{PartValue, PartPermits, PartFits, PartCargo, PartRules, PartOfAll, ClashMeans, OneClash, WrittenReads, OneClashText};
+ghost use Rattle.hw_clash.specs.Laws.{PartValue, PartPermits, PartFits, PartCargo, PartRules, PartOfAll, WishesMean, ClashMeans, OneClash, WrittenReads, OneClashText};
 ghost use Rattle.hw_clash.specs.Rows.{PartRows, ClashRows, TextRows};
 
 /// The value of a ship in a slot of a part.
@@ -28,17 +28,23 @@ pub fn part_rules()
     ensures { PartRules }
 {}
 
-/// All restrictions together permit what the problem permits.
+/// All restrictions together permit what the problem permits and all wishes grant.
 pub fn part_of_all()
     ensures { PartOfAll }
 {}
 
-/// Where nothing is permitted, the clash can't be met together, and none of it can be left out.
+/// With the wishes of a plan these are the timetables that meet the plan, and without wishes those
+/// that the problem permits.
+pub fn wishes_mean()
+    ensures { WishesMean }
+{}
+
+/// Where nothing is permitted that meets all wishes, the clash can't be met together, and none of it can be left out.
 pub fn clash_means()
     ensures { ClashMeans }
 {}
 
-/// A problem has one clash.
+/// A problem with wishes has one clash.
 pub fn one_clash()
     ensures { OneClash }
 {}

@@ -3,17 +3,18 @@
 ghost use Rattle.std.specs.Prelude.{◌≡◌, ◌<◌, ◌≤◌, ◌+◌, IfOk, All, length};
 ghost use Rattle.std.specs.List.Sorted.{IsStrictlyIncreasing};
 ghost use Rattle.hw_text.specs.Parts.{parts_of};
-ghost use Rattle.hw_model.specs.Timetables.{restriction_count};
 ghost use Rattle.hw_clash.specs.Read.{SaysClash};
 ghost use Rattle.hw_derived.specs.Reading.{Gives};
+ghost use Rattle.hw_clash.specs.Wished.{wished_count};
 ghost use Rattle.hw_clash.specs.Text.{keep_at, drop_at, drops_at, clash_of, clash_text};
 
 use crate::fault::{ClashFault, ClashWord};
 use crate::forms::{drop_of, keep_of};
 use crate::text::ClashText;
 use crate::trying::is_met;
+use crate::wished::WishedFlat;
 use hw_derived::{LineFault, line_of, only};
-use hw_flat::{Flat, Timetable};
+use hw_flat::Timetable;
 use hw_text::is_end;
 use std::alloc::Global;
 
@@ -22,12 +23,12 @@ use std::alloc::Global;
 fn keep_line<'b>(
     alloc: Global,
     bytes: &'b [u8],
-    flat: &Flat,
+    wished: &WishedFlat,
 ) -> Result<(Vec<u32>, &'b [u8]), ClashFault>
-    ensures { Gives (λ x. (x.0.items, parts_of 10 x.1.now)) result (keep_at flat.now (parts_of 10 bytes.now)) }
+    ensures { Gives (λ x. (x.0.items, parts_of 10 x.1.now)) result (keep_at wished.now (parts_of 10 bytes.now)) }
 {
     let (line, rest) = line_of(bytes, 2, ClashWord::Keep)?;
-    let Some(kept) = keep_of(alloc, line, flat)? else {
+    let Some(kept) = keep_of(alloc, line, wished)? else {
         return Err(LineFault::Line {
             number: 2,
             word: ClashWord::Keep,
@@ -41,25 +42,25 @@ fn keep_line<'b>(
 fn drop_line<'b>(
     alloc: Global,
     bytes: &'b [u8],
-    flat: &Flat,
+    wished: &WishedFlat,
     kept: &[u32],
     number: u64,
     id: u32,
 ) -> Result<(Timetable, &'b [u8]), ClashFault>
-    requires numbered { All (λ n. n < restriction_count flat.now) kept.now }
+    requires numbered { All (λ n. n < wished_count wished.now) kept.now }
     requires ascending { IsStrictlyIncreasing kept.now }
-    ensures { Gives (λ x. (x.0, parts_of 10 x.1.now)) result (drop_at flat.now kept.now number id (parts_of 10 bytes.now)) }
+    ensures { Gives (λ x. (x.0, parts_of 10 x.1.now)) result (drop_at wished.now kept.now number id (parts_of 10 bytes.now)) }
 {
-    let _limits = flat.shape();
+    let _limits = wished.count();
     let (line, rest) = line_of(bytes, number, ClashWord::Drop)?;
-    let Some(slots) = drop_of(alloc, line, flat, id)? else {
+    let Some(slots) = drop_of(alloc, line, wished, id)? else {
         return Err(LineFault::Line {
             number,
             word: ClashWord::Drop,
         });
     };
     let table = Timetable::from_slots(alloc, &slots)?;
-    let met = is_met(alloc, flat, kept, id, &table)?;
+    let met = is_met(alloc, wished, kept, id, &table)?;
     if !met {
         return Err(LineFault::Line {
             number,
@@ -73,38 +74,39 @@ fn drop_line<'b>(
 fn drops_of<'b>(
     alloc: Global,
     bytes: &'b [u8],
-    flat: &Flat,
+    wished: &WishedFlat,
     kept: &[u32],
 ) -> Result<(Vec<Timetable>, &'b [u8]), ClashFault>
-    requires numbered { All (λ n. n < restriction_count flat.now) kept.now }
+    requires numbered { All (λ n. n < wished_count wished.now) kept.now }
     requires ascending { IsStrictlyIncreasing kept.now }
-    ensures { Gives (λ x. (x.0.items, parts_of 10 x.1.now)) result (drops_at flat.now kept.now 3 kept.now (parts_of 10 bytes.now)) }
+    ensures { Gives (λ x. (x.0.items, parts_of 10 x.1.now)) result (drops_at wished.now kept.now 3 kept.now (parts_of 10 bytes.now)) }
 {
     let mut drops = Vec::new(alloc);
     let mut rest = bytes;
     for (place, id) in kept.iter().enumerate() {
-        let (table, after) = drop_line(alloc, rest, flat, kept, 3 + place as u64, *id)?;
+        let (table, after) = drop_line(alloc, rest, wished, kept, 3 + place as u64, *id)?;
         drops.push(table)?;
         rest = after;
     }
     Ok((drops, rest))
 }
 
-/// The clash of the text, exactly where the bytes are the text of one for this problem; otherwise
+/// The clash of the text, exactly where the bytes are the text of one for this problem and
+/// its wishes; otherwise
 /// the first line that is not of the form demanded at its place, and what was demanded there. The
 /// line of a timetable is also wrong if the other kept restrictions don't permit it. Lines are
 /// numbered from 1; if the bytes end before a line that is demanded, that line is named.
 ///
 /// For each kept restriction it makes the part of the others, one at a time.
 #[tactic(auto, unfolding(crate::specs::Text::clash_of))]
-pub fn read_clash(alloc: Global, bytes: &[u8], flat: &Flat) -> Result<ClashText, ClashFault>
-    ensures reads { Gives (λ text. text) result (clash_text flat.now bytes.now) }
-    ensures says { IfOk result (SaysClash flat.now) }
+pub fn read_clash(alloc: Global, bytes: &[u8], wished: &WishedFlat) -> Result<ClashText, ClashFault>
+    ensures reads { Gives (λ text. text) result (clash_text wished.now bytes.now) }
+    ensures says { IfOk result (SaysClash wished.now) }
 {
-    let _limits = flat.shape();
+    let _limits = wished.count();
     let rest = only(bytes, 1, ClashWord::Header, b"clash 1")?;
-    let (kept, rest) = keep_line(alloc, rest, flat)?;
-    let (drops, rest) = drops_of(alloc, rest, flat, &kept)?;
+    let (kept, rest) = keep_line(alloc, rest, wished)?;
+    let (drops, rest) = drops_of(alloc, rest, wished, &kept)?;
     let many = kept.len() as u64;
     let rest = only(rest, 3 + many, ClashWord::Tail, b"end")?;
     if !is_end(rest) {

@@ -3,11 +3,13 @@
 ghost use Rattle.std.specs.Prelude.{◌≡◌, ◌<◌, IfOk, All, IsTrue, ◌↔◌, is_none};
 ghost use Rattle.std.specs.List.Sorted.{IsStrictlyIncreasing};
 ghost use Rattle.hw_model.specs.Problem.{IsTimetable};
-ghost use Rattle.hw_model.specs.Timetables.{restriction_count, first_broken};
+ghost use Rattle.hw_model.specs.Timetables.{first_broken};
 ghost use Rattle.hw_clash.specs.Parts.{part};
 ghost use Rattle.hw_clash.specs.Clashing.{without};
+ghost use Rattle.hw_clash.specs.Wished.{wished_count};
 
 use crate::parting::part;
+use crate::wished::WishedFlat;
 use hw_flat::{Flat, Timetable};
 use hw_model::NoMemory;
 use hw_rules::broken;
@@ -23,32 +25,32 @@ pub(crate) fn without(alloc: Global, kept: &[u32], n: u32) -> Result<Vec<u32>, A
 /// The part of the kept restrictions without this one.
 pub(crate) fn part_without(
     alloc: Global,
-    flat: &Flat,
+    wished: &WishedFlat,
     kept: &[u32],
     n: u32,
 ) -> Result<Flat, NoMemory>
-    requires numbered { All (λ n. n < restriction_count flat.now) kept.now }
+    requires numbered { All (λ n. n < wished_count wished.now) kept.now }
     requires ascending { IsStrictlyIncreasing kept.now }
-    ensures { IfOk result (λ made. made ≡ part flat.now (without n kept.now)) }
+    ensures { IfOk result (λ made. made ≡ part wished.now (without n kept.now)) }
 {
     let others = without(alloc, kept, n)?;
-    part(alloc, flat, &others)
+    part(alloc, wished, &others)
 }
 
 /// Whether the kept restrictions without this one permit a timetable.
 pub(crate) fn is_met(
     alloc: Global,
-    flat: &Flat,
+    wished: &WishedFlat,
     kept: &[u32],
     n: u32,
     table: &Timetable,
 ) -> Result<bool, NoMemory>
-    requires numbered { All (λ n. n < restriction_count flat.now) kept.now }
+    requires numbered { All (λ n. n < wished_count wished.now) kept.now }
     requires ascending { IsStrictlyIncreasing kept.now }
-    requires listed { IsTimetable flat.now table.now }
-    ensures { IfOk result (λ met. met ≡ is_none (first_broken (part flat.now (without n kept.now)) table.now)) }
+    requires listed { IsTimetable wished.now.problem table.now }
+    ensures { IfOk result (λ met. met ≡ is_none (first_broken (part wished.now (without n kept.now)) table.now)) }
 {
-    let others = part_without(alloc, flat, kept, n)?;
+    let others = part_without(alloc, wished, kept, n)?;
     let breach = broken(&others, table);
     Ok(breach.is_none())
 }

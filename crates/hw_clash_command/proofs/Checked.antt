@@ -3,7 +3,6 @@ use Rattle.std.proofs.Common.{◌≡◌, ◌∙◌, ◌++◌, ℕ, List, [], ◌
 use Rattle.std.specs.Prelude.{IfSome}
 use Rattle.hw_model.specs.Limits.{IsFlat}
 use Rattle.hw_model.specs.Problem.{Problem, shape_of}
-use Rattle.hw_model.specs.Timetables.{NonePermitted}
 use Rattle.hw_desk.specs.State.{DeskState, FeedState, IsNewDesk}
 use Rattle.hw_desk.specs.declared.desk.Feed.{Feed}
 use Rattle.hw_desk.specs.declared.desk.Feed.TheVariants.{Plan, Certificate}
@@ -14,6 +13,7 @@ use Rattle.hw_cert.specs.Stream.{cert_stream_to}
 use Rattle.hw_clash.specs.Clashes.{Clash}
 use Rattle.hw_clash.specs.Parts.{part}
 use Rattle.hw_clash.specs.Read.{SaysClash}
+use Rattle.hw_clash.specs.Wished.{Wished, unplanned}
 use Rattle.hw_report.specs.Reports.{Report, by_number}
 use Rattle.hw_command.specs.Carries.{Carries}
 use Rattle.hw_command.specs.Certificates.{cert_outcome, report_of, report_of_check}
@@ -39,13 +39,14 @@ use Rattle.hw_subject.specs.Reading.{AllGive, ReadsSubject, StopsAtSubject}
 use Rattle.hw_subject.specs.Subjects.{Subject, Origin, flat_text, port_of, origin_subject}
 use Rattle.hw_subject.specs.declared.subject.Given.{Given}
 use Rattle.hw_subject.proofs.Readings.{all_as, before_last}
+use Rattle.hw_clash_command.specs.Asked.{asked}
 use Rattle.hw_clash_command.specs.CheckClash.{HoldsWhere, ChecksClash, ClashChecks, ClashGives, GivesClash, check_clash_task}
 use Rattle.hw_clash_command.specs.Plans.{IsClashOf, ReadsPart, StopsAtPlan}
-use Rattle.hw_clash_command.specs.PortWords.{ClashIn, DropsIn}
 use Rattle.hw_clash_command.specs.Texts.{report_of_part}
 use Rattle.hw_clash_command.proofs.Irreducible.{irreducible}
 use Rattle.hw_clash_command.proofs.Planned.{plan_stops}
-use Rattle.hw_clash_command.proofs.PortMeans.{port_clash, port_drops}
+use Rattle.hw_clash_command.proofs.Sources.{plainly, is_unplanned, none_of, none_whole}
+use Rattle.hw_clash_command.proofs.Worded.{clash_in, drops_in}
 
 -- ---- a flat text or a port
 
@@ -66,19 +67,10 @@ refused_says : (origin : Origin) (plan cert : List ℕ) (held : List ℕ → Opt
 refused_says (flat_text name) plan cert held r h = by_line (held name) (ClashChecks (origin_subject (flat_text name)) plan cert held) r (λ number word bad. bad) (λ long. long) h
 refused_says (port_of instance table) plan cert held r h = by_fault (held instance) (held table) (ClashChecks (origin_subject (port_of instance table)) plan cert held) r (λ bad. bad) (λ fault bad. bad) (λ fault bad. bad) (λ bad. bad) (λ bad. bad) h
 
--- the clash in a port's own words
-drops_in : (origin : Origin) (held : List ℕ → Option (List ℕ)) (v : (origin_subject origin).Value) (clash : Clash) → (origin_subject origin).Reads held v → SaysClash ((origin_subject origin).problem v) clash → DropsIn ((origin_subject origin).naming v) clash.kept clash.drops
-drops_in (flat_text name) held v clash reads says = tt
-drops_in (port_of instance table) held v clash reads says = port_drops v.port v.tide clash reads.kept says
-
-clash_in : (origin : Origin) (held : List ℕ → Option (List ℕ)) (v : (origin_subject origin).Value) (clash : Clash) → (origin_subject origin).Reads held v → SaysClash ((origin_subject origin).problem v) clash → NonePermitted (part ((origin_subject origin).problem v) clash.kept) → ClashIn ((origin_subject origin).naming v) clash.kept clash.drops
-clash_in (flat_text name) held v clash reads says none = tt
-clash_in (port_of instance table) held v clash reads says none = port_clash v.port v.tide clash reads.kept says none
-
 -- ---- an outcome
 
-holds_where : (origin : Origin) (held : List ℕ → Option (List ℕ)) (v : (origin_subject origin).Value) (clash : Clash) (o : CertOutcome) → (origin_subject origin).Reads held v → SaysClash ((origin_subject origin).problem v) clash → ShownBy (part ((origin_subject origin).problem v) clash.kept) o → HoldsWhere ((origin_subject origin).naming v) ((origin_subject origin).problem v) clash o
-holds_where origin held v clash (Shows verdicts.Infeasible) reads says shown = (irreducible ((origin_subject origin).problem v) clash says shown.means, clash_in origin held v clash reads says shown.means)
+holds_where : (origin : Origin) (held : List ℕ → Option (List ℕ)) (v : (origin_subject origin).Value) (clash : Clash) (o : CertOutcome) → (origin_subject origin).Reads held v → SaysClash (asked (origin_subject origin) v) clash → ShownBy (part (asked (origin_subject origin) v) clash.kept) o → HoldsWhere (origin_subject origin) v clash o
+holds_where origin held v clash (Shows verdicts.Infeasible) reads says shown = (none_of (plainly origin) held v reads (none_whole (asked (origin_subject origin) v) clash.kept shown.means), irreducible (asked (origin_subject origin) v) clash says shown.means, clash_in (plainly origin) held v clash reads says shown.means)
 holds_where origin held v clash (Shows (verdicts.Optimal c)) reads says shown = tt
 holds_where origin held v clash (Shows (verdicts.Unfinished best)) reads says shown = tt
 holds_where origin held v clash (Wrong number word hint) reads says shown = tt
@@ -125,7 +117,7 @@ part_works (Wrong number word hint) w = w
 part_works TooLong w = w
 
 -- the certificate is read
-read_works : {plan cert : List ℕ} {x y w z : DeskState} {given : Given} {g : Problem} (origin : Origin) (result : Result (ReadCert (Unit {0})) CertStop) → ReadsSubject (origin_subject origin) x y given → ReadsPart given.flat plan y w g → GivesClash (origin_subject origin) plan x.held → ReadsCert Two KeepsNone g cert w z result → Works (check_clash_task (origin_subject origin) plan cert).inputs (ClashGives (origin_subject origin) plan x.held) None x z (report_of_check by_number None None (outcome_in result))
+read_works : {plan cert : List ℕ} {x y w z : DeskState} {given : Given} {g : Problem} (origin : Origin) (result : Result (ReadCert (Unit {0})) CertStop) → ReadsSubject (origin_subject origin) x y given → ReadsPart (unplanned given.flat) plan y w g → GivesClash (origin_subject origin) plan x.held → ReadsCert Two KeepsNone g cert w z result → Works (check_clash_task (origin_subject origin) plan cert).inputs (ClashGives (origin_subject origin) plan x.held) None x z (report_of_check by_number None None (outcome_in result))
 read_works {plan = plan} {cert = cert} {x = x} {z = z} origin result h k clash m =
     let s = origin_subject origin in
     subst (λ (inputs : List Named). Works inputs (ClashGives s plan x.held) None x z (report_of_check by_number None None (outcome_in result))) (append_assoc s.inputs (named Plan plan ∷ []) (named Certificate cert ∷ []))
@@ -138,7 +130,7 @@ pub unread_plan : {x y : DeskState} {given : Given} (origin : Origin) → IsNewD
 unread_plan origin new h = ap (λ (feed : FeedState). feed.begun) (h.entered.begins.others Plan (plan_unread origin)) ∙ new.feeds Plan
 
 -- nor the certificate after it
-pub unread_cert : {plan : List ℕ} {x y w : DeskState} {given : Given} {g : Problem} (origin : Origin) → IsNewDesk x → ReadsSubject (origin_subject origin) x y given → ReadsPart given.flat plan y w g → (w.feeds Certificate).begun ≡ false
+pub unread_cert : {plan : List ℕ} {x y w : DeskState} {given : Given} {g : Problem} (origin : Origin) → IsNewDesk x → ReadsSubject (origin_subject origin) x y given → ReadsPart (unplanned given.flat) plan y w g → (w.feeds Certificate).begun ≡ false
 unread_cert {plan = plan} origin new h k = ap (λ (feed : FeedState). feed.begun) ((entered_on (origin_subject origin).inputs h.entered k.enters (plan_unread origin)).begins.others Certificate (cert_unread origin plan)) ∙ new.feeds Certificate
 
 -- ---- the exits
@@ -148,7 +140,7 @@ pub check_stops : {x y z : DeskState} {r : Report} {s : Status} (origin : Origin
 check_stops {x = x} {r = r} origin plan cert h ends = stops_carries (check_clash_task (origin_subject origin) plan cert) (named Plan plan ∷ named Certificate cert ∷ []) h refl (gives origin plan x.held) (refused_says origin plan cert x.held r) ends
 
 -- the clash text gives no part
-plan_stopped : {x y z end : DeskState} {given : Given} {r : Report} {s : Status} (origin : Origin) (plan cert : List ℕ) → (h : ReadsSubject (origin_subject origin) x y given) → StopsAtPlan ((origin_subject origin).problem h.value) plan y z r → Ends (r ∷ []) z end s → Carries (check_clash_task (origin_subject origin) plan cert) x end s
+plan_stopped : {x y z end : DeskState} {given : Given} {r : Report} {s : Status} (origin : Origin) (plan cert : List ℕ) → (h : ReadsSubject (origin_subject origin) x y given) → StopsAtPlan (asked (origin_subject origin) h.value) plan y z r → Ends (r ∷ []) z end s → Carries (check_clash_task (origin_subject origin) plan cert) x end s
 plan_stopped {x = x} {r = r} origin plan cert h k ends =
     let s = origin_subject origin in
     let G = ClashGives s plan x.held in
@@ -158,14 +150,14 @@ plan_stopped {x = x} {r = r} origin plan cert h k ends =
     (λ number word bad. record { value = h.value; reads = h.reads; bad = bad })
     k) (sym (append_assoc s.inputs (named Plan plan ∷ []) (named Certificate cert ∷ []))) (λ feed given. given) (λ says. says) ends
 
-pub check_plan_stops : {x y z end : DeskState} {given : Given} {r : Report} {s : Status} (origin : Origin) (plan cert : List ℕ) → ReadsSubject (origin_subject origin) x y given → StopsAtPlan given.flat plan y z r → Ends (r ∷ []) z end s → Carries (check_clash_task (origin_subject origin) plan cert) x end s
-check_plan_stops {y = y} {z = z} {r = r} origin plan cert h k ends = plan_stopped origin plan cert h (subst (λ (f : Problem). StopsAtPlan f plan y z r) h.problem k) ends
+pub check_plan_stops : {x y z end : DeskState} {given : Given} {r : Report} {s : Status} (origin : Origin) (plan cert : List ℕ) → ReadsSubject (origin_subject origin) x y given → StopsAtPlan (unplanned given.flat) plan y z r → Ends (r ∷ []) z end s → Carries (check_clash_task (origin_subject origin) plan cert) x end s
+check_plan_stops {y = y} {z = z} {r = r} origin plan cert h k ends = plan_stopped origin plan cert h (subst (λ (f : Wished). StopsAtPlan f plan y z r) (is_unplanned origin h) k) ends
 
 -- the clash is that of the bytes held at first
-clash_of : {plan : List ℕ} {x y w : DeskState} {given : Given} {g : Problem} (origin : Origin) → (h : ReadsSubject (origin_subject origin) x y given) → (k : ReadsPart given.flat plan y w g) → IsClashOf (x.held plan) ((origin_subject origin).problem h.value) k.clash
-clash_of {plan = plan} {x = x} {given = given} origin h k = subst (λ (f : Problem). IsClashOf (x.held plan) f k.clash) h.problem (subst (λ (told : Option (List ℕ)). IsClashOf told given.flat k.clash) (ap (λ held. held plan) h.entered.begins.held) k.is)
+clash_of : {plan : List ℕ} {x y w : DeskState} {given : Given} {g : Problem} (origin : Origin) → (h : ReadsSubject (origin_subject origin) x y given) → (k : ReadsPart (unplanned given.flat) plan y w g) → IsClashOf (x.held plan) (asked (origin_subject origin) h.value) k.clash
+clash_of {plan = plan} {x = x} {given = given} origin h k = subst (λ (f : Wished). IsClashOf (x.held plan) f k.clash) (is_unplanned origin h) (subst (λ (told : Option (List ℕ)). IsClashOf told (unplanned given.flat) k.clash) (ap (λ held. held plan) h.entered.begins.held) k.is)
 
-gives_clash : {plan : List ℕ} {x y w : DeskState} {given : Given} {g : Problem} (origin : Origin) → ReadsSubject (origin_subject origin) x y given → ReadsPart given.flat plan y w g → GivesClash (origin_subject origin) plan x.held
+gives_clash : {plan : List ℕ} {x y w : DeskState} {given : Given} {g : Problem} (origin : Origin) → ReadsSubject (origin_subject origin) x y given → ReadsPart (unplanned given.flat) plan y w g → GivesClash (origin_subject origin) plan x.held
 gives_clash origin h k = record { value = h.value; reads = h.reads; clash = k.clash; is = clash_of origin h k }
 
 -- the certificate isn't read to its end
@@ -173,7 +165,7 @@ common : (s : Subject) (plan cert : List ℕ) (held : List ℕ → Option (List 
 common s plan cert held Fault own = absurd (cc)
 common s plan cert held NoMemory own = absurd (cc)
 
-pub check_breaks : {plan cert : List ℕ} {x y w z end : DeskState} {given : Given} {g : Problem} {s : Status} (origin : Origin) (stop : CertStop) → ReadsSubject (origin_subject origin) x y given → ReadsPart given.flat plan y w g → ReadsCert Two KeepsNone g cert w z (Err stop) → Ends (report_of_check by_number None None (Err stop) ∷ []) z end s → Carries (check_clash_task (origin_subject origin) plan cert) x end s
+pub check_breaks : {plan cert : List ℕ} {x y w z end : DeskState} {given : Given} {g : Problem} {s : Status} (origin : Origin) (stop : CertStop) → ReadsSubject (origin_subject origin) x y given → ReadsPart (unplanned given.flat) plan y w g → ReadsCert Two KeepsNone g cert w z (Err stop) → Ends (report_of_check by_number None None (Err stop) ∷ []) z end s → Carries (check_clash_task (origin_subject origin) plan cert) x end s
 check_breaks {plan = plan} {cert = cert} {x = x} {z = z} origin stop h k m ends = record {
   mid = z;
   reports = report_of_check by_number None None (Err stop) ∷ [];
@@ -183,14 +175,14 @@ check_breaks {plan = plan} {cert = cert} {x = x} {z = z} origin stop h k m ends 
 }
 
 -- it has an outcome
-pub check_meets : {plan cert : List ℕ} {x y w z end : DeskState} {given : Given} {g : Problem} {read : ReadCert (Unit {0})} {s : Status} (origin : Origin) → ReadsSubject (origin_subject origin) x y given → ReadsPart given.flat plan y w g → ReadsCert Two KeepsNone g cert w z (Ok read) → Ends (report_of_part read.outcome ∷ []) z end s → Carries (check_clash_task (origin_subject origin) plan cert) x end s
+pub check_meets : {plan cert : List ℕ} {x y w z end : DeskState} {given : Given} {g : Problem} {read : ReadCert (Unit {0})} {s : Status} (origin : Origin) → ReadsSubject (origin_subject origin) x y given → ReadsPart (unplanned given.flat) plan y w g → ReadsCert Two KeepsNone g cert w z (Ok read) → Ends (report_of_part read.outcome ∷ []) z end s → Carries (check_clash_task (origin_subject origin) plan cert) x end s
 check_meets {plan = plan} {cert = cert} {x = x} {w = w} {z = z} {read = read} origin h k m ends =
     let s = origin_subject origin in
-    let f = s.problem h.value in
+    let f = asked s h.value in
     let kept = k.clash.kept in
     let is = clash_of origin h k in
     let held = ap (λ held. held cert) (k.enters.only.held ∙ h.entered.begins.held) in
-    let made = k.made ∙ ap (λ (f : Problem). part f kept) h.problem in
+    let made = k.made ∙ ap (λ (f : Wished). part f kept) (is_unplanned origin h) in
     let lines = subst (λ (told : Option (List ℕ)). ReadsLines Two KeepsNone (part f kept) told (cert_outcome (part f kept)) (cert_stream_to Two (shape_of (part f kept))) read) held (subst (λ (g : Problem). ReadsLines Two KeepsNone g (w.held cert) (cert_outcome g) (cert_stream_to Two (shape_of g)) read) made m.reads.1) in
     let is_shown = shown read.outcome (subst IsFlat made k.limits) lines lines.keeps.comes in
     record {
@@ -202,7 +194,7 @@ check_meets {plan = plan} {cert = cert} {x = x} {w = w} {z = z} {read = read} or
         reads = h.reads;
         clash = k.clash;
         is = is;
-        met = drops_in origin x.held h.value k.clash h.reads is.says;
+        met = drops_in (plainly origin) x.held h.value k.clash h.reads is.says;
         outcome = comes (part f kept) lines.lines (x.held cert) read.outcome lines.keeps.comes;
         shown = is_shown;
         holds = holds_where origin x.held h.value k.clash read.outcome h.reads is.says is_shown;

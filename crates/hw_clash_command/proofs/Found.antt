@@ -1,83 +1,96 @@
--- What a search for a clash of a flat text or a port says.
-use Rattle.std.proofs.Common.{◌≡◌, ℕ, zero, suc, List, [], ◌∷◌, Option, Some, append-nil, refl, sym, subst}
-use Rattle.hw_model.specs.Limits.{IsFlat}
-use Rattle.hw_model.specs.Problem.{Problem}
+-- What a search for a clash of any subject says.
+use Rattle.std.proofs.Common.{◌≡◌, ℕ, zero, suc, List, [], ◌∷◌, Option, Some, None, append-nil, refl, sym, subst}
 use Rattle.hw_desk.specs.State.{DeskState}
 use Rattle.hw_lines.specs.declared.line.Line.{Line}
-use Rattle.hw_port.specs.Kept.{PortKept}
-use Rattle.hw_port.specs.Whole.{Parts}
-use Rattle.hw_tide.specs.Levels.{TideParts}
-use Rattle.hw_port_rules.specs.Flattened.{flattened}
-use Rattle.hw_port_laws.proofs.Permits.{same_permitted_law, same_none_law}
 use Rattle.hw_clash.specs.declared.clashing.Clashed.{Clashed}
 use Rattle.hw_clash.specs.declared.clashing.Clashed.TheVariants as answers
 use Rattle.hw_clash.specs.Outcomes.{IsClashFound, ClashMeets}
 use Rattle.hw_clash.specs.Text.{clash_by}
+use Rattle.hw_clash.specs.Wished.{Wished, IsWished, wished}
 use Rattle.hw_report.specs.Reports.{Report, clashed, met, spent_step}
 use Rattle.hw_command.specs.Carries.{Carries}
 use Rattle.hw_command.specs.Ends.{Ends}
 use Rattle.hw_command.specs.Works.{of_answer, speaks, ReadCauseOf}
 use Rattle.hw_command.specs.declared.status.Status.{Status}
-use Rattle.hw_command.proofs.FlatForms.{by_line}
-use Rattle.hw_command.proofs.PortForms.{by_fault}
 use Rattle.hw_command.proofs.Stops.{stops_carries}
-use Rattle.hw_subject.specs.Reading.{ReadsSubject, StopsAtSubject}
-use Rattle.hw_subject.specs.Subjects.{Origin, flat_text, port_of, origin_subject}
+use Rattle.hw_subject.specs.Reading.{ReadsSubject, StopsAtSubject, plan_in}
+use Rattle.hw_subject.specs.Subjects.{Origin, flat_text, port_of, origin_subject, repaired_by, Topic, topic_subject}
 use Rattle.hw_subject.specs.declared.subject.Given.{Given}
 use Rattle.hw_subject.proofs.Readings.{give_before}
 use Rattle.hw_clash_command.specs.Clashes.{Clashes, ClashSays, clash_task}
 use Rattle.hw_clash_command.specs.Found.{Found, a_clash, a_table, a_step, IsFound, IsClashTold, lines_found, report_found, SendsBoth, SendsFound}
-use Rattle.hw_clash_command.specs.PortWords.{FoundIn, FoundOfPort}
-use Rattle.hw_clash_command.proofs.PortMeans.{port_clash}
+use Rattle.hw_clash_command.specs.PortWords.{FoundOf}
+use Rattle.hw_clash_command.specs.Asked.{asked, tugs_left, wishes_in}
 use Rattle.hw_clash_command.proofs.Printed.{reads_back}
 use Rattle.hw_clash_command.proofs.Sent.{sent_carries, memory_carries}
-use Rattle.hw_clash_command.proofs.Sources.{limits}
+use Rattle.hw_clash_command.proofs.Sources.{asked_fits, is_asked, none_of, permits_of}
+use Rattle.hw_clash_command.proofs.Worded.{clash_in}
 
-refused_says : (origin : Origin) (budget : ℕ) (proof : List ℕ) (x y : DeskState) (r : Report) → (origin_subject origin).Refuses x.held r → ClashSays (origin_subject origin) budget proof x y (Some r)
-refused_says (flat_text name) budget proof x y r h = by_line (x.held name) (λ (r : Report). ClashSays (origin_subject (flat_text name)) budget proof x y (Some r)) r (λ number word bad. bad) (λ long. long) h
-refused_says (port_of instance table) budget proof x y r h = by_fault (x.held instance) (x.held table) (λ (r : Report). ClashSays (origin_subject (port_of instance table)) budget proof x y (Some r)) r (λ bad. bad) (λ fault bad. bad) (λ fault bad. bad) (λ bad. bad) (λ bad. bad) h
+-- no subject is refused by a report on what was found
+unclashed : (origin : Origin) (plan : Option (List ℕ)) (held : List ℕ → Option (List ℕ)) (kept : List ℕ) (drops : List (List ℕ)) → (repaired_by (origin_subject origin) plan).Refuses held (clashed kept drops) → ⊥
+unclashed (flat_text name) None held kept drops h = h
+unclashed (flat_text name) (Some plan) held kept drops h = h
+unclashed (port_of instance table) None held kept drops h = h
+unclashed (port_of instance table) (Some plan) held kept drops h = h
+
+unmet : (origin : Origin) (plan : Option (List ℕ)) (held : List ℕ → Option (List ℕ)) (table : List ℕ) → (repaired_by (origin_subject origin) plan).Refuses held (met table) → ⊥
+unmet (flat_text name) None held table h = h
+unmet (flat_text name) (Some plan) held table h = h
+unmet (port_of instance tides) None held table h = h
+unmet (port_of instance tides) (Some plan) held table h = h
+
+unspent : (origin : Origin) (plan : Option (List ℕ)) (held : List ℕ → Option (List ℕ)) (budget step : ℕ) → (repaired_by (origin_subject origin) plan).Refuses held (spent_step budget step) → ⊥
+unspent (flat_text name) None held budget step h = h
+unspent (flat_text name) (Some plan) held budget step h = h
+unspent (port_of instance table) None held budget step h = h
+unspent (port_of instance table) (Some plan) held budget step h = h
+
+refused_says : (topic : Topic) (budget : ℕ) (proof : List ℕ) (x y : DeskState) (r : Report) → (topic_subject topic).Refuses x.held r → ClashSays (topic_subject topic) budget proof x y (Some r)
+refused_says topic budget proof x y (clashed kept drops) h = absurd (unclashed topic.origin topic.plan x.held kept drops h)
+refused_says topic budget proof x y (met table) h = absurd (unmet topic.origin topic.plan x.held table h)
+refused_says topic budget proof x y (spent_step spent step) h = absurd (unspent topic.origin topic.plan x.held spent step h)
+refused_says topic budget proof x y r h = h
 
 -- the inputs give no value
-pub clash_stops : {x y z : DeskState} {r : Report} {s : Status} (origin : Origin) (budget : ℕ) (proof : List ℕ) → StopsAtSubject (origin_subject origin) x y r → Ends (r ∷ []) y z s → Carries (clash_task (origin_subject origin) budget proof) x z s
-clash_stops {x = x} {y = y} {r = r} origin budget proof h ends = stops_carries (clash_task (origin_subject origin) budget proof) [] h (sym (append-nil _)) (λ feed given. given) (refused_says origin budget proof x y r) ends
+pub clash_stops : {x y z : DeskState} {r : Report} {s : Status} (topic : Topic) (budget : ℕ) (proof : List ℕ) → StopsAtSubject (topic_subject topic) x y r → Ends (r ∷ []) y z s → Carries (clash_task (topic_subject topic) budget proof) x z s
+clash_stops {x = x} {y = y} {r = r} topic budget proof h ends = stops_carries (clash_task (topic_subject topic) budget proof) [] h (sym (append-nil _)) (λ feed given. given) (refused_says topic budget proof x y r) ends
 
 -- ---- what was found
 
 -- a clash that was found, and its printed text
-told : (f : Problem) (kept : List ℕ) (drops : List (List ℕ)) (all : List Line) → IsFlat f → IsClashFound f kept drops all → IsClashTold f kept drops all
-told f kept drops all flat found = record { found = found; back = reads_back f kept drops all flat found }
+told : (f : Wished) (kept : List ℕ) (drops : List (List ℕ)) (all : List Line) → IsWished f → IsClashFound f kept drops all → IsClashTold f kept drops all
+told f kept drops all fits found = record { found = found; back = reads_back f kept drops all fits found }
 
--- what it says of the port
-of_port : (p : Parts) (t : TideParts) (budget : ℕ) (found : Found) (all : List Line) → PortKept p → IsFound (flattened p t) budget found all → FoundOfPort p t found
-of_port p t budget (a_clash kept drops) all port shown = port_clash p t (clash_by kept drops) port (record { some = shown.found.irreducible.some; numbered = shown.found.irreducible.numbered; ascending = shown.found.irreducible.ascending; drops = shown.found.met }) shown.found.irreducible.clash
-of_port p t budget (a_table table) all port shown = (same_permitted_law p t table port).1 shown.permitted
-of_port p t budget (a_step zero) all port shown = tt
-of_port p t budget (a_step (suc n)) all port shown = (same_none_law p t port).1 shown.later
-
-means : (origin : Origin) (held : List ℕ → Option (List ℕ)) (v : (origin_subject origin).Value) (budget : ℕ) (found : Found) (all : List Line) → (origin_subject origin).Reads held v → IsFound ((origin_subject origin).problem v) budget found all → FoundIn ((origin_subject origin).naming v) found
-means (flat_text name) held v budget found all reads shown = tt
-means (port_of instance table) held v budget found all reads shown = of_port v.port v.tide budget found all reads.kept shown
+-- what it says of the subject
+means : (topic : Topic) (held : List ℕ → Option (List ℕ)) (v : (topic_subject topic).Value) (budget : ℕ) (found : Found) (all : List Line) → (topic_subject topic).Reads held v → IsFound (asked (topic_subject topic) v) budget found all → FoundOf (topic_subject topic) v found
+means topic held v budget (a_clash kept drops) all reads shown = (
+  none_of topic held v reads shown.found.none,
+  clash_in topic held v (clash_by kept drops) reads (record { some = shown.found.irreducible.some; numbered = shown.found.irreducible.numbered; ascending = shown.found.irreducible.ascending; drops = shown.found.met }) shown.found.irreducible.clash,
+)
+means topic held v budget (a_table table) all reads shown = permits_of topic held v table reads shown.permitted
+means topic held v budget (a_step zero) all reads shown = tt
+means topic held v budget (a_step (suc n)) all reads shown = none_of topic held v reads shown.later
 
 -- ---- what was sent
 
 -- what was found was sent, or a part of its certificate
-sent : {given : Given} {proof : List ℕ} {budget : ℕ} {x y end : DeskState} {s : Status} (origin : Origin) (found : Found) (all : List Line) (r : Report) → speaks r ≡ of_answer → ((mid : DeskState) → mid.read_faults ≡ x.read_faults → ReadCauseOf x mid r) → ((mid : DeskState) → Clashes (origin_subject origin) budget proof x mid found → ClashSays (origin_subject origin) budget proof x mid (Some r))
-    → (h : ReadsSubject (origin_subject origin) x y given) → IsFound ((origin_subject origin).problem h.value) budget found all → SendsBoth all r proof y end s → Carries (clash_task (origin_subject origin) budget proof) x end s
-sent {proof = proof} {budget = budget} {x = x} origin found all r answer cause says h shown k =
-    let s = origin_subject origin in
+sent : {given : Given} {proof : List ℕ} {budget : ℕ} {x y end : DeskState} {s : Status} (topic : Topic) (found : Found) (all : List Line) (r : Report) → speaks r ≡ of_answer → ((mid : DeskState) → mid.read_faults ≡ x.read_faults → ReadCauseOf x mid r) → ((mid : DeskState) → Clashes (topic_subject topic) budget proof x mid found → ClashSays (topic_subject topic) budget proof x mid (Some r))
+    → (h : ReadsSubject (topic_subject topic) x y given) → IsFound (asked (topic_subject topic) h.value) budget found all → SendsBoth all r proof y end s → Carries (clash_task (topic_subject topic) budget proof) x end s
+sent {proof = proof} {budget = budget} {x = x} topic found all r answer cause says h shown k =
+    let s = topic_subject topic in
     sent_carries s.inputs s.Gives (ClashSays s budget proof) all r answer cause h.entered (give_before (s.Gives x.held) s.inputs h.give) h.read_faults
-    (λ mid made holds. says mid (record { value = h.value; reads = h.reads; means = means origin x.held h.value budget found all h.reads shown; shows = record { lines = all; shown = shown; made = made; holds = holds } }))
+    (λ mid made holds. says mid (record { value = h.value; reads = h.reads; means = means topic x.held h.value budget found all h.reads shown; shows = record { lines = all; shown = shown; made = made; holds = holds } }))
     (λ mid cut. record { value = h.value; reads = h.reads; shows = record { found = found; lines = all; shown = shown; cut = cut } })
     k
 
 -- the search has an answer
-answered : {given : Given} {proof : List ℕ} {budget : ℕ} {x y end : DeskState} {s : Status} (origin : Origin) (answer : Clashed) → (h : ReadsSubject (origin_subject origin) x y given) → ClashMeets ((origin_subject origin).problem h.value) budget answer → SendsFound (lines_found answer) (report_found budget answer) proof y end s → Carries (clash_task (origin_subject origin) budget proof) x end s
-answered origin (answers.Clash kept drops proof) h m k = sent origin (a_clash kept.items drops.items) proof (clashed kept.items drops.items) refl (λ mid e. e) (λ mid c. c) h (told ((origin_subject origin).problem h.value) kept.items drops.items proof (limits origin h) m) k
-answered origin (answers.Met table proof) h m k = sent origin (a_table table) proof (met table) refl (λ mid e. e) (λ mid c. c) h m k
-answered {budget = budget} origin (answers.Spent step proof) h m k = sent origin (a_step step) proof (spent_step budget step) refl (λ mid e. e) (λ mid c. (refl, c)) h m k
-answered {proof = proof} {budget = budget} {x = x} origin answers.NoMemory h m k =
-    let s = origin_subject origin in
+answered : {given : Given} {proof : List ℕ} {budget : ℕ} {x y end : DeskState} {s : Status} (topic : Topic) (answer : Clashed) → (h : ReadsSubject (topic_subject topic) x y given) → ClashMeets (asked (topic_subject topic) h.value) budget answer → SendsFound (lines_found answer) (report_found budget answer) proof y end s → Carries (clash_task (topic_subject topic) budget proof) x end s
+answered {x = x} topic (answers.Clash kept drops proof) h m k = sent topic (a_clash kept.items drops.items) proof (clashed kept.items drops.items) refl (λ mid e. e) (λ mid c. c) h (told (asked (topic_subject topic) h.value) kept.items drops.items proof (asked_fits topic x.held h.value h.reads) m) k
+answered topic (answers.Met table proof) h m k = sent topic (a_table table) proof (met table) refl (λ mid e. e) (λ mid c. c) h m k
+answered {budget = budget} topic (answers.Spent step proof) h m k = sent topic (a_step step) proof (spent_step budget step) refl (λ mid e. e) (λ mid c. (refl, c)) h m k
+answered {proof = proof} {budget = budget} {x = x} topic answers.NoMemory h m k =
+    let s = topic_subject topic in
     memory_carries s.inputs s.Gives (ClashSays s budget proof) (Some proof) h.entered (give_before (s.Gives x.held) s.inputs h.give) h.read_faults k
 
-pub clash_meets : {given : Given} {proof : List ℕ} {budget : ℕ} {x y end : DeskState} {s : Status} (origin : Origin) (answer : Clashed) → ReadsSubject (origin_subject origin) x y given → ClashMeets given.flat budget answer → SendsFound (lines_found answer) (report_found budget answer) proof y end s → Carries (clash_task (origin_subject origin) budget proof) x end s
-clash_meets {budget = budget} origin answer h m k = answered origin answer h (subst (λ (f : Problem). ClashMeets f budget answer) h.problem m) k
+pub clash_meets : {given : Given} {proof : List ℕ} {budget : ℕ} {x y end : DeskState} {s : Status} (topic : Topic) (answer : Clashed) → ReadsSubject (topic_subject topic) x y given → ClashMeets (wished (tugs_left given.flat (plan_in given.repair)) (wishes_in (plan_in given.repair))) budget answer → SendsFound (lines_found answer) (report_found budget answer) proof y end s → Carries (clash_task (topic_subject topic) budget proof) x end s
+clash_meets {budget = budget} topic answer h m k = answered topic answer h (subst (λ (f : Wished). ClashMeets f budget answer) (is_asked {s = topic_subject topic} h) m) k

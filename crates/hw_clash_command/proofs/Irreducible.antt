@@ -1,13 +1,13 @@
 -- Of kept restrictions that can't be met together none can be left out, since each has a timetable that meets the others.
 use Rattle.std.proofs.Common.{◌≡◌, ℕ, zero, suc, ◌<◌, List, [], ◌∷◌, Some, slice_get, get_or, length, refl, arith}
 use Rattle.std.proofs.lemmas.List.Elements.{All-from_get_or}
-use Rattle.hw_model.specs.Problem.{Problem}
 use Rattle.hw_model.specs.Timetables.{NonePermitted}
 use Rattle.hw_rules.specs.Outcomes.{SomePermitted}
 use Rattle.hw_clash.specs.Clashes.{Clash}
 use Rattle.hw_clash.specs.Clashing.{without, IsIrreducible}
 use Rattle.hw_clash.specs.Parts.{part}
 use Rattle.hw_clash.specs.Read.{SaysClash}
+use Rattle.hw_clash.specs.Wished.{Wished}
 
 number_at : (xs : List ℕ) (i : ℕ) → i < length xs → slice_get xs i ≡ Some (get_or xs i 0)
 number_at [] i lt = absurd (omega (arith, lt))
@@ -19,7 +19,7 @@ table_at [] i lt = absurd (omega (arith, lt))
 table_at (x ∷ xs) zero lt = (x, refl)
 table_at (x ∷ xs) (suc i) lt = table_at xs i (omega (arith, lt))
 
-pub irreducible : (f : Problem) (clash : Clash) → SaysClash f clash → NonePermitted (part f clash.kept) → IsIrreducible f clash.kept
+pub irreducible : (f : Wished) (clash : Clash) → SaysClash f clash → NonePermitted (part f clash.kept) → IsIrreducible f clash.kept
 irreducible f clash says none = record {
   some = says.some;
   numbered = says.numbered;

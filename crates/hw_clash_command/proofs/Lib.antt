@@ -4,8 +4,8 @@ mod Irreducible
 mod Sent
 mod PortLists
 mod PortMeans
+mod Worded
 mod Sources
 mod Found
 mod Checked
 pub mod Decided
-mod Explained

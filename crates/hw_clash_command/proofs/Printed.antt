@@ -1,11 +1,10 @@
 -- The printed text of a clash is the one text that reads as it.
 use Rattle.std.proofs.Common.{◌≡◌, ◌++◌, ◌∙◌, ℕ, List, [], ◌∷◌, Ok, map, codes, decimal, append-nil, append_assoc, refl, sym, ap}
-use Rattle.hw_model.specs.Limits.{IsFlat}
-use Rattle.hw_model.specs.Problem.{Problem}
 use Rattle.hw_text.specs.Parts.{spaced, ended_lines}
 use Rattle.hw_lines.specs.declared.line.Line.{Line}
 use Rattle.hw_clash.specs.Outcomes.{IsClashFound}
 use Rattle.hw_clash.specs.Text.{clash_by, clash_text}
+use Rattle.hw_clash.specs.Wished.{Wished, IsWished}
 use Rattle.hw_clash.specs.Written.{keep_line, drop_line, drop_lines, written_clash}
 use Rattle.hw_clash.proofs.Written.{written_reads}
 use Rattle.hw_report.specs.Lines.{numbers_text, drop_line as printed_line, drop_lines as printed_lines}
@@ -46,7 +45,7 @@ is_written kept drops =
     ∙ ap (λ (text : List ℕ). codes "clash 1\n" ++ (text ++ 10 ∷ (printed_lines kept drops ++ codes "end\n"))) (spaced_is (codes "keep") kept)
 
 -- a clash that was found, printed, reads back
-pub reads_back : (f : Problem) (kept : List ℕ) (drops : List (List ℕ)) (all : List Line) → IsFlat f → IsClashFound f kept drops all → clash_text f (report_text (clashed kept drops)) ≡ Ok (clash_by kept drops)
+pub reads_back : (f : Wished) (kept : List ℕ) (drops : List (List ℕ)) (all : List Line) → IsWished f → IsClashFound f kept drops all → clash_text f (report_text (clashed kept drops)) ≡ Ok (clash_by kept drops)
 reads_back f kept drops all flat found =
     ap (clash_text f) (sym (is_written kept drops))
     ∙ written_reads f (clash_by kept drops) flat (record { some = found.irreducible.some; numbered = found.irreducible.numbered; ascending = found.irreducible.ascending; drops = found.met })

@@ -1,11 +1,10 @@
 -- `check clash` of a flat text or a port: a clash, and the certificate of its kept restrictions.
 use Rattle.std.specs.Prelude.{◌≡◌, ◌≢◌, ℕ, List, [], ◌∷◌, ◌++◌, Option, Some, None, IfSome, ⊤}
-use Rattle.hw_model.specs.Problem.{Problem}
 use Rattle.hw_desk.specs.State.{DeskState}
 use Rattle.hw_desk.specs.declared.desk.Feed.{Feed}
 use Rattle.hw_desk.specs.declared.desk.Feed.TheVariants.{Plan, Certificate}
 use Rattle.hw_lines.specs.declared.check.Verdict.TheVariants as verdicts
-use Rattle.hw_report.specs.Reports.{Report, Naming, by_number, checked, refused, bad_text, too_long, clash_holds}
+use Rattle.hw_report.specs.Reports.{Report, by_number, checked, refused, bad_text, too_long, clash_holds}
 use Rattle.hw_command.specs.Carries.{Task, one_report}
 use Rattle.hw_command.specs.Certificates.{cert_outcome}
 use Rattle.hw_command.specs.Scope.{named}
@@ -17,30 +16,32 @@ use Rattle.hw_clash.specs.Clashes.{Clash}
 use Rattle.hw_clash.specs.Clashing.{IsIrreducible}
 use Rattle.hw_clash.specs.Parts.{part}
 use Rattle.hw_subject.specs.Subjects.{Subject, GivesValue}
+use Rattle.hw_subject.specs.Meanings.{NoneOf}
+use Rattle.hw_clash_command.specs.Asked.{asked, names_left, wishes_in}
 use Rattle.hw_clash_command.specs.Plans.{IsClashOf, IsBadClash}
 use Rattle.hw_clash_command.specs.PortWords.{ClashIn, DropsIn}
 
--- the clash holds: its kept restrictions can't be met together, and none of them can be left out; of a port in its own words too, and it permits nothing
-abbrev pub HoldsWhere : Naming → Problem → Clash → CertOutcome → Type 0
-HoldsWhere names f clash (Shows verdicts.Infeasible) = IsIrreducible f clash.kept × ClashIn names clash.kept clash.drops
-HoldsWhere names f clash outcome = ⊤
+-- the clash holds: nothing is permitted, the kept restrictions can't be met together, and none of them can be left out; of a port in its own words too
+abbrev pub HoldsWhere : (s : Subject) → s.Value → Clash → CertOutcome → Type 0
+HoldsWhere s v clash (Shows verdicts.Infeasible) = NoneOf s v × IsIrreducible (asked s v) clash.kept × ClashIn (names_left s v) (wishes_in (s.plan v)) clash.kept clash.drops
+HoldsWhere s v clash outcome = ⊤
 
 -- what is read of the inputs and a clash text of it, each where it is told, and the outcome of the certificate of the part of the kept restrictions, where that is told
 pub record ChecksClash (s : Subject) (plan cert : List ℕ) (held : List ℕ → Option (List ℕ)) (o : CertOutcome) : Type 0 where
   pub value : s.Value
   pub reads : s.Reads held value
   pub clash : Clash
-  pub is : IsClashOf (held plan) (s.problem value) clash
-  pub met : DropsIn (s.naming value) clash.kept clash.drops
-  pub outcome : IfSome (held cert) (λ bs. o ≡ cert_outcome (part (s.problem value) clash.kept) bs)
-  pub shown : ShownBy (part (s.problem value) clash.kept) o
-  pub holds : HoldsWhere (s.naming value) (s.problem value) clash o
+  pub is : IsClashOf (held plan) (asked s value) clash
+  pub met : DropsIn (names_left s value) (wishes_in (s.plan value)) clash.kept clash.drops
+  pub outcome : IfSome (held cert) (λ bs. o ≡ cert_outcome (part (asked s value) clash.kept) bs)
+  pub shown : ShownBy (part (asked s value) clash.kept) o
+  pub holds : HoldsWhere s value clash o
 
 -- what is read of the inputs, of which the clash text has this first bad line
 pub record BadClash (s : Subject) (plan : List ℕ) (held : List ℕ → Option (List ℕ)) (number : ℕ) (word : List ℕ) : Type 0 where
   pub value : s.Value
   pub reads : s.Reads held value
-  pub bad : IsBadClash (held plan) (s.problem value) number word
+  pub bad : IsBadClash (held plan) (asked s value) number word
 
 -- what a report says of the inputs, of the clash text and of the certificate, each as far as it is told. For the same told bytes at most one report but `memory` is right, and nothing else is printed
 abbrev pub ClashChecks : Subject → List ℕ → List ℕ → (List ℕ → Option (List ℕ)) → Report → Type 0
@@ -61,7 +62,7 @@ pub record GivesClash (s : Subject) (plan : List ℕ) (held : List ℕ → Optio
   pub value : s.Value
   pub reads : s.Reads held value
   pub clash : Clash
-  pub is : IsClashOf (held plan) (s.problem value) clash
+  pub is : IsClashOf (held plan) (asked s value) clash
 
 -- the inputs give what they give the subject, and the clash text restrictions of it. After the certificate no input is begun
 abbrev pub ClashGives : Subject → List ℕ → (List ℕ → Option (List ℕ)) → Feed → Type 0

@@ -1,24 +1,25 @@
--- `clash` of a flat text or a port: restrictions that can't be met together, or a timetable that meets all, with its certificate.
+-- `clash` of any subject: restrictions, and wishes of the plan that is repaired, that can't be met together, or a timetable that meets all, with its certificate.
 use Rattle.std.specs.Prelude.{◌≡◌, ℕ, List, Option, Some, None}
 use Rattle.hw_desk.specs.State.{DeskState}
 use Rattle.hw_report.specs.Reports.{Report, clashed, met, spent_step}
 use Rattle.hw_command.specs.Carries.{Task, one_report}
 use Rattle.hw_subject.specs.Subjects.{Subject}
 use Rattle.hw_clash_command.specs.Found.{Found, a_clash, a_table, a_step, Shows, ShowsPart}
-use Rattle.hw_clash_command.specs.PortWords.{FoundIn}
+use Rattle.hw_clash_command.specs.PortWords.{FoundOf}
+use Rattle.hw_clash_command.specs.Asked.{asked}
 
--- what is read of the inputs, each where it is told, and what was found of it, of a port in its own words too. Proof was made and holds what shows it: restrictions have their numbers in the problem
+-- what is read of the inputs, each where it is told, and what was found of it, of a port in its own words too. Proof was made and holds what shows it: restrictions have their numbers in the problem, and wishes the next ones
 pub record Clashes (s : Subject) (budget : ℕ) (proof : List ℕ) (old new : DeskState) (found : Found) : Type 0 where
   pub value : s.Value
   pub reads : s.Reads old.held value
-  pub means : FoundIn (s.naming value) found
-  pub shows : Shows (s.problem value) budget proof old new found
+  pub means : FoundOf s value found
+  pub shows : Shows (asked s value) budget proof old new found
 
 -- the same, and what Proof holds after a failed make or write of it
 pub record ClashBreaks (s : Subject) (budget : ℕ) (old new : DeskState) : Type 0 where
   pub value : s.Value
   pub reads : s.Reads old.held value
-  pub shows : ShowsPart (s.problem value) budget new
+  pub shows : ShowsPart (asked s value) budget new
 
 -- what a report says of the inputs, each where it is told, and of Proof; none is a write fault on Proof. Apart from out of memory, no two kinds of report hold together where these are told; no other is given
 abbrev pub ClashSays : Subject → ℕ → List ℕ → DeskState → DeskState → Option Report → Type 0

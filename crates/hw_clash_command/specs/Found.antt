@@ -1,6 +1,5 @@
 -- What a search for a clash found, and what of it is sent.
 use Rattle.std.specs.Prelude.{◌≡◌, ℕ, List, [], ◌∷◌, Option, Some, None, Result, Ok, Err, IfSome}
-use Rattle.hw_model.specs.Problem.{Problem}
 use Rattle.hw_desk.specs.State.{DeskState}
 use Rattle.hw_desk.specs.declared.desk.DeskFailed.{DeskFailed}
 use Rattle.hw_desk.specs.declared.desk.Tray.TheVariants as tray
@@ -11,6 +10,7 @@ use Rattle.hw_clash.specs.declared.clashing.Clashed.{Clashed}
 use Rattle.hw_clash.specs.declared.clashing.Clashed.TheVariants as answers
 use Rattle.hw_clash.specs.Outcomes.{IsClashFound, IsMet, IsSpentAt}
 use Rattle.hw_clash.specs.Text.{clash_by, clash_text}
+use Rattle.hw_clash.specs.Wished.{Wished}
 use Rattle.hw_report.specs.Reports.{Report, clashed, met, spent_step, no_memory}
 use Rattle.hw_report.specs.Texts.{report_text}
 use Rattle.hw_command.specs.Ends.{Ends, EndsWith}
@@ -25,25 +25,25 @@ pub data Found : Type 0 where
   a_step : ℕ → Found
 
 -- the clash of the problem, whose printed text reads back as it
-pub record IsClashTold (f : Problem) (kept : List ℕ) (drops : List (List ℕ)) (all : List Line) : Type 0 where
+pub record IsClashTold (f : Wished) (kept : List ℕ) (drops : List (List ℕ)) (all : List Line) : Type 0 where
   pub found : IsClashFound f kept drops all
   pub back : clash_text f (report_text (clashed kept drops)) ≡ Ok (clash_by kept drops)
 
--- these lines show what was found: where nothing is permitted, the clash, by the part of it; a permitted timetable, by the part of all restrictions; or that the budget was spent in the step, by the part of which it asks. A later step than the first is spent only where nothing is permitted
-abbrev pub IsFound : Problem → ℕ → Found → List Line → Type 0
+-- these lines show what was found: where nothing is permitted that meets all wishes, the clash, by the part of it; such a timetable, by the part of all restrictions; or that the budget was spent in the step, by the part of which it asks. A later step than the first is spent only where there is none
+abbrev pub IsFound : Wished → ℕ → Found → List Line → Type 0
 IsFound f budget (a_clash kept drops) all = IsClashTold f kept drops all
 IsFound f budget (a_table table) all = IsMet f table all
 IsFound f budget (a_step step) all = IsSpentAt f budget step all
 
 -- lines that show what was found; Proof was made, and holds their text where it is told
-pub record Shows (f : Problem) (budget : ℕ) (proof : List ℕ) (old new : DeskState) (found : Found) : Type 0 where
+pub record Shows (f : Wished) (budget : ℕ) (proof : List ℕ) (old new : DeskState) (found : Found) : Type 0 where
   pub lines : List Line
   pub shown : IsFound f budget found lines
   pub made : MakesProof proof old new
   pub holds : IfSome (new.trays tray.Proof).sent (λ bytes. bytes ≡ cert_text Two lines)
 
 -- lines that show what was found; after a failed make or write Proof holds a proper prefix of their text, where it is told
-pub record ShowsPart (f : Problem) (budget : ℕ) (new : DeskState) : Type 0 where
+pub record ShowsPart (f : Wished) (budget : ℕ) (new : DeskState) : Type 0 where
   pub found : Found
   pub lines : List Line
   pub shown : IsFound f budget found lines

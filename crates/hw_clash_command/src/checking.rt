@@ -11,6 +11,7 @@ ghost use Rattle.hw_clash_command.specs.Texts.{report_of_part};
 
 use crate::part_input::read_part;
 use hw_cert::{Verdict, Version};
+use hw_clash::WishedFlat;
 use hw_command::{CertOutcome, Status, check_report, finish, read_cert};
 use hw_desk::Desk;
 use hw_report::{Names, Report};
@@ -37,7 +38,8 @@ pub fn check_clash<D: Desk>(
         Ok(given) => given,
         Err(report) => return finish(desk, &report),
     };
-    let kept = match read_part(alloc, desk, &given.flat, plan) {
+    let wished = WishedFlat::plain(&given.flat);
+    let kept = match read_part(alloc, desk, &wished, plan) {
         Ok(kept) => kept,
         Err(report) => return finish(desk, &report),
     };

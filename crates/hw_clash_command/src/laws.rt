@@ -2,8 +2,8 @@
 
 ghost use Rattle.hw_clash_command.specs.Laws.{OneClashReport, TextsDecideClash};
 
-/// The bytes of the inputs, of the clash text and of the certificate decide the report, and those of a
-/// port the words for its restrictions, unless a call fails or memory runs out.
+/// The bytes of the inputs, of the clash text and of the certificate decide the report, unless a call
+/// fails or memory runs out.
 pub fn one_clash_report()
     ensures { OneClashReport }
 {}

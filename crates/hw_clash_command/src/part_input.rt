@@ -5,7 +5,7 @@ ghost use Rattle.hw_report.specs.Printing.{CanPrint};
 ghost use Rattle.hw_report.specs.Seen.{report_seen};
 ghost use Rattle.hw_clash_command.specs.Plans.{ReadsPart, StopsAtPlan, report_of_fault};
 
-use hw_clash::{ClashFault, part, read_clash};
+use hw_clash::{ClashFault, WishedFlat, part, read_clash};
 use hw_command::{read_input, stopped};
 use hw_desk::{Desk, Feed};
 use hw_flat::Flat;
@@ -17,23 +17,23 @@ use std::alloc::Global;
 pub fn read_part<D: Desk>(
     alloc: Global,
     desk: &mut D,
-    flat: &Flat,
+    wished: &WishedFlat,
     plan: &str,
 ) -> Result<Flat, Report<'static>>
     requires unread { ((D.state desk.old).feeds Feed.Plan).begun ≡ false }
-    ensures part { IfOk result (λ made. ReadsPart flat.now plan.now (D.state desk.old) (D.state desk.new) made) }
-    ensures no_part { IfErr result (λ report. StopsAtPlan flat.now plan.now (D.state desk.old) (D.state desk.new) (report_seen report)) }
+    ensures part { IfOk result (λ made. ReadsPart wished.now plan.now (D.state desk.old) (D.state desk.new) made) }
+    ensures no_part { IfErr result (λ report. StopsAtPlan wished.now plan.now (D.state desk.old) (D.state desk.new) (report_seen report)) }
     ensures printed { IfErr result (λ report. CanPrint (report_seen report)) }
 {
     let bytes = match read_input(alloc, desk, Feed::Plan, plan) {
         Ok(bytes) => bytes,
         Err(stop) => return Err(stopped(Feed::Plan, stop)),
     };
-    let clash = match read_clash(alloc, &bytes, flat) {
+    let clash = match read_clash(alloc, &bytes, wished) {
         Ok(clash) => clash,
         Err(fault) => return Err(bad_clash(fault)),
     };
-    match part(alloc, flat, &clash.kept) {
+    match part(alloc, wished, &clash.kept) {
         Ok(made) => {
             // The call shows that the part is within the limits.
             let _shape = made.shape();

@@ -7,5 +7,5 @@ use Rattle.hw_clash.proofs.parting.values_of.Goals as goal
 pub loop-ship-preserved : goal.loop-ship-preserved
 loop-ship-preserved c =
     c.in_ok-put_row.ensures
-    ∙ (ap (λ (xs : List (Option ℕ)). xs ++ row_of (part_value c.args.flat.now c.args.kept.now) c.args.flat.now.slots c.loop-ship.ship) c.loop-ship.invariant
-    ∙ sym (grid_more (part_value c.args.flat.now c.args.kept.now) c.loop-ship.ship c.args.flat.now.slots))
+    ∙ (ap (λ (xs : List (Option ℕ)). xs ++ row_of (part_value c.args.wished.now c.args.kept.now) c.args.wished.now.problem.slots c.loop-ship.ship) c.loop-ship.invariant
+    ∙ sym (grid_more (part_value c.args.wished.now c.args.kept.now) c.loop-ship.ship c.args.wished.now.problem.slots))

@@ -13,7 +13,7 @@ returns-in-Err-read_clash-clause-no_part g c = rw c.bad_clash.ensures.value (bad
 pub returns-in-Ok-part-clause-part : goal.returns-in-Ok-part-clause-part
 returns-in-Ok-part-clause-part g c =
     reads_part c.in-Ok-read_clash.clash c.in-Ok.ensures (rw c.deref.ensures.value at c.in-Ok-read_clash.ensures.reads) c.in-Ok-read_clash.ensures.says
-    (c.in-Ok-part.ensures ∙ ap (part c.args.flat.now) (c.deref-2.ensures.value ∙ ap (λ (clash : Clash). clash.kept) c.clash.view_is)) c.shape-shape.ensures.limits
+    (c.in-Ok-part.ensures ∙ ap (part c.args.wished.now) (c.deref-2.ensures.value ∙ ap (λ (clash : Clash). clash.kept) c.clash.view_is)) c.shape-shape.ensures.limits
 
 pub returns-clause-no_part : goal.returns-clause-no_part
 returns-clause-no_part g c = no_room c.in-Ok.ensures
