@@ -19,72 +19,62 @@ use Rattle.hw_command.specs.Values.{most_bytes, IsTextOf}
 use Rattle.hw_command.specs.declared.outcome.CertOutcome.{CertOutcome}
 use Rattle.hw_command.specs.declared.outcome.CertOutcome.TheVariants.{Shows}
 use Rattle.hw_command.proofs.FlatForms.{by_line}
+use Rattle.hw_repair.specs.Wishes.{PlanParts}
 use Rattle.hw_subject.specs.Meanings.{judged}
-use Rattle.hw_subject.specs.Subjects.{Subject, Origin, origin_subject, flat_subject, flat_text}
-use Rattle.hw_check_command.specs.Laws.{IsDecided}
-use Rattle.hw_check_command.specs.Shown.{Refused, Shown}
-use Rattle.hw_check_command.proofs.Decided.{subjects_decided_law, told_bytes}
+use Rattle.hw_subject.specs.Subjects.{Subject, flat_subject, topic_subject}
+use Rattle.hw_subject.specs.Decided.{ReportedBy}
+use Rattle.hw_subject.specs.Shown.{Refused, Shown}
+use Rattle.hw_subject.proofs.Decided.{one_of, subjects_decided_law, told_bytes}
 use Rattle.hw_chart_command.specs.Charts.{Draws, Charts, picture_of}
 use Rattle.hw_chart_command.specs.Laws.{OneChart, TextsDecideChart}
-use Rattle.hw_chart_command.specs.Texts.{cert_table, outcome_chart, cert_chart, read_chart, texts_chart}
-use Rattle.hw_chart_command.proofs.Charted.{plainly, unplanned}
+use Rattle.hw_chart_command.specs.Texts.{cert_table, outcome_chart, judged_chart, cert_chart, read_chart, texts_chart}
 
 -- ---- by what is read of the inputs
 
--- what is read, and the report that the certificate's bytes give by it
-pub record DrawnBy (s : Subject) (held : List ℕ → Option (List ℕ)) (bytes : List ℕ) (r : Report) : Type 0 where
-  pub value : s.Value
-  pub reads : s.Reads held value
-  pub report : r ≡ cert_chart (s.naming value) (s.problem value) bytes
+-- the report that the certificate's bytes give by what is read
+abbrev pub drawn_of : (s : Subject) → List ℕ → s.Value → Report
+drawn_of s bytes v = cert_chart (s.naming v) (s.problem v) (s.plan v) bytes
 
--- valid lines that are all of the certificate's
-drawn_told : (names : Naming) (f : Problem) (bytes : List ℕ) (lines : List Line) (w : Verdict) (bound : Option ℕ) (table : Option (List ℕ)) → bound ≡ bound_of lines → table ≡ last_table lines → cert_stream_to Three (shape_of f) bytes ≡ whole_lines lines → Shows w ≡ cert_outcome_to Three f bytes → picture w (picture_of names f table (record { verdict = w; bound = bound })) ≡ cert_chart names f bytes
-drawn_told names f bytes lines w bound table b t read o =
-    ap (λ (t : Option (List ℕ)). picture w (picture_of names f t (record { verdict = w; bound = bound }))) (t ∙ sym (ap (λ (all : CertLines). last_table all.lines) read))
-    ∙ ap (λ (b : Option ℕ). picture w (picture_of names f (cert_table f bytes) (record { verdict = w; bound = b }))) (b ∙ sym (ap (λ (all : CertLines). bound_of all.lines) read))
-    ∙ ap (outcome_chart names f bytes) o
+abbrev pub DrawnBy : (s : Subject) → (List ℕ → Option (List ℕ)) → List ℕ → Report → Type 0
+DrawnBy s held bytes r = ReportedBy s held (drawn_of s bytes) r
 
-picture_by : {held : List ℕ → Option (List ℕ)} {cert bytes drawn : List ℕ} {w : Verdict} (origin : Origin) → held cert ≡ Some bytes → Draws (origin_subject origin) cert held w drawn → DrawnBy (origin_subject origin) held bytes (picture w drawn)
-picture_by {bytes = bytes} {w = w} origin told says =
-    let s = origin_subject origin in
+-- valid lines of the judged problem that are all of the certificate's
+drawn_told : (names : Naming) (f : Problem) (plan : Option PlanParts) (g : Problem) (bytes : List ℕ) (lines : List Line) (w : Verdict) (bound : Option ℕ) (table : Option (List ℕ)) → bound ≡ bound_of lines → table ≡ last_table lines → cert_stream_to Three (shape_of g) bytes ≡ whole_lines lines → Shows w ≡ cert_outcome_to Three g bytes → picture w (picture_of names f plan table (record { verdict = w; bound = bound })) ≡ judged_chart names f plan g bytes
+drawn_told names f plan g bytes lines w bound table b t read o =
+    ap (λ (t : Option (List ℕ)). picture w (picture_of names f plan t (record { verdict = w; bound = bound }))) (t ∙ sym (ap (λ (all : CertLines). last_table all.lines) read))
+    ∙ ap (λ (b : Option ℕ). picture w (picture_of names f plan (cert_table g bytes) (record { verdict = w; bound = b }))) (b ∙ sym (ap (λ (all : CertLines). bound_of all.lines) read))
+    ∙ ap (outcome_chart names f plan g bytes) o
+
+picture_by : {held : List ℕ → Option (List ℕ)} {cert bytes drawn : List ℕ} {w : Verdict} (s : Subject) → held cert ≡ Some bytes → Draws s cert held w drawn → DrawnBy s held bytes (picture w drawn)
+picture_by {bytes = bytes} {w = w} s told says =
     let v = says.value in
-    let same = unplanned origin v in
     let shown = subst (λ (o : Option (List ℕ)). Shown s v Three o w says.bound says.table) told says.shown in
     record {
       value = v;
       reads = says.reads;
-      report = ap (picture w) says.is_picture ∙ drawn_told (s.naming v) (s.problem v) bytes shown.lines w says.bound says.table shown.last_bound shown.last_table
-          (subst (λ (f : Problem). cert_stream_to Three (shape_of f) bytes ≡ whole_lines shown.lines) same shown.reads)
-          (subst (λ (f : Problem). Shows w ≡ cert_outcome_to Three f bytes) same shown.outcome);
+      report = ap (picture w) says.is_picture ∙ drawn_told (s.naming v) (s.problem v) (s.plan v) (judged s v) bytes shown.lines w says.bound says.table shown.last_bound shown.last_table shown.reads shown.outcome;
     }
 
-outcome_by : {held : List ℕ → Option (List ℕ)} {cert bytes : List ℕ} {o : CertOutcome} {r : Report} (origin : Origin) → held cert ≡ Some bytes → (says : Refused (origin_subject origin) Three cert held o) → r ≡ outcome_chart ((origin_subject origin).naming says.value) ((origin_subject origin).problem says.value) bytes o → DrawnBy (origin_subject origin) held bytes r
-outcome_by {bytes = bytes} {o = o} origin told says is =
-    let s = origin_subject origin in
+outcome_by : {held : List ℕ → Option (List ℕ)} {cert bytes : List ℕ} {o : CertOutcome} {r : Report} (s : Subject) → held cert ≡ Some bytes → (says : Refused s Three cert held o) → r ≡ outcome_chart (s.naming says.value) (s.problem says.value) (s.plan says.value) (judged s says.value) bytes o → DrawnBy s held bytes r
+outcome_by {bytes = bytes} {o = o} s told says is =
     let v = says.value in
     let outcome : o ≡ cert_outcome_to Three (judged s v) bytes = subst (λ (x : Option (List ℕ)). IfSome x (λ bs. o ≡ cert_outcome_to Three (judged s v) bs)) told says.outcome in
-    record { value = v; reads = says.reads; report = is ∙ ap (outcome_chart (s.naming v) (s.problem v) bytes) (subst (λ (f : Problem). o ≡ cert_outcome_to Three f bytes) (unplanned origin v) outcome) }
+    record { value = v; reads = says.reads; report = is ∙ ap (outcome_chart (s.naming v) (s.problem v) (s.plan v) (judged s v) bytes) outcome }
 
-pub decided : (origin : Origin) (cert bytes : List ℕ) (held : List ℕ → Option (List ℕ)) (r : Report) → held cert ≡ Some bytes → Charts (origin_subject origin) cert held r → (origin_subject origin).Refuses held r ⊎ DrawnBy (origin_subject origin) held bytes r
-decided origin cert bytes held (picture w drawn) told says = inr (picture_by origin told says)
-decided origin cert bytes held (checked w bound ships names) told says = absurd says
-decided origin cert bytes held (refused number word hint) told says = inr (outcome_by origin told says refl)
-decided origin cert bytes held (too_long Certificate) told says = inr (outcome_by origin told says refl)
-decided origin cert bytes held r told says = inl says
+pub decided : (s : Subject) (cert bytes : List ℕ) (held : List ℕ → Option (List ℕ)) (r : Report) → held cert ≡ Some bytes → Charts s cert held r → s.Refuses held r ⊎ DrawnBy s held bytes r
+decided s cert bytes held (picture w drawn) told says = inr (picture_by s told says)
+decided s cert bytes held (checked w bound ships names) told says = absurd says
+decided s cert bytes held (refused number word hint) told says = inr (outcome_by s told says refl)
+decided s cert bytes held (too_long Certificate) told says = inr (outcome_by s told says refl)
+decided s cert bytes held r told says = inl says
 
 -- ---- by all the bytes
 
--- one report, where what is held gives one value or one refusal
-one_of : (s : Subject) (held : List ℕ → Option (List ℕ)) (bytes : List ℕ) (r t : Report) → IsDecided s held → s.Refuses held r ⊎ DrawnBy s held bytes r → s.Refuses held t ⊎ DrawnBy s held bytes t → r ≡ t
-one_of s held bytes r t d (inl a) (inl b) = d.one_refusal r t a b
-one_of s held bytes r t d (inl a) (inr b) = absurd (d.apart b.value r b.reads a)
-one_of s held bytes r t d (inr a) (inl b) = absurd (d.apart a.value t a.reads b)
-one_of s held bytes r t d (inr a) (inr b) = a.report ∙ ap (λ (v : s.Value). cert_chart (s.naming v) (s.problem v) bytes) (d.one_value a.value b.value a.reads b.reads) ∙ sym b.report
-
 pub one_chart_law : OneChart
-one_chart_law origin cert held r t all told h g =
+one_chart_law topic cert held r t all told h g =
+    let s = topic_subject topic in
     let bytes = told_bytes (held cert) told in
-    one_of (origin_subject origin) held bytes.0 r t (subjects_decided_law (plainly origin) held all) (decided origin cert bytes.0 held r bytes.1 h) (decided origin cert bytes.0 held t bytes.1 g)
+    one_of s held (drawn_of s bytes.0) r t (subjects_decided_law topic held all) (decided s cert bytes.0 held r bytes.1 h) (decided s cert bytes.0 held t bytes.1 g)
 
 -- ---- a flat text
 
@@ -101,4 +91,4 @@ by_text name text bytes held r told (inr drawn) =
     drawn.report ∙ sym (within text bytes is_text.0 ∙ ap (λ read. read_chart read bytes) is_text.1)
 
 pub texts_decide_law : TextsDecideChart
-texts_decide_law name cert text bytes held r told read says = by_text name text bytes held r told (decided (flat_text name) cert bytes held r read says)
+texts_decide_law name cert text bytes held r told read says = by_text name text bytes held r told (decided (flat_subject name) cert bytes held r read says)

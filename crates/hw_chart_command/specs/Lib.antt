@@ -1,3 +1,4 @@
+pub mod Repairs
 pub mod Charts
 pub mod Drawing
 pub mod Texts

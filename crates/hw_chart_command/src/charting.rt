@@ -2,7 +2,7 @@
 
 ghost use Rattle.hw_desk.specs.State.{IsNewDesk};
 ghost use Rattle.hw_command.specs.Carries.{Carries};
-ghost use Rattle.hw_subject.specs.Subjects.{source_of};
+ghost use Rattle.hw_subject.specs.Subjects.{subject_of};
 ghost use Rattle.hw_chart_command.specs.Charts.{chart_task};
 
 use crate::drawing::draw;
@@ -11,23 +11,20 @@ use hw_chart::Outcome;
 use hw_command::{CertOutcome, LastTable, ReadCert, Status, check_report, finish, read_cert};
 use hw_desk::Desk;
 use hw_report::Names;
-use hw_subject::{Source, Subject, read_subject};
+use hw_subject::{Subject, read_subject};
 use std::alloc::Global;
 
-/// Reads a flat text or a port, checks a certificate of it, of any version, to its end, and sends the
-/// picture of what it shows and of its last timetable: up to 900,000 bytes of a flat text, and up to
-/// 1,600,000 of a port. A certificate that shows nothing is reported as by `verify`.
+/// Reads a flat text or a port, and its plan, if a repair is drawn, checks a certificate of it, of any
+/// version, to its end, and sends the picture of what it shows and of its last timetable: up to
+/// 1,000,000 bytes of a flat text, and up to 1,700,000 of a port. A certificate that shows nothing is
+/// reported as by `verify`.
 ///
 /// Each slot to which a ship alone could move is tried before the first byte is sent; the picture
 /// itself takes no memory. After `WriteFault` a proper prefix of it was sent.
-pub fn chart<D: Desk>(alloc: Global, desk: &mut D, source: Source, cert: &str) -> Status
+pub fn chart<D: Desk>(alloc: Global, desk: &mut D, subject: Subject, cert: &str) -> Status
     requires fresh { IsNewDesk (D.state desk.old) }
-    ensures { Carries (chart_task (source_of source.entry) cert.now) (D.state desk.old) (D.state desk.new) result }
+    ensures { Carries (chart_task (subject_of subject.entry) cert.now) (D.state desk.old) (D.state desk.new) result }
 {
-    let subject = Subject {
-        of: source,
-        plan: None,
-    };
     let given = match read_subject(alloc, desk, subject) {
         Ok(given) => given,
         Err(report) => return finish(desk, &report),
