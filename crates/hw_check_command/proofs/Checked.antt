@@ -1,17 +1,14 @@
 -- A certificate of a subject is checked.
-use Rattle.std.proofs.Common.{◌≡◌, ◌∙◌, ◌++◌, ℕ, List, [], ◌∷◌, Option, None, Result, Ok, Err, false, refl, ap, subst}
-use Rattle.hw_model.specs.Problem.{Problem, shape_of}
-use Rattle.hw_desk.specs.State.{DeskState, IsNewDesk}
+use Rattle.std.proofs.Common.{◌≡◌, ◌++◌, ℕ, List, [], ◌∷◌, Option, None, Result, Ok, Err, false, refl}
+use Rattle.hw_model.specs.Problem.{Problem}
+use Rattle.hw_desk.specs.State.{DeskState}
 use Rattle.hw_desk.specs.declared.desk.Feed.TheVariants.{Certificate}
-use Rattle.hw_desk.specs.declared.desk.Tray.TheVariants as tray
-use Rattle.hw_lines.specs.declared.line.Line.{Line}
 use Rattle.hw_cert.specs.declared.version.Version.{Version}
-use Rattle.hw_cert.specs.Stream.{cert_stream_to}
 use Rattle.hw_report.specs.Reports.{Report}
 use Rattle.hw_command.specs.Carries.{Carries}
-use Rattle.hw_command.specs.Certificates.{cert_outcome_to, report_of}
+use Rattle.hw_command.specs.Certificates.{report_of}
 use Rattle.hw_command.specs.Ends.{Ends}
-use Rattle.hw_command.specs.Readings.{KeepsNone, ReadsCert, ReadsLines}
+use Rattle.hw_command.specs.Readings.{KeepsNone, ReadsCert}
 use Rattle.hw_command.specs.Scope.{named}
 use Rattle.hw_command.specs.Works.{Works, is_common}
 use Rattle.hw_command.specs.declared.cert.ReadCert.{ReadCert}
@@ -20,40 +17,16 @@ use Rattle.hw_command.specs.declared.outcome.CertStop.TheVariants.{Fault, NoMemo
 use Rattle.hw_command.specs.declared.status.Status.{Status}
 use Rattle.hw_command.proofs.CertWorks.{cert_works}
 use Rattle.hw_command.proofs.Stops.{stops_carries}
-use Rattle.hw_repair.specs.declared.plan.Wish.{Wish}
-use Rattle.hw_subject.specs.Meanings.{IsModelled, judged, ships_of}
+use Rattle.hw_subject.specs.Checks.{Checks, check_task}
+use Rattle.hw_subject.specs.Meanings.{ships_of}
 use Rattle.hw_subject.specs.Reading.{ReadsSubject, StopsAtSubject, naming_of, plan_in, searched_in}
-use Rattle.hw_subject.specs.Subjects.{Subject, Topic, topic_subject}
+use Rattle.hw_subject.specs.Subjects.{Topic, topic_subject}
 use Rattle.hw_subject.specs.declared.subject.Given.{Given}
-use Rattle.hw_subject.proofs.Modelled.{subjects_modelled_law}
+use Rattle.hw_subject.proofs.Certified.{counted, judged_lines, modelled}
+use Rattle.hw_subject.proofs.Certless.{certless, refuses_on}
 use Rattle.hw_subject.proofs.Readings.{before_last}
-use Rattle.hw_check_command.specs.Checks.{Checks, check_task}
+use Rattle.hw_subject.proofs.Shows.{outcome_says}
 use Rattle.hw_check_command.specs.Reported.{bound_in, report_of_reading}
-use Rattle.hw_check_command.proofs.Certless.{certless, refuses_on}
-use Rattle.hw_check_command.proofs.Shows.{outcome_says}
-
--- ---- what was given
-
--- the certificate isn't begun yet
-pub unread : (topic : Topic) {x y : DeskState} {given : Given} → IsNewDesk x → ReadsSubject (topic_subject topic) x y given → (y.feeds Certificate).begun ≡ false
-unread topic new h = ap (λ feed. feed.begun) (h.entered.begins.others Certificate (certless topic).unread) ∙ new.feeds Certificate
-
--- Proof isn't made yet
-pub unmade : (topic : Topic) {x y : DeskState} {given : Given} → IsNewDesk x → ReadsSubject (topic_subject topic) x y given → (y.trays tray.Proof).made ≡ false
-unmade topic new h = ap (λ trays. (trays tray.Proof).made) h.entered.trays ∙ new.trays tray.Proof
-
--- the number of ships that is told
-pub counted : {s : Subject} {x y : DeskState} {given : Given} → (h : ReadsSubject s x y given) → ships_of given.flat (plan_in given.repair) ≡ ships_of (s.problem h.value) (s.plan h.value)
-counted {s = s} {given = given} h = ap (λ (f : Problem). ships_of f (plan_in given.repair)) h.problem ∙ ap (λ (plan : Option (List Wish)). ships_of (s.problem h.value) plan) h.plan
-
-pub modelled : (topic : Topic) {x y : DeskState} {given : Given} → (h : ReadsSubject (topic_subject topic) x y given) → IsModelled (topic_subject topic) h.value
-modelled topic {x = x} h = subjects_modelled_law topic x.held h.value h.reads
-
--- what was read of the certificate, by the judged problem and the bytes held at first
-pub judged_lines : (s : Subject) {K : Type 0} {Kept : K → List Line → Type 0} {most : Version} {cert : List ℕ} {x y z : DeskState} {given : Given} {read : ReadCert K} → (h : ReadsSubject s x y given) → ReadsCert most Kept (searched_in given.flat given.repair) cert y z (Ok read) → ReadsLines most Kept (judged s h.value) (x.held cert) (cert_outcome_to most (judged s h.value)) (cert_stream_to most (shape_of (judged s h.value))) read
-judged_lines s {Kept = Kept} {most = most} {cert = cert} {y = y} {z = z} {read = read} h m =
-    let own = subst (λ (f : Problem). ReadsCert most Kept f cert y z (Ok read)) h.searched m in
-    subst (λ (told : Option (List ℕ)). ReadsLines most Kept (judged s h.value) told (cert_outcome_to most (judged s h.value)) (cert_stream_to most (shape_of (judged s h.value))) read) (ap (λ held. held cert) h.entered.begins.held) own.reads.1
 
 -- ---- what the report says, and the work up to it
 

@@ -1,11 +1,3 @@
-pub mod Shows
-pub mod Certless
-pub mod Checked
+mod Checked
 pub mod Rewritten
 pub mod Renewed
-pub mod OnePort
-pub mod OneFlat
-pub mod Planned
-pub mod Decided
-pub mod Reports
-pub mod SameLines

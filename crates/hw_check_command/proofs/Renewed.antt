@@ -26,22 +26,24 @@ use Rattle.hw_subject.specs.Reading.{ReadsSubject, StopsAtSubject, naming_of, pl
 use Rattle.hw_subject.specs.Subjects.{Subject, Topic, topic_subject}
 use Rattle.hw_subject.specs.declared.subject.Given.{Given}
 use Rattle.hw_subject.proofs.Readings.{before_last}
-use Rattle.hw_check_command.specs.Checks.{Checks}
+use Rattle.hw_subject.specs.Checks.{Checks}
+use Rattle.hw_check_command.specs.Laws.{RenewedAsChecked}
 use Rattle.hw_check_command.specs.Renews.{Renews, renew_task}
-use Rattle.hw_check_command.specs.Shown.{Shown}
+use Rattle.hw_subject.specs.Shown.{Shown}
 use Rattle.hw_check_command.specs.Reported.{report_of_reading}
 use Rattle.hw_check_command.specs.Rewriting.{ReadsOrRewrites, Rewrites, RenewsTo, report_of_renewal}
 use Rattle.hw_check_command.specs.declared.renewing.Renewal.{Renewal}
 use Rattle.hw_check_command.specs.declared.renewing.Renewal.TheVariants.{Checked, WriteFailed}
-use Rattle.hw_check_command.proofs.Certless.{certless, refuses_on}
-use Rattle.hw_check_command.proofs.Checked.{counted, modelled, read_says, reading_works}
-use Rattle.hw_check_command.proofs.Shows.{ReadsOf, shown_of}
+use Rattle.hw_subject.proofs.Certless.{certless, refuses_on}
+use Rattle.hw_subject.proofs.Certified.{counted, modelled}
+use Rattle.hw_check_command.proofs.Checked.{read_says, reading_works}
+use Rattle.hw_subject.proofs.Shows.{ReadsOf, shown_of}
 
 -- ---- what is said
 
 -- why there is no subject is said as after a check
 renews_on : (topic : Topic) (cert proof : List ℕ) (x y : DeskState) (r : Report) → (topic_subject topic).Refuses x.held r → Renews (topic_subject topic) cert proof x y r
-renews_on topic cert proof x y (checked w bound ships names) h = absurd ((certless topic).checked x.held w bound ships names h)
+renews_on topic cert proof x y (checked w bound ships names) h = absurd ((certless topic).silent x.held (checked w bound ships names) h refl)
 renews_on topic cert proof x y r h = refuses_on (topic_subject topic) Two cert x.held r (certless topic) h
 
 -- the lines were those of the judged problem
@@ -136,3 +138,12 @@ renew_meets topic {proof = proof} {given = given} z (Checked (Err NoMemory)) h k
   ends = ends;
 }
 renew_meets topic z WriteFailed h k ends = broke topic z k.0 k.1 h k.2 ends
+
+-- ---- its report is one of a check
+
+renewed_checks : (s : Subject) (cert proof : List ℕ) (old new : DeskState) (r : Report) → Renews s cert proof old new r → Checks s Two cert old.held r
+renewed_checks s cert proof old new (checked w bound ships names) h = h.checked
+renewed_checks s cert proof old new r h = h
+
+pub renewed_as_checked_law : RenewedAsChecked
+renewed_as_checked_law topic cert proof old new r h = renewed_checks (topic_subject topic) cert proof old new r h

@@ -1,57 +1,12 @@
--- The laws of reports on certificates.
-use Rattle.std.specs.Prelude.{◌≡◌, ◌⊎◌, ℕ, List, [], ◌∷◌, ◌++◌, Option, Some, None, IsSome, ⊤, codes}
+-- The law of certificates that are renewed.
+use Rattle.std.specs.Prelude.{ℕ, List}
 use Rattle.hw_desk.specs.State.{DeskState}
-use Rattle.hw_cert.specs.declared.version.Version.{Version}
-use Rattle.hw_cert.specs.declared.version.Version.TheVariants.{Two, Three}
+use Rattle.hw_cert.specs.declared.version.Version.TheVariants.{Two}
 use Rattle.hw_report.specs.Reports.{Report}
-use Rattle.hw_command.specs.Scope.{Named}
-use Rattle.hw_subject.specs.Subjects.{Subject, Topic, topic_subject, flat_subject, repair_of}
-use Rattle.hw_check_command.specs.Checks.{Checks}
+use Rattle.hw_subject.specs.Checks.{Checks}
+use Rattle.hw_subject.specs.Subjects.{Topic, topic_subject}
 use Rattle.hw_check_command.specs.Renews.{Renews}
-use Rattle.hw_check_command.specs.Texts.{cert_report, texts_report}
-
--- the bytes of these inputs are told
-abbrev pub AllTold : (List ℕ → Option (List ℕ)) → List Named → Type 0
-AllTold held [] = ⊤
-AllTold held (input ∷ more) = IsSome (held input.name) × AllTold held more
-
--- what the inputs hold gives one value at most, or one refusal, and never both
-pub record IsDecided (s : Subject) (held : List ℕ → Option (List ℕ)) : Type 0 where
-  pub one_value : (v w : s.Value) → s.Reads held v → s.Reads held w → v ≡ w
-  pub one_refusal : (r t : Report) → s.Refuses held r → s.Refuses held t → r ≡ t
-  pub apart : (v : s.Value) (r : Report) → s.Reads held v → s.Refuses held r → ⊥
-
--- where all inputs are told, whatever the subject
-abbrev pub SubjectsDecided : Type 0
-SubjectsDecided = (topic : Topic) (held : List ℕ → Option (List ℕ)) → AllTold held (topic_subject topic).inputs → IsDecided (topic_subject topic) held
-
--- what is read of the inputs, each where it is told, by which the certificate's bytes decide the report
-pub record DecidedBy (s : Subject) (most : Version) (held : List ℕ → Option (List ℕ)) (bytes : List ℕ) (r : Report) : Type 0 where
-  pub value : s.Value
-  pub reads : s.Reads held value
-  pub report : r ≡ cert_report most (s.naming value) (s.problem value) (s.plan value) bytes
-
--- where the certificate is told, a report tells why there is no value, or is decided by the value and by the certificate's bytes
-abbrev pub CertificatesDecide : Type 0
-CertificatesDecide = (topic : Topic) (most : Version) (cert bytes : List ℕ) (held : List ℕ → Option (List ℕ)) (r : Report) → held cert ≡ Some bytes → Checks (topic_subject topic) most cert held r → (topic_subject topic).Refuses held r ⊎ DecidedBy (topic_subject topic) most held bytes r
-
--- where all inputs and the certificate are told, their bytes decide the report, unless a call fails or memory runs out
-abbrev pub OneReport : Type 0
-OneReport = (topic : Topic) (most : Version) (cert : List ℕ) (held : List ℕ → Option (List ℕ)) (r t : Report) → AllTold held (topic_subject topic).inputs → IsSome (held cert) → Checks (topic_subject topic) most cert held r → Checks (topic_subject topic) most cert held t → r ≡ t
 
 -- a report of `renew` is one of `check`
 abbrev pub RenewedAsChecked : Type 0
 RenewedAsChecked = (topic : Topic) (cert proof : List ℕ) (old new : DeskState) (r : Report) → Renews (topic_subject topic) cert proof old new r → Checks (topic_subject topic) Two cert old.held r
-
--- of a flat text, or of the repair of its plan, the report is the one that a function computes from the bytes
-pub record TextsDecide : Type 0 where
-  pub flat : (name cert text bytes : List ℕ) (most : Version) (held : List ℕ → Option (List ℕ)) (r : Report) → held name ≡ Some text → held cert ≡ Some bytes → Checks (flat_subject name) most cert held r → r ≡ texts_report most text None bytes
-  pub repair : (name plan cert text moved bytes : List ℕ) (most : Version) (held : List ℕ → Option (List ℕ)) (r : Report) → held name ≡ Some text → held plan ≡ Some moved → held cert ≡ Some bytes → Checks (repair_of (flat_subject name) plan) most cert held r → r ≡ texts_report most text (Some moved) bytes
-
--- the first line of the bytes names the third version
-abbrev pub NamesThird : List ℕ → Type 0
-NamesThird bytes = (more : List ℕ) × (bytes ≡ codes "cert 3\n" ++ more)
-
--- of the same bytes `verify` reports what `check` does, unless the certificate names the third version
-abbrev pub VerifiedAsChecked : Type 0
-VerifiedAsChecked = (topic : Topic) (cert bytes : List ℕ) (held : List ℕ → Option (List ℕ)) (r t : Report) → AllTold held (topic_subject topic).inputs → held cert ≡ Some bytes → Checks (topic_subject topic) Two cert held r → Checks (topic_subject topic) Three cert held t → NamesThird bytes ⊎ (t ≡ r)

@@ -1,8 +1,5 @@
-pub mod Shown
-pub mod Checks
 pub mod Renewing
 pub mod Renews
-pub mod Texts
 pub mod Reported
 pub mod Rewriting
 pub mod Laws

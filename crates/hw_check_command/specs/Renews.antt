@@ -12,9 +12,9 @@ use Rattle.hw_command.specs.Scope.{named, MakesProof}
 use Rattle.hw_command.specs.Sending.{IsCutOf}
 use Rattle.hw_subject.specs.Meanings.{judged}
 use Rattle.hw_subject.specs.Subjects.{Subject}
-use Rattle.hw_check_command.specs.Checks.{Checked, Checks}
+use Rattle.hw_subject.specs.Checks.{Checked, Checks}
 use Rattle.hw_check_command.specs.Renewing.{HasVerdict, renewed_text}
-use Rattle.hw_check_command.specs.Shown.{Shown}
+use Rattle.hw_subject.specs.Shown.{Shown}
 
 -- what a check says, and the certificate's lines, renewed, show the same. Proof was made, and holds their text, where it is told
 pub record Renewed (s : Subject) (cert proof : List ℕ) (old new : DeskState) (shows : Verdict) (bound ships : Option ℕ) (names : Naming) : Type 0 where

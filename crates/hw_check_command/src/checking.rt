@@ -8,7 +8,7 @@ ghost use Rattle.hw_command.specs.Carries.{Carries};
 ghost use Rattle.hw_subject.specs.Meanings.{ships_of};
 ghost use Rattle.hw_subject.specs.Reading.{naming_of, plan_in};
 ghost use Rattle.hw_subject.specs.Subjects.{subject_of};
-ghost use Rattle.hw_check_command.specs.Checks.{check_task};
+ghost use Rattle.hw_subject.specs.Checks.{check_task};
 ghost use Rattle.hw_check_command.specs.Reported.{report_of_reading};
 
 use hw_cert::Version;

@@ -10,8 +10,5 @@ mod laws;
 mod renewing;
 
 pub use checking::{check, verify};
-pub use laws::{
-    certificates_decide, one_report, renewed_as_checked, subjects_decided, texts_decide,
-    verified_as_checked,
-};
+pub use laws::renewed_as_checked;
 pub use renewing::renew;

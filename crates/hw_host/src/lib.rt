@@ -1,15 +1,10 @@
-//! The edge of the program: files and standard output as a desk, and what the program does from its
-//! command line to its exit code.
+//! The edge of the program: files and standard output as a desk.
 #![tactic(auto)]
 
 mod files;
-mod help;
 mod host;
-mod info;
 mod output;
-mod words;
 
 pub use files::{FileId, HostFile};
 pub use host::HostDesk;
 pub use output::Output;
-pub use words::end_of;

@@ -1,4 +1,5 @@
 mod Carried
 pub mod Decided
+pub mod OfPort
 mod Tabled
 pub mod Told

@@ -1,11 +1,13 @@
 -- The laws of listings and of tables.
-use Rattle.std.specs.Prelude.{◌≡◌, ℕ, List, Option, IsSome}
+use Rattle.std.specs.Prelude.{◌≡◌, ◌↔◌, ℕ, List, Option, IsSome}
 use Rattle.hw_cert.specs.declared.version.Version.TheVariants.{Three}
 use Rattle.hw_report.specs.Reports.{Report, checked, picture}
-use Rattle.hw_subject.specs.Subjects.{Origin, Topic, origin_subject, topic_subject}
-use Rattle.hw_check_command.specs.Checks.{Checks}
-use Rattle.hw_check_command.specs.Laws.{AllTold}
-use Rattle.hw_listing_command.specs.Listings.{Lists}
+use Rattle.hw_subject.specs.Subjects.{Origin, Topic, origin_subject, port_subject, topic_subject}
+use Rattle.hw_subject.specs.Checks.{Checks}
+use Rattle.hw_subject.specs.Decided.{AllTold}
+use Rattle.hw_listing_command.specs.ExplainPort.{ExplainsTexts}
+use Rattle.hw_listing_command.specs.Flattening.{FlattensTexts}
+use Rattle.hw_listing_command.specs.Listings.{Lists, flat_text_of, words_of}
 use Rattle.hw_listing_command.specs.Tables.{Tables, table_of}
 
 -- where all inputs are told, their bytes decide the report, whatever text is listed, unless a call fails or memory runs out
@@ -24,3 +26,11 @@ IsTableAs c r = r ≡ c
 -- of the same told bytes `table` shows what `verify` shows, and refuses what `verify` refuses, unless a call fails or memory runs out
 abbrev pub TablesAsVerified : Type 0
 TablesAsVerified = (topic : Topic) (cert : List ℕ) (held : List ℕ → Option (List ℕ)) (c r : Report) → AllTold held (topic_subject topic).inputs → IsSome (held cert) → Checks (topic_subject topic) Three cert held c → Tables (topic_subject topic) cert held r → IsTableAs c r
+
+-- what `flatten` lists, both ways in the words of a port's flat text
+abbrev pub FlattensAsListed : Type 0
+FlattensAsListed = (instance table : List ℕ) (held : List ℕ → Option (List ℕ)) (r : Report) → Lists (port_subject instance table) flat_text_of held r ↔ FlattensTexts (held instance) (held table) r
+
+-- what `explain port` lists, both ways in the words of a port's restrictions
+abbrev pub ExplainsAsListed : Type 0
+ExplainsAsListed = (instance table : List ℕ) (held : List ℕ → Option (List ℕ)) (r : Report) → Lists (port_subject instance table) words_of held r ↔ ExplainsTexts (held instance) (held table) r

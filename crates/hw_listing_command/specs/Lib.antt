@@ -1,4 +1,6 @@
 pub mod Listings
 pub mod Listed
 pub mod Tables
+pub mod Flattening
+pub mod ExplainPort
 pub mod Laws

@@ -1,11 +1,17 @@
 -- Commands whose report is a text that is a function of what is read.
 use Rattle.std.specs.Prelude.{◌≡◌, ℕ, List, Option, None, Some}
 use Rattle.hw_desk.specs.State.{DeskState}
+use Rattle.hw_model.specs.Problem.{Problem}
+use Rattle.hw_flat.specs.TextWritten.{problem_text}
+use Rattle.hw_port_rules.specs.Flattened.{flattened}
 use Rattle.hw_windows.specs.Windows.{windows_text}
+use Rattle.hw_explain.specs.Lines.{explained}
 use Rattle.hw_linear.specs.Texts.{lp_text, opb_text}
+use Rattle.hw_linear.specs.declared.format.Format.{Format}
+use Rattle.hw_linear.specs.declared.format.Format.TheVariants.{Lp, Opb}
 use Rattle.hw_report.specs.Reports.{Report, whole_text}
 use Rattle.hw_command.specs.Carries.{Task, one_report}
-use Rattle.hw_subject.specs.Subjects.{Subject, port_subject}
+use Rattle.hw_subject.specs.Subjects.{Subject, Harbour, port_subject}
 
 -- the text of what is read of the inputs, each where it is told
 pub record IsListed (s : Subject) (text : s.Value → List ℕ) (held : List ℕ → Option (List ℕ)) (listed : List ℕ) : Type 0 where
@@ -30,14 +36,38 @@ listing_task s text = record {
   Says = one_report (λ old new. ListSays s text old);
 }
 
--- when each ship of a port may sail, and why not
+-- ---- of a port
+
+abbrev pub port_task : List ℕ → List ℕ → (Harbour → List ℕ) → Task
+port_task instance table text = listing_task (port_subject instance table) text
+
+-- when each ship may sail, and why not
+abbrev pub windows_of : Harbour → List ℕ
+windows_of v = windows_text v.port v.tide
+
 abbrev pub windows_task : List ℕ → List ℕ → Task
-windows_task instance table = listing_task (port_subject instance table) (λ v. windows_text v.port v.tide)
+windows_task instance table = port_task instance table windows_of
 
--- the linear programme of the problem, in the LP format
-abbrev pub model_task : Subject → Task
-model_task s = listing_task s (λ v. lp_text (s.problem v))
+-- its restrictions in its own words, by their numbers in its flat problem
+abbrev pub words_of : Harbour → List ℕ
+words_of v = explained v.port
 
--- and in the OPB format
-abbrev pub opb_task : Subject → Task
-opb_task s = listing_task s (λ v. opb_text (s.problem v))
+abbrev pub explain_port_task : List ℕ → List ℕ → Task
+explain_port_task instance table = port_task instance table words_of
+
+-- its flat text
+abbrev pub flat_text_of : Harbour → List ℕ
+flat_text_of v = problem_text (flattened v.port v.tide)
+
+abbrev pub flatten_task : List ℕ → List ℕ → Task
+flatten_task instance table = port_task instance table flat_text_of
+
+-- ---- of a flat text or a port
+
+-- the linear programme of the problem
+abbrev pub programme_text : Format → Problem → List ℕ
+programme_text Lp f = lp_text f
+programme_text Opb f = opb_text f
+
+abbrev pub model_task : Subject → Format → Task
+model_task s format = listing_task s (λ v. programme_text format (s.problem v))

@@ -9,8 +9,8 @@ use Rattle.hw_report.specs.Reports.{Report, Naming, by_number, by_name, checked,
 use Rattle.hw_command.specs.Carries.{Task, one_report}
 use Rattle.hw_command.specs.Scope.{named}
 use Rattle.hw_subject.specs.Subjects.{Subject}
-use Rattle.hw_check_command.specs.Checks.{Checks}
-use Rattle.hw_check_command.specs.Shown.{Shown}
+use Rattle.hw_subject.specs.Checks.{Checks}
+use Rattle.hw_subject.specs.Shown.{Shown}
 
 -- the table of the port by whose names ships are reported, with a timetable or none. A flat text, whose ships have neither names nor drafts, has no table
 abbrev pub table_of : Naming → Option (List ℕ) → List ℕ

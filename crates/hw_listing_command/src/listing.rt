@@ -1,25 +1,30 @@
 //! A text of what was read is sent.
 
-ghost use Rattle.std.specs.Prelude.{◌∷◌, [], option_map};
+ghost use Rattle.std.specs.Prelude.{◌≡◌, ◌∷◌, [], option_map};
 ghost use Rattle.hw_desk.specs.Whole.{SendsText};
 ghost use Rattle.hw_desk.specs.Writers.{Puts};
+ghost use Rattle.hw_report.specs.Printing.{CanPrint};
 ghost use Rattle.hw_report.specs.Reports.{whole_text};
+ghost use Rattle.hw_report.specs.Seen.{report_seen};
 ghost use Rattle.hw_command.specs.Ends.{Ends};
 ghost use Rattle.hw_subject.specs.Reading.{naming_of};
-ghost use Rattle.hw_listing_command.specs.Listed.{CanList, HasTable, listing_text};
+ghost use Rattle.hw_listing_command.specs.Listed.{CanList, HasTable, held_report, listing_text};
+ghost use Rattle.hw_listing_command.specs.Listings.{programme_text};
 ghost use Rattle.hw_listing_command.specs.Tables.{table_of};
 
-use hw_command::Status;
+use hw_command::{Status, finish};
 use hw_desk::{Desk, DeskFailed, Tray, TrayWriter, Writer};
 use hw_flat::{Flat, Timetable};
-use hw_linear::{put_model, put_opb};
+use hw_linear::{Format, put_model, put_opb};
+use hw_model::NoMemory;
 use hw_port::Port;
+use hw_report::Report;
 use hw_subject::Named;
 use hw_table::put_table;
 use hw_tide::Tide;
 use hw_windows::put_windows;
 
-/// What is listed.
+/// What is listed without memory.
 #[derive(Clone, Copy)]
 pub(crate) enum Listing<'g> {
     /// When each ship of a port may sail.
@@ -27,13 +32,10 @@ pub(crate) enum Listing<'g> {
         port: &'g Port,
         tide: &'g Tide,
     },
-    /// The linear programme of a problem, in the LP format.
+    /// The linear programme of a problem.
     Model {
         flat: &'g Flat,
-    },
-    /// The same in the OPB format.
-    Opb {
-        flat: &'g Flat,
+        format: Format,
     },
     /// The table of a port's plan, with a timetable or none.
     Table {
@@ -53,6 +55,24 @@ pub(crate) fn list<D: Desk>(desk: &mut D, listing: Listing) -> Status
     }
 }
 
+/// Sends a text that was made in memory, or reports that it ran out.
+pub(crate) fn list_held<D: Desk>(desk: &mut D, text: &Result<Vec<u8>, NoMemory>) -> Status
+    ensures { Ends (held_report text.now ∷ []) (D.state desk.old) (D.state desk.new) result }
+{
+    match text {
+        Ok(text) => finish(desk, &whole_report(text)),
+        Err(_) => finish(desk, &Report::Memory),
+    }
+}
+
+/// The report that is a text.
+fn whole_report(text: &[u8]) -> Report
+    ensures value { report_seen result ≡ whole_text text.now }
+    ensures printed { CanPrint (report_seen result) }
+{
+    Report::WholeText { text }
+}
+
 /// Sends its text. It takes no memory.
 pub(crate) fn send_listing<D: Desk>(desk: &mut D, listing: Listing) -> Result<(), DeskFailed>
     requires { CanList listing }
@@ -70,9 +90,18 @@ fn put_listing<W: Writer>(out: &mut W, listing: Listing)
 {
     match listing {
         Listing::Windows { port, tide } => put_windows(out, port, tide),
-        Listing::Model { flat } => put_model(out, flat),
-        Listing::Opb { flat } => put_opb(out, flat),
+        Listing::Model { flat, format } => put_programme(out, flat, format),
         Listing::Table { named, table } => put_plan(out, named, table),
+    }
+}
+
+/// Puts the linear programme of a problem.
+fn put_programme<W: Writer>(out: &mut W, flat: &Flat, format: Format)
+    ensures { Puts (programme_text format flat.now) (W.state out.old) (W.state out.new) }
+{
+    match format {
+        Format::Lp => put_model(out, flat),
+        Format::Opb => put_opb(out, flat),
     }
 }
 

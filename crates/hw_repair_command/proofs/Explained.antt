@@ -8,36 +8,31 @@ use Rattle.hw_desk.specs.declared.desk.Feed.TheVariants.{Certificate}
 use Rattle.hw_lines.specs.declared.check.Verdict.{Verdict}
 use Rattle.hw_cert.specs.declared.version.Version.TheVariants.{Three}
 use Rattle.hw_repair.specs.Repaired.{repaired}
-use Rattle.hw_repair.specs.Wishes.{PlanFits}
-use Rattle.hw_repair.specs.declared.plan.Wish.{Wish}
+use Rattle.hw_repair.specs.Wishes.{PlanParts, PlanFits}
 use Rattle.hw_report.specs.Reports.{Report, Naming, by_number, checked, refused, too_long, whole_text}
 use Rattle.hw_command.specs.Carries.{Carries}
-use Rattle.hw_command.specs.Certificates.{report_of, report_of_check}
+use Rattle.hw_command.specs.Certificates.{report_of_check}
 use Rattle.hw_command.specs.Ends.{Ends}
 use Rattle.hw_command.specs.Readings.{KeepsTable, ReadsCert, outcome_in}
-use Rattle.hw_command.specs.Scope.{Entered, named}
-use Rattle.hw_command.specs.Works.{ReadCauseOf, is_common, speaks, of_answer}
+use Rattle.hw_command.specs.Scope.{named}
+use Rattle.hw_command.specs.Works.{ReadCauseOf, speaks, of_answer}
 use Rattle.hw_command.specs.declared.cert.ReadCert.{ReadCert}
-use Rattle.hw_command.specs.declared.outcome.CertOutcome.{CertOutcome}
-use Rattle.hw_command.specs.declared.outcome.CertOutcome.TheVariants.{Shows, Wrong, TooLong}
+use Rattle.hw_command.specs.declared.outcome.CertOutcome.TheVariants.{Shows}
 use Rattle.hw_command.specs.declared.outcome.CertStop.{CertStop}
-use Rattle.hw_command.specs.declared.outcome.CertStop.TheVariants.{Fault, NoMemory}
 use Rattle.hw_command.specs.declared.status.Status.{Status}
 use Rattle.hw_command.specs.declared.taking.LastTable.{LastTable}
-use Rattle.hw_command.proofs.Begun.{entered_on, answers}
-use Rattle.hw_command.proofs.CertWorks.{cert_works}
+use Rattle.hw_command.proofs.Begun.{answers}
 use Rattle.hw_command.proofs.Stops.{stops_carries}
 use Rattle.hw_command.proofs.Told.{told_map}
 use Rattle.hw_subject.specs.Meanings.{judged}
 use Rattle.hw_subject.specs.Reading.{ReadsSubject, StopsAtSubject, naming_of, plan_in, searched_in}
-use Rattle.hw_subject.specs.Subjects.{Subject, Origin, flat_text, port_of, origin_subject, repair_of, Topic}
+use Rattle.hw_subject.specs.Subjects.{Subject, Origin, origin_subject, repair_of, Topic}
 use Rattle.hw_subject.specs.declared.subject.Given.{Given}
 use Rattle.hw_subject.proofs.Readings.{before_last}
 use Rattle.hw_subject.proofs.Shown.{last_permitted}
-use Rattle.hw_check_command.specs.Shown.{Shown}
-use Rattle.hw_check_command.proofs.Certless.{certless, refuses_on}
-use Rattle.hw_check_command.proofs.Checked.{judged_lines, modelled}
-use Rattle.hw_check_command.proofs.Shows.{ReadsOf, shown_of}
+use Rattle.hw_subject.specs.Shown.{Shown}
+use Rattle.hw_subject.proofs.Certless.{certless, refuses_on}
+use Rattle.hw_subject.proofs.Certified.{ShowsNothing, all_entered, modelled, nothing_says, nothing_works, shown}
 use Rattle.hw_repair_command.specs.Explains.{Explains, explain_repair_task}
 use Rattle.hw_repair_command.specs.Texts.{told_report}
 
@@ -50,35 +45,11 @@ topic_of origin plan = record { origin = origin; plan = Some plan }
 abbrev pub subject_by : Origin → List ℕ → Subject
 subject_by origin plan = repair_of (origin_subject origin) plan
 
--- it is refused by no text
-untold : (origin : Origin) (plan : List ℕ) (held : List ℕ → Option (List ℕ)) (told : List ℕ) → (subject_by origin plan).Refuses held (whole_text told) → ⊥
-untold (flat_text name) plan held told h = h
-untold (port_of instance table) plan held told h = h
-
 -- why it is refused is what is said
 pub refused_says : (origin : Origin) (plan cert : List ℕ) (held : List ℕ → Option (List ℕ)) (r : Report) → (subject_by origin plan).Refuses held r → Explains (subject_by origin plan) cert held r
-refused_says origin plan cert held (whole_text told) h = absurd (untold origin plan held told h)
-refused_says origin plan cert held (checked w bound ships names) h = absurd ((certless (topic_of origin plan)).checked held w bound ships names h)
+refused_says origin plan cert held (whole_text told) h = absurd ((certless (topic_of origin plan)).silent held (whole_text told) h refl)
+refused_says origin plan cert held (checked w bound ships names) h = absurd ((certless (topic_of origin plan)).silent held (checked w bound ships names) h refl)
 refused_says origin plan cert held r h = refuses_on (subject_by origin plan) Three cert held r (certless (topic_of origin plan)) h
-
--- ---- the certificate
-
--- all inputs were begun
-all_entered : (origin : Origin) (plan : List ℕ) {cert : List ℕ} {x y z : DeskState} {given : Given} {result : Result (ReadCert LastTable) CertStop} {f : Problem} → ReadsSubject (subject_by origin plan) x y given → ReadsCert Three KeepsTable f cert y z result → Entered ((subject_by origin plan).inputs ++ named Certificate cert ∷ []) x z
-all_entered origin plan h k = entered_on (subject_by origin plan).inputs h.entered k.enters (certless (topic_of origin plan)).unread
-
--- what was read of it before this outcome
-keeps : {s : Subject} {cert : List ℕ} {x y z : DeskState} {given : Given} {read : ReadCert LastTable} (o : CertOutcome) → read.outcome ≡ o → (h : ReadsSubject s x y given) → (k : ReadsCert Three KeepsTable (searched_in given.flat given.repair) cert y z (Ok read)) → ReadsOf s h.value Three (x.held cert) (judged_lines s h k).lines o
-keeps {s = s} {cert = cert} {x = x} o e h k =
-    let lines = judged_lines s h k in
-    subst (ReadsOf s h.value Three (x.held cert) lines.lines) e lines.keeps
-
--- what it shows
-pub shown : {cert : List ℕ} {x y z : DeskState} {given : Given} {read : ReadCert LastTable} (origin : Origin) (plan : List ℕ) (w : Verdict) → read.outcome ≡ Shows w → (h : ReadsSubject (subject_by origin plan) x y given) → ReadsCert Three KeepsTable (searched_in given.flat given.repair) cert y z (Ok read) → Shown (subject_by origin plan) h.value Three (x.held cert) w read.bound read.kept.0
-shown {cert = cert} {x = x} {read = read} origin plan w e h k =
-    let s = subject_by origin plan in
-    let lines = judged_lines s h k in
-    subst (λ (table : Option (List ℕ)). Shown s h.value Three (x.held cert) w read.bound table) (sym lines.kept) (shown_of s h.value Three (x.held cert) lines.lines w read.bound (modelled (topic_of origin plan) h) lines.formed lines.last (keeps (Shows w) e h k))
 
 -- ---- the exits
 
@@ -87,30 +58,14 @@ pub explain_stops : {x y z : DeskState} {r : Report} {s : Status} (origin : Orig
 explain_stops {x = x} {r = r} origin plan cert h ends = stops_carries (explain_repair_task (subject_by origin plan) cert) (named Certificate cert ∷ []) h refl (λ feed given. given) (refused_says origin plan cert x.held r) ends
 
 -- the certificate shows nothing
-abbrev pub ShowsNothing : Result (ReadCert LastTable) CertStop → Type 0
-ShowsNothing (Ok read) = (v : Verdict) → read.outcome ≡ Shows v → ⊥
-ShowsNothing (Err stop) = Unit {0}
-
-outcome_says : {cert : List ℕ} {x y z : DeskState} {given : Given} {read : ReadCert LastTable} (origin : Origin) (plan : List ℕ) (o : CertOutcome) → read.outcome ≡ o → ((v : Verdict) → read.outcome ≡ Shows v → ⊥) → ReadsSubject (subject_by origin plan) x y given → ReadsCert Three KeepsTable (searched_in given.flat given.repair) cert y z (Ok read) → Explains (subject_by origin plan) cert x.held (report_of by_number None None o)
-outcome_says origin plan (Shows v) e nothing h k = absurd (nothing v e)
-outcome_says origin plan (Wrong number word hint) e nothing h k = record { value = h.value; reads = h.reads; outcome = (keeps (Wrong number word hint) e h k).comes }
-outcome_says origin plan TooLong e nothing h k = record { value = h.value; reads = h.reads; outcome = (keeps TooLong e h k).comes }
-
-nothing_says : {cert : List ℕ} {x y z : DeskState} {given : Given} (origin : Origin) (plan : List ℕ) (result : Result (ReadCert LastTable) CertStop) → ShowsNothing result → ReadsSubject (subject_by origin plan) x y given → ReadsCert Three KeepsTable (searched_in given.flat given.repair) cert y z result → is_common (report_of_check by_number None None (outcome_in result)) ≡ false → Explains (subject_by origin plan) cert x.held (report_of_check by_number None None (outcome_in result))
-nothing_says origin plan (Ok read) nothing h k own = outcome_says origin plan read.outcome refl nothing h k
-nothing_says origin plan (Err Fault) nothing h k own = absurd (cc)
-nothing_says origin plan (Err NoMemory) nothing h k own = absurd (cc)
-
 pub explain_refuses : {cert : List ℕ} {x y z end : DeskState} {given : Given} {s : Status} (origin : Origin) (plan : List ℕ) (result : Result (ReadCert LastTable) CertStop) → ShowsNothing result → ReadsSubject (subject_by origin plan) x y given → ReadsCert Three KeepsTable (searched_in given.flat given.repair) cert y z result → Ends (report_of_check by_number None None (outcome_in result) ∷ []) z end s → Carries (explain_repair_task (subject_by origin plan) cert) x end s
-explain_refuses {cert = cert} {x = x} {z = z} origin plan result nothing h k ends =
-    let s = subject_by origin plan in
-    record {
-      mid = z;
-      reports = report_of_check by_number None None (outcome_in result) ∷ [];
-      works = cert_works by_number None None None result h.entered h.read_faults (certless (topic_of origin plan)).unread (before_last (s.Gives x.held) s.inputs (named Certificate cert) h.give) k;
-      says = nothing_says origin plan result nothing h k;
-      ends = ends;
-    }
+explain_refuses {cert = cert} {x = x} {z = z} origin plan result nothing h k ends = record {
+  mid = z;
+  reports = report_of_check by_number None None (outcome_in result) ∷ [];
+  works = nothing_works (topic_of origin plan) result h k;
+  says = nothing_says (topic_of origin plan) (Explains (subject_by origin plan) cert x.held) result nothing h k (λ number word hint refused. refused) (λ refused. refused);
+  ends = ends;
+}
 
 -- ---- what is told
 
@@ -119,13 +74,13 @@ same_report : {s : Subject} {x y : DeskState} {given : Given} (w : Verdict) (bou
 same_report {s = s} {given = given} w bound table h =
     ap (λ (names : Naming). told_report names given.flat (plan_in given.repair) w bound table) h.naming
     ∙ ap (λ (f : Problem). told_report (s.naming h.value) f (plan_in given.repair) w bound table) h.problem
-    ∙ ap (λ (plan : Option (List Wish)). told_report (s.naming h.value) (s.problem h.value) plan w bound table) h.plan
+    ∙ ap (λ (plan : Option PlanParts). told_report (s.naming h.value) (s.problem h.value) plan w bound table) h.plan
 
-answered : (names : Naming) (f : Problem) (plan : List Wish) (w : Verdict) (bound : Option ℕ) (table : Option (List ℕ)) → speaks (told_report names f (Some plan) w bound table) ≡ of_answer
+answered : (names : Naming) (f : Problem) (plan : PlanParts) (w : Verdict) (bound : Option ℕ) (table : Option (List ℕ)) → speaks (told_report names f (Some plan) w bound table) ≡ of_answer
 answered names f plan w bound None = refl
 answered names f plan w bound (Some table) = refl
 
-no_cause : (x z : DeskState) (names : Naming) (f : Problem) (plan : List Wish) (w : Verdict) (bound : Option ℕ) (table : Option (List ℕ)) → z.read_faults ≡ x.read_faults → ReadCauseOf x z (told_report names f (Some plan) w bound table)
+no_cause : (x z : DeskState) (names : Naming) (f : Problem) (plan : PlanParts) (w : Verdict) (bound : Option ℕ) (table : Option (List ℕ)) → z.read_faults ≡ x.read_faults → ReadCauseOf x z (told_report names f (Some plan) w bound table)
 no_cause x z names f plan w bound None kept = kept
 no_cause x z names f plan w bound (Some table) kept = kept
 
@@ -140,8 +95,8 @@ explain_tells {cert = cert} {x = x} {z = z} {end = end} {given = given} {read = 
     record {
       mid = z;
       reports = report ∷ [];
-      works = answers None report (answered (s.naming h.value) (s.problem h.value) h.value.plan v read.bound read.kept.0) (all_entered origin plan h k) (before_last (s.Gives x.held) s.inputs (named Certificate cert) h.give) (no_cause x z (s.naming h.value) (s.problem h.value) h.value.plan v read.bound read.kept.0 (k.reads.0 ∙ h.read_faults));
-      says = λ own. tells x.held cert origin plan h.value v read.bound read.kept.0 h.reads (shown origin plan v is h k);
+      works = answers None report (answered (s.naming h.value) (s.problem h.value) h.value.plan v read.bound read.kept.0) (all_entered (topic_of origin plan) h k) (before_last (s.Gives x.held) s.inputs (named Certificate cert) h.give) (no_cause x z (s.naming h.value) (s.problem h.value) h.value.plan v read.bound read.kept.0 (k.reads.0 ∙ h.read_faults));
+      says = λ own. tells x.held cert origin plan h.value v read.bound read.kept.0 h.reads (shown (topic_of origin plan) v is h k);
       ends = subst (λ (r : Report). Ends (r ∷ []) z end e) (same_report v read.bound read.kept.0 h) ends;
     }
 
@@ -149,11 +104,11 @@ explain_tells {cert = cert} {x = x} {z = z} {end = end} {given = given} {read = 
 pub listed : {cert : List ℕ} {x y z : DeskState} {given : Given} {read : ReadCert LastTable} (origin : Origin) (plan : List ℕ) (v : Verdict) → read.outcome ≡ Shows v → ReadsSubject (subject_by origin plan) x y given → ReadsCert Three KeepsTable (searched_in given.flat given.repair) cert y z (Ok read) → IfSome read.kept.0 (IsTimetable given.flat)
 listed {read = read} origin plan v e h k =
     let s = subject_by origin plan in
-    let is = shown origin plan v e h k in
+    let is = shown (topic_of origin plan) v e h k in
     subst (λ (f : Problem). IfSome read.kept.0 (IsTimetable f)) (sym h.problem) (told_map read.kept.0 (λ table permits. record { each_ship = permits.listed.each_ship; each_slot = permits.listed.each_slot }) (last_permitted s h.value is.lines read.kept.0 (modelled (topic_of origin plan) h) is.fit is.valid is.last_table))
 
 -- and the plan is one of it
 pub planned : {x y : DeskState} {given : Given} (origin : Origin) (plan : List ℕ) → ReadsSubject (subject_by origin plan) x y given → IfSome (plan_in given.repair) (PlanFits given.flat)
 planned {given = given} origin plan h =
     let s = subject_by origin plan in
-    subst (λ (o : Option (List Wish)). IfSome o (PlanFits given.flat)) (sym h.plan) (subst (λ (f : Problem). IfSome (s.plan h.value) (PlanFits f)) (sym h.problem) (modelled (topic_of origin plan) h).fits)
+    subst (λ (o : Option PlanParts). IfSome o (PlanFits given.flat)) (sym h.plan) (subst (λ (f : Problem). IfSome (s.plan h.value) (PlanFits f)) (sym h.problem) (modelled (topic_of origin plan) h).fits)

@@ -4,21 +4,21 @@ use Rattle.hw_desk.specs.State.{DeskState}
 use Rattle.hw_desk.specs.declared.desk.Feed.TheVariants.{Certificate}
 use Rattle.hw_lines.specs.declared.check.Verdict.{Verdict}
 use Rattle.hw_cert.specs.declared.version.Version.TheVariants.{Three}
-use Rattle.hw_repair.specs.declared.plan.Wish.{Wish}
+use Rattle.hw_repair.specs.Wishes.{PlanParts}
 use Rattle.hw_explain_repair.specs.Texts.{repair_text}
 use Rattle.hw_report.specs.Reports.{Report, Naming, checked, whole_text}
 use Rattle.hw_command.specs.Carries.{Task, one_report}
 use Rattle.hw_command.specs.Scope.{named}
 use Rattle.hw_subject.specs.Meanings.{ships_of}
 use Rattle.hw_subject.specs.Subjects.{Subject}
-use Rattle.hw_check_command.specs.Checks.{Checks}
-use Rattle.hw_check_command.specs.Shown.{Shown}
+use Rattle.hw_subject.specs.Checks.{Checks}
+use Rattle.hw_subject.specs.Shown.{Shown}
 
 -- what is read of the inputs, each where it is told, with its plan, and what the last timetable of the certificate makes of that
 pub record Explained (s : Subject) (cert : List ℕ) (held : List ℕ → Option (List ℕ)) (told : List ℕ) : Type 0 where
   pub value : s.Value
   pub reads : s.Reads held value
-  pub plan : List Wish
+  pub plan : PlanParts
   pub planned : s.plan value ≡ Some plan
   pub shows : Verdict
   pub bound : Option ℕ

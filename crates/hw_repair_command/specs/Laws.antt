@@ -3,8 +3,8 @@ use Rattle.std.specs.Prelude.{◌≡◌, ◌⊎◌, ℕ, List, Option, IsSome}
 use Rattle.hw_cert.specs.declared.version.Version.TheVariants.{Three}
 use Rattle.hw_report.specs.Reports.{Report, checked, whole_text}
 use Rattle.hw_subject.specs.Subjects.{Origin, origin_subject, repair_of}
-use Rattle.hw_check_command.specs.Checks.{Checks}
-use Rattle.hw_check_command.specs.Laws.{AllTold}
+use Rattle.hw_subject.specs.Checks.{Checks}
+use Rattle.hw_subject.specs.Decided.{AllTold}
 use Rattle.hw_repair_command.specs.Explains.{Explains}
 
 -- where all inputs and the certificate are told, their bytes decide the report, unless a call fails or memory runs out

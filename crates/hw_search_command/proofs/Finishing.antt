@@ -5,7 +5,7 @@ use Rattle.hw_model.specs.Problem.{Problem}
 use Rattle.hw_desk.specs.State.{DeskState}
 use Rattle.hw_desk.specs.declared.desk.Tray.TheVariants as tray
 use Rattle.hw_report.specs.Reports.{Report, Naming, solved}
-use Rattle.hw_repair.specs.declared.plan.Wish.{Wish}
+use Rattle.hw_repair.specs.Wishes.{PlanParts}
 use Rattle.hw_command.specs.Carries.{Carries}
 use Rattle.hw_command.specs.Ends.{Ends}
 use Rattle.hw_command.specs.Works.{of_answer, speaks}
@@ -14,12 +14,12 @@ use Rattle.hw_command.specs.declared.status.Status.TheVariants.{WriteFault}
 use Rattle.hw_command.proofs.Made.{makes_past, made_works, breaks_off}
 use Rattle.hw_command.proofs.Stops.{stops_carries}
 use Rattle.hw_command.proofs.Told.{told_map}
-use Rattle.hw_subject.specs.Meanings.{HeadSays, IsModelled, judged}
+use Rattle.hw_subject.specs.Meanings.{HeadSays, judged}
 use Rattle.hw_subject.specs.Reading.{ReadsSubject, StopsAtSubject, naming_of, plan_in, searched_in}
 use Rattle.hw_subject.specs.Subjects.{Subject, Topic, topic_subject}
 use Rattle.hw_subject.specs.declared.subject.Given.{Given}
 use Rattle.hw_subject.proofs.Meant.{printed_table}
-use Rattle.hw_subject.proofs.Modelled.{subjects_modelled_law}
+use Rattle.hw_subject.proofs.Certified.{modelled}
 use Rattle.hw_subject.proofs.Readings.{give_before}
 use Rattle.hw_search_command.specs.Certified.{own_bound}
 use Rattle.hw_search_command.specs.Finding.{HasSlots, found_report, moved_told, own_head, report_of}
@@ -32,9 +32,6 @@ use Rattle.hw_search_command.proofs.Owned.{bound_says, has_slots, head_says, own
 
 -- ---- what was read
 
-modelled : (topic : Topic) {x y : DeskState} {given : Given} → (h : ReadsSubject (topic_subject topic) x y given) → IsModelled (topic_subject topic) h.value
-modelled topic {x = x} h = subjects_modelled_law topic x.held h.value h.reads
-
 -- the search of what was read is one of the judged problem
 of_judged : (s : Subject) {q : Searcher} {budget : ℕ} {proof : List ℕ} {x y z : DeskState} {given : Given} {found : Option Found} → (h : ReadsSubject s x y given) → SearchesTo q (searched_in given.flat given.repair) budget proof y z found → SearchesTo q (judged s h.value) budget proof y z found
 of_judged s {q = q} {budget = budget} {proof = proof} {y = y} {z = z} {found = found} h k = subst (λ (f : Problem). SearchesTo q f budget proof y z found) h.searched k
@@ -44,7 +41,7 @@ same_report : (s : Subject) {x y : DeskState} {given : Given} (found : Found) �
 same_report s {given = given} found h =
     ap (λ (f : Problem). found_report f (naming_of given.named) (plan_in given.repair) found) h.problem
     ∙ ap (λ (names : Naming). found_report (s.problem h.value) names (plan_in given.repair) found) h.naming
-    ∙ ap (λ (plan : Option (List Wish)). found_report (s.problem h.value) (s.naming h.value) plan found) h.plan
+    ∙ ap (λ (plan : Option PlanParts). found_report (s.problem h.value) (s.naming h.value) plan found) h.plan
 
 -- ---- the report
 
@@ -53,7 +50,7 @@ pub found_slots : (topic : Topic) {q : Searcher} {budget : ℕ} {proof : List �
 found_slots topic found h k =
     let s = topic_subject topic in
     let is = (of_judged s h k).leaves.1 in
-    subst (λ (plan : Option (List Wish)). HasSlots plan found.table) (sym h.plan) (has_slots (s.problem h.value) (s.plan h.value) found.table (modelled topic h).fits is.permitted)
+    subst (λ (plan : Option PlanParts). HasSlots plan found.table) (sym h.plan) (has_slots (s.problem h.value) (s.plan h.value) found.table (modelled topic h).fits is.permitted)
 
 -- ---- the ends of a run
 

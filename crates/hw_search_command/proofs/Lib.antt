@@ -3,3 +3,4 @@ pub mod Meeting
 mod Ending
 mod Owned
 mod Finishing
+mod Demonstrated

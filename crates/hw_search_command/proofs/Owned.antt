@@ -11,8 +11,7 @@ use Rattle.hw_verdict.specs.Laws.{IsBound}
 use Rattle.hw_report.specs.declared.report.Head.{Head}
 use Rattle.hw_report.specs.declared.report.Head.TheVariants as heads
 use Rattle.hw_repair.specs.Repaired.{repaired, own_cargo}
-use Rattle.hw_repair.specs.Wishes.{PlanFits, moved}
-use Rattle.hw_repair.specs.declared.plan.Wish.{Wish}
+use Rattle.hw_repair.specs.Wishes.{PlanParts, PlanFits, moved}
 use Rattle.hw_repair.proofs.Repairs.{repaired_cargo, repaired_meets}
 use Rattle.hw_subject.specs.Meanings.{HeadSays, IsBoundOf, IsModelled, judged, own_worth, repaired_problem}
 use Rattle.hw_subject.specs.Subjects.{Subject}
@@ -26,7 +25,7 @@ use Rattle.hw_search_command.specs.declared.searcher.Search.TheVariants.{Solve, 
 -- ---- timetables
 
 -- a permitted timetable has a slot for each wish of the plan
-pub has_slots : (f : Problem) (plan : Option (List Wish)) (table : Option (List ℕ)) → IfSome plan (PlanFits f) → IfSome table (Permits (repaired_problem f plan)) → HasSlots plan table
+pub has_slots : (f : Problem) (plan : Option PlanParts) (table : Option (List ℕ)) → IfSome plan (PlanFits f) → IfSome table (Permits (repaired_problem f plan)) → HasSlots plan table
 has_slots f None table fits h = tt
 has_slots f (Some plan) None fits h = tt
 has_slots f (Some plan) (Some table) fits h = fits.each_ship ∙ sym h.listed.each_ship
@@ -34,7 +33,7 @@ has_slots f (Some plan) (Some table) fits h = fits.each_ship ∙ sym h.listed.ea
 -- ---- heads
 
 -- the most lemmas of a repair's problem are those of the problem
-pub same_most : (how : Search) (f : Problem) (plan : Option (List Wish)) → (searcher_of how).most (repaired_problem f plan) ≡ (searcher_of how).most f
+pub same_most : (how : Search) (f : Problem) (plan : Option PlanParts) → (searcher_of how).most (repaired_problem f plan) ≡ (searcher_of how).most f
 same_most how f None = refl
 same_most Solve f (Some plan) = refl
 same_most Prove f (Some plan) = refl
@@ -48,13 +47,13 @@ head_says s v budget most (heads.Unfinished spent) table m h = h
 head_says s v budget most heads.Memory table m h = tt
 
 -- the number of the repair's problem is the one for which the cargo stands with the moved ships
-number_is : (f : Problem) (plan : List Wish) (table : List ℕ) (d : ℕ) → PlanFits f plan → IsBest (repaired f plan) table d → d ≡ (f.ships + 1) * own_cargo f.ships d + f.ships - moved plan table
+number_is : (f : Problem) (plan : PlanParts) (table : List ℕ) (d : ℕ) → PlanFits f plan → IsBest (repaired f plan) table d → d ≡ (f.ships + 1) * own_cargo f.ships d + f.ships - moved plan table
 number_is f plan table d fits best =
     let own = repaired_meets f plan table d fits best.permitted best.worth in
     same_Some d _ (sym best.worth ∙ (repaired_cargo f plan table (own_cargo f.ships d) fits own.meets own.worth).carries)
 
 -- the head of the problem that was searched is the one for which the printed head stands
-head_is : (f : Problem) (plan : Option (List Wish)) (budget most : ℕ) (head : Head) (table : Option (List ℕ)) → IfSome plan (PlanFits f) → HeadMeans (repaired_problem f plan) budget most head table → head ≡ searched_head plan f.ships table (own_head plan f.ships head)
+head_is : (f : Problem) (plan : Option PlanParts) (budget most : ℕ) (head : Head) (table : Option (List ℕ)) → IfSome plan (PlanFits f) → HeadMeans (repaired_problem f plan) budget most head table → head ≡ searched_head plan f.ships table (own_head plan f.ships head)
 head_is f None budget most (heads.Optimal d) table fits h = refl
 head_is f None budget most heads.Infeasible table fits h = refl
 head_is f None budget most (heads.Unfinished spent) table fits h = refl
@@ -65,7 +64,7 @@ head_is f (Some plan) budget most heads.Infeasible table fits h = refl
 head_is f (Some plan) budget most (heads.Unfinished spent) table fits h = refl
 head_is f (Some plan) budget most heads.Memory table fits h = refl
 
-still_spent : (plan : Option (List Wish)) (ships budget : ℕ) (head : Head) (all : List Line) → IsSpent budget head all → IsSpent budget (own_head plan ships head) all
+still_spent : (plan : Option PlanParts) (ships budget : ℕ) (head : Head) (all : List Line) → IsSpent budget head all → IsSpent budget (own_head plan ships head) all
 still_spent plan ships budget (heads.Optimal d) all h = tt
 still_spent plan ships budget heads.Infeasible all h = tt
 still_spent plan ships budget (heads.Unfinished spent) all h = h
@@ -74,7 +73,7 @@ still_spent plan ships budget heads.Memory all h = tt
 -- ---- the bound
 
 -- the printed bound is the cargo for which that of the lines stands
-worth_bound : (plan : Option (List Wish)) (ships : ℕ) (bound : Option ℕ) → option_map (own_worth plan ships) bound ≡ own_bound plan ships bound
+worth_bound : (plan : Option PlanParts) (ships : ℕ) (bound : Option ℕ) → option_map (own_worth plan ships) bound ≡ own_bound plan ships bound
 worth_bound None ships None = refl
 worth_bound None ships (Some bound) = refl
 worth_bound (Some plan) ships bound = refl
@@ -89,7 +88,7 @@ bound_says s v bound m h = subst (λ (b : Option ℕ). IfSome b (IsBoundOf s v))
 -- ---- the certificate
 
 -- lines that show what was found show what is printed
-pub own_certificate : (q : Searcher) (f : Problem) (plan : Option (List Wish)) (budget most : ℕ) (head : Head) (table : Option (List ℕ)) (bound : Option ℕ) (bytes : List ℕ) → IfSome plan (PlanFits f) → HeadMeans (repaired_problem f plan) budget most head table → IsCertificate q (repaired_problem f plan) None budget head table bound bytes → IsCertificate q f plan budget (own_head plan f.ships head) table (own_bound plan f.ships bound) bytes
+pub own_certificate : (q : Searcher) (f : Problem) (plan : Option PlanParts) (budget most : ℕ) (head : Head) (table : Option (List ℕ)) (bound : Option ℕ) (bytes : List ℕ) → IfSome plan (PlanFits f) → HeadMeans (repaired_problem f plan) budget most head table → IsCertificate q (repaired_problem f plan) None budget head table bound bytes → IsCertificate q f plan budget (own_head plan f.ships head) table (own_bound plan f.ships bound) bytes
 own_certificate q f plan budget most head table bound bytes fits means c = record {
   lines = c.lines;
   text = c.text;

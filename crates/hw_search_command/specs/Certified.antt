@@ -17,7 +17,7 @@ use Rattle.hw_cert.specs.Told.{header_of, IsTextUnder}
 use Rattle.hw_report.specs.declared.report.Head.{Head}
 use Rattle.hw_report.specs.declared.report.Head.TheVariants.{Optimal, Infeasible, Unfinished, Memory}
 use Rattle.hw_repair.specs.Repaired.{own_cargo}
-use Rattle.hw_repair.specs.declared.plan.Wish.{Wish}
+use Rattle.hw_repair.specs.Wishes.{PlanParts}
 use Rattle.hw_subject.specs.Meanings.{moved_by, repaired_problem}
 use Rattle.hw_search_command.specs.Searchers.{Searcher}
 
@@ -57,7 +57,7 @@ IsSpent budget Memory all = ⊤
 -- ---- what is printed of a repair
 
 -- how many ships a timetable moves, and 0 where there is none
-abbrev pub moved_in : Option (List Wish) → Option (List ℕ) → ℕ
+abbrev pub moved_in : Option PlanParts → Option (List ℕ) → ℕ
 moved_in plan None = 0
 moved_in plan (Some table) = moved_by plan table
 
@@ -69,26 +69,26 @@ repair_head ships count (Unfinished budget) = Unfinished budget
 repair_head ships count Memory = Memory
 
 -- the head of the problem that was searched, for which a printed head stands with a timetable or none
-abbrev pub searched_head : Option (List Wish) → ℕ → Option (List ℕ) → Head → Head
+abbrev pub searched_head : Option PlanParts → ℕ → Option (List ℕ) → Head → Head
 searched_head None ships table head = head
 searched_head (Some plan) ships table head = repair_head ships (moved_in (Some plan) table) head
 
 -- the bound that is printed for one of the problem that was searched: of a repair the quotient, rounded down
-abbrev pub own_bound : Option (List Wish) → ℕ → Option ℕ → Option ℕ
+abbrev pub own_bound : Option PlanParts → ℕ → Option ℕ → Option ℕ
 own_bound None ships bound = bound
 own_bound (Some plan) ships bound = option_map (own_cargo ships) bound
 
 -- ---- a certificate
 
 -- lines show a printed head with a timetable or none and a printed bound or none, of a problem or of its repair: their verdict is that of the head for which the printed one stands, the timetable is their last table, and the bound stands for their last one
-pub record Shows (f : Problem) (plan : Option (List Wish)) (budget : ℕ) (head : Head) (table : Option (List ℕ)) (bound : Option ℕ) (all : List Line) : Type 0 where
+pub record Shows (f : Problem) (plan : Option PlanParts) (budget : ℕ) (head : Head) (table : Option (List ℕ)) (bound : Option ℕ) (all : List Line) : Type 0 where
   pub last : last_table all ≡ table
   pub last_bound : own_bound plan f.ships (bound_of all) ≡ bound
   pub verdict : verdict (repaired_problem f plan) all ≡ head_verdict (searched_head plan f.ships table head) (best_of (repaired_problem f plan) all)
   pub spent : IsSpent budget head all
 
 -- the bytes are the text of lines of the problem that was searched, which show these
-pub record IsCertificate (q : Searcher) (f : Problem) (plan : Option (List Wish)) (budget : ℕ) (head : Head) (table : Option (List ℕ)) (bound : Option ℕ) (bytes : List ℕ) : Type 0 where
+pub record IsCertificate (q : Searcher) (f : Problem) (plan : Option PlanParts) (budget : ℕ) (head : Head) (table : Option (List ℕ)) (bound : Option ℕ) (bytes : List ℕ) : Type 0 where
   pub lines : List Line
   pub text : bytes ≡ cert_text q.version lines
   pub written : IsWritten q (repaired_problem f plan) budget lines

@@ -8,7 +8,7 @@ use Rattle.hw_turns.specs.declared.outcome.Crewed.TheVariants as crewed
 use Rattle.hw_report.specs.Reports.{Report, Naming, solved as solved_report}
 use Rattle.hw_report.specs.declared.report.Head.{Head}
 use Rattle.hw_report.specs.declared.report.Head.TheVariants.{Optimal, Infeasible, Unfinished, Memory}
-use Rattle.hw_repair.specs.declared.plan.Wish.{Wish}
+use Rattle.hw_repair.specs.Wishes.{PlanParts}
 use Rattle.hw_subject.specs.Meanings.{own_worth}
 use Rattle.hw_subject.specs.Reading.{naming_of, plan_in}
 use Rattle.hw_subject.specs.declared.subject.Given.{Given}
@@ -39,24 +39,24 @@ found_by_crew budget crewed.LogFailed = None
 -- ---- as it is reported
 
 -- the head that is printed: it has the subject's own cargo, for which that of the problem that was searched stands
-abbrev pub own_head : Option (List Wish) → ℕ → Head → Head
+abbrev pub own_head : Option PlanParts → ℕ → Head → Head
 own_head plan ships (Optimal d) = Optimal (own_worth plan ships d)
 own_head plan ships Infeasible = Infeasible
 own_head plan ships (Unfinished budget) = Unfinished budget
 own_head plan ships Memory = Memory
 
 -- how many ships a timetable moves, as it is reported of a repair
-abbrev pub moved_told : Option (List Wish) → Option (List ℕ) → Option ℕ
+abbrev pub moved_told : Option PlanParts → Option (List ℕ) → Option ℕ
 moved_told None table = None
 moved_told (Some plan) table = Some (moved_in (Some plan) table)
 
 -- the report of what was found, of a problem by its names, or of its repair
-abbrev pub found_report : Problem → Naming → Option (List Wish) → Found → Report
+abbrev pub found_report : Problem → Naming → Option PlanParts → Found → Report
 found_report f names plan found = solved_report (own_head plan f.ships found.head) f names found.table (moved_told plan found.table) (own_bound plan f.ships found.bound)
 
 abbrev pub report_of : Given → Found → Report
 report_of given found = found_report given.flat (naming_of given.named) (plan_in given.repair) found
 
 -- the timetable has a slot for each wish of the plan
-abbrev pub HasSlots : Option (List Wish) → Option (List ℕ) → Type 0
-HasSlots plan table = IfSome plan (λ wishes. IfSome table (λ slots. length wishes ≡ length slots))
+abbrev pub HasSlots : Option PlanParts → Option (List ℕ) → Type 0
+HasSlots plan table = IfSome plan (λ plan. IfSome table (λ slots. length plan.wishes ≡ length slots))

@@ -5,3 +5,4 @@ pub mod Finding
 pub mod Searching
 pub mod Searches
 pub mod Rows
+pub mod Demo

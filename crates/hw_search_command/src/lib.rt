@@ -1,5 +1,5 @@
 //! `solve`, `prove` and `crew` of a flat text, of a port and of the repair of either: one command over
-//! any subject and any search.
+//! any subject and any search. And `demo`, a problem that is drawn, solved and checked in memory.
 //!
 //! A search writes its lines to Proof as it finds them, and its answer is reported by the subject's own
 //! values. What is promised of the lines differs from search to search, and what the answer says is the
@@ -7,6 +7,7 @@
 #![tactic(auto)]
 
 mod command;
+mod demonstration;
 mod finding;
 mod laws;
 mod order;
@@ -15,6 +16,7 @@ mod searcher;
 mod searching;
 
 pub use command::search_subject;
+pub use demonstration::{Draw, demo};
 pub use laws::cut_rows;
 pub use order::{MOST_TURNS, Order};
 pub use searcher::Search;

@@ -3,3 +3,12 @@ pub mod Meant
 pub mod Shown
 pub mod PlanForms
 pub mod Readings
+pub mod Shows
+pub mod Certless
+pub mod Certified
+pub mod OnePort
+pub mod OneFlat
+pub mod Planned
+pub mod Decided
+pub mod SameLines
+pub mod Reports

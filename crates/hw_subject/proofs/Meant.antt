@@ -5,8 +5,7 @@ use Rattle.std.specs.Prelude.{IfSome}
 use Rattle.hw_model.specs.Problem.{Problem}
 use Rattle.hw_model.specs.Timetables.{Permits, cargo, IsBest, NonePermitted}
 use Rattle.hw_verdict.specs.Laws.{IsBound}
-use Rattle.hw_repair.specs.Wishes.{PlanFits, moved}
-use Rattle.hw_repair.specs.declared.plan.Wish.{Wish}
+use Rattle.hw_repair.specs.Wishes.{PlanParts, PlanFits, moved}
 use Rattle.hw_repair.proofs.Repairs.{repaired_permits, repaired_cargo, repaired_meets, best_repair}
 use Rattle.hw_subject.specs.Meanings.{IsBestOf, IsBoundOf, IsModelled, IsPrintedTable, NoneOf, StandsFor, judged, moved_by, own_moves, own_worth, repaired_problem}
 use Rattle.hw_subject.specs.Subjects.{Subject}
@@ -14,22 +13,22 @@ use Rattle.hw_subject.specs.Subjects.{Subject}
 -- ---- by the problem and the plan
 
 -- a permitted timetable has the cargo and the moved ships for which its cargo there stands
-record Stands (f : Problem) (o : Option (List Wish)) (table : List ℕ) (d : ℕ) : Type 0 where
+record Stands (f : Problem) (o : Option PlanParts) (table : List ℕ) (d : ℕ) : Type 0 where
   pub worth : cargo f table ≡ Some (own_worth o f.ships d)
   pub moves : moved_by o table ≡ own_moves o f.ships d
 
-stands : (f : Problem) (o : Option (List Wish)) (table : List ℕ) (d : ℕ) → IfSome o (PlanFits f) → Permits (repaired_problem f o) table → cargo (repaired_problem f o) table ≡ Some d → Stands f o table d
+stands : (f : Problem) (o : Option PlanParts) (table : List ℕ) (d : ℕ) → IfSome o (PlanFits f) → Permits (repaired_problem f o) table → cargo (repaired_problem f o) table ≡ Some d → Stands f o table d
 stands f None table d fits permits e = record { worth = e; moves = refl }
 stands f (Some plan) table d fits permits e =
     let meets = repaired_meets f plan table d fits permits e in
     record { worth = meets.worth; moves = meets.moves }
 
 -- none that is permitted there has more cargo, or as much with fewer moved ships
-record Leads (f : Problem) (o : Option (List Wish)) (table : List ℕ) (c : ℕ) : Type 0 where
+record Leads (f : Problem) (o : Option PlanParts) (table : List ℕ) (c : ℕ) : Type 0 where
   pub greatest : (other : List ℕ) (d : ℕ) → Permits (repaired_problem f o) other → cargo f other ≡ Some d → d ≤ c
   pub fewest : (other : List ℕ) → Permits (repaired_problem f o) other → cargo f other ≡ Some c → moved_by o table ≤ moved_by o other
 
-leads : (f : Problem) (o : Option (List Wish)) (table : List ℕ) (d : ℕ) → IfSome o (PlanFits f) → IsBest (repaired_problem f o) table d → Leads f o table (own_worth o f.ships d)
+leads : (f : Problem) (o : Option PlanParts) (table : List ℕ) (d : ℕ) → IfSome o (PlanFits f) → IsBest (repaired_problem f o) table d → Leads f o table (own_worth o f.ships d)
 leads f None table d fits best = record { greatest = best.greatest; fewest = λ other permits e. omega arith }
 leads f (Some plan) table d fits best =
     let repair = ((best_repair f plan table fits).is_repair d best).0 in
@@ -45,7 +44,7 @@ quotient n c m bound few h =
     let is : c * (n + 1) ≡ (n + 1) * c = omega arith in
     (le-div_iff_mul-le some).1 (omega (arith, is, h, few))
 
-own_bound : (f : Problem) (o : Option (List Wish)) (bound : ℕ) (table : List ℕ) (c : ℕ) → IfSome o (PlanFits f) → IsBound (repaired_problem f o) bound → Permits (repaired_problem f o) table → cargo f table ≡ Some c → c ≤ own_worth o f.ships bound
+own_bound : (f : Problem) (o : Option PlanParts) (bound : ℕ) (table : List ℕ) (c : ℕ) → IfSome o (PlanFits f) → IsBound (repaired_problem f o) bound → Permits (repaired_problem f o) table → cargo f table ≡ Some c → c ≤ own_worth o f.ships bound
 own_bound f None bound table c fits is permits worth = is table c permits worth
 own_bound f (Some plan) bound table c fits is permits worth =
     let own = repaired_cargo f plan table c fits ((repaired_permits f plan table fits).0 permits) worth in

@@ -1,23 +1,61 @@
 -- The problem that is searched models the subject: of a flat text, of a port, and of the repair of either.
-use Rattle.std.proofs.Common.{ℕ, List, Option, Some, None}
-use Rattle.std.specs.Prelude.{◌≡◌, ◌↔◌}
+use Rattle.std.proofs.Common.{◌≡◌, ◌∙◌, ℕ, ◌+◌, List, [], ◌∷◌, zip, Option, Some, None, refl, sym, ap, subst}
+use Rattle.std.specs.Prelude.{◌↔◌}
 use Rattle.hw_model.specs.Limits.{IsFlat}
-use Rattle.hw_model.specs.Timetables.{Permits, cargo}
+use Rattle.hw_model.specs.Problem.{Problem}
+use Rattle.hw_model.specs.Timetables.{Permits, cargo, plus}
 use Rattle.hw_flat.specs.TextWritten.{IsWritable}
 use Rattle.hw_verdict.proofs.Denied.{has_cargo}
 use Rattle.hw_port_laws.proofs.Limits.{flattened_fits_law, staying_is_nothing_law}
 use Rattle.hw_port_laws.proofs.Permits.{same_permitted_law, same_cargo_law}
+use Rattle.hw_port.specs.Kept.{PortKept}
+use Rattle.hw_port.specs.Parts.{ShipParts}
+use Rattle.hw_port.specs.Whole.{Parts}
+use Rattle.hw_tide.specs.Levels.{TideParts}
+use Rattle.hw_port_rules.specs.Flattened.{flattened}
+use Rattle.hw_port_rules.specs.Permitted.{PortPermits, cargo_of, port_cargo, ship_cargo}
+use Rattle.hw_derived.specs.Fleets.{lessened}
+use Rattle.hw_derived.proofs.Fleets.{lessened_cargo}
+use Rattle.hw_audit.specs.Laws.{fewer_tugs}
+use Rattle.hw_audit.proofs.Ports.{lessened_port, port_kept}
 use Rattle.hw_repair.proofs.Repairs.{repaired_fits, repaired_permits}
 use Rattle.hw_subject.specs.Laws.{SubjectsModelled}
 use Rattle.hw_subject.specs.Meanings.{IsModelled}
 use Rattle.hw_subject.specs.Subjects.{Subject, Planned, ReadsPlanned, Origin, flat_text, port_of, origin_subject, repair_of, repaired_by}
 
--- the reported problem permits what the subject permits, with the same cargo
+-- the reported problem permits what the subject permits, with the same cargo, also with fewer tugs
 record IsPlain (s : Subject) (v : s.Value) : Type 0 where
   pub limits : IsFlat (s.problem v)
   pub writable : IsWritable (s.problem v)
   pub permitted : (table : List ℕ) → (s.Permits v table ↔ Permits (s.problem v) table)
   pub carries : (table : List ℕ) → s.Permits v table → (c : ℕ) × (s.cargo v table ≡ Some c) × (cargo (s.problem v) table ≡ Some c)
+  pub left : (withdrawn : ℕ) (table : List ℕ) → (s.Permits (s.less withdrawn v) table ↔ Permits (lessened withdrawn (s.problem v)) table)
+  pub still_carries : (withdrawn : ℕ) (table : List ℕ) → s.Permits (s.less withdrawn v) table → (c : ℕ) × (s.cargo v table ≡ Some c) × (cargo (s.problem v) table ≡ Some c)
+
+-- a port carries the same with fewer tugs
+fewer_carry : (p : Parts) (h : TideParts) (withdrawn : ℕ) (given : List (ShipParts × ℕ)) → cargo_of (fewer_tugs withdrawn p) h given ≡ cargo_of p h given
+fewer_carry p h withdrawn [] = refl
+fewer_carry p h withdrawn (ship ∷ more) = ap (plus (ship_cargo p h ship)) (fewer_carry p h withdrawn more)
+
+port_left : (p : Parts) (h : TideParts) (withdrawn : ℕ) (table : List ℕ) → PortKept p → (PortPermits (fewer_tugs withdrawn p) h table ↔ Permits (lessened withdrawn (flattened p h)) table)
+port_left p h withdrawn table kept =
+    let port = same_permitted_law (fewer_tugs withdrawn p) h table (port_kept p withdrawn kept) in
+    let same = lessened_port p h withdrawn in
+    (λ permits. subst (λ g. Permits g table) (sym same) (port.0 permits), λ permits. port.1 (subst (λ g. Permits g table) same permits))
+
+flat_carries : (f : Problem) (withdrawn : ℕ) (table : List ℕ) → Permits (lessened withdrawn f) table → (c : ℕ) × (cargo f table ≡ Some c) × (cargo f table ≡ Some c)
+flat_carries f withdrawn table h =
+    let c = has_cargo (lessened withdrawn f) table h in
+    let is = sym (lessened_cargo withdrawn f 0 table) ∙ c.1 in
+    (c.0, is, is)
+
+port_carries : (p : Parts) (h : TideParts) (withdrawn : ℕ) (table : List ℕ) → PortKept p → PortPermits (fewer_tugs withdrawn p) h table → (c : ℕ) × (port_cargo p h table ≡ Some c) × (cargo (flattened p h) table ≡ Some c)
+port_carries p h withdrawn table kept permits =
+    let c = same_cargo_law (fewer_tugs withdrawn p) h table (port_kept p withdrawn kept) permits in (
+      c.0,
+      sym (fewer_carry p h withdrawn (zip p.ships table)) ∙ c.1,
+      sym (lessened_cargo withdrawn (flattened p h) 0 table) ∙ (ap (λ (g : Problem). cargo g table) (lessened_port p h withdrawn) ∙ c.2),
+    )
 
 plain : (a : Origin) (held : List ℕ → Option (List ℕ)) (v : (origin_subject a).Value) → (origin_subject a).Reads held v → IsPlain (origin_subject a) v
 plain (flat_text name) held f reads = record {
@@ -25,12 +63,16 @@ plain (flat_text name) held f reads = record {
   writable = reads.writable;
   permitted = λ table. (λ h. h, λ h. h);
   carries = λ table h. let c = has_cargo f table h in (c.0, c.1, c.1);
+  left = λ withdrawn table. (λ h. h, λ h. h);
+  still_carries = λ withdrawn table h. flat_carries f withdrawn table h;
 }
 plain (port_of instance table) held v reads = record {
   limits = (flattened_fits_law v.port v.tide reads.kept).0;
   writable = λ ship lt stay. staying_is_nothing_law v.port v.tide ship lt stay;
   permitted = λ table. same_permitted_law v.port v.tide table reads.kept;
   carries = λ table h. same_cargo_law v.port v.tide table reads.kept h;
+  left = λ withdrawn table. port_left v.port v.tide withdrawn table reads.kept;
+  still_carries = λ withdrawn table h. port_carries v.port v.tide withdrawn table reads.kept h;
 }
 
 -- the subject itself
@@ -51,12 +93,12 @@ repair_modelled s name held v reads m =
       fits = fits;
       limits = repaired_fits f v.plan m.limits m.writable fits;
       permitted = λ table. (
-        λ h. (repaired_permits f v.plan table fits).1 (record { permitted = (m.permitted table).0 h.permitted; granted = h.granted }),
+        λ h. (repaired_permits f v.plan table fits).1 (record { permitted = (m.left v.plan.withdrawn table).0 h.permitted; granted = h.granted }),
         λ h.
             let meets = (repaired_permits f v.plan table fits).0 h in
-            record { permitted = (m.permitted table).1 meets.permitted; granted = meets.granted },
+            record { permitted = (m.left v.plan.withdrawn table).1 meets.permitted; granted = meets.granted },
       );
-      carries = λ table h. m.carries table h.permitted;
+      carries = λ table h. m.still_carries v.plan.withdrawn table h.permitted;
     }
 
 modelled_by : (a : Origin) (plan : Option (List ℕ)) (held : List ℕ → Option (List ℕ)) (v : (repaired_by (origin_subject a) plan).Value) → (repaired_by (origin_subject a) plan).Reads held v → IsModelled (repaired_by (origin_subject a) plan) v

@@ -3,4 +3,8 @@ pub mod Meanings
 pub mod Plans
 pub mod PlanInputs
 pub mod Reading
+pub mod Shown
+pub mod Checks
+pub mod Texts
 pub mod Laws
+pub mod Decided

@@ -8,14 +8,13 @@ use Rattle.hw_lines.specs.declared.check.Verdict.TheVariants as verdicts
 use Rattle.hw_report.specs.declared.report.Head.{Head}
 use Rattle.hw_report.specs.declared.report.Head.TheVariants.{Optimal, Infeasible, Unfinished, Memory}
 use Rattle.hw_repair.specs.Repaired.{repaired, own_cargo, own_moved}
-use Rattle.hw_repair.specs.Wishes.{PlanFits, moved}
-use Rattle.hw_repair.specs.declared.plan.Wish.{Wish}
+use Rattle.hw_repair.specs.Wishes.{PlanParts, PlanFits, moved}
 use Rattle.hw_subject.specs.Subjects.{Subject}
 
 -- ---- plans
 
 -- the problem itself, or that of its repair by a plan
-abbrev pub repaired_problem : Problem → Option (List Wish) → Problem
+abbrev pub repaired_problem : Problem → Option PlanParts → Problem
 repaired_problem f None = f
 repaired_problem f (Some plan) = repaired f plan
 
@@ -24,22 +23,22 @@ abbrev pub judged : (s : Subject) → s.Value → Problem
 judged s v = repaired_problem (s.problem v) (s.plan v)
 
 -- how many ships a timetable moves, none without a plan
-abbrev pub moved_by : Option (List Wish) → List ℕ → ℕ
+abbrev pub moved_by : Option PlanParts → List ℕ → ℕ
 moved_by None table = 0
 moved_by (Some plan) table = moved plan table
 
 -- the cargo for which a cargo of the judged problem stands, by the number of ships
-abbrev pub own_worth : Option (List Wish) → ℕ → ℕ → ℕ
+abbrev pub own_worth : Option PlanParts → ℕ → ℕ → ℕ
 own_worth None ships d = d
 own_worth (Some plan) ships d = own_cargo ships d
 
 -- the number of moved ships for which it stands
-abbrev pub own_moves : Option (List Wish) → ℕ → ℕ → ℕ
+abbrev pub own_moves : Option PlanParts → ℕ → ℕ → ℕ
 own_moves None ships d = 0
 own_moves (Some plan) ships d = own_moved ships d
 
 -- the number of ships, if a plan is repaired
-abbrev pub ships_of : Problem → Option (List Wish) → Option ℕ
+abbrev pub ships_of : Problem → Option PlanParts → Option ℕ
 ships_of f None = None
 ships_of f (Some plan) = Some f.ships
 

@@ -8,7 +8,7 @@ use Rattle.hw_report.specs.Printing.{AreNamesOf}
 use Rattle.hw_report.specs.Reports.{Report, Naming, by_number, by_name}
 use Rattle.hw_command.specs.Scope.{Named as Input, Entered}
 use Rattle.hw_command.specs.Works.{Stops}
-use Rattle.hw_repair.specs.declared.plan.Wish.{Wish}
+use Rattle.hw_repair.specs.Wishes.{PlanParts}
 use Rattle.hw_subject.specs.Meanings.{judged}
 use Rattle.hw_subject.specs.Subjects.{Subject}
 use Rattle.hw_subject.specs.declared.plan_input.Repair.{Repair}
@@ -23,7 +23,7 @@ abbrev pub naming_of : Named → Naming
 naming_of ByNumber = by_number
 naming_of (ByName port tide) = by_name port tide
 
-abbrev pub plan_in : Option Repair → Option (List Wish)
+abbrev pub plan_in : Option Repair → Option PlanParts
 plan_in None = None
 plan_in (Some repair) = Some repair.plan
 

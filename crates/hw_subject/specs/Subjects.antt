@@ -7,6 +7,8 @@ use Rattle.hw_model.specs.Timetables.{Permits, cargo}
 use Rattle.hw_desk.specs.declared.desk.Feed.{Feed}
 use Rattle.hw_desk.specs.declared.desk.Feed.TheVariants as feeds
 use Rattle.hw_flat.specs.TextWritten.{IsWritable}
+use Rattle.hw_derived.specs.Fleets.{lessened}
+use Rattle.hw_audit.specs.Laws.{fewer_tugs}
 use Rattle.hw_port.specs.Whole.{Parts}
 use Rattle.hw_tide.specs.Levels.{TideParts}
 use Rattle.hw_port_rules.specs.Flattened.{flattened}
@@ -16,8 +18,7 @@ use Rattle.hw_command.specs.Inputs.{NoFlat}
 use Rattle.hw_command.specs.PortInputs.{NoPort}
 use Rattle.hw_command.specs.Scope.{Named, named}
 use Rattle.hw_command.specs.Values.{IsLong, IsTextOf, IsPortOf, FlatGives, PortGives}
-use Rattle.hw_repair.specs.Wishes.{Grants}
-use Rattle.hw_repair.specs.declared.plan.Wish.{Wish}
+use Rattle.hw_repair.specs.Wishes.{PlanParts, Grants}
 use Rattle.hw_subject.specs.Plans.{IsPlanOf, IsWrongLine}
 use Rattle.hw_subject.specs.declared.source.Source.{Source}
 use Rattle.hw_subject.specs.declared.source.Source.TheVariants.{Flat, Port}
@@ -38,7 +39,9 @@ pub record Subject : Type 1 where
   -- by what names it is reported
   pub naming : Value → Naming
   -- the plan by which it is repaired, or none
-  pub plan : Value → Option (List Wish)
+  pub plan : Value → Option PlanParts
+  -- the same with this many tugs fewer in the fleet
+  pub less : ℕ → Value → Value
   -- a timetable is permitted
   pub Permits : Value → List ℕ → Type 0
   -- what it carries, in tenths of a tonne, or none where a ship can't sail in its slot
@@ -63,6 +66,7 @@ flat_subject name = record {
   problem = λ f. f;
   naming = λ f. by_number;
   plan = λ f. None;
+  less = λ withdrawn f. lessened withdrawn f;
   Permits = λ f table. Permits f table;
   cargo = λ f table. cargo f table;
   Refuses = λ held r. NoFlat (held name) r;
@@ -84,6 +88,7 @@ port_subject instance table = record {
   problem = λ v. flattened v.port v.tide;
   naming = λ v. by_name v.port v.tide;
   plan = λ v. None;
+  less = λ withdrawn v. record { port = fewer_tugs withdrawn v.port; tide = v.tide };
   Permits = λ v slots. PortPermits v.port v.tide slots;
   cargo = λ v slots. port_cargo v.port v.tide slots;
   Refuses = λ held r. NoPort (held instance) (held table) r;
@@ -94,16 +99,16 @@ port_subject instance table = record {
 -- what a subject gives, and a plan of it
 pub record Planned (s : Subject) : Type 0 where
   pub value : s.Value
-  pub plan : List Wish
+  pub plan : PlanParts
 
 pub record ReadsPlanned (s : Subject) (name : List ℕ) (held : List ℕ → Option (List ℕ)) (v : Planned s) : Type 0 where
   pub reads : s.Reads held v.value
   pub planned : IsPlanOf (held name) (s.problem v.value) v.plan
 
--- permitted, and each ship has its kept slot or a slot from its earliest one on
+-- permitted with the tugs that are left, and each ship has its kept slot or a slot from its earliest one on
 pub record MeetsPlan (s : Subject) (v : Planned s) (table : List ℕ) : Type 0 where
-  pub permitted : s.Permits v.value table
-  pub granted : (ship : ℕ) → IfSome (slice_get v.plan ship) (λ wish. Grants wish (slice_index table ship))
+  pub permitted : s.Permits (s.less v.plan.withdrawn v.value) table
+  pub granted : (ship : ℕ) → IfSome (slice_get v.plan.wishes ship) (λ wish. Grants wish (slice_index table ship))
 
 pub record GivesValue (s : Subject) (held : List ℕ → Option (List ℕ)) : Type 0 where
   pub value : s.Value
@@ -138,6 +143,7 @@ repair_of s name = record {
   problem = λ v. s.problem v.value;
   naming = λ v. s.naming v.value;
   plan = λ v. Some v.plan;
+  less = λ withdrawn v. record { value = s.less withdrawn v.value; plan = v.plan };
   Permits = MeetsPlan s;
   cargo = λ v table. s.cargo v.value table;
   Refuses = NoPlanned s name;
@@ -165,6 +171,10 @@ repaired_by s (Some name) = repair_of s name
 
 abbrev pub topic_subject : Topic → Subject
 topic_subject topic = repaired_by (origin_subject topic.origin) topic.plan
+
+-- without a plan
+abbrev pub plainly : Origin → Topic
+plainly origin = record { origin = origin; plan = None }
 
 -- ---- without where the names lie
 

@@ -1,8 +1,12 @@
-//! The program: reads its words, runs them over files and standard output, and ends with the
-//! status's code.
+//! The program: from its command line, over files and standard output, to its exit code.
 #![tactic(auto)]
 
-use hw_host::{HostDesk, end_of};
+mod help;
+mod info;
+mod words;
+
+use crate::words::end_of;
+use hw_host::HostDesk;
 use std::env;
 use std::process::ExitCode;
 

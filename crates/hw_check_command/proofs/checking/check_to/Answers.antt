@@ -2,7 +2,8 @@ use Rattle.std.proofs.Common.{subst}
 use Rattle.hw_model.specs.Problem.{Problem}
 use Rattle.hw_command.specs.Readings.{KeepsNone, ReadsCert}
 use Rattle.hw_subject.specs.Subjects.{topic_seen}
-use Rattle.hw_check_command.proofs.Checked.{check_stops, check_meets, unread}
+use Rattle.hw_subject.proofs.Certified.{unread}
+use Rattle.hw_check_command.proofs.Checked.{check_stops, check_meets}
 use Rattle.hw_check_command.proofs.checking.check_to.Goals as goal
 
 pub returns-in-Err : goal.returns-in-Err

@@ -4,7 +4,7 @@ use Rattle.hw_report.specs.Reports.{Report}
 use Rattle.hw_command.specs.Ends.{EndsWith}
 use Rattle.hw_subject.specs.Subjects.{topic_seen}
 use Rattle.hw_check_command.specs.Rewriting.{RenewsTo}
-use Rattle.hw_check_command.proofs.Checked.{unmade, unread}
+use Rattle.hw_subject.proofs.Certified.{unmade, unread}
 use Rattle.hw_check_command.proofs.Renewed.{renew_stops, renew_meets}
 use Rattle.hw_check_command.proofs.renewing.renew.Goals as goal
 

@@ -1,6 +1,6 @@
 use Rattle.std.proofs.Common.{Ok, Err, refl}
 use Rattle.hw_subject.specs.Subjects.{topic_seen}
-use Rattle.hw_check_command.proofs.Checked.{unread}
+use Rattle.hw_subject.proofs.Certified.{unread}
 use Rattle.hw_listing_command.proofs.Tabled.{has_table, table_refuses, table_sent, table_stops}
 use Rattle.hw_listing_command.proofs.tables.list_table.Goals as goal
 

@@ -1,6 +1,6 @@
 use Rattle.std.proofs.Common.{Ok, Err, refl}
 use Rattle.hw_subject.specs.Subjects.{origin_seen}
-use Rattle.hw_check_command.proofs.Checked.{unread}
+use Rattle.hw_subject.proofs.Certified.{unread}
 use Rattle.hw_repair_command.proofs.Explained.{topic_of, explain_stops, explain_refuses, explain_tells, listed, planned}
 use Rattle.hw_repair_command.proofs.explaining.explain_repair.Goals as goal
 

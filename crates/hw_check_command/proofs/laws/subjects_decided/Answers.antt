@@ -1,5 +1,0 @@
-use Rattle.hw_check_command.proofs.Decided.{subjects_decided_law}
-use Rattle.hw_check_command.proofs.laws.subjects_decided.Goals as goal
-
-pub returns : goal.returns
-returns c = subjects_decided_law

@@ -1,2 +1,0 @@
-mod FlattenWorks
-mod Demonstrated
