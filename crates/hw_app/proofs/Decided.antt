@@ -3,13 +3,14 @@ use Rattle.std.proofs.Common.{◌≡◌, ◌⊎◌, ◌∙◌, ℕ, List, Option
 use Rattle.hw_model.specs.Problem.{Problem}
 use Rattle.hw_cert.specs.declared.version.Version.{Version}
 use Rattle.hw_cert.specs.declared.version.Version.TheVariants.{Two}
-use Rattle.hw_repair.specs.declared.plan.Wish.{Wish}
+use Rattle.hw_repair.specs.Wishes.{PlanParts}
 use Rattle.hw_report.specs.Reports.{Report, Naming}
 use Rattle.hw_subject.specs.Subjects.{Subject, Topic, topic_subject}
-use Rattle.hw_check_command.specs.Laws.{IsDecided, DecidedBy}
-use Rattle.hw_check_command.specs.Texts.{cert_report}
-use Rattle.hw_check_command.proofs.Decided.{subjects_decided_law}
-use Rattle.hw_check_command.proofs.Reports.{certificates_decide_law, renewed_as_checked_law}
+use Rattle.hw_subject.specs.Decided.{IsDecided, DecidedBy}
+use Rattle.hw_subject.specs.Texts.{cert_report}
+use Rattle.hw_subject.proofs.Decided.{subjects_decided_law}
+use Rattle.hw_subject.proofs.Reports.{certificates_decide_law}
+use Rattle.hw_check_command.proofs.Renewed.{renewed_as_checked_law}
 use Rattle.hw_app.specs.LawsOfReports.{CheckOf, RenewalOf}
 use Rattle.hw_app.specs.Told.{IsTold}
 use Rattle.hw_app.proofs.Told.{all_told, moved, refused_alike}
@@ -17,10 +18,10 @@ use Rattle.hw_app.proofs.Told.{all_told, moved, refused_alike}
 -- ---- a report by what is read
 
 abbrev pub Last : Type 0
-Last = Naming → Problem → Option (List Wish) → Report
+Last = Naming → Problem → Option PlanParts → Report
 
 -- what is read of the inputs, and the report that is made of it
-pub record ReportedBy (s : Subject) (held : List ℕ → Option (List ℕ)) (last : Naming → Problem → Option (List Wish) → Report) (r : Report) : Type 0 where
+pub record ReportedBy (s : Subject) (held : List ℕ → Option (List ℕ)) (last : Naming → Problem → Option PlanParts → Report) (r : Report) : Type 0 where
   pub value : s.Value
   pub reads : s.Reads held value
   pub report : r ≡ last (s.naming value) (s.problem value) (s.plan value)
@@ -39,7 +40,7 @@ carried a b bytes h g last r x y (inr by) =
     inr (record {
       value = it.value;
       reads = it.reads;
-      report = by.report ∙ ap (λ (n : Naming). last n (s.problem by.value) (s.plan by.value)) (sym it.naming) ∙ ap (λ (f : Problem). last (t.naming it.value) f (s.plan by.value)) (sym it.problem) ∙ ap (λ (o : Option (List Wish)). last (t.naming it.value) (t.problem it.value) o) (sym it.plan);
+      report = by.report ∙ ap (λ (n : Naming). last n (s.problem by.value) (s.plan by.value)) (sym it.naming) ∙ ap (λ (f : Problem). last (t.naming it.value) f (s.plan by.value)) (sym it.problem) ∙ ap (λ (o : Option PlanParts). last (t.naming it.value) (t.problem it.value) o) (sym it.plan);
     })
 
 one_of : (s : Subject) (held : List ℕ → Option (List ℕ)) (last : Last) (r t : Report) → IsDecided s held → IsReported s held last r → IsReported s held last t → r ≡ t

@@ -18,7 +18,7 @@ use Rattle.hw_cert.specs.Spelled.{is_within}
 use Rattle.hw_cert.specs.Stream.{complete, CertLines, cert_stream_to}
 use Rattle.hw_cert.proofs.Formed.{plain_formed, third_formed}
 use Rattle.hw_cert.proofs.ValidCerts.{valid_streams}
-use Rattle.hw_repair.specs.declared.plan.Wish.{Wish}
+use Rattle.hw_repair.specs.Wishes.{PlanParts}
 use Rattle.hw_report.specs.Reports.{Report, Naming, checked}
 use Rattle.hw_report.specs.declared.report.Head.{Head}
 use Rattle.hw_command.specs.Certificates.{line_outcome, lines_outcome, report_of, stream_outcome}
@@ -31,7 +31,7 @@ use Rattle.hw_search_command.specs.Certified.{IsCertificate, head_verdict, searc
 use Rattle.hw_search_command.specs.Searchers.{searcher_of}
 use Rattle.hw_search_command.specs.declared.searcher.Search.{Search}
 use Rattle.hw_search_command.specs.declared.searcher.Search.TheVariants.{Solve, Prove, Crew}
-use Rattle.hw_check_command.specs.Texts.{cert_report}
+use Rattle.hw_subject.specs.Texts.{cert_report}
 use Rattle.hw_app.specs.LawsOfSearches.{PassesLimit, IsShownAs, OwnReport, verdict_with}
 use Rattle.hw_app.proofs.Decided.{checked_at}
 use Rattle.hw_app.proofs.Owned.{plain_all}
@@ -50,7 +50,7 @@ within Prove = refl
 within (Crew order) = refl
 
 -- they are the lines that its bytes read as
-pub own_lines : {f : Problem} {plan : Option (List Wish)} {budget : ℕ} {head : Head} {table : Option (List ℕ)} {bound : Option ℕ} {cert : List ℕ} (how : Search) → IsFlat (repaired_problem f plan) → (c : IsCertificate (searcher_of how) f plan budget head table bound cert) → PassesLimit (searcher_of how).version (repaired_problem f plan) cert ⊎ (cert_stream_to (searcher_of how).version (shape_of (repaired_problem f plan)) cert ≡ whole_lines c.lines)
+pub own_lines : {f : Problem} {plan : Option PlanParts} {budget : ℕ} {head : Head} {table : Option (List ℕ)} {bound : Option ℕ} {cert : List ℕ} (how : Search) → IsFlat (repaired_problem f plan) → (c : IsCertificate (searcher_of how) f plan budget head table bound cert) → PassesLimit (searcher_of how).version (repaired_problem f plan) cert ⊎ (cert_stream_to (searcher_of how).version (shape_of (repaired_problem f plan)) cert ≡ whole_lines c.lines)
 own_lines {f = f} {plan = plan} how limits c =
     let version = (searcher_of how).version in
     let g = repaired_problem f plan in
@@ -65,11 +65,11 @@ valid_shows f (line ∷ more) before number flat good fit valid =
     ∙ ap (λ (all : List Line). Shows (verdict f all)) (append_assoc before (line ∷ []) more)
 
 -- its verdict, by the head
-shown_verdict : {f : Problem} {plan : Option (List Wish)} {budget : ℕ} {head : Head} {table : Option (List ℕ)} {bound : Option ℕ} {cert : List ℕ} (how : Search) → (c : IsCertificate (searcher_of how) f plan budget head table bound cert) → verdict (repaired_problem f plan) c.lines ≡ verdict_with (repaired_problem f plan) (searched_head plan f.ships table head) table
+shown_verdict : {f : Problem} {plan : Option PlanParts} {budget : ℕ} {head : Head} {table : Option (List ℕ)} {bound : Option ℕ} {cert : List ℕ} (how : Search) → (c : IsCertificate (searcher_of how) f plan budget head table bound cert) → verdict (repaired_problem f plan) c.lines ≡ verdict_with (repaired_problem f plan) (searched_head plan f.ships table head) table
 shown_verdict {f = f} {plan = plan} {head = head} {table = table} how c = c.shows.verdict ∙ ap (λ (t : Option (List ℕ)). head_verdict (searched_head plan f.ships table head) (option_and_then (cargo (repaired_problem f plan)) t)) c.shows.last
 
 -- the report of a check of it
-pub own_shown : {f : Problem} {plan : Option (List Wish)} {budget : ℕ} {head : Head} {table : Option (List ℕ)} {bound : Option ℕ} {cert : List ℕ} (how : Search) (names : Naming) → IsFlat (repaired_problem f plan) → (c : IsCertificate (searcher_of how) f plan budget head table bound cert) → cert_stream_to (searcher_of how).version (shape_of (repaired_problem f plan)) cert ≡ whole_lines c.lines
+pub own_shown : {f : Problem} {plan : Option PlanParts} {budget : ℕ} {head : Head} {table : Option (List ℕ)} {bound : Option ℕ} {cert : List ℕ} (how : Search) (names : Naming) → IsFlat (repaired_problem f plan) → (c : IsCertificate (searcher_of how) f plan budget head table bound cert) → cert_stream_to (searcher_of how).version (shape_of (repaired_problem f plan)) cert ≡ whole_lines c.lines
     → IsShownAs f plan head names table bound (cert_report (searcher_of how).version names f plan cert)
 own_shown {f = f} {plan = plan} how names limits c same =
     let g = repaired_problem f plan in
@@ -84,7 +84,7 @@ own_shown {f = f} {plan = plan} how names limits c same =
 -- ---- over the same inputs
 
 -- by the problem and the names as they are reported
-pub as_reported : (how : Search) (f g : Problem) (plan : Option (List Wish)) (head : Head) (names given : Naming) (table : Option (List ℕ)) (bound : Option ℕ) (cert : List ℕ) (r : Report) → f ≡ g → names ≡ given → r ≡ cert_report (searcher_of how).version given g plan cert → PassesLimit (searcher_of how).version (repaired_problem g plan) cert ⊎ IsShownAs g plan head given table bound (cert_report (searcher_of how).version given g plan cert) → PassesLimit (searcher_of how).version (repaired_problem f plan) cert ⊎ IsShownAs f plan head names table bound r
+pub as_reported : (how : Search) (f g : Problem) (plan : Option PlanParts) (head : Head) (names given : Naming) (table : Option (List ℕ)) (bound : Option ℕ) (cert : List ℕ) (r : Report) → f ≡ g → names ≡ given → r ≡ cert_report (searcher_of how).version given g plan cert → PassesLimit (searcher_of how).version (repaired_problem g plan) cert ⊎ IsShownAs g plan head given table bound (cert_report (searcher_of how).version given g plan cert) → PassesLimit (searcher_of how).version (repaired_problem f plan) cert ⊎ IsShownAs f plan head names table bound r
 as_reported how f g plan head names given table bound cert r same named is h =
     subst (λ (k : Problem). PassesLimit (searcher_of how).version (repaired_problem k plan) cert ⊎ IsShownAs k plan head names table bound r) (sym same)
     (subst (λ (n : Naming). PassesLimit (searcher_of how).version (repaired_problem g plan) cert ⊎ IsShownAs g plan head n table bound r) (sym named)

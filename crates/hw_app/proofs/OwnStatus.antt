@@ -6,7 +6,7 @@ use Rattle.hw_desk.specs.declared.desk.Feed.TheVariants.{Plan}
 use Rattle.hw_desk.specs.declared.desk.Tray.TheVariants.{Proof}
 use Rattle.hw_model.specs.Problem.{Problem, shape_of}
 use Rattle.hw_cert.specs.Stream.{cert_stream_to}
-use Rattle.hw_repair.specs.declared.plan.Wish.{Wish}
+use Rattle.hw_repair.specs.Wishes.{PlanParts}
 use Rattle.hw_report.specs.Reports.{Report, Naming, solved, bad_text, too_long}
 use Rattle.hw_report.specs.declared.report.Head.{Head}
 use Rattle.hw_report.specs.declared.report.Head.TheVariants as heads
@@ -24,7 +24,7 @@ use Rattle.hw_search_command.specs.Searchers.{searcher_of}
 use Rattle.hw_search_command.specs.Searches.{SearchSays}
 use Rattle.hw_search_command.specs.declared.searcher.Search.{Search}
 use Rattle.hw_search_command.specs.declared.searcher.Search.TheVariants.{Solve, Prove, Crew}
-use Rattle.hw_check_command.specs.Checks.{Checks, CheckSays, check_task}
+use Rattle.hw_subject.specs.Checks.{Checks, CheckSays, check_task}
 use Rattle.hw_app.specs.LawsOfSearches.{AnswerOf, CheckAfter, EndsAlike, IsOverlong, IsShownAs, OwnStatus, PassesLimit, is_answer, check_after}
 use Rattle.hw_app.specs.Run.{CommandMeets}
 use Rattle.hw_app.specs.Told.{IsTold, OriginTold, PlanTold, itself}
@@ -89,7 +89,7 @@ check_carries Prove topic name old new t m = m
 check_carries (Crew order) topic name old new t m = m
 
 -- the verdict that is shown has the status of the head
-same_status : (plan : Option (List Wish)) (ships : ℕ) (table : Option (List ℕ)) (head : Head) (best : Option ℕ) → is_answer (status_of_head head) ≡ true → status_of_verdict (head_verdict (searched_head plan ships table head) best) ≡ status_of_head head
+same_status : (plan : Option PlanParts) (ships : ℕ) (table : Option (List ℕ)) (head : Head) (best : Option ℕ) → is_answer (status_of_head head) ≡ true → status_of_verdict (head_verdict (searched_head plan ships table head) best) ≡ status_of_head head
 same_status None ships table (heads.Optimal c) best e = refl
 same_status None ships table heads.Infeasible best e = refl
 same_status None ships table (heads.Unfinished spent) best e = refl
@@ -99,7 +99,7 @@ same_status (Some plan) ships table heads.Infeasible best e = refl
 same_status (Some plan) ships table (heads.Unfinished spent) best e = refl
 same_status (Some plan) ships table heads.Memory best e = absurd (cc)
 
-shown_status : {f : Problem} {plan : Option (List Wish)} {head : Head} {names : Naming} {table : Option (List ℕ)} {bound : Option ℕ} {r : Report} → is_answer (status_of_head head) ≡ true → IsShownAs f plan head names table bound r → status_of r ≡ status_of_head head
+shown_status : {f : Problem} {plan : Option PlanParts} {head : Head} {names : Naming} {table : Option (List ℕ)} {bound : Option ℕ} {r : Report} → is_answer (status_of_head head) ≡ true → IsShownAs f plan head names table bound r → status_of r ≡ status_of_head head
 shown_status {f = f} {plan = plan} {head = head} {table = table} e h = ap status_of h.report ∙ same_status plan f.ships table head _ e
 
 check_ends : {how : Search} {bytes : Topic} {cert : List ℕ} {s t : Status} (topic : Topic) (held : List ℕ → Option (List ℕ)) (w : Wrote how topic held cert s) → IsTold held topic bytes → is_answer s ≡ true → cert_stream_to (searcher_of how).version (shape_of (judged (topic_subject topic) w.value)) cert ≡ whole_lines w.certificate.lines → CheckAfter how bytes cert t → EndsAlike s t
@@ -131,7 +131,7 @@ overlong_of how bytes topic held cert v told reads long =
     let s = topic_subject topic in
     let t = topic_subject bytes in
     let it = moved topic bytes bytes held itself told (origin_itself bytes.origin, plan_itself bytes.plan) v reads in
-    (it.value, it.reads, subst (λ (f : Problem). PassesLimit (searcher_of how).version (repaired_problem f (t.plan it.value)) cert) (sym it.problem) (subst (λ (o : Option (List Wish)). PassesLimit (searcher_of how).version (repaired_problem (s.problem v) o) cert) (sym it.plan) long))
+    (it.value, it.reads, subst (λ (f : Problem). PassesLimit (searcher_of how).version (repaired_problem f (t.plan it.value)) cert) (sym it.problem) (subst (λ (o : Option PlanParts). PassesLimit (searcher_of how).version (repaired_problem (s.problem v) o) cert) (sym it.plan) long))
 
 pub own_status : OwnStatus
 own_status how bytes cert s t h k =

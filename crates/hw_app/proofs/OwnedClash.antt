@@ -1,12 +1,13 @@
 -- A clash that was found, checked.
 use Rattle.std.proofs.Common.{◌≡◌, ◌⊎◌, ◌∙◌, ◌≤◌, ℕ, List, length, inl, inr, ap}
 use Rattle.hw_model.specs.Limits.{IsFlat}
-use Rattle.hw_model.specs.Problem.{Problem, shape_of}
+use Rattle.hw_model.specs.Problem.{shape_of}
 use Rattle.hw_lines.specs.declared.line.Line.{Line}
 use Rattle.hw_cert.specs.declared.version.Version.TheVariants.{Two}
 use Rattle.hw_cert.specs.Stream.{overlong, cert_stream}
 use Rattle.hw_cert.specs.Texts.{cert_text}
 use Rattle.hw_clash.specs.Parts.{part}
+use Rattle.hw_clash.specs.Wished.{Wished, unplanned}
 use Rattle.hw_clash.proofs.Parts.{part_fits}
 use Rattle.hw_report.specs.Reports.{Report, clashed, clash_holds}
 use Rattle.hw_report.specs.Texts.{report_text}
@@ -23,7 +24,7 @@ by_outcome : {A : Type 0} {o w : CertOutcome} {r s : Report} → A ⊎ (o ≡ w)
 by_outcome (inl a) e is = inl a
 by_outcome (inr same) e is = inr (e ∙ ap report_of_part same ∙ is)
 
-of_problem : (f : Problem) (kept : List ℕ) (drops : List (List ℕ)) (all : List Line) → IsFlat f → IsClashTold f kept drops all → length (report_text (clashed kept drops)) ≤ most_bytes → ((cert_stream (shape_of (part f kept)) (cert_text Two all)).stop ≡ overlong) ⊎ (plan_report f (report_text (clashed kept drops)) (cert_text Two all) ≡ clash_holds)
+of_problem : (f : Wished) (kept : List ℕ) (drops : List (List ℕ)) (all : List Line) → IsFlat f.problem → IsClashTold f kept drops all → length (report_text (clashed kept drops)) ≤ most_bytes → ((cert_stream (shape_of (part f kept)) (cert_text Two all)).stop ≡ overlong) ⊎ (plan_report f (report_text (clashed kept drops)) (cert_text Two all) ≡ clash_holds)
 of_problem f kept drops all flat told within =
     let g = part f kept in
     let plan = report_text (clashed kept drops) in
@@ -39,5 +40,5 @@ either_way e (inr same) = inr (e ∙ same)
 pub own_clash : OwnClash
 own_clash = record {
   problem = of_problem;
-  flat = λ f text kept drops all flat is_text told within. either_way (flat_is text (report_text (clashed kept drops)) (cert_text Two all) f is_text) (of_problem f kept drops all flat told within);
+  flat = λ f text kept drops all flat is_text told within. either_way (flat_is text (report_text (clashed kept drops)) (cert_text Two all) f is_text) (of_problem (unplanned f) kept drops all flat told within);
 }

@@ -1,30 +1,29 @@
 -- The laws of reports.
 use Rattle.std.proofs.Common.{◌≡◌, ◌⊎◌, ◌∙◌, ℕ, List, Option, Some, inl, inr, refl, sym, ap}
 use Rattle.hw_model.specs.Problem.{Problem, shape_of}
-use Rattle.hw_flat.specs.TextWritten.{problem_text}
 use Rattle.hw_lines.specs.Tolled.{bound_of}
 use Rattle.hw_cert.specs.declared.version.Version.{Version}
 use Rattle.hw_cert.specs.declared.version.Version.TheVariants.{Two, Three}
 use Rattle.hw_cert.specs.Stream.{CertLines, cert_stream, cert_stream_to}
-use Rattle.hw_port.specs.Whole.{Parts}
-use Rattle.hw_tide.specs.Levels.{TideParts}
-use Rattle.hw_port_rules.specs.Flattened.{flattened}
-use Rattle.hw_repair.specs.declared.plan.Wish.{Wish}
-use Rattle.hw_report.specs.Reports.{Report, Naming, whole_text}
+use Rattle.hw_repair.specs.Wishes.{PlanParts}
+use Rattle.hw_report.specs.Reports.{Report, Naming}
 use Rattle.hw_command.specs.Certificates.{report_of, stream_outcome}
 use Rattle.hw_subject.specs.Meanings.{judged, repaired_problem, ships_of}
-use Rattle.hw_subject.specs.Subjects.{Subject, Origin, origin_subject, topic_subject}
-use Rattle.hw_check_command.specs.Laws.{DecidedBy, IsDecided, NamesThird}
-use Rattle.hw_check_command.specs.Texts.{cert_report}
-use Rattle.hw_check_command.proofs.Decided.{subjects_decided_law}
-use Rattle.hw_check_command.proofs.OnePort.{OfFiles, of_port, no_port_files, one_report}
-use Rattle.hw_check_command.proofs.SameLines.{stream_same}
+use Rattle.hw_subject.specs.Subjects.{Subject, Origin, Topic, port_of, origin_subject, topic_subject}
+use Rattle.hw_subject.specs.Decided.{DecidedBy, IsDecided, NamesThird}
+use Rattle.hw_subject.specs.Texts.{cert_report}
+use Rattle.hw_subject.proofs.Decided.{subjects_decided_law}
+use Rattle.hw_subject.proofs.SameLines.{stream_same}
 use Rattle.hw_chart_command.specs.Texts.{cert_chart}
 use Rattle.hw_chart_command.proofs.Decided.{DrawnBy, decided as chart_decided}
 use Rattle.hw_chart_command.proofs.Verified.{alike, checked_by}
+use Rattle.hw_clash.specs.Wished.{wished}
+use Rattle.hw_clash_command.specs.Asked.{asked, tugs_left, wishes_in}
 use Rattle.hw_clash_command.specs.Texts.{plan_report}
-use Rattle.hw_clash_command.proofs.Decided.{ReportedBy as ClashReportedBy, decided as clash_decided, one_clash_report_law}
-use Rattle.hw_problem_command.specs.Flattening.{FlattensTexts}
+use Rattle.hw_clash_command.proofs.Decided.{ReportedBy as ClashReportedBy, decided as clash_decided}
+use Rattle.hw_listing_command.specs.Listings.{flat_text_of, words_of}
+use Rattle.hw_listing_command.proofs.Decided.{one_listing_law}
+use Rattle.hw_listing_command.proofs.OfPort.{explains_as_listed_law, flattens_as_listed_law}
 use Rattle.hw_app.specs.LawsOfReports.{ChartOf, ClashCheckOf, OneCertificateReport, OneChart, OneClashReport, OneFlatText, PrintedBounds, VerifiedAsChecked, ChartsAsVerified, ChartsAsChecked}
 use Rattle.hw_app.specs.Told.{itself, plainly}
 use Rattle.hw_app.proofs.Decided.{Last, IsReported, as_check, by_cert, carried, check_reported, one_across, one_check}
@@ -39,22 +38,22 @@ one_certificate_report = record {
 }
 
 abbrev by_chart : List ℕ → Last
-by_chart cert names f plan = cert_chart names f cert
+by_chart cert names f plan = cert_chart names f plan cert
 
 by_drawn : (s : Subject) (held : List ℕ → Option (List ℕ)) (cert : List ℕ) (r : Report) → s.Refuses held r ⊎ DrawnBy s held cert r → IsReported s held (by_chart cert) r
 by_drawn s held cert r (inl bad) = inl bad
 by_drawn s held cert r (inr by) = inr (record { value = by.value; reads = by.reads; report = by.report })
 
-chart_reported : {bytes : Origin} {cert : List ℕ} {r : Report} → (h : ChartOf bytes cert r) → IsReported (origin_subject h.origin) h.held (by_chart cert) r
-chart_reported {cert = cert} {r = r} h = by_drawn (origin_subject h.origin) h.held cert r (chart_decided h.origin h.name cert h.held r h.cert_told h.says)
+chart_reported : {bytes : Topic} {cert : List ℕ} {r : Report} → (h : ChartOf bytes cert r) → IsReported (topic_subject h.topic) h.held (by_chart cert) r
+chart_reported {cert = cert} {r = r} h = by_drawn (topic_subject h.topic) h.held cert r (chart_decided (topic_subject h.topic) h.name cert h.held r h.cert_told h.says)
 
 pub one_chart : OneChart
-one_chart bytes cert r t h g = one_across (plainly h.origin) (plainly g.origin) (plainly bytes) h.held g.held (by_chart cert) r t (h.told, tt) (g.told, tt) (chart_reported h) (chart_reported g)
+one_chart bytes cert r t h g = one_across h.topic g.topic bytes h.held g.held (by_chart cert) r t h.told g.told (chart_reported h) (chart_reported g)
 
 abbrev by_clash : List ℕ → List ℕ → Last
-by_clash clash cert names f plan = plan_report f clash cert
+by_clash clash cert names f plan = plan_report (wished (tugs_left f plan) (wishes_in plan)) clash cert
 
-by_plan : (s : Subject) (held : List ℕ → Option (List ℕ)) (clash cert : List ℕ) (r : Report) → s.Refuses held r ⊎ ClashReportedBy s held (λ v. plan_report (s.problem v) clash cert) r → IsReported s held (by_clash clash cert) r
+by_plan : (s : Subject) (held : List ℕ → Option (List ℕ)) (clash cert : List ℕ) (r : Report) → s.Refuses held r ⊎ ClashReportedBy s held (λ v. plan_report (asked s v) clash cert) r → IsReported s held (by_clash clash cert) r
 by_plan s held clash cert r (inl bad) = inl bad
 by_plan s held clash cert r (inr by) = inr (record { value = by.value; reads = by.reads; report = by.is })
 
@@ -64,19 +63,11 @@ clash_reported {clash = clash} {cert = cert} {r = r} h = by_plan (origin_subject
 pub one_clash_report : OneClashReport
 one_clash_report = record {
   check = λ bytes clash cert r t h g. one_across (plainly h.origin) (plainly g.origin) (plainly bytes) h.held g.held (by_clash clash cert) r t (h.told, tt) (g.told, tt) (clash_reported h) (clash_reported g);
-  explain = λ instance tides r t h g. one_clash_report_law.explain instance tides itself r t (refl, (refl, tt)) h g;
+  explain = λ instance tides r t h g. one_listing_law (port_of instance tides) words_of itself r t (refl, (refl, tt)) ((explains_as_listed_law instance tides itself r).1 h) ((explains_as_listed_law instance tides itself t).1 g);
 }
 
--- the report of a port with its tide by their flat text
-abbrev by_text : Parts → TideParts → Report
-by_text p h = whole_text (problem_text (flattened p h))
-
-flatten_files : (instance tides : List ℕ) (r : Report) → FlattensTexts (Some instance) (Some tides) (Some r) → OfFiles instance tides by_text r
-flatten_files instance tides (whole_text text) says = of_port by_text _ says.reads (ap whole_text says.flat.written)
-flatten_files instance tides r says = no_port_files instance tides by_text r says
-
 pub one_flat_text : OneFlatText
-one_flat_text instance tides r t h g = one_report instance tides by_text r t (flatten_files instance tides r h) (flatten_files instance tides t g)
+one_flat_text instance tides r t h g = one_listing_law (port_of instance tides) flat_text_of itself r t (refl, (refl, tt)) ((flattens_as_listed_law instance tides itself r).1 h) ((flattens_as_listed_law instance tides itself t).1 g)
 
 -- ---- bounds
 
@@ -92,7 +83,7 @@ printed_bounds topic cert held shows bound ships names says = record {
 -- ---- one command by another
 
 -- where the same lines are read, the report is the same
-same_report : (names : Naming) (f : Problem) (plan : Option (List Wish)) (cert : List ℕ) → cert_stream_to Three (shape_of (repaired_problem f plan)) cert ≡ cert_stream (shape_of (repaired_problem f plan)) cert → cert_report Three names f plan cert ≡ cert_report Two names f plan cert
+same_report : (names : Naming) (f : Problem) (plan : Option PlanParts) (cert : List ℕ) → cert_stream_to Three (shape_of (repaired_problem f plan)) cert ≡ cert_stream (shape_of (repaired_problem f plan)) cert → cert_report Three names f plan cert ≡ cert_report Two names f plan cert
 same_report names f plan cert same = ap (λ (read : CertLines). report_of names (bound_of read.lines) (ships_of f plan) (stream_outcome (repaired_problem f plan) read)) same
 
 third_or_same : (s : Subject) (held : List ℕ → Option (List ℕ)) (cert : List ℕ) (c r : Report) → IsDecided s held → IsReported s held (by_cert Two cert) c → IsReported s held (by_cert Three cert) r → NamesThird cert ⊎ (r ≡ c)
@@ -117,10 +108,10 @@ decided_as s most held cert c (inr by) = inr (record { value = by.value; reads =
 
 pub charts_as_verified : ChartsAsVerified
 charts_as_verified bytes cert c r g h =
-    let topic = plainly h.origin in
-    alike h.origin h.held cert c r (subjects_decided_law topic h.held (all_told topic (plainly bytes) h.held (h.told, tt))) (decided_as (origin_subject h.origin) Three h.held cert c (carried g.topic topic (plainly bytes) g.held h.held (by_cert Three cert) c g.told (h.told, tt) (check_reported g))) (chart_decided h.origin h.name cert h.held r h.cert_told h.says)
+    let s = topic_subject h.topic in
+    alike h.topic h.held cert c r (subjects_decided_law h.topic h.held (all_told h.topic bytes h.held h.told)) (decided_as s Three h.held cert c (carried g.topic h.topic bytes g.held h.held (by_cert Three cert) c g.told h.told (check_reported g))) (chart_decided s h.name cert h.held r h.cert_told h.says)
 
 pub charts_as_checked : ChartsAsChecked
 charts_as_checked bytes cert c r g h =
-    let topic = plainly h.origin in
-    checked_by h.origin h.held cert c r (subjects_decided_law topic h.held (all_told topic (plainly bytes) h.held (h.told, tt))) (decided_as (origin_subject h.origin) Two h.held cert c (carried g.topic topic (plainly bytes) g.held h.held (by_cert Two cert) c g.told (h.told, tt) (check_reported g))) (chart_decided h.origin h.name cert h.held r h.cert_told h.says)
+    let s = topic_subject h.topic in
+    checked_by h.topic h.held cert c r (subjects_decided_law h.topic h.held (all_told h.topic bytes h.held h.told)) (decided_as s Two h.held cert c (carried g.topic h.topic bytes g.held h.held (by_cert Two cert) c g.told h.told (check_reported g))) (chart_decided s h.name cert h.held r h.cert_told h.says)

@@ -9,7 +9,7 @@ use Rattle.hw_command.specs.PortInputs.{NoPort}
 use Rattle.hw_command.specs.Values.{IsLong, IsPortOf}
 use Rattle.hw_subject.specs.Plans.{IsPlanOf, IsWrongLine}
 use Rattle.hw_subject.specs.Subjects.{Subject, IsProblemOf, Origin, Topic, flat_text, port_of, origin_subject, repair_of, repaired_by, topic_subject}
-use Rattle.hw_check_command.specs.Laws.{AllTold}
+use Rattle.hw_subject.specs.Decided.{AllTold}
 use Rattle.hw_app.specs.Told.{OriginTold, PlanTold, IsTold}
 
 -- ---- over another desk

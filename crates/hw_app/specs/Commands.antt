@@ -1,12 +1,14 @@
 -- A command, with its names and numbers.
 use Rattle.std.specs.Prelude.{ℕ, ◌≤◌, List, ◌∷◌, Option, Some, None, Result, Ok, Err, ⊤}
 use Rattle.hw_desk.specs.declared.desk.Feed.TheVariants as feed
+use Rattle.hw_linear.specs.declared.format.Format.{Format}
+use Rattle.hw_linear.specs.declared.format.Format.TheVariants.{Lp, Opb}
 use Rattle.hw_progress.specs.declared.limits.TheConstants.{MOST_BUDGET}
 use Rattle.hw_subject.specs.Subjects.{Origin, Topic, flat_text, port_of, origin_seen, topic_seen}
 use Rattle.hw_search_command.specs.Orders.{order_in}
 use Rattle.hw_search_command.specs.declared.searcher.Search.{Search}
 use Rattle.hw_search_command.specs.declared.searcher.Search.TheVariants.{Solve, Prove, Crew}
-use Rattle.hw_problem_command.specs.Demo.{CanDraw}
+use Rattle.hw_search_command.specs.Demo.{CanDraw}
 use Rattle.hw_app.specs.Forms.{form_of, name_in, number_in, word_in, words_of}
 use Rattle.hw_app.specs.declared.command.Command.{Command as Told}
 use Rattle.hw_app.specs.declared.command.Command.TheVariants as told
@@ -20,29 +22,30 @@ use Rattle.hw_app.specs.declared.form.Wanted.TheVariants.{Keyword}
 pub data Command : Type 0 where
   -- what is searched and how, the budget, Proof
   search : Topic → Search → ℕ → List ℕ → Command
+  -- what is searched, the certificate that is gone on from, the budget, Proof
   -- of what a certificate is checked, the certificate
   check : Topic → List ℕ → Command
   verify : Topic → List ℕ → Command
   -- the same, and Proof
   renew : Topic → List ℕ → List ℕ → Command
   -- of what a plan is drawn, the certificate
-  chart : Origin → List ℕ → Command
+  chart : Topic → List ℕ → Command
   -- of what a plan is put into a table, the certificate
   table : Topic → List ℕ → Command
   -- of what a repair is told, the plan, the certificate
   explain_repair : Origin → List ℕ → List ℕ → Command
   -- what is searched, the budget, Proof
-  clash : Origin → ℕ → List ℕ → Command
+  clash : Topic → ℕ → List ℕ → Command
   -- of what a clash is checked, the clash, the certificate
   check_clash : Origin → List ℕ → List ℕ → Command
   -- the instance, the tide table
   explain : List ℕ → List ℕ → Command
   windows : List ℕ → List ℕ → Command
-  -- what is written as a linear programme, in the LP format or in the OPB format
-  model : Origin → Command
-  opb : Origin → Command
+  -- what is written as a linear programme, and in which format
+  model : Origin → Format → Command
   -- the instance, the tide table, the plan, the events
   audit : List ℕ → List ℕ → List ℕ → List ℕ → Command
+  carry : List ℕ → List ℕ → List ℕ → List ℕ → Command
   -- the instance, the tide table
   flatten : List ℕ → List ℕ → Command
   -- the number, the ships and the slots of a demonstration, the budget, Proof
@@ -75,15 +78,16 @@ command_by (Keyword key.Check ∷ Keyword key.Clash ∷ more) form words = check
 command_by (Keyword key.Check ∷ more) form words = check (topic_in form words) (name_in form words (Input feed.Certificate))
 command_by (Keyword key.Verify ∷ more) form words = verify (topic_in form words) (name_in form words (Input feed.Certificate))
 command_by (Keyword key.Renew ∷ more) form words = renew (topic_in form words) (name_in form words (Input feed.Certificate)) (name_in form words Proof)
-command_by (Keyword key.Chart ∷ more) form words = chart (origin_in form words) (name_in form words (Input feed.Certificate))
+command_by (Keyword key.Chart ∷ more) form words = chart (topic_in form words) (name_in form words (Input feed.Certificate))
 command_by (Keyword key.Table ∷ more) form words = table (topic_in form words) (name_in form words (Input feed.Certificate))
-command_by (Keyword key.Clash ∷ more) form words = clash (origin_in form words) (number_in form words counts.Budget) (name_in form words Proof)
+command_by (Keyword key.Clash ∷ more) form words = clash (topic_in form words) (number_in form words counts.Budget) (name_in form words Proof)
 command_by (Keyword key.Explain ∷ Keyword key.Repair ∷ more) form words = explain_repair (origin_in form words) (name_in form words (Input feed.Plan)) (name_in form words (Input feed.Certificate))
 command_by (Keyword key.Explain ∷ more) form words = explain (name_in form words (Input feed.Instance)) (name_in form words (Input feed.Tides))
 command_by (Keyword key.Windows ∷ more) form words = windows (name_in form words (Input feed.Instance)) (name_in form words (Input feed.Tides))
-command_by (Keyword key.Model ∷ more) form words = model (origin_in form words)
-command_by (Keyword key.Opb ∷ more) form words = opb (origin_in form words)
+command_by (Keyword key.Model ∷ more) form words = model (origin_in form words) Lp
+command_by (Keyword key.Opb ∷ more) form words = model (origin_in form words) Opb
 command_by (Keyword key.Audit ∷ more) form words = audit (name_in form words (Input feed.Instance)) (name_in form words (Input feed.Tides)) (name_in form words (Input feed.Plan)) (name_in form words (Input feed.Events))
+command_by (Keyword key.Carry ∷ more) form words = carry (name_in form words (Input feed.Instance)) (name_in form words (Input feed.Tides)) (name_in form words (Input feed.Plan)) (name_in form words (Input feed.Events))
 command_by (Keyword key.Flatten ∷ more) form words = flatten (name_in form words (Input feed.Instance)) (name_in form words (Input feed.Tides))
 command_by wanted form words = demo (number_in form words counts.Demonstration) (number_in form words counts.Ships) (number_in form words counts.Slots) (number_in form words counts.Budget) (name_in form words Proof)
 
@@ -105,7 +109,7 @@ IsBudget budget = (1 ≤ budget) × (budget ≤ MOST_BUDGET)
 
 abbrev pub KeepsLimits : Command → Type 0
 KeepsLimits (search topic how budget proof) = IsBudget budget
-KeepsLimits (clash origin budget proof) = IsBudget budget
+KeepsLimits (clash topic budget proof) = IsBudget budget
 KeepsLimits (demo number ships slots budget proof) = CanDraw ships slots × IsBudget budget
 KeepsLimits command = ⊤
 
@@ -116,16 +120,16 @@ command_seen (told.Search subject how budget proof) = search (topic_seen subject
 command_seen (told.Check subject cert) = check (topic_seen subject) cert.now
 command_seen (told.Verify subject cert) = verify (topic_seen subject) cert.now
 command_seen (told.Renew subject cert proof) = renew (topic_seen subject) cert.now proof.now
-command_seen (told.Chart source cert) = chart (origin_seen source) cert.now
+command_seen (told.Chart subject cert) = chart (topic_seen subject) cert.now
 command_seen (told.Table subject cert) = table (topic_seen subject) cert.now
 command_seen (told.ExplainRepair source plan cert) = explain_repair (origin_seen source) plan.now cert.now
-command_seen (told.Clash source budget proof) = clash (origin_seen source) budget proof.now
+command_seen (told.Clash subject budget proof) = clash (topic_seen subject) budget proof.now
 command_seen (told.CheckClash source plan cert) = check_clash (origin_seen source) plan.now cert.now
 command_seen (told.Explain port) = explain port.instance.now port.tides.now
 command_seen (told.Windows port) = windows port.instance.now port.tides.now
-command_seen (told.Model source) = model (origin_seen source)
-command_seen (told.Opb source) = opb (origin_seen source)
+command_seen (told.Model source format) = model (origin_seen source) format
 command_seen (told.Audit port plan events) = audit port.instance.now port.tides.now plan.now events.now
+command_seen (told.Carry port plan events) = carry port.instance.now port.tides.now plan.now events.now
 command_seen (told.Flatten port) = flatten port.instance.now port.tides.now
 command_seen (told.Demo draw budget proof) = demo draw.number draw.ships draw.slots budget proof.now
 

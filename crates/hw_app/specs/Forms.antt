@@ -5,9 +5,9 @@ use Rattle.hw_desk.specs.declared.desk.Feed.TheVariants as feed
 use Rattle.hw_text.specs.Numbers.{number_from_to}
 use Rattle.hw_progress.specs.declared.limits.TheConstants.{MOST_BUDGET}
 use Rattle.hw_search_command.specs.Orders.{order_read}
-use Rattle.hw_problem_command.specs.Demo.{most_ships, most_slots}
+use Rattle.hw_search_command.specs.Demo.{most_ships, most_slots}
 use Rattle.hw_app.specs.declared.form.Form.{Form}
-use Rattle.hw_app.specs.declared.form.Form.TheVariants.{SolveFlat, SolvePort, ProveFlat, ProvePort, CheckFlat, CheckPort, VerifyFlat, VerifyPort, ChartFlat, ChartPort, TablePort, TableRepairPort, RenewFlat, RenewPort, CrewFlat, CrewPort, RepairFlat, RepairPort, ProveRepairFlat, ProveRepairPort, CheckRepair, CheckRepairPort, VerifyRepairFlat, VerifyRepairPort, ExplainRepairFlat, ExplainRepairPort, ClashFlat, ClashPort, CheckClash, CheckClashPort, ExplainPort, WindowsPort, ModelFlat, ModelPort, OpbFlat, OpbPort, AuditPort, Flatten, Demo}
+use Rattle.hw_app.specs.declared.form.Form.TheVariants.{SolveFlat, SolvePort, ProveFlat, ProvePort, CheckFlat, CheckPort, VerifyFlat, VerifyPort, ChartFlat, ChartPort, ChartRepairFlat, ChartRepairPort, TablePort, TableRepairPort, RenewFlat, RenewPort, CrewFlat, CrewPort, RepairFlat, RepairPort, ProveRepairFlat, ProveRepairPort, CheckRepair, CheckRepairPort, VerifyRepairFlat, VerifyRepairPort, ExplainRepairFlat, ExplainRepairPort, ClashFlat, ClashPort, ClashRepairFlat, ClashRepairPort, CheckClash, CheckClashPort, ExplainPort, WindowsPort, ModelFlat, ModelPort, OpbFlat, OpbPort, AuditPort, CarryPort, Flatten, Demo}
 use Rattle.hw_app.specs.declared.form.Keyword.{Keyword as KeywordOf}
 use Rattle.hw_app.specs.declared.form.Keyword.TheVariants as key
 use Rattle.hw_app.specs.declared.form.Quantity.{Quantity}
@@ -33,6 +33,7 @@ keyword_text key.Windows = codes "windows"
 keyword_text key.Model = codes "model"
 keyword_text key.Opb = codes "opb"
 keyword_text key.Audit = codes "audit"
+keyword_text key.Carry = codes "carry"
 keyword_text key.Flat = codes "flat"
 keyword_text key.Port = codes "port"
 keyword_text key.Flatten = codes "flatten"
@@ -40,7 +41,7 @@ keyword_text key.Demo = codes "demo"
 
 -- the forms that there are
 abbrev pub forms : List Form
-forms = SolveFlat ∷ SolvePort ∷ ProveFlat ∷ ProvePort ∷ CheckFlat ∷ CheckPort ∷ VerifyFlat ∷ VerifyPort ∷ ChartFlat ∷ ChartPort ∷ TablePort ∷ TableRepairPort ∷ RenewFlat ∷ RenewPort ∷ CrewFlat ∷ CrewPort ∷ RepairFlat ∷ RepairPort ∷ ProveRepairFlat ∷ ProveRepairPort ∷ CheckRepair ∷ CheckRepairPort ∷ VerifyRepairFlat ∷ VerifyRepairPort ∷ ExplainRepairFlat ∷ ExplainRepairPort ∷ ClashFlat ∷ ClashPort ∷ CheckClash ∷ CheckClashPort ∷ ExplainPort ∷ WindowsPort ∷ ModelFlat ∷ ModelPort ∷ OpbFlat ∷ OpbPort ∷ AuditPort ∷ Flatten ∷ Demo ∷ []
+forms = SolveFlat ∷ SolvePort ∷ ProveFlat ∷ ProvePort ∷ CheckFlat ∷ CheckPort ∷ VerifyFlat ∷ VerifyPort ∷ ChartFlat ∷ ChartPort ∷ ChartRepairFlat ∷ ChartRepairPort ∷ TablePort ∷ TableRepairPort ∷ RenewFlat ∷ RenewPort ∷ CrewFlat ∷ CrewPort ∷ RepairFlat ∷ RepairPort ∷ ProveRepairFlat ∷ ProveRepairPort ∷ CheckRepair ∷ CheckRepairPort ∷ VerifyRepairFlat ∷ VerifyRepairPort ∷ ExplainRepairFlat ∷ ExplainRepairPort ∷ ClashFlat ∷ ClashPort ∷ ClashRepairFlat ∷ ClashRepairPort ∷ CheckClash ∷ CheckClashPort ∷ ExplainPort ∷ WindowsPort ∷ ModelFlat ∷ ModelPort ∷ OpbFlat ∷ OpbPort ∷ AuditPort ∷ CarryPort ∷ Flatten ∷ Demo ∷ []
 
 -- the limits of a number
 abbrev pub least_of : Quantity → ℕ
@@ -67,6 +68,8 @@ words_of VerifyFlat = Keyword key.Verify ∷ Keyword key.Flat ∷ Value (Input f
 words_of VerifyPort = Keyword key.Verify ∷ Keyword key.Port ∷ Value (Input feed.Instance) ∷ Value (Input feed.Tides) ∷ Value (Input feed.Certificate) ∷ []
 words_of ChartFlat = Keyword key.Chart ∷ Keyword key.Flat ∷ Value (Input feed.Flat) ∷ Value (Input feed.Certificate) ∷ []
 words_of ChartPort = Keyword key.Chart ∷ Keyword key.Port ∷ Value (Input feed.Instance) ∷ Value (Input feed.Tides) ∷ Value (Input feed.Certificate) ∷ []
+words_of ChartRepairFlat = Keyword key.Chart ∷ Keyword key.Repair ∷ Keyword key.Flat ∷ Value (Input feed.Flat) ∷ Value (Input feed.Plan) ∷ Value (Input feed.Certificate) ∷ []
+words_of ChartRepairPort = Keyword key.Chart ∷ Keyword key.Repair ∷ Keyword key.Port ∷ Value (Input feed.Instance) ∷ Value (Input feed.Tides) ∷ Value (Input feed.Plan) ∷ Value (Input feed.Certificate) ∷ []
 words_of TablePort = Keyword key.Table ∷ Keyword key.Port ∷ Value (Input feed.Instance) ∷ Value (Input feed.Tides) ∷ Value (Input feed.Certificate) ∷ []
 words_of TableRepairPort = Keyword key.Table ∷ Keyword key.Repair ∷ Keyword key.Port ∷ Value (Input feed.Instance) ∷ Value (Input feed.Tides) ∷ Value (Input feed.Plan) ∷ Value (Input feed.Certificate) ∷ []
 words_of RenewFlat = Keyword key.Renew ∷ Keyword key.Flat ∷ Value (Input feed.Flat) ∷ Value (Input feed.Certificate) ∷ Value Proof ∷ []
@@ -85,6 +88,8 @@ words_of ExplainRepairFlat = Keyword key.Explain ∷ Keyword key.Repair ∷ Keyw
 words_of ExplainRepairPort = Keyword key.Explain ∷ Keyword key.Repair ∷ Keyword key.Port ∷ Value (Input feed.Instance) ∷ Value (Input feed.Tides) ∷ Value (Input feed.Plan) ∷ Value (Input feed.Certificate) ∷ []
 words_of ClashFlat = Keyword key.Clash ∷ Keyword key.Flat ∷ Value (Input feed.Flat) ∷ Value (Number counts.Budget) ∷ Value Proof ∷ []
 words_of ClashPort = Keyword key.Clash ∷ Keyword key.Port ∷ Value (Input feed.Instance) ∷ Value (Input feed.Tides) ∷ Value (Number counts.Budget) ∷ Value Proof ∷ []
+words_of ClashRepairFlat = Keyword key.Clash ∷ Keyword key.Repair ∷ Keyword key.Flat ∷ Value (Input feed.Flat) ∷ Value (Input feed.Plan) ∷ Value (Number counts.Budget) ∷ Value Proof ∷ []
+words_of ClashRepairPort = Keyword key.Clash ∷ Keyword key.Repair ∷ Keyword key.Port ∷ Value (Input feed.Instance) ∷ Value (Input feed.Tides) ∷ Value (Input feed.Plan) ∷ Value (Number counts.Budget) ∷ Value Proof ∷ []
 words_of CheckClash = Keyword key.Check ∷ Keyword key.Clash ∷ Value (Input feed.Flat) ∷ Value (Input feed.Plan) ∷ Value (Input feed.Certificate) ∷ []
 words_of CheckClashPort = Keyword key.Check ∷ Keyword key.Clash ∷ Keyword key.Port ∷ Value (Input feed.Instance) ∷ Value (Input feed.Tides) ∷ Value (Input feed.Plan) ∷ Value (Input feed.Certificate) ∷ []
 words_of ExplainPort = Keyword key.Explain ∷ Keyword key.Port ∷ Value (Input feed.Instance) ∷ Value (Input feed.Tides) ∷ []
@@ -94,6 +99,7 @@ words_of ModelPort = Keyword key.Model ∷ Keyword key.Port ∷ Value (Input fee
 words_of OpbFlat = Keyword key.Opb ∷ Keyword key.Flat ∷ Value (Input feed.Flat) ∷ []
 words_of OpbPort = Keyword key.Opb ∷ Keyword key.Port ∷ Value (Input feed.Instance) ∷ Value (Input feed.Tides) ∷ []
 words_of AuditPort = Keyword key.Audit ∷ Keyword key.Port ∷ Value (Input feed.Instance) ∷ Value (Input feed.Tides) ∷ Value (Input feed.Plan) ∷ Value (Input feed.Events) ∷ []
+words_of CarryPort = Keyword key.Carry ∷ Keyword key.Port ∷ Value (Input feed.Instance) ∷ Value (Input feed.Tides) ∷ Value (Input feed.Plan) ∷ Value (Input feed.Events) ∷ []
 words_of Flatten = Keyword key.Flatten ∷ Value (Input feed.Instance) ∷ Value (Input feed.Tides) ∷ []
 words_of Demo = Keyword key.Demo ∷ Value (Number counts.Demonstration) ∷ Value (Number counts.Ships) ∷ Value (Number counts.Slots) ∷ Value (Number counts.Budget) ∷ Value Proof ∷ []
 

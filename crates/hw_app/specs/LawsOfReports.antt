@@ -7,15 +7,15 @@ use Rattle.hw_cert.specs.declared.version.Version.TheVariants.{Two, Three}
 use Rattle.hw_report.specs.Reports.{Report, Naming, checked}
 use Rattle.hw_subject.specs.Meanings.{IsBoundOf, own_worth}
 use Rattle.hw_subject.specs.Subjects.{Subject, Origin, Topic, origin_subject, topic_subject}
-use Rattle.hw_check_command.specs.Checks.{Checks}
-use Rattle.hw_check_command.specs.Laws.{AllTold, NamesThird}
+use Rattle.hw_subject.specs.Checks.{Checks}
+use Rattle.hw_subject.specs.Decided.{AllTold, NamesThird}
 use Rattle.hw_check_command.specs.Renews.{Renews}
 use Rattle.hw_chart_command.specs.Charts.{Charts}
 use Rattle.hw_chart_command.specs.Laws.{IsChartOf}
 use Rattle.hw_clash_command.specs.CheckClash.{ClashChecks}
-use Rattle.hw_clash_command.specs.ExplainPort.{ExplainsTexts}
-use Rattle.hw_problem_command.specs.Flattening.{FlattensTexts}
-use Rattle.hw_app.specs.Told.{OriginTold, IsTold, plainly}
+use Rattle.hw_listing_command.specs.ExplainPort.{ExplainsTexts}
+use Rattle.hw_listing_command.specs.Flattening.{FlattensTexts}
+use Rattle.hw_app.specs.Told.{OriginTold, IsTold}
 
 -- no two reports are said
 abbrev pub OneReport : (Report → Type 0) → Type 0
@@ -44,13 +44,13 @@ pub record RenewalOf (bytes : Topic) (cert : List ℕ) (r : Report) : Type 0 whe
   pub says : Renews (topic_subject topic) name proof old new r
 
 -- `chart`
-pub record ChartOf (bytes : Origin) (cert : List ℕ) (r : Report) : Type 0 where
-  pub origin : Origin
+pub record ChartOf (bytes : Topic) (cert : List ℕ) (r : Report) : Type 0 where
+  pub topic : Topic
   pub name : List ℕ
   pub held : List ℕ → Option (List ℕ)
-  pub told : OriginTold held origin bytes
+  pub told : IsTold held topic bytes
   pub cert_told : held name ≡ Some cert
-  pub says : Charts (origin_subject origin) name held r
+  pub says : Charts (topic_subject topic) name held r
 
 -- `check clash`
 pub record ClashCheckOf (bytes : Origin) (plan cert : List ℕ) (r : Report) : Type 0 where
@@ -72,16 +72,16 @@ pub record OneCertificateReport : Type 0 where
 
 -- a picture, and what is reported where nothing is drawn
 abbrev pub OneChart : Type 0
-OneChart = (bytes : Origin) (cert : List ℕ) → OneReport (ChartOf bytes cert)
+OneChart = (bytes : Topic) (cert : List ℕ) → OneReport (ChartOf bytes cert)
 
 -- of a clash and its certificate, and the words for a port's restrictions
 pub record OneClashReport : Type 0 where
   pub check : (bytes : Origin) (plan cert : List ℕ) → OneReport (ClashCheckOf bytes plan cert)
-  pub explain : (instance tides : List ℕ) → OneReport (λ r. ExplainsTexts (Some instance) (Some tides) (Some r))
+  pub explain : (instance tides : List ℕ) → OneReport (λ r. ExplainsTexts (Some instance) (Some tides) r)
 
 -- the flat text of a port
 abbrev pub OneFlatText : Type 0
-OneFlatText = (instance tides : List ℕ) → OneReport (λ r. FlattensTexts (Some instance) (Some tides) (Some r))
+OneFlatText = (instance tides : List ℕ) → OneReport (λ r. FlattensTexts (Some instance) (Some tides) r)
 
 -- ---- one command by another
 
@@ -104,8 +104,8 @@ VerifiedAsChecked = (bytes : Topic) (cert : List ℕ) (c r : Report) → CheckOf
 
 -- `chart` draws what `verify` shows, and refuses what `verify` refuses
 abbrev pub ChartsAsVerified : Type 0
-ChartsAsVerified = (bytes : Origin) (cert : List ℕ) (c r : Report) → CheckOf Three (plainly bytes) cert c → (h : ChartOf bytes cert r) → IsChartOf (origin_subject h.origin) h.held c r
+ChartsAsVerified = (bytes : Topic) (cert : List ℕ) (c r : Report) → CheckOf Three bytes cert c → (h : ChartOf bytes cert r) → IsChartOf (topic_subject h.topic) h.held c r
 
 -- the same by `check`, unless the certificate names the third version
 abbrev pub ChartsAsChecked : Type 0
-ChartsAsChecked = (bytes : Origin) (cert : List ℕ) (c r : Report) → CheckOf Two (plainly bytes) cert c → (h : ChartOf bytes cert r) → NamesThird cert ⊎ IsChartOf (origin_subject h.origin) h.held c r
+ChartsAsChecked = (bytes : Topic) (cert : List ℕ) (c r : Report) → CheckOf Two bytes cert c → (h : ChartOf bytes cert r) → NamesThird cert ⊎ IsChartOf (topic_subject h.topic) h.held c r

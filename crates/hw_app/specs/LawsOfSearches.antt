@@ -9,7 +9,7 @@ use Rattle.hw_cert.specs.declared.version.Version.{Version}
 use Rattle.hw_cert.specs.Stream.{overlong, cert_stream_to}
 use Rattle.hw_report.specs.Reports.{Report, Naming, checked, solved}
 use Rattle.hw_report.specs.declared.report.Head.{Head}
-use Rattle.hw_repair.specs.declared.plan.Wish.{Wish}
+use Rattle.hw_repair.specs.Wishes.{PlanParts}
 use Rattle.hw_command.specs.declared.status.Status.{Status}
 use Rattle.hw_command.specs.declared.status.Status.TheVariants as status
 use Rattle.hw_subject.specs.Meanings.{judged, repaired_problem, ships_of}
@@ -46,7 +46,7 @@ abbrev pub verdict_with : Problem → Head → Option (List ℕ) → Verdict
 verdict_with f head table = head_verdict head (option_and_then (cargo f) table)
 
 -- a check shows a printed head with a timetable or none, and a printed bound or none, of a problem or of its repair by a plan: the verdict of the head for which the printed one stands, and a bound that stands for the printed one
-pub record IsShownAs (f : Problem) (plan : Option (List Wish)) (head : Head) (names : Naming) (table : Option (List ℕ)) (bound : Option ℕ) (r : Report) : Type 0 where
+pub record IsShownAs (f : Problem) (plan : Option PlanParts) (head : Head) (names : Naming) (table : Option (List ℕ)) (bound : Option ℕ) (r : Report) : Type 0 where
   pub last : Option ℕ
   pub stands : own_bound plan f.ships last ≡ bound
   pub report : r ≡ checked (verdict_with (repaired_problem f plan) (searched_head plan f.ships table head) table) last (ships_of f plan) names

@@ -1,8 +1,8 @@
 //! A command, with its names and numbers.
 
 use hw_command::PortNames;
-use hw_problem_command::Draw;
-use hw_search_command::Search;
+use hw_linear::Format;
+use hw_search_command::{Draw, Search};
 use hw_subject::{Source, Subject};
 
 /// What a run is to do. The names are those of a desk's feeds and of Proof, and a budget is in lemmas.
@@ -28,7 +28,7 @@ pub enum Command<'w> {
         proof: &'w str,
     },
     Chart {
-        source: Source<'w>,
+        subject: Subject<'w>,
         cert: &'w str,
     },
     Table {
@@ -41,7 +41,7 @@ pub enum Command<'w> {
         cert: &'w str,
     },
     Clash {
-        source: Source<'w>,
+        subject: Subject<'w>,
         budget: u32,
         proof: &'w str,
     },
@@ -58,11 +58,14 @@ pub enum Command<'w> {
     },
     Model {
         source: Source<'w>,
-    },
-    Opb {
-        source: Source<'w>,
+        format: Format,
     },
     Audit {
+        port: PortNames<'w>,
+        plan: &'w str,
+        events: &'w str,
+    },
+    Carry {
         port: PortNames<'w>,
         plan: &'w str,
         events: &'w str,

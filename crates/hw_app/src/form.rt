@@ -30,6 +30,10 @@ pub enum Form {
     ChartFlat,
     /// `chart port INSTANCE TIDES CERT` draws the plan that a certificate of a port shows.
     ChartPort,
+    /// `chart repair flat NAME PLAN CERT` draws the plan that a certificate of the repair of a flat text's plan shows, against that plan.
+    ChartRepairFlat,
+    /// `chart repair port INSTANCE TIDES PLAN CERT` draws the plan that a certificate of the repair of a port's plan shows, against that plan.
+    ChartRepairPort,
     /// `table port INSTANCE TIDES CERT` prints the plan that a certificate of a port shows as CSV.
     TablePort,
     /// `table repair port INSTANCE TIDES PLAN CERT` prints the plan that a certificate of the repair of a port's plan shows as CSV.
@@ -66,6 +70,10 @@ pub enum Form {
     ClashFlat,
     /// `clash port INSTANCE TIDES BUDGET PROOF` searches for the restrictions of a port that can't be met together, up to BUDGET lemmas a step.
     ClashPort,
+    /// `clash repair flat NAME PLAN BUDGET PROOF` searches for the restrictions of a flat text and the wishes of a plan that can't be met together, up to BUDGET lemmas a step.
+    ClashRepairFlat,
+    /// `clash repair port INSTANCE TIDES PLAN BUDGET PROOF` searches for the restrictions of a port and the wishes of a plan that can't be met together, up to BUDGET lemmas a step.
+    ClashRepairPort,
     /// `check clash NAME PLAN CERT` checks a clash of a flat text, with its certificate.
     CheckClash,
     /// `check clash port INSTANCE TIDES PLAN CERT` checks a clash of a port, with its certificate.
@@ -84,6 +92,8 @@ pub enum Form {
     OpbPort,
     /// `audit port INSTANCE TIDES PLAN EVENTS` watches a timetable of a port through events.
     AuditPort,
+    /// `carry port INSTANCE TIDES PLAN EVENTS` writes the plan of a repair that a timetable and the events so far give.
+    CarryPort,
     /// `flatten INSTANCE TIDES` writes the flat text of a port.
     Flatten,
     /// `demo NUMBER SHIPS SLOTS BUDGET PROOF` draws a problem, solves it and checks its certificate.
@@ -108,6 +118,7 @@ pub enum Keyword {
     Model,
     Opb,
     Audit,
+    Carry,
     Flat,
     Port,
     Flatten,
@@ -148,7 +159,7 @@ pub enum Wanted {
 }
 
 /// The forms that there are.
-pub const FORMS: [Form; 39] = [
+pub const FORMS: [Form; 44] = [
     Form::SolveFlat,
     Form::SolvePort,
     Form::ProveFlat,
@@ -159,6 +170,8 @@ pub const FORMS: [Form; 39] = [
     Form::VerifyPort,
     Form::ChartFlat,
     Form::ChartPort,
+    Form::ChartRepairFlat,
+    Form::ChartRepairPort,
     Form::TablePort,
     Form::TableRepairPort,
     Form::RenewFlat,
@@ -177,6 +190,8 @@ pub const FORMS: [Form; 39] = [
     Form::ExplainRepairPort,
     Form::ClashFlat,
     Form::ClashPort,
+    Form::ClashRepairFlat,
+    Form::ClashRepairPort,
     Form::CheckClash,
     Form::CheckClashPort,
     Form::ExplainPort,
@@ -186,6 +201,7 @@ pub const FORMS: [Form; 39] = [
     Form::OpbFlat,
     Form::OpbPort,
     Form::AuditPort,
+    Form::CarryPort,
     Form::Flatten,
     Form::Demo,
 ];
@@ -219,6 +235,8 @@ pub const MODEL: Wanted = Wanted::Keyword(Keyword::Model);
 pub const OPB: Wanted = Wanted::Keyword(Keyword::Opb);
 
 pub const AUDIT: Wanted = Wanted::Keyword(Keyword::Audit);
+
+pub const CARRY: Wanted = Wanted::Keyword(Keyword::Carry);
 
 const FLAT: Wanted = Wanted::Keyword(Keyword::Flat);
 
@@ -267,6 +285,8 @@ pub fn words_of(form: Form) -> &'static [Wanted]
         Form::VerifyPort => &[VERIFY, PORT, INSTANCE, TIDES, CERT],
         Form::ChartFlat => &[CHART, FLAT, NAME, CERT],
         Form::ChartPort => &[CHART, PORT, INSTANCE, TIDES, CERT],
+        Form::ChartRepairFlat => &[CHART, REPAIR, FLAT, NAME, PLAN, CERT],
+        Form::ChartRepairPort => &[CHART, REPAIR, PORT, INSTANCE, TIDES, PLAN, CERT],
         Form::TablePort => &[TABLE, PORT, INSTANCE, TIDES, CERT],
         Form::TableRepairPort => &[TABLE, REPAIR, PORT, INSTANCE, TIDES, PLAN, CERT],
         Form::RenewFlat => &[RENEW, FLAT, NAME, CERT, PROOF],
@@ -285,6 +305,8 @@ pub fn words_of(form: Form) -> &'static [Wanted]
         Form::ExplainRepairPort => &[EXPLAIN, REPAIR, PORT, INSTANCE, TIDES, PLAN, CERT],
         Form::ClashFlat => &[CLASH, FLAT, NAME, BUDGET, PROOF],
         Form::ClashPort => &[CLASH, PORT, INSTANCE, TIDES, BUDGET, PROOF],
+        Form::ClashRepairFlat => &[CLASH, REPAIR, FLAT, NAME, PLAN, BUDGET, PROOF],
+        Form::ClashRepairPort => &[CLASH, REPAIR, PORT, INSTANCE, TIDES, PLAN, BUDGET, PROOF],
         Form::CheckClash => &[CHECK, CLASH, NAME, PLAN, CERT],
         Form::CheckClashPort => &[CHECK, CLASH, PORT, INSTANCE, TIDES, PLAN, CERT],
         Form::ExplainPort => &[EXPLAIN, PORT, INSTANCE, TIDES],
@@ -294,6 +316,7 @@ pub fn words_of(form: Form) -> &'static [Wanted]
         Form::OpbFlat => &[OPB, FLAT, NAME],
         Form::OpbPort => &[OPB, PORT, INSTANCE, TIDES],
         Form::AuditPort => &[AUDIT, PORT, INSTANCE, TIDES, PLAN, EVENTS],
+        Form::CarryPort => &[CARRY, PORT, INSTANCE, TIDES, PLAN, EVENTS],
         Form::Flatten => &[FLATTEN, INSTANCE, TIDES],
         Form::Demo => &[DEMO, NUMBER, SHIPS, SLOTS, BUDGET, PROOF],
     }
@@ -319,6 +342,7 @@ pub fn keyword_text(keyword: Keyword) -> &'static str
         Keyword::Model => "model",
         Keyword::Opb => "opb",
         Keyword::Audit => "audit",
+        Keyword::Carry => "carry",
         Keyword::Flat => "flat",
         Keyword::Port => "port",
         Keyword::Flatten => "flatten",

@@ -7,17 +7,16 @@ ghost use Rattle.hw_app.specs.Run.{RunMeets};
 
 use crate::command::Command;
 use crate::words::read_command;
-use hw_audit_command::audit_port;
+use hw_audit_command::{audit_port, carry_port};
 use hw_chart_command::chart;
 use hw_check_command::{check, renew, verify};
-use hw_clash_command::{check_clash, clash, explain_port};
+use hw_clash_command::{check_clash, clash};
 use hw_command::{Status, finish};
 use hw_desk::Desk;
-use hw_listing_command::{list_model, list_opb, list_table, list_windows};
-use hw_problem_command::{demo, flatten_port};
+use hw_listing_command::{explain_port, flatten_port, list_model, list_table, list_windows};
 use hw_repair_command::explain_repair;
 use hw_report::Report;
-use hw_search_command::search_subject;
+use hw_search_command::{demo, search_subject};
 use std::alloc::Global;
 
 /// Does what the words say over a desk on which nothing was begun or made, and sends its report.
@@ -45,22 +44,22 @@ pub fn run<D: Desk>(alloc: Global, words: &[String], desk: &mut D) -> Status
             cert,
             proof,
         } => renew(alloc, desk, subject, cert, proof),
-        Command::Chart { source, cert } => chart(alloc, desk, source, cert),
+        Command::Chart { subject, cert } => chart(alloc, desk, subject, cert),
         Command::Table { subject, cert } => list_table(alloc, desk, subject, cert),
         Command::ExplainRepair { source, plan, cert } => {
             explain_repair(alloc, desk, source, plan, cert)
         }
         Command::Clash {
-            source,
+            subject,
             budget,
             proof,
-        } => clash(alloc, desk, source, budget, proof),
+        } => clash(alloc, desk, subject, budget, proof),
         Command::CheckClash { source, plan, cert } => check_clash(alloc, desk, source, plan, cert),
         Command::Explain { port } => explain_port(alloc, desk, port),
         Command::Windows { port } => list_windows(alloc, desk, port),
-        Command::Model { source } => list_model(alloc, desk, source),
-        Command::Opb { source } => list_opb(alloc, desk, source),
+        Command::Model { source, format } => list_model(alloc, desk, source, format),
         Command::Audit { port, plan, events } => audit_port(alloc, desk, port, plan, events),
+        Command::Carry { port, plan, events } => carry_port(alloc, desk, port, plan, events),
         Command::Flatten { port } => flatten_port(alloc, desk, port),
         Command::Demo {
             draw,

@@ -3,21 +3,21 @@
 ghost use Rattle.std.specs.Prelude.{◌≡◌, ◌≤◌, IfOk, length, map, string_bytes};
 ghost use Rattle.hw_search_command.specs.Orders.{order_in};
 ghost use Rattle.hw_subject.specs.Subjects.{origin_seen, plan_seen, topic_seen};
-ghost use Rattle.hw_problem_command.specs.Demo.{CanDraw};
+ghost use Rattle.hw_search_command.specs.Demo.{CanDraw};
 ghost use Rattle.hw_app.specs.Commands.{KeepsLimits, command_by, command_in, command_of, command_seen, origin_in, read_seen, search_in, topic_in};
 ghost use Rattle.hw_app.specs.Forms.{agreed, first_fitting, form_of, furthest, is_value, least_of, most_of, name_in, number_in, takes, word_in, word_where};
 
 use crate::command::Command;
 use crate::form::{
-    AUDIT, CHART, CHECK, CLASH, CREW, EXPLAIN, FLATTEN, FORMS, Form, MODEL, OPB, PROVE, Quantity,
-    RENEW, REPAIR, SOLVE, TABLE, VERIFY, Value, WINDOWS, Wanted, keyword_text, least_of, most_of,
-    words_of,
+    AUDIT, CARRY, CHART, CHECK, CLASH, CREW, EXPLAIN, FLATTEN, FORMS, Form, MODEL, OPB, PROVE,
+    Quantity, RENEW, REPAIR, SOLVE, TABLE, VERIFY, Value, WINDOWS, Wanted, keyword_text, least_of,
+    most_of, words_of,
 };
 use hw_command::PortNames;
 use hw_desk::Feed;
-use hw_problem_command::Draw;
+use hw_linear::Format;
 use hw_search::Branching;
-use hw_search_command::{Order, Search};
+use hw_search_command::{Draw, Order, Search};
 use hw_subject::{Source, Subject};
 use hw_text::read_small;
 
@@ -153,7 +153,7 @@ fn command_by<'w>(wanted: &[Wanted], form: Form, words: &'w [String]) -> Command
             proof: name_in(form, words, Value::Proof),
         },
         [CHART, ..] => Command::Chart {
-            source: source_in(form, words),
+            subject: subject_in(form, words),
             cert: input_in(form, words, Feed::Certificate),
         },
         [TABLE, ..] => Command::Table {
@@ -161,7 +161,7 @@ fn command_by<'w>(wanted: &[Wanted], form: Form, words: &'w [String]) -> Command
             cert: input_in(form, words, Feed::Certificate),
         },
         [CLASH, ..] => Command::Clash {
-            source: source_in(form, words),
+            subject: subject_in(form, words),
             budget: number_in(form, words, Quantity::Budget),
             proof: name_in(form, words, Value::Proof),
         },
@@ -178,11 +178,18 @@ fn command_by<'w>(wanted: &[Wanted], form: Form, words: &'w [String]) -> Command
         },
         [MODEL, ..] => Command::Model {
             source: source_in(form, words),
+            format: Format::Lp,
         },
-        [OPB, ..] => Command::Opb {
+        [OPB, ..] => Command::Model {
             source: source_in(form, words),
+            format: Format::Opb,
         },
         [AUDIT, ..] => Command::Audit {
+            port: port_in(form, words),
+            plan: input_in(form, words, Feed::Plan),
+            events: input_in(form, words, Feed::Events),
+        },
+        [CARRY, ..] => Command::Carry {
             port: port_in(form, words),
             plan: input_in(form, words, Feed::Plan),
             events: input_in(form, words, Feed::Events),

@@ -1,0 +1,178 @@
+#!/usr/bin/env python3
+"""Draws a repaired plan as SVG on standard output, by docs/PICTURE.md.
+
+    chart_repair.py port INSTANCE TIDES PLAN CERT
+    chart_repair.py flat NAME PLAN CERT
+
+It draws the plan as chart.py beside it does, and lays over it what became of each ship's old slot. Like that it trusts
+the certificate, which is one of the repair's problem, and the form of its inputs.
+"""
+
+import json
+import sys
+
+import chart
+
+# ---------------------------------------------------------------- what is read
+
+
+def read_plan(text):
+    """For each ship its old slot, and the earliest slot that it may be given, or None where it has sailed."""
+    wishes = []
+    for line in text.splitlines()[1:-1]:
+        words = line.split(" ")
+        if words[0] != "w":
+            wishes.append((int(words[1]), int(words[2]) if words[0] == "o" else None))
+    return wishes
+
+
+def read_bound(text):
+    """The last bound of a certificate, or None."""
+    bounds = [int(line.split(" ")[1]) for line in text.splitlines() if line.startswith("b ")]
+    return bounds[-1] if bounds else None
+
+
+# ---------------------------------------------------------------- the head
+
+MARKS = """<style>
+.gh{fill:#7b2fa8;fill-opacity:.7}.sd{fill:#1e7a4c}.ht{fill:url(#ht)}.hs{stop-color:#526170;stop-opacity:.55}.ho{stop-opacity:0}
+@media screen and (prefers-color-scheme:dark){.gh{fill:#d29bf5}.sd{fill:#4fd08f}.hs{stop-color:#9fadba}}
+</style>
+<linearGradient id="ht" gradientUnits="userSpaceOnUse" x1="0" y1="0" x2="1" y2="0" spreadMethod="repeat"><stop class="hs" offset=".4"/><stop class="ho" offset=".4"/></linearGradient>
+"""
+
+
+def meaning(table, ended, bound):
+    if table is not None:
+        if ended:
+            return "the certificate proves that no timetable that meets the plan carries more, or as much with fewer ships moved"
+        return "this timetable meets the plan; of others nothing is proved" if bound is None \
+            else "this timetable meets the plan; the certificate proves that none that does carries more than the bound"
+    if ended:
+        return "the certificate proves that no timetable meets the plan"
+    return "the certificate has no timetable and proves nothing" if bound is None \
+        else "the certificate has no timetable; it proves that none that meets the plan carries more than the bound"
+
+
+def title(table, ended, bound, moved, cargo, amount):
+    said = chart.verdict_title(table, ended, cargo)
+    if not ended and bound is not None:
+        said += ", at most " + amount(bound)
+    return said if table is None else f"{said}, moved {moved}"
+
+
+def top_part(height, said, means, sizes, sign):
+    out = (f'<svg xmlns="http://www.w3.org/2000/svg" width="1280" height="{height}" viewBox="0 0 1280 {height}" '
+           f'role="graphics-document" aria-label="{said}" xml:lang="en" xml:space="preserve">\n<title>{said}</title>\n')
+    out += chart.STYLE + MARKS + chart.block("gr", 0, 1280, 0, height) + sign
+    return out + chart.line("h", 48, 36, said) + chart.line("m", 48, 56, means) + chart.line("m r", 1268, 36, sizes)
+
+
+def legend(entries):
+    out = ""
+    for cls, x, text in entries:
+        out += chart.block(cls, x, x + 10, 77, 87) + chart.line("m", x + 14, 86, text)
+    return out
+
+
+def below():
+    """The legend's second line."""
+    out = chart.block("gh", 502, 512, 93, 103) + chart.line("m", 516, 102, "planned slot of a moved ship")
+    out += chart.block("sd", 674, 684, 93, 103) + chart.line("m", 688, 102, "has sailed")
+    out += ('<svg x="758" y="93" width="10" height="10" viewBox="0 0 3 1" preserveAspectRatio="none">\n'
+            + chart.block("ht", 0, 3, 0, 1) + "</svg>\n")
+    return out + chart.line("m", 772, 102, "before the earliest slot that the plan leaves")
+
+
+# ---------------------------------------------------------------- what became of each ship
+
+
+def when(slot, minutes):
+    """The time of a slot, where it has one."""
+    return "" if minutes is None else ", " + chart.clock(slot * minutes)
+
+
+def mark(v, wish, slot, slots, span, y, minutes):
+    old, earliest = wish
+    moved, sailed = slot != old, slot == old and earliest is None and old < slots
+    inside = chart.block("ht", 0, earliest, 0, 21) if earliest is not None and earliest > 0 else ""
+    if moved and old < slots:
+        inside += chart.block("gh", old, old + 1, 0, 21)
+        if slot < slots:
+            inside += chart.block("gh", min(old, slot), max(old, slot) + 1, 21, 23)
+    out = chart.frame(y + 3, 23, span, 23, inside)
+    if moved:
+        said = f"ship {v} was planned for slot {old}{when(old, minutes)}" if old < slots else f"ship {v} was planned to stay"
+        out += chart.titled_block("gh", 4, 12, y + 21, y + 33, said)
+        if old < slots:
+            out += chart.pin("gh", old, span, y)
+    elif sailed:
+        out += chart.titled_block("sd", 4, 12, y + 21, y + 33, f"ship {v} has sailed in slot {old}{when(old, minutes)}")
+        out += chart.pin("sd", old, span, y)
+    return out
+
+
+def marks(wishes, table, slots, span, rows, minutes):
+    rank = chart.ranks(table, len(wishes))
+    out = ""
+    for v, wish in enumerate(wishes):
+        slot = wish[0] if table is None else table[v]
+        out += mark(v, wish, slot, slots, span, rows + 42 * rank[v], minutes)
+    return out
+
+
+# ---------------------------------------------------------------- the pictures
+
+
+def between(whole, first, last):
+    """What stands in a picture of chart.py after this and before that."""
+    return whole[whole.index(first):whole.rindex(last)]
+
+
+def draw_port(port, tide, wishes, table, ended, bound):
+    slots, n = port["slots"], len(port["ships"])
+    rows = 124 + 50 * len(port["waypoints"]) + 22
+    bottom = rows + 42 * n + 10 + 28 * len(port["sections"]) + 56
+    span = chart.span_of_port(port, table)
+    moved = 0 if table is None else sum(t != w[0] for t, w in zip(table, wishes))
+    cargo = 0 if table is None else sum(chart.value(port, tide, s, k) for s, k in zip(port["ships"], table) if k < slots)
+    amount = lambda c: chart.tenths(c) + " t"
+    sizes = f"ships {n}, slots {slots} of {port['slot_minutes']} min, tugs {port['fleet']}"
+    out = top_part(bottom + 28, title(table, ended, bound, moved, amount(cargo), amount), meaning(table, ended, bound), sizes,
+                   chart.badge(table, ended))
+    out += legend(chart.PORT_LEGEND)
+    out += between(chart.chart_port(port, tide, table, ended), '<text class="b" x="16" y="140"', "</svg>\n")
+    return out + below() + marks(wishes, table, slots, span, rows, port["slot_minutes"]) + "</svg>\n"
+
+
+def draw_flat(flat, wishes, table, ended, bound):
+    slots, n = flat["slots"], flat["ships"]
+    panels = [rule for rule in flat["rules"] if rule[0] == "u"][:8]
+    bottom = 146 + 42 * n + 10 + 66 * len(panels)
+    span = slots
+    if table is not None:
+        span = max([slots] + [table[v] + h for rule in panels for v, _, h in rule[2] if table[v] < slots])
+    moved = 0 if table is None else sum(t != w[0] for t, w in zip(table, wishes))
+    cargo = "0" if table is None else str(sum(flat["values"][v][k] for v, k in enumerate(table)))
+    out = top_part(bottom + 28, title(table, ended, bound, moved, cargo, str), meaning(table, ended, bound),
+                   f"ships {n}, slots {slots}, rules {len(flat['rules'])}", chart.badge(table, ended))
+    out += legend(chart.FLAT_LEGEND)
+    first = '<g role="list">' if table is None else '<text class="m r" x="956" y="138"'
+    out += between(chart.chart_flat(flat, table, ended), first, "</svg>\n")
+    return out + below() + marks(wishes, table, slots, span, 146, None) + "</svg>\n"
+
+
+def main(argv):
+    cert = chart.text_of(argv[-1])
+    table, ended = chart.read_cert(cert)
+    wishes, bound = read_plan(chart.text_of(argv[-2])), read_bound(cert)
+    bound = None if bound is None else bound // (len(wishes) + 1)
+    if argv[0] == "port":
+        port = json.loads(chart.text_of(argv[1]))
+        sys.stdout.write(draw_port(port, chart.read_tides(chart.text_of(argv[2])), wishes, table, ended, bound))
+    else:
+        sys.stdout.write(draw_flat(chart.read_flat(chart.text_of(argv[1])), wishes, table, ended, bound))
+
+
+if __name__ == "__main__":
+    main(sys.argv[1:])
