@@ -6,7 +6,7 @@ use hw_model::{Lit, NoMemory};
 use std::alloc::Global;
 
 /// Says nothing, knows no bound, proposes no timetable and prefers no literal.
-#[derive(Clone, Copy, PartialEq, Eq)]
+#[derive(Clone, Copy)]
 pub struct NoAdvice;
 
 impl Adviser for NoAdvice {

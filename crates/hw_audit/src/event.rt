@@ -4,7 +4,7 @@ use hw_model::{ShipId, Slot};
 use std::marker::Model;
 
 /// Something that happens while a plan is being sailed.
-#[derive(Clone, Copy, PartialEq, Eq)]
+#[derive(Clone, Copy)]
 pub enum PortEvent {
     /// The ship sailed in this slot.
     Sailed { ship: ShipId, slot: Slot },

@@ -6,7 +6,7 @@ ghost use Rattle.hw_audit.specs.Words.{word_text};
 use hw_derived::LineFault;
 
 /// What the first bad line should have been, or why an event is refused.
-#[derive(Clone, Copy, PartialEq, Eq)]
+#[derive(Clone, Copy)]
 pub enum AuditWord {
     /// The first line, `table 1` or `events 1`.
     Header,

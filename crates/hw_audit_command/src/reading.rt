@@ -16,7 +16,7 @@ use hw_report::Report;
 use std::alloc::Global;
 
 /// Why a text gives nothing.
-#[derive(Clone, Copy, PartialEq, Eq)]
+#[derive(Clone, Copy)]
 pub(crate) enum TextStop {
     /// It couldn't be read to its end.
     Input(ReadStop),

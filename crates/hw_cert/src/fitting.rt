@@ -18,7 +18,7 @@ use hw_tolls::{Block, Blocks, MOST_PRICE, MOST_SCALE, Weights};
 use std::alloc::{AllocError, Global};
 
 /// Why a line can't be read.
-#[derive(Clone, Copy, PartialEq, Eq)]
+#[derive(Clone, Copy)]
 pub enum LineFault {
     Bad(FormWord),
     NoMemory,

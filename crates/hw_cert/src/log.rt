@@ -8,7 +8,7 @@ use hw_lines::Line;
 use std::alloc::AllocFailed;
 
 /// Why a log did not take a line.
-#[derive(Clone, Copy, PartialEq, Eq)]
+#[derive(Clone, Copy)]
 pub enum LogStop {
     /// A write failed: a proper prefix of the line's text follows the lines.
     Failed,

@@ -6,7 +6,7 @@ ghost use Rattle.hw_cert.specs.declared.stop.LineStop.TheVariants.{NoMemory};
 use std::alloc::AllocError;
 
 /// Why a line of a certificate can't be read, in the order of the tests.
-#[derive(Clone, Copy, PartialEq, Eq)]
+#[derive(Clone, Copy)]
 pub enum FormWord {
     /// Line 1 isn't the header of a version that the reader takes, `cert 1` or `cert 2` and up to
     /// version 3 `cert 3`, or is missing.
@@ -22,7 +22,7 @@ pub enum FormWord {
 }
 
 /// Why no line came. Each uses the reader up.
-#[derive(Clone, Copy, PartialEq, Eq)]
+#[derive(Clone, Copy)]
 pub enum LineStop {
     /// The line of this number, counted from 1 with the header, is no spelling of a line.
     Form { number: u64, word: FormWord },

@@ -15,7 +15,7 @@ pub const MOST_OF_LINE: u64 = 1 << 20;
 const MOST_OF_ALL: u64 = 1 << 40;
 
 /// What stands at the place of the next line: a line that ends, bytes without an end, or nothing.
-#[derive(Clone, Copy, PartialEq, Eq)]
+#[derive(Clone, Copy)]
 pub enum TakenLine {
     Whole,
     Unended,

@@ -5,7 +5,7 @@ ghost use Rattle.hw_cert.specs.Spelled.{is_within};
 
 /// The form of a certificate, named in its first line: `cert 1`, `cert 2` with deletions, or `cert 3`
 /// with tolls.
-#[derive(Clone, Copy, PartialEq, Eq)]
+#[derive(Clone, Copy)]
 pub enum Version {
     One,
     Two,

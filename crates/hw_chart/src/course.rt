@@ -6,7 +6,7 @@ ghost use Rattle.hw_chart.specs.Courses.{SailsBefore, course_of};
 use hw_model::Slot;
 
 /// What a picture says of a ship: nothing where there is no timetable, that it stays, or the slot in which it sails.
-#[derive(Clone, Copy, PartialEq, Eq)]
+#[derive(Clone, Copy)]
 pub enum Course {
     Unplanned,
     Stays,

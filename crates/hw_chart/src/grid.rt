@@ -12,7 +12,7 @@ use hw_desk::Writer;
 use hw_svg::{Piece, put_line, put_pieces, put_shape, put_shape_begin};
 
 /// What the axis counts: minutes, this many to a slot, or slots.
-#[derive(Clone, Copy, PartialEq, Eq)]
+#[derive(Clone, Copy)]
 pub enum Scale {
     Minutes(u32),
     Slots,
@@ -28,7 +28,7 @@ pub const MINUTES: [u32; 21] = [
 pub const SLOTS: [u32; 8] = [1, 2, 5, 10, 20, 50, 100, 200];
 
 /// An axis: what it counts, how much in all and from one mark to the next, and where the plot ends below it.
-#[derive(Clone, Copy, PartialEq, Eq)]
+#[derive(Clone, Copy)]
 pub struct Axis {
     pub scale: Scale,
     pub total: u32,

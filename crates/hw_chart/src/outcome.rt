@@ -11,7 +11,7 @@ use hw_lines::Verdict;
 use hw_svg::{Piece, put_shape};
 
 /// How cargo is written: tenths of a tonne as tonnes, or as they are.
-#[derive(Clone, Copy, PartialEq, Eq)]
+#[derive(Clone, Copy)]
 pub enum CargoUnit {
     Tonnes,
     Plain,
@@ -19,7 +19,7 @@ pub enum CargoUnit {
 
 /// What a certificate shows, as it stands over a picture: a verdict, and a bound in tenths of a tonne, if
 /// it has one. The bound is spoken of only where the verdict is unfinished.
-#[derive(Clone, Copy, PartialEq, Eq)]
+#[derive(Clone, Copy)]
 pub struct Outcome {
     pub verdict: Verdict,
     pub bound: Option<u64>,

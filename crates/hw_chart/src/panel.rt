@@ -14,7 +14,7 @@ use hw_svg::{
 
 /// A panel of tugs: where it stands, how many tugs there are, in how many slots they are counted, and how many the
 /// picture shows.
-#[derive(Clone, Copy, PartialEq, Eq)]
+#[derive(Clone, Copy)]
 pub struct Panel {
     pub y: u32,
     pub fleet: u64,

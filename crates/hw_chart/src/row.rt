@@ -10,7 +10,7 @@ use hw_svg::{Area, Levels, Piece, put_block, put_line, put_steps, put_svg_end, p
 
 /// The window of a ship's sailings: where its row stands, how many slots the picture shows, how tall the window is in
 /// units of its own, and the slots from the first to before the end in which the ship might sail.
-#[derive(Clone, Copy, PartialEq, Eq)]
+#[derive(Clone, Copy)]
 pub struct Sailings {
     pub y: u32,
     pub span: u32,

@@ -1,7 +1,7 @@
 //! How much a checker keeps of clauses, live and dead.
 
 /// How much a checker keeps of clauses.
-#[derive(Clone, Copy, PartialEq, Eq)]
+#[derive(Clone, Copy)]
 pub struct Space {
     /// The literals of the live clauses.
     pub live_lits: usize,

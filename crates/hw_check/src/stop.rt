@@ -7,7 +7,7 @@ use hw_lines::Refusal;
 use std::alloc::{AllocError, AllocFailed};
 
 /// Why a checker took no line.
-#[derive(Clone, Copy, Debug, PartialEq, Eq)]
+#[derive(Clone, Copy, Debug)]
 pub enum CheckStop {
     /// The line isn't valid.
     Refused(Refusal),

@@ -6,7 +6,7 @@ ghost use Rattle.hw_clash.specs.Words.{word_text};
 use hw_derived::LineFault;
 
 /// What was demanded at the first bad line.
-#[derive(Clone, Copy, PartialEq, Eq)]
+#[derive(Clone, Copy)]
 pub enum ClashWord {
     /// The first line, `clash 1`.
     Header,

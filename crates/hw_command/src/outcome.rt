@@ -4,7 +4,7 @@ use hw_cert::Verdict;
 use hw_report::RefusedWord;
 
 /// The outcome of a certificate, whether its problem is a flat text's or a port's.
-#[derive(Clone, Copy, PartialEq, Eq)]
+#[derive(Clone, Copy)]
 pub enum CertOutcome {
     /// All its lines are valid and show this.
     Shows(Verdict),
@@ -19,7 +19,7 @@ pub enum CertOutcome {
 }
 
 /// Why the outcome of a certificate isn't known.
-#[derive(Clone, Copy, PartialEq, Eq)]
+#[derive(Clone, Copy)]
 pub enum CertStop {
     /// A begin or a read failed.
     Fault,

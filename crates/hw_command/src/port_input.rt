@@ -24,7 +24,7 @@ pub struct PortNames<'n> {
 }
 
 /// Why there is no port.
-#[derive(Clone, Copy, PartialEq, Eq)]
+#[derive(Clone, Copy)]
 pub enum InstanceStop {
     /// The instance wasn't read to its end.
     Input(ReadStop),
@@ -35,7 +35,7 @@ pub enum InstanceStop {
 }
 
 /// Why there is no tide.
-#[derive(Clone, Copy, PartialEq, Eq)]
+#[derive(Clone, Copy)]
 pub enum TideStop {
     /// The table wasn't read to its end.
     Input(ReadStop),

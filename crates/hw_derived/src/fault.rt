@@ -7,7 +7,7 @@ use hw_model::NoMemory;
 use std::alloc::{AllocError, AllocFailed};
 
 /// Why a text wasn't read. Lines are numbered from 1.
-#[derive(Clone, Copy, PartialEq, Eq)]
+#[derive(Clone, Copy)]
 pub enum LineFault<W> {
     /// Its first bad line, and the word for what should have stood there.
     Line { number: u64, word: W },

@@ -1,7 +1,7 @@
 -- What a desk is to a contract.
 use Rattle.std.specs.Prelude.{◌≡◌, ◌≤◌, ◌+◌, ◌-◌, ◌^◌, ◌==◌, ℕ, List, [], Bool, true, false, Option, IfSome, cond, min}
 use Rattle.hw_desk.specs.declared.desk.Feed.{Feed}
-use Rattle.hw_desk.specs.declared.desk.Feed.TheVariants.{Flat, Instance, Tides, Certificate, Plan, Events}
+use Rattle.hw_desk.specs.declared.desk.Feed.TheVariants.{Flat, Instance, Tides, Certificate, Plan, Events, Clash}
 use Rattle.hw_desk.specs.declared.desk.Tray.{Tray}
 use Rattle.hw_desk.specs.declared.desk.Tray.TheVariants.{Report, Proof}
 
@@ -36,6 +36,7 @@ place_of Tides = 2
 place_of Certificate = 3
 place_of Plan = 4
 place_of Events = 5
+place_of Clash = 6
 
 abbrev pub same_feed : Feed → Feed → Bool
 same_feed f g = place_of f == place_of g

@@ -19,6 +19,8 @@ pub enum Feed {
     Plan,
     /// What has happened since a plan was made.
     Events,
+    /// A clash to be checked, beside the plan that it is about.
+    Clash,
 }
 
 /// An output of the program.

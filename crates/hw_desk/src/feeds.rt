@@ -16,6 +16,7 @@ pub struct Feeds<T> {
     pub certificate: T,
     pub plan: T,
     pub events: T,
+    pub clash: T,
 }
 
 impl<T> Feeds<T> {
@@ -30,6 +31,7 @@ impl<T> Feeds<T> {
             Feed::Certificate => &self.certificate,
             Feed::Plan => &self.plan,
             Feed::Events => &self.events,
+            Feed::Clash => &self.clash,
         }
     }
 
@@ -45,6 +47,7 @@ impl<T> Feeds<T> {
             Feed::Certificate => &mut self.certificate,
             Feed::Plan => &mut self.plan,
             Feed::Events => &mut self.events,
+            Feed::Clash => &mut self.clash,
         }
     }
 }

@@ -14,7 +14,7 @@ use std::alloc::Global;
 use std::marker::Model;
 
 /// A kind of call of a desk.
-#[derive(Clone, Copy, PartialEq, Eq)]
+#[derive(Clone, Copy)]
 pub enum DeskCall {
     Begin,
     Read,
@@ -24,14 +24,14 @@ pub enum DeskCall {
 }
 
 /// A call that is to fail: its kind, and its place among the calls of that kind, counted from 1.
-#[derive(Clone, Copy, PartialEq, Eq)]
+#[derive(Clone, Copy)]
 pub struct FailAt {
     pub call: DeskCall,
     pub place: u32,
 }
 
 /// How many calls of each kind there were.
-#[derive(Clone, Copy, PartialEq, Eq)]
+#[derive(Clone, Copy)]
 pub struct Calls {
     pub begins: u64,
     pub reads: u64,

@@ -61,6 +61,7 @@ pub fn fresh_slots(alloc: Global) -> Result<Feeds<FeedSlot>, NoMemory>
         certificate: FeedSlot::new(alloc)?,
         plan: FeedSlot::new(alloc)?,
         events: FeedSlot::new(alloc)?,
+        clash: FeedSlot::new(alloc)?,
     })
 }
 

@@ -10,7 +10,7 @@ use hw_model::Slot;
 use hw_repair::Wish;
 
 /// What a repair makes of a ship.
-#[derive(Clone, Copy, PartialEq, Eq)]
+#[derive(Clone, Copy)]
 pub enum Fate {
     /// It gets another slot than its wish's.
     Moved,

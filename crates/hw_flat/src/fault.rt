@@ -7,7 +7,7 @@ use std::alloc::{AllocError, AllocFailed};
 use thiserror::Error;
 
 /// What was demanded at the first bad line.
-#[derive(Clone, Copy, Debug, PartialEq, Eq)]
+#[derive(Clone, Copy, Debug)]
 pub enum FlatWord {
     /// The first line, `flat 1` or `flat 2`.
     Header,
@@ -24,7 +24,7 @@ pub enum FlatWord {
 }
 
 /// Why `Flat::read` gave no problem. Lines are numbered from 1.
-#[derive(Clone, Copy, Debug, PartialEq, Eq, Error)]
+#[derive(Clone, Copy, Debug, Error)]
 pub enum FlatFault {
     #[error("line {number} is bad: {word:?}")]
     Line { number: u64, word: FlatWord },

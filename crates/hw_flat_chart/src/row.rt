@@ -19,7 +19,7 @@ use hw_model::{MOST_SHIPS, ShipId};
 use hw_svg::put_svg_end;
 
 /// A row: its ship, its place among the rows, how many slots the picture shows, and what the timetable says of the ship.
-#[derive(Clone, Copy, PartialEq, Eq)]
+#[derive(Clone, Copy)]
 pub struct Row {
     pub ship: ShipId,
     pub rank: u32,

@@ -1,5 +1,5 @@
 -- Which files were opened, and which file of the system each is.
-use Rattle.std.specs.Prelude.{◌≡◌, ⊤, Bool, true, false, Some, None}
+use Rattle.std.specs.Prelude.{◌≡◌, ◌⊎◌, ⊤, Bool, true, false, Some, None}
 use Rattle.hw_desk.specs.Places.{place}
 use Rattle.hw_desk.specs.declared.desk.Feed.{Feed}
 use Rattle.hw_desk.specs.declared.feeds.Feeds.{Feeds}
@@ -26,6 +26,14 @@ abbrev pub IsOpenAs : HostFile → FileId → Type 0
 IsOpenAs Fresh id = ⊥
 IsOpenAs Failed id = ⊥
 IsOpenAs (Open file own) id = own ≡ id
+
+-- the flat text, the instance or the tide table is read from this file of the system
+abbrev pub IsProblem : Feeds HostFile → FileId → Type 0
+IsProblem feeds id = IsOpenAs feeds.flat id ⊎ (IsOpenAs feeds.instance id ⊎ IsOpenAs feeds.tides id)
+
+-- a certificate, a plan, events or a clash is read from it
+abbrev pub IsOther : Feeds HostFile → FileId → Type 0
+IsOther feeds id = IsOpenAs feeds.certificate id ⊎ (IsOpenAs feeds.plan id ⊎ (IsOpenAs feeds.events id ⊎ IsOpenAs feeds.clash id))
 
 -- a feed is read from this file of the system
 abbrev pub IsFeed : Feeds HostFile → FileId → Type 0

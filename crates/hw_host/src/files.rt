@@ -2,7 +2,7 @@
 
 ghost use Rattle.std.specs.Prelude.{◌≡◌, ◌≤◌, ◌<◌, ◌↔◌, length, true, IfOk, IsOk, IsErr, IsTrue, OnErr, OnOk, MatchResult};
 ghost use Rattle.hw_desk.specs.State.{Rose};
-ghost use Rattle.hw_host.specs.Opened.{IsApart, IsFeed, IsOpen, IsOpenAs, was_opened};
+ghost use Rattle.hw_host.specs.Opened.{IsApart, IsFeed, IsOpen, IsOpenAs, IsOther, IsProblem, was_opened};
 
 use crate::output::Output;
 use hw_desk::{DeskFailed, Feeds};
@@ -45,16 +45,29 @@ pub fn id_of(metadata: &Metadata) -> FileId {
     }
 }
 
+/// Whether one of the inputs that a problem has is read from this file.
+fn is_problem(feeds: &Feeds<HostFile>, id: FileId) -> bool
+    ensures { IsTrue result ↔ IsProblem feeds.now id }
+{
+    feeds.flat.is_open_as(id) || feeds.instance.is_open_as(id) || feeds.tides.is_open_as(id)
+}
+
+/// Whether one of the other inputs is read from this file.
+fn is_other(feeds: &Feeds<HostFile>, id: FileId) -> bool
+    ensures { IsTrue result ↔ IsOther feeds.now id }
+{
+    feeds.certificate.is_open_as(id)
+        || feeds.plan.is_open_as(id)
+        || feeds.events.is_open_as(id)
+        || feeds.clash.is_open_as(id)
+}
+
 /// Whether one of the feeds is read from this file.
+#[tactic(auto, using(crate::proofs::Feeds::found, crate::proofs::Feeds::parted))]
 fn is_feed(feeds: &Feeds<HostFile>, id: FileId) -> bool
     ensures { IsTrue result ↔ IsFeed feeds.now id }
 {
-    feeds.flat.is_open_as(id)
-        || feeds.instance.is_open_as(id)
-        || feeds.tides.is_open_as(id)
-        || feeds.certificate.is_open_as(id)
-        || feeds.plan.is_open_as(id)
-        || feeds.events.is_open_as(id)
+    is_problem(feeds, id) || is_other(feeds, id)
 }
 
 /// Opens a file to be read.

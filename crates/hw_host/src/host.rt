@@ -30,6 +30,7 @@ fn fresh_files() -> Feeds<HostFile>
         certificate: HostFile::Fresh,
         plan: HostFile::Fresh,
         events: HostFile::Fresh,
+        clash: HostFile::Fresh,
     }
 }
 

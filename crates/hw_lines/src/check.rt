@@ -1,7 +1,7 @@
 //! Why a line isn't valid, and what valid lines prove.
 
 /// Why a line isn't valid after those before it.
-#[derive(Clone, Copy, Debug, PartialEq, Eq)]
+#[derive(Clone, Copy, Debug)]
 pub enum CheckWord {
     /// An earlier clause line has no literals.
     Ended,
@@ -31,7 +31,7 @@ pub enum CheckWord {
 }
 
 /// The word of a line that isn't valid, with the number that it names.
-#[derive(Clone, Copy, Debug, PartialEq, Eq)]
+#[derive(Clone, Copy, Debug)]
 pub struct Refusal {
     pub word: CheckWord,
     pub hint: Option<u32>,

@@ -33,7 +33,7 @@ impl Hints {
 }
 
 /// A price on a toll that an earlier line declares.
-#[derive(Clone, Copy, Debug, PartialEq, Eq)]
+#[derive(Clone, Copy, Debug)]
 pub struct Price {
     /// The toll's number, which counts from 1 in the order of the lines that declare tolls.
     pub toll: u32,

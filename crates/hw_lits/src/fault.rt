@@ -6,7 +6,7 @@ ghost use Rattle.hw_lits.specs.declared.fault.ClauseFault.TheVariants.{NoMemory}
 use std::alloc::AllocError;
 
 /// Why literals are no clause of a shape: the place of the first bad one, from 0.
-#[derive(Clone, Copy, Debug, PartialEq, Eq)]
+#[derive(Clone, Copy, Debug)]
 pub enum ClauseFault {
     /// Its ships, its slot or its pair are not in range.
     Range { place: u32 },

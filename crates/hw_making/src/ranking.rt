@@ -5,7 +5,7 @@ use hw_model::{NoMemory, Slot};
 use std::alloc::Global;
 
 /// Who chooses first; of equals the lower ship.
-#[derive(Clone, Copy, PartialEq, Eq)]
+#[derive(Clone, Copy)]
 pub enum Ranking {
     /// Whose best slot is furthest above the next best one.
     Regret,

@@ -5,7 +5,7 @@ ghost use Rattle.hw_port.specs.Places.{word_text};
 
 /// A place of an instance: the number of its row in the table of places, and the numbers of the
 /// list items on the way to it.
-#[derive(Clone, Copy, Debug, PartialEq, Eq)]
+#[derive(Clone, Copy, Debug)]
 pub struct Path {
     pub field: u32,
     pub first: Option<u32>,
@@ -13,7 +13,7 @@ pub struct Path {
 }
 
 /// What is wrong at a place. The first three are of the form, the others of the meaning.
-#[derive(Clone, Copy, Debug, PartialEq, Eq)]
+#[derive(Clone, Copy, Debug)]
 pub enum PortWord {
     /// The member isn't there.
     Missing,
@@ -56,7 +56,7 @@ impl PortWord {
 }
 
 /// The first fault of an instance.
-#[derive(Clone, Copy, Debug, PartialEq, Eq)]
+#[derive(Clone, Copy, Debug)]
 pub struct PortFault {
     pub path: Path,
     pub word: PortWord,

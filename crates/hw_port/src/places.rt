@@ -4,7 +4,7 @@ ghost use Rattle.std.specs.Prelude.{◌≡◌, ◌≤◌, length, slice_get};
 ghost use Rattle.hw_port.specs.Places.{number_of, text_of, place_at, text_at};
 
 /// A place of an instance, in the order of the table. The items of a list have one place.
-#[derive(Clone, Copy, PartialEq, Eq)]
+#[derive(Clone, Copy)]
 pub enum Place {
     Root,
     Version,

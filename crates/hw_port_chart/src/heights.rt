@@ -6,7 +6,7 @@ ghost use Rattle.hw_port_chart.specs.Strips.{greatest_of, height_in, heights_of,
 use hw_tide::Tide;
 
 /// The least and the greatest of some heights, in centimetres.
-#[derive(Clone, Copy, PartialEq, Eq)]
+#[derive(Clone, Copy)]
 pub struct Heights {
     pub low: i32,
     pub high: i32,

@@ -27,7 +27,7 @@ struct Lane<'p> {
 
 /// A ship in a section: from which slot to before which, how many minutes after slot 0 these begin, and in which lane it is
 /// drawn.
-#[derive(Clone, Copy, PartialEq, Eq)]
+#[derive(Clone, Copy)]
 pub struct Stay {
     pub from: Slot,
     pub until: Slot,

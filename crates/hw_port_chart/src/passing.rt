@@ -20,7 +20,7 @@ use hw_svg::{Area, Piece, put_titled};
 
 /// A waypoint on the picture: its place, its charted depth, and the least and the greatest height of the whole tide, in
 /// centimetres.
-#[derive(Clone, Copy, PartialEq, Eq)]
+#[derive(Clone, Copy)]
 pub struct Strip {
     pub place: u32,
     pub depth: u32,
@@ -29,7 +29,7 @@ pub struct Strip {
 }
 
 /// A ship that sails: its slot, and its draft in centimetres.
-#[derive(Clone, Copy, PartialEq, Eq)]
+#[derive(Clone, Copy)]
 pub struct Underway {
     pub slot: Slot,
     pub draft: u32,
@@ -38,7 +38,7 @@ pub struct Underway {
 /// A pass of a ship: its slot and how many minutes after slot 0 that begins, the ship's draft, the depth of the water, how
 /// much of it is under the keel and how much must be, in centimetres, and how far the tide that the ship needs stays below
 /// the greatest one.
-#[derive(Clone, Copy, PartialEq, Eq)]
+#[derive(Clone, Copy)]
 pub struct Passing {
     pub slot: Slot,
     pub time: u64,

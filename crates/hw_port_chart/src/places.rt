@@ -8,7 +8,7 @@ use hw_model::MOST_SHIPS;
 use hw_port::PortParts;
 
 /// How far down the rows of ships begin, the lanes of sections and the panel of tugs, and where the panels end.
-#[derive(Clone, Copy, PartialEq, Eq)]
+#[derive(Clone, Copy)]
 pub struct Places {
     pub rows: u32,
     pub lanes: u32,

@@ -14,7 +14,7 @@ use hw_port::{Pass, Ship};
 
 /// A sailing: its slot and how many minutes after slot 0 that begins, its draft and the draft that the slot allows, in
 /// centimetres, the waypoint that decides this and the clearance there, and the cargo in tenths of a tonne.
-#[derive(Clone, Copy, PartialEq, Eq)]
+#[derive(Clone, Copy)]
 pub struct Sailing {
     pub slot: Slot,
     pub time: u64,
@@ -26,7 +26,7 @@ pub struct Sailing {
 }
 
 /// The waypoint that decides a draft, and the clearance there.
-#[derive(Clone, Copy, PartialEq, Eq)]
+#[derive(Clone, Copy)]
 pub struct Control {
     pub by: u32,
     pub clearance: u32,

@@ -4,7 +4,7 @@ use hw_flat::Timetable;
 use hw_story::Why;
 
 /// How a search decides in a quiet room.
-#[derive(Clone, Copy, PartialEq, Eq)]
+#[derive(Clone, Copy)]
 pub enum Branching {
     /// The first of the ships with several slots left whose range has the greatest value. It sails
     /// in the first slot of that value or later, or in just that slot if it is the ship's lowest.
@@ -24,7 +24,7 @@ pub enum Settled {
 }
 
 /// What a turn did. After the last three the search is over.
-#[derive(Clone, Copy, PartialEq, Eq)]
+#[derive(Clone, Copy)]
 pub enum Turn {
     /// All was quiet, and a literal was decided.
     Decided,
@@ -41,7 +41,7 @@ pub enum Turn {
 }
 
 /// What the call for a lower bound did. After the last two the search is over.
-#[derive(Clone, Copy, PartialEq, Eq)]
+#[derive(Clone, Copy)]
 pub enum Bounded {
     /// A lower bound was written.
     Lower,
@@ -54,7 +54,7 @@ pub enum Bounded {
 }
 
 /// What the call for a timetable that an adviser proposes did. After the last two the search is over.
-#[derive(Clone, Copy, PartialEq, Eq)]
+#[derive(Clone, Copy)]
 pub enum Proposed {
     /// It is permitted and beats the best: it was written, and is the best so far.
     Better,
@@ -67,7 +67,7 @@ pub enum Proposed {
 }
 
 /// What the call that closes a search by its own bound did. After the last three the search is over.
-#[derive(Clone, Copy, PartialEq, Eq)]
+#[derive(Clone, Copy)]
 pub enum Closed {
     /// The best timetable carries less than the last bound, or one of the two is missing.
     Open,

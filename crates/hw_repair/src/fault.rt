@@ -6,7 +6,7 @@ ghost use Rattle.hw_repair.specs.Words.{word_text};
 use hw_derived::LineFault;
 
 /// What was demanded at the first bad line.
-#[derive(Clone, Copy, PartialEq, Eq)]
+#[derive(Clone, Copy)]
 pub enum PlanWord {
     /// The first line, `plan 1` or `plan 2`.
     Header,

@@ -4,7 +4,7 @@ use hw_model::Slot;
 use std::marker::Model;
 
 /// What a plan says of a ship.
-#[derive(Clone, Copy, PartialEq, Eq)]
+#[derive(Clone, Copy)]
 pub enum Wish {
     /// The ship has sailed in this slot.
     Kept { slot: Slot },

@@ -57,6 +57,7 @@ pub fn feed_name(feed: Feed) -> &'static [u8]
         Feed::Certificate => b"certificate",
         Feed::Plan => b"plan",
         Feed::Events => b"events",
+        Feed::Clash => b"clash",
     }
 }
 

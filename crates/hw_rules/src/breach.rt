@@ -6,7 +6,7 @@ use hw_model::Slot;
 ///
 /// `slot` is the first slot in which more tugs are held than there are, where the restriction is
 /// a rule on tugs; else there is none.
-#[derive(Clone, Copy, PartialEq, Eq)]
+#[derive(Clone, Copy)]
 pub struct Breach {
     pub restriction: u32,
     pub slot: Option<Slot>,

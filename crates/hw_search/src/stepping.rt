@@ -14,7 +14,7 @@ use hw_store::WatchStore;
 pub type Prover<'f, A> = Advised<'f, WatchStore, AnyPropagator, A>;
 
 /// What a step did. After the last three the search is over.
-#[derive(Clone, Copy, PartialEq, Eq)]
+#[derive(Clone, Copy)]
 pub enum Step {
     GoesOn,
     /// A line without literals was written.

@@ -10,7 +10,7 @@ use hw_lits::{Clause, truth};
 use hw_model::{Lit, LitTruth};
 
 /// What is seen of a clause in a room.
-#[derive(Clone, Copy, PartialEq, Eq)]
+#[derive(Clone, Copy)]
 pub enum Look {
     /// Every literal is False.
     Dead,

@@ -45,7 +45,7 @@ impl Model for WatchStore {
 }
 
 // What was seen of the next due clause.
-#[derive(Clone, Copy, PartialEq, Eq)]
+#[derive(Clone, Copy)]
 enum Next {
     Found(Held),
     Went,

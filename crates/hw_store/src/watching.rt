@@ -18,7 +18,7 @@ use std::alloc::Global;
 use std::marker::Model;
 
 /// What is watched of a clause.
-#[derive(Clone, Copy, PartialEq, Eq)]
+#[derive(Clone, Copy)]
 pub enum Watch {
     /// Nothing: the clause is due, which means that a step has to look at it.
     Due,
@@ -29,7 +29,7 @@ pub enum Watch {
 }
 
 /// The buckets in whose lists a clause's place is known to stand.
-#[derive(Clone, Copy, PartialEq, Eq)]
+#[derive(Clone, Copy)]
 pub struct Buckets {
     pub first: Option<usize>,
     pub second: Option<usize>,

@@ -2,7 +2,7 @@
 
 /// A part of a picture or of a window, in its own units: from `left` to before `right`, and from `top`
 /// down to `bottom`.
-#[derive(Clone, Copy, PartialEq, Eq)]
+#[derive(Clone, Copy)]
 pub struct Area {
     pub left: u64,
     pub right: u64,

@@ -9,7 +9,7 @@ use hw_desk::Writer;
 
 /// A window on a picture: where it stands and how large it is there, and how many units of its own it
 /// has across and down.
-#[derive(Clone, Copy, PartialEq, Eq)]
+#[derive(Clone, Copy)]
 pub struct Window {
     pub x: u64,
     pub y: u64,

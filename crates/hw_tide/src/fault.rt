@@ -7,7 +7,7 @@ use std::alloc::{AllocError, AllocFailed};
 use thiserror::Error;
 
 /// The first fault of a tide table. Rows are records, the header being 0; columns are fields.
-#[derive(Clone, Copy, Debug, PartialEq, Eq, Error)]
+#[derive(Clone, Copy, Debug, Error)]
 pub enum TideFault {
     /// The first column of the header that is wrong, missing or extra.
     #[error("the header is wrong in column {column}")]

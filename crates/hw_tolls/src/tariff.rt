@@ -3,7 +3,7 @@
 use std::marker::Model;
 
 /// A price on a toll.
-#[derive(Clone, Copy, Debug, PartialEq, Eq)]
+#[derive(Clone, Copy, Debug)]
 pub struct Due {
     /// The toll's place in a list, counted from 0.
     pub toll: u32,
@@ -39,7 +39,7 @@ pub struct Tariff {
 /// What ships gain in their slots, and what they pay there for what they take, both in parts.
 ///
 /// There is no difference of the two, so no number is below 0: two balances are compared crosswise.
-#[derive(Clone, Copy, PartialEq, Eq)]
+#[derive(Clone, Copy)]
 pub struct Balance {
     pub gain: u128,
     pub cost: u128,

@@ -64,7 +64,7 @@ pub enum Toll {
 }
 
 /// Units that a ship takes where its slot lies in a range, both ends taken in.
-#[derive(Clone, Copy, PartialEq, Eq)]
+#[derive(Clone, Copy)]
 pub struct Charge {
     pub ship: ShipId,
     pub low: Slot,
