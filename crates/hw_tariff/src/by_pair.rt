@@ -19,6 +19,8 @@ pub struct RulesByPair {
     tugs: Vec<u32>,
     /// The place of the rule on tugs, or on other ships, that was found last.
     last: u32,
+    /// The same by ship, of pairs in which the ship was.
+    last_of: Vec<u32>,
 }
 
 impl RulesByPair {
@@ -28,6 +30,7 @@ impl RulesByPair {
             own: Vec::new(alloc),
             tugs: Vec::new(alloc),
             last: 0,
+            last_of: Vec::new(alloc),
         }
     }
 
@@ -38,6 +41,9 @@ impl RulesByPair {
         let shape = flat.shape();
         for _pair in 0..shape.ships * shape.ships {
             rules.own.push(Vec::new(alloc))?;
+        }
+        for _ship in 0..shape.ships {
+            rules.last_of.push(0)?;
         }
         for place in 0..shape.rules {
             rules.add(shape.ships, &flat.rules()[place as usize], place)?;
@@ -61,9 +67,11 @@ impl RulesByPair {
     /// Whether some rule of the problem refutes the room, in which two ships alone have less than
     /// all their slots.
     ///
-    /// The rules on these two ships are asked first, then the rule that was found last among the others,
-    /// then those on tugs that may refute the room, which costs a look at each job. Only where none of
-    /// these refutes the room, all are asked.
+    /// The rules on these two ships are asked first, then the rules that were found last among the others,
+    /// for any pair and for a pair with one of these ships, then those on tugs that may refute the room, which
+    /// costs a look at each job. Only where none of these refutes the room, all are asked. A rule that is found
+    /// then needs the slots of one of the two ships at most, and serves each pair with that ship: so of all
+    /// pairs of some blocks at most as many ask all rules as there are ships, and one more.
     pub(crate) fn refute(&mut self, flat: &Flat, room: &Room, v: ShipId, w: ShipId) -> bool
         requires ships { room.now.ships ≡ flat.now.ships }
         requires slots { room.now.slots ≡ flat.now.slots }
@@ -73,15 +81,39 @@ impl RulesByPair {
         if self.own_refutes(flat, room, v, w) {
             return true;
         }
-        if place_refutes(flat, room, self.last) {
+        if self.last_refutes(flat, room, v, w) {
             return true;
         }
         match self.another_refuting(flat, room, v, w) {
             None => false,
             Some(place) => {
-                self.last = place;
+                self.keep(v, w, place);
                 true
             }
+        }
+    }
+
+    /// Whether a rule that was found last refutes the room, for any pair or for one with one of the ships.
+    fn last_refutes(&self, flat: &Flat, room: &Room, v: ShipId, w: ShipId) -> bool
+        requires room { RoomFits flat.now room.now }
+        ensures sound { IsTrue result → SomeRuleRefutes flat.now room.now }
+    {
+        if place_refutes(flat, room, self.last) {
+            return true;
+        }
+        let (first, second) = (self.last_of.get(v as usize), self.last_of.get(w as usize));
+        place_refutes(flat, room, first.copied().unwrap_or(self.last))
+            || place_refutes(flat, room, second.copied().unwrap_or(self.last))
+    }
+
+    /// Keeps the place of a rule that was found for a pair.
+    fn keep(&mut self, v: ShipId, w: ShipId, place: u32) {
+        self.last = place;
+        if let Some(last) = self.last_of.get_mut(v as usize) {
+            *last = place;
+        }
+        if let Some(last) = self.last_of.get_mut(w as usize) {
+            *last = place;
         }
     }
 
