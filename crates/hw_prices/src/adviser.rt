@@ -1,7 +1,8 @@
 //! The adviser that finds prices.
 
 use crate::answering::open_bound;
-use crate::mind::Mind;
+use crate::relaxation::Relaxation;
+use crate::variation::Variation;
 use crate::workshop::Workshop;
 use hw_advice::{Advice, Adviser, Bounding, Scene};
 use hw_flat::Timetable;
@@ -23,8 +24,9 @@ const FIRST: u32 = 32;
 pub struct PricingAdviser {
     /// How many lemmas the search finds at most.
     budget: u32,
+    variation: Variation,
     /// None before it is needed.
-    mind: Option<Mind>,
+    relaxation: Option<Relaxation>,
     /// None before it is needed.
     shop: Option<Workshop>,
     /// After how many lemmas a timetable was last made without prices.
@@ -32,12 +34,13 @@ pub struct PricingAdviser {
 }
 
 impl PricingAdviser {
-    /// An adviser of a search of at most `budget` lemmas. It has not looked at a problem yet, and takes no
-    /// memory.
-    pub fn new(budget: u32) -> PricingAdviser {
+    /// An adviser of a search of at most `budget` lemmas. The seed chooses in which order it prefers to
+    /// decide ships, of which 0 is the usual one. It has not looked at a problem yet, and takes no memory.
+    pub fn new(budget: u32, seed: u32) -> PricingAdviser {
         PricingAdviser {
             budget,
-            mind: None,
+            variation: Variation::of(seed),
+            relaxation: None,
             shop: None,
             made: 0,
         }
@@ -46,9 +49,9 @@ impl PricingAdviser {
     /// Looks at the problem of a scene, unless it did so before.
     fn look(&mut self, alloc: Global, scene: &Scene<'_>) -> Result<(), NoMemory> {
         self.get_ready(alloc, scene)?;
-        if self.mind.is_none() {
+        if self.relaxation.is_none() {
             if let Some(shop) = &mut self.shop {
-                self.mind = Some(Mind::new(alloc, scene, shop)?);
+                self.relaxation = Some(Relaxation::new(alloc, scene, shop, self.variation)?);
             }
         }
         Ok(())
@@ -83,8 +86,8 @@ impl Adviser for PricingAdviser {
             return Ok(None);
         }
         self.look(alloc, scene)?;
-        match (&mut self.mind, &mut self.shop) {
-            (Some(mind), Some(shop)) => mind.advise(alloc, scene, shop),
+        match (&mut self.relaxation, &mut self.shop) {
+            (Some(relaxation), Some(shop)) => relaxation.advise(alloc, scene, shop),
             _ => Ok(None),
         }
     }
@@ -95,9 +98,9 @@ impl Adviser for PricingAdviser {
             return Ok(None);
         }
         self.look(alloc, scene)?;
-        match &mut self.mind {
+        match &mut self.relaxation {
             None => Ok(None),
-            Some(mind) => mind.bound(alloc, scene, spent),
+            Some(relaxation) => relaxation.bound(alloc, scene, spent),
         }
     }
 
@@ -113,9 +116,9 @@ impl Adviser for PricingAdviser {
         if scene.standing.lemmas < FIRST {
             return None;
         }
-        match &self.mind {
+        match &self.relaxation {
             None => None,
-            Some(mind) => open_bound(scene, mind.prefer(scene)),
+            Some(relaxation) => open_bound(scene, relaxation.prefer(scene)),
         }
     }
 }

@@ -1,6 +1,8 @@
-//! How far prices are moved in a step, and how long.
+//! How far prices are moved in a step, and how long: Polyak's step, the gap to a target over the square of the
+//! direction's length, with a pace that falls where nothing is gained. See M. Held, P. Wolfe and H. P. Crowder,
+//! "Validation of Subgradient Optimization", Mathematical Programming 6, 1974.
 
-use crate::lanes::SCALE;
+use crate::subproblems::SCALE;
 
 /// How fast steps begin at most, in parts of `FULL_PACE`.
 pub(crate) const FULL_PACE: i64 = 1_024;
@@ -47,9 +49,9 @@ impl Course {
     }
 }
 
-/// How far a course is.
+/// The rule by which the steps of a course are measured, and how far the course is.
 #[derive(Clone, Copy)]
-pub(crate) struct Bout {
+pub(crate) struct StepRule {
     course: Course,
     /// The least total so far.
     pub(crate) best: i64,
@@ -58,9 +60,9 @@ pub(crate) struct Bout {
     since: u32,
 }
 
-impl Bout {
-    pub(crate) fn new(course: Course) -> Bout {
-        Bout {
+impl StepRule {
+    pub(crate) fn new(course: Course) -> StepRule {
+        StepRule {
             course,
             best: i64::MAX,
             pace: course.pace,
@@ -71,15 +73,15 @@ impl Bout {
     /// Takes the total of a step. Whether more steps are worth it.
     pub(crate) fn goes_on(&mut self, total: i64) -> bool {
         if total < self.best {
-            self.rejoice(total);
+            self.on_improvement(total);
             self.course.stop < total
         } else {
-            self.despair();
+            self.on_stall();
             0 < self.pace
         }
     }
 
-    fn rejoice(&mut self, total: i64) {
+    fn on_improvement(&mut self, total: i64) {
         let left = self.best.saturating_sub(self.course.target);
         if left / PROGRESS < self.best.saturating_sub(total) {
             self.since = 0;
@@ -87,7 +89,7 @@ impl Bout {
         self.best = total;
     }
 
-    fn despair(&mut self) {
+    fn on_stall(&mut self) {
         self.since = self.since.saturating_add(1);
         if PATIENCE <= self.since {
             self.since = 0;

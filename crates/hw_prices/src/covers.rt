@@ -1,5 +1,5 @@
-//! Cover cuts: jobs of which the fleet can serve at most k at once, violated by the slots chosen so
-//! far.
+//! Cover inequalities: jobs of which the fleet can serve at most k at once, violated by the slots chosen so far.
+//! See E. Balas, "Facets of the Knapsack Polytope", Mathematical Programming 8, 1975.
 
 use crate::finds::Finds;
 use crate::separation::{Choices, OVERFILLED};
@@ -32,7 +32,7 @@ impl Load {
 
 /// A rule on tugs in a slot.
 #[derive(Clone, Copy)]
-struct Berth<'b> {
+struct TugSlot<'b> {
     place: u32,
     slot: Slot,
     fleet: u32,
@@ -72,13 +72,13 @@ pub(crate) fn find_covers(
     for place in 0..choices.flat.shape().rules {
         if let Some(Rule::Tugs { fleet, jobs }) = choices.flat.rules().get(place as usize) {
             for slot in 0..choices.flat.horizon() {
-                let berth = Berth {
+                let tug_slot = TugSlot {
                     place,
                     slot,
                     fleet: *fleet,
                     jobs: &jobs.items,
                 };
-                covers_at(alloc, choices, berth, finds)?;
+                covers_at(alloc, choices, tug_slot, finds)?;
             }
         }
     }
@@ -89,16 +89,16 @@ pub(crate) fn find_covers(
 fn covers_at(
     alloc: Global,
     choices: &Choices<'_>,
-    berth: Berth<'_>,
+    tug_slot: TugSlot<'_>,
     finds: &mut Finds,
 ) -> Result<(), NoMemory> {
-    let loads = loads(alloc, choices, berth)?;
+    let loads = loads(alloc, choices, tug_slot)?;
     for most in 1..MOST + 1 {
-        if let Some((over, choice)) = best_choice(choices.steps, berth, &loads, most) {
+        if let Some((over, choice)) = best_choice(choices.steps, tug_slot, &loads, most) {
             let toll = Toll::Tugs {
-                place: berth.place,
-                slot: berth.slot,
-                weights: weights(alloc, berth.jobs.len(), &loads, choice)?,
+                place: tug_slot.place,
+                slot: tug_slot.slot,
+                weights: weights(alloc, tug_slot.jobs.len(), &loads, choice)?,
                 most,
             };
             finds.add(over, toll)?;
@@ -108,13 +108,17 @@ fn covers_at(
 }
 
 /// The jobs, those first whose ships hold their tugs in the slot most often.
-fn loads(alloc: Global, choices: &Choices<'_>, berth: Berth<'_>) -> Result<Vec<Load>, NoMemory> {
+fn loads(
+    alloc: Global,
+    choices: &Choices<'_>,
+    tug_slot: TugSlot<'_>,
+) -> Result<Vec<Load>, NoMemory> {
     let mut out = Vec::new(alloc);
-    for (place, job) in berth.jobs.iter().enumerate() {
-        let from = berth.slot.saturating_sub(job.hold.saturating_sub(1));
-        let uses = match choices.lanes.get(job.ship as usize) {
+    for (place, job) in tug_slot.jobs.iter().enumerate() {
+        let from = tug_slot.slot.saturating_sub(job.hold.saturating_sub(1));
+        let uses = match choices.subproblems.get(job.ship as usize) {
             None => 0,
-            Some(lane) => lane.chosen_within(from, berth.slot),
+            Some(subproblem) => subproblem.chosen_within(from, tug_slot.slot),
         };
         out.push(Load {
             uses,
@@ -128,16 +132,21 @@ fn loads(alloc: Global, choices: &Choices<'_>, berth: Berth<'_>) -> Result<Vec<L
 
 /// The choice that is overfilled most among those of which at most this many can be served together,
 /// and how often it is, if that is often enough.
-fn best_choice(steps: i64, berth: Berth<'_>, loads: &[Load], most: u32) -> Option<(i64, Choice)> {
+fn best_choice(
+    steps: i64,
+    tug_slot: TugSlot<'_>,
+    loads: &[Load],
+    most: u32,
+) -> Option<(i64, Choice)> {
     let mut best: Option<(i64, Choice)> = None;
-    for (place, job) in berth.jobs.iter().enumerate() {
-        if is_first(berth.jobs, place, job.tugs) {
+    for (place, job) in tug_slot.jobs.iter().enumerate() {
+        if is_first(tug_slot.jobs, place, job.tugs) {
             for others in 0..most.saturating_add(1) {
                 let choice = Choice {
                     tugs: job.tugs,
                     others,
                 };
-                best = greater(best, overfilled(steps, berth.fleet, loads, choice, most));
+                best = greater(best, overfilled(steps, tug_slot.fleet, loads, choice, most));
             }
         }
     }

@@ -1,5 +1,10 @@
 //! Finds prices on tolls for a search: which tolls are worth a price, and how much.
 //!
+//! In the field's words: the Lagrangian dual of the problem, whose relaxed constraints are valid inequalities (tolls), by a
+//! deflected subgradient method in whole numbers; clique and cover inequalities are separated on the way. A price is a
+//! multiplier, a ship with its best slot a subproblem, and what all ships earn with what the prices give back a bound. See
+//! M. L. Fisher, "The Lagrangian Relaxation Method for Solving Integer Programming Problems", Management Science 27, 1981.
+//!
 //! Nothing is promised of the numbers on the way. Each answer has passed the exact tests.
 #![tactic(auto)]
 
@@ -10,19 +15,20 @@ mod course;
 mod covers;
 mod cuts;
 mod distances;
-mod drafts;
 mod exact;
 mod finds;
-mod lanes;
 mod loosening;
-mod meters;
-mod mind;
 mod preferring;
 mod pricer;
+mod proposals;
+mod relaxation;
 mod rounds;
+mod row_states;
 mod rows;
 mod separation;
+mod subproblems;
 mod table;
+mod variation;
 mod workshop;
 
 pub use adviser::PricingAdviser;

@@ -1,4 +1,5 @@
-//! Widens a refuted room as far as it stays refuted by the same prices, so that its clause says more.
+//! Widens a refuted room as far as it stays refuted by the same prices, so that its clause says more: an
+//! explanation made general.
 
 use crate::cuts::Cut;
 use crate::table::{Table, greatest};

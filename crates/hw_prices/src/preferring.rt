@@ -1,6 +1,7 @@
 //! The literal by which to decide.
 
 use crate::table::Table;
+use crate::variation::Variation;
 use hw_flat::{Flat, Room, ShipId, Slot};
 use hw_model::Lit;
 
@@ -20,22 +21,53 @@ impl Peak {
     }
 }
 
+/// What speaks for deciding a ship first.
+#[derive(Clone, Copy)]
+struct Claim {
+    peak: Peak,
+    /// What it is worth to decide it first.
+    worth: i64,
+    /// The same, where that is equal.
+    next_worth: i64,
+    /// The lower one is first where all is equal.
+    place: u32,
+}
+
+impl Claim {
+    fn is_above(self, other: Claim) -> bool {
+        if self.worth != other.worth {
+            return other.worth < self.worth;
+        }
+        if self.next_worth != other.next_worth {
+            return other.next_worth < self.next_worth;
+        }
+        self.place < other.place
+    }
+}
+
 /// By the ship whose best slot is furthest above the next best one; then the one of greatest value,
-/// then the lower one.
-pub(crate) fn by_regret(flat: &Flat, room: &Room) -> Option<Lit> {
-    let mut best: Option<Peak> = None;
+/// then the lower one. The variation moves what these count.
+pub(crate) fn by_regret(flat: &Flat, room: &Room, variation: Variation) -> Option<Lit> {
+    let mut best: Option<Claim> = None;
     for ship in 0..room.ships() {
         if room.low(ship) < room.high(ship) {
-            best = Some(more_regret(best, peak_of_values(flat, room, ship)));
+            let peak = peak_of_values(flat, room, ship);
+            let claim = Claim {
+                peak,
+                worth: variation.worth(ship, peak.regret()),
+                next_worth: variation.worth(ship, peak.most),
+                place: variation.place(ship),
+            };
+            best = Some(above(best, claim));
         }
     }
     decided(room, best)
 }
 
-fn more_regret(best: Option<Peak>, peak: Peak) -> Peak {
+fn above(best: Option<Claim>, claim: Claim) -> Claim {
     match best {
-        Some(old) if (peak.regret(), peak.most) <= (old.regret(), old.most) => old,
-        _ => peak,
+        Some(old) if !claim.is_above(old) => old,
+        _ => claim,
     }
 }
 
@@ -77,23 +109,24 @@ fn higher(peak: Peak, slot: Slot, value: i64) -> Peak {
     }
 }
 
-/// By the ship that earns most in a slot of its range, then the lower one.
-pub(crate) fn by_earnings(table: &Table, room: &Room) -> Option<Lit> {
-    let mut best: Option<Peak> = None;
+/// By the ship that earns most in a slot of its range, then the lower one. The variation moves what these
+/// count.
+pub(crate) fn by_earnings(table: &Table, room: &Room, variation: Variation) -> Option<Lit> {
+    let mut best: Option<Claim> = None;
     for ship in 0..room.ships() {
         let (low, high) = (room.low(ship), room.high(ship));
         if low < high {
-            best = Some(more_earned(best, peak_of_earnings(table.row(ship), ship, low, high)));
+            let peak = peak_of_earnings(table.row(ship), ship, low, high);
+            let claim = Claim {
+                peak,
+                worth: variation.worth(ship, peak.most),
+                next_worth: 0,
+                place: variation.place(ship),
+            };
+            best = Some(above(best, claim));
         }
     }
     decided(room, best)
-}
-
-fn more_earned(best: Option<Peak>, peak: Peak) -> Peak {
-    match best {
-        Some(old) if peak.most <= old.most => old,
-        _ => peak,
-    }
 }
 
 fn peak_of_earnings(row: &[i64], ship: ShipId, low: Slot, high: Slot) -> Peak {
@@ -107,10 +140,10 @@ fn peak_of_earnings(row: &[i64], ship: ShipId, low: Slot, high: Slot) -> Peak {
 }
 
 /// From the best slot on, where it isn't the lowest of its range, else the lowest alone.
-fn decided(room: &Room, best: Option<Peak>) -> Option<Lit> {
+fn decided(room: &Room, best: Option<Claim>) -> Option<Lit> {
     match best {
         None => None,
-        Some(peak) => decide(room, peak.ship, peak.slot),
+        Some(claim) => decide(room, claim.peak.ship, claim.peak.slot),
     }
 }
 

@@ -1,11 +1,11 @@
 //! Candidates with their prices, and how the prices are moved so that a room earns less.
 
 use crate::candidates::candidates;
-use crate::course::{Bout, Course, FULL_PACE};
+use crate::course::{Course, FULL_PACE, StepRule};
 use crate::distances::Distances;
-use crate::lanes::{Lane, Share, begin_lanes, lanes};
-use crate::meters::{Meter, aimed, take_up};
+use crate::row_states::{RowState, aimed, take_up};
 use crate::rows::{Part, Row, capacity};
+use crate::subproblems::{Share, Subproblem, begin_subproblems, subproblems};
 use hw_flat::{Flat, Room};
 use hw_model::NoMemory;
 use hw_tolls::Toll;
@@ -19,16 +19,16 @@ const DEAREST: i64 = 1_000_000_000_000_000;
 #[derive(Drop)]
 pub(crate) struct Pricer {
     pub(crate) distances: Distances,
-    pub(crate) lanes: Vec<Lane>,
+    pub(crate) subproblems: Vec<Subproblem>,
     /// By how much what is paid in a slot exceeds what is paid in the slot before: for each slot of
     /// each ship, and after its last one.
     rises: Vec<i64>,
     pub(crate) rows: Vec<Row>,
     /// The price of each row's unit, in parts.
     pub(crate) prices: Vec<i64>,
-    /// The best prices of a bout.
+    /// The best prices of a course.
     best: Vec<i64>,
-    meters: Vec<Meter>,
+    row_states: Vec<RowState>,
     /// Rows with a price or a direction, and those that were overfilled last.
     live: Vec<u32>,
     spare: Vec<u32>,
@@ -51,12 +51,12 @@ impl Pricer {
         let places = shape.ships * (shape.slots + 1);
         let mut pricer = Pricer {
             distances,
-            lanes: lanes(alloc, flat)?,
+            subproblems: subproblems(alloc, flat)?,
             rises: vec![in alloc; 0; places as usize]?,
             rows: Vec::new(alloc),
             prices: Vec::new(alloc),
             best: Vec::new(alloc),
-            meters: Vec::new(alloc),
+            row_states: Vec::new(alloc),
             live: Vec::new(alloc),
             spare: Vec::new(alloc),
             held: Vec::new(alloc),
@@ -84,11 +84,11 @@ impl Pricer {
                 row: number,
                 units: i64::from(charge.amount),
             };
-            if let Some(lane) = self.lanes.get_mut(charge.ship as usize) {
-                lane.add_share(charge.low, charge.high, share)?;
+            if let Some(subproblem) = self.subproblems.get_mut(charge.ship as usize) {
+                subproblem.add_share(charge.low, charge.high, share)?;
             }
         }
-        self.meters.push(Meter::new(capacity(&row.toll)))?;
+        self.row_states.push(RowState::new(capacity(&row.toll)))?;
         self.rows.push(row)?;
         self.prices.push(price)?;
         self.best.push(0)?;
@@ -122,10 +122,10 @@ impl Pricer {
         kept: &[i64],
     ) -> Result<Vec<u32>, NoMemory> {
         self.release();
-        for lane in self.lanes.iter_mut() {
-            lane.forget_shares();
+        for subproblem in self.subproblems.iter_mut() {
+            subproblem.forget_shares();
         }
-        self.meters.clear();
+        self.row_states.clear();
         self.best.clear();
         self.live.clear();
         let rows = mem::replace(&mut self.rows, Vec::new(alloc));
@@ -146,15 +146,15 @@ impl Pricer {
     /// parts.
     pub(crate) fn improve(&mut self, room: &Room, course: Course) -> Result<i64, NoMemory> {
         self.begin(room)?;
-        let mut bout = Bout::new(course);
+        let mut step_rule = StepRule::new(course);
         for _step in 0..course.steps {
-            let goes_on = self.step(&mut bout)?;
+            let goes_on = self.step(&mut step_rule)?;
             if !goes_on {
                 break;
             }
         }
         copy_prices(&mut self.prices, &self.best);
-        Ok(bout.best)
+        Ok(step_rule.best)
     }
 
     /// Like `improve`, and keeps the prices of one step in each this many as samples.
@@ -167,9 +167,9 @@ impl Pricer {
     ) -> Result<i64, NoMemory> {
         self.samples.clear();
         self.begin(room)?;
-        let mut bout = Bout::new(course);
+        let mut step_rule = StepRule::new(course);
         for step in 1..course.steps.saturating_add(1) {
-            let goes_on = self.step(&mut bout)?;
+            let goes_on = self.step(&mut step_rule)?;
             if step % each.max(1) == 0 {
                 self.samples.push(Vec::from_slice(alloc, &self.prices)?)?;
             }
@@ -178,22 +178,22 @@ impl Pricer {
             }
         }
         copy_prices(&mut self.prices, &self.best);
-        Ok(bout.best)
+        Ok(step_rule.best)
     }
 
-    /// Takes a step of a bout. Whether more of them are worth it.
-    fn step(&mut self, bout: &mut Bout) -> Result<bool, NoMemory> {
+    /// Takes a step. Whether more of them are worth it.
+    fn step(&mut self, step_rule: &mut StepRule) -> Result<bool, NoMemory> {
         self.steps = self.steps.wrapping_add(1);
         let total = self.choose()?;
-        if total < bout.best {
+        if total < step_rule.best {
             copy_prices(&mut self.best, &self.prices);
         }
-        let goes_on = bout.goes_on(total);
+        let goes_on = step_rule.goes_on(total);
         let norm = if goes_on { self.aim() } else { 0 };
         if norm <= 0 {
             return Ok(false);
         }
-        self.move_prices(bout.unit(total, norm))?;
+        self.move_prices(step_rule.unit(total, norm))?;
         Ok(true)
     }
 
@@ -208,7 +208,7 @@ impl Pricer {
 
     /// Starts in a room with the prices that stand, those that were held back among them.
     fn begin(&mut self, room: &Room) -> Result<(), NoMemory> {
-        begin_lanes(&mut self.lanes, room);
+        begin_subproblems(&mut self.subproblems, room);
         for rise in self.rises.iter_mut() {
             *rise = 0;
         }
@@ -237,14 +237,14 @@ impl Pricer {
     /// Charges a row's price, or holds it back where the room can't overfill the row.
     fn begin_row(&mut self, row: usize) -> Result<(), NoMemory> {
         let price = price_at(&self.prices, row);
-        let Some(meter) = self.meters.get_mut(row) else {
+        let Some(state) = self.row_states.get_mut(row) else {
             return Ok(());
         };
-        meter.reset();
+        state.reset();
         if price <= 0 {
             return Ok(());
         }
-        let capacity = meter.capacity;
+        let capacity = state.capacity;
         let number = u32::try_from(row).unwrap_or(u32::MAX);
         if self.clip(row)? <= capacity {
             self.held.push((number, price))?;
@@ -264,8 +264,8 @@ impl Pricer {
     }
 
     fn wake(&mut self, row: usize) {
-        if let Some(meter) = self.meters.get_mut(row) {
-            meter.live = true;
+        if let Some(state) = self.row_states.get_mut(row) {
+            state.live = true;
         }
     }
 
@@ -273,15 +273,15 @@ impl Pricer {
     fn clip(&mut self, row: usize) -> Result<i64, NoMemory> {
         match self.rows.get_mut(row) {
             None => Ok(0),
-            Some(row) => clip(row, &self.lanes),
+            Some(row) => clip(row, &self.subproblems),
         }
     }
 
     /// Charges a change of a row's price to the ships that can take of it.
     fn charge(&mut self, row: usize, change: i64) {
-        let capacity = match self.meters.get(row) {
+        let capacity = match self.row_states.get(row) {
             None => 0,
-            Some(meter) => meter.capacity,
+            Some(state) => state.capacity,
         };
         self.allowance = self.allowance.wrapping_add(change.wrapping_mul(capacity));
         if let Some(row) = self.rows.get(row) {
@@ -293,10 +293,10 @@ impl Pricer {
     fn choose(&mut self) -> Result<i64, NoMemory> {
         let known = self.live.len();
         let mut total = self.allowance;
-        for lane in self.lanes.iter_mut() {
-            total = total.wrapping_add(lane.choose(&self.rises));
+        for subproblem in self.subproblems.iter_mut() {
+            total = total.wrapping_add(subproblem.choose(&self.rises));
         }
-        take_up(&mut self.lanes, &mut self.meters, &mut self.live)?;
+        take_up(&mut self.subproblems, &mut self.row_states, &mut self.live)?;
         for place in known..self.live.len() {
             let row = self.live.get(place).copied().unwrap_or(u32::MAX);
             self.clip(row as usize)?;
@@ -310,9 +310,12 @@ impl Pricer {
         let mut norm: i64 = 0;
         for row in &self.live {
             let row = *row as usize;
-            if let (Some(meter), Some(price)) = (self.meters.get_mut(row), self.prices.get(row)) {
-                meter.direction = aimed(meter, *price);
-                norm = norm.wrapping_add(meter.direction.wrapping_mul(meter.direction));
+            if let (Some(state), Some(price)) = (
+                self.row_states.get_mut(row),
+                self.prices.get(row),
+            ) {
+                state.direction = aimed(state, *price);
+                norm = norm.wrapping_add(state.direction.wrapping_mul(state.direction));
             }
         }
         norm
@@ -334,15 +337,15 @@ impl Pricer {
 
     /// Moves a row's price, and whether it stays alive.
     fn move_price(&mut self, row: usize, unit: i64) -> bool {
-        let Some(meter) = self.meters.get_mut(row) else {
+        let Some(state) = self.row_states.get_mut(row) else {
             return false;
         };
-        let direction = meter.direction;
+        let direction = state.direction;
         let old = price_at(&self.prices, row);
         let step = unit.saturating_mul(direction) / FULL_PACE;
         let new = old.saturating_add(step).max(0).min(DEAREST);
-        let live = new != 0 || direction != 0 || meter.is_overfilled();
-        meter.live = live;
+        let live = new != 0 || direction != 0 || state.is_overfilled();
+        state.live = live;
         if new != old {
             self.set_price(row, new);
             self.charge(row, new.wrapping_sub(old));
@@ -364,18 +367,18 @@ fn copy_prices(to: &mut [i64], from: &[i64]) {
 }
 
 /// Finds what ships can take of a row in their ranges, and how much that is in all.
-fn clip(row: &mut Row, lanes: &[Lane]) -> Result<i64, NoMemory> {
+fn clip(row: &mut Row, subproblems: &[Subproblem]) -> Result<i64, NoMemory> {
     row.parts.clear();
     let mut sum: i64 = 0;
     for charge in &row.charges {
-        if let Some(lane) = lanes.get(charge.ship as usize) {
-            let from = charge.low.max(lane.low);
-            let high = charge.high.min(lane.high);
+        if let Some(subproblem) = subproblems.get(charge.ship as usize) {
+            let from = charge.low.max(subproblem.low);
+            let high = charge.high.min(subproblem.high);
             if from <= high {
                 let units = i64::from(charge.amount);
                 row.parts.push(Part {
-                    from: lane.place(from),
-                    end: lane.place(high.saturating_add(1)),
+                    from: subproblem.place(from),
+                    end: subproblem.place(high.saturating_add(1)),
                     units,
                 })?;
                 sum = sum.wrapping_add(units);

@@ -88,7 +88,7 @@ fn make_by_samples(
     shop: &mut Workshop,
 ) -> Result<(), NoMemory> {
     for prices in pricer.samples.iter() {
-        let table = Table::new(alloc, &pricer.lanes, &pricer.rows, prices)?;
+        let table = Table::new(alloc, &pricer.subproblems, &pricer.rows, prices)?;
         shop.make_by(alloc, room, &table, None)?;
     }
     Ok(())
@@ -111,8 +111,8 @@ pub(crate) fn add_tolls(
 
 fn forget_counts(pricer: &mut Pricer) {
     pricer.steps = 0;
-    for lane in pricer.lanes.iter_mut() {
-        lane.forget_counts();
+    for subproblem in pricer.subproblems.iter_mut() {
+        subproblem.forget_counts();
     }
 }
 
@@ -136,7 +136,7 @@ fn add_found(
 fn found(alloc: Global, flat: &Flat, pricer: &Pricer, most: usize) -> Result<Vec<Toll>, NoMemory> {
     let choices = Choices {
         flat,
-        lanes: &pricer.lanes,
+        subproblems: &pricer.subproblems,
         distances: &pricer.distances,
         steps: pricer.steps,
     };

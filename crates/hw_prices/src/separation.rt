@@ -1,8 +1,10 @@
-//! Narrows that ships overfill with the slots that they chose in the last steps.
+//! Narrows that ships overfill with the slots that they chose in the last steps: clique inequalities, grown
+//! greedily. See M. W. Padberg, "On the Facial Structure of Set Packing Polyhedra", Mathematical Programming 5,
+//! 1973.
 
 use crate::distances::Distances;
 use crate::finds::Finds;
-use crate::lanes::Lane;
+use crate::subproblems::Subproblem;
 use hw_flat::{Flat, ShipId, Slot};
 use hw_model::NoMemory;
 use hw_tolls::{Block, Blocks, Toll};
@@ -52,7 +54,7 @@ impl Spot {
 #[derive(Clone, Copy)]
 pub(crate) struct Choices<'c> {
     pub(crate) flat: &'c Flat,
-    pub(crate) lanes: &'c [Lane],
+    pub(crate) subproblems: &'c [Subproblem],
     pub(crate) distances: &'c Distances,
     pub(crate) steps: i64,
 }
@@ -82,7 +84,7 @@ fn spots(alloc: Global, choices: &Choices<'_>) -> Result<Vec<Spot>, NoMemory> {
     let shape = choices.flat.shape();
     for ship in 0..shape.ships {
         for slot in 0..choices.flat.horizon() {
-            let count = count_at(choices.lanes, ship, slot);
+            let count = count_at(choices.subproblems, ship, slot);
             if choices.steps.saturating_mul(OFTEN) < count.saturating_mul(100) {
                 spots.push(Spot { count, ship, slot })?;
             }
@@ -92,10 +94,10 @@ fn spots(alloc: Global, choices: &Choices<'_>) -> Result<Vec<Spot>, NoMemory> {
     Ok(spots)
 }
 
-fn count_at(lanes: &[Lane], ship: ShipId, slot: Slot) -> i64 {
-    match lanes.get(ship as usize) {
+fn count_at(subproblems: &[Subproblem], ship: ShipId, slot: Slot) -> i64 {
+    match subproblems.get(ship as usize) {
         None => 0,
-        Some(lane) => lane.count(slot),
+        Some(subproblem) => subproblem.count(slot),
     }
 }
 
@@ -172,7 +174,7 @@ fn add_narrows(
     blocks: Vec<Block>,
     finds: &mut Finds,
 ) -> Result<(), NoMemory> {
-    let over = chosen_in(choices.lanes, &blocks).wrapping_sub(choices.steps);
+    let over = chosen_in(choices.subproblems, &blocks).wrapping_sub(choices.steps);
     if over.saturating_mul(100) <= choices.steps.saturating_mul(OVERFILLED) {
         return Ok(());
     }
@@ -189,11 +191,11 @@ fn add_narrows(
 }
 
 /// How often ships chose slots in their blocks.
-fn chosen_in(lanes: &[Lane], blocks: &[Block]) -> i64 {
+fn chosen_in(subproblems: &[Subproblem], blocks: &[Block]) -> i64 {
     let mut sum: i64 = 0;
     for block in blocks {
-        if let Some(lane) = lanes.get(block.ship as usize) {
-            sum = sum.wrapping_add(lane.chosen_within(block.low, block.high));
+        if let Some(subproblem) = subproblems.get(block.ship as usize) {
+            sum = sum.wrapping_add(subproblem.chosen_within(block.low, block.high));
         }
     }
     sum

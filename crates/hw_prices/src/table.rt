@@ -1,7 +1,7 @@
 //! What each ship earns in each slot under prices that stand.
 
-use crate::lanes::{Lane, SCALE};
 use crate::rows::{Row, capacity};
+use crate::subproblems::{SCALE, Subproblem};
 use hw_flat::{Room, ShipId};
 use hw_model::NoMemory;
 use std::alloc::Global;
@@ -19,12 +19,12 @@ impl Table {
     /// Under a price for each row.
     pub(crate) fn new(
         alloc: Global,
-        lanes: &[Lane],
+        subproblems: &[Subproblem],
         rows: &[Row],
         prices: &[i64],
     ) -> Result<Table, NoMemory> {
         let mut table = Table {
-            earnings: gains(alloc, lanes)?,
+            earnings: gains(alloc, subproblems)?,
             allowance: 0,
         };
         for (row, price) in rows.iter().zip(prices) {
@@ -81,10 +81,10 @@ impl Table {
     }
 }
 
-fn gains(alloc: Global, lanes: &[Lane]) -> Result<Vec<Vec<i64>>, NoMemory> {
+fn gains(alloc: Global, subproblems: &[Subproblem]) -> Result<Vec<Vec<i64>>, NoMemory> {
     let mut out = Vec::new(alloc);
-    for lane in lanes {
-        out.push(Vec::from_slice(alloc, &lane.gains)?)?;
+    for subproblem in subproblems {
+        out.push(Vec::from_slice(alloc, &subproblem.gains)?)?;
     }
     Ok(out)
 }

@@ -57,7 +57,7 @@ pub fn plan(alloc: Global, flat: &Flat, budget: u32, ahead: u32) -> (Proved, Vec
 {
     let budget = budget.clamp(1, 100_000);
     let adviser = Early {
-        adviser: PricingAdviser::new(budget.saturating_add(ahead)),
+        adviser: PricingAdviser::new(budget.saturating_add(ahead), 0),
         ahead,
     };
     let mut log = MemoryLog::new(alloc);

@@ -1,16 +1,16 @@
-//! Tariffs of prices, and the rows whose tolls are declared.
+//! Proposals: tariffs of prices, and the rows whose tolls are declared.
 
 use crate::answering::Offer;
-use crate::lanes::SCALE;
 use crate::pricer::price_at;
 use crate::rows::{Row, copy};
+use crate::subproblems::SCALE;
 use hw_model::NoMemory;
 use hw_tolls::{Due, Dues, Tariff};
 use std::alloc::Global;
 
 /// A tariff of prices, with the rows whose tolls must be declared for it.
 #[derive(Drop)]
-pub(crate) struct Draft {
+pub(crate) struct Proposal {
     pub(crate) offer: Offer,
     pub(crate) rows: Vec<u32>,
 }
@@ -34,12 +34,12 @@ pub(crate) fn follow(
 }
 
 /// The tariff of some prices: first the dues on tolls that are declared, then those on others.
-pub(crate) fn draft_of(
+pub(crate) fn proposal_of(
     alloc: Global,
     rows: &[Row],
     named: &[u32],
     prices: &[i64],
-) -> Result<Draft, NoMemory> {
+) -> Result<Proposal, NoMemory> {
     let mut items = Vec::new(alloc);
     for (number, row) in named.iter().enumerate() {
         let price = price_at(prices, *row as usize);
@@ -55,7 +55,7 @@ pub(crate) fn draft_of(
             new_rows.push(u32::try_from(place).unwrap_or(u32::MAX))?;
         }
     }
-    Ok(Draft {
+    Ok(Proposal {
         offer: Offer {
             tolls,
             tariff: Tariff {

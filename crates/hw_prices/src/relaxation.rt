@@ -1,4 +1,4 @@
-//! What an adviser knows of a problem: prices, and the tolls that it has named.
+//! The Lagrangian relaxation that an adviser keeps of a problem: prices, and the tolls that it has named.
 
 ghost use Rattle.std.specs.Prelude.{◌≤◌, length, All, IfOk, IfSome};
 ghost use Rattle.hw_model.specs.Rooms.{RoomFits};
@@ -8,12 +8,13 @@ ghost use Rattle.hw_advice.specs.Advisers.{IsAdviceIn, IsBoundIn, IsScene};
 use crate::answering::{advice_anew, advice_in_force, bounding};
 use crate::course::{Course, FULL_PACE, goal};
 use crate::cuts::cuts;
-use crate::drafts::{Draft, draft_of, follow, name_rows};
 use crate::loosening::loosened;
 use crate::preferring::{by_earnings, by_regret};
 use crate::pricer::{Pricer, price_at};
+use crate::proposals::{Proposal, follow, name_rows, proposal_of};
 use crate::rounds::{add_tolls, find_prices};
 use crate::table::Table;
+use crate::variation::Variation;
 use crate::workshop::Workshop;
 use hw_advice::{Advice, Bounding, Scene, Standing};
 use hw_flat::Room;
@@ -52,9 +53,10 @@ const MADE: u32 = 8;
 /// After this many rooms the candidates that had no price in any of them are dropped.
 const IDLE: u32 = 32;
 
-/// What an adviser knows of a problem.
+/// What an adviser keeps of a problem.
 #[derive(Drop)]
-pub(crate) struct Mind {
+pub(crate) struct Relaxation {
+    variation: Variation,
     pricer: Pricer,
     /// In how many rooms prices were moved under a best.
     rooms: u32,
@@ -88,18 +90,20 @@ struct Plan {
     more: bool,
 }
 
-impl Mind {
+impl Relaxation {
     /// Finds the prices for the whole room.
     pub(crate) fn new(
         alloc: Global,
         scene: &Scene<'_>,
         shop: &mut Workshop,
-    ) -> Result<Mind, NoMemory> {
+        variation: Variation,
+    ) -> Result<Relaxation, NoMemory> {
         let mut pricer = Pricer::new(alloc, scene.flat)?;
         let whole = Room::whole(alloc, scene.flat.shape())?;
         let least = find_prices(alloc, scene.flat, &mut pricer, &whole, scene.best, shop)?;
         let root = Vec::from_slice(alloc, &pricer.prices)?;
-        Ok(Mind {
+        Ok(Relaxation {
+            variation,
             pricer,
             rooms: 0,
             rules: RulesByPair::new(alloc, scene.flat)?,
@@ -157,7 +161,7 @@ impl Mind {
     fn present(&self, alloc: Global) -> Result<Table, NoMemory> {
         Table::new(
             alloc,
-            &self.pricer.lanes,
+            &self.pricer.subproblems,
             &self.pricer.rows,
             &self.pricer.prices,
         )
@@ -224,7 +228,7 @@ impl Mind {
     /// Moves the prices for a room, and now and then looks for more tolls there, or drops candidates that
     /// were of no use.
     fn move_prices(&mut self, alloc: Global, scene: &Scene<'_>, goal: i64) -> Result<(), NoMemory> {
-        let course = Course::towards(Some(goal), STEPS, PACE);
+        let course = Course::towards(Some(goal), self.variation.steps(STEPS), PACE);
         let least = self.pricer.improve(scene.room, course)?;
         self.rooms = self.rooms.wrapping_add(1);
         if goal < least && self.looks_for_tolls(scene) {
@@ -277,7 +281,7 @@ impl Mind {
         let Plan { table, lits, more } = plan;
         let declared = scene.tolls.len();
         follow(&mut self.named, &mut self.pricer.rows, declared)?;
-        let Draft { offer, rows } = draft_of(
+        let Proposal { offer, rows } = proposal_of(
             alloc,
             &self.pricer.rows,
             &self.named,
@@ -314,8 +318,18 @@ impl Mind {
         self.tried = true;
         let declared = scene.tolls.len();
         follow(&mut self.named, &mut self.pricer.rows, declared)?;
-        let table = Table::new(alloc, &self.pricer.lanes, &self.pricer.rows, &self.root)?;
-        let Draft { offer, rows } = draft_of(alloc, &self.pricer.rows, &self.named, &self.root)?;
+        let table = Table::new(
+            alloc,
+            &self.pricer.subproblems,
+            &self.pricer.rows,
+            &self.root,
+        )?;
+        let Proposal { offer, rows } = proposal_of(
+            alloc,
+            &self.pricer.rows,
+            &self.named,
+            &self.root,
+        )?;
         match bounding(alloc, scene, &mut self.rules, offer)? {
             Some(answer) if self.is_lower(answer.bound) => {
                 name_rows(&mut self.named, &mut self.pricer.rows, &rows)?;
@@ -352,18 +366,18 @@ impl Mind {
         Ok(())
     }
 
-    /// The literal by which to decide: by what ships earn under the last prices, and after every second
-    /// restart by regret.
+    /// The literal by which to decide: by what ships earn under the last prices, and after some restarts
+    /// by regret.
     pub(crate) fn prefer(&self, scene: &Scene<'_>) -> Option<Lit> {
         let table = match &self.latest {
             None => &self.table,
             Some(_) => &self.latest,
         };
+        let variation = self.variation;
+        let by_regrets = scene.best.is_some() && variation.is_by_regret(scene.standing.restarts);
         match table {
-            Some(table) if scene.best.is_none() || scene.standing.restarts % 2 == 0 => by_earnings(
-                table, scene.room,
-            ),
-            _ => by_regret(scene.flat, scene.room),
+            Some(table) if !by_regrets => by_earnings(table, scene.room, variation),
+            _ => by_regret(scene.flat, scene.room, variation),
         }
     }
 }

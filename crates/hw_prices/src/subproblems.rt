@@ -1,4 +1,4 @@
-//! A ship's slots: what they earn, what is paid there, and which one is chosen.
+//! The subproblem of a ship: what its slots earn, what is paid there, and which one is chosen.
 
 use hw_flat::{Flat, Room, ShipId};
 use hw_model::NoMemory;
@@ -17,9 +17,9 @@ pub(crate) struct Share {
     pub(crate) units: i64,
 }
 
-/// A ship's slots. All amounts are in parts.
+/// A ship's slots, of which it chooses the one that earns most less what is paid there. All amounts are in parts.
 #[derive(Drop)]
-pub(crate) struct Lane {
+pub(crate) struct Subproblem {
     /// What the ship gains in each slot.
     pub(crate) gains: Vec<i64>,
     /// The place of its first slot among the slots of all ships.
@@ -33,18 +33,18 @@ pub(crate) struct Lane {
     pub(crate) high: u32,
     /// The slot that earns most.
     chosen: u32,
-    /// The slot in which the meters count what the ship takes.
+    /// The slot in which the rows count what the ship takes.
     taken: Option<u32>,
 }
 
-impl Lane {
-    pub(crate) fn new(alloc: Global, flat: &Flat, ship: ShipId) -> Result<Lane, NoMemory> {
+impl Subproblem {
+    pub(crate) fn new(alloc: Global, flat: &Flat, ship: ShipId) -> Result<Subproblem, NoMemory> {
         let slots = flat.shape().slots;
         let mut shares = Vec::new(alloc);
         for _slot in 0..slots {
             shares.push(Vec::new(alloc))?;
         }
-        Ok(Lane {
+        Ok(Subproblem {
             gains: gains(alloc, flat, ship)?,
             start: ship.saturating_mul(slots.saturating_add(1)),
             shares,
@@ -181,22 +181,22 @@ fn best_slot(gains: &[i64], rises: &[i64], low: u32) -> (u32, i64) {
     (slot, most)
 }
 
-/// The lanes of all ships.
-pub(crate) fn lanes(alloc: Global, flat: &Flat) -> Result<Vec<Lane>, NoMemory> {
-    let mut lanes = Vec::new(alloc);
+/// Those of all ships.
+pub(crate) fn subproblems(alloc: Global, flat: &Flat) -> Result<Vec<Subproblem>, NoMemory> {
+    let mut subproblems = Vec::new(alloc);
     for ship in 0..flat.shape().ships {
-        lanes.push(Lane::new(alloc, flat, ship)?)?;
+        subproblems.push(Subproblem::new(alloc, flat, ship)?)?;
     }
-    Ok(lanes)
+    Ok(subproblems)
 }
 
 /// Starts in the ranges of a room, with nothing taken.
-pub(crate) fn begin_lanes(lanes: &mut [Lane], room: &Room) {
+pub(crate) fn begin_subproblems(subproblems: &mut [Subproblem], room: &Room) {
     for ship in 0..room.ships() {
-        if let Some(lane) = lanes.get_mut(ship as usize) {
-            lane.low = room.low(ship);
-            lane.high = room.high(ship);
-            lane.taken = None;
+        if let Some(subproblem) = subproblems.get_mut(ship as usize) {
+            subproblem.low = room.low(ship);
+            subproblem.high = room.high(ship);
+            subproblem.taken = None;
         }
     }
 }
