@@ -21,14 +21,14 @@ use Rattle.hw_search_command.specs.declared.finding.Found.{Found}
 -- ---- what is on Proof
 
 -- what holds of the lines told holds of the bytes told
-by_lines : (version : Version) {P : LogTold → Type 0} {Q : List ℕ → Type 0} (sent : Option (List ℕ)) → is_told_under version sent ≡ true → IfSome (option_and_then (told_under version) sent) P → ((told : LogTold) (bytes : List ℕ) → IsTextUnder version told bytes → P told → Q bytes) → IfSome sent Q
+pub by_lines : (version : Version) {P : LogTold → Type 0} {Q : List ℕ → Type 0} (sent : Option (List ℕ)) → is_told_under version sent ≡ true → IfSome (option_and_then (told_under version) sent) P → ((told : LogTold) (bytes : List ℕ) → IsTextUnder version told bytes → P told → Q bytes) → IfSome sent Q
 by_lines version None told h k = tt
 by_lines version {P = P} (Some bytes) told h k =
     let t = some_told (told_under version bytes) told in
     k t.0 bytes (each_text_told version bytes t.0 t.1) (subst (λ (o : Option LogTold). IfSome o P) t.1 h)
 
 -- the text of whole lines
-whole_text : (version : Version) {told : LogTold} {bytes : List ℕ} → IsTextUnder version told bytes → told.behind ≡ [] → bytes ≡ cert_text version told.lines
+pub whole_text : (version : Version) {told : LogTold} {bytes : List ℕ} → IsTextUnder version told bytes → told.behind ≡ [] → bytes ≡ cert_text version told.lines
 whole_text version {told = told} t e = t.text ∙ ap (λ (behind : List ℕ). cert_text version told.lines ++ behind) e ∙ append-nil (cert_text version told.lines)
 
 leaves : (q : Searcher) (f : Problem) (budget : ℕ) (found : Option Found) (x y z : DeskState) → y.write_faults ≡ x.write_faults → is_told_under q.version (z.trays Proof).sent ≡ true → SearchMeets q f budget (log_under q.version y) found (log_under q.version z) → SearchLeaves q f budget x z found
@@ -55,7 +55,7 @@ only_proof x y e = λ i t. (at t) i
     at Report = e
     at Proof = refl
 
-outside_only : {y z : DeskState} → outside_of z ≡ outside_of y → y.write_faults ≤ z.write_faults → OnlyTray Proof y z
+pub outside_only : {y z : DeskState} → outside_of z ≡ outside_of y → y.write_faults ≤ z.write_faults → OnlyTray Proof y z
 outside_only {y = y} {z = z} e later = record {
   held = ap (λ (o : Outside). o.held) e;
   feeds = ap (λ (o : Outside). o.feeds) e;

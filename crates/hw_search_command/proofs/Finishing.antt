@@ -37,7 +37,7 @@ of_judged : (s : Subject) {q : Searcher} {budget : ℕ} {proof : List ℕ} {x y 
 of_judged s {q = q} {budget = budget} {proof = proof} {y = y} {z = z} {found = found} h k = subst (λ (f : Problem). SearchesTo q f budget proof y z found) h.searched k
 
 -- its report is by the subject's problem, names and plan
-same_report : (s : Subject) {x y : DeskState} {given : Given} (found : Found) → (h : ReadsSubject s x y given) → report_of given found ≡ found_report (s.problem h.value) (s.naming h.value) (s.plan h.value) found
+pub same_report : (s : Subject) {x y : DeskState} {given : Given} (found : Found) → (h : ReadsSubject s x y given) → report_of given found ≡ found_report (s.problem h.value) (s.naming h.value) (s.plan h.value) found
 same_report s {given = given} found h =
     ap (λ (f : Problem). found_report f (naming_of given.named) (plan_in given.repair) found) h.problem
     ∙ ap (λ (names : Naming). found_report (s.problem h.value) names (plan_in given.repair) found) h.naming

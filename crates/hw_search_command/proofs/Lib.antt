@@ -4,3 +4,6 @@ mod Ending
 mod Owned
 mod Finishing
 mod Demonstrated
+mod Thirds
+mod Continued
+mod Resumptions

@@ -36,7 +36,7 @@ has_slots f (Some plan) (Some table) fits h = fits.each_ship ∙ sym h.listed.ea
 pub same_most : (how : Search) (f : Problem) (plan : Option PlanParts) → (searcher_of how).most (repaired_problem f plan) ≡ (searcher_of how).most f
 same_most how f None = refl
 same_most Solve f (Some plan) = refl
-same_most Prove f (Some plan) = refl
+same_most (Prove seed) f (Some plan) = refl
 same_most (Crew order) f (Some plan) = refl
 
 pub head_says : (s : Subject) (v : s.Value) (budget most : ℕ) (head : Head) (table : Option (List ℕ)) → IsModelled s v → HeadMeans (judged s v) budget most head table → HeadSays s v budget most (own_head (s.plan v) (s.problem v).ships head) table
@@ -53,7 +53,7 @@ number_is f plan table d fits best =
     same_Some d _ (sym best.worth ∙ (repaired_cargo f plan table (own_cargo f.ships d) fits own.meets own.worth).carries)
 
 -- the head of the problem that was searched is the one for which the printed head stands
-head_is : (f : Problem) (plan : Option PlanParts) (budget most : ℕ) (head : Head) (table : Option (List ℕ)) → IfSome plan (PlanFits f) → HeadMeans (repaired_problem f plan) budget most head table → head ≡ searched_head plan f.ships table (own_head plan f.ships head)
+pub head_is : (f : Problem) (plan : Option PlanParts) (budget most : ℕ) (head : Head) (table : Option (List ℕ)) → IfSome plan (PlanFits f) → HeadMeans (repaired_problem f plan) budget most head table → head ≡ searched_head plan f.ships table (own_head plan f.ships head)
 head_is f None budget most (heads.Optimal d) table fits h = refl
 head_is f None budget most heads.Infeasible table fits h = refl
 head_is f None budget most (heads.Unfinished spent) table fits h = refl

@@ -63,5 +63,5 @@ crewing order = record {
 
 abbrev pub searcher_of : Search → Searcher
 searcher_of Solve = solving
-searcher_of Prove = proving
+searcher_of (Prove seed) = proving
 searcher_of (Crew order) = crewing order

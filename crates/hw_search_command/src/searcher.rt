@@ -11,8 +11,9 @@ use hw_cert::Version;
 pub enum Search {
     /// One searcher.
     Solve,
-    /// One searcher that prices on tolls advise. Its certificate is of version 3, and has bounds.
-    Prove,
+    /// One searcher that prices on tolls advise. Its certificate is of version 3, and has bounds. The seed
+    /// chooses one of many ways through the search, of which 0 is the usual one.
+    Prove { seed: u32 },
     /// Searchers with branching rules of their own, which take turns in this order and share the best
     /// timetable.
     Crew { order: Order },
@@ -25,7 +26,7 @@ impl Search {
     {
         match self {
             Search::Solve | Search::Crew { .. } => Version::Two,
-            Search::Prove => Version::Three,
+            Search::Prove { .. } => Version::Three,
         }
     }
 }

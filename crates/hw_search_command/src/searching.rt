@@ -66,8 +66,8 @@ fn search_on<D: Desk>(
 {
     match how {
         Search::Solve => found_of(budget, solve_on(alloc, desk, flat, budget), None),
-        Search::Prove => {
-            let Proved { solved, bound } = prove_on(alloc, desk, flat, budget);
+        Search::Prove { seed } => {
+            let Proved { solved, bound } = prove_on(alloc, desk, flat, budget, *seed);
             found_of(budget, solved, bound)
         }
         Search::Crew { order } => found_by_crew(budget, crew_on(alloc, desk, flat, order, budget)),
@@ -90,8 +90,8 @@ fn solve_on<D: Desk>(alloc: Global, desk: &mut D, flat: &Flat, budget: u32) -> S
     solve(alloc, flat, budget, &mut log)
 }
 
-/// One searcher that prices on tolls advise.
-fn prove_on<D: Desk>(alloc: Global, desk: &mut D, flat: &Flat, budget: u32) -> Proved
+/// One searcher that prices on tolls advise, by the way that the seed chooses.
+fn prove_on<D: Desk>(alloc: Global, desk: &mut D, flat: &Flat, budget: u32, seed: u32) -> Proved
     requires least { 1 ≤ budget }
     requires most { budget ≤ MOST_BUDGET }
     requires made { ((D.state desk.old).trays Tray.Proof).made ≡ true }
@@ -103,7 +103,8 @@ fn prove_on<D: Desk>(alloc: Global, desk: &mut D, flat: &Flat, budget: u32) -> P
     ensures outside { outside_of (D.state desk.new) ≡ outside_of (D.state desk.old) }
 {
     let mut log = PriceLog::over(desk);
-    prove(alloc, flat, budget, PricingAdviser::new(budget), &mut log)
+    let adviser = PricingAdviser::new(budget, seed);
+    prove(alloc, flat, budget, adviser, &mut log)
 }
 
 /// Several searchers, which take turns in an order.

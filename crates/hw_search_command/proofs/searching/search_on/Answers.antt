@@ -17,7 +17,7 @@ returns-in-Prove-clause-meets g c =
     let y = g.D.Desk.state c.prove_on-solved.new.desk in
     let proved = c.prove_on-solved.result in
     let found = found_of c.args.budget proved.solved proved.bound in
-    meets_as c.args.how.now Prove c.args.flat.now c.args.budget c.found_of-in-Prove.result found x y c.in-Prove.is c.found_of-in-Prove.ensures (prove_meets proved.solved proved.bound c.prove_on-solved.ensures.proves c.prove_on-solved.ensures.kept)
+    meets_as c.args.how.now (Prove c.in-Prove.seed) c.args.flat.now c.args.budget c.found_of-in-Prove.result found x y c.in-Prove.is c.found_of-in-Prove.ensures (prove_meets proved.solved proved.bound c.prove_on-solved.ensures.proves c.prove_on-solved.ensures.kept)
 
 pub returns-in-Crew-clause-meets : goal.returns-in-Crew-clause-meets
 returns-in-Crew-clause-meets g c =

@@ -1,0 +1,4 @@
+mod Numbers
+mod Starting
+mod Handed
+mod Answered

@@ -1,0 +1,57 @@
+-- Numbers that are raised keep the limits of a line.
+use Rattle.std.proofs.Common.{◌≡◌, ◌<◌, ◌≤◌, ◌+◌, ◌∙◌, ℕ, List, All, length, map, get_or, refl, sym, subst, arith}
+use Rattle.std.specs.Prelude.{slice_index}
+use Rattle.std.specs.List.Sorted.{IsStrictlyIncreasing}
+use Rattle.std.proofs.lemmas.List.{length-map, get_or-map}
+use Rattle.std.proofs.lemmas.List.Elements.{All-map}
+use Rattle.std.proofs.lemmas.Simd.{map-map}
+use Rattle.hw_model.specs.Problem.{Problem}
+use Rattle.hw_tolls.specs.declared.limits.TheConstants.{MOST_PRICE}
+use Rattle.hw_lines.specs.declared.line.Line.{Line}
+use Rattle.hw_lines.specs.declared.line.Line.TheVariants.{Delete, Tariff}
+use Rattle.hw_lines.specs.declared.line.Price.{Price}
+use Rattle.hw_lines.specs.Valid.{LineFits, PricesFit}
+use Rattle.hw_resume.specs.Raising.{KeepsFit, raised_numbers, raised_prices}
+
+number_at : (by : ℕ) (ids : List ℕ) (k : ℕ) → k < length ids → slice_index (raised_numbers by ids) k ≡ slice_index ids k + by
+number_at by ids k lt = get_or-map (λ id. id + by) ids k _ _ lt
+
+same_length : (by : ℕ) (ids : List ℕ) → length (raised_numbers by ids) ≡ length ids
+same_length by ids = length-map ids (λ id. id + by)
+
+pub still_rises : (by : ℕ) (ids : List ℕ) → IsStrictlyIncreasing ids → IsStrictlyIncreasing (raised_numbers by ids)
+still_rises by ids h k lt =
+    let same = same_length by ids in
+    let next : k + 1 < length ids = omega (arith, same, lt) in
+    let this : k < length ids = omega (arith, next) in
+    let a = number_at by ids k this in
+    let b = number_at by ids (k + 1) next in
+    let less = h k next in
+    omega (arith, a, b, less)
+
+pub raised_delete : (f : Problem) (by : ℕ) (ids : List ℕ) → LineFits f (Delete ids) → LineFits f (Delete (raised_numbers by ids))
+raised_delete f by ids h =
+    let same = same_length by ids in
+    let some : 0 < length (raised_numbers by ids) = omega (arith, same, h.0) in
+    let first = number_at by ids 0 h.0 in
+    let above : 0 < slice_index (raised_numbers by ids) 0 = omega (arith, first, h.1) in
+    (some, above, still_rises by ids h.2)
+
+pub raised_tariff : (f : Problem) (by scale : ℕ) (prices : List Price) → LineFits f (Tariff scale prices) → LineFits f (Tariff scale (raised_prices by prices))
+raised_tariff f by scale prices h = record {
+  small_scale = h.small_scale;
+  from_one = All-map (λ (one : Price). 0 < one.toll) (λ (one : Price). record { toll = one.toll + by; price = one.price }) prices (λ i x lt. omega (arith, h.from_one i x lt));
+  ascend = subst IsStrictlyIncreasing tolls (still_rises by (map (λ one. one.toll) prices) h.ascend);
+  small_prices = All-map (λ (one : Price). one.price ≤ MOST_PRICE) (λ (one : Price). record { toll = one.toll + by; price = one.price }) prices h.small_prices;
+}
+  where
+    tolls : raised_numbers by (map (λ one. one.toll) prices) ≡ map (λ one. one.toll) (raised_prices by prices)
+    tolls = map-map (λ id. id + by) (λ (one : Price). one.toll) prices ∙ sym (map-map (λ (one : Price). one.toll) (λ (one : Price). record { toll = one.toll + by; price = one.price }) prices)
+
+-- ---- by what the line is
+
+pub delete_as : (line : Line) (ids items : List ℕ) (by : ℕ) → line ≡ Delete ids → items ≡ raised_numbers by ids → KeepsFit line (Delete items)
+delete_as line ids items by is same f h = subst (λ (xs : List ℕ). LineFits f (Delete xs)) (sym same) (raised_delete f by ids (subst (LineFits f) is h))
+
+pub tariff_as : (line : Line) (scale by : ℕ) (prices items : List Price) → line ≡ Tariff scale prices → items ≡ raised_prices by prices → KeepsFit line (Tariff scale items)
+tariff_as line scale by prices items is same f h = subst (λ (xs : List Price). LineFits f (Tariff scale xs)) (sym same) (raised_tariff f by scale prices (subst (LineFits f) is h))

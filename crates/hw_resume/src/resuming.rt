@@ -1,0 +1,83 @@
+//! A search that goes on from a start.
+
+ghost use Rattle.std.specs.Prelude.{◌≡◌, ◌≤◌, All, length};
+ghost use Rattle.hw_lines.specs.Lemmas.{lemmas_of};
+ghost use Rattle.hw_lines.specs.Valid.{LineFits, Valid};
+ghost use Rattle.hw_resume.specs.Courses.{IsSearched};
+ghost use Rattle.hw_resume.specs.Going.{ResumeMeets};
+
+use crate::going_on::{begun, last_table};
+use crate::handing::hand_all;
+use crate::raising::Raise;
+use crate::reminder::Reminder;
+use crate::resumed::{ResumeStop, Resumed};
+use hw_advice::Adviser;
+use hw_cert::MemoryLog;
+use hw_flat::{Flat, Timetable};
+use hw_lines::Line;
+use hw_progress::MOST_BUDGET;
+use hw_search::{Solved, prove};
+use std::alloc::Global;
+
+/// Searches on from the lines of a start until as many new lemmas are found as the budget says, with an
+/// adviser. Where the start leaves nothing open there is no search.
+pub fn resume<A: Adviser + Drop>(
+    alloc: Global,
+    flat: &Flat,
+    start: Vec<Line>,
+    budget: u32,
+    adviser: A,
+) -> Result<Resumed, ResumeStop>
+    requires fit { All (LineFits flat.now) start.items }
+    requires valid { Valid flat.now start.items }
+    requires least { 1 ≤ budget }
+    requires most { budget ≤ MOST_BUDGET }
+    ensures { ResumeMeets flat.now budget start.items result }
+{
+    let by = counted(&start);
+    let course = begun(alloc, flat, start)?;
+    if !course.is_open() {
+        return Ok(course.told(alloc, false)?);
+    }
+    let table = last_table(alloc, &course.lines)?;
+    let (is_spent, found) = search(alloc, flat, budget, Reminder::new(table, adviser));
+    let course = hand_all(alloc, course, by, &found)?;
+    Ok(course.told(alloc, is_spent)?)
+}
+
+/// Searches, and keeps the lines. Whether the budget is spent comes first.
+fn search<A: Adviser + Drop>(
+    alloc: Global,
+    flat: &Flat,
+    budget: u32,
+    adviser: A,
+) -> (bool, Vec<Line>)
+    requires least { 1 ≤ budget }
+    requires most { budget ≤ MOST_BUDGET }
+    ensures { IsSearched flat.now budget result.0 result.1.items }
+{
+    let mut log = MemoryLog::new(alloc);
+    let proved = prove(alloc, flat, budget, adviser, &mut log);
+    let is_spent = matches!(proved.solved, Solved::Unfinished { .. });
+    (is_spent, log.into_lines())
+}
+
+/// By how much numbers of lines after these are raised: by how many clauses and tolls these have.
+fn counted(lines: &[Line]) -> Raise {
+    let mut by = Raise {
+        clauses: 0,
+        tolls: 0,
+    };
+    for line in lines {
+        match line {
+            Line::Explain { .. }
+            | Line::Order { .. }
+            | Line::Goal { .. }
+            | Line::Lemma { .. }
+            | Line::Priced { .. } => by.clauses = by.clauses.saturating_add(1),
+            Line::Narrows { .. } | Line::Tugs { .. } => by.tolls = by.tolls.saturating_add(1),
+            Line::Table(_) | Line::Delete { .. } | Line::Tariff { .. } | Line::Bound { .. } => {}
+        }
+    }
+    by
+}
