@@ -6,7 +6,7 @@ use Rattle.hw_clash.specs.declared.clashing.Clashed.{Clashed}
 use Rattle.hw_clash.specs.declared.clashing.Clashed.TheVariants as answers
 use Rattle.hw_clash.specs.Outcomes.{IsClashFound, ClashMeets}
 use Rattle.hw_clash.specs.Text.{clash_by}
-use Rattle.hw_clash.specs.Wished.{Wished, IsWished, wished}
+use Rattle.hw_clash.specs.Wished.{Wished, IsWished}
 use Rattle.hw_report.specs.Reports.{Report, clashed, met, spent_step}
 use Rattle.hw_command.specs.Carries.{Carries}
 use Rattle.hw_command.specs.Ends.{Ends}
@@ -20,7 +20,7 @@ use Rattle.hw_subject.proofs.Readings.{give_before}
 use Rattle.hw_clash_command.specs.Clashes.{Clashes, ClashSays, clash_task}
 use Rattle.hw_clash_command.specs.Found.{Found, a_clash, a_table, a_step, IsFound, IsClashTold, lines_found, report_found, SendsBoth, SendsFound}
 use Rattle.hw_clash_command.specs.PortWords.{FoundOf}
-use Rattle.hw_clash_command.specs.Asked.{asked, tugs_left, wishes_in}
+use Rattle.hw_clash_command.specs.Asked.{asked, asked_by}
 use Rattle.hw_clash_command.proofs.Printed.{reads_back}
 use Rattle.hw_clash_command.proofs.Sent.{sent_carries, memory_carries}
 use Rattle.hw_clash_command.proofs.Sources.{asked_fits, is_asked, none_of, permits_of}
@@ -92,5 +92,5 @@ answered {proof = proof} {budget = budget} {x = x} topic answers.NoMemory h m k 
     let s = topic_subject topic in
     memory_carries s.inputs s.Gives (ClashSays s budget proof) (Some proof) h.entered (give_before (s.Gives x.held) s.inputs h.give) h.read_faults k
 
-pub clash_meets : {given : Given} {proof : List ℕ} {budget : ℕ} {x y end : DeskState} {s : Status} (topic : Topic) (answer : Clashed) → ReadsSubject (topic_subject topic) x y given → ClashMeets (wished (tugs_left given.flat (plan_in given.repair)) (wishes_in (plan_in given.repair))) budget answer → SendsFound (lines_found answer) (report_found budget answer) proof y end s → Carries (clash_task (topic_subject topic) budget proof) x end s
+pub clash_meets : {given : Given} {proof : List ℕ} {budget : ℕ} {x y end : DeskState} {s : Status} (topic : Topic) (answer : Clashed) → ReadsSubject (topic_subject topic) x y given → ClashMeets (asked_by given.flat (plan_in given.repair)) budget answer → SendsFound (lines_found answer) (report_found budget answer) proof y end s → Carries (clash_task (topic_subject topic) budget proof) x end s
 clash_meets {budget = budget} topic answer h m k = answered topic answer h (subst (λ (f : Wished). ClashMeets f budget answer) (is_asked {s = topic_subject topic} h) m) k

@@ -1,4 +1,4 @@
-mod Planned
+pub mod Inputs
 mod Printed
 mod Irreducible
 mod Sent

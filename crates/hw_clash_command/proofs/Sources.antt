@@ -11,19 +11,15 @@ use Rattle.hw_repair.specs.Repaired.{repaired}
 use Rattle.hw_repair.specs.Wishes.{PlanParts, PlanFits}
 use Rattle.hw_repair.proofs.Repairs.{repaired_permits}
 use Rattle.hw_clash.specs.Parts.{part}
-use Rattle.hw_clash.specs.Wished.{Wished, IsWished, PermitsWished, NoneWished, wished, unplanned, wished_holds}
+use Rattle.hw_clash.specs.Wished.{Wished, IsWished, PermitsWished, NoneWished, wished_holds}
 use Rattle.hw_clash.proofs.Parts.{part_permits, holds_all}
 use Rattle.hw_clash.proofs.Wishes.{wishes_mean}
 use Rattle.hw_subject.specs.Meanings.{IsModelled, NoneOf, repaired_problem}
 use Rattle.hw_subject.specs.Reading.{ReadsSubject, plan_in, searched_in}
-use Rattle.hw_subject.specs.Subjects.{Subject, Planned, ReadsPlanned, Origin, flat_text, port_of, origin_subject, flat_subject, port_subject, repair_of, repaired_by, Topic, topic_subject}
+use Rattle.hw_subject.specs.Subjects.{Subject, Planned, ReadsPlanned, Origin, flat_text, port_of, origin_subject, flat_subject, plainly, port_subject, repair_of, repaired_by, Topic, topic_subject}
 use Rattle.hw_subject.specs.declared.subject.Given.{Given}
 use Rattle.hw_subject.proofs.Modelled.{subjects_modelled_law}
-use Rattle.hw_clash_command.specs.Asked.{asked, tugs_left, wishes_in}
-
--- as a topic without a plan
-abbrev pub plainly : Origin → Topic
-plainly origin = record { origin = origin; plan = None }
+use Rattle.hw_clash_command.specs.Asked.{asked, asked_by}
 
 -- by a plan under a name
 abbrev planned : Origin → List ℕ → Topic
@@ -31,13 +27,9 @@ planned origin name = record { origin = origin; plan = Some name }
 
 -- ---- what was read
 
-pub is_asked : {s : Subject} {x y : DeskState} {given : Given} → (h : ReadsSubject s x y given) → wished (tugs_left given.flat (plan_in given.repair)) (wishes_in (plan_in given.repair)) ≡ asked s h.value
+pub is_asked : {s : Subject} {x y : DeskState} {given : Given} → (h : ReadsSubject s x y given) → asked_by given.flat (plan_in given.repair) ≡ asked s h.value
 is_asked {s = s} {given = given} h =
-    ap (λ (f : Problem). wished (tugs_left f (plan_in given.repair)) (wishes_in (plan_in given.repair))) h.problem ∙ ap (λ (plan : Option PlanParts). wished (tugs_left (s.problem h.value) plan) (wishes_in plan)) h.plan
-
-pub is_unplanned : {x y : DeskState} {given : Given} (origin : Origin) → (h : ReadsSubject (origin_subject origin) x y given) → unplanned given.flat ≡ asked (origin_subject origin) h.value
-is_unplanned (flat_text name) h = ap (λ (f : Problem). unplanned f) h.problem
-is_unplanned (port_of instance table) h = ap (λ (f : Problem). unplanned f) h.problem
+    ap (λ (f : Problem). asked_by f (plan_in given.repair)) h.problem ∙ ap (λ (plan : Option PlanParts). asked_by (s.problem h.value) plan) h.plan
 
 -- ---- limits
 
@@ -69,7 +61,7 @@ asked_fits topic held v reads = fits_by topic.origin topic.plan held v reads
 
 -- ---- what is permitted
 
-permits_by : (f : Problem) (plan : Option PlanParts) (table : List ℕ) → IfSome plan (PlanFits f) → (Permits (repaired_problem f plan) table ↔ PermitsWished (wished (tugs_left f plan) (wishes_in plan)) table)
+permits_by : (f : Problem) (plan : Option PlanParts) (table : List ℕ) → IfSome plan (PlanFits f) → (Permits (repaired_problem f plan) table ↔ PermitsWished (asked_by f plan) table)
 permits_by f None table fits = ((wishes_mean.none f table).1, (wishes_mean.none f table).0)
 permits_by f (Some plan) table fits = (
   λ permits. (wishes_mean.plan f plan table fits).1 ((repaired_permits f plan table fits).0 permits),
@@ -98,7 +90,7 @@ none_whole f kept none = λ table permits. none table ((part_permits f kept tabl
 
 -- ---- what is searched
 
-pub fits_in : (topic : Topic) {x y : DeskState} {given : Given} → ReadsSubject (topic_subject topic) x y given → IsWished (wished (tugs_left given.flat (plan_in given.repair)) (wishes_in (plan_in given.repair)))
+pub fits_in : (topic : Topic) {x y : DeskState} {given : Given} → ReadsSubject (topic_subject topic) x y given → IsWished (asked_by given.flat (plan_in given.repair))
 fits_in topic {x = x} h = subst IsWished (sym (is_asked {s = topic_subject topic} h)) (asked_fits topic x.held h.value h.reads)
 
 pub searched_is : {s : Subject} {x y : DeskState} {given : Given} → (h : ReadsSubject s x y given) → searched_in given.flat given.repair ≡ repaired_problem given.flat (plan_in given.repair)

@@ -16,8 +16,11 @@ abbrev pub tugs_left : Problem → Option PlanParts → Problem
 tugs_left f None = f
 tugs_left f (Some plan) = lessened plan.withdrawn f
 
+abbrev pub asked_by : Problem → Option PlanParts → Wished
+asked_by f plan = wished (tugs_left f plan) (wishes_in plan)
+
 abbrev pub asked : (s : Subject) → s.Value → Wished
-asked s v = wished (tugs_left (s.problem v) (s.plan v)) (wishes_in (s.plan v))
+asked s v = asked_by (s.problem v) (s.plan v)
 
 -- by what names it is reported, of a port with the tugs that are left
 abbrev pub names_by : (s : Subject) → s.Value → Option PlanParts → Naming

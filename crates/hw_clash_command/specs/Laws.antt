@@ -1,15 +1,16 @@
 -- The laws of reports on clashes.
-use Rattle.std.specs.Prelude.{◌≡◌, ℕ, List, Option, Some, IsSome}
+use Rattle.std.specs.Prelude.{◌≡◌, ℕ, List, Option, Some, None, IsSome}
 use Rattle.hw_report.specs.Reports.{Report}
-use Rattle.hw_subject.specs.Subjects.{Origin, origin_subject, flat_subject}
+use Rattle.hw_subject.specs.Subjects.{Topic, topic_subject, flat_subject, repair_of}
 use Rattle.hw_subject.specs.Decided.{AllTold}
 use Rattle.hw_clash_command.specs.CheckClash.{ClashChecks}
 use Rattle.hw_clash_command.specs.Texts.{texts_report}
 
 -- the files' bytes decide what is reported of a clash and its certificate, unless a call fails or memory runs out
 abbrev pub OneClashReport : Type 0
-OneClashReport = (origin : Origin) (plan cert : List ℕ) (held : List ℕ → Option (List ℕ)) (r t : Report) → AllTold held (origin_subject origin).inputs → IsSome (held plan) → IsSome (held cert) → ClashChecks (origin_subject origin) plan cert held r → ClashChecks (origin_subject origin) plan cert held t → r ≡ t
+OneClashReport = (topic : Topic) (clash cert : List ℕ) (held : List ℕ → Option (List ℕ)) (r t : Report) → AllTold held (topic_subject topic).inputs → IsSome (held clash) → IsSome (held cert) → ClashChecks (topic_subject topic) clash cert held r → ClashChecks (topic_subject topic) clash cert held t → r ≡ t
 
--- of a flat text the report is the one that a function computes from the bytes
-abbrev pub TextsDecideClash : Type 0
-TextsDecideClash = (name plan cert text clash bytes : List ℕ) (held : List ℕ → Option (List ℕ)) (r : Report) → held name ≡ Some text → held plan ≡ Some clash → held cert ≡ Some bytes → ClashChecks (flat_subject name) plan cert held r → r ≡ texts_report text clash bytes
+-- of a flat text, and of the repair of its plan, the report is the one that a function computes from the bytes
+pub record TextsDecideClash : Type 0 where
+  pub plain : (name clash cert text why bytes : List ℕ) (held : List ℕ → Option (List ℕ)) (r : Report) → held name ≡ Some text → held clash ≡ Some why → held cert ≡ Some bytes → ClashChecks (flat_subject name) clash cert held r → r ≡ texts_report text None why bytes
+  pub repaired : (name plan clash cert text moved why bytes : List ℕ) (held : List ℕ → Option (List ℕ)) (r : Report) → held name ≡ Some text → held plan ≡ Some moved → held clash ≡ Some why → held cert ≡ Some bytes → ClashChecks (repair_of (flat_subject name) plan) clash cert held r → r ≡ texts_report text (Some moved) why bytes

@@ -1,6 +1,6 @@
 pub mod Asked
 pub mod Found
-pub mod Plans
+pub mod Inputs
 pub mod PortWords
 pub mod Clashes
 pub mod CheckClash

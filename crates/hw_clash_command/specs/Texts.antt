@@ -1,14 +1,19 @@
 -- The report of a clash text and its certificate by the bytes alone.
-use Rattle.std.specs.Prelude.{ℕ, List, None, Result, Ok, Err, length, nat_lt, if◌then◌else◌}
+use Rattle.std.specs.Prelude.{ℕ, List, Option, Some, None, Result, Ok, Err, length, nat_lt, if◌then◌else◌}
 use Rattle.hw_model.specs.Problem.{Problem}
-use Rattle.hw_desk.specs.declared.desk.Feed.TheVariants.{Flat, Plan}
-use Rattle.hw_derived.specs.Reading.{Fault as ClashBad}
+use Rattle.hw_desk.specs.declared.desk.Feed.{Feed}
+use Rattle.hw_desk.specs.declared.desk.Feed.TheVariants as feeds
+use Rattle.hw_derived.specs.Reading.{Fault as LineBad}
 use Rattle.hw_flat.specs.Text.{Fault, flat_text}
+use Rattle.hw_repair.specs.Text.{plan_text}
+use Rattle.hw_repair.specs.Wishes.{PlanParts}
+use Rattle.hw_repair.specs.Words.{word_text as plan_word}
+use Rattle.hw_repair.specs.declared.fault.PlanWord.{PlanWord}
 use Rattle.hw_clash.specs.declared.fault.ClashWord.{ClashWord}
 use Rattle.hw_clash.specs.Clashes.{Clash}
 use Rattle.hw_clash.specs.Parts.{part}
 use Rattle.hw_clash.specs.Text.{clash_text}
-use Rattle.hw_clash.specs.Wished.{Wished, unplanned}
+use Rattle.hw_clash.specs.Wished.{Wished}
 use Rattle.hw_clash.specs.Words.{word_text}
 use Rattle.hw_lines.specs.declared.check.Verdict.TheVariants as verdicts
 use Rattle.hw_report.specs.Reports.{Report, by_number, bad_flat, bad_text, too_long, clash_holds}
@@ -16,26 +21,42 @@ use Rattle.hw_command.specs.Certificates.{cert_outcome, report_of}
 use Rattle.hw_command.specs.Values.{most_bytes}
 use Rattle.hw_command.specs.declared.outcome.CertOutcome.{CertOutcome}
 use Rattle.hw_command.specs.declared.outcome.CertOutcome.TheVariants.{Shows}
+use Rattle.hw_clash_command.specs.Asked.{asked_by}
+use Rattle.hw_clash_command.specs.Inputs.{feed_by}
 
 -- the report of the outcome of a certificate of the kept restrictions: that the clash holds, if they can't be met together, and otherwise that of any check
 abbrev pub report_of_part : CertOutcome → Report
 report_of_part (Shows verdicts.Infeasible) = clash_holds
 report_of_part outcome = report_of by_number None None outcome
 
--- a certificate of what a clash text of a problem with wishes reads as
-abbrev pub clash_report : Wished → Result Clash (ClashBad ClashWord) → List ℕ → Report
-clash_report f (Err bad) bytes = bad_text Plan bad.number (word_text bad.word)
-clash_report f (Ok clash) bytes = report_of_part (cert_outcome (part f clash.kept) bytes)
+-- a certificate of what a clash text of a problem with wishes reads as, which comes as this input
+abbrev pub clash_report : Feed → Wished → Result Clash (LineBad ClashWord) → List ℕ → Report
+clash_report feed f (Err bad) bytes = bad_text feed bad.number (word_text bad.word)
+clash_report feed f (Ok clash) bytes = report_of_part (cert_outcome (part f clash.kept) bytes)
 
 -- a clash text of a problem with wishes, and a certificate
-abbrev pub plan_report : Wished → List ℕ → List ℕ → Report
-plan_report f plan bytes = if nat_lt most_bytes (length plan) then too_long Plan else clash_report f (clash_text f plan) bytes
+abbrev pub text_report : Feed → Wished → List ℕ → List ℕ → Report
+text_report feed f clash bytes = if nat_lt most_bytes (length clash) then too_long feed else clash_report feed f (clash_text f clash) bytes
+
+-- the same of a problem, or of its repair by a plan
+abbrev pub asked_report : Problem → Option PlanParts → List ℕ → List ℕ → Report
+asked_report f plan clash bytes = text_report (feed_by plan) (asked_by f plan) clash bytes
+
+-- the same of what a plan of the problem reads as
+abbrev pub planned_report : Problem → Result PlanParts (LineBad PlanWord) → List ℕ → List ℕ → Report
+planned_report f (Err bad) clash bytes = bad_text feeds.Plan bad.number (plan_word bad.word)
+planned_report f (Ok plan) clash bytes = asked_report f (Some plan) clash bytes
+
+-- the same of the problem, or of its plan by the plan's bytes
+abbrev pub plan_report : Problem → Option (List ℕ) → List ℕ → List ℕ → Report
+plan_report f None clash bytes = asked_report f None clash bytes
+plan_report f (Some plan) clash bytes = if nat_lt most_bytes (length plan) then too_long feeds.Plan else planned_report f (plan_text f plan) clash bytes
 
 -- the same of what a flat text reads as
-abbrev pub read_report : Result Problem Fault → List ℕ → List ℕ → Report
-read_report (Err bad) plan bytes = bad_flat bad.number bad.word
-read_report (Ok f) plan bytes = plan_report (unplanned f) plan bytes
+abbrev pub read_report : Result Problem Fault → Option (List ℕ) → List ℕ → List ℕ → Report
+read_report (Err bad) plan clash bytes = bad_flat bad.number bad.word
+read_report (Ok f) plan clash bytes = plan_report f plan clash bytes
 
--- a flat text, a clash text and a certificate, each by its bytes
-abbrev pub texts_report : List ℕ → List ℕ → List ℕ → Report
-texts_report text plan bytes = if nat_lt most_bytes (length text) then too_long Flat else read_report (flat_text text) plan bytes
+-- a flat text, its plan, if there is one, a clash text and a certificate, each by its bytes
+abbrev pub texts_report : List ℕ → Option (List ℕ) → List ℕ → List ℕ → Report
+texts_report text plan clash bytes = if nat_lt most_bytes (length text) then too_long feeds.Flat else read_report (flat_text text) plan clash bytes

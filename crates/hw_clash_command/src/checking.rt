@@ -1,51 +1,60 @@
-//! `check clash` of a flat text or a port: a clash, and its certificate.
+//! `check clash` of any subject: a clash, and its certificate.
 
 ghost use Rattle.std.specs.Prelude.{◌≡◌};
 ghost use Rattle.hw_desk.specs.State.{IsNewDesk};
 ghost use Rattle.hw_report.specs.Printing.{CanPrint};
 ghost use Rattle.hw_report.specs.Seen.{report_seen};
 ghost use Rattle.hw_command.specs.Carries.{Carries};
-ghost use Rattle.hw_subject.specs.Subjects.{source_of};
+ghost use Rattle.hw_subject.specs.Subjects.{subject_of};
 ghost use Rattle.hw_clash_command.specs.CheckClash.{check_clash_task};
+ghost use Rattle.hw_clash_command.specs.Inputs.{clash_feed};
 ghost use Rattle.hw_clash_command.specs.Texts.{report_of_part};
 
+use crate::asking::wished_of;
 use crate::part_input::read_part;
 use hw_cert::{Verdict, Version};
-use hw_clash::WishedFlat;
 use hw_command::{CertOutcome, Status, check_report, finish, read_cert};
-use hw_desk::Desk;
+use hw_desk::{Desk, Feed};
 use hw_report::{Names, Report};
-use hw_subject::{Source, Subject, read_subject};
+use hw_subject::{Subject, read_subject};
 use std::alloc::Global;
 
-/// Reads a flat text or a port, and the clash text, checks the certificate of the part of the kept
-/// restrictions, and reports. In the certificate a restriction has its number in the part.
+/// Reads a flat text or a port, the plan, if one is to be repaired, and the clash text; checks the
+/// certificate of the part of the kept restrictions and wishes, and reports. In the certificate a
+/// restriction has its number in the part.
 pub fn check_clash<D: Desk>(
     alloc: Global,
     desk: &mut D,
-    source: Source,
-    plan: &str,
+    subject: Subject,
+    clash: &str,
     cert: &str,
 ) -> Status
     requires fresh { IsNewDesk (D.state desk.old) }
-    ensures { Carries (check_clash_task (source_of source.entry) plan.now cert.now) (D.state desk.old) (D.state desk.new) result }
+    ensures { Carries (check_clash_task (subject_of subject.entry) clash.now cert.now) (D.state desk.old) (D.state desk.new) result }
 {
-    let subject = Subject {
-        of: source,
-        plan: None,
-    };
+    let feed = clash_feed(subject);
     let given = match read_subject(alloc, desk, subject) {
         Ok(given) => given,
         Err(report) => return finish(desk, &report),
     };
-    let wished = WishedFlat::plain(&given.flat);
-    let kept = match read_part(alloc, desk, &wished, plan) {
+    let wished = wished_of(&given);
+    let kept = match read_part(alloc, desk, &wished, feed, clash) {
         Ok(kept) => kept,
         Err(report) => return finish(desk, &report),
     };
     match read_cert(alloc, desk, &kept, cert, Version::Two, ()) {
         Ok(read) => finish(desk, &part_report(read.outcome)),
         Err(stop) => finish(desk, &check_report(Err(stop), None, None, Names::Flat)),
+    }
+}
+
+/// As which input the clash text is begun: as a plan, or beside the one that is repaired.
+fn clash_feed(subject: Subject) -> Feed
+    ensures { result ≡ clash_feed (subject_of subject.entry) }
+{
+    match subject.plan {
+        Some(_) => Feed::Clash,
+        None => Feed::Plan,
     }
 }
 

@@ -8,7 +8,7 @@ pub fn one_clash_report()
     ensures { OneClashReport }
 {}
 
-/// The report on a clash of a flat text is computed from the bytes.
+/// The report on a clash of a flat text, or of the repair of its plan, is computed from the bytes.
 pub fn texts_decide_clash()
     ensures { TextsDecideClash }
 {}

@@ -4,6 +4,7 @@
 //! clash is the same for a flat problem and for a port, whose restrictions `explain port` names.
 #![tactic(auto)]
 
+mod asking;
 mod checking;
 mod laws;
 mod part_input;

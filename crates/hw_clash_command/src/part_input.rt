@@ -3,7 +3,7 @@
 ghost use Rattle.std.specs.Prelude.{◌≡◌, IfErr, IfOk, false};
 ghost use Rattle.hw_report.specs.Printing.{CanPrint};
 ghost use Rattle.hw_report.specs.Seen.{report_seen};
-ghost use Rattle.hw_clash_command.specs.Plans.{ReadsPart, StopsAtPlan, report_of_fault};
+ghost use Rattle.hw_clash_command.specs.Inputs.{ReadsPart, StopsAtPart, report_of_fault};
 
 use hw_clash::{ClashFault, WishedFlat, part, read_clash};
 use hw_command::{read_input, stopped};
@@ -12,26 +12,27 @@ use hw_flat::Flat;
 use hw_report::Report;
 use std::alloc::Global;
 
-/// Begins the clash text under its name, reads it to its end, and makes the part of the problem that
-/// keeps its restrictions. An error is the report of why there is none.
+/// Begins the clash text as this input under its name, reads it to its end, and makes the part of the
+/// problem that keeps its restrictions. An error is the report of why there is none.
 pub fn read_part<D: Desk>(
     alloc: Global,
     desk: &mut D,
     wished: &WishedFlat,
-    plan: &str,
+    feed: Feed,
+    name: &str,
 ) -> Result<Flat, Report<'static>>
-    requires unread { ((D.state desk.old).feeds Feed.Plan).begun ≡ false }
-    ensures part { IfOk result (λ made. ReadsPart wished.now plan.now (D.state desk.old) (D.state desk.new) made) }
-    ensures no_part { IfErr result (λ report. StopsAtPlan wished.now plan.now (D.state desk.old) (D.state desk.new) (report_seen report)) }
+    requires unread { ((D.state desk.old).feeds feed).begun ≡ false }
+    ensures part { IfOk result (λ made. ReadsPart feed wished.now name.now (D.state desk.old) (D.state desk.new) made) }
+    ensures no_part { IfErr result (λ report. StopsAtPart feed wished.now name.now (D.state desk.old) (D.state desk.new) (report_seen report)) }
     ensures printed { IfErr result (λ report. CanPrint (report_seen report)) }
 {
-    let bytes = match read_input(alloc, desk, Feed::Plan, plan) {
+    let bytes = match read_input(alloc, desk, feed, name) {
         Ok(bytes) => bytes,
-        Err(stop) => return Err(stopped(Feed::Plan, stop)),
+        Err(stop) => return Err(stopped(feed, stop)),
     };
     let clash = match read_clash(alloc, &bytes, wished) {
         Ok(clash) => clash,
-        Err(fault) => return Err(bad_clash(fault)),
+        Err(fault) => return Err(bad_clash(feed, fault)),
     };
     match part(alloc, wished, &clash.kept) {
         Ok(made) => {
@@ -44,13 +45,13 @@ pub fn read_part<D: Desk>(
 }
 
 /// The report of bytes that are no clash of the problem.
-fn bad_clash(fault: ClashFault) -> Report<'static>
-    ensures value { report_seen result ≡ report_of_fault fault }
+fn bad_clash(feed: Feed, fault: ClashFault) -> Report<'static>
+    ensures value { report_seen result ≡ report_of_fault feed fault }
     ensures printed { CanPrint (report_seen result) }
 {
     match fault {
         ClashFault::Line { number, word } => Report::BadText {
-            feed: Feed::Plan,
+            feed,
             number,
             word: word.text(),
         },

@@ -1,21 +1,17 @@
 //! `clash` of any subject: why it permits nothing.
 
-ghost use Rattle.std.specs.Prelude.{◌≡◌, ◌≤◌};
+ghost use Rattle.std.specs.Prelude.{◌≤◌};
 ghost use Rattle.hw_desk.specs.State.{IsNewDesk};
 ghost use Rattle.hw_command.specs.Carries.{Carries};
 ghost use Rattle.hw_subject.specs.Subjects.{subject_of};
-ghost use Rattle.hw_clash.specs.Wished.{IsWished, wished};
-ghost use Rattle.hw_clash_command.specs.Asked.{tugs_left, wishes_in};
 ghost use Rattle.hw_clash_command.specs.Clashes.{clash_task};
-ghost use Rattle.hw_subject.specs.Meanings.{repaired_problem};
-ghost use Rattle.hw_subject.specs.Reading.{plan_in, searched_in};
 
+use crate::asking::wished_of;
 use crate::sending::send_found;
-use hw_clash::WishedFlat;
 use hw_command::{Status, finish};
 use hw_desk::Desk;
 use hw_progress::MOST_BUDGET;
-use hw_subject::{Given, Subject, read_subject};
+use hw_subject::{Subject, read_subject};
 use std::alloc::Global;
 
 /// Reads a flat text or a port, and the plan, if one is to be repaired; searches in memory for
@@ -42,16 +38,4 @@ pub fn clash<D: Desk>(
     let wished = wished_of(&given);
     let clashed = hw_clash::clash(alloc, &wished, budget);
     send_found(desk, &clashed, budget, proof)
-}
-
-/// What was read: the problem, with the tugs that the plan leaves and its wishes, if there is one.
-fn wished_of(given: &Given) -> WishedFlat<'_>
-    requires searched { searched_in given.now.flat given.now.repair ≡ repaired_problem given.now.flat (plan_in given.now.repair) }
-    requires fits { IsWished (wished (tugs_left given.now.flat (plan_in given.now.repair)) (wishes_in (plan_in given.now.repair))) }
-    ensures { result ≡ wished (tugs_left given.now.flat (plan_in given.now.repair)) (wishes_in (plan_in given.now.repair)) }
-{
-    match &given.repair {
-        Some(repair) => WishedFlat::of(&given.flat, repair.flat.rules(), &repair.plan.wishes),
-        None => WishedFlat::plain(&given.flat),
-    }
 }

@@ -1,7 +1,7 @@
 use Rattle.std.proofs.Common.{◌∙◌, ap}
 use Rattle.hw_clash.specs.Clashes.{Clash}
 use Rattle.hw_clash.specs.Parts.{part}
-use Rattle.hw_clash_command.proofs.Planned.{no_text, bad_line, no_room, reads_part}
+use Rattle.hw_clash_command.proofs.Inputs.{no_text, bad_line, no_room, reads_part}
 use Rattle.hw_clash_command.proofs.part_input.read_part.Goals as goal
 
 pub returns-in-Err-clause-no_part : goal.returns-in-Err-clause-no_part
