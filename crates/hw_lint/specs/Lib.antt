@@ -1,0 +1,8 @@
+pub mod Lines
+pub mod Numbers
+pub mod Encodings
+pub mod Tables
+pub mod Instances
+pub mod Clocks
+pub mod Ships
+pub mod Ports
