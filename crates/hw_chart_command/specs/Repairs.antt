@@ -20,6 +20,7 @@ use Rattle.hw_repair.specs.Wishes.{PlanParts, moved}
 use Rattle.hw_repair_chart.specs.Heads.{own_outcome, repair_head}
 use Rattle.hw_repair_chart.specs.Sheets.{marked_end}
 use Rattle.hw_repair_chart.specs.declared.marks.Sheet.{Sheet}
+use Rattle.hw_chart_command.specs.declared.repairing.Drawn.{Drawn}
 
 -- how many ships a timetable moves, where there is one
 abbrev pub moved_in : PlanParts → Option (List ℕ) → Option ℕ
@@ -38,3 +39,14 @@ port_sheet p table = record { rows = (places p).rows; span = span_of p table; sc
 -- the same of a port with its tide
 unfoldable pub port_repair : Parts → TideParts → PlanParts → Option (List ℕ) → Outcome → List ℕ
 port_repair p h plan table o = joined (repair_head Tonnes (own_outcome (flattened p h).ships o) (moved_in plan table) ((places p).bottom + 28) (sizes p) ∷ port_rest p h table ∷ marked_end (flattened p h) (port_sheet p table) table plan.wishes ∷ [])
+
+-- the timetable that is drawn, if there is one
+abbrev pub drawn_table : Drawn → Option (List ℕ)
+drawn_table drawn = option_map (λ p. p.now.table) drawn.moves
+
+-- what is drawn of a flat problem's repair, and of a port's
+abbrev pub flat_drawn : Drawn → List ℕ
+flat_drawn drawn = flat_repair drawn.flat.now drawn.plan.now (drawn_table drawn) drawn.outcome
+
+abbrev pub port_drawn : Parts → TideParts → Drawn → List ℕ
+port_drawn p h drawn = port_repair p h drawn.plan.now (drawn_table drawn) drawn.outcome

@@ -8,7 +8,7 @@ ghost use Rattle.hw_port_rules.specs.Flattened.{flattened};
 ghost use Rattle.hw_port_rules.specs.Numbers.{whole};
 ghost use Rattle.hw_port_chart.specs.Charts.{midnight_of};
 ghost use Rattle.hw_repair.specs.Wishes.{PlanFits};
-ghost use Rattle.hw_chart_command.specs.Repairs.{flat_repair, moved_in, port_repair};
+ghost use Rattle.hw_chart_command.specs.Repairs.{flat_drawn, moved_in, port_drawn};
 
 use hw_chart::{CargoUnit, Outcome, Scale};
 use hw_desk::Writer;
@@ -56,7 +56,7 @@ fn moved_in(plan: &hw_repair::Plan, moves: Option<&Plan>) -> Option<u32>
 pub(crate) fn put_flat_repair<W: Writer>(out: &mut W, drawn: Drawn)
     requires fits { PlanFits drawn.flat.now drawn.plan.now }
     requires moves { IfSome drawn.moves (λ p. IsPlan drawn.flat.now p.now) }
-    ensures { Puts (flat_repair drawn.entry.flat.now drawn.entry.plan.now (option_map (λ p. p.now.table) drawn.entry.moves) drawn.entry.outcome) (W.state out.old) (W.state out.new) }
+    ensures { Puts (flat_drawn drawn.entry) (W.state out.old) (W.state out.new) }
 {
     let flat = drawn.flat;
     let plan = drawn.plan;
@@ -99,7 +99,7 @@ pub(crate) fn put_port_repair<W: Writer>(out: &mut W, port: &Port, tide: &Tide, 
     requires flat { drawn.flat.now ≡ flattened port.now tide.now }
     requires fits { PlanFits drawn.flat.now drawn.plan.now }
     requires moves { IfSome drawn.moves (λ p. IsPlan drawn.flat.now p.now) }
-    ensures { Puts (port_repair port.now tide.now drawn.entry.plan.now (option_map (λ p. p.now.table) drawn.entry.moves) drawn.entry.outcome) (W.state out.old) (W.state out.new) }
+    ensures { Puts (port_drawn port.now tide.now drawn.entry) (W.state out.old) (W.state out.new) }
 {
     let flat = drawn.flat;
     let plan = drawn.plan;

@@ -31,3 +31,4 @@ pub mod LaneBlocks
 pub mod Stretches
 pub mod OneWay
 pub mod Hatched
+pub mod Waited

@@ -5,7 +5,7 @@ ghost use Rattle.hw_chart_laws.specs.Bands.{FlatPartsLieApart, PortPartsLieApart
 ghost use Rattle.hw_chart_laws.specs.Lanes.{BlocksAreOccupations, LanesAreBlocks, OneWayIsSeen};
 ghost use Rattle.hw_chart_laws.specs.Laws.{BarsAreSlots, FlatPicturesAreTrees, FlatPlansReadBack, FullBarsAreFullDrafts, PortPicturesAreTrees, PortPlansReadBack};
 ghost use Rattle.hw_chart_laws.specs.Sheet.{FetchesNothing, HatchFetchesNothing};
-ghost use Rattle.hw_chart_laws.specs.Thirds.{HatchesAreClosings};
+ghost use Rattle.hw_chart_laws.specs.Thirds.{HatchesAreClosings, WaitsAreKept};
 
 /// The picture of a flat problem is one element of trees.
 pub fn flat_pictures_are_trees()
@@ -86,4 +86,9 @@ pub fn hatch_fetches_nothing()
 /// A hatch reaches over a slot of a ship's window exactly where that is closed for the ship.
 pub fn hatches_are_closings()
     ensures { HatchesAreClosings }
+{}
+
+/// Where the port permits the timetable, the bar of a ship's stay is at least as long as the ship must wait.
+pub fn waits_are_kept()
+    ensures { WaitsAreKept }
 {}

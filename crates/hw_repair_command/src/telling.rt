@@ -11,7 +11,7 @@ ghost use Rattle.hw_command.specs.Ends.{Ends};
 ghost use Rattle.hw_subject.specs.Meanings.{ships_of};
 ghost use Rattle.hw_subject.specs.Reading.{naming_of, plan_in};
 ghost use Rattle.hw_explain_repair.specs.Texts.{repair_text};
-ghost use Rattle.hw_repair_command.specs.Texts.{told_report};
+ghost use Rattle.hw_repair_command.specs.Texts.{given_report};
 
 use hw_command::{Status, finish};
 use hw_desk::{Desk, DeskFailed, Tray, TrayWriter, Writer};
@@ -34,7 +34,7 @@ pub(crate) fn tell<D: Desk>(
     requires names { AreNamesOf given.now.flat (naming_of given.now.named) }
     requires plan { IfSome (plan_in given.now.repair) (PlanFits given.now.flat) }
     requires listed { IfSome table (IsTimetable given.now.flat) }
-    ensures { Ends (told_report (naming_of given.now.named) given.now.flat (plan_in given.now.repair) verdict bound table ∷ []) (D.state desk.old) (D.state desk.new) result }
+    ensures { Ends (given_report given.now verdict bound table ∷ []) (D.state desk.old) (D.state desk.new) result }
 {
     match &given.repair {
         None => finish(desk, &shown(given, verdict, bound)),
