@@ -26,12 +26,6 @@ def read_plan(text):
     return wishes
 
 
-def read_bound(text):
-    """The last bound of a certificate, or None."""
-    bounds = [int(line.split(" ")[1]) for line in text.splitlines() if line.startswith("b ")]
-    return bounds[-1] if bounds else None
-
-
 # ---------------------------------------------------------------- the head
 
 MARKS = """<style>
@@ -55,9 +49,7 @@ def meaning(table, ended, bound):
 
 
 def title(table, ended, bound, moved, cargo, amount):
-    said = chart.verdict_title(table, ended, cargo)
-    if not ended and bound is not None:
-        said += ", at most " + amount(bound)
+    said = chart.verdict_title(table, ended, cargo, None if bound is None else amount(bound))
     return said if table is None else f"{said}, moved {moved}"
 
 
@@ -87,12 +79,7 @@ def below():
 # ---------------------------------------------------------------- what became of each ship
 
 
-def when(slot, minutes):
-    """The time of a slot, where it has one."""
-    return "" if minutes is None else ", " + chart.clock(slot * minutes)
-
-
-def mark(v, wish, slot, slots, span, y, minutes):
+def mark(v, wish, slot, slots, span, y, when):
     old, earliest = wish
     moved, sailed = slot != old, slot == old and earliest is None and old < slots
     inside = chart.block("ht", 0, earliest, 0, 21) if earliest is not None and earliest > 0 else ""
@@ -102,22 +89,23 @@ def mark(v, wish, slot, slots, span, y, minutes):
             inside += chart.block("gh", min(old, slot), max(old, slot) + 1, 21, 23)
     out = chart.frame(y + 3, 23, span, 23, inside)
     if moved:
-        said = f"ship {v} was planned for slot {old}{when(old, minutes)}" if old < slots else f"ship {v} was planned to stay"
+        said = f"ship {v} was planned for slot {old}{when(old)}" if old < slots else f"ship {v} was planned to stay"
         out += chart.titled_block("gh", 4, 12, y + 21, y + 33, said)
         if old < slots:
             out += chart.pin("gh", old, span, y)
     elif sailed:
-        out += chart.titled_block("sd", 4, 12, y + 21, y + 33, f"ship {v} has sailed in slot {old}{when(old, minutes)}")
+        out += chart.titled_block("sd", 4, 12, y + 21, y + 33, f"ship {v} has sailed in slot {old}{when(old)}")
         out += chart.pin("sd", old, span, y)
     return out
 
 
-def marks(wishes, table, slots, span, rows, minutes):
+def marks(wishes, table, slots, span, rows, when):
+    """The marks of all ships; `when` has the time of a slot, where it has one."""
     rank = chart.ranks(table, len(wishes))
     out = ""
     for v, wish in enumerate(wishes):
         slot = wish[0] if table is None else table[v]
-        out += mark(v, wish, slot, slots, span, rows + 42 * rank[v], minutes)
+        out += mark(v, wish, slot, slots, span, rows + 42 * rank[v], when)
     return out
 
 
@@ -140,9 +128,9 @@ def draw_port(port, tide, wishes, table, ended, bound):
     sizes = f"ships {n}, slots {slots} of {port['slot_minutes']} min, tugs {port['fleet']}"
     out = top_part(bottom + 28, title(table, ended, bound, moved, amount(cargo), amount), meaning(table, ended, bound), sizes,
                    chart.badge(table, ended))
-    out += legend(chart.PORT_LEGEND)
+    out += legend(chart.PORT_LEGEND) + chart.second_legend(port)
     out += between(chart.chart_port(port, tide, table, ended), '<text class="b" x="16" y="140"', "</svg>\n")
-    return out + below() + marks(wishes, table, slots, span, rows, port["slot_minutes"]) + "</svg>\n"
+    return out + below() + marks(wishes, table, slots, span, rows, lambda slot: ", " + chart.when(port, slot)) + "</svg>\n"
 
 
 def draw_flat(flat, wishes, table, ended, bound):
@@ -159,20 +147,18 @@ def draw_flat(flat, wishes, table, ended, bound):
     out += legend(chart.FLAT_LEGEND)
     first = '<g role="list">' if table is None else '<text class="m r" x="956" y="138"'
     out += between(chart.chart_flat(flat, table, ended), first, "</svg>\n")
-    return out + below() + marks(wishes, table, slots, span, 146, None) + "</svg>\n"
+    return out + below() + marks(wishes, table, slots, span, 146, lambda slot: "") + "</svg>\n"
 
 
-def main(argv):
-    cert = chart.text_of(argv[-1])
-    table, ended = chart.read_cert(cert)
-    wishes, bound = read_plan(chart.text_of(argv[-2])), read_bound(cert)
+def picture(kind, *texts):
+    """The picture of a repair: the texts of the problem, then the plan, then the certificate."""
+    table, ended, bound = chart.read_cert(texts[-1])
+    wishes = read_plan(texts[-2])
     bound = None if bound is None else bound // (len(wishes) + 1)
-    if argv[0] == "port":
-        port = json.loads(chart.text_of(argv[1]))
-        sys.stdout.write(draw_port(port, chart.read_tides(chart.text_of(argv[2])), wishes, table, ended, bound))
-    else:
-        sys.stdout.write(draw_flat(chart.read_flat(chart.text_of(argv[1])), wishes, table, ended, bound))
+    if kind == "port":
+        return draw_port(json.loads(texts[0]), chart.read_tides(texts[1]), wishes, table, ended, bound)
+    return draw_flat(chart.read_flat(texts[0]), wishes, table, ended, bound)
 
 
 if __name__ == "__main__":
-    main(sys.argv[1:])
+    sys.stdout.write(picture(sys.argv[1], *map(chart.text_of, sys.argv[2:])))
