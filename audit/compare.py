@@ -306,13 +306,20 @@ def draws(comparison, r, count, folder):
         files = names[:1] if kind == "flat" else names[:2]
         for name, text in zip(files, [flat_drawn(r)] if kind == "flat" else port_drawn(r)):
             written(name, text)
-        command, budget = r.choice(["solve", "prove", "prove", "crew", "renew"]), r.choice(["1", "2", "5", "20", "200"])
+        command, budget = r.choice(["solve", "prove", "prove", "crew", "renew", "resume"]), r.choice(["1", "2", "5", "20", "200"])
+        first = {"renew": "solve", "resume": r.choice(["solve", "prove"])}.get(command, command)
         order = ["".join(r.choices("gel", k=r.randrange(1, 4)))] if command == "crew" else []
+        seed = [str(r.randrange(1 << 32))] if first == "prove" and r.randrange(2) else []
         quiet = {"stdout": subprocess.DEVNULL, "check": False}
-        subprocess.run([comparison.program, "solve" if command == "renew" else command, kind, *files, *order, budget, names[2]], **quiet)
+        subprocess.run([comparison.program, first, kind, *files, *order, budget, names[2], *seed], **quiet)
         if command == "renew":
             subprocess.run([comparison.program, "renew", kind, *files, names[2], names[3]], **quiet)
             shutil.copy(names[3], names[2])
+        elif command == "resume":
+            with open(names[2], encoding="ascii") as file:
+                start = file.readlines()
+            written(names[3], "".join(start[:r.randrange(1, len(start) + 1)]))
+            subprocess.run([comparison.program, "resume", kind, *files, names[3], budget, names[2]], **quiet)
         comparison.hold([kind, *files, names[2]])
         if kind == "port":
             comparison.flatten(files)

@@ -8,6 +8,7 @@ import os
 import subprocess
 import sys
 import tempfile
+import time
 import unittest
 
 HERE = os.path.dirname(os.path.abspath(__file__))
@@ -16,10 +17,16 @@ PROGRAM = None
 FAKE = """#!/usr/bin/env python3
 import json
 import sys
-form, port, instance, tides, budget, proof = sys.argv[1:]
+import time
+form, port, instance, tides, budget, proof, *seed = sys.argv[1:]
 assert (form, port, tides, budget) == ("prove", "port", "tides.csv", "20")
 day = json.load(open(instance))
 open(proof, "w").write("cert 3\\n")
+# In a race seed 1 spends its budget, seed 2 has a proof after that, and the others go on for a minute.
+if seed and seed[0] != "1" and day["fleet"] == 4:
+    time.sleep(0.5 if seed[0] == "2" else 60)
+if seed == ["1"]:
+    day["fleet"] = 3
 reports = {1: "infeasible", 2: "unfinished 20 none\\nbound 900.5", 3: "unfinished 20 best 700.0\\nbound 812.5",
            5: "unfinished 20 best 700.0", 6: "bad instance fleet range", 7: "memory none"}
 cargo = (sum(item["depth"] for item in day["waypoints"]) + sum(map(sum, day["separation"]))
@@ -108,6 +115,29 @@ class WhatIf(unittest.TestCase):
         done = self.run_it("--program", "fake", "--budget", "20", "day.json", "day.csv", "fleet=4")
         self.assertEqual((done.returncode, done.stderr), (1, "whatif.py: the day as it is: bad instance fleet range\n"))
         self.assertEqual(len(done.stdout.splitlines()), 3)
+
+    def test_race(self):
+        words = ["--program", "fake", "--budget", "20", "--keep", "kept", "day.json", "day.csv", "--race", "4"]
+        begun = time.monotonic()
+        done = self.run_it(*words)
+        self.assertEqual((done.returncode, done.stderr), (0, ""))
+        rows = [line.split() for line in done.stdout.splitlines()]
+        self.assertEqual([rows[0], rows[1], rows[2][:4], rows[3][:3], rows[4]], [
+            ["seed", "result", "tonnes", "bound", "seconds"], ["0", "ended"], ["1", "unfinished", "700.0", "812.5"],
+            ["2", "optimal", "751.0"], ["3", "ended"]])
+        self.assertLess(time.monotonic() - begun, 30)
+        with open(os.path.join(self.room, "kept", "2.report"), encoding="utf-8") as file:
+            self.assertEqual(file.readline(), "optimal 751.0\n")
+
+        self.put("day.json", json.dumps({**DAY, "fleet": 2}))
+        done = self.run_it("--program", "fake", "--budget", "20", "day.json", "day.csv", "--race", "1")
+        self.assertEqual((done.returncode, done.stderr), (1, "whatif.py: no seed has a proof\n"))
+        self.assertEqual(done.stdout.splitlines()[1].split()[:3], ["0", "unfinished", "900.5"])
+
+        for more in (["fleet=3"], ["--form", "solve"], ["--slurm", "array"], ["--race", "-1"]):
+            done = self.run_it("--program", "fake", "--race", "2", "day.json", "day.csv", *more)
+            self.assertEqual((done.returncode, done.stdout, done.stderr), (
+                1, "", "whatif.py: --race N plans the day as it is by prove, with one seed or more\n"))
 
     def test_refused(self):
         for word, cause in [("tugs=3", "tugs=3 is no variant"), ("fleet", "fleet is no variant"),

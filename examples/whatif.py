@@ -2,6 +2,7 @@
 """Plans variants of a day, and prints what each of them gains or costs.
 
     python3 whatif.py [OPTION ..] INSTANCE TIDES [VARIANT ..]
+    python3 whatif.py [OPTION ..] --race N INSTANCE TIDES
     python3 whatif.py --table FOLDER
 
 VARIANT is one of these:
@@ -15,11 +16,15 @@ Without any, they are the fleet from two less to two more, deeper=10, later=4 an
 its own, as many at once as there are processors. The table has for each of them the optimum, or the best timetable found
 and a bound where there is one, and the difference to the day as it is: a range where one of the two isn't proved best.
 
+With --race the day as it is is planned N times at once by `prove`, with the seeds 0 to N - 1, each in a process of its own.
+The first one with a proof ends the others. The status is 1 where none has a proof.
+
     --program PATH   the built program; without this, the one of this repository
     --form FORM      prove or solve; prove without this
     --budget N       lemmas of each run; 1000 without this
     --at-once N      runs at the same time
-    --keep FOLDER    make this folder, with each variant's instance, report and certificate
+    --keep FOLDER    make this folder, with each variant's or seed's instance, report and certificate
+    --race N         let N seeds race
     --slurm FOLDER   make it, with the instances and a script for sbatch, and run nothing
     --table FOLDER   print the table of the reports that stand there
 """
@@ -34,11 +39,12 @@ import subprocess
 import sys
 import tempfile
 import time
-from concurrent.futures import ThreadPoolExecutor
+from concurrent.futures import ThreadPoolExecutor, as_completed
 
 HERE = os.path.dirname(os.path.abspath(__file__))
 BUILT = os.path.join(HERE, "..", "crates", "tidewise", "out", "tidewise")
 COLUMNS = ["variant", "result", "tonnes", "bound", "difference", "seconds"]
+SEED_COLUMNS = ["seed", "result", "tonnes", "bound", "seconds"]
 WORDS = ["optimal", "infeasible", "unfinished", "memory"]
 ARRAY = """#!/bin/bash
 #SBATCH --job-name=whatif
@@ -135,14 +141,43 @@ def prepare(folder, variants, tides):
     shutil.copyfile(tides, os.path.join(folder, "tides.csv"))
 
 
+def start(folder, number, given, *seed):
+    """Begins to plan one variant, or the day by a seed."""
+    with open(os.path.join(folder, f"{number}.report"), "wb") as report:
+        return subprocess.Popen([given.program, given.form, "port", f"{number}.json", "tides.csv", str(given.budget),
+                                 f"{number}.cert", *seed], cwd=folder, stdout=report)
+
+
+def note_time(folder, number, begun):
+    with open(os.path.join(folder, f"{number}.ms"), "w", encoding="utf-8") as file:
+        print((time.monotonic_ns() - begun) // 1000000, file=file)
+
+
 def run_one(folder, number, given):
     """Plans one variant, and leaves its report and its milliseconds."""
     begun = time.monotonic_ns()
-    with open(os.path.join(folder, f"{number}.report"), "wb") as report:
-        subprocess.run([given.program, given.form, "port", f"{number}.json", "tides.csv", str(given.budget),
-                        f"{number}.cert"], cwd=folder, stdout=report, check=False)
-    with open(os.path.join(folder, f"{number}.ms"), "w", encoding="utf-8") as file:
-        print((time.monotonic_ns() - begun) // 1000000, file=file)
+    start(folder, number, given).wait()
+    note_time(folder, number, begun)
+
+
+def race(folder, given):
+    """Plans the day by each seed at once, until one has a proof. That one's seed, or none."""
+    begun = time.monotonic_ns()
+    runs = []
+    with ThreadPoolExecutor(given.race) as pool:
+        try:
+            for seed in range(given.race):
+                runs.append(start(folder, seed, given, str(seed)))
+            seeds = {pool.submit(run.wait): seed for seed, run in enumerate(runs)}
+            for done in as_completed(seeds):
+                note_time(folder, seeds[done], begun)
+                # The statuses of optimal and infeasible.
+                if done.result() in (0, 1):
+                    return seeds[done]
+        finally:
+            for run in runs:
+                run.terminate()
+    return None
 
 
 def tenths(text):
@@ -189,6 +224,11 @@ def difference(day, variant):
     return signed(low) if low == high else f"{signed(low)} to {signed(high)}"
 
 
+def seconds(folder, number):
+    spent = read(folder, number, "ms").strip()
+    return f"{int(spent) // 1000}.{int(spent) % 1000 // 100}" if spent else ""
+
+
 def rows_of(folder):
     """The table of the reports in a folder."""
     with open(os.path.join(folder, "names.json"), encoding="utf-8") as file:
@@ -197,19 +237,36 @@ def rows_of(folder):
     yield COLUMNS
     for number, (name, result) in enumerate(zip(names, results)):
         word, best, most = result
-        spent = read(folder, number, "ms").strip()
         yield [name, word, tonnes(best), "" if best == most else tonnes(most),
-               difference(results[0], result) if number else "",
-               f"{int(spent) // 1000}.{int(spent) % 1000 // 100}" if spent else ""]
+               difference(results[0], result) if number else "", seconds(folder, number)]
+
+
+def align(rows):
+    """Prints a table."""
+    widths = [max(map(len, column)) for column in zip(*rows)]
+    for row in rows:
+        print("  ".join(cell.ljust(width) if column < 2 else cell.rjust(width)
+                        for column, (cell, width) in enumerate(zip(row, widths))).rstrip())
+
+
+def show_race(folder, count, winner):
+    """Prints the table of a race. A seed that another one ended has no report."""
+    rows = [SEED_COLUMNS]
+    for seed in range(count):
+        report = read(folder, seed, "report")
+        word, best, most = result_of(report)
+        if winner is not None and not report:
+            word = "ended"
+        rows.append([str(seed), word, tonnes(best), "" if best == most else tonnes(most), seconds(folder, seed)])
+    align(rows)
+    if winner is None:
+        refuse("no seed has a proof")
 
 
 def show(folder):
     """Prints the table; without a result for the day as it is, there is nothing to compare with."""
     rows = list(rows_of(folder))
-    widths = [max(len(row[column]) for row in rows) for column in range(len(COLUMNS))]
-    for row in rows:
-        print("  ".join(cell.ljust(width) if column < 2 else cell.rjust(width)
-                        for column, (cell, width) in enumerate(zip(row, widths))).rstrip())
+    align(rows)
     if rows[1][1] not in WORDS:
         refuse(f"the day as it is: {rows[1][1]}")
 
@@ -232,6 +289,7 @@ def main():
     parser.add_argument("--form", choices=["prove", "solve"], default="prove")
     parser.add_argument("--budget", type=int, default=1000)
     parser.add_argument("--at-once", type=int, default=processors())
+    parser.add_argument("--race", type=int, default=0)
     for option in ("--keep", "--slurm", "--table"):
         parser.add_argument(option)
     given = parser.parse_args()
@@ -246,6 +304,10 @@ def main():
             variants = variants_of(json.load(file), words)
     except (ValueError, KeyError, TypeError, AttributeError, RecursionError):
         refuse(f"{instance} is no instance: the program tells the first fault")
+    if given.race:
+        if given.race < 1 or words or given.slurm or given.form != "prove":
+            refuse("--race N plans the day as it is by prove, with one seed or more")
+        variants = [(f"seed {seed}", variants[0][1]) for seed in range(given.race)]
     given.program = shutil.which(os.path.abspath(given.program)) or refuse(f"{given.program} can't be run")
     kept = given.slurm or given.keep
     if kept:
@@ -259,6 +321,9 @@ def main():
     with tempfile.TemporaryDirectory() as room:
         if not kept:
             prepare(room, variants, tides)
+        if given.race:
+            show_race(kept or room, given.race, race(kept or room, given))
+            return
         run_all(kept or room, len(variants), given)
         show(kept or room)
 

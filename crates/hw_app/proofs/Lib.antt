@@ -6,4 +6,5 @@ mod Reports
 mod Answered
 mod OwnReport
 mod OwnStatus
+mod ResumedReport
 mod OwnedClash

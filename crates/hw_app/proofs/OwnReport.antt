@@ -41,12 +41,12 @@ use Rattle.hw_app.proofs.Owned.{plain_all}
 -- its lines have forms of its version
 formed : (how : Search) (all : List Line) → All (searcher_of how).MayWrite all → list_all (has_form (searcher_of how).version) all ≡ true
 formed Solve all may = plain_formed all (plain_all all may)
-formed Prove all may = third_formed all
+formed (Prove seed) all may = third_formed all
 formed (Crew order) all may = plain_formed all (plain_all all may)
 
 within : (how : Search) → is_within (searcher_of how).version (searcher_of how).version ≡ true
 within Solve = refl
-within Prove = refl
+within (Prove seed) = refl
 within (Crew order) = refl
 
 -- they are the lines that its bytes read as
@@ -57,7 +57,7 @@ own_lines {f = f} {plan = plan} how limits c =
     subst (λ (bytes : List ℕ). PassesLimit version g bytes ⊎ (cert_stream_to version (shape_of g) bytes ≡ whole_lines c.lines)) (sym c.text) (valid_streams version version g c.lines (within how) limits c.written.fit c.written.valid (formed how c.lines c.written.may))
 
 -- valid lines to the end show their verdict, whatever they speak of
-valid_shows : (f : Problem) (more before : List Line) (number : ℕ) → IsFlat f → Valid f before → All (LineFits f) more → ValidFrom f before more → lines_outcome f before number more complete ≡ Shows (verdict f (before ++ more))
+pub valid_shows : (f : Problem) (more before : List Line) (number : ℕ) → IsFlat f → Valid f before → All (LineFits f) more → ValidFrom f before more → lines_outcome f before number more complete ≡ Shows (verdict f (before ++ more))
 valid_shows f [] before number flat good fit valid = ap (λ (all : List Line). Shows (verdict f all)) (sym (append-nil before))
 valid_shows f (line ∷ more) before number flat good fit valid =
     ap (λ (r : Option Refusal). line_outcome number r (lines_outcome f (before ++ line ∷ []) (number + 1) more complete)) (from_valid f before line (All-head (LineFits f) line more fit) (valid_judge f before line flat good) valid.0)
@@ -90,7 +90,7 @@ as_reported how f g plan head names given table bound cert r same named is h =
     (subst (λ (n : Naming). PassesLimit (searcher_of how).version (repaired_problem g plan) cert ⊎ IsShownAs g plan head n table bound r) (sym named)
     (subst (λ (t : Report). PassesLimit (searcher_of how).version (repaired_problem g plan) cert ⊎ IsShownAs g plan head given table bound t) (sym is) h))
 
-either : {A B C : Type 0} → A ⊎ B → (B → C) → A ⊎ C
+pub either : {A B C : Type 0} → A ⊎ B → (B → C) → A ⊎ C
 either (inl a) k = inl a
 either (inr b) k = inr (k b)
 

@@ -85,7 +85,7 @@ wrote {how = how} {cert = cert} {s = s} h =
 
 check_carries : (how : Search) (topic : Topic) (name : List ℕ) (old new : DeskState) (t : Status) → CommandMeets (Ok (check_after how topic name)) old new t → Carries (check_task (topic_subject topic) (searcher_of how).version name) old new t
 check_carries Solve topic name old new t m = m
-check_carries Prove topic name old new t m = m
+check_carries (Prove seed) topic name old new t m = m
 check_carries (Crew order) topic name old new t m = m
 
 -- the verdict that is shown has the status of the head

@@ -1,5 +1,6 @@
 -- The laws of reports.
 use Rattle.std.proofs.Common.{◌≡◌, ◌⊎◌, ◌∙◌, ℕ, List, Option, Some, inl, inr, refl, sym, ap}
+use Rattle.hw_desk.specs.declared.desk.Feed.{Feed}
 use Rattle.hw_model.specs.Problem.{Problem, shape_of}
 use Rattle.hw_lines.specs.Tolled.{bound_of}
 use Rattle.hw_cert.specs.declared.version.Version.{Version}
@@ -9,23 +10,24 @@ use Rattle.hw_repair.specs.Wishes.{PlanParts}
 use Rattle.hw_report.specs.Reports.{Report, Naming}
 use Rattle.hw_command.specs.Certificates.{report_of, stream_outcome}
 use Rattle.hw_subject.specs.Meanings.{judged, repaired_problem, ships_of}
-use Rattle.hw_subject.specs.Subjects.{Subject, Origin, Topic, port_of, origin_subject, topic_subject}
-use Rattle.hw_subject.specs.Decided.{DecidedBy, IsDecided, NamesThird}
+use Rattle.hw_subject.specs.Subjects.{Subject, Topic, port_of, topic_subject}
+use Rattle.hw_subject.specs.Decided.{DecidedBy, IsDecided, IsReported as IsReportedAs, NamesThird}
 use Rattle.hw_subject.specs.Texts.{cert_report}
 use Rattle.hw_subject.proofs.Decided.{subjects_decided_law}
 use Rattle.hw_subject.proofs.SameLines.{stream_same}
 use Rattle.hw_chart_command.specs.Texts.{cert_chart}
 use Rattle.hw_chart_command.proofs.Decided.{DrawnBy, decided as chart_decided}
 use Rattle.hw_chart_command.proofs.Verified.{alike, checked_by}
-use Rattle.hw_clash.specs.Wished.{wished}
-use Rattle.hw_clash_command.specs.Asked.{asked, tugs_left, wishes_in}
-use Rattle.hw_clash_command.specs.Texts.{plan_report}
-use Rattle.hw_clash_command.proofs.Decided.{ReportedBy as ClashReportedBy, decided as clash_decided}
+use Rattle.hw_clash_command.specs.Asked.{asked}
+use Rattle.hw_clash_command.specs.Inputs.{clash_feed}
+use Rattle.hw_clash_command.specs.Texts.{asked_report, text_report}
+use Rattle.hw_clash_command.proofs.Decided.{decided as clash_decided}
+use Rattle.hw_clash_command.proofs.Inputs.{clashable}
 use Rattle.hw_listing_command.specs.Listings.{flat_text_of, words_of}
 use Rattle.hw_listing_command.proofs.Decided.{one_listing_law}
 use Rattle.hw_listing_command.proofs.OfPort.{explains_as_listed_law, flattens_as_listed_law}
 use Rattle.hw_app.specs.LawsOfReports.{ChartOf, ClashCheckOf, OneCertificateReport, OneChart, OneClashReport, OneFlatText, PrintedBounds, VerifiedAsChecked, ChartsAsVerified, ChartsAsChecked}
-use Rattle.hw_app.specs.Told.{itself, plainly}
+use Rattle.hw_app.specs.Told.{itself}
 use Rattle.hw_app.proofs.Decided.{Last, IsReported, as_check, by_cert, carried, check_reported, one_across, one_check}
 use Rattle.hw_app.proofs.Told.{all_told}
 
@@ -51,18 +53,18 @@ pub one_chart : OneChart
 one_chart bytes cert r t h g = one_across h.topic g.topic bytes h.held g.held (by_chart cert) r t h.told g.told (chart_reported h) (chart_reported g)
 
 abbrev by_clash : List ℕ → List ℕ → Last
-by_clash clash cert names f plan = plan_report (wished (tugs_left f plan) (wishes_in plan)) clash cert
+by_clash clash cert names f plan = asked_report f plan clash cert
 
-by_plan : (s : Subject) (held : List ℕ → Option (List ℕ)) (clash cert : List ℕ) (r : Report) → s.Refuses held r ⊎ ClashReportedBy s held (λ v. plan_report (asked s v) clash cert) r → IsReported s held (by_clash clash cert) r
-by_plan s held clash cert r (inl bad) = inl bad
-by_plan s held clash cert r (inr by) = inr (record { value = by.value; reads = by.reads; report = by.is })
+by_plan : (topic : Topic) (held : List ℕ → Option (List ℕ)) (clash cert : List ℕ) (r : Report) → IsReportedAs (topic_subject topic) held (λ v. text_report (clash_feed (topic_subject topic)) (asked (topic_subject topic) v) clash cert) r → IsReported (topic_subject topic) held (by_clash clash cert) r
+by_plan topic held clash cert r (inl bad) = inl bad
+by_plan topic held clash cert r (inr by) = inr (record { value = by.value; reads = by.reads; report = by.report ∙ ap (λ (feed : Feed). text_report feed (asked (topic_subject topic) by.value) clash cert) ((clashable topic).by_plan by.value) })
 
-pub clash_reported : {bytes : Origin} {clash cert : List ℕ} {r : Report} → (h : ClashCheckOf bytes clash cert r) → IsReported (origin_subject h.origin) h.held (by_clash clash cert) r
-clash_reported {clash = clash} {cert = cert} {r = r} h = by_plan (origin_subject h.origin) h.held clash cert r (clash_decided (origin_subject h.origin) h.plan_name h.name clash cert h.held r h.plan_told h.cert_told h.says)
+pub clash_reported : {bytes : Topic} {clash cert : List ℕ} {r : Report} → (h : ClashCheckOf bytes clash cert r) → IsReported (topic_subject h.topic) h.held (by_clash clash cert) r
+clash_reported {clash = clash} {cert = cert} {r = r} h = by_plan h.topic h.held clash cert r (clash_decided (topic_subject h.topic) h.clash_name h.name clash cert h.held r h.clash_told h.cert_told h.says)
 
 pub one_clash_report : OneClashReport
 one_clash_report = record {
-  check = λ bytes clash cert r t h g. one_across (plainly h.origin) (plainly g.origin) (plainly bytes) h.held g.held (by_clash clash cert) r t (h.told, tt) (g.told, tt) (clash_reported h) (clash_reported g);
+  check = λ bytes clash cert r t h g. one_across h.topic g.topic bytes h.held g.held (by_clash clash cert) r t h.told g.told (clash_reported h) (clash_reported g);
   explain = λ instance tides r t h g. one_listing_law (port_of instance tides) words_of itself r t (refl, (refl, tt)) ((explains_as_listed_law instance tides itself r).1 h) ((explains_as_listed_law instance tides itself t).1 g);
 }
 

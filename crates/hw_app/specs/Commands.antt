@@ -4,7 +4,7 @@ use Rattle.hw_desk.specs.declared.desk.Feed.TheVariants as feed
 use Rattle.hw_linear.specs.declared.format.Format.{Format}
 use Rattle.hw_linear.specs.declared.format.Format.TheVariants.{Lp, Opb}
 use Rattle.hw_progress.specs.declared.limits.TheConstants.{MOST_BUDGET}
-use Rattle.hw_subject.specs.Subjects.{Origin, Topic, flat_text, port_of, origin_seen, topic_seen}
+use Rattle.hw_subject.specs.Subjects.{Origin, Topic, flat_text, port_of, origin_seen, plainly, topic_seen}
 use Rattle.hw_search_command.specs.Orders.{order_in}
 use Rattle.hw_search_command.specs.declared.searcher.Search.{Search}
 use Rattle.hw_search_command.specs.declared.searcher.Search.TheVariants.{Solve, Prove, Crew}
@@ -23,6 +23,7 @@ pub data Command : Type 0 where
   -- what is searched and how, the budget, Proof
   search : Topic → Search → ℕ → List ℕ → Command
   -- what is searched, the certificate that is gone on from, the budget, Proof
+  resume : Topic → List ℕ → ℕ → List ℕ → Command
   -- of what a certificate is checked, the certificate
   check : Topic → List ℕ → Command
   verify : Topic → List ℕ → Command
@@ -37,10 +38,11 @@ pub data Command : Type 0 where
   -- what is searched, the budget, Proof
   clash : Topic → ℕ → List ℕ → Command
   -- of what a clash is checked, the clash, the certificate
-  check_clash : Origin → List ℕ → List ℕ → Command
+  check_clash : Topic → List ℕ → List ℕ → Command
   -- the instance, the tide table
   explain : List ℕ → List ℕ → Command
   windows : List ℕ → List ℕ → Command
+  lint : List ℕ → List ℕ → Command
   -- what is written as a linear programme, and in which format
   model : Origin → Format → Command
   -- the instance, the tide table, the plan, the events
@@ -72,9 +74,11 @@ search_in form words how = search (topic_in form words) how (number_in form word
 abbrev pub command_by : List Wanted → Form → List (List ℕ) → Command
 command_by (Keyword key.Solve ∷ more) form words = search_in form words Solve
 command_by (Keyword key.Repair ∷ more) form words = search_in form words Solve
-command_by (Keyword key.Prove ∷ more) form words = search_in form words Prove
+command_by (Keyword key.Prove ∷ more) form words = search_in form words (Prove (number_in form words counts.Seed))
 command_by (Keyword key.Crew ∷ more) form words = search_in form words (Crew (order_in (name_in form words Order)))
-command_by (Keyword key.Check ∷ Keyword key.Clash ∷ more) form words = check_clash (origin_in form words) (name_in form words (Input feed.Plan)) (name_in form words (Input feed.Certificate))
+command_by (Keyword key.Resume ∷ more) form words = resume (topic_in form words) (name_in form words (Input feed.Certificate)) (number_in form words counts.Budget) (name_in form words Proof)
+command_by (Keyword key.Check ∷ Keyword key.Clash ∷ Keyword key.Repair ∷ more) form words = check_clash (topic_in form words) (name_in form words (Input feed.Clash)) (name_in form words (Input feed.Certificate))
+command_by (Keyword key.Check ∷ Keyword key.Clash ∷ more) form words = check_clash (plainly (origin_in form words)) (name_in form words (Input feed.Plan)) (name_in form words (Input feed.Certificate))
 command_by (Keyword key.Check ∷ more) form words = check (topic_in form words) (name_in form words (Input feed.Certificate))
 command_by (Keyword key.Verify ∷ more) form words = verify (topic_in form words) (name_in form words (Input feed.Certificate))
 command_by (Keyword key.Renew ∷ more) form words = renew (topic_in form words) (name_in form words (Input feed.Certificate)) (name_in form words Proof)
@@ -84,6 +88,7 @@ command_by (Keyword key.Clash ∷ more) form words = clash (topic_in form words)
 command_by (Keyword key.Explain ∷ Keyword key.Repair ∷ more) form words = explain_repair (origin_in form words) (name_in form words (Input feed.Plan)) (name_in form words (Input feed.Certificate))
 command_by (Keyword key.Explain ∷ more) form words = explain (name_in form words (Input feed.Instance)) (name_in form words (Input feed.Tides))
 command_by (Keyword key.Windows ∷ more) form words = windows (name_in form words (Input feed.Instance)) (name_in form words (Input feed.Tides))
+command_by (Keyword key.Lint ∷ more) form words = lint (name_in form words (Input feed.Instance)) (name_in form words (Input feed.Tides))
 command_by (Keyword key.Model ∷ more) form words = model (origin_in form words) Lp
 command_by (Keyword key.Opb ∷ more) form words = model (origin_in form words) Opb
 command_by (Keyword key.Audit ∷ more) form words = audit (name_in form words (Input feed.Instance)) (name_in form words (Input feed.Tides)) (name_in form words (Input feed.Plan)) (name_in form words (Input feed.Events))
@@ -109,6 +114,7 @@ IsBudget budget = (1 ≤ budget) × (budget ≤ MOST_BUDGET)
 
 abbrev pub KeepsLimits : Command → Type 0
 KeepsLimits (search topic how budget proof) = IsBudget budget
+KeepsLimits (resume topic cert budget proof) = IsBudget budget
 KeepsLimits (clash topic budget proof) = IsBudget budget
 KeepsLimits (demo number ships slots budget proof) = CanDraw ships slots × IsBudget budget
 KeepsLimits command = ⊤
@@ -117,6 +123,7 @@ KeepsLimits command = ⊤
 
 abbrev pub command_seen : Told → Command
 command_seen (told.Search subject how budget proof) = search (topic_seen subject) how budget proof.now
+command_seen (told.Resume subject cert budget proof) = resume (topic_seen subject) cert.now budget proof.now
 command_seen (told.Check subject cert) = check (topic_seen subject) cert.now
 command_seen (told.Verify subject cert) = verify (topic_seen subject) cert.now
 command_seen (told.Renew subject cert proof) = renew (topic_seen subject) cert.now proof.now
@@ -124,9 +131,10 @@ command_seen (told.Chart subject cert) = chart (topic_seen subject) cert.now
 command_seen (told.Table subject cert) = table (topic_seen subject) cert.now
 command_seen (told.ExplainRepair source plan cert) = explain_repair (origin_seen source) plan.now cert.now
 command_seen (told.Clash subject budget proof) = clash (topic_seen subject) budget proof.now
-command_seen (told.CheckClash source plan cert) = check_clash (origin_seen source) plan.now cert.now
+command_seen (told.CheckClash subject text cert) = check_clash (topic_seen subject) text.now cert.now
 command_seen (told.Explain port) = explain port.instance.now port.tides.now
 command_seen (told.Windows port) = windows port.instance.now port.tides.now
+command_seen (told.Lint port) = lint port.instance.now port.tides.now
 command_seen (told.Model source format) = model (origin_seen source) format
 command_seen (told.Audit port plan events) = audit port.instance.now port.tides.now plan.now events.now
 command_seen (told.Carry port plan events) = carry port.instance.now port.tides.now plan.now events.now

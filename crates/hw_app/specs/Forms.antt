@@ -7,7 +7,7 @@ use Rattle.hw_progress.specs.declared.limits.TheConstants.{MOST_BUDGET}
 use Rattle.hw_search_command.specs.Orders.{order_read}
 use Rattle.hw_search_command.specs.Demo.{most_ships, most_slots}
 use Rattle.hw_app.specs.declared.form.Form.{Form}
-use Rattle.hw_app.specs.declared.form.Form.TheVariants.{SolveFlat, SolvePort, ProveFlat, ProvePort, CheckFlat, CheckPort, VerifyFlat, VerifyPort, ChartFlat, ChartPort, ChartRepairFlat, ChartRepairPort, TablePort, TableRepairPort, RenewFlat, RenewPort, CrewFlat, CrewPort, RepairFlat, RepairPort, ProveRepairFlat, ProveRepairPort, CheckRepair, CheckRepairPort, VerifyRepairFlat, VerifyRepairPort, ExplainRepairFlat, ExplainRepairPort, ClashFlat, ClashPort, ClashRepairFlat, ClashRepairPort, CheckClash, CheckClashPort, ExplainPort, WindowsPort, ModelFlat, ModelPort, OpbFlat, OpbPort, AuditPort, CarryPort, Flatten, Demo}
+use Rattle.hw_app.specs.declared.form.Form.TheVariants.{SolveFlat, SolvePort, ProveFlat, ProvePort, ProveFlatSeed, ProvePortSeed, ResumeFlat, ResumePort, CheckFlat, CheckPort, VerifyFlat, VerifyPort, ChartFlat, ChartPort, ChartRepairFlat, ChartRepairPort, TablePort, TableRepairPort, RenewFlat, RenewPort, CrewFlat, CrewPort, RepairFlat, RepairPort, ProveRepairFlat, ProveRepairPort, ProveRepairFlatSeed, ProveRepairPortSeed, CheckRepair, CheckRepairPort, VerifyRepairFlat, VerifyRepairPort, ExplainRepairFlat, ExplainRepairPort, ClashFlat, ClashPort, ClashRepairFlat, ClashRepairPort, CheckClash, CheckClashPort, CheckClashRepairFlat, CheckClashRepairPort, ExplainPort, WindowsPort, Lint, ModelFlat, ModelPort, OpbFlat, OpbPort, AuditPort, CarryPort, Flatten, Demo}
 use Rattle.hw_app.specs.declared.form.Keyword.{Keyword as KeywordOf}
 use Rattle.hw_app.specs.declared.form.Keyword.TheVariants as key
 use Rattle.hw_app.specs.declared.form.Quantity.{Quantity}
@@ -20,6 +20,7 @@ use Rattle.hw_app.specs.declared.form.Wanted.TheVariants.{Keyword, Value}
 abbrev pub keyword_text : KeywordOf → List ℕ
 keyword_text key.Solve = codes "solve"
 keyword_text key.Prove = codes "prove"
+keyword_text key.Resume = codes "resume"
 keyword_text key.Check = codes "check"
 keyword_text key.Verify = codes "verify"
 keyword_text key.Chart = codes "chart"
@@ -30,6 +31,7 @@ keyword_text key.Repair = codes "repair"
 keyword_text key.Clash = codes "clash"
 keyword_text key.Explain = codes "explain"
 keyword_text key.Windows = codes "windows"
+keyword_text key.Lint = codes "lint"
 keyword_text key.Model = codes "model"
 keyword_text key.Opb = codes "opb"
 keyword_text key.Audit = codes "audit"
@@ -41,7 +43,7 @@ keyword_text key.Demo = codes "demo"
 
 -- the forms that there are
 abbrev pub forms : List Form
-forms = SolveFlat ∷ SolvePort ∷ ProveFlat ∷ ProvePort ∷ CheckFlat ∷ CheckPort ∷ VerifyFlat ∷ VerifyPort ∷ ChartFlat ∷ ChartPort ∷ ChartRepairFlat ∷ ChartRepairPort ∷ TablePort ∷ TableRepairPort ∷ RenewFlat ∷ RenewPort ∷ CrewFlat ∷ CrewPort ∷ RepairFlat ∷ RepairPort ∷ ProveRepairFlat ∷ ProveRepairPort ∷ CheckRepair ∷ CheckRepairPort ∷ VerifyRepairFlat ∷ VerifyRepairPort ∷ ExplainRepairFlat ∷ ExplainRepairPort ∷ ClashFlat ∷ ClashPort ∷ ClashRepairFlat ∷ ClashRepairPort ∷ CheckClash ∷ CheckClashPort ∷ ExplainPort ∷ WindowsPort ∷ ModelFlat ∷ ModelPort ∷ OpbFlat ∷ OpbPort ∷ AuditPort ∷ CarryPort ∷ Flatten ∷ Demo ∷ []
+forms = SolveFlat ∷ SolvePort ∷ ProveFlat ∷ ProvePort ∷ ProveFlatSeed ∷ ProvePortSeed ∷ ResumeFlat ∷ ResumePort ∷ CheckFlat ∷ CheckPort ∷ VerifyFlat ∷ VerifyPort ∷ ChartFlat ∷ ChartPort ∷ ChartRepairFlat ∷ ChartRepairPort ∷ TablePort ∷ TableRepairPort ∷ RenewFlat ∷ RenewPort ∷ CrewFlat ∷ CrewPort ∷ RepairFlat ∷ RepairPort ∷ ProveRepairFlat ∷ ProveRepairPort ∷ ProveRepairFlatSeed ∷ ProveRepairPortSeed ∷ CheckRepair ∷ CheckRepairPort ∷ VerifyRepairFlat ∷ VerifyRepairPort ∷ ExplainRepairFlat ∷ ExplainRepairPort ∷ ClashFlat ∷ ClashPort ∷ ClashRepairFlat ∷ ClashRepairPort ∷ CheckClash ∷ CheckClashPort ∷ CheckClashRepairFlat ∷ CheckClashRepairPort ∷ ExplainPort ∷ WindowsPort ∷ Lint ∷ ModelFlat ∷ ModelPort ∷ OpbFlat ∷ OpbPort ∷ AuditPort ∷ CarryPort ∷ Flatten ∷ Demo ∷ []
 
 -- the limits of a number
 abbrev pub least_of : Quantity → ℕ
@@ -49,12 +51,14 @@ least_of counts.Demonstration = 0
 least_of counts.Ships = 1
 least_of counts.Slots = 1
 least_of counts.Budget = 1
+least_of counts.Seed = 0
 
 abbrev pub most_of : Quantity → ℕ
 most_of counts.Demonstration = 4_294_967_295
 most_of counts.Ships = most_ships
 most_of counts.Slots = most_slots
 most_of counts.Budget = MOST_BUDGET
+most_of counts.Seed = 4_294_967_295
 
 -- what the words of a form have to be
 abbrev pub words_of : Form → List Wanted
@@ -62,6 +66,10 @@ words_of SolveFlat = Keyword key.Solve ∷ Keyword key.Flat ∷ Value (Input fee
 words_of SolvePort = Keyword key.Solve ∷ Keyword key.Port ∷ Value (Input feed.Instance) ∷ Value (Input feed.Tides) ∷ Value (Number counts.Budget) ∷ Value Proof ∷ []
 words_of ProveFlat = Keyword key.Prove ∷ Keyword key.Flat ∷ Value (Input feed.Flat) ∷ Value (Number counts.Budget) ∷ Value Proof ∷ []
 words_of ProvePort = Keyword key.Prove ∷ Keyword key.Port ∷ Value (Input feed.Instance) ∷ Value (Input feed.Tides) ∷ Value (Number counts.Budget) ∷ Value Proof ∷ []
+words_of ProveFlatSeed = Keyword key.Prove ∷ Keyword key.Flat ∷ Value (Input feed.Flat) ∷ Value (Number counts.Budget) ∷ Value Proof ∷ Value (Number counts.Seed) ∷ []
+words_of ProvePortSeed = Keyword key.Prove ∷ Keyword key.Port ∷ Value (Input feed.Instance) ∷ Value (Input feed.Tides) ∷ Value (Number counts.Budget) ∷ Value Proof ∷ Value (Number counts.Seed) ∷ []
+words_of ResumeFlat = Keyword key.Resume ∷ Keyword key.Flat ∷ Value (Input feed.Flat) ∷ Value (Input feed.Certificate) ∷ Value (Number counts.Budget) ∷ Value Proof ∷ []
+words_of ResumePort = Keyword key.Resume ∷ Keyword key.Port ∷ Value (Input feed.Instance) ∷ Value (Input feed.Tides) ∷ Value (Input feed.Certificate) ∷ Value (Number counts.Budget) ∷ Value Proof ∷ []
 words_of CheckFlat = Keyword key.Check ∷ Keyword key.Flat ∷ Value (Input feed.Flat) ∷ Value (Input feed.Certificate) ∷ []
 words_of CheckPort = Keyword key.Check ∷ Keyword key.Port ∷ Value (Input feed.Instance) ∷ Value (Input feed.Tides) ∷ Value (Input feed.Certificate) ∷ []
 words_of VerifyFlat = Keyword key.Verify ∷ Keyword key.Flat ∷ Value (Input feed.Flat) ∷ Value (Input feed.Certificate) ∷ []
@@ -80,6 +88,8 @@ words_of RepairFlat = Keyword key.Repair ∷ Keyword key.Flat ∷ Value (Input f
 words_of RepairPort = Keyword key.Repair ∷ Keyword key.Port ∷ Value (Input feed.Instance) ∷ Value (Input feed.Tides) ∷ Value (Input feed.Plan) ∷ Value (Number counts.Budget) ∷ Value Proof ∷ []
 words_of ProveRepairFlat = Keyword key.Prove ∷ Keyword key.Repair ∷ Keyword key.Flat ∷ Value (Input feed.Flat) ∷ Value (Input feed.Plan) ∷ Value (Number counts.Budget) ∷ Value Proof ∷ []
 words_of ProveRepairPort = Keyword key.Prove ∷ Keyword key.Repair ∷ Keyword key.Port ∷ Value (Input feed.Instance) ∷ Value (Input feed.Tides) ∷ Value (Input feed.Plan) ∷ Value (Number counts.Budget) ∷ Value Proof ∷ []
+words_of ProveRepairFlatSeed = Keyword key.Prove ∷ Keyword key.Repair ∷ Keyword key.Flat ∷ Value (Input feed.Flat) ∷ Value (Input feed.Plan) ∷ Value (Number counts.Budget) ∷ Value Proof ∷ Value (Number counts.Seed) ∷ []
+words_of ProveRepairPortSeed = Keyword key.Prove ∷ Keyword key.Repair ∷ Keyword key.Port ∷ Value (Input feed.Instance) ∷ Value (Input feed.Tides) ∷ Value (Input feed.Plan) ∷ Value (Number counts.Budget) ∷ Value Proof ∷ Value (Number counts.Seed) ∷ []
 words_of CheckRepair = Keyword key.Check ∷ Keyword key.Repair ∷ Value (Input feed.Flat) ∷ Value (Input feed.Plan) ∷ Value (Input feed.Certificate) ∷ []
 words_of CheckRepairPort = Keyword key.Check ∷ Keyword key.Repair ∷ Keyword key.Port ∷ Value (Input feed.Instance) ∷ Value (Input feed.Tides) ∷ Value (Input feed.Plan) ∷ Value (Input feed.Certificate) ∷ []
 words_of VerifyRepairFlat = Keyword key.Verify ∷ Keyword key.Repair ∷ Keyword key.Flat ∷ Value (Input feed.Flat) ∷ Value (Input feed.Plan) ∷ Value (Input feed.Certificate) ∷ []
@@ -92,8 +102,11 @@ words_of ClashRepairFlat = Keyword key.Clash ∷ Keyword key.Repair ∷ Keyword 
 words_of ClashRepairPort = Keyword key.Clash ∷ Keyword key.Repair ∷ Keyword key.Port ∷ Value (Input feed.Instance) ∷ Value (Input feed.Tides) ∷ Value (Input feed.Plan) ∷ Value (Number counts.Budget) ∷ Value Proof ∷ []
 words_of CheckClash = Keyword key.Check ∷ Keyword key.Clash ∷ Value (Input feed.Flat) ∷ Value (Input feed.Plan) ∷ Value (Input feed.Certificate) ∷ []
 words_of CheckClashPort = Keyword key.Check ∷ Keyword key.Clash ∷ Keyword key.Port ∷ Value (Input feed.Instance) ∷ Value (Input feed.Tides) ∷ Value (Input feed.Plan) ∷ Value (Input feed.Certificate) ∷ []
+words_of CheckClashRepairFlat = Keyword key.Check ∷ Keyword key.Clash ∷ Keyword key.Repair ∷ Keyword key.Flat ∷ Value (Input feed.Flat) ∷ Value (Input feed.Plan) ∷ Value (Input feed.Clash) ∷ Value (Input feed.Certificate) ∷ []
+words_of CheckClashRepairPort = Keyword key.Check ∷ Keyword key.Clash ∷ Keyword key.Repair ∷ Keyword key.Port ∷ Value (Input feed.Instance) ∷ Value (Input feed.Tides) ∷ Value (Input feed.Plan) ∷ Value (Input feed.Clash) ∷ Value (Input feed.Certificate) ∷ []
 words_of ExplainPort = Keyword key.Explain ∷ Keyword key.Port ∷ Value (Input feed.Instance) ∷ Value (Input feed.Tides) ∷ []
 words_of WindowsPort = Keyword key.Windows ∷ Keyword key.Port ∷ Value (Input feed.Instance) ∷ Value (Input feed.Tides) ∷ []
+words_of Lint = Keyword key.Lint ∷ Value (Input feed.Instance) ∷ Value (Input feed.Tides) ∷ []
 words_of ModelFlat = Keyword key.Model ∷ Keyword key.Flat ∷ Value (Input feed.Flat) ∷ []
 words_of ModelPort = Keyword key.Model ∷ Keyword key.Port ∷ Value (Input feed.Instance) ∷ Value (Input feed.Tides) ∷ []
 words_of OpbFlat = Keyword key.Opb ∷ Keyword key.Flat ∷ Value (Input feed.Flat) ∷ []
@@ -150,6 +163,7 @@ same_quantity counts.Demonstration counts.Demonstration = true
 same_quantity counts.Ships counts.Ships = true
 same_quantity counts.Slots counts.Slots = true
 same_quantity counts.Budget counts.Budget = true
+same_quantity counts.Seed counts.Seed = true
 same_quantity q r = false
 
 abbrev pub same_value : ValueOf → ValueOf → Bool

@@ -6,7 +6,7 @@ use Rattle.hw_cert.specs.declared.version.Version.{Version}
 use Rattle.hw_cert.specs.declared.version.Version.TheVariants.{Two, Three}
 use Rattle.hw_report.specs.Reports.{Report, Naming, checked}
 use Rattle.hw_subject.specs.Meanings.{IsBoundOf, own_worth}
-use Rattle.hw_subject.specs.Subjects.{Subject, Origin, Topic, origin_subject, topic_subject}
+use Rattle.hw_subject.specs.Subjects.{Subject, Topic, topic_subject}
 use Rattle.hw_subject.specs.Checks.{Checks}
 use Rattle.hw_subject.specs.Decided.{AllTold, NamesThird}
 use Rattle.hw_check_command.specs.Renews.{Renews}
@@ -15,7 +15,7 @@ use Rattle.hw_chart_command.specs.Laws.{IsChartOf}
 use Rattle.hw_clash_command.specs.CheckClash.{ClashChecks}
 use Rattle.hw_listing_command.specs.ExplainPort.{ExplainsTexts}
 use Rattle.hw_listing_command.specs.Flattening.{FlattensTexts}
-use Rattle.hw_app.specs.Told.{OriginTold, IsTold}
+use Rattle.hw_app.specs.Told.{IsTold}
 
 -- no two reports are said
 abbrev pub OneReport : (Report → Type 0) → Type 0
@@ -52,16 +52,16 @@ pub record ChartOf (bytes : Topic) (cert : List ℕ) (r : Report) : Type 0 where
   pub cert_told : held name ≡ Some cert
   pub says : Charts (topic_subject topic) name held r
 
--- `check clash`
-pub record ClashCheckOf (bytes : Origin) (plan cert : List ℕ) (r : Report) : Type 0 where
-  pub origin : Origin
-  pub plan_name : List ℕ
+-- `check clash`, of a plan's repair too
+pub record ClashCheckOf (bytes : Topic) (clash cert : List ℕ) (r : Report) : Type 0 where
+  pub topic : Topic
+  pub clash_name : List ℕ
   pub name : List ℕ
   pub held : List ℕ → Option (List ℕ)
-  pub told : OriginTold held origin bytes
-  pub plan_told : held plan_name ≡ Some plan
+  pub told : IsTold held topic bytes
+  pub clash_told : held clash_name ≡ Some clash
   pub cert_told : held name ≡ Some cert
-  pub says : ClashChecks (origin_subject origin) plan_name name held r
+  pub says : ClashChecks (topic_subject topic) clash_name name held r
 
 -- ---- one report
 
@@ -76,7 +76,7 @@ OneChart = (bytes : Topic) (cert : List ℕ) → OneReport (ChartOf bytes cert)
 
 -- of a clash and its certificate, and the words for a port's restrictions
 pub record OneClashReport : Type 0 where
-  pub check : (bytes : Origin) (plan cert : List ℕ) → OneReport (ClashCheckOf bytes plan cert)
+  pub check : (bytes : Topic) (clash cert : List ℕ) → OneReport (ClashCheckOf bytes clash cert)
   pub explain : (instance tides : List ℕ) → OneReport (λ r. ExplainsTexts (Some instance) (Some tides) r)
 
 -- the flat text of a port

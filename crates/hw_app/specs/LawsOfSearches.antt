@@ -1,5 +1,5 @@
 -- The laws of a search, and of a check of what it wrote.
-use Rattle.std.specs.Prelude.{◌≡◌, ◌⊎◌, ℕ, List, Bool, true, false, Option, Some, Ok, option_and_then}
+use Rattle.std.specs.Prelude.{◌≡◌, ◌⊎◌, ℕ, List, [], ◌∷◌, Bool, true, false, Option, Some, Ok, codes, option_and_then}
 use Rattle.hw_model.specs.Problem.{Problem, shape_of}
 use Rattle.hw_model.specs.Timetables.{cargo}
 use Rattle.hw_desk.specs.State.{DeskState}
@@ -19,7 +19,8 @@ use Rattle.hw_search_command.specs.Searchers.{searcher_of}
 use Rattle.hw_search_command.specs.Searches.{SearchSays}
 use Rattle.hw_search_command.specs.declared.searcher.Search.{Search}
 use Rattle.hw_search_command.specs.declared.searcher.Search.TheVariants.{Solve, Prove, Crew}
-use Rattle.hw_app.specs.Commands.{Command, search, check, verify}
+use Rattle.hw_app.specs.Commands.{Command, search, check, verify, command_in}
+use Rattle.hw_app.specs.declared.form.Form.TheVariants.{ProveFlat, ProvePort, ProveFlatSeed, ProvePortSeed, ProveRepairFlat, ProveRepairPort, ProveRepairFlatSeed, ProveRepairPortSeed}
 use Rattle.hw_app.specs.LawsOfReports.{CheckOf}
 use Rattle.hw_app.specs.Run.{CommandMeets}
 use Rattle.hw_app.specs.Told.{IsTold, itself}
@@ -72,7 +73,7 @@ EndsAlike s t = (t ≡ s) ⊎ (t ≡ status.ReadFault) ⊎ (t ≡ status.WriteFa
 -- the check of what a search wrote: `verify` after `prove`, and otherwise `check`
 abbrev pub check_after : Search → Topic → List ℕ → Command
 check_after Solve topic cert = check topic cert
-check_after Prove topic cert = verify topic cert
+check_after (Prove seed) topic cert = verify topic cert
 check_after (Crew order) topic cert = check topic cert
 
 -- a search over some desk that tells inputs of these bytes had an answer, and sent a certificate of these bytes to Proof
@@ -104,3 +105,12 @@ IsOverlong most bytes cert = (v : (topic_subject bytes).Value) × (topic_subject
 -- the certificate that a search wrote, checked over the same inputs, ends with the status of the search, unless it passes a limit, a call fails or memory runs out
 abbrev pub OwnStatus : Type 0
 OwnStatus = (how : Search) (bytes : Topic) (cert : List ℕ) (s t : Status) → AnswerOf how bytes cert s → CheckAfter how bytes cert t → IsOverlong (searcher_of how).version bytes cert ⊎ EndsAlike s t
+
+-- ---- seeds
+
+-- a form of `prove` with the seed 0 is the command of the form without it, whatever its other words
+pub record ZeroIsUsual : Type 0 where
+  pub flat_text : (a b name budget proof : List ℕ) → command_in ProveFlatSeed (a ∷ b ∷ name ∷ budget ∷ proof ∷ codes "0" ∷ []) ≡ command_in ProveFlat (a ∷ b ∷ name ∷ budget ∷ proof ∷ [])
+  pub port : (a b instance tides budget proof : List ℕ) → command_in ProvePortSeed (a ∷ b ∷ instance ∷ tides ∷ budget ∷ proof ∷ codes "0" ∷ []) ≡ command_in ProvePort (a ∷ b ∷ instance ∷ tides ∷ budget ∷ proof ∷ [])
+  pub flat_repair : (a b c name plan budget proof : List ℕ) → command_in ProveRepairFlatSeed (a ∷ b ∷ c ∷ name ∷ plan ∷ budget ∷ proof ∷ codes "0" ∷ []) ≡ command_in ProveRepairFlat (a ∷ b ∷ c ∷ name ∷ plan ∷ budget ∷ proof ∷ [])
+  pub port_repair : (a b c instance tides plan budget proof : List ℕ) → command_in ProveRepairPortSeed (a ∷ b ∷ c ∷ instance ∷ tides ∷ plan ∷ budget ∷ proof ∷ codes "0" ∷ []) ≡ command_in ProveRepairPort (a ∷ b ∷ c ∷ instance ∷ tides ∷ plan ∷ budget ∷ proof ∷ [])

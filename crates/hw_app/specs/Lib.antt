@@ -6,4 +6,5 @@ pub mod Told
 pub mod Laws
 pub mod LawsOfReports
 pub mod LawsOfSearches
+pub mod LawsOfResumptions
 pub mod LawsOfClashes

@@ -9,6 +9,7 @@ use Rattle.hw_command.specs.Ends.{Ends}
 use Rattle.hw_command.specs.declared.status.Status.{Status}
 use Rattle.hw_subject.specs.Subjects.{origin_subject, repair_of, topic_subject}
 use Rattle.hw_search_command.specs.Searchers.{searcher_of}
+use Rattle.hw_search_command.specs.Resumes.{resume_task}
 use Rattle.hw_search_command.specs.Searches.{search_task}
 use Rattle.hw_subject.specs.Checks.{check_task}
 use Rattle.hw_check_command.specs.Renews.{renew_task}
@@ -17,15 +18,17 @@ use Rattle.hw_repair_command.specs.Explains.{explain_repair_task}
 use Rattle.hw_clash_command.specs.Clashes.{clash_task}
 use Rattle.hw_clash_command.specs.CheckClash.{check_clash_task}
 use Rattle.hw_listing_command.specs.Listings.{explain_port_task, flatten_task, model_task, windows_task}
+use Rattle.hw_lint_command.specs.Lints.{lint_task}
 use Rattle.hw_listing_command.specs.Tables.{table_task}
 use Rattle.hw_audit_command.specs.AuditPort.{audit_port_task}
 use Rattle.hw_audit_command.specs.CarryPort.{carry_port_task}
 use Rattle.hw_search_command.specs.Demo.{demo_task}
-use Rattle.hw_app.specs.Commands.{Command, search, check, verify, renew, chart, table, explain_repair, clash, check_clash, explain, windows, model, audit, carry, flatten, demo, command_of}
+use Rattle.hw_app.specs.Commands.{Command, search, resume, check, verify, renew, chart, table, explain_repair, clash, check_clash, explain, windows, lint, model, audit, carry, flatten, demo, command_of}
 
 -- what a command has to do
 abbrev pub task_of : Command → Task
 task_of (search topic how budget proof) = search_task (topic_subject topic) (searcher_of how) budget proof
+task_of (resume topic cert budget proof) = resume_task (topic_subject topic) cert budget proof
 task_of (check topic cert) = check_task (topic_subject topic) Two cert
 task_of (verify topic cert) = check_task (topic_subject topic) Three cert
 task_of (renew topic cert proof) = renew_task (topic_subject topic) cert proof
@@ -33,9 +36,10 @@ task_of (chart topic cert) = chart_task (topic_subject topic) cert
 task_of (table topic cert) = table_task (topic_subject topic) cert
 task_of (explain_repair origin plan cert) = explain_repair_task (repair_of (origin_subject origin) plan) cert
 task_of (clash topic budget proof) = clash_task (topic_subject topic) budget proof
-task_of (check_clash origin plan cert) = check_clash_task (origin_subject origin) plan cert
+task_of (check_clash topic text cert) = check_clash_task (topic_subject topic) text cert
 task_of (explain instance tides) = explain_port_task instance tides
 task_of (windows instance tides) = windows_task instance tides
+task_of (lint instance tides) = lint_task instance tides
 task_of (model origin format) = model_task (origin_subject origin) format
 task_of (audit instance tides plan events) = audit_port_task instance tides plan events
 task_of (carry instance tides plan events) = carry_port_task instance tides plan events

@@ -18,10 +18,6 @@ PlanTold held name plan = ⊥
 abbrev pub IsTold : (List ℕ → Option (List ℕ)) → Topic → Topic → Type 0
 IsTold held names bytes = OriginTold held names.origin bytes.origin × PlanTold held names.plan bytes.plan
 
--- a topic without a plan
-abbrev pub plainly : Origin → Topic
-plainly origin = record { origin = origin; plan = None }
-
 -- each name holds itself
 abbrev pub itself : List ℕ → Option (List ℕ)
 itself bytes = Some bytes

@@ -18,12 +18,14 @@ input_text feeds.Tides = codes "TIDES"
 input_text feeds.Certificate = codes "CERT"
 input_text feeds.Plan = codes "PLAN"
 input_text feeds.Events = codes "EVENTS"
+input_text feeds.Clash = codes "CLASH"
 
 abbrev pub quantity_text : Quantity → List ℕ
 quantity_text counts.Demonstration = codes "NUMBER"
 quantity_text counts.Ships = codes "SHIPS"
 quantity_text counts.Slots = codes "SLOTS"
 quantity_text counts.Budget = codes "BUDGET"
+quantity_text counts.Seed = codes "SEED"
 
 abbrev pub value_text : ValueOf → List ℕ
 value_text (Input feed) = input_text feed

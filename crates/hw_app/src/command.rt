@@ -14,6 +14,12 @@ pub enum Command<'w> {
         budget: u32,
         proof: &'w str,
     },
+    Resume {
+        subject: Subject<'w>,
+        cert: &'w str,
+        budget: u32,
+        proof: &'w str,
+    },
     Check {
         subject: Subject<'w>,
         cert: &'w str,
@@ -46,14 +52,17 @@ pub enum Command<'w> {
         proof: &'w str,
     },
     CheckClash {
-        source: Source<'w>,
-        plan: &'w str,
+        subject: Subject<'w>,
+        clash: &'w str,
         cert: &'w str,
     },
     Explain {
         port: PortNames<'w>,
     },
     Windows {
+        port: PortNames<'w>,
+    },
+    Lint {
         port: PortNames<'w>,
     },
     Model {

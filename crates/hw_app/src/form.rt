@@ -18,6 +18,14 @@ pub enum Form {
     ProveFlat,
     /// `prove port INSTANCE TIDES BUDGET PROOF` searches for a best timetable of a port with prices, up to BUDGET lemmas.
     ProvePort,
+    /// `prove flat NAME BUDGET PROOF SEED` is the same by another way through the search, which SEED chooses.
+    ProveFlatSeed,
+    /// `prove port INSTANCE TIDES BUDGET PROOF SEED` is the same by another way through the search, which SEED chooses.
+    ProvePortSeed,
+    /// `resume flat NAME CERT BUDGET PROOF` goes on from a certificate of a flat text, up to BUDGET new lemmas.
+    ResumeFlat,
+    /// `resume port INSTANCE TIDES CERT BUDGET PROOF` goes on from a certificate of a port, up to BUDGET new lemmas.
+    ResumePort,
     /// `check flat NAME CERT` checks a certificate of a flat text.
     CheckFlat,
     /// `check port INSTANCE TIDES CERT` checks a certificate of a port.
@@ -54,6 +62,10 @@ pub enum Form {
     ProveRepairFlat,
     /// `prove repair port INSTANCE TIDES PLAN BUDGET PROOF` searches for a best repair of a plan of a port with prices, up to BUDGET lemmas.
     ProveRepairPort,
+    /// `prove repair flat NAME PLAN BUDGET PROOF SEED` is the same by another way through the search, which SEED chooses.
+    ProveRepairFlatSeed,
+    /// `prove repair port INSTANCE TIDES PLAN BUDGET PROOF SEED` is the same by another way through the search, which SEED chooses.
+    ProveRepairPortSeed,
     /// `check repair NAME PLAN CERT` checks a certificate of the repair of a plan.
     CheckRepair,
     /// `check repair port INSTANCE TIDES PLAN CERT` checks a certificate of the repair of a port's plan.
@@ -78,10 +90,16 @@ pub enum Form {
     CheckClash,
     /// `check clash port INSTANCE TIDES PLAN CERT` checks a clash of a port, with its certificate.
     CheckClashPort,
+    /// `check clash repair flat NAME PLAN CLASH CERT` checks a clash of the repair of a flat text's plan, with its certificate.
+    CheckClashRepairFlat,
+    /// `check clash repair port INSTANCE TIDES PLAN CLASH CERT` checks a clash of the repair of a port's plan, with its certificate.
+    CheckClashRepairPort,
     /// `explain port INSTANCE TIDES` tells each restriction of a port in the port's own words.
     ExplainPort,
     /// `windows port INSTANCE TIDES` tells when each ship of a port may sail, and why not.
     WindowsPort,
+    /// `lint INSTANCE TIDES` tells why an instance or a tide table is refused, or what in them is likely meant otherwise.
+    Lint,
     /// `model flat NAME` writes a flat text as a linear programme in the LP format.
     ModelFlat,
     /// `model port INSTANCE TIDES` writes a port as a linear programme in the LP format.
@@ -105,6 +123,7 @@ pub enum Form {
 pub enum Keyword {
     Solve,
     Prove,
+    Resume,
     Check,
     Verify,
     Chart,
@@ -115,6 +134,7 @@ pub enum Keyword {
     Clash,
     Explain,
     Windows,
+    Lint,
     Model,
     Opb,
     Audit,
@@ -136,6 +156,8 @@ pub enum Quantity {
     Slots,
     /// The lemmas of a search, at most.
     Budget,
+    /// Nothing: it chooses a way through a search.
+    Seed,
 }
 
 /// A value that a form asks for.
@@ -159,11 +181,15 @@ pub enum Wanted {
 }
 
 /// The forms that there are.
-pub const FORMS: [Form; 44] = [
+pub const FORMS: [Form; 53] = [
     Form::SolveFlat,
     Form::SolvePort,
     Form::ProveFlat,
     Form::ProvePort,
+    Form::ProveFlatSeed,
+    Form::ProvePortSeed,
+    Form::ResumeFlat,
+    Form::ResumePort,
     Form::CheckFlat,
     Form::CheckPort,
     Form::VerifyFlat,
@@ -182,6 +208,8 @@ pub const FORMS: [Form; 44] = [
     Form::RepairPort,
     Form::ProveRepairFlat,
     Form::ProveRepairPort,
+    Form::ProveRepairFlatSeed,
+    Form::ProveRepairPortSeed,
     Form::CheckRepair,
     Form::CheckRepairPort,
     Form::VerifyRepairFlat,
@@ -194,8 +222,11 @@ pub const FORMS: [Form; 44] = [
     Form::ClashRepairPort,
     Form::CheckClash,
     Form::CheckClashPort,
+    Form::CheckClashRepairFlat,
+    Form::CheckClashRepairPort,
     Form::ExplainPort,
     Form::WindowsPort,
+    Form::Lint,
     Form::ModelFlat,
     Form::ModelPort,
     Form::OpbFlat,
@@ -209,6 +240,8 @@ pub const FORMS: [Form; 44] = [
 pub const SOLVE: Wanted = Wanted::Keyword(Keyword::Solve);
 
 pub const PROVE: Wanted = Wanted::Keyword(Keyword::Prove);
+
+pub const RESUME: Wanted = Wanted::Keyword(Keyword::Resume);
 
 pub const CHECK: Wanted = Wanted::Keyword(Keyword::Check);
 
@@ -229,6 +262,8 @@ pub const CLASH: Wanted = Wanted::Keyword(Keyword::Clash);
 pub const EXPLAIN: Wanted = Wanted::Keyword(Keyword::Explain);
 
 pub const WINDOWS: Wanted = Wanted::Keyword(Keyword::Windows);
+
+pub const LINT: Wanted = Wanted::Keyword(Keyword::Lint);
 
 pub const MODEL: Wanted = Wanted::Keyword(Keyword::Model);
 
@@ -256,6 +291,8 @@ const CERT: Wanted = Wanted::Value(Value::Input(Feed::Certificate));
 
 const PLAN: Wanted = Wanted::Value(Value::Input(Feed::Plan));
 
+const CLASH_TEXT: Wanted = Wanted::Value(Value::Input(Feed::Clash));
+
 const EVENTS: Wanted = Wanted::Value(Value::Input(Feed::Events));
 
 const PROOF: Wanted = Wanted::Value(Value::Proof);
@@ -270,6 +307,8 @@ const SLOTS: Wanted = Wanted::Value(Value::Number(Quantity::Slots));
 
 const BUDGET: Wanted = Wanted::Value(Value::Number(Quantity::Budget));
 
+const SEED: Wanted = Wanted::Value(Value::Number(Quantity::Seed));
+
 /// What the words of a form have to be.
 pub fn words_of(form: Form) -> &'static [Wanted]
     ensures { result.now ≡ words_of form }
@@ -279,6 +318,10 @@ pub fn words_of(form: Form) -> &'static [Wanted]
         Form::SolvePort => &[SOLVE, PORT, INSTANCE, TIDES, BUDGET, PROOF],
         Form::ProveFlat => &[PROVE, FLAT, NAME, BUDGET, PROOF],
         Form::ProvePort => &[PROVE, PORT, INSTANCE, TIDES, BUDGET, PROOF],
+        Form::ProveFlatSeed => &[PROVE, FLAT, NAME, BUDGET, PROOF, SEED],
+        Form::ProvePortSeed => &[PROVE, PORT, INSTANCE, TIDES, BUDGET, PROOF, SEED],
+        Form::ResumeFlat => &[RESUME, FLAT, NAME, CERT, BUDGET, PROOF],
+        Form::ResumePort => &[RESUME, PORT, INSTANCE, TIDES, CERT, BUDGET, PROOF],
         Form::CheckFlat => &[CHECK, FLAT, NAME, CERT],
         Form::CheckPort => &[CHECK, PORT, INSTANCE, TIDES, CERT],
         Form::VerifyFlat => &[VERIFY, FLAT, NAME, CERT],
@@ -297,6 +340,12 @@ pub fn words_of(form: Form) -> &'static [Wanted]
         Form::RepairPort => &[REPAIR, PORT, INSTANCE, TIDES, PLAN, BUDGET, PROOF],
         Form::ProveRepairFlat => &[PROVE, REPAIR, FLAT, NAME, PLAN, BUDGET, PROOF],
         Form::ProveRepairPort => &[PROVE, REPAIR, PORT, INSTANCE, TIDES, PLAN, BUDGET, PROOF],
+        Form::ProveRepairFlatSeed => &[PROVE, REPAIR, FLAT, NAME, PLAN, BUDGET, PROOF, SEED],
+        Form::ProveRepairPortSeed => {
+            &[
+                PROVE, REPAIR, PORT, INSTANCE, TIDES, PLAN, BUDGET, PROOF, SEED,
+            ]
+        }
         Form::CheckRepair => &[CHECK, REPAIR, NAME, PLAN, CERT],
         Form::CheckRepairPort => &[CHECK, REPAIR, PORT, INSTANCE, TIDES, PLAN, CERT],
         Form::VerifyRepairFlat => &[VERIFY, REPAIR, FLAT, NAME, PLAN, CERT],
@@ -309,8 +358,13 @@ pub fn words_of(form: Form) -> &'static [Wanted]
         Form::ClashRepairPort => &[CLASH, REPAIR, PORT, INSTANCE, TIDES, PLAN, BUDGET, PROOF],
         Form::CheckClash => &[CHECK, CLASH, NAME, PLAN, CERT],
         Form::CheckClashPort => &[CHECK, CLASH, PORT, INSTANCE, TIDES, PLAN, CERT],
+        Form::CheckClashRepairFlat => &[CHECK, CLASH, REPAIR, FLAT, NAME, PLAN, CLASH_TEXT, CERT],
+        Form::CheckClashRepairPort => &[
+            CHECK, CLASH, REPAIR, PORT, INSTANCE, TIDES, PLAN, CLASH_TEXT, CERT,
+        ],
         Form::ExplainPort => &[EXPLAIN, PORT, INSTANCE, TIDES],
         Form::WindowsPort => &[WINDOWS, PORT, INSTANCE, TIDES],
+        Form::Lint => &[LINT, INSTANCE, TIDES],
         Form::ModelFlat => &[MODEL, FLAT, NAME],
         Form::ModelPort => &[MODEL, PORT, INSTANCE, TIDES],
         Form::OpbFlat => &[OPB, FLAT, NAME],
@@ -329,6 +383,7 @@ pub fn keyword_text(keyword: Keyword) -> &'static str
     match keyword {
         Keyword::Solve => "solve",
         Keyword::Prove => "prove",
+        Keyword::Resume => "resume",
         Keyword::Check => "check",
         Keyword::Verify => "verify",
         Keyword::Chart => "chart",
@@ -339,6 +394,7 @@ pub fn keyword_text(keyword: Keyword) -> &'static str
         Keyword::Clash => "clash",
         Keyword::Explain => "explain",
         Keyword::Windows => "windows",
+        Keyword::Lint => "lint",
         Keyword::Model => "model",
         Keyword::Opb => "opb",
         Keyword::Audit => "audit",
@@ -355,7 +411,7 @@ pub fn least_of(quantity: Quantity) -> u32
     ensures { result ≡ least_of quantity }
 {
     match quantity {
-        Quantity::Demonstration => 0,
+        Quantity::Demonstration | Quantity::Seed => 0,
         Quantity::Ships | Quantity::Slots | Quantity::Budget => 1,
     }
 }
@@ -365,7 +421,7 @@ pub fn most_of(quantity: Quantity) -> u32
     ensures { result ≡ most_of quantity }
 {
     match quantity {
-        Quantity::Demonstration => u32::MAX,
+        Quantity::Demonstration | Quantity::Seed => u32::MAX,
         Quantity::Ships => MOST_SHIPS,
         Quantity::Slots => MOST_SLOTS,
         Quantity::Budget => MOST_BUDGET,

@@ -24,5 +24,5 @@ pub use report_laws::{
     one_flat_text, printed_bounds, verified_as_checked,
 };
 pub use running::run;
-pub use search_laws::{own_clash, own_report, own_status};
+pub use search_laws::{own_clash, own_report, own_status, resumed_report, zero_is_usual};
 pub use usage::put_usage;

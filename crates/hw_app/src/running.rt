@@ -13,10 +13,11 @@ use hw_check_command::{check, renew, verify};
 use hw_clash_command::{check_clash, clash};
 use hw_command::{Status, finish};
 use hw_desk::Desk;
+use hw_lint_command::lint_port;
 use hw_listing_command::{explain_port, flatten_port, list_model, list_table, list_windows};
 use hw_repair_command::explain_repair;
 use hw_report::Report;
-use hw_search_command::{demo, search_subject};
+use hw_search_command::{demo, resume_subject, search_subject};
 use std::alloc::Global;
 
 /// Does what the words say over a desk on which nothing was begun or made, and sends its report.
@@ -37,6 +38,12 @@ pub fn run<D: Desk>(alloc: Global, words: &[String], desk: &mut D) -> Status
             budget,
             proof,
         } => search_subject(alloc, desk, subject, &how, budget, proof),
+        Command::Resume {
+            subject,
+            cert,
+            budget,
+            proof,
+        } => resume_subject(alloc, desk, subject, cert, budget, proof),
         Command::Check { subject, cert } => check(alloc, desk, subject, cert),
         Command::Verify { subject, cert } => verify(alloc, desk, subject, cert),
         Command::Renew {
@@ -54,9 +61,14 @@ pub fn run<D: Desk>(alloc: Global, words: &[String], desk: &mut D) -> Status
             budget,
             proof,
         } => clash(alloc, desk, subject, budget, proof),
-        Command::CheckClash { source, plan, cert } => check_clash(alloc, desk, source, plan, cert),
+        Command::CheckClash {
+            subject,
+            clash,
+            cert,
+        } => check_clash(alloc, desk, subject, clash, cert),
         Command::Explain { port } => explain_port(alloc, desk, port),
         Command::Windows { port } => list_windows(alloc, desk, port),
+        Command::Lint { port } => lint_port(alloc, desk, port),
         Command::Model { source, format } => list_model(alloc, desk, source, format),
         Command::Audit { port, plan, events } => audit_port(alloc, desk, port, plan, events),
         Command::Carry { port, plan, events } => carry_port(alloc, desk, port, plan, events),

@@ -59,6 +59,7 @@ fn input_text(feed: Feed) -> &'static str
         Feed::Certificate => "CERT",
         Feed::Plan => "PLAN",
         Feed::Events => "EVENTS",
+        Feed::Clash => "CLASH",
     }
 }
 
@@ -70,5 +71,6 @@ fn quantity_text(quantity: Quantity) -> &'static str
         Quantity::Ships => "SHIPS",
         Quantity::Slots => "SLOTS",
         Quantity::Budget => "BUDGET",
+        Quantity::Seed => "SEED",
     }
 }

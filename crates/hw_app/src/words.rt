@@ -9,9 +9,9 @@ ghost use Rattle.hw_app.specs.Forms.{agreed, first_fitting, form_of, furthest, i
 
 use crate::command::Command;
 use crate::form::{
-    AUDIT, CARRY, CHART, CHECK, CLASH, CREW, EXPLAIN, FLATTEN, FORMS, Form, MODEL, OPB, PROVE,
-    Quantity, RENEW, REPAIR, SOLVE, TABLE, VERIFY, Value, WINDOWS, Wanted, keyword_text, least_of,
-    most_of, words_of,
+    AUDIT, CARRY, CHART, CHECK, CLASH, CREW, EXPLAIN, FLATTEN, FORMS, Form, LINT, MODEL, OPB,
+    PROVE, Quantity, RENEW, REPAIR, RESUME, SOLVE, TABLE, VERIFY, Value, WINDOWS, Wanted,
+    keyword_text, least_of, most_of, words_of,
 };
 use hw_command::PortNames;
 use hw_desk::Feed;
@@ -129,14 +129,31 @@ fn command_by<'w>(wanted: &[Wanted], form: Form, words: &'w [String]) -> Command
 {
     match wanted {
         [SOLVE | REPAIR, ..] => search_in(form, words, Search::Solve),
-        [PROVE, ..] => search_in(form, words, Search::Prove),
+        [PROVE, ..] => {
+            let seed = number_in(form, words, Quantity::Seed);
+            search_in(form, words, Search::Prove { seed })
+        }
         [CREW, ..] => {
             let order = order_in(form, words);
             search_in(form, words, Search::Crew { order })
         }
+        [RESUME, ..] => Command::Resume {
+            subject: subject_in(form, words),
+            cert: input_in(form, words, Feed::Certificate),
+            budget: number_in(form, words, Quantity::Budget),
+            proof: name_in(form, words, Value::Proof),
+        },
+        [CHECK, CLASH, REPAIR, ..] => Command::CheckClash {
+            subject: subject_in(form, words),
+            clash: input_in(form, words, Feed::Clash),
+            cert: input_in(form, words, Feed::Certificate),
+        },
         [CHECK, CLASH, ..] => Command::CheckClash {
-            source: source_in(form, words),
-            plan: input_in(form, words, Feed::Plan),
+            subject: Subject {
+                of: source_in(form, words),
+                plan: None,
+            },
+            clash: input_in(form, words, Feed::Plan),
             cert: input_in(form, words, Feed::Certificate),
         },
         [CHECK, ..] => Command::Check {
@@ -174,6 +191,9 @@ fn command_by<'w>(wanted: &[Wanted], form: Form, words: &'w [String]) -> Command
             port: port_in(form, words),
         },
         [WINDOWS, ..] => Command::Windows {
+            port: port_in(form, words),
+        },
+        [LINT, ..] => Command::Lint {
             port: port_in(form, words),
         },
         [MODEL, ..] => Command::Model {

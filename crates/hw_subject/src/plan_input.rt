@@ -21,7 +21,7 @@ pub struct Repair {
 }
 
 /// Why there is no plan.
-#[derive(Clone, Copy, PartialEq, Eq)]
+#[derive(Clone, Copy)]
 pub enum PlanStop {
     /// The plan couldn't be read to its end.
     Input(ReadStop),

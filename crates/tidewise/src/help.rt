@@ -16,11 +16,15 @@ Commands:
 ";
 
 /// What the commands do, in a line each, in the order of `FORMS`.
-pub const PURPOSES: [&str; 44] = [
+pub const PURPOSES: [&str; 53] = [
     "looks for a best timetable of a flat text, and writes a certificate to PROOF",
     "looks for a best timetable of a port, and writes a certificate to PROOF",
     "looks for a best timetable of a flat text with prices, and writes a certificate to PROOF",
     "looks for a best timetable of a port with prices, and writes a certificate to PROOF",
+    "the same for a flat text by another way, which SEED chooses: for several runs at once",
+    "the same for a port",
+    "goes on from a certificate of a flat text, and writes a longer one to PROOF",
+    "goes on from a certificate of a port, and writes a longer one to PROOF",
     "says what a certificate shows of a flat text, or its first bad line",
     "says what a certificate shows of a port, or its first bad line",
     "says what a certificate shows of a flat text, with its bound, or its first bad line",
@@ -39,6 +43,8 @@ pub const PURPOSES: [&str; 44] = [
     "looks for a best repair of a port's plan, with the fewest ships moved",
     "looks for a best repair of a plan with prices, and writes a certificate to PROOF",
     "looks for a best repair of a port's plan with prices, and writes a certificate to PROOF",
+    "the same for a flat text by another way, which SEED chooses",
+    "the same for a port's plan",
     "says what a certificate shows of a plan's repair, or its first bad line",
     "says what a certificate shows of the repair of a port's plan",
     "says what a certificate shows of a plan's repair, with its bound, or its first bad line",
@@ -51,8 +57,11 @@ pub const PURPOSES: [&str; 44] = [
     "the same for a port's plan",
     "says whether the restrictions that a clash lists can't be met together",
     "the same for a port",
+    "says whether the restrictions and wishes that a clash lists can't be met together",
+    "the same for a port's plan",
     "tells each restriction of a port by its number, in the port's own words",
     "tells when each ship of a port may sail, and why not",
+    "tells why an instance or a tide table is refused, or what in them is likely meant otherwise",
     "prints the linear programme of a flat text for other solvers, in the LP format",
     "prints the linear programme of a port for other solvers, in the LP format",
     "prints the linear programme of a flat text for other solvers, in the OPB format",

@@ -12,7 +12,7 @@ use hw_desk::{Desk, DeskFailed, Tray, TrayWriter, Writer};
 pub const VERSION: &str = "0.1.0";
 
 /// What the program tells of itself, where that alone is asked for.
-#[derive(Clone, Copy, PartialEq, Eq)]
+#[derive(Clone, Copy)]
 pub enum Info {
     /// `--help` or `-h`.
     Help,
