@@ -22,9 +22,9 @@ use Rattle.hw_repair.specs.Wishes.{PlanParts}
 use Rattle.hw_report.specs.Reports.{Report, Naming, checked}
 use Rattle.hw_report.specs.declared.report.Head.{Head}
 use Rattle.hw_command.specs.Certificates.{line_outcome, lines_outcome, report_of, stream_outcome}
-use Rattle.hw_command.specs.Keeping.{whole_lines}
+use Rattle.hw_command.specs.Keeping.{complete_lines}
 use Rattle.hw_command.specs.declared.outcome.CertOutcome.TheVariants.{Shows}
-use Rattle.hw_subject.specs.Meanings.{repaired_problem, ships_of}
+use Rattle.hw_subject.specs.Meanings.{repaired_problem, repair_ships}
 use Rattle.hw_subject.specs.Subjects.{topic_subject}
 use Rattle.hw_subject.proofs.Modelled.{subjects_modelled_law}
 use Rattle.hw_search_command.specs.Certified.{IsCertificate, head_verdict, searched_head}
@@ -50,11 +50,11 @@ within (Prove seed) = refl
 within (Crew order) = refl
 
 -- they are the lines that its bytes read as
-pub own_lines : {f : Problem} {plan : Option PlanParts} {budget : ℕ} {head : Head} {table : Option (List ℕ)} {bound : Option ℕ} {cert : List ℕ} (how : Search) → IsFlat (repaired_problem f plan) → (c : IsCertificate (searcher_of how) f plan budget head table bound cert) → PassesLimit (searcher_of how).version (repaired_problem f plan) cert ⊎ (cert_stream_to (searcher_of how).version (shape_of (repaired_problem f plan)) cert ≡ whole_lines c.lines)
+pub own_lines : {f : Problem} {plan : Option PlanParts} {budget : ℕ} {head : Head} {table : Option (List ℕ)} {bound : Option ℕ} {cert : List ℕ} (how : Search) → IsFlat (repaired_problem f plan) → (c : IsCertificate (searcher_of how) f plan budget head table bound cert) → PassesLimit (searcher_of how).version (repaired_problem f plan) cert ⊎ (cert_stream_to (searcher_of how).version (shape_of (repaired_problem f plan)) cert ≡ complete_lines c.lines)
 own_lines {f = f} {plan = plan} how limits c =
     let version = (searcher_of how).version in
     let g = repaired_problem f plan in
-    subst (λ (bytes : List ℕ). PassesLimit version g bytes ⊎ (cert_stream_to version (shape_of g) bytes ≡ whole_lines c.lines)) (sym c.text) (valid_streams version version g c.lines (within how) limits c.written.fit c.written.valid (formed how c.lines c.written.may))
+    subst (λ (bytes : List ℕ). PassesLimit version g bytes ⊎ (cert_stream_to version (shape_of g) bytes ≡ complete_lines c.lines)) (sym c.text) (valid_streams version version g c.lines (within how) limits c.written.fit c.written.valid (formed how c.lines c.written.may))
 
 -- valid lines to the end show their verdict, whatever they speak of
 pub valid_shows : (f : Problem) (more before : List Line) (number : ℕ) → IsFlat f → Valid f before → All (LineFits f) more → ValidFrom f before more → lines_outcome f before number more complete ≡ Shows (verdict f (before ++ more))
@@ -69,16 +69,16 @@ shown_verdict : {f : Problem} {plan : Option PlanParts} {budget : ℕ} {head : H
 shown_verdict {f = f} {plan = plan} {head = head} {table = table} how c = c.shows.verdict ∙ ap (λ (t : Option (List ℕ)). head_verdict (searched_head plan f.ships table head) (option_and_then (cargo (repaired_problem f plan)) t)) c.shows.last
 
 -- the report of a check of it
-pub own_shown : {f : Problem} {plan : Option PlanParts} {budget : ℕ} {head : Head} {table : Option (List ℕ)} {bound : Option ℕ} {cert : List ℕ} (how : Search) (names : Naming) → IsFlat (repaired_problem f plan) → (c : IsCertificate (searcher_of how) f plan budget head table bound cert) → cert_stream_to (searcher_of how).version (shape_of (repaired_problem f plan)) cert ≡ whole_lines c.lines
+pub own_shown : {f : Problem} {plan : Option PlanParts} {budget : ℕ} {head : Head} {table : Option (List ℕ)} {bound : Option ℕ} {cert : List ℕ} (how : Search) (names : Naming) → IsFlat (repaired_problem f plan) → (c : IsCertificate (searcher_of how) f plan budget head table bound cert) → cert_stream_to (searcher_of how).version (shape_of (repaired_problem f plan)) cert ≡ complete_lines c.lines
     → IsShownAs f plan head names table bound (cert_report (searcher_of how).version names f plan cert)
 own_shown {f = f} {plan = plan} how names limits c same =
     let g = repaired_problem f plan in
     record {
       last = bound_of c.lines;
       stands = c.shows.last_bound;
-      report = ap (λ (read : CertLines). report_of names (bound_of read.lines) (ships_of f plan) (stream_outcome g read)) same
-          ∙ ap (report_of names (bound_of c.lines) (ships_of f plan)) (valid_shows g c.lines [] 2 limits tt c.written.fit c.written.valid)
-          ∙ ap (λ (w : Verdict). checked w (bound_of c.lines) (ships_of f plan) names) (shown_verdict how c);
+      report = ap (λ (read : CertLines). report_of names (bound_of read.lines) (repair_ships f plan) (stream_outcome g read)) same
+          ∙ ap (report_of names (bound_of c.lines) (repair_ships f plan)) (valid_shows g c.lines [] 2 limits tt c.written.fit c.written.valid)
+          ∙ ap (λ (w : Verdict). checked w (bound_of c.lines) (repair_ships f plan) names) (shown_verdict how c);
     }
 
 -- ---- over the same inputs

@@ -11,7 +11,7 @@ use Rattle.hw_report.specs.Reports.{Report, Naming, solved, bad_text, too_long}
 use Rattle.hw_report.specs.declared.report.Head.{Head}
 use Rattle.hw_report.specs.declared.report.Head.TheVariants as heads
 use Rattle.hw_command.specs.Carries.{Carries}
-use Rattle.hw_command.specs.Keeping.{whole_lines}
+use Rattle.hw_command.specs.Keeping.{complete_lines}
 use Rattle.hw_command.specs.Statuses.{status_of, status_of_head, status_of_verdict}
 use Rattle.hw_command.specs.declared.status.Status.{Status}
 use Rattle.hw_command.proofs.FlatForms.{by_line}
@@ -102,7 +102,7 @@ same_status (Some plan) ships table heads.Memory best e = absurd (cc)
 shown_status : {f : Problem} {plan : Option PlanParts} {head : Head} {names : Naming} {table : Option (List ℕ)} {bound : Option ℕ} {r : Report} → is_answer (status_of_head head) ≡ true → IsShownAs f plan head names table bound r → status_of r ≡ status_of_head head
 shown_status {f = f} {plan = plan} {head = head} {table = table} e h = ap status_of h.report ∙ same_status plan f.ships table head _ e
 
-check_ends : {how : Search} {bytes : Topic} {cert : List ℕ} {s t : Status} (topic : Topic) (held : List ℕ → Option (List ℕ)) (w : Wrote how topic held cert s) → IsTold held topic bytes → is_answer s ≡ true → cert_stream_to (searcher_of how).version (shape_of (judged (topic_subject topic) w.value)) cert ≡ whole_lines w.certificate.lines → CheckAfter how bytes cert t → EndsAlike s t
+check_ends : {how : Search} {bytes : Topic} {cert : List ℕ} {s t : Status} (topic : Topic) (held : List ℕ → Option (List ℕ)) (w : Wrote how topic held cert s) → IsTold held topic bytes → is_answer s ≡ true → cert_stream_to (searcher_of how).version (shape_of (judged (topic_subject topic) w.value)) cert ≡ complete_lines w.certificate.lines → CheckAfter how bytes cert t → EndsAlike s t
 check_ends {how = how} {bytes = bytes} {cert = cert} {s = s} {t = t} topic held w told answer same k =
     let m = check_carries how k.topic k.name k.old k.new t k.meets in
     alike (λ old mid. CheckSays (topic_subject k.topic) (searcher_of how).version k.name old) k.old m.mid k.new s t m.reports m.says m.ends said
@@ -138,6 +138,6 @@ own_status how bytes cert s t h k =
     let w = wrote h in
     by_lines w (own_lines how (subjects_modelled_law h.topic h.old.held w.value w.reads).limits w.certificate)
   where
-    by_lines : (w : Wrote how h.topic h.old.held cert s) → PassesLimit (searcher_of how).version (judged (topic_subject h.topic) w.value) cert ⊎ (cert_stream_to (searcher_of how).version (shape_of (judged (topic_subject h.topic) w.value)) cert ≡ whole_lines w.certificate.lines) → IsOverlong (searcher_of how).version bytes cert ⊎ EndsAlike s t
+    by_lines : (w : Wrote how h.topic h.old.held cert s) → PassesLimit (searcher_of how).version (judged (topic_subject h.topic) w.value) cert ⊎ (cert_stream_to (searcher_of how).version (shape_of (judged (topic_subject h.topic) w.value)) cert ≡ complete_lines w.certificate.lines) → IsOverlong (searcher_of how).version bytes cert ⊎ EndsAlike s t
     by_lines w (inl long) = inl (overlong_of how bytes h.topic h.old.held cert w.value h.told w.reads long)
     by_lines w (inr same) = inr (check_ends h.topic h.old.held w h.told h.answer same k)

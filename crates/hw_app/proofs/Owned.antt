@@ -20,7 +20,7 @@ use Rattle.hw_cert.specs.declared.stop.FormWord.{FormWord}
 use Rattle.hw_cert.specs.declared.version.Version.{Version}
 use Rattle.hw_cert.specs.declared.version.Version.TheVariants.{Two}
 use Rattle.hw_cert.specs.Certs.{Cert, BadLine, cert_read}
-use Rattle.hw_cert.specs.Laws.{Agrees, IsLine}
+use Rattle.hw_cert.specs.Laws.{StreamAgrees, IsLine}
 use Rattle.hw_cert.specs.Stream.{CertEnd, complete, broken, overlong, cert_stream}
 use Rattle.hw_cert.specs.Texts.{cert_text}
 use Rattle.hw_cert.proofs.ValidText.{are_lines, none_few}
@@ -28,8 +28,9 @@ use Rattle.hw_cert.proofs.WordBytes.{both_on}
 use Rattle.hw_cert.proofs.Formed.{plain_formed, plain_read}
 use Rattle.hw_cert.proofs.Shapes.{fits_problem}
 use Rattle.hw_cert.proofs.WholeCerts.{cert_again, cert_back, stream_agrees}
+use Rattle.hw_cert.proofs.ValidCerts.{one_cert}
 use Rattle.hw_command.specs.Certificates.{cert_outcome, end_outcome, line_outcome, lines_outcome}
-use Rattle.hw_app.specs.Laws.{IsShown, OwnCertificate, RenewedCertificate, ShowsValid}
+use Rattle.hw_app.specs.Laws.{IsShownByCertificate, OwnCertificate, RenewedCertificate, ShowsValid}
 use Rattle.hw_command.specs.declared.outcome.CertOutcome.{CertOutcome}
 use Rattle.hw_command.specs.declared.outcome.CertOutcome.TheVariants.{Shows}
 
@@ -126,7 +127,7 @@ all_fit f version (line ∷ more) h = All-cons (LineFits f) line more (fits_prob
 lines_fit : (f : Problem) (bytes : List ℕ) (version : Version) (all : List Line) → cert_read (shape_of f) bytes ≡ Ok (record { version = version; lines = all }) → All (LineFits f) all
 lines_fit f bytes version all e = all_fit f version all (cert_back Two (shape_of f) bytes version all e).each
 
-shown_by : (f : Problem) (bytes : List ℕ) (v : Verdict) (lines : List Line) (stop : CertEnd) → stop ≡ (cert_stream (shape_of f) bytes).stop → Ended f [] lines stop v → Agrees stop lines (cert_read (shape_of f) bytes) → IsShown f bytes v
+shown_by : (f : Problem) (bytes : List ℕ) (v : Verdict) (lines : List Line) (stop : CertEnd) → stop ≡ (cert_stream (shape_of f) bytes).stop → Ended f [] lines stop v → StreamAgrees stop lines (cert_read (shape_of f) bytes) → IsShownByCertificate f bytes v
 shown_by f bytes v lines complete same h a = record {
   version = a.0;
   lines = lines;
@@ -147,10 +148,7 @@ shown_by f bytes v lines overlong same h a = absurd (long_ends h.whole)
     long_ends : overlong ≡ complete → ⊥
     long_ends e = cc
 
-one_cert : {a b : Cert} {read : Result Cert BadLine} → read ≡ Ok a → read ≡ Ok b → a ≡ b
-one_cert e h = cc
-
-by_end : (f : Problem) (all : List Line) (version : Version) (lines : List Line) (stop : CertEnd) (read : Result Cert BadLine) → All Plain all → All (LineFits f) all → Valid f all → read ≡ Ok (record { version = version; lines = all }) → Agrees stop lines read → (stop ≡ overlong) ⊎ (lines_outcome f [] 2 lines stop ≡ Shows (verdict f all))
+by_end : (f : Problem) (all : List Line) (version : Version) (lines : List Line) (stop : CertEnd) (read : Result Cert BadLine) → All Plain all → All (LineFits f) all → Valid f all → read ≡ Ok (record { version = version; lines = all }) → StreamAgrees stop lines read → (stop ≡ overlong) ⊎ (lines_outcome f [] 2 lines stop ≡ Shows (verdict f all))
 by_end f all version lines complete read plain fit valid e a =
     let same : all ≡ lines = ap (λ (c : Cert). c.lines) (one_cert e a.1) in
     inr (subst (λ (xs : List Line). lines_outcome f [] 2 xs complete ≡ Shows (verdict f all)) same (valid_shows f all [] 2 plain fit valid))
@@ -174,12 +172,12 @@ renewed_certificate f all flat plain fit valid =
     by_verdict again.same_verdict (own_certificate f (renewed all) flat (renewed_plain 1 all plain) (again.fit fit) again.valid)
 
 -- lines that are read are plain
-read_plain : (f : Problem) (bytes : List ℕ) (version : Version) (all : List Line) (lines : List Line) (stop : CertEnd) → (stop ≡ overlong → ⊥) → All Plain lines → cert_read (shape_of f) bytes ≡ Ok (record { version = version; lines = all }) → Agrees stop lines (cert_read (shape_of f) bytes) → All Plain all
+read_plain : (f : Problem) (bytes : List ℕ) (version : Version) (all : List Line) (lines : List Line) (stop : CertEnd) → (stop ≡ overlong → ⊥) → All Plain lines → cert_read (shape_of f) bytes ≡ Ok (record { version = version; lines = all }) → StreamAgrees stop lines (cert_read (shape_of f) bytes) → All Plain all
 read_plain f bytes version all lines complete within plain e a = subst (All Plain) (sym (ap (λ (c : Cert). c.lines) (one_cert e a.1))) plain
 read_plain f bytes version all lines (broken number word) within plain e a = absurd (cc)
 read_plain f bytes version all lines overlong within plain e a = absurd (within refl)
 
-shows_by : (f : Problem) (bytes : List ℕ) (v : Verdict) → IsShown f bytes v → cert_outcome f bytes ≡ Shows v
+shows_by : (f : Problem) (bytes : List ℕ) (v : Verdict) → IsShownByCertificate f bytes v → cert_outcome f bytes ≡ Shows v
 shows_by f bytes v h =
     let lines = cert_stream (shape_of f) bytes in
     let agrees = stream_agrees Two (shape_of f) bytes in

@@ -18,7 +18,7 @@ use Rattle.hw_command.specs.declared.outcome.CertOutcome.{CertOutcome}
 use Rattle.hw_command.specs.declared.outcome.CertOutcome.TheVariants.{Shows}
 use Rattle.hw_clash_command.specs.Asked.{asked_by}
 use Rattle.hw_clash_command.specs.Found.{IsClashTold}
-use Rattle.hw_clash_command.specs.Texts.{clash_report, report_of_part, text_report}
+use Rattle.hw_clash_command.specs.Texts.{clash_report, report_of_part, clash_text_report}
 use Rattle.hw_clash_command.proofs.Decided.{flat_is, plan_is, text_within}
 use Rattle.hw_app.specs.LawsOfClashes.{OwnClash}
 use Rattle.hw_app.proofs.Owned.{own_certificate}
@@ -27,7 +27,7 @@ by_outcome : {A : Type 0} {o w : CertOutcome} {r s : Report} → A ⊎ (o ≡ w)
 by_outcome (inl a) e is = inl a
 by_outcome (inr same) e is = inr (e ∙ ap report_of_part same ∙ is)
 
-of_problem : (feed : Feed) (f : Wished) (kept : List ℕ) (drops : List (List ℕ)) (all : List Line) → IsFlat f.problem → IsClashTold f kept drops all → length (report_text (clashed kept drops)) ≤ most_bytes → ((cert_stream (shape_of (part f kept)) (cert_text Two all)).stop ≡ overlong) ⊎ (text_report feed f (report_text (clashed kept drops)) (cert_text Two all) ≡ clash_holds)
+of_problem : (feed : Feed) (f : Wished) (kept : List ℕ) (drops : List (List ℕ)) (all : List Line) → IsFlat f.problem → IsClashTold f kept drops all → length (report_text (clashed kept drops)) ≤ most_bytes → ((cert_stream (shape_of (part f kept)) (cert_text Two all)).stop ≡ overlong) ⊎ (clash_text_report feed f (report_text (clashed kept drops)) (cert_text Two all) ≡ clash_holds)
 of_problem feed f kept drops all flat told within =
     let g = part f kept in
     let clash = report_text (clashed kept drops) in

@@ -9,7 +9,7 @@ use Rattle.hw_cert.specs.Stream.{CertLines, cert_stream, cert_stream_to}
 use Rattle.hw_repair.specs.Wishes.{PlanParts}
 use Rattle.hw_report.specs.Reports.{Report, Naming}
 use Rattle.hw_command.specs.Certificates.{report_of, stream_outcome}
-use Rattle.hw_subject.specs.Meanings.{judged, repaired_problem, ships_of}
+use Rattle.hw_subject.specs.Meanings.{judged, repaired_problem, repair_ships}
 use Rattle.hw_subject.specs.Subjects.{Subject, Topic, port_of, topic_subject}
 use Rattle.hw_subject.specs.Decided.{DecidedBy, IsDecided, IsReported as IsReportedAs, NamesThird}
 use Rattle.hw_subject.specs.Texts.{cert_report}
@@ -20,13 +20,13 @@ use Rattle.hw_chart_command.proofs.Decided.{DrawnBy, decided as chart_decided}
 use Rattle.hw_chart_command.proofs.Verified.{alike, checked_by}
 use Rattle.hw_clash_command.specs.Asked.{asked}
 use Rattle.hw_clash_command.specs.Inputs.{clash_feed}
-use Rattle.hw_clash_command.specs.Texts.{asked_report, text_report}
+use Rattle.hw_clash_command.specs.Texts.{asked_report, clash_text_report}
 use Rattle.hw_clash_command.proofs.Decided.{decided as clash_decided}
 use Rattle.hw_clash_command.proofs.Inputs.{clashable}
-use Rattle.hw_listing_command.specs.Listings.{flat_text_of, words_of}
+use Rattle.hw_listing_command.specs.Listings.{flat_text_of, restriction_words}
 use Rattle.hw_listing_command.proofs.Decided.{one_listing_law}
 use Rattle.hw_listing_command.proofs.OfPort.{explains_as_listed_law, flattens_as_listed_law}
-use Rattle.hw_app.specs.LawsOfReports.{ChartOf, ClashCheckOf, OneCertificateReport, OneChart, OneClashReport, OneFlatText, PrintedBounds, VerifiedAsChecked, ChartsAsVerified, ChartsAsChecked}
+use Rattle.hw_app.specs.LawsOfReports.{ChartOf, ClashCheckOf, OneCertificateReport, OneReportOfChart, OneReportOfClash, OneFlatText, PrintedBounds, VerifiedAsChecked, ChartsBytesAsVerified, ChartsBytesAsChecked}
 use Rattle.hw_app.specs.Told.{itself}
 use Rattle.hw_app.proofs.Decided.{Last, IsReported, as_check, by_cert, carried, check_reported, one_across, one_check}
 use Rattle.hw_app.proofs.Told.{all_told}
@@ -49,23 +49,23 @@ by_drawn s held cert r (inr by) = inr (record { value = by.value; reads = by.rea
 chart_reported : {bytes : Topic} {cert : List ℕ} {r : Report} → (h : ChartOf bytes cert r) → IsReported (topic_subject h.topic) h.held (by_chart cert) r
 chart_reported {cert = cert} {r = r} h = by_drawn (topic_subject h.topic) h.held cert r (chart_decided (topic_subject h.topic) h.name cert h.held r h.cert_told h.says)
 
-pub one_chart : OneChart
+pub one_chart : OneReportOfChart
 one_chart bytes cert r t h g = one_across h.topic g.topic bytes h.held g.held (by_chart cert) r t h.told g.told (chart_reported h) (chart_reported g)
 
 abbrev by_clash : List ℕ → List ℕ → Last
 by_clash clash cert names f plan = asked_report f plan clash cert
 
-by_plan : (topic : Topic) (held : List ℕ → Option (List ℕ)) (clash cert : List ℕ) (r : Report) → IsReportedAs (topic_subject topic) held (λ v. text_report (clash_feed (topic_subject topic)) (asked (topic_subject topic) v) clash cert) r → IsReported (topic_subject topic) held (by_clash clash cert) r
+by_plan : (topic : Topic) (held : List ℕ → Option (List ℕ)) (clash cert : List ℕ) (r : Report) → IsReportedAs (topic_subject topic) held (λ v. clash_text_report (clash_feed (topic_subject topic)) (asked (topic_subject topic) v) clash cert) r → IsReported (topic_subject topic) held (by_clash clash cert) r
 by_plan topic held clash cert r (inl bad) = inl bad
-by_plan topic held clash cert r (inr by) = inr (record { value = by.value; reads = by.reads; report = by.report ∙ ap (λ (feed : Feed). text_report feed (asked (topic_subject topic) by.value) clash cert) ((clashable topic).by_plan by.value) })
+by_plan topic held clash cert r (inr by) = inr (record { value = by.value; reads = by.reads; report = by.report ∙ ap (λ (feed : Feed). clash_text_report feed (asked (topic_subject topic) by.value) clash cert) ((clashable topic).by_plan by.value) })
 
 pub clash_reported : {bytes : Topic} {clash cert : List ℕ} {r : Report} → (h : ClashCheckOf bytes clash cert r) → IsReported (topic_subject h.topic) h.held (by_clash clash cert) r
 clash_reported {clash = clash} {cert = cert} {r = r} h = by_plan h.topic h.held clash cert r (clash_decided (topic_subject h.topic) h.clash_name h.name clash cert h.held r h.clash_told h.cert_told h.says)
 
-pub one_clash_report : OneClashReport
+pub one_clash_report : OneReportOfClash
 one_clash_report = record {
   check = λ bytes clash cert r t h g. one_across h.topic g.topic bytes h.held g.held (by_clash clash cert) r t h.told g.told (clash_reported h) (clash_reported g);
-  explain = λ instance tides r t h g. one_listing_law (port_of instance tides) words_of itself r t (refl, (refl, tt)) ((explains_as_listed_law instance tides itself r).1 h) ((explains_as_listed_law instance tides itself t).1 g);
+  explain = λ instance tides r t h g. one_listing_law (port_of instance tides) restriction_words itself r t (refl, (refl, tt)) ((explains_as_listed_law instance tides itself r).1 h) ((explains_as_listed_law instance tides itself t).1 g);
 }
 
 pub one_flat_text : OneFlatText
@@ -86,7 +86,7 @@ printed_bounds topic cert held shows bound ships names says = record {
 
 -- where the same lines are read, the report is the same
 same_report : (names : Naming) (f : Problem) (plan : Option PlanParts) (cert : List ℕ) → cert_stream_to Three (shape_of (repaired_problem f plan)) cert ≡ cert_stream (shape_of (repaired_problem f plan)) cert → cert_report Three names f plan cert ≡ cert_report Two names f plan cert
-same_report names f plan cert same = ap (λ (read : CertLines). report_of names (bound_of read.lines) (ships_of f plan) (stream_outcome (repaired_problem f plan) read)) same
+same_report names f plan cert same = ap (λ (read : CertLines). report_of names (bound_of read.lines) (repair_ships f plan) (stream_outcome (repaired_problem f plan) read)) same
 
 third_or_same : (s : Subject) (held : List ℕ → Option (List ℕ)) (cert : List ℕ) (c r : Report) → IsDecided s held → IsReported s held (by_cert Two cert) c → IsReported s held (by_cert Three cert) r → NamesThird cert ⊎ (r ≡ c)
 third_or_same s held cert c r d (inl a) (inl b) = inr (d.one_refusal r c b a)
@@ -108,12 +108,12 @@ decided_as : (s : Subject) (most : Version) (held : List ℕ → Option (List �
 decided_as s most held cert c (inl bad) = inl bad
 decided_as s most held cert c (inr by) = inr (record { value = by.value; reads = by.reads; report = by.report })
 
-pub charts_as_verified : ChartsAsVerified
+pub charts_as_verified : ChartsBytesAsVerified
 charts_as_verified bytes cert c r g h =
     let s = topic_subject h.topic in
     alike h.topic h.held cert c r (subjects_decided_law h.topic h.held (all_told h.topic bytes h.held h.told)) (decided_as s Three h.held cert c (carried g.topic h.topic bytes g.held h.held (by_cert Three cert) c g.told h.told (check_reported g))) (chart_decided s h.name cert h.held r h.cert_told h.says)
 
-pub charts_as_checked : ChartsAsChecked
+pub charts_as_checked : ChartsBytesAsChecked
 charts_as_checked bytes cert c r g h =
     let s = topic_subject h.topic in
     checked_by h.topic h.held cert c r (subjects_decided_law h.topic h.held (all_told h.topic bytes h.held h.told)) (decided_as s Two h.held cert c (carried g.topic h.topic bytes g.held h.held (by_cert Two cert) c g.told h.told (check_reported g))) (chart_decided s h.name cert h.held r h.cert_told h.says)

@@ -16,8 +16,8 @@ use Rattle.hw_repair.specs.Wishes.{PlanParts}
 use Rattle.hw_report.specs.Reports.{Naming, checked}
 use Rattle.hw_report.specs.declared.report.Head.{Head}
 use Rattle.hw_command.specs.Certificates.{report_of, stream_outcome}
-use Rattle.hw_command.specs.Keeping.{whole_lines}
-use Rattle.hw_subject.specs.Meanings.{repaired_problem, ships_of}
+use Rattle.hw_command.specs.Keeping.{complete_lines}
+use Rattle.hw_subject.specs.Meanings.{repaired_problem, repair_ships}
 use Rattle.hw_subject.specs.Subjects.{topic_subject}
 use Rattle.hw_subject.specs.Texts.{cert_report}
 use Rattle.hw_subject.proofs.Modelled.{subjects_modelled_law}
@@ -30,26 +30,26 @@ use Rattle.hw_app.proofs.Decided.{checked_at}
 use Rattle.hw_app.proofs.OwnReport.{as_reported, either, valid_shows}
 
 -- the lines are those that the bytes read as
-longer_lines : {f : Problem} {plan : Option PlanParts} {budget : ℕ} {head : Head} {table : Option (List ℕ)} {bound : Option ℕ} {start : List Line} {cert : List ℕ} → IsFlat (repaired_problem f plan) → (c : IsLonger f plan budget head table bound start cert) → PassesLimit Three (repaired_problem f plan) cert ⊎ (cert_stream_to Three (shape_of (repaired_problem f plan)) cert ≡ whole_lines c.lines)
+longer_lines : {f : Problem} {plan : Option PlanParts} {budget : ℕ} {head : Head} {table : Option (List ℕ)} {bound : Option ℕ} {start : List Line} {cert : List ℕ} → IsFlat (repaired_problem f plan) → (c : IsLonger f plan budget head table bound start cert) → PassesLimit Three (repaired_problem f plan) cert ⊎ (cert_stream_to Three (shape_of (repaired_problem f plan)) cert ≡ complete_lines c.lines)
 longer_lines {f = f} {plan = plan} limits c =
     let g = repaired_problem f plan in
-    subst (λ (bytes : List ℕ). PassesLimit Three g bytes ⊎ (cert_stream_to Three (shape_of g) bytes ≡ whole_lines c.lines)) (sym c.text) (valid_streams Three Three g c.lines refl limits c.goes_on.goes_on.fit c.goes_on.goes_on.valid (third_formed c.lines))
+    subst (λ (bytes : List ℕ). PassesLimit Three g bytes ⊎ (cert_stream_to Three (shape_of g) bytes ≡ complete_lines c.lines)) (sym c.text) (valid_streams Three Three g c.lines refl limits c.goes_on.goes_on.fit c.goes_on.goes_on.valid (third_formed c.lines))
 
 -- the verdict, by the head
 longer_verdict : {f : Problem} {plan : Option PlanParts} {budget : ℕ} {head : Head} {table : Option (List ℕ)} {bound : Option ℕ} {start : List Line} {cert : List ℕ} → (c : IsLonger f plan budget head table bound start cert) → verdict (repaired_problem f plan) c.lines ≡ verdict_with (repaired_problem f plan) (searched_head plan f.ships table head) table
 longer_verdict {f = f} {plan = plan} {head = head} {table = table} c = c.goes_on.verdict ∙ ap (λ (t : Option (List ℕ)). head_verdict (searched_head plan f.ships table head) (option_and_then (cargo (repaired_problem f plan)) t)) c.goes_on.last
 
 -- the report of `verify`
-longer_shown : {f : Problem} {plan : Option PlanParts} {budget : ℕ} {head : Head} {table : Option (List ℕ)} {bound : Option ℕ} {start : List Line} {cert : List ℕ} (names : Naming) → IsFlat (repaired_problem f plan) → (c : IsLonger f plan budget head table bound start cert) → cert_stream_to Three (shape_of (repaired_problem f plan)) cert ≡ whole_lines c.lines
+longer_shown : {f : Problem} {plan : Option PlanParts} {budget : ℕ} {head : Head} {table : Option (List ℕ)} {bound : Option ℕ} {start : List Line} {cert : List ℕ} (names : Naming) → IsFlat (repaired_problem f plan) → (c : IsLonger f plan budget head table bound start cert) → cert_stream_to Three (shape_of (repaired_problem f plan)) cert ≡ complete_lines c.lines
     → IsShownAs f plan head names table bound (cert_report Three names f plan cert)
 longer_shown {f = f} {plan = plan} names limits c same =
     let g = repaired_problem f plan in
     record {
       last = bound_of c.lines;
       stands = c.goes_on.last_bound;
-      report = ap (λ (read : CertLines). report_of names (bound_of read.lines) (ships_of f plan) (stream_outcome g read)) same
-          ∙ ap (report_of names (bound_of c.lines) (ships_of f plan)) (valid_shows g c.lines [] 2 limits tt c.goes_on.goes_on.fit c.goes_on.goes_on.valid)
-          ∙ ap (λ (w : Verdict). checked w (bound_of c.lines) (ships_of f plan) names) (longer_verdict c);
+      report = ap (λ (read : CertLines). report_of names (bound_of read.lines) (repair_ships f plan) (stream_outcome g read)) same
+          ∙ ap (report_of names (bound_of c.lines) (repair_ships f plan)) (valid_shows g c.lines [] 2 limits tt c.goes_on.goes_on.fit c.goes_on.goes_on.valid)
+          ∙ ap (λ (w : Verdict). checked w (bound_of c.lines) (repair_ships f plan) names) (longer_verdict c);
     }
 
 pub resumed_report : ResumedReport

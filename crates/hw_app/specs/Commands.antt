@@ -9,7 +9,7 @@ use Rattle.hw_search_command.specs.Orders.{order_in}
 use Rattle.hw_search_command.specs.declared.searcher.Search.{Search}
 use Rattle.hw_search_command.specs.declared.searcher.Search.TheVariants.{Solve, Prove, Crew}
 use Rattle.hw_search_command.specs.Demo.{CanDraw}
-use Rattle.hw_app.specs.Forms.{form_of, name_in, number_in, word_in, words_of}
+use Rattle.hw_app.specs.Forms.{form_of_words, name_in_words, number_in_words, word_in, wanted_words}
 use Rattle.hw_app.specs.declared.command.Command.{Command as Told}
 use Rattle.hw_app.specs.declared.command.Command.TheVariants as told
 use Rattle.hw_app.specs.declared.form.Form.{Form}
@@ -61,44 +61,44 @@ origin_by None instance tides = port_of instance tides
 
 -- a flat text, where the form asks for one, or a port
 abbrev pub origin_in : Form → List (List ℕ) → Origin
-origin_in form words = origin_by (word_in form words (Input feed.Flat)) (name_in form words (Input feed.Instance)) (name_in form words (Input feed.Tides))
+origin_in form words = origin_by (word_in form words (Input feed.Flat)) (name_in_words form words (Input feed.Instance)) (name_in_words form words (Input feed.Tides))
 
 -- the same, or the repair of its plan, where the form asks for one
 abbrev pub topic_in : Form → List (List ℕ) → Topic
 topic_in form words = record { origin = origin_in form words; plan = word_in form words (Input feed.Plan) }
 
 abbrev pub search_in : Form → List (List ℕ) → Search → Command
-search_in form words how = search (topic_in form words) how (number_in form words counts.Budget) (name_in form words Proof)
+search_in form words how = search (topic_in form words) how (number_in_words form words counts.Budget) (name_in_words form words Proof)
 
 -- the command of a form, by its keywords
 abbrev pub command_by : List Wanted → Form → List (List ℕ) → Command
 command_by (Keyword key.Solve ∷ more) form words = search_in form words Solve
 command_by (Keyword key.Repair ∷ more) form words = search_in form words Solve
-command_by (Keyword key.Prove ∷ more) form words = search_in form words (Prove (number_in form words counts.Seed))
-command_by (Keyword key.Crew ∷ more) form words = search_in form words (Crew (order_in (name_in form words Order)))
-command_by (Keyword key.Resume ∷ more) form words = resume (topic_in form words) (name_in form words (Input feed.Certificate)) (number_in form words counts.Budget) (name_in form words Proof)
-command_by (Keyword key.Check ∷ Keyword key.Clash ∷ Keyword key.Repair ∷ more) form words = check_clash (topic_in form words) (name_in form words (Input feed.Clash)) (name_in form words (Input feed.Certificate))
-command_by (Keyword key.Check ∷ Keyword key.Clash ∷ more) form words = check_clash (plainly (origin_in form words)) (name_in form words (Input feed.Plan)) (name_in form words (Input feed.Certificate))
-command_by (Keyword key.Check ∷ more) form words = check (topic_in form words) (name_in form words (Input feed.Certificate))
-command_by (Keyword key.Verify ∷ more) form words = verify (topic_in form words) (name_in form words (Input feed.Certificate))
-command_by (Keyword key.Renew ∷ more) form words = renew (topic_in form words) (name_in form words (Input feed.Certificate)) (name_in form words Proof)
-command_by (Keyword key.Chart ∷ more) form words = chart (topic_in form words) (name_in form words (Input feed.Certificate))
-command_by (Keyword key.Table ∷ more) form words = table (topic_in form words) (name_in form words (Input feed.Certificate))
-command_by (Keyword key.Clash ∷ more) form words = clash (topic_in form words) (number_in form words counts.Budget) (name_in form words Proof)
-command_by (Keyword key.Explain ∷ Keyword key.Repair ∷ more) form words = explain_repair (origin_in form words) (name_in form words (Input feed.Plan)) (name_in form words (Input feed.Certificate))
-command_by (Keyword key.Explain ∷ more) form words = explain (name_in form words (Input feed.Instance)) (name_in form words (Input feed.Tides))
-command_by (Keyword key.Windows ∷ more) form words = windows (name_in form words (Input feed.Instance)) (name_in form words (Input feed.Tides))
-command_by (Keyword key.Lint ∷ more) form words = lint (name_in form words (Input feed.Instance)) (name_in form words (Input feed.Tides))
+command_by (Keyword key.Prove ∷ more) form words = search_in form words (Prove (number_in_words form words counts.Seed))
+command_by (Keyword key.Crew ∷ more) form words = search_in form words (Crew (order_in (name_in_words form words Order)))
+command_by (Keyword key.Resume ∷ more) form words = resume (topic_in form words) (name_in_words form words (Input feed.Certificate)) (number_in_words form words counts.Budget) (name_in_words form words Proof)
+command_by (Keyword key.Check ∷ Keyword key.Clash ∷ Keyword key.Repair ∷ more) form words = check_clash (topic_in form words) (name_in_words form words (Input feed.Clash)) (name_in_words form words (Input feed.Certificate))
+command_by (Keyword key.Check ∷ Keyword key.Clash ∷ more) form words = check_clash (plainly (origin_in form words)) (name_in_words form words (Input feed.Plan)) (name_in_words form words (Input feed.Certificate))
+command_by (Keyword key.Check ∷ more) form words = check (topic_in form words) (name_in_words form words (Input feed.Certificate))
+command_by (Keyword key.Verify ∷ more) form words = verify (topic_in form words) (name_in_words form words (Input feed.Certificate))
+command_by (Keyword key.Renew ∷ more) form words = renew (topic_in form words) (name_in_words form words (Input feed.Certificate)) (name_in_words form words Proof)
+command_by (Keyword key.Chart ∷ more) form words = chart (topic_in form words) (name_in_words form words (Input feed.Certificate))
+command_by (Keyword key.Table ∷ more) form words = table (topic_in form words) (name_in_words form words (Input feed.Certificate))
+command_by (Keyword key.Clash ∷ more) form words = clash (topic_in form words) (number_in_words form words counts.Budget) (name_in_words form words Proof)
+command_by (Keyword key.Explain ∷ Keyword key.Repair ∷ more) form words = explain_repair (origin_in form words) (name_in_words form words (Input feed.Plan)) (name_in_words form words (Input feed.Certificate))
+command_by (Keyword key.Explain ∷ more) form words = explain (name_in_words form words (Input feed.Instance)) (name_in_words form words (Input feed.Tides))
+command_by (Keyword key.Windows ∷ more) form words = windows (name_in_words form words (Input feed.Instance)) (name_in_words form words (Input feed.Tides))
+command_by (Keyword key.Lint ∷ more) form words = lint (name_in_words form words (Input feed.Instance)) (name_in_words form words (Input feed.Tides))
 command_by (Keyword key.Model ∷ more) form words = model (origin_in form words) Lp
 command_by (Keyword key.Opb ∷ more) form words = model (origin_in form words) Opb
-command_by (Keyword key.Audit ∷ more) form words = audit (name_in form words (Input feed.Instance)) (name_in form words (Input feed.Tides)) (name_in form words (Input feed.Plan)) (name_in form words (Input feed.Events))
-command_by (Keyword key.Carry ∷ more) form words = carry (name_in form words (Input feed.Instance)) (name_in form words (Input feed.Tides)) (name_in form words (Input feed.Plan)) (name_in form words (Input feed.Events))
-command_by (Keyword key.Flatten ∷ more) form words = flatten (name_in form words (Input feed.Instance)) (name_in form words (Input feed.Tides))
-command_by wanted form words = demo (number_in form words counts.Demonstration) (number_in form words counts.Ships) (number_in form words counts.Slots) (number_in form words counts.Budget) (name_in form words Proof)
+command_by (Keyword key.Audit ∷ more) form words = audit (name_in_words form words (Input feed.Instance)) (name_in_words form words (Input feed.Tides)) (name_in_words form words (Input feed.Plan)) (name_in_words form words (Input feed.Events))
+command_by (Keyword key.Carry ∷ more) form words = carry (name_in_words form words (Input feed.Instance)) (name_in_words form words (Input feed.Tides)) (name_in_words form words (Input feed.Plan)) (name_in_words form words (Input feed.Events))
+command_by (Keyword key.Flatten ∷ more) form words = flatten (name_in_words form words (Input feed.Instance)) (name_in_words form words (Input feed.Tides))
+command_by wanted form words = demo (number_in_words form words counts.Demonstration) (number_in_words form words counts.Ships) (number_in_words form words counts.Slots) (number_in_words form words counts.Budget) (name_in_words form words Proof)
 
 -- the command of a form that the words are of
 abbrev pub command_in : Form → List (List ℕ) → Command
-command_in form words = command_by (words_of form) form words
+command_in form words = command_by (wanted_words form) form words
 
 abbrev pub command_or_place : Result Form ℕ → List (List ℕ) → Result Command ℕ
 command_or_place (Ok form) words = Ok (command_in form words)
@@ -106,7 +106,7 @@ command_or_place (Err place) words = Err place
 
 -- the command that the words are, or the place of the first bad one
 abbrev pub command_of : List (List ℕ) → Result Command ℕ
-command_of words = command_or_place (form_of words) words
+command_of words = command_or_place (form_of_words words) words
 
 -- the numbers of a command are within their limits
 abbrev pub IsBudget : ℕ → Type 0

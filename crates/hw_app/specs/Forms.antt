@@ -61,60 +61,60 @@ most_of counts.Budget = MOST_BUDGET
 most_of counts.Seed = 4_294_967_295
 
 -- what the words of a form have to be
-abbrev pub words_of : Form → List Wanted
-words_of SolveFlat = Keyword key.Solve ∷ Keyword key.Flat ∷ Value (Input feed.Flat) ∷ Value (Number counts.Budget) ∷ Value Proof ∷ []
-words_of SolvePort = Keyword key.Solve ∷ Keyword key.Port ∷ Value (Input feed.Instance) ∷ Value (Input feed.Tides) ∷ Value (Number counts.Budget) ∷ Value Proof ∷ []
-words_of ProveFlat = Keyword key.Prove ∷ Keyword key.Flat ∷ Value (Input feed.Flat) ∷ Value (Number counts.Budget) ∷ Value Proof ∷ []
-words_of ProvePort = Keyword key.Prove ∷ Keyword key.Port ∷ Value (Input feed.Instance) ∷ Value (Input feed.Tides) ∷ Value (Number counts.Budget) ∷ Value Proof ∷ []
-words_of ProveFlatSeed = Keyword key.Prove ∷ Keyword key.Flat ∷ Value (Input feed.Flat) ∷ Value (Number counts.Budget) ∷ Value Proof ∷ Value (Number counts.Seed) ∷ []
-words_of ProvePortSeed = Keyword key.Prove ∷ Keyword key.Port ∷ Value (Input feed.Instance) ∷ Value (Input feed.Tides) ∷ Value (Number counts.Budget) ∷ Value Proof ∷ Value (Number counts.Seed) ∷ []
-words_of ResumeFlat = Keyword key.Resume ∷ Keyword key.Flat ∷ Value (Input feed.Flat) ∷ Value (Input feed.Certificate) ∷ Value (Number counts.Budget) ∷ Value Proof ∷ []
-words_of ResumePort = Keyword key.Resume ∷ Keyword key.Port ∷ Value (Input feed.Instance) ∷ Value (Input feed.Tides) ∷ Value (Input feed.Certificate) ∷ Value (Number counts.Budget) ∷ Value Proof ∷ []
-words_of CheckFlat = Keyword key.Check ∷ Keyword key.Flat ∷ Value (Input feed.Flat) ∷ Value (Input feed.Certificate) ∷ []
-words_of CheckPort = Keyword key.Check ∷ Keyword key.Port ∷ Value (Input feed.Instance) ∷ Value (Input feed.Tides) ∷ Value (Input feed.Certificate) ∷ []
-words_of VerifyFlat = Keyword key.Verify ∷ Keyword key.Flat ∷ Value (Input feed.Flat) ∷ Value (Input feed.Certificate) ∷ []
-words_of VerifyPort = Keyword key.Verify ∷ Keyword key.Port ∷ Value (Input feed.Instance) ∷ Value (Input feed.Tides) ∷ Value (Input feed.Certificate) ∷ []
-words_of ChartFlat = Keyword key.Chart ∷ Keyword key.Flat ∷ Value (Input feed.Flat) ∷ Value (Input feed.Certificate) ∷ []
-words_of ChartPort = Keyword key.Chart ∷ Keyword key.Port ∷ Value (Input feed.Instance) ∷ Value (Input feed.Tides) ∷ Value (Input feed.Certificate) ∷ []
-words_of ChartRepairFlat = Keyword key.Chart ∷ Keyword key.Repair ∷ Keyword key.Flat ∷ Value (Input feed.Flat) ∷ Value (Input feed.Plan) ∷ Value (Input feed.Certificate) ∷ []
-words_of ChartRepairPort = Keyword key.Chart ∷ Keyword key.Repair ∷ Keyword key.Port ∷ Value (Input feed.Instance) ∷ Value (Input feed.Tides) ∷ Value (Input feed.Plan) ∷ Value (Input feed.Certificate) ∷ []
-words_of TablePort = Keyword key.Table ∷ Keyword key.Port ∷ Value (Input feed.Instance) ∷ Value (Input feed.Tides) ∷ Value (Input feed.Certificate) ∷ []
-words_of TableRepairPort = Keyword key.Table ∷ Keyword key.Repair ∷ Keyword key.Port ∷ Value (Input feed.Instance) ∷ Value (Input feed.Tides) ∷ Value (Input feed.Plan) ∷ Value (Input feed.Certificate) ∷ []
-words_of RenewFlat = Keyword key.Renew ∷ Keyword key.Flat ∷ Value (Input feed.Flat) ∷ Value (Input feed.Certificate) ∷ Value Proof ∷ []
-words_of RenewPort = Keyword key.Renew ∷ Keyword key.Port ∷ Value (Input feed.Instance) ∷ Value (Input feed.Tides) ∷ Value (Input feed.Certificate) ∷ Value Proof ∷ []
-words_of CrewFlat = Keyword key.Crew ∷ Keyword key.Flat ∷ Value (Input feed.Flat) ∷ Value Order ∷ Value (Number counts.Budget) ∷ Value Proof ∷ []
-words_of CrewPort = Keyword key.Crew ∷ Keyword key.Port ∷ Value (Input feed.Instance) ∷ Value (Input feed.Tides) ∷ Value Order ∷ Value (Number counts.Budget) ∷ Value Proof ∷ []
-words_of RepairFlat = Keyword key.Repair ∷ Keyword key.Flat ∷ Value (Input feed.Flat) ∷ Value (Input feed.Plan) ∷ Value (Number counts.Budget) ∷ Value Proof ∷ []
-words_of RepairPort = Keyword key.Repair ∷ Keyword key.Port ∷ Value (Input feed.Instance) ∷ Value (Input feed.Tides) ∷ Value (Input feed.Plan) ∷ Value (Number counts.Budget) ∷ Value Proof ∷ []
-words_of ProveRepairFlat = Keyword key.Prove ∷ Keyword key.Repair ∷ Keyword key.Flat ∷ Value (Input feed.Flat) ∷ Value (Input feed.Plan) ∷ Value (Number counts.Budget) ∷ Value Proof ∷ []
-words_of ProveRepairPort = Keyword key.Prove ∷ Keyword key.Repair ∷ Keyword key.Port ∷ Value (Input feed.Instance) ∷ Value (Input feed.Tides) ∷ Value (Input feed.Plan) ∷ Value (Number counts.Budget) ∷ Value Proof ∷ []
-words_of ProveRepairFlatSeed = Keyword key.Prove ∷ Keyword key.Repair ∷ Keyword key.Flat ∷ Value (Input feed.Flat) ∷ Value (Input feed.Plan) ∷ Value (Number counts.Budget) ∷ Value Proof ∷ Value (Number counts.Seed) ∷ []
-words_of ProveRepairPortSeed = Keyword key.Prove ∷ Keyword key.Repair ∷ Keyword key.Port ∷ Value (Input feed.Instance) ∷ Value (Input feed.Tides) ∷ Value (Input feed.Plan) ∷ Value (Number counts.Budget) ∷ Value Proof ∷ Value (Number counts.Seed) ∷ []
-words_of CheckRepair = Keyword key.Check ∷ Keyword key.Repair ∷ Value (Input feed.Flat) ∷ Value (Input feed.Plan) ∷ Value (Input feed.Certificate) ∷ []
-words_of CheckRepairPort = Keyword key.Check ∷ Keyword key.Repair ∷ Keyword key.Port ∷ Value (Input feed.Instance) ∷ Value (Input feed.Tides) ∷ Value (Input feed.Plan) ∷ Value (Input feed.Certificate) ∷ []
-words_of VerifyRepairFlat = Keyword key.Verify ∷ Keyword key.Repair ∷ Keyword key.Flat ∷ Value (Input feed.Flat) ∷ Value (Input feed.Plan) ∷ Value (Input feed.Certificate) ∷ []
-words_of VerifyRepairPort = Keyword key.Verify ∷ Keyword key.Repair ∷ Keyword key.Port ∷ Value (Input feed.Instance) ∷ Value (Input feed.Tides) ∷ Value (Input feed.Plan) ∷ Value (Input feed.Certificate) ∷ []
-words_of ExplainRepairFlat = Keyword key.Explain ∷ Keyword key.Repair ∷ Keyword key.Flat ∷ Value (Input feed.Flat) ∷ Value (Input feed.Plan) ∷ Value (Input feed.Certificate) ∷ []
-words_of ExplainRepairPort = Keyword key.Explain ∷ Keyword key.Repair ∷ Keyword key.Port ∷ Value (Input feed.Instance) ∷ Value (Input feed.Tides) ∷ Value (Input feed.Plan) ∷ Value (Input feed.Certificate) ∷ []
-words_of ClashFlat = Keyword key.Clash ∷ Keyword key.Flat ∷ Value (Input feed.Flat) ∷ Value (Number counts.Budget) ∷ Value Proof ∷ []
-words_of ClashPort = Keyword key.Clash ∷ Keyword key.Port ∷ Value (Input feed.Instance) ∷ Value (Input feed.Tides) ∷ Value (Number counts.Budget) ∷ Value Proof ∷ []
-words_of ClashRepairFlat = Keyword key.Clash ∷ Keyword key.Repair ∷ Keyword key.Flat ∷ Value (Input feed.Flat) ∷ Value (Input feed.Plan) ∷ Value (Number counts.Budget) ∷ Value Proof ∷ []
-words_of ClashRepairPort = Keyword key.Clash ∷ Keyword key.Repair ∷ Keyword key.Port ∷ Value (Input feed.Instance) ∷ Value (Input feed.Tides) ∷ Value (Input feed.Plan) ∷ Value (Number counts.Budget) ∷ Value Proof ∷ []
-words_of CheckClash = Keyword key.Check ∷ Keyword key.Clash ∷ Value (Input feed.Flat) ∷ Value (Input feed.Plan) ∷ Value (Input feed.Certificate) ∷ []
-words_of CheckClashPort = Keyword key.Check ∷ Keyword key.Clash ∷ Keyword key.Port ∷ Value (Input feed.Instance) ∷ Value (Input feed.Tides) ∷ Value (Input feed.Plan) ∷ Value (Input feed.Certificate) ∷ []
-words_of CheckClashRepairFlat = Keyword key.Check ∷ Keyword key.Clash ∷ Keyword key.Repair ∷ Keyword key.Flat ∷ Value (Input feed.Flat) ∷ Value (Input feed.Plan) ∷ Value (Input feed.Clash) ∷ Value (Input feed.Certificate) ∷ []
-words_of CheckClashRepairPort = Keyword key.Check ∷ Keyword key.Clash ∷ Keyword key.Repair ∷ Keyword key.Port ∷ Value (Input feed.Instance) ∷ Value (Input feed.Tides) ∷ Value (Input feed.Plan) ∷ Value (Input feed.Clash) ∷ Value (Input feed.Certificate) ∷ []
-words_of ExplainPort = Keyword key.Explain ∷ Keyword key.Port ∷ Value (Input feed.Instance) ∷ Value (Input feed.Tides) ∷ []
-words_of WindowsPort = Keyword key.Windows ∷ Keyword key.Port ∷ Value (Input feed.Instance) ∷ Value (Input feed.Tides) ∷ []
-words_of Lint = Keyword key.Lint ∷ Value (Input feed.Instance) ∷ Value (Input feed.Tides) ∷ []
-words_of ModelFlat = Keyword key.Model ∷ Keyword key.Flat ∷ Value (Input feed.Flat) ∷ []
-words_of ModelPort = Keyword key.Model ∷ Keyword key.Port ∷ Value (Input feed.Instance) ∷ Value (Input feed.Tides) ∷ []
-words_of OpbFlat = Keyword key.Opb ∷ Keyword key.Flat ∷ Value (Input feed.Flat) ∷ []
-words_of OpbPort = Keyword key.Opb ∷ Keyword key.Port ∷ Value (Input feed.Instance) ∷ Value (Input feed.Tides) ∷ []
-words_of AuditPort = Keyword key.Audit ∷ Keyword key.Port ∷ Value (Input feed.Instance) ∷ Value (Input feed.Tides) ∷ Value (Input feed.Plan) ∷ Value (Input feed.Events) ∷ []
-words_of CarryPort = Keyword key.Carry ∷ Keyword key.Port ∷ Value (Input feed.Instance) ∷ Value (Input feed.Tides) ∷ Value (Input feed.Plan) ∷ Value (Input feed.Events) ∷ []
-words_of Flatten = Keyword key.Flatten ∷ Value (Input feed.Instance) ∷ Value (Input feed.Tides) ∷ []
-words_of Demo = Keyword key.Demo ∷ Value (Number counts.Demonstration) ∷ Value (Number counts.Ships) ∷ Value (Number counts.Slots) ∷ Value (Number counts.Budget) ∷ Value Proof ∷ []
+abbrev pub wanted_words : Form → List Wanted
+wanted_words SolveFlat = Keyword key.Solve ∷ Keyword key.Flat ∷ Value (Input feed.Flat) ∷ Value (Number counts.Budget) ∷ Value Proof ∷ []
+wanted_words SolvePort = Keyword key.Solve ∷ Keyword key.Port ∷ Value (Input feed.Instance) ∷ Value (Input feed.Tides) ∷ Value (Number counts.Budget) ∷ Value Proof ∷ []
+wanted_words ProveFlat = Keyword key.Prove ∷ Keyword key.Flat ∷ Value (Input feed.Flat) ∷ Value (Number counts.Budget) ∷ Value Proof ∷ []
+wanted_words ProvePort = Keyword key.Prove ∷ Keyword key.Port ∷ Value (Input feed.Instance) ∷ Value (Input feed.Tides) ∷ Value (Number counts.Budget) ∷ Value Proof ∷ []
+wanted_words ProveFlatSeed = Keyword key.Prove ∷ Keyword key.Flat ∷ Value (Input feed.Flat) ∷ Value (Number counts.Budget) ∷ Value Proof ∷ Value (Number counts.Seed) ∷ []
+wanted_words ProvePortSeed = Keyword key.Prove ∷ Keyword key.Port ∷ Value (Input feed.Instance) ∷ Value (Input feed.Tides) ∷ Value (Number counts.Budget) ∷ Value Proof ∷ Value (Number counts.Seed) ∷ []
+wanted_words ResumeFlat = Keyword key.Resume ∷ Keyword key.Flat ∷ Value (Input feed.Flat) ∷ Value (Input feed.Certificate) ∷ Value (Number counts.Budget) ∷ Value Proof ∷ []
+wanted_words ResumePort = Keyword key.Resume ∷ Keyword key.Port ∷ Value (Input feed.Instance) ∷ Value (Input feed.Tides) ∷ Value (Input feed.Certificate) ∷ Value (Number counts.Budget) ∷ Value Proof ∷ []
+wanted_words CheckFlat = Keyword key.Check ∷ Keyword key.Flat ∷ Value (Input feed.Flat) ∷ Value (Input feed.Certificate) ∷ []
+wanted_words CheckPort = Keyword key.Check ∷ Keyword key.Port ∷ Value (Input feed.Instance) ∷ Value (Input feed.Tides) ∷ Value (Input feed.Certificate) ∷ []
+wanted_words VerifyFlat = Keyword key.Verify ∷ Keyword key.Flat ∷ Value (Input feed.Flat) ∷ Value (Input feed.Certificate) ∷ []
+wanted_words VerifyPort = Keyword key.Verify ∷ Keyword key.Port ∷ Value (Input feed.Instance) ∷ Value (Input feed.Tides) ∷ Value (Input feed.Certificate) ∷ []
+wanted_words ChartFlat = Keyword key.Chart ∷ Keyword key.Flat ∷ Value (Input feed.Flat) ∷ Value (Input feed.Certificate) ∷ []
+wanted_words ChartPort = Keyword key.Chart ∷ Keyword key.Port ∷ Value (Input feed.Instance) ∷ Value (Input feed.Tides) ∷ Value (Input feed.Certificate) ∷ []
+wanted_words ChartRepairFlat = Keyword key.Chart ∷ Keyword key.Repair ∷ Keyword key.Flat ∷ Value (Input feed.Flat) ∷ Value (Input feed.Plan) ∷ Value (Input feed.Certificate) ∷ []
+wanted_words ChartRepairPort = Keyword key.Chart ∷ Keyword key.Repair ∷ Keyword key.Port ∷ Value (Input feed.Instance) ∷ Value (Input feed.Tides) ∷ Value (Input feed.Plan) ∷ Value (Input feed.Certificate) ∷ []
+wanted_words TablePort = Keyword key.Table ∷ Keyword key.Port ∷ Value (Input feed.Instance) ∷ Value (Input feed.Tides) ∷ Value (Input feed.Certificate) ∷ []
+wanted_words TableRepairPort = Keyword key.Table ∷ Keyword key.Repair ∷ Keyword key.Port ∷ Value (Input feed.Instance) ∷ Value (Input feed.Tides) ∷ Value (Input feed.Plan) ∷ Value (Input feed.Certificate) ∷ []
+wanted_words RenewFlat = Keyword key.Renew ∷ Keyword key.Flat ∷ Value (Input feed.Flat) ∷ Value (Input feed.Certificate) ∷ Value Proof ∷ []
+wanted_words RenewPort = Keyword key.Renew ∷ Keyword key.Port ∷ Value (Input feed.Instance) ∷ Value (Input feed.Tides) ∷ Value (Input feed.Certificate) ∷ Value Proof ∷ []
+wanted_words CrewFlat = Keyword key.Crew ∷ Keyword key.Flat ∷ Value (Input feed.Flat) ∷ Value Order ∷ Value (Number counts.Budget) ∷ Value Proof ∷ []
+wanted_words CrewPort = Keyword key.Crew ∷ Keyword key.Port ∷ Value (Input feed.Instance) ∷ Value (Input feed.Tides) ∷ Value Order ∷ Value (Number counts.Budget) ∷ Value Proof ∷ []
+wanted_words RepairFlat = Keyword key.Repair ∷ Keyword key.Flat ∷ Value (Input feed.Flat) ∷ Value (Input feed.Plan) ∷ Value (Number counts.Budget) ∷ Value Proof ∷ []
+wanted_words RepairPort = Keyword key.Repair ∷ Keyword key.Port ∷ Value (Input feed.Instance) ∷ Value (Input feed.Tides) ∷ Value (Input feed.Plan) ∷ Value (Number counts.Budget) ∷ Value Proof ∷ []
+wanted_words ProveRepairFlat = Keyword key.Prove ∷ Keyword key.Repair ∷ Keyword key.Flat ∷ Value (Input feed.Flat) ∷ Value (Input feed.Plan) ∷ Value (Number counts.Budget) ∷ Value Proof ∷ []
+wanted_words ProveRepairPort = Keyword key.Prove ∷ Keyword key.Repair ∷ Keyword key.Port ∷ Value (Input feed.Instance) ∷ Value (Input feed.Tides) ∷ Value (Input feed.Plan) ∷ Value (Number counts.Budget) ∷ Value Proof ∷ []
+wanted_words ProveRepairFlatSeed = Keyword key.Prove ∷ Keyword key.Repair ∷ Keyword key.Flat ∷ Value (Input feed.Flat) ∷ Value (Input feed.Plan) ∷ Value (Number counts.Budget) ∷ Value Proof ∷ Value (Number counts.Seed) ∷ []
+wanted_words ProveRepairPortSeed = Keyword key.Prove ∷ Keyword key.Repair ∷ Keyword key.Port ∷ Value (Input feed.Instance) ∷ Value (Input feed.Tides) ∷ Value (Input feed.Plan) ∷ Value (Number counts.Budget) ∷ Value Proof ∷ Value (Number counts.Seed) ∷ []
+wanted_words CheckRepair = Keyword key.Check ∷ Keyword key.Repair ∷ Value (Input feed.Flat) ∷ Value (Input feed.Plan) ∷ Value (Input feed.Certificate) ∷ []
+wanted_words CheckRepairPort = Keyword key.Check ∷ Keyword key.Repair ∷ Keyword key.Port ∷ Value (Input feed.Instance) ∷ Value (Input feed.Tides) ∷ Value (Input feed.Plan) ∷ Value (Input feed.Certificate) ∷ []
+wanted_words VerifyRepairFlat = Keyword key.Verify ∷ Keyword key.Repair ∷ Keyword key.Flat ∷ Value (Input feed.Flat) ∷ Value (Input feed.Plan) ∷ Value (Input feed.Certificate) ∷ []
+wanted_words VerifyRepairPort = Keyword key.Verify ∷ Keyword key.Repair ∷ Keyword key.Port ∷ Value (Input feed.Instance) ∷ Value (Input feed.Tides) ∷ Value (Input feed.Plan) ∷ Value (Input feed.Certificate) ∷ []
+wanted_words ExplainRepairFlat = Keyword key.Explain ∷ Keyword key.Repair ∷ Keyword key.Flat ∷ Value (Input feed.Flat) ∷ Value (Input feed.Plan) ∷ Value (Input feed.Certificate) ∷ []
+wanted_words ExplainRepairPort = Keyword key.Explain ∷ Keyword key.Repair ∷ Keyword key.Port ∷ Value (Input feed.Instance) ∷ Value (Input feed.Tides) ∷ Value (Input feed.Plan) ∷ Value (Input feed.Certificate) ∷ []
+wanted_words ClashFlat = Keyword key.Clash ∷ Keyword key.Flat ∷ Value (Input feed.Flat) ∷ Value (Number counts.Budget) ∷ Value Proof ∷ []
+wanted_words ClashPort = Keyword key.Clash ∷ Keyword key.Port ∷ Value (Input feed.Instance) ∷ Value (Input feed.Tides) ∷ Value (Number counts.Budget) ∷ Value Proof ∷ []
+wanted_words ClashRepairFlat = Keyword key.Clash ∷ Keyword key.Repair ∷ Keyword key.Flat ∷ Value (Input feed.Flat) ∷ Value (Input feed.Plan) ∷ Value (Number counts.Budget) ∷ Value Proof ∷ []
+wanted_words ClashRepairPort = Keyword key.Clash ∷ Keyword key.Repair ∷ Keyword key.Port ∷ Value (Input feed.Instance) ∷ Value (Input feed.Tides) ∷ Value (Input feed.Plan) ∷ Value (Number counts.Budget) ∷ Value Proof ∷ []
+wanted_words CheckClash = Keyword key.Check ∷ Keyword key.Clash ∷ Value (Input feed.Flat) ∷ Value (Input feed.Plan) ∷ Value (Input feed.Certificate) ∷ []
+wanted_words CheckClashPort = Keyword key.Check ∷ Keyword key.Clash ∷ Keyword key.Port ∷ Value (Input feed.Instance) ∷ Value (Input feed.Tides) ∷ Value (Input feed.Plan) ∷ Value (Input feed.Certificate) ∷ []
+wanted_words CheckClashRepairFlat = Keyword key.Check ∷ Keyword key.Clash ∷ Keyword key.Repair ∷ Keyword key.Flat ∷ Value (Input feed.Flat) ∷ Value (Input feed.Plan) ∷ Value (Input feed.Clash) ∷ Value (Input feed.Certificate) ∷ []
+wanted_words CheckClashRepairPort = Keyword key.Check ∷ Keyword key.Clash ∷ Keyword key.Repair ∷ Keyword key.Port ∷ Value (Input feed.Instance) ∷ Value (Input feed.Tides) ∷ Value (Input feed.Plan) ∷ Value (Input feed.Clash) ∷ Value (Input feed.Certificate) ∷ []
+wanted_words ExplainPort = Keyword key.Explain ∷ Keyword key.Port ∷ Value (Input feed.Instance) ∷ Value (Input feed.Tides) ∷ []
+wanted_words WindowsPort = Keyword key.Windows ∷ Keyword key.Port ∷ Value (Input feed.Instance) ∷ Value (Input feed.Tides) ∷ []
+wanted_words Lint = Keyword key.Lint ∷ Value (Input feed.Instance) ∷ Value (Input feed.Tides) ∷ []
+wanted_words ModelFlat = Keyword key.Model ∷ Keyword key.Flat ∷ Value (Input feed.Flat) ∷ []
+wanted_words ModelPort = Keyword key.Model ∷ Keyword key.Port ∷ Value (Input feed.Instance) ∷ Value (Input feed.Tides) ∷ []
+wanted_words OpbFlat = Keyword key.Opb ∷ Keyword key.Flat ∷ Value (Input feed.Flat) ∷ []
+wanted_words OpbPort = Keyword key.Opb ∷ Keyword key.Port ∷ Value (Input feed.Instance) ∷ Value (Input feed.Tides) ∷ []
+wanted_words AuditPort = Keyword key.Audit ∷ Keyword key.Port ∷ Value (Input feed.Instance) ∷ Value (Input feed.Tides) ∷ Value (Input feed.Plan) ∷ Value (Input feed.Events) ∷ []
+wanted_words CarryPort = Keyword key.Carry ∷ Keyword key.Port ∷ Value (Input feed.Instance) ∷ Value (Input feed.Tides) ∷ Value (Input feed.Plan) ∷ Value (Input feed.Events) ∷ []
+wanted_words Flatten = Keyword key.Flatten ∷ Value (Input feed.Instance) ∷ Value (Input feed.Tides) ∷ []
+wanted_words Demo = Keyword key.Demo ∷ Value (Number counts.Demonstration) ∷ Value (Number counts.Ships) ∷ Value (Number counts.Slots) ∷ Value (Number counts.Budget) ∷ Value Proof ∷ []
 
 -- a name is any word that isn't empty, an order 1 to 64 letters of searchers, and a number one in plain decimal within its limits
 abbrev pub is_value : ValueOf → List ℕ → Bool
@@ -124,15 +124,15 @@ is_value Order word = is_some (order_read word)
 is_value (Number quantity) word = is_some (number_from_to (least_of quantity) (most_of quantity) word)
 
 -- a keyword is itself
-abbrev pub takes : Wanted → List ℕ → Bool
-takes (Keyword keyword) word = bytes_eq word (keyword_text keyword)
-takes (Value value) word = is_value value word
+abbrev pub takes_word : Wanted → List ℕ → Bool
+takes_word (Keyword keyword) word = bytes_eq word (keyword_text keyword)
+takes_word (Value value) word = is_value value word
 
 -- how many of the words, from the first on, are what is wanted
 abbrev pub agreed : List Wanted → List (List ℕ) → ℕ
 agreed [] words = 0
 agreed (wanted ∷ more) [] = 0
-agreed (wanted ∷ more) (word ∷ words) = if takes wanted word then agreed more words + 1 else 0
+agreed (wanted ∷ more) (word ∷ words) = if takes_word wanted word then agreed more words + 1 else 0
 
 -- the words are what is wanted, one for one
 abbrev pub fits : List Wanted → List (List ℕ) → Bool
@@ -141,20 +141,20 @@ fits wanted words = (length words == length wanted) && (agreed wanted words == l
 -- the first form that the words are of
 abbrev pub first_fitting : List Form → List (List ℕ) → Option Form
 first_fitting [] words = None
-first_fitting (form ∷ more) words = if fits (words_of form) words then Some form else first_fitting more words
+first_fitting (form ∷ more) words = if fits (wanted_words form) words then Some form else first_fitting more words
 
 -- how many of the words some form goes on with
 abbrev pub furthest : List Form → List (List ℕ) → ℕ
 furthest [] words = 0
-furthest (form ∷ more) words = max (agreed (words_of form) words) (furthest more words)
+furthest (form ∷ more) words = max (agreed (wanted_words form) words) (furthest more words)
 
 abbrev pub or_place : ℕ → Option Form → Result Form ℕ
 or_place place None = Err place
 or_place place (Some form) = Ok form
 
 -- the form that the words are of, or the first place at which no form goes on with all the words up to there. Places count from 1; a missing word has the place after the last, and an extra word its own
-abbrev pub form_of : List (List ℕ) → Result Form ℕ
-form_of words = or_place (furthest forms words + 1) (first_fitting forms words)
+abbrev pub form_of_words : List (List ℕ) → Result Form ℕ
+form_of_words words = or_place (furthest forms words + 1) (first_fitting forms words)
 
 -- ---- the values of a form
 
@@ -182,12 +182,12 @@ word_where value (Value other ∷ more) (word ∷ words) = if same_value other v
 
 -- a form's word for a value, or none where it asks for no such value
 abbrev pub word_in : Form → List (List ℕ) → ValueOf → Option (List ℕ)
-word_in form words value = word_where value (words_of form) words
+word_in form words value = word_where value (wanted_words form) words
 
 -- the name that it is, which is empty where the form asks for none
-abbrev pub name_in : Form → List (List ℕ) → ValueOf → List ℕ
-name_in form words value = unwrap_or (word_in form words value) []
+abbrev pub name_in_words : Form → List (List ℕ) → ValueOf → List ℕ
+name_in_words form words value = unwrap_or (word_in form words value) []
 
 -- the number that it is, or the least of its kind
-abbrev pub number_in : Form → List (List ℕ) → Quantity → ℕ
-number_in form words quantity = unwrap_or (number_from_to (least_of quantity) (most_of quantity) (name_in form words (Number quantity))) (least_of quantity)
+abbrev pub number_in_words : Form → List (List ℕ) → Quantity → ℕ
+number_in_words form words quantity = unwrap_or (number_from_to (least_of quantity) (most_of quantity) (name_in_words form words (Number quantity))) (least_of quantity)

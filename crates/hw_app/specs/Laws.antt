@@ -24,7 +24,7 @@ abbrev pub FaultCauses : Type 0
 FaultCauses = (words : List (List ℕ)) (old new : DeskState) (s : Status) → RunMeets words old new s → FaultsCaused old new s
 
 -- a certificate passes no limit and reads as lines, and these are valid and prove this
-pub record IsShown (f : Problem) (bytes : List ℕ) (v : Verdict) : Type 0 where
+pub record IsShownByCertificate (f : Problem) (bytes : List ℕ) (v : Verdict) : Type 0 where
   pub version : Version
   pub lines : List Line
   pub within : (cert_stream (shape_of f) bytes).stop ≡ overlong → ⊥
@@ -34,8 +34,8 @@ pub record IsShown (f : Problem) (bytes : List ℕ) (v : Verdict) : Type 0 where
 
 -- a check says yes exactly there
 pub record ShowsExactly (f : Problem) (bytes : List ℕ) (v : Verdict) : Type 0 where
-  pub shown : cert_outcome f bytes ≡ Shows v → IsShown f bytes v
-  pub shows : IsShown f bytes v → cert_outcome f bytes ≡ Shows v
+  pub shown : cert_outcome f bytes ≡ Shows v → IsShownByCertificate f bytes v
+  pub shows : IsShownByCertificate f bytes v → cert_outcome f bytes ≡ Shows v
 
 -- whatever the problem, the bytes and the verdict
 abbrev pub ShowsValid : Type 0

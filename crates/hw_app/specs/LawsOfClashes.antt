@@ -12,17 +12,17 @@ use Rattle.hw_clash.specs.Wished.{Wished, unplanned}
 use Rattle.hw_repair.specs.Wishes.{PlanParts}
 use Rattle.hw_report.specs.Reports.{clashed, clash_holds}
 use Rattle.hw_report.specs.Texts.{report_text}
-use Rattle.hw_command.specs.Values.{most_bytes, IsTextOf}
+use Rattle.hw_command.specs.Values.{most_bytes, IsProblemText}
 use Rattle.hw_subject.specs.Plans.{IsPlanText}
 use Rattle.hw_clash_command.specs.Asked.{asked_by, tugs_left}
 use Rattle.hw_clash_command.specs.Found.{IsClashTold}
-use Rattle.hw_clash_command.specs.Texts.{text_report, texts_report}
+use Rattle.hw_clash_command.specs.Texts.{clash_text_report, texts_clash_report}
 
 -- a clash that was found, of wishes too, as it is printed, and the text of its certificate: the report is that the clash holds, unless the certificate passes a limit
 pub record OwnClash : Type 0 where
   pub problem : (feed : Feed) (f : Wished) (kept : List ℕ) (drops : List (List ℕ)) (all : List Line) → IsFlat f.problem → IsClashTold f kept drops all → length (report_text (clashed kept drops)) ≤ most_bytes
-      → ((cert_stream (shape_of (part f kept)) (cert_text Two all)).stop ≡ overlong) ⊎ (text_report feed f (report_text (clashed kept drops)) (cert_text Two all) ≡ clash_holds)
-  pub flat : (f : Problem) (text kept : List ℕ) (drops : List (List ℕ)) (all : List Line) → IsFlat f → IsTextOf f text → IsClashTold (unplanned f) kept drops all → length (report_text (clashed kept drops)) ≤ most_bytes
-      → ((cert_stream (shape_of (part (unplanned f) kept)) (cert_text Two all)).stop ≡ overlong) ⊎ (texts_report text None (report_text (clashed kept drops)) (cert_text Two all) ≡ clash_holds)
-  pub repair : (f : Problem) (plan : PlanParts) (text moved kept : List ℕ) (drops : List (List ℕ)) (all : List Line) → IsFlat (tugs_left f (Some plan)) → IsTextOf f text → IsPlanText f (Ok plan) moved → IsClashTold (asked_by f (Some plan)) kept drops all → length (report_text (clashed kept drops)) ≤ most_bytes
-      → ((cert_stream (shape_of (part (asked_by f (Some plan)) kept)) (cert_text Two all)).stop ≡ overlong) ⊎ (texts_report text (Some moved) (report_text (clashed kept drops)) (cert_text Two all) ≡ clash_holds)
+      → ((cert_stream (shape_of (part f kept)) (cert_text Two all)).stop ≡ overlong) ⊎ (clash_text_report feed f (report_text (clashed kept drops)) (cert_text Two all) ≡ clash_holds)
+  pub flat : (f : Problem) (text kept : List ℕ) (drops : List (List ℕ)) (all : List Line) → IsFlat f → IsProblemText f text → IsClashTold (unplanned f) kept drops all → length (report_text (clashed kept drops)) ≤ most_bytes
+      → ((cert_stream (shape_of (part (unplanned f) kept)) (cert_text Two all)).stop ≡ overlong) ⊎ (texts_clash_report text None (report_text (clashed kept drops)) (cert_text Two all) ≡ clash_holds)
+  pub repair : (f : Problem) (plan : PlanParts) (text moved kept : List ℕ) (drops : List (List ℕ)) (all : List Line) → IsFlat (tugs_left f (Some plan)) → IsProblemText f text → IsPlanText f (Ok plan) moved → IsClashTold (asked_by f (Some plan)) kept drops all → length (report_text (clashed kept drops)) ≤ most_bytes
+      → ((cert_stream (shape_of (part (asked_by f (Some plan)) kept)) (cert_text Two all)).stop ≡ overlong) ⊎ (texts_clash_report text (Some moved) (report_text (clashed kept drops)) (cert_text Two all) ≡ clash_holds)

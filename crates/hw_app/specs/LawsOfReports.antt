@@ -71,11 +71,11 @@ pub record OneCertificateReport : Type 0 where
   pub verify : (bytes : Topic) (cert : List ℕ) → OneReport (CheckOf Three bytes cert)
 
 -- a picture, and what is reported where nothing is drawn
-abbrev pub OneChart : Type 0
-OneChart = (bytes : Topic) (cert : List ℕ) → OneReport (ChartOf bytes cert)
+abbrev pub OneReportOfChart : Type 0
+OneReportOfChart = (bytes : Topic) (cert : List ℕ) → OneReport (ChartOf bytes cert)
 
 -- of a clash and its certificate, and the words for a port's restrictions
-pub record OneClashReport : Type 0 where
+pub record OneReportOfClash : Type 0 where
   pub check : (bytes : Topic) (clash cert : List ℕ) → OneReport (ClashCheckOf bytes clash cert)
   pub explain : (instance tides : List ℕ) → OneReport (λ r. ExplainsTexts (Some instance) (Some tides) r)
 
@@ -86,7 +86,7 @@ OneFlatText = (instance tides : List ℕ) → OneReport (λ r. FlattensTexts (So
 -- ---- one command by another
 
 -- what is read of the inputs, and no permitted timetable carries more than the cargo for which the bound stands
-pub record IsBounded (s : Subject) (held : List ℕ → Option (List ℕ)) (names : Naming) (bound : ℕ) : Type 0 where
+pub record ReportedBoundHolds (s : Subject) (held : List ℕ → Option (List ℕ)) (names : Naming) (bound : ℕ) : Type 0 where
   pub value : s.Value
   pub reads : s.Reads held value
   pub naming : names ≡ s.naming value
@@ -96,16 +96,16 @@ pub record IsBounded (s : Subject) (held : List ℕ → Option (List ℕ)) (name
 
 -- the bound of a report, in the names in which it is printed
 abbrev pub PrintedBounds : Type 0
-PrintedBounds = (topic : Topic) (cert : List ℕ) (held : List ℕ → Option (List ℕ)) (shows : Verdict) (bound : ℕ) (ships : Option ℕ) (names : Naming) → Checks (topic_subject topic) Three cert held (checked shows (Some bound) ships names) → IsBounded (topic_subject topic) held names bound
+PrintedBounds = (topic : Topic) (cert : List ℕ) (held : List ℕ → Option (List ℕ)) (shows : Verdict) (bound : ℕ) (ships : Option ℕ) (names : Naming) → Checks (topic_subject topic) Three cert held (checked shows (Some bound) ships names) → ReportedBoundHolds (topic_subject topic) held names bound
 
 -- `verify` reports what `check` does, unless the certificate names the third version
 abbrev pub VerifiedAsChecked : Type 0
 VerifiedAsChecked = (bytes : Topic) (cert : List ℕ) (c r : Report) → CheckOf Two bytes cert c → CheckOf Three bytes cert r → NamesThird cert ⊎ (r ≡ c)
 
 -- `chart` draws what `verify` shows, and refuses what `verify` refuses
-abbrev pub ChartsAsVerified : Type 0
-ChartsAsVerified = (bytes : Topic) (cert : List ℕ) (c r : Report) → CheckOf Three bytes cert c → (h : ChartOf bytes cert r) → IsChartOf (topic_subject h.topic) h.held c r
+abbrev pub ChartsBytesAsVerified : Type 0
+ChartsBytesAsVerified = (bytes : Topic) (cert : List ℕ) (c r : Report) → CheckOf Three bytes cert c → (h : ChartOf bytes cert r) → IsChartOf (topic_subject h.topic) h.held c r
 
 -- the same by `check`, unless the certificate names the third version
-abbrev pub ChartsAsChecked : Type 0
-ChartsAsChecked = (bytes : Topic) (cert : List ℕ) (c r : Report) → CheckOf Two bytes cert c → (h : ChartOf bytes cert r) → NamesThird cert ⊎ IsChartOf (topic_subject h.topic) h.held c r
+abbrev pub ChartsBytesAsChecked : Type 0
+ChartsBytesAsChecked = (bytes : Topic) (cert : List ℕ) (c r : Report) → CheckOf Two bytes cert c → (h : ChartOf bytes cert r) → NamesThird cert ⊎ IsChartOf (topic_subject h.topic) h.held c r

@@ -12,7 +12,7 @@ use Rattle.hw_report.specs.declared.report.Head.{Head}
 use Rattle.hw_repair.specs.Wishes.{PlanParts}
 use Rattle.hw_command.specs.declared.status.Status.{Status}
 use Rattle.hw_command.specs.declared.status.Status.TheVariants as status
-use Rattle.hw_subject.specs.Meanings.{judged, repaired_problem, ships_of}
+use Rattle.hw_subject.specs.Meanings.{judged, repaired_problem, repair_ships}
 use Rattle.hw_subject.specs.Subjects.{Topic, topic_subject}
 use Rattle.hw_search_command.specs.Certified.{head_verdict, own_bound, searched_head}
 use Rattle.hw_search_command.specs.Searchers.{searcher_of}
@@ -50,7 +50,7 @@ verdict_with f head table = head_verdict head (option_and_then (cargo f) table)
 pub record IsShownAs (f : Problem) (plan : Option PlanParts) (head : Head) (names : Naming) (table : Option (List ℕ)) (bound : Option ℕ) (r : Report) : Type 0 where
   pub last : Option ℕ
   pub stands : own_bound plan f.ships last ≡ bound
-  pub report : r ≡ checked (verdict_with (repaired_problem f plan) (searched_head plan f.ships table head) table) last (ships_of f plan) names
+  pub report : r ≡ checked (verdict_with (repaired_problem f plan) (searched_head plan f.ships table head) table) last (repair_ships f plan) names
 
 -- the certificate that a search wrote, checked up to its version over the same inputs, shows what the search reported, unless it passes a limit
 abbrev pub OwnReport : Type 0

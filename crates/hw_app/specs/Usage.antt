@@ -2,7 +2,7 @@
 use Rattle.std.specs.Prelude.{ℕ, List, [], ◌∷◌, ◌++◌, codes}
 use Rattle.hw_desk.specs.declared.desk.Feed.{Feed}
 use Rattle.hw_desk.specs.declared.desk.Feed.TheVariants as feeds
-use Rattle.hw_app.specs.Forms.{keyword_text, words_of}
+use Rattle.hw_app.specs.Forms.{keyword_text, wanted_words}
 use Rattle.hw_app.specs.declared.form.Form.{Form}
 use Rattle.hw_app.specs.declared.form.Quantity.{Quantity}
 use Rattle.hw_app.specs.declared.form.Quantity.TheVariants as counts
@@ -27,16 +27,16 @@ quantity_text counts.Slots = codes "SLOTS"
 quantity_text counts.Budget = codes "BUDGET"
 quantity_text counts.Seed = codes "SEED"
 
-abbrev pub value_text : ValueOf → List ℕ
-value_text (Input feed) = input_text feed
-value_text Proof = codes "PROOF"
-value_text Order = codes "ORDER"
-value_text (Number quantity) = quantity_text quantity
+abbrev pub usage_value_text : ValueOf → List ℕ
+usage_value_text (Input feed) = input_text feed
+usage_value_text Proof = codes "PROOF"
+usage_value_text Order = codes "ORDER"
+usage_value_text (Number quantity) = quantity_text quantity
 
 -- a keyword itself, and a name in capitals for each value
 abbrev pub wanted_text : Wanted → List ℕ
 wanted_text (Keyword keyword) = keyword_text keyword
-wanted_text (Value value) = value_text value
+wanted_text (Value value) = usage_value_text value
 
 -- with a space between two
 abbrev pub words_text : List Wanted → List ℕ
@@ -44,5 +44,5 @@ words_text [] = []
 words_text (last ∷ []) = wanted_text last
 words_text (word ∷ next ∷ more) = wanted_text word ++ codes " " ++ words_text (next ∷ more)
 
-abbrev pub usage : Form → List ℕ
-usage form = words_text (words_of form)
+abbrev pub usage_text : Form → List ℕ
+usage_text form = words_text (wanted_words form)

@@ -1,7 +1,7 @@
 //! The table of forms of a command.
 
 ghost use Rattle.std.specs.Prelude.{◌≡◌};
-ghost use Rattle.hw_app.specs.Forms.{keyword_text, least_of, most_of, words_of};
+ghost use Rattle.hw_app.specs.Forms.{keyword_text, least_of, most_of, wanted_words};
 
 use hw_desk::Feed;
 use hw_model::{MOST_SHIPS, MOST_SLOTS};
@@ -311,7 +311,7 @@ const SEED: Wanted = Wanted::Value(Value::Number(Quantity::Seed));
 
 /// What the words of a form have to be.
 pub fn words_of(form: Form) -> &'static [Wanted]
-    ensures { result.now ≡ words_of form }
+    ensures { result.now ≡ wanted_words form }
 {
     match form {
         Form::SolveFlat => &[SOLVE, FLAT, NAME, BUDGET, PROOF],

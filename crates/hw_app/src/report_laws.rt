@@ -1,6 +1,6 @@
 //! The laws of reports, whatever the names of the inputs and the desk: functions without a body.
 
-ghost use Rattle.hw_app.specs.LawsOfReports.{ChartsAsChecked, ChartsAsVerified, OneCertificateReport, OneChart, OneClashReport, OneFlatText, PrintedBounds, VerifiedAsChecked};
+ghost use Rattle.hw_app.specs.LawsOfReports.{ChartsBytesAsChecked, ChartsBytesAsVerified, OneCertificateReport, OneReportOfChart, OneReportOfClash, OneFlatText, PrintedBounds, VerifiedAsChecked};
 
 /// The bytes of a subject's inputs and of a certificate decide the report of `check` and of `renew`,
 /// and it is the same one; and that of `verify`.
@@ -10,13 +10,13 @@ pub fn one_certificate_report()
 
 /// The bytes of the inputs and of a certificate decide the report of `chart`.
 pub fn one_chart()
-    ensures { OneChart }
+    ensures { OneReportOfChart }
 {}
 
 /// The bytes of the inputs, of a clash and of a certificate decide the report of `check clash`, and
 /// those of a port the report of `explain port`.
 pub fn one_clash_report()
-    ensures { OneClashReport }
+    ensures { OneReportOfClash }
 {}
 
 /// The bytes of a port's files decide the report of `flatten`.
@@ -37,11 +37,11 @@ pub fn verified_as_checked()
 /// `chart` draws exactly where `verify` shows something, with the same verdict and the same bound, and
 /// otherwise says the same.
 pub fn charts_as_verified()
-    ensures { ChartsAsVerified }
+    ensures { ChartsBytesAsVerified }
 {}
 
 /// `chart` draws exactly where `check` shows something, with the same verdict, and otherwise says the
 /// same, unless the certificate is of the third version.
 pub fn charts_as_checked()
-    ensures { ChartsAsChecked }
+    ensures { ChartsBytesAsChecked }
 {}

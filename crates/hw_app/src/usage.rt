@@ -2,14 +2,14 @@
 
 ghost use Rattle.std.specs.Prelude.{◌≡◌};
 ghost use Rattle.hw_desk.specs.Writers.{Puts};
-ghost use Rattle.hw_app.specs.Usage.{input_text, quantity_text, usage, value_text, wanted_text, words_text};
+ghost use Rattle.hw_app.specs.Usage.{input_text, quantity_text, usage_text, usage_value_text, wanted_text, words_text};
 
 use crate::form::{Form, Quantity, Value, Wanted, keyword_text, words_of};
 use hw_desk::{Feed, Writer};
 
 /// Puts the words of a form: its keywords, and a name in capitals for each other word.
 pub fn put_usage<W: Writer>(out: &mut W, form: Form)
-    ensures { Puts (usage form) (W.state out.old) (W.state out.new) }
+    ensures { Puts (usage_text form) (W.state out.old) (W.state out.new) }
 {
     put_words(out, words_of(form));
 }
@@ -39,7 +39,7 @@ fn wanted_text(wanted: Wanted) -> &'static str
 }
 
 fn value_text(value: Value) -> &'static str
-    ensures { result.now ≡ value_text value }
+    ensures { result.now ≡ usage_value_text value }
 {
     match value {
         Value::Input(feed) => input_text(feed),

@@ -5,7 +5,7 @@ ghost use Rattle.hw_search_command.specs.Orders.{order_in};
 ghost use Rattle.hw_subject.specs.Subjects.{origin_seen, plan_seen, topic_seen};
 ghost use Rattle.hw_search_command.specs.Demo.{CanDraw};
 ghost use Rattle.hw_app.specs.Commands.{KeepsLimits, command_by, command_in, command_of, command_seen, origin_in, read_seen, search_in, topic_in};
-ghost use Rattle.hw_app.specs.Forms.{agreed, first_fitting, form_of, furthest, is_value, least_of, most_of, name_in, number_in, takes, word_in, word_where};
+ghost use Rattle.hw_app.specs.Forms.{agreed, first_fitting, form_of_words, furthest, is_value, least_of, most_of, name_in_words, number_in_words, takes_word, word_in, word_where};
 
 use crate::command::Command;
 use crate::form::{
@@ -23,7 +23,7 @@ use hw_text::read_small;
 
 /// Whether a word is what is wanted.
 fn takes(wanted: Wanted, word: &str) -> bool
-    ensures { result ≡ takes wanted word.now }
+    ensures { result ≡ takes_word wanted word.now }
 {
     match wanted {
         Wanted::Keyword(keyword) => word == keyword_text(keyword),
@@ -94,7 +94,7 @@ fn furthest(forms: &[Form], words: &[String]) -> usize
 
 /// The form that the words are of, or the place of the first bad word.
 fn read_form(words: &[String]) -> Result<Form, u64>
-    ensures { result ≡ form_of (map string_bytes words.now) }
+    ensures { result ≡ form_of_words (map string_bytes words.now) }
 {
     match find_fitting(&FORMS, words) {
         Some(form) => Ok(form),
@@ -250,7 +250,7 @@ fn word_in(form: Form, words: &[String], value: Value) -> Option<&str>
 
 /// The name that it is, which is empty where the form asks for none.
 fn name_in(form: Form, words: &[String], value: Value) -> &str
-    ensures { result.now ≡ name_in form (map string_bytes words.now) value }
+    ensures { result.now ≡ name_in_words form (map string_bytes words.now) value }
 {
     match word_in(form, words, value) {
         Some(name) => name,
@@ -260,15 +260,15 @@ fn name_in(form: Form, words: &[String], value: Value) -> &str
 
 /// The name of an input.
 fn input_in(form: Form, words: &[String], feed: Feed) -> &str
-    ensures { result.now ≡ name_in form (map string_bytes words.now) (Value.Input feed) }
+    ensures { result.now ≡ name_in_words form (map string_bytes words.now) (Value.Input feed) }
 {
     name_in(form, words, Value::Input(feed))
 }
 
 /// The names of a port's inputs.
 fn port_in(form: Form, words: &[String]) -> PortNames<'_>
-    ensures instance { result.instance.now ≡ name_in form (map string_bytes words.now) (Value.Input Feed.Instance) }
-    ensures tides { result.tides.now ≡ name_in form (map string_bytes words.now) (Value.Input Feed.Tides) }
+    ensures instance { result.instance.now ≡ name_in_words form (map string_bytes words.now) (Value.Input Feed.Instance) }
+    ensures tides { result.tides.now ≡ name_in_words form (map string_bytes words.now) (Value.Input Feed.Tides) }
 {
     PortNames {
         instance: input_in(form, words, Feed::Instance),
@@ -300,7 +300,7 @@ fn subject_in(form: Form, words: &[String]) -> Subject<'_>
 
 /// The order of a crew. It is one searcher with Greatest where the form asks for none.
 fn order_in(form: Form, words: &[String]) -> Order
-    ensures { result ≡ order_in (name_in form (map string_bytes words.now) Value.Order) }
+    ensures { result ≡ order_in (name_in_words form (map string_bytes words.now) Value.Order) }
 {
     match Order::read(name_in(form, words, Value::Order)) {
         Some(order) => order,
@@ -310,7 +310,7 @@ fn order_in(form: Form, words: &[String]) -> Order
 
 /// The number of this kind, and the least one where the form asks for none.
 fn number_in(form: Form, words: &[String], quantity: Quantity) -> u32
-    ensures number { result ≡ number_in form (map string_bytes words.now) quantity }
+    ensures number { result ≡ number_in_words form (map string_bytes words.now) quantity }
     ensures least { least_of quantity ≤ result }
     ensures most { result ≤ most_of quantity }
 {
@@ -324,9 +324,9 @@ fn number_in(form: Form, words: &[String], quantity: Quantity) -> u32
 
 /// The numbers of a demonstration.
 fn draw_in(form: Form, words: &[String]) -> Draw
-    ensures number { result.number ≡ number_in form (map string_bytes words.now) Quantity.Demonstration }
-    ensures ships { result.ships ≡ number_in form (map string_bytes words.now) Quantity.Ships }
-    ensures slots { result.slots ≡ number_in form (map string_bytes words.now) Quantity.Slots }
+    ensures number { result.number ≡ number_in_words form (map string_bytes words.now) Quantity.Demonstration }
+    ensures ships { result.ships ≡ number_in_words form (map string_bytes words.now) Quantity.Ships }
+    ensures slots { result.slots ≡ number_in_words form (map string_bytes words.now) Quantity.Slots }
     ensures size { CanDraw result.ships result.slots }
 {
     Draw {

@@ -12,7 +12,7 @@ use Rattle.hw_port_rules.specs.Timetables.{IsPortTimetable}
 use Rattle.hw_audit.specs.Laws.{SameTimetables}
 use Rattle.hw_audit.specs.Watching.{watched, IsWatched}
 
-slot_in : (b : Bool) (horizon slot : ℕ) → (slot < horizon) ⊎ ((slot ≡ horizon) × IsTrue b) → slot < cond b (horizon + 1) horizon
+pub slot_in : (b : Bool) (horizon slot : ℕ) → (slot < horizon) ⊎ ((slot ≡ horizon) × IsTrue b) → slot < cond b (horizon + 1) horizon
 slot_in true horizon slot h = elim h [
   | inl lt ↦ omega (arith, lt)
   | inr last ↦ omega (arith, last.0)
@@ -28,7 +28,7 @@ of_port p h table is = record {
   each_slot = All-weaker (λ slot. (slot < horizon_of p) ⊎ ((slot ≡ horizon_of p) × IsTrue (some_may_stay p))) (λ slot. slot < (flattened p h).slots) (slot_in (some_may_stay p) (horizon_of p)) table is.each_slot;
 }
 
-slot_of : (b : Bool) (horizon slot : ℕ) → slot < cond b (horizon + 1) horizon → (slot < horizon) ⊎ ((slot ≡ horizon) × IsTrue b)
+pub slot_of : (b : Bool) (horizon slot : ℕ) → slot < cond b (horizon + 1) horizon → (slot < horizon) ⊎ ((slot ≡ horizon) × IsTrue b)
 slot_of true horizon slot lt = elim (cases_lt slot horizon) [
   | inl below ↦ inl below
   | inr past ↦

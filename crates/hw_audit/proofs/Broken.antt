@@ -6,9 +6,9 @@ use Rattle.std.proofs.lemmas.List.Elements.{All-contains, All-filter, All-from_g
 use Rattle.std.proofs.lemmas.List.FromFn.{length-range_with_len, get_or-range_with_len}
 use Rattle.std.proofs.lemmas.List.Kept.{IsStrictlyIncreasing-filter}
 use Rattle.std.specs.List.{range_with_len}
+use Rattle.hw_lemmas.proofs.Lists.{range_ascends}
 use Rattle.hw_derived.specs.Fleets.{lessened_rule, lessened}
 use Rattle.hw_derived.proofs.Fleets.{lessened_fits as fleet_fits, same_problem}
-use Rattle.hw_derived.proofs.Grids.{increasing_range}
 use Rattle.hw_laws.proofs.Broken.{permits_from, from_permits}
 use Rattle.hw_model.specs.Timetables.{Permits, restriction_holds, restriction_count}
 use Rattle.hw_audit.specs.Watching.{watched, is_broken}
@@ -53,7 +53,7 @@ pub broken_exactly : BrokenExactly
 broken_exactly f s =
     let test = is_broken f s in
     let all = range_with_len 0 (restriction_count f) in (
-      IsStrictlyIncreasing-filter test all (increasing_range 0 (restriction_count f)),
+      IsStrictlyIncreasing-filter test all (range_ascends 0 (restriction_count f)),
       λ n. (
         λ has. (
           All-contains (λ k. k < restriction_count f) (filter test all) n (All-filter test (λ k. k < restriction_count f) all (range_below (restriction_count f))) has,

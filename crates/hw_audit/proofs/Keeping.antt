@@ -5,7 +5,7 @@ use Rattle.std.proofs.lemmas.Option.{same_Some, slice_get-get_or}
 use Rattle.std.proofs.lemmas.List.{get_or_past}
 use Rattle.std.proofs.lemmas.List.FromFn.{fill_by_all}
 use Rattle.std.specs.List.{list_all, range_with_len}
-use Rattle.hw_derived.proofs.Places.{has_get}
+use Rattle.hw_lemmas.proofs.Lists.{has_get}
 use Rattle.hw_model.specs.declared.rule.Job.{Job}
 use Rattle.hw_model.specs.declared.rule.Rule.{Rule}
 use Rattle.hw_model.specs.declared.rule.Rule.TheVariants.{Pair, After, Tugs}
@@ -14,7 +14,7 @@ use Rattle.hw_model.specs.Rules.{held_by, pair_holds}
 use Rattle.hw_model.specs.Timetables.{restriction_holds, holds_at}
 use Rattle.hw_audit.specs.declared.marks.Concern.TheVariants.{Ship, Fleet}
 use Rattle.hw_derived.specs.Fleets.{lessened, lessened_rule}
-use Rattle.hw_audit.specs.Keeping.{TugsComeLast, jobs_of, last_jobs, AreHeld, holds_now, decided, concerns, AreMarks, AreOtherMarks, kept_holds}
+use Rattle.hw_audit.specs.Keeping.{TugsComeLast, jobs_of_tug_rule, last_jobs, AreHeld, holds_now, decided_by_held_tugs, concerns, AreMarks, AreOtherMarks, kept_holds}
 
 -- ---- each rule decided
 
@@ -26,9 +26,9 @@ all_mapped test g (x ∷ xs) = ap (λ (b : Bool). test (g x) && b) (all_mapped t
 own_jobs : (rules : List Rule) (place fleet : ℕ) (jobs : List Job) → TugsComeLast rules → slice_get rules place ≡ Some (Tugs fleet jobs) → last_jobs rules ≡ jobs
 own_jobs rules place fleet jobs last e =
     let at : length rules - 1 ≡ place = omega (arith, last place fleet jobs e) in
-    ap (λ n. jobs_of (slice_get rules n)) at ∙ ap jobs_of e
+    ap (λ n. jobs_of_tug_rule (slice_get rules n)) at ∙ ap jobs_of_tug_rule e
 
-pub kept_decides : (f : Problem) (table held : List ℕ) (withdrawn place : ℕ) (rule : Rule) → TugsComeLast f.rules → AreHeld f table held → slice_get f.rules place ≡ Some rule → decided f table held withdrawn rule ≡ holds_now f table withdrawn rule
+pub kept_decides : (f : Problem) (table held : List ℕ) (withdrawn place : ℕ) (rule : Rule) → TugsComeLast f.rules → AreHeld f table held → slice_get f.rules place ≡ Some rule → decided_by_held_tugs f table held withdrawn rule ≡ holds_now f table withdrawn rule
 kept_decides f table held withdrawn place (Pair v w holes) last are e = refl
 kept_decides f table held withdrawn place (After v w gap) last are e = refl
 kept_decides f table held withdrawn place (Tugs fleet jobs) last are e =

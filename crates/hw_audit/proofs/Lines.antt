@@ -1,16 +1,17 @@
 -- Reading events one after the other, as a loop does.
 use Rattle.std.proofs.Common.{◌≡◌, ◌==◌, ℕ, ◌+◌, true, false, List, [], ◌∷◌, ◌++◌, length, Some, None, Result, Ok, Err, codes, bytes_eq, refl, sym, ap, ◌∙◌, append_assoc, arith}
 use Rattle.std.proofs.lemmas.List.{append-nil, length_push}
+use Rattle.hw_lemmas.specs.Operators.{◌>>=◌}
 use Rattle.hw_text.specs.Parts.{parts_of, first_part}
 use Rattle.hw_text.proofs.Splits.{has_part}
 use Rattle.hw_audit.specs.declared.fault.AuditWord.{AuditWord}
 use Rattle.hw_audit.specs.declared.event.PortEvent.{PortEvent}
 use Rattle.hw_audit.specs.declared.fault.AuditWord.TheVariants as words
-use Rattle.hw_derived.specs.Reading.{Fault, fault, ◌>>=◌}
+use Rattle.hw_derived.specs.Reading.{MalformedLine, malformed_line}
 use Rattle.hw_audit.specs.Text.{event_form, event_before, events_at}
 
 abbrev Read : Type 0
-Read = Result (List PortEvent × List (List ℕ)) (Fault AuditWord)
+Read = Result (List PortEvent × List (List ℕ)) (MalformedLine AuditWord)
 
 -- what was read before, and what is still read
 abbrev pub behind : List PortEvent → Read → Read
@@ -48,16 +49,16 @@ events_ended front number parts line rest total cut end so_far =
     let one : behind front (events_at number parts) ≡ Ok (front ++ [], parts_of 10 rest) = rw (cut_is parts line rest cut, r.2, sym end) refl in
     sym so_far ∙ one ∙ ap (λ (es : List PortEvent). Ok (es, parts_of 10 rest)) (append-nil front)
 
-pub events_cut_off : (front : List PortEvent) (number : ℕ) (parts : List (List ℕ)) (total : Read) → first_part parts ≡ None → behind front (events_at number parts) ≡ total → total ≡ fault number words.Form
+pub events_cut_off : (front : List PortEvent) (number : ℕ) (parts : List (List ℕ)) (total : Read) → first_part parts ≡ None → behind front (events_at number parts) ≡ total → total ≡ malformed_line number words.Form
 unfolding events_at
 events_cut_off front number [] total none so_far = sym so_far
 events_cut_off front number (x ∷ []) total none so_far = sym so_far
 events_cut_off front number (x ∷ y ∷ parts) total none so_far = absurd cc
 
 pub events_fail : (front : List PortEvent) (number : ℕ) (parts : List (List ℕ)) (line rest : List ℕ) (total : Read) → Cut parts line rest → bytes_eq line (codes "end") ≡ false → event_form line ≡ None
-    → behind front (events_at number parts) ≡ total → total ≡ fault number words.Form
+    → behind front (events_at number parts) ≡ total → total ≡ malformed_line number words.Form
 events_fail front number parts line rest total cut other bad so_far =
-    let one : behind front (events_at number parts) ≡ fault number words.Form = rw (events_step number parts line rest cut other, bad) refl in
+    let one : behind front (events_at number parts) ≡ malformed_line number words.Form = rw (events_step number parts line rest cut other, bad) refl in
     sym so_far ∙ one
 
 pub events_go_on : (front more : List PortEvent) (event : PortEvent) (first : ℕ) (parts : List (List ℕ)) (line rest : List ℕ) (total : Read) → Cut parts line rest → bytes_eq line (codes "end") ≡ false → event_form line ≡ Some event

@@ -1,12 +1,8 @@
 -- The broken restrictions listed one after the other, as a loop does.
 use Rattle.std.proofs.Common.{◌≡◌, ℕ, zero, suc, ◌+◌, ◌<◌, Bool, true, false, cond, List, [], ◌∷◌, ◌++◌, take, set, filter, length, sym, ap, ◌∙◌, arith}
 use Rattle.std.proofs.lemmas.List.{append-nil}
-use Rattle.std.proofs.lemmas.List.Elements.{filter-append}
 use Rattle.std.specs.List.{range_with_len}
-use Rattle.hw_derived.proofs.Grids.{numbers_more}
-
-one_more : (test : ℕ → Bool) (n : ℕ) → filter test (range_with_len 0 (n + 1)) ≡ filter test (range_with_len 0 n) ++ cond (test n) (n ∷ []) []
-one_more test n = ap (filter test) (numbers_more n) ∙ filter-append test (range_with_len 0 n) (n ∷ [])
+use Rattle.hw_lemmas.proofs.Lists.{filter_range}
 
 set_next : (out : List ℕ) (many n : ℕ) → many < length out → take (many + 1) (set out many n) ≡ take many out ++ n ∷ []
 set_next [] many n lt = absurd (omega (arith, lt))
@@ -19,8 +15,8 @@ pub listed : (test : ℕ → Bool) (n many : ℕ) (out : List ℕ) → many < le
 listed test n many out lt fails so_far =
     set_next out many n lt
     ∙ (ap (λ (xs : List ℕ). xs ++ n ∷ []) so_far
-    ∙ sym (one_more test n ∙ ap (λ (b : Bool). filter test (range_with_len 0 n) ++ cond b (n ∷ []) []) fails))
+    ∙ sym (filter_range test n ∙ ap (λ (b : Bool). filter test (range_with_len 0 n) ++ cond b (n ∷ []) []) fails))
 
 pub passed : (test : ℕ → Bool) (n many : ℕ) (out : List ℕ) → test n ≡ false → take many out ≡ filter test (range_with_len 0 n) → take many out ≡ filter test (range_with_len 0 (n + 1))
 passed test n many out holds so_far =
-    so_far ∙ sym (one_more test n ∙ (ap (λ (b : Bool). filter test (range_with_len 0 n) ++ cond b (n ∷ []) []) holds ∙ append-nil (filter test (range_with_len 0 n))))
+    so_far ∙ sym (filter_range test n ∙ (ap (λ (b : Bool). filter test (range_with_len 0 n) ++ cond b (n ∷ []) []) holds ∙ append-nil (filter test (range_with_len 0 n))))

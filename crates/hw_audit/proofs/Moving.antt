@@ -5,14 +5,15 @@ use Rattle.std.proofs.lemmas.List.{take_all}
 use Rattle.std.proofs.lemmas.List.Elements.{All-nil, All-get_or, All-weaker}
 use Rattle.std.proofs.lemmas.List.Sums.{sum_by-cons, sum_by-le, sum_by-le-sum_by, sum_by_more, sum_by_more_le, sum_by-take-le}
 use Rattle.std.proofs.lemmas.Option.{get_or_from_slice_get}
-use Rattle.hw_derived.proofs.Places.{get_within}
+use Rattle.hw_lemmas.proofs.Truths.{cond_most}
+use Rattle.hw_lemmas.proofs.Lists.{get_within}
 use Rattle.hw_model.specs.declared.rule.Job.{Job}
 use Rattle.hw_model.specs.declared.rule.Rule.{Rule}
 use Rattle.hw_model.specs.declared.rule.Rule.TheVariants.{Pair, After, Tugs}
 use Rattle.hw_model.specs.Problem.{Problem}
 use Rattle.hw_model.specs.Limits.{IsFlat, RuleFits, JobFits}
 use Rattle.hw_model.specs.Rules.{held_by}
-use Rattle.hw_audit.specs.Keeping.{jobs_of, last_jobs, held_from, held_at}
+use Rattle.hw_audit.specs.Keeping.{jobs_of_tug_rule, last_jobs, held_from, held_at}
 
 -- ---- where a ship has another slot, the tugs held change by its own job's
 
@@ -49,10 +50,6 @@ tugs_moved table (job ∷ jobs) ship new slot lt =
 
 -- ---- how many tugs are held
 
-cond_most : (b : Bool) (n : ℕ) → cond b n 0 ≤ n
-cond_most true n = omega arith
-cond_most false n = omega arith
-
 -- a ship's job is one of the jobs
 pub own_held : (table : List ℕ) (ship slot : ℕ) (job : Job) → held_at ship (get_or table ship 0) slot job ≤ held_by table slot job
 own_held table ship slot job = elim (cases_Bool (job.ship == ship)) [
@@ -83,7 +80,7 @@ own_most ship at slot ships jobs fit = sum_by-le (held_at ship at slot) 64 jobs 
 
 -- ---- the jobs of the last rule
 
-jobs_fit : (ships : ℕ) (o : Option Rule) → IfSome o (RuleFits ships) → (length (jobs_of o) ≤ 40) × All (JobFits ships) (jobs_of o)
+jobs_fit : (ships : ℕ) (o : Option Rule) → IfSome o (RuleFits ships) → (length (jobs_of_tug_rule o) ≤ 40) × All (JobFits ships) (jobs_of_tug_rule o)
 jobs_fit ships None fits = (omega arith, All-nil (JobFits ships))
 jobs_fit ships (Some (Pair v w holes)) fits = (omega arith, All-nil (JobFits ships))
 jobs_fit ships (Some (After v w gap)) fits = (omega arith, All-nil (JobFits ships))

@@ -51,13 +51,13 @@ lessened_rules withdrawn fleet pairs berths after jobs p b a =
 
 -- ---- the problem
 
-with_rules : Problem → List Rule → Problem
-with_rules f rules = record { ships = f.ships; slots = f.slots; stay = f.stay; values = f.values; rules = rules }
+-- a problem with other rules
+abbrev under_rules : Problem → List Rule → Problem
+under_rules f rules = record { ships = f.ships; slots = f.slots; stay = f.stay; values = f.values; rules = rules }
 
 pub lessened_port : (p : Parts) (h : TideParts) (withdrawn : ℕ) → lessened withdrawn (flattened p h) ≡ flattened (fewer_tugs withdrawn p) h
-unfolding with_rules
 lessened_port p h withdrawn =
-    ap (with_rules (flattened p h))
+    ap (under_rules (flattened p h))
     (lessened_rules withdrawn (whole p.fleet) (pairs_from p 0 p.ships) (map berth_rule p.berths) (map after_rule p.after) (jobs_from p 0 p.ships) (all_pairs p 0 p.ships) (all_berths p.berths) (all_after p.after))
 
 -- ---- the port is still one

@@ -7,7 +7,7 @@ use Rattle.hw_laws.proofs.Horizon.{horizon_le as horizon_within}
 use Rattle.hw_audit.specs.declared.event.PortEvent.TheVariants.{Sailed, Delayed, Withdrawn, Back}
 use Rattle.hw_audit.specs.declared.fault.AuditWord.{AuditWord}
 use Rattle.hw_audit.specs.declared.fault.AuditWord.TheVariants as words
-use Rattle.hw_audit.specs.Watching.{has_sailed, refused, after, refused_or, first_refused}
+use Rattle.hw_audit.specs.Watching.{has_sailed, refused_event, watched_after, refused_or, first_refused}
 use Rattle.hw_audit.specs.Laws.{TakenKeeps, AllTakenKeep}
 
 -- ---- a ship's event that isn't refused
@@ -60,12 +60,12 @@ taken f fleet s (Back count) is none = record { listed = is.listed; each_ship = 
 
 -- ---- lists of events
 
-none_of_two : (place : ℕ) (o : Option AuditWord) (later : Option (ℕ × AuditWord)) → refused_or place o later ≡ None → (o ≡ None) × (later ≡ None)
+pub none_of_two : (place : ℕ) (o : Option AuditWord) (later : Option (ℕ × AuditWord)) → refused_or place o later ≡ None → (o ≡ None) × (later ≡ None)
 none_of_two place None later e = (refl, e)
 none_of_two place (Some word) later e = absurd cc
 
 pub all_taken : AllTakenKeep
 all_taken f fleet place s [] is none = is
 all_taken f fleet place s (event ∷ events) is none =
-    let two = none_of_two place (refused f fleet s event) (first_refused f fleet (place + 1) (after s event) events) none in
-    all_taken f fleet (place + 1) (after s event) events (taken f fleet s event is two.0) two.1
+    let two = none_of_two place (refused_event f fleet s event) (first_refused f fleet (place + 1) (watched_after s event) events) none in
+    all_taken f fleet (place + 1) (watched_after s event) events (taken f fleet s event is two.0) two.1

@@ -10,8 +10,8 @@ use Rattle.hw_port_rules.specs.Flattened.{flattened}
 use Rattle.hw_port_rules.specs.Numbers.{whole}
 use Rattle.hw_audit.specs.declared.event.PortEvent.{PortEvent}
 use Rattle.hw_audit.specs.declared.fault.AuditWord.{AuditWord}
-use Rattle.hw_audit.specs.Keeping.{IsKept, kept_holds}
-use Rattle.hw_audit.specs.Watching.{Watched, watched, IsWatched, refused, after}
+use Rattle.hw_audit.specs.Keeping.{AuditIsKept, kept_holds}
+use Rattle.hw_audit.specs.Watching.{Watched, watched, IsWatched, refused_event, watched_after}
 
 pub record Audited : Type 0 where
   pub problem : Problem
@@ -28,8 +28,8 @@ in_state a s = record { problem = a.problem; fleet = a.fleet; state = s }
 
 -- an event is taken, and changes the state; or it is refused by its first reason, and nothing changes
 abbrev pub Applies : PortEvent → Audited → Audited → Result Unit AuditWord → Type 0
-Applies event old new (Ok done) = (refused old.problem old.fleet old.state event ≡ None) × (new ≡ in_state old (after old.state event))
-Applies event old new (Err word) = (refused old.problem old.fleet old.state event ≡ Some word) × (new ≡ old)
+Applies event old new (Ok done) = (refused_event old.problem old.fleet old.state event ≡ None) × (new ≡ in_state old (watched_after old.state event))
+Applies event old new (Err word) = (refused_event old.problem old.fleet old.state event ≡ Some word) × (new ≡ old)
 
 -- ---- parts of a change
 
@@ -57,5 +57,5 @@ pub record IsAudit (f : Problem) (fleet : ℕ) (s : Watched) (holds : List Bool)
   pub limits : IsFlat f
   pub watched : IsWatched f fleet s
   pub few : fleet ≤ 1_000
-  pub kept : IsKept f s holds held
+  pub kept : AuditIsKept f s holds held
   pub listed : AreListed f s.table holds many broken

@@ -27,8 +27,8 @@ arrival = record {
 }
 
 -- it passes the bar a slot after it sails, and doesn't sail in slot 3
-abbrev pub loaded : ShipParts
-loaded = record {
+abbrev pub loaded_ship : ShipParts
+loaded_ship = record {
   name = codes "Grace out";
   direction = codes "outgoing";
   class = pos 0;
@@ -59,7 +59,7 @@ call = record {
   separation = (pos 1 ∷ []) ∷ [];
   turnaround = record { outgoing = pos 0; incoming = pos 0 };
   fleet = pos 0;
-  ships = arrival ∷ loaded ∷ [];
+  ships = arrival ∷ loaded_ship ∷ [];
   berths = [];
   after = record { first = pos 0; second = pos 1; gap = pos 2 } ∷ [];
 }
@@ -68,17 +68,17 @@ abbrev pub tides : TideParts
 tides = record { rows = 6; columns = 1; heights = pos 300 ∷ pos 280 ∷ pos 260 ∷ pos 240 ∷ pos 260 ∷ pos 290 ∷ [] }
 
 -- the ship comes in in slot 0 and sails in slot 2; what is broken after these delays
-abbrev pub broken_after : List PortEvent → List ℕ
-broken_after events = broken_now (flattened call tides) (after_all (watched (0 ∷ 2 ∷ [])) events)
+abbrev pub broken_after_delays : List PortEvent → List ℕ
+broken_after_delays events = broken_now (flattened call tides) (after_all (watched (0 ∷ 2 ∷ [])) events)
 
 -- restrictions 0 and 1 are the windows, 2 is the ship after the other one
 pub record CallRows : Type 0 where
-  pub as_planned : broken_after [] ≡ []
-  pub ship_closed : broken_after (Delayed 1 1 ∷ []) ≡ 1 ∷ []
-  pub bar_closed : broken_after (Delayed 1 2 ∷ []) ≡ 1 ∷ []
-  pub port_closed_and_late : broken_after (Delayed 0 1 ∷ []) ≡ 0 ∷ 2 ∷ []
-  pub late : broken_after (Delayed 0 2 ∷ []) ≡ 2 ∷ []
+  pub as_planned : broken_after_delays [] ≡ []
+  pub ship_closed : broken_after_delays (Delayed 1 1 ∷ []) ≡ 1 ∷ []
+  pub bar_closed : broken_after_delays (Delayed 1 2 ∷ []) ≡ 1 ∷ []
+  pub port_closed_and_late : broken_after_delays (Delayed 0 1 ∷ []) ≡ 0 ∷ 2 ∷ []
+  pub late : broken_after_delays (Delayed 0 2 ∷ []) ≡ 2 ∷ []
   -- the second ship is two slots late too: it keeps its distance, but the bar is closed when it passes
-  pub both_late : broken_after (Delayed 0 2 ∷ Delayed 1 2 ∷ []) ≡ 1 ∷ []
+  pub both_late : broken_after_delays (Delayed 0 2 ∷ Delayed 1 2 ∷ []) ≡ 1 ∷ []
   -- no event is refused for a closed slot
   pub taken : first_refused (flattened call tides) 0 2 (watched (0 ∷ 2 ∷ [])) (Delayed 0 1 ∷ Delayed 1 1 ∷ []) ≡ None

@@ -18,15 +18,15 @@ abbrev pub TugsComeLast : List Rule → Type 0
 TugsComeLast rules = (place fleet : ℕ) (jobs : List Job) → slice_get rules place ≡ Some (Tugs fleet jobs) → place + 1 ≡ length rules
 
 -- the jobs of a rule on tugs
-abbrev pub jobs_of : Option Rule → List Job
-jobs_of None = []
-jobs_of (Some (Pair v w holes)) = []
-jobs_of (Some (After v w gap)) = []
-jobs_of (Some (Tugs fleet jobs)) = jobs
+abbrev pub jobs_of_tug_rule : Option Rule → List Job
+jobs_of_tug_rule None = []
+jobs_of_tug_rule (Some (Pair v w holes)) = []
+jobs_of_tug_rule (Some (After v w gap)) = []
+jobs_of_tug_rule (Some (Tugs fleet jobs)) = jobs
 
 -- the jobs of the last rule, where that is on tugs
 abbrev pub last_jobs : List Rule → List Job
-last_jobs rules = jobs_of (slice_get rules (length rules - 1))
+last_jobs rules = jobs_of_tug_rule (slice_get rules (length rules - 1))
 
 -- the tugs that a job holds in a slot if its ship sails in slot `at`
 abbrev pub held_from : ℕ → ℕ → Job → ℕ
@@ -48,10 +48,10 @@ abbrev pub holds_now : Problem → List ℕ → ℕ → Rule → Bool
 holds_now f table withdrawn rule = rule_holds (lessened withdrawn f) table (lessened_rule withdrawn rule)
 
 -- the same by the tugs held in each slot, where the rule is on tugs
-abbrev pub decided : Problem → List ℕ → List ℕ → ℕ → Rule → Bool
-decided f table held withdrawn (Pair v w holes) = rule_holds f table (Pair v w holes)
-decided f table held withdrawn (After v w gap) = rule_holds f table (After v w gap)
-decided f table held withdrawn (Tugs fleet jobs) = list_all (λ tugs. nat_le tugs (fleet - withdrawn)) held
+abbrev pub decided_by_held_tugs : Problem → List ℕ → List ℕ → ℕ → Rule → Bool
+decided_by_held_tugs f table held withdrawn (Pair v w holes) = rule_holds f table (Pair v w holes)
+decided_by_held_tugs f table held withdrawn (After v w gap) = rule_holds f table (After v w gap)
+decided_by_held_tugs f table held withdrawn (Tugs fleet jobs) = list_all (λ tugs. nat_le tugs (fleet - withdrawn)) held
 
 -- which rules to test again: all at first; after a ship moved, its own and those on tugs; after the fleet changed, those on tugs
 abbrev pub concerns : Concern → Rule → Bool
@@ -80,7 +80,7 @@ abbrev pub kept_holds : Problem → List ℕ → List Bool → ℕ → Bool
 kept_holds f table holds n = if nat_lt n f.ships then is_some (value_at f n (slice_index table n)) else slice_index_or holds (n - f.ships) true
 
 -- of each rule whether it holds with the tugs that are left, and of each sailing slot the tugs held
-pub record IsKept (f : Problem) (s : Watched) (holds : List Bool) (held : List ℕ) : Type 0 where
+pub record AuditIsKept (f : Problem) (s : Watched) (holds : List Bool) (held : List ℕ) : Type 0 where
   pub tugs_last : TugsComeLast f.rules
   pub marks : AreMarks f s.table s.withdrawn holds
   pub tugs : AreHeld f s.table held

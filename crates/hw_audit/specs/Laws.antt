@@ -13,11 +13,11 @@ use Rattle.hw_port_rules.specs.Numbers.{whole}
 use Rattle.hw_port_rules.specs.Permitted.{PortPermits}
 use Rattle.hw_port_rules.specs.Timetables.{IsPortTimetable}
 use Rattle.hw_audit.specs.declared.event.PortEvent.{PortEvent}
-use Rattle.hw_audit.specs.Watching.{Watched, watched, IsWatched, refused, after, after_all, first_refused, broken_now}
+use Rattle.hw_audit.specs.Watching.{Watched, watched, IsWatched, refused_event, watched_after, after_all, first_refused, broken_now}
 
 -- a state keeps its limits through an event that is taken
 abbrev pub TakenKeeps : Type 0
-TakenKeeps = (f : Problem) (fleet : ℕ) (s : Watched) (event : PortEvent) → IsWatched f fleet s → refused f fleet s event ≡ None → IsWatched f fleet (after s event)
+TakenKeeps = (f : Problem) (fleet : ℕ) (s : Watched) (event : PortEvent) → IsWatched f fleet s → refused_event f fleet s event ≡ None → IsWatched f fleet (watched_after s event)
 
 -- the same of a list of events that are all taken
 abbrev pub AllTakenKeep : Type 0

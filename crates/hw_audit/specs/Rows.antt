@@ -6,7 +6,7 @@ use Rattle.hw_audit.specs.declared.event.PortEvent.{PortEvent}
 use Rattle.hw_audit.specs.declared.event.PortEvent.TheVariants.{Sailed, Delayed, Withdrawn, Back}
 use Rattle.hw_audit.specs.declared.fault.AuditWord.TheVariants as words
 use Rattle.hw_audit.specs.Watching.{watched, after_all, first_refused, broken_now}
-use Rattle.hw_audit.specs.Text.{table_text, events_text}
+use Rattle.hw_audit.specs.Text.{timetable_of_text, events_text}
 
 -- a ship with a value in the first of two slots; it holds two of four tugs for three slots
 abbrev pub lone_ship : Problem
@@ -35,10 +35,10 @@ pub record WatchRows : Type 0 where
   pub sailed_before_range : first_refused lone_ship 4 2 (watched (0 ∷ [])) (Sailed 0 0 ∷ Sailed 0 9 ∷ []) ≡ Some (3, words.Sailed)
 
 -- what texts say
-pub record TextRows : Type 0 where
-  pub a_table : table_text (record { ships = 1; slots = 2; rules = 1 }) (codes "table 1\nt 0\n") ≡ Ok (0 ∷ [])
-  pub no_such_slot : table_text (record { ships = 1; slots = 2; rules = 1 }) (codes "table 1\nt 2\n") ≡ Err (record { number = 2; word = words.Table })
-  pub byte_after_table : table_text (record { ships = 1; slots = 2; rules = 1 }) (codes "table 1\nt 0\n\n") ≡ Err (record { number = 3; word = words.Tail })
+pub record AuditTextRows : Type 0 where
+  pub a_table : timetable_of_text (record { ships = 1; slots = 2; rules = 1 }) (codes "table 1\nt 0\n") ≡ Ok (0 ∷ [])
+  pub no_such_slot : timetable_of_text (record { ships = 1; slots = 2; rules = 1 }) (codes "table 1\nt 2\n") ≡ Err (record { number = 2; word = words.Table })
+  pub byte_after_table : timetable_of_text (record { ships = 1; slots = 2; rules = 1 }) (codes "table 1\nt 0\n\n") ≡ Err (record { number = 3; word = words.Tail })
   pub events : events_text (codes "events 1\nw 3\nd 0 1\nb 2\nend\n") ≡ Ok three_events
   pub no_events : events_text (codes "events 1\nend\n") ≡ Ok []
   pub no_byte : events_text [] ≡ Err (record { number = 1; word = words.Header })

@@ -42,24 +42,24 @@ refused_ship f s ship delayed slot =
     else None
 
 -- why an event is refused: for its ship; or it withdraws more tugs than are left, or brings back more than are withdrawn
-abbrev pub refused : Problem → ℕ → Watched → PortEvent → Option AuditWord
-refused f fleet s (Sailed ship slot) = refused_ship f s ship false slot
-refused f fleet s (Delayed ship count) = refused_ship f s ship true (slice_index s.table ship + count)
-refused f fleet s (Withdrawn count) = if nat_lt (fleet - s.withdrawn) count then Some words.Fleet else None
-refused f fleet s (Back count) = if nat_lt s.withdrawn count then Some words.Fleet else None
+abbrev pub refused_event : Problem → ℕ → Watched → PortEvent → Option AuditWord
+refused_event f fleet s (Sailed ship slot) = refused_ship f s ship false slot
+refused_event f fleet s (Delayed ship count) = refused_ship f s ship true (slice_index s.table ship + count)
+refused_event f fleet s (Withdrawn count) = if nat_lt (fleet - s.withdrawn) count then Some words.Fleet else None
+refused_event f fleet s (Back count) = if nat_lt s.withdrawn count then Some words.Fleet else None
 
 -- ---- what events change
 
 -- the state after an event: the ship has the slot, and has sailed; the ship's slot is `count` slots later; `count` tugs more or fewer are withdrawn
-abbrev pub after : Watched → PortEvent → Watched
-after s (Sailed ship slot) = record { table = slice_set s.table ship slot; sailed = slice_set s.sailed ship true; withdrawn = s.withdrawn }
-after s (Delayed ship count) = record { table = slice_set s.table ship (slice_index s.table ship + count); sailed = s.sailed; withdrawn = s.withdrawn }
-after s (Withdrawn count) = record { table = s.table; sailed = s.sailed; withdrawn = s.withdrawn + count }
-after s (Back count) = record { table = s.table; sailed = s.sailed; withdrawn = s.withdrawn - count }
+abbrev pub watched_after : Watched → PortEvent → Watched
+watched_after s (Sailed ship slot) = record { table = slice_set s.table ship slot; sailed = slice_set s.sailed ship true; withdrawn = s.withdrawn }
+watched_after s (Delayed ship count) = record { table = slice_set s.table ship (slice_index s.table ship + count); sailed = s.sailed; withdrawn = s.withdrawn }
+watched_after s (Withdrawn count) = record { table = s.table; sailed = s.sailed; withdrawn = s.withdrawn + count }
+watched_after s (Back count) = record { table = s.table; sailed = s.sailed; withdrawn = s.withdrawn - count }
 
 -- the state after these events
 abbrev pub after_all : Watched → List PortEvent → Watched
-after_all s events = fold after s events
+after_all s events = fold watched_after s events
 
 -- the first of two refusals: that of the event at a place, or a later one
 abbrev pub refused_or : ℕ → Option AuditWord → Option (ℕ × AuditWord) → Option (ℕ × AuditWord)
@@ -69,7 +69,7 @@ refused_or place (Some word) later = Some (place, word)
 -- the place and the word of the first event that is refused, where the first event has this place; none where all are taken
 abbrev pub first_refused : Problem → ℕ → ℕ → Watched → List PortEvent → Option (ℕ × AuditWord)
 first_refused f fleet place s [] = None
-first_refused f fleet place s (event ∷ events) = refused_or place (refused f fleet s event) (first_refused f fleet (place + 1) (after s event) events)
+first_refused f fleet place s (event ∷ events) = refused_or place (refused_event f fleet s event) (first_refused f fleet (place + 1) (watched_after s event) events)
 
 -- ---- what is broken
 

@@ -3,12 +3,12 @@ use Rattle.std.specs.Prelude.{ℕ, List, codes}
 use Rattle.hw_audit.specs.declared.fault.AuditWord.{AuditWord}
 use Rattle.hw_audit.specs.declared.fault.AuditWord.TheVariants.{Header, Table, Form, Range, Sailed, Stays, Fleet, Tail}
 
-abbrev pub word_text : AuditWord → List ℕ
-word_text Header = codes "header"
-word_text Table = codes "table"
-word_text Form = codes "form"
-word_text Range = codes "range"
-word_text Sailed = codes "sailed"
-word_text Stays = codes "stays"
-word_text Fleet = codes "fleet"
-word_text Tail = codes "tail"
+abbrev pub audit_word_text : AuditWord → List ℕ
+audit_word_text Header = codes "header"
+audit_word_text Table = codes "table"
+audit_word_text Form = codes "form"
+audit_word_text Range = codes "range"
+audit_word_text Sailed = codes "sailed"
+audit_word_text Stays = codes "stays"
+audit_word_text Fleet = codes "fleet"
+audit_word_text Tail = codes "tail"

@@ -2,7 +2,7 @@
 
 ghost use Rattle.std.specs.Prelude.{◌≡◌, ◌+◌, length, slice_index};
 ghost use Rattle.hw_audit.specs.Audits.{state_of};
-ghost use Rattle.hw_audit.specs.Watching.{IsWatched, refused_ship, refused};
+ghost use Rattle.hw_audit.specs.Watching.{IsWatched, refused_ship, refused_event};
 
 use crate::event::PortEvent;
 use crate::fault::AuditWord;
@@ -57,7 +57,7 @@ pub(crate) fn refused(
     event: PortEvent,
 ) -> Option<AuditWord>
     requires watched { IsWatched flat.now fleet (state_of table.now sailed.now withdrawn) }
-    ensures { result ≡ refused flat.now fleet (state_of table.now sailed.now withdrawn) event }
+    ensures { result ≡ refused_event flat.now fleet (state_of table.now sailed.now withdrawn) event }
 {
     match event {
         PortEvent::Sailed { ship, slot } => {

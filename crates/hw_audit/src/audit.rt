@@ -5,7 +5,7 @@ ghost use Rattle.hw_model.specs.Problem.{horizon};
 ghost use Rattle.hw_port_rules.specs.Numbers.{whole};
 ghost use Rattle.hw_port_rules.specs.Timetables.{IsPortTimetable};
 ghost use Rattle.hw_audit.specs.Audits.{Applies, audited, in_state, with_slot, with_withdrawn};
-ghost use Rattle.hw_audit.specs.Watching.{refused, after, broken_now};
+ghost use Rattle.hw_audit.specs.Watching.{refused_event, watched_after, broken_now};
 
 use crate::applying::refused;
 use crate::event::PortEvent;
@@ -15,7 +15,7 @@ use crate::marks::{Concern, mend_marks};
 use crate::tugs::{first_held, move_job};
 use hw_draft::flatten;
 use hw_flat::{Flat, Timetable};
-use hw_model::{NoMemory, ShipId, Slot};
+use hw_model::{MOST_FLEET, NoMemory, ShipId, Slot};
 use hw_port::Port;
 use hw_tide::Tide;
 use std::alloc::Global;
@@ -55,7 +55,7 @@ impl Model for Audit {
 /// The number of tugs of a port.
 fn fleet_of(port: &Port) -> u32
     ensures value { result ≡ whole port.now.fleet }
-    ensures few { result ≤ 1_000 }
+    ensures few { result ≤ MOST_FLEET }
 {
     port.parts().fleet.unsigned_abs() as u32
 }
@@ -119,8 +119,8 @@ impl Audit {
 
     /// Changes the state by an event that isn't refused.
     fn take(&mut self, event: PortEvent)
-        requires taken { refused self.old.problem self.old.fleet self.old.state event ≡ None }
-        ensures { self.new ≡ in_state self.old (after self.old.state event) }
+        requires taken { refused_event self.old.problem self.old.fleet self.old.state event ≡ None }
+        ensures { self.new ≡ in_state self.old (watched_after self.old.state event) }
     {
         match event {
             PortEvent::Sailed { ship, slot } => {

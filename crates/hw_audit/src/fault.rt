@@ -1,7 +1,7 @@
 //! Why a text holds no timetable or no events, and why an event is refused.
 
 ghost use Rattle.std.specs.Prelude.{◌≡◌, codes};
-ghost use Rattle.hw_audit.specs.Words.{word_text};
+ghost use Rattle.hw_audit.specs.Words.{audit_word_text};
 
 use hw_derived::LineFault;
 
@@ -29,7 +29,7 @@ pub enum AuditWord {
 impl AuditWord {
     /// The word as it is printed. It takes no memory.
     pub fn text(self) -> &'static [u8]
-        ensures { result.now ≡ word_text self }
+        ensures { result.now ≡ audit_word_text self }
     {
         match self {
             AuditWord::Header => b"header",

@@ -2,7 +2,7 @@
 
 ghost use Rattle.std.specs.Prelude.{◌≡◌, ◌<◌, ◌≤◌, IfOk, IfSome, All, length, option_map};
 ghost use Rattle.hw_model.specs.Limits.{ShapeFits};
-ghost use Rattle.hw_audit.specs.Text.{table_form, any_number, count_form, sailed_words, delayed_words, withdrawn_words, back_words, event_form};
+ghost use Rattle.hw_audit.specs.Text.{timetable_form, any_number, count_form, sailed_words, delayed_words, withdrawn_event_words, back_words, event_form};
 
 use crate::event::PortEvent;
 use hw_derived::slots_of;
@@ -13,7 +13,7 @@ use std::alloc::{AllocError, Global};
 /// The slots of a line `t SLOT ..`.
 pub fn table_of(alloc: Global, line: &[u8], shape: Shape) -> Result<Option<Vec<Slot>>, AllocError>
     requires fits { ShapeFits shape }
-    ensures form { IfOk result (λ o. option_map (λ v. v.items) o ≡ table_form shape line.now) }
+    ensures form { IfOk result (λ o. option_map (λ v. v.items) o ≡ timetable_form shape line.now) }
     ensures many { IfOk result (λ o. IfSome o (λ v. length v.items ≡ shape.ships)) }
     ensures below { IfOk result (λ o. IfSome o (λ v. All (λ slot. slot < shape.slots) v.items)) }
 {
@@ -64,7 +64,7 @@ fn delayed_of(mut words: Words<'_>) -> Option<PortEvent>
 
 /// Tugs that are withdrawn: `COUNT`.
 fn withdrawn_of(mut words: Words<'_>) -> Option<PortEvent>
-    ensures { result ≡ withdrawn_words words.entry }
+    ensures { result ≡ withdrawn_event_words words.entry }
 {
     let count = words.word()?;
     words.end()?;

@@ -2,7 +2,7 @@
 
 ghost use Rattle.hw_audit.specs.Calls.{CallRows};
 ghost use Rattle.hw_audit.specs.Laws.{TakenKeeps, AllTakenKeep, LessenedFits, BrokenExactly, NoneBroken, NoneBrokenFirst, NonePortBroken, NonePortBrokenAfter, SameTimetables};
-ghost use Rattle.hw_audit.specs.Rows.{WatchRows, TextRows};
+ghost use Rattle.hw_audit.specs.Rows.{WatchRows, AuditTextRows};
 
 /// A state keeps its limits through an event that is taken.
 pub fn taken_keeps()
@@ -58,7 +58,7 @@ pub fn watch_rows()
 
 /// Worked rows: what texts of timetables and of events say.
 pub fn text_rows()
-    ensures { TextRows }
+    ensures { AuditTextRows }
 {}
 
 /// Worked rows: what is broken where ships are delayed into closed slots, or after other ships.

@@ -4,7 +4,7 @@ ghost use Rattle.std.specs.Prelude.{◌≡◌, nat_le};
 ghost use Rattle.std.specs.List.{list_all};
 ghost use Rattle.hw_model.specs.Limits.{RuleFits};
 ghost use Rattle.hw_model.specs.Problem.{IsTimetable};
-ghost use Rattle.hw_audit.specs.Keeping.{AreHeld, AreMarks, AreOtherMarks, TugsComeLast, concerns, decided};
+ghost use Rattle.hw_audit.specs.Keeping.{AreHeld, AreMarks, AreOtherMarks, TugsComeLast, concerns, decided_by_held_tugs};
 
 use hw_flat::Flat;
 use hw_model::{Rule, ShipId, Slot};
@@ -45,7 +45,7 @@ fn enough(held: &[u64], tugs: u32) -> bool
 fn decided(flat: &Flat, table: &[Slot], held: &[u64], withdrawn: u32, rule: &Rule) -> bool
     requires listed { IsTimetable flat.now table.now }
     requires rule_fits { RuleFits flat.now.ships rule.now }
-    ensures value { result ≡ decided flat.now table.now held.now withdrawn rule.now }
+    ensures value { result ≡ decided_by_held_tugs flat.now table.now held.now withdrawn rule.now }
 {
     match rule {
         Rule::Pair { v, w, .. } => allowed_pair(flat, rule, table[*v as usize], table[*w as usize]),

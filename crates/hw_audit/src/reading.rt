@@ -3,8 +3,8 @@
 ghost use Rattle.std.specs.Prelude.{◌≡◌, ◌<◌, ◌≤◌, ◌+◌, IfOk, All, length};
 ghost use Rattle.hw_text.specs.Parts.{parts_of};
 ghost use Rattle.hw_model.specs.Limits.{ShapeFits};
-ghost use Rattle.hw_derived.specs.Reading.{Gives};
-ghost use Rattle.hw_audit.specs.Text.{table_of, table_text, events_at, events_of, events_text};
+ghost use Rattle.hw_derived.specs.Reading.{TextReadGives};
+ghost use Rattle.hw_audit.specs.Text.{timetable_of_lines, timetable_of_text, events_at, events_of, events_text};
 
 use crate::event::{Events, PortEvent};
 use crate::fault::{AuditWord, TextFault};
@@ -19,10 +19,10 @@ use std::alloc::Global;
 ///
 /// Otherwise it names the first line that isn't what stands there in such a text, and what that
 /// would be. Lines are numbered from 1. Where the bytes end too early, the missing line is named.
-#[tactic(auto, unfolding(crate::specs::Text::table_of))]
+#[tactic(auto, unfolding(crate::specs::Text::timetable_of_lines))]
 pub fn read_table(alloc: Global, bytes: &[u8], shape: Shape) -> Result<Timetable, TextFault>
     requires fits { ShapeFits shape }
-    ensures reads { Gives (λ table. table) result (table_text shape bytes.now) }
+    ensures reads { TextReadGives (λ table. table) result (timetable_of_text shape bytes.now) }
     ensures each_ship { IfOk result (λ table. length table ≡ shape.ships) }
     ensures each_slot { IfOk result (λ table. All (λ slot. slot < shape.slots) table) }
 {
@@ -46,7 +46,7 @@ pub fn read_table(alloc: Global, bytes: &[u8], shape: Shape) -> Result<Timetable
 
 /// The events up to the line `end`, and the bytes after that line.
 fn events_of(alloc: Global, bytes: &[u8]) -> Result<(Vec<PortEvent>, &[u8]), TextFault>
-    ensures { Gives (λ x. (x.0.items, parts_of 10 x.1.now)) result (events_at 2 (parts_of 10 bytes.now)) }
+    ensures { TextReadGives (λ x. (x.0.items, parts_of 10 x.1.now)) result (events_at 2 (parts_of 10 bytes.now)) }
 {
     let mut events = Vec::new(alloc);
     let mut rest = bytes;
@@ -76,7 +76,7 @@ fn events_of(alloc: Global, bytes: &[u8]) -> Result<(Vec<PortEvent>, &[u8]), Tex
 /// early, the missing line is named. It tests forms alone: `Audit::apply` refuses what doesn't fit.
 #[tactic(auto, unfolding(crate::specs::Text::events_of))]
 pub fn read_events(alloc: Global, bytes: &[u8]) -> Result<Events, TextFault>
-    ensures reads { Gives (λ events. events) result (events_text bytes.now) }
+    ensures reads { TextReadGives (λ events. events) result (events_text bytes.now) }
 {
     let rest = only(bytes, 1, AuditWord::Header, b"events 1")?;
     let (items, rest) = events_of(alloc, rest)?;

@@ -6,7 +6,7 @@ use Rattle.hw_report.specs.Reports.{Report, bad_text, too_long, whole_text}
 use Rattle.hw_audit.specs.Audits.{Audited, in_state}
 use Rattle.hw_audit.specs.Watching.{after_all}
 use Rattle.hw_repair.specs.Written.{written_plan}
-use Rattle.hw_carry.specs.Carried.{carried}
+use Rattle.hw_carry.specs.Carried.{carried_plan}
 use Rattle.hw_carry.proofs.Meeting.{keeps_the_day}
 use Rattle.hw_command.specs.Carries.{Carries}
 use Rattle.hw_command.specs.Ends.{Ends}
@@ -29,10 +29,10 @@ tells instance tides plan events r h = by_fault instance tides (CarryTells insta
 pub no_plan : {x y z : DeskState} {r : Report} {s : Status} (instance tides plan events : List ℕ) → StopsAtDay instance tides plan events x y r → Ends (r ∷ []) y z s → Carries (carry_port_task instance tides plan events) x z s
 no_plan {x = x} {r = r} instance tides plan events h ends = stops_carries (carry_port_task instance tides plan events) [] h refl (λ feed given. given) (tells (x.held instance) (x.held tides) (x.held plan) (x.held events) r) ends
 
-pub plan_ends : {instance tides plan events : List ℕ} {x y z : DeskState} {day : Day} {s : Status} (now : Audited) → ReadsDay instance tides plan events x y day → now ≡ in_state day.audit (after_all day.audit.state day.happened) → Ends (whole_text (written_plan (carried day.table now.state)) ∷ []) y z s
+pub plan_ends : {instance tides plan events : List ℕ} {x y z : DeskState} {day : Day} {s : Status} (now : Audited) → ReadsDay instance tides plan events x y day → now ≡ in_state day.audit (after_all day.audit.state day.happened) → Ends (whole_text (written_plan (carried_plan day.table now.state)) ∷ []) y z s
     → Carries (carry_port_task instance tides plan events) x z s
 plan_ends {y = y} {day = day} now read is ends =
-    let text = written_plan (carried day.table now.state) in
+    let text = written_plan (carried_plan day.table now.state) in
     record {
       mid = y;
       reports = whole_text text ∷ [];
@@ -46,7 +46,7 @@ plan_ends {y = y} {day = day} now read is ends =
         happened = day.happened;
         told = read.told;
         taken = read.taken;
-        is_text = ap (λ (a : Audited). written_plan (carried day.table a.state)) is ∙ ap (λ (a : Audited). written_plan (carried day.table (after_all a.state day.happened))) read.audit;
+        is_text = ap (λ (a : Audited). written_plan (carried_plan day.table a.state)) is ∙ ap (λ (a : Audited). written_plan (carried_plan day.table (after_all a.state day.happened))) read.audit;
         means = λ other. keeps_the_day read.port read.tide 2 day.table day.happened other read.reads.kept read.planned.listed read.taken;
       };
       ends = ends;

@@ -11,20 +11,20 @@ use Rattle.hw_port_rules.specs.Numbers.{whole}
 use Rattle.hw_report.specs.Reports.{Report, bad_text, no_memory}
 use Rattle.hw_audit.specs.Audits.{audited}
 use Rattle.hw_audit.specs.Watching.{watched, first_refused}
-use Rattle.hw_audit.specs.Words.{word_text}
+use Rattle.hw_audit.specs.Words.{audit_word_text}
 use Rattle.hw_audit.specs.declared.event.PortEvent.{PortEvent}
 use Rattle.hw_audit.specs.declared.fault.AuditWord.{AuditWord}
 use Rattle.hw_command.specs.PortInputs.{StopsAtPort}
-use Rattle.hw_command.specs.Scope.{named}
+use Rattle.hw_command.specs.Scope.{named_feed}
 use Rattle.hw_command.specs.Values.{PortGives}
-use Rattle.hw_command.specs.Works.{Stops}
+use Rattle.hw_command.specs.Works.{StopsReading}
 use Rattle.hw_command.proofs.Begun.{refuses, wants_memory}
 use Rattle.hw_command.proofs.PortForms.{by_fault}
 use Rattle.hw_command.proofs.Stops.{further}
 use Rattle.hw_audit_command.specs.Days.{ReadsDay, StopsAtDay, day_inputs}
 use Rattle.hw_audit_command.specs.Reading.{report_of_text}
 use Rattle.hw_audit_command.specs.Refusals.{by_event, NoDay}
-use Rattle.hw_audit_command.specs.Trying.{Tries}
+use Rattle.hw_audit_command.specs.Trying.{TriesEvents}
 use Rattle.hw_audit_command.specs.Values.{AuditGives}
 use Rattle.hw_audit_command.specs.declared.day.Day.{Day}
 use Rattle.hw_audit_command.specs.declared.reading.TextStop.{TextStop}
@@ -40,15 +40,15 @@ port_gives instance tides plan held feed given = absurd given
 
 pub port_stops : {x y : DeskState} {r : Report} (instance tides plan events : List ℕ) → StopsAtPort instance tides x y r → StopsAtDay instance tides plan events x y r
 port_stops {x = x} {r = r} instance tides plan events h = record {
-  works = further (day_inputs instance tides plan events) (named Plan plan ∷ named Events events ∷ []) None refl (port_gives instance tides plan x.held) h.early h.works;
+  works = further (day_inputs instance tides plan events) (named_feed Plan plan ∷ named_feed Events events ∷ []) None refl (port_gives instance tides plan x.held) h.early h.works;
   early = h.early;
   why = λ own. by_fault (x.held instance) (x.held tides) (NoDay (x.held instance) (x.held tides) (x.held plan) (x.held events)) r (λ bad. bad) (λ fault bad. bad) (λ fault bad. bad) (λ bad. bad) (λ bad. bad) (h.why own);
 }
 
 pub table_stops : {x y : DeskState} {r : Report} (instance tides plan events : List ℕ)
-    → Stops (named Instance instance ∷ named Tides tides ∷ named Plan plan ∷ []) (AuditGives instance tides plan x.held) (NoDay (x.held instance) (x.held tides) (x.held plan) (x.held events)) x y r → StopsAtDay instance tides plan events x y r
+    → StopsReading (named_feed Instance instance ∷ named_feed Tides tides ∷ named_feed Plan plan ∷ []) (AuditGives instance tides plan x.held) (NoDay (x.held instance) (x.held tides) (x.held plan) (x.held events)) x y r → StopsAtDay instance tides plan events x y r
 table_stops instance tides plan events h = record {
-  works = further (day_inputs instance tides plan events) (named Events events ∷ []) None refl (λ feed given. given) h.early h.works;
+  works = further (day_inputs instance tides plan events) (named_feed Events events ∷ []) None refl (λ feed given. given) h.early h.works;
   early = h.early;
   why = h.why;
 }
@@ -56,9 +56,9 @@ table_stops instance tides plan events h = record {
 -- ---- an event is refused, or memory ran out
 
 event_stops : {instance tides plan events : List ℕ} {x y : DeskState} {p : Parts} {h : TideParts} {table : List ℕ} {happened : List PortEvent} (number : ℕ) (word : AuditWord) → AllRead instance tides plan events x y p h table happened
-    → first_refused (flattened p h) (whole p.fleet) 2 (watched table) happened ≡ Some (number, word) → StopsAtDay instance tides plan events x y (bad_text Events number (word_text word))
+    → first_refused (flattened p h) (whole p.fleet) 2 (watched table) happened ≡ Some (number, word) → StopsAtDay instance tides plan events x y (bad_text Events number (audit_word_text word))
 event_stops {instance = instance} {tides = tides} {plan = plan} {events = events} {p = p} {h = h} {table = table} {happened = happened} number word read refusal = record {
-  works = refuses None (named Instance instance ∷ named Tides tides ∷ named Plan plan ∷ []) (named Events events) [] (bad_text Events number (word_text word)) refl refl read.entered read.give read.read_faults;
+  works = refuses None (named_feed Instance instance ∷ named_feed Tides tides ∷ named_feed Plan plan ∷ []) (named_feed Events events) [] (bad_text Events number (audit_word_text word)) refl refl read.entered read.give read.read_faults;
   early = λ e. absurd (cc);
   why = λ own. record {
     port = p;
@@ -79,7 +79,7 @@ memory_stops {instance = instance} {tides = tides} {plan = plan} {events = event
   why = λ own. absurd (cc);
 }
 
-pub trial_stops : {instance tides plan events : List ℕ} {x y : DeskState} {p : Parts} {h : TideParts} {table : List ℕ} {happened : List PortEvent} (stop : TextStop) → AllRead instance tides plan events x y p h table happened → Tries (audited p h table) happened (Err stop) → StopsAtDay instance tides plan events x y (report_of_text Events stop)
+pub trial_stops : {instance tides plan events : List ℕ} {x y : DeskState} {p : Parts} {h : TideParts} {table : List ℕ} {happened : List PortEvent} (stop : TextStop) → AllRead instance tides plan events x y p h table happened → TriesEvents (audited p h table) happened (Err stop) → StopsAtDay instance tides plan events x y (report_of_text Events stop)
 trial_stops (Line number word) read tries = event_stops number word read tries
 trial_stops (Input NoMemory) read tries = memory_stops read
 trial_stops (Input _) read tries = absurd tries

@@ -5,25 +5,25 @@ use Rattle.hw_model.specs.Problem.{Problem, shape_of}
 use Rattle.hw_desk.specs.declared.desk.Feed.TheVariants.{Instance, Tides, Plan, Events}
 use Rattle.hw_port.specs.declared.fault.PortFault.{PortFault}
 use Rattle.hw_port.specs.Whole.{Parts}
-use Rattle.hw_read.specs.Instance.{instance_of, Reads as ReadsPort}
+use Rattle.hw_read.specs.Instance.{instance_of, PortReads as ReadsPort}
 use Rattle.hw_read.specs.declared.fault.ReadFault.{ReadFault}
 use Rattle.hw_read.specs.declared.fault.ReadFault.TheVariants as read
 use Rattle.hw_tide.specs.Levels.{TideParts}
-use Rattle.hw_tide.specs.Whole.{HasRecords, Reads as ReadsHeights, tide_by_header, waypoint_names}
+use Rattle.hw_tide.specs.Whole.{HasRecords, TideReads as ReadsHeights, tide_by_header, waypoint_names}
 use Rattle.hw_tide.specs.declared.fault.TideFault.{TideFault}
 use Rattle.hw_tide.specs.declared.fault.TideFault.TheVariants as tide
 use Rattle.hw_tide.proofs.OneList.{one_list_law}
 use Rattle.hw_port_rules.specs.Flattened.{flattened}
 use Rattle.hw_port_rules.specs.Numbers.{whole}
 use Rattle.hw_report.specs.Reports.{Report, too_long, bad_json, bad_field, bad_tides, bad_text, whole_text}
-use Rattle.hw_derived.specs.Reading.{Fault}
-use Rattle.hw_audit.specs.Text.{table_text, events_text}
+use Rattle.hw_derived.specs.Reading.{MalformedLine}
+use Rattle.hw_audit.specs.Text.{timetable_of_text, events_text}
 use Rattle.hw_audit.specs.Watching.{Watched, watched, after_all, first_refused}
-use Rattle.hw_audit.specs.Words.{word_text}
+use Rattle.hw_audit.specs.Words.{audit_word_text}
 use Rattle.hw_audit.specs.declared.event.PortEvent.{PortEvent}
 use Rattle.hw_audit.specs.declared.fault.AuditWord.{AuditWord}
 use Rattle.hw_repair.specs.Written.{written_plan}
-use Rattle.hw_carry.specs.Carried.{carried}
+use Rattle.hw_carry.specs.Carried.{carried_plan}
 use Rattle.hw_command.specs.PortInputs.{NoPort, IsBadTable}
 use Rattle.hw_command.specs.Values.{most_bytes, IsLong, IsPortOf, GivesPort}
 use Rattle.hw_command.proofs.OneReading.{Limited, one_instance, one_limited, one_table}
@@ -31,7 +31,7 @@ use Rattle.hw_audit_command.specs.AuditPort.{audit_reports, Audits, AuditsTexts}
 use Rattle.hw_audit_command.specs.CarryPort.{CarriesDay, CarryTells}
 use Rattle.hw_audit_command.specs.Refusals.{EventsFail, by_form, by_event, NoDay}
 use Rattle.hw_audit_command.specs.Laws.{OneAudit, OneCarry}
-use Rattle.hw_audit_command.specs.Values.{IsPlanOf}
+use Rattle.hw_audit_command.specs.Values.{IsPlannedTimetable}
 
 -- ---- one list of reports
 
@@ -47,33 +47,33 @@ Printed = Problem → Watched → List PortEvent → List Report
 
 abbrev of_trial : Printed → Problem → Watched → List PortEvent → Option (ℕ × AuditWord) → List Report
 of_trial all f s happened None = all f s happened
-of_trial all f s happened (Some refusal) = bad_text Events refusal.0 (word_text refusal.1) ∷ []
+of_trial all f s happened (Some refusal) = bad_text Events refusal.0 (audit_word_text refusal.1) ∷ []
 
-abbrev of_events : Printed → Problem → ℕ → Watched → Result (List PortEvent) (Fault AuditWord) → List Report
+abbrev of_events : Printed → Problem → ℕ → Watched → Result (List PortEvent) (MalformedLine AuditWord) → List Report
 of_events all f fleet s (Ok happened) = of_trial all f s happened (first_refused f fleet 2 s happened)
-of_events all f fleet s (Err bad) = bad_text Events bad.number (word_text bad.word) ∷ []
+of_events all f fleet s (Err bad) = bad_text Events bad.number (audit_word_text bad.word) ∷ []
 
 abbrev EventsSay : Printed → Parts → TideParts → List ℕ → List ℕ → List Report → Type 0
 EventsSay all p h events table rs = Limited events (too_long Events ∷ []) (λ rs. rs ≡ of_events all (flattened p h) (whole p.fleet) (watched table) (events_text events)) rs
 
-abbrev PlanSays : Printed → Parts → TideParts → List ℕ → Result (List ℕ) (Fault AuditWord) → List Report → Type 0
+abbrev PlanSays : Printed → Parts → TideParts → List ℕ → Result (List ℕ) (MalformedLine AuditWord) → List Report → Type 0
 PlanSays all p h events (Ok table) rs = EventsSay all p h events table rs
-PlanSays all p h events (Err bad) rs = rs ≡ bad_text Plan bad.number (word_text bad.word) ∷ []
+PlanSays all p h events (Err bad) rs = rs ≡ bad_text Plan bad.number (audit_word_text bad.word) ∷ []
 
 abbrev LastSays : Printed → List ℕ → List ℕ → Parts → TideParts → List Report → Type 0
-LastSays all plan events p h rs = Limited plan (too_long Plan ∷ []) (PlanSays all p h events (table_text (shape_of (flattened p h)) plan)) rs
+LastSays all plan events p h rs = Limited plan (too_long Plan ∷ []) (PlanSays all p h events (timetable_of_text (shape_of (flattened p h)) plan)) rs
 
 one_equal : (these : List Report) → One (λ rs. rs ≡ these)
 one_equal these rs others h g = h ∙ sym g
 
-one_plan : (all : Printed) (p : Parts) (h : TideParts) (events : List ℕ) (what : Result (List ℕ) (Fault AuditWord)) → One (PlanSays all p h events what)
+one_plan : (all : Printed) (p : Parts) (h : TideParts) (events : List ℕ) (what : Result (List ℕ) (MalformedLine AuditWord)) → One (PlanSays all p h events what)
 one_plan all p h events (Ok table) rs others says says_too =
     one_limited events (too_long Events ∷ []) (λ rs. rs ≡ of_events all (flattened p h) (whole p.fleet) (watched table) (events_text events)) (one_equal (of_events all (flattened p h) (whole p.fleet) (watched table) (events_text events))) rs others says says_too
 one_plan all p h events (Err bad) rs others says says_too = says ∙ sym says_too
 
 one_last : (all : Printed) (plan events : List ℕ) (p : Parts) (h : TideParts) → One (LastSays all plan events p h)
 one_last all plan events p h rs others says says_too =
-    one_limited plan (too_long Plan ∷ []) (PlanSays all p h events (table_text (shape_of (flattened p h)) plan)) (one_plan all p h events (table_text (shape_of (flattened p h)) plan)) rs others says says_too
+    one_limited plan (too_long Plan ∷ []) (PlanSays all p h events (timetable_of_text (shape_of (flattened p h)) plan)) (one_plan all p h events (timetable_of_text (shape_of (flattened p h)) plan)) rs others says says_too
 
 -- ---- the tide table, and before it the instance
 
@@ -167,18 +167,18 @@ no_port_files instance table Last (too_long Tides) says = of_long_table Last say
 no_port_files instance table Last r says = absurd says
 
 -- a plan that is read as this
-by_plan : (all : Printed) (plan : List ℕ) (p : Parts) (h : TideParts) (events : List ℕ) (what : Result (List ℕ) (Fault AuditWord)) (rs : List Report) → length plan ≤ most_bytes → table_text (shape_of (flattened p h)) plan ≡ what → PlanSays all p h events what rs → LastSays all plan events p h rs
-by_plan all plan p h events what rs short reads says = inr (short, subst (λ (read_as : Result (List ℕ) (Fault AuditWord)). PlanSays all p h events read_as rs) (sym reads) says)
+by_plan : (all : Printed) (plan : List ℕ) (p : Parts) (h : TideParts) (events : List ℕ) (what : Result (List ℕ) (MalformedLine AuditWord)) (rs : List Report) → length plan ≤ most_bytes → timetable_of_text (shape_of (flattened p h)) plan ≡ what → PlanSays all p h events what rs → LastSays all plan events p h rs
+by_plan all plan p h events what rs short reads says = inr (short, subst (λ (read_as : Result (List ℕ) (MalformedLine AuditWord)). PlanSays all p h events read_as rs) (sym reads) says)
 
 -- a timetable, and events that are read as this
-by_events : (all : Printed) (plan events : List ℕ) (p : Parts) (h : TideParts) (table : List ℕ) (what : Result (List PortEvent) (Fault AuditWord)) (rs : List Report) → IsPlanOf (Some plan) p h table → length events ≤ most_bytes → events_text events ≡ what → rs ≡ of_events all (flattened p h) (whole p.fleet) (watched table) what → LastSays all plan events p h rs
+by_events : (all : Printed) (plan events : List ℕ) (p : Parts) (h : TideParts) (table : List ℕ) (what : Result (List PortEvent) (MalformedLine AuditWord)) (rs : List Report) → IsPlannedTimetable (Some plan) p h table → length events ≤ most_bytes → events_text events ≡ what → rs ≡ of_events all (flattened p h) (whole p.fleet) (watched table) what → LastSays all plan events p h rs
 by_events all plan events p h table what rs planned short reads says =
-    by_plan all plan p h events (Ok table) rs planned.reads.0 planned.reads.1 (inr (short, subst (λ (read_as : Result (List PortEvent) (Fault AuditWord)). rs ≡ of_events all (flattened p h) (whole p.fleet) (watched table) read_as) (sym reads) says))
+    by_plan all plan p h events (Ok table) rs planned.reads.0 planned.reads.1 (inr (short, subst (λ (read_as : Result (List PortEvent) (MalformedLine AuditWord)). rs ≡ of_events all (flattened p h) (whole p.fleet) (watched table) read_as) (sym reads) says))
 
-by_failure : (all : Printed) (plan events : List ℕ) (p : Parts) (h : TideParts) (table : List ℕ) (number : ℕ) (cause : AuditWord) → IsPlanOf (Some plan) p h table → EventsFail (flattened p h) (whole p.fleet) (watched table) (Some events) number cause → LastSays all plan events p h (bad_text Events number (word_text cause) ∷ [])
-by_failure all plan events p h table number cause planned (by_form form) = by_events all plan events p h table (Err (record { number = number; word = cause })) (bad_text Events number (word_text cause) ∷ []) planned form.0 form.1 refl
+by_failure : (all : Printed) (plan events : List ℕ) (p : Parts) (h : TideParts) (table : List ℕ) (number : ℕ) (cause : AuditWord) → IsPlannedTimetable (Some plan) p h table → EventsFail (flattened p h) (whole p.fleet) (watched table) (Some events) number cause → LastSays all plan events p h (bad_text Events number (audit_word_text cause) ∷ [])
+by_failure all plan events p h table number cause planned (by_form form) = by_events all plan events p h table (Err (record { number = number; word = cause })) (bad_text Events number (audit_word_text cause) ∷ []) planned form.0 form.1 refl
 by_failure all plan events p h table number cause planned (by_event happened told refusal) =
-    by_events all plan events p h table (Ok happened) (bad_text Events number (word_text cause) ∷ []) planned told.0 told.1 (sym (ap (of_trial all (flattened p h) (watched table) happened) refusal))
+    by_events all plan events p h table (Ok happened) (bad_text Events number (audit_word_text cause) ∷ []) planned told.0 told.1 (sym (ap (of_trial all (flattened p h) (watched table) happened) refusal))
 
 lone_files : (all : Printed) (instance tides plan events : List ℕ) (r : Report) → NoDay (Some instance) (Some tides) (Some plan) (Some events) r → OfFiles instance tides (LastSays all plan events) (r ∷ [])
 lone_files all instance tides plan events (bad_text Plan number word) says =
@@ -208,7 +208,7 @@ one_audit instance tides plan events reports others says says_too = one_of_files
 -- ---- what `carry` says is said of its files
 
 abbrev carry_prints : Printed
-carry_prints f s happened = whole_text (written_plan (carried s.table (after_all s happened))) ∷ []
+carry_prints f s happened = whole_text (written_plan (carried_plan s.table (after_all s happened))) ∷ []
 
 day_files : (instance tides plan events text : List ℕ) → CarriesDay (Some instance) (Some tides) (Some plan) (Some events) text → OfFiles instance tides (LastSays carry_prints plan events) (whole_text text ∷ [])
 day_files instance tides plan events text h =

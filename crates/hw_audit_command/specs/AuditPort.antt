@@ -11,13 +11,13 @@ use Rattle.hw_port_rules.specs.Permitted.{PortPermits}
 use Rattle.hw_report.specs.Reports.{Report, after, audit_end}
 use Rattle.hw_audit.specs.Audits.{Audited}
 use Rattle.hw_audit.specs.Laws.{fewer_tugs}
-use Rattle.hw_audit.specs.Watching.{Watched, watched, after as after_event, after_all, first_refused, broken_now}
+use Rattle.hw_audit.specs.Watching.{Watched, watched, watched_after as after_event, after_all, first_refused, broken_now}
 use Rattle.hw_audit.specs.declared.event.PortEvent.{PortEvent}
 use Rattle.hw_command.specs.Carries.{Task}
 use Rattle.hw_command.specs.Values.{IsPortOf}
 use Rattle.hw_audit_command.specs.Days.{day_inputs}
 use Rattle.hw_audit_command.specs.Refusals.{NoDay}
-use Rattle.hw_audit_command.specs.Values.{IsPlanOf, AreEventsOf, AuditGives}
+use Rattle.hw_audit_command.specs.Values.{IsPlannedTimetable, AreEventsOf, AuditGives}
 
 -- ---- the whole report
 
@@ -48,7 +48,7 @@ pub record Audits (instance tides plan events : Option (List ℕ)) (reports : Li
   pub tide : TideParts
   pub reads : IsPortOf instance tides port tide
   pub table : List ℕ
-  pub planned : IsPlanOf plan port tide table
+  pub planned : IsPlannedTimetable plan port tide table
   pub happened : List PortEvent
   pub told : AreEventsOf events happened
   pub taken : first_refused (flattened port tide) (whole port.fleet) 2 (watched table) happened ≡ None

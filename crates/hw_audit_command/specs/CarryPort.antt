@@ -12,17 +12,17 @@ use Rattle.hw_audit.specs.Watching.{watched, after_all, first_refused}
 use Rattle.hw_audit.specs.declared.event.PortEvent.{PortEvent}
 use Rattle.hw_repair.specs.Wishes.{PermitsPlan}
 use Rattle.hw_repair.specs.Written.{written_plan}
-use Rattle.hw_carry.specs.Carried.{carried, KeepsDay}
+use Rattle.hw_carry.specs.Carried.{carried_plan, KeepsDay}
 use Rattle.hw_command.specs.Carries.{Task, one_report}
 use Rattle.hw_command.specs.Values.{IsPortOf}
 use Rattle.hw_audit_command.specs.Days.{day_inputs}
 use Rattle.hw_audit_command.specs.Refusals.{NoDay}
-use Rattle.hw_audit_command.specs.Values.{IsPlanOf, AreEventsOf, AuditGives}
+use Rattle.hw_audit_command.specs.Values.{IsPlannedTimetable, AreEventsOf, AuditGives}
 
 -- a timetable meets the plan exactly where the port, with the tugs that are left, permits it, and it keeps the day
 abbrev pub IsPlanOfDay : Parts → TideParts → List ℕ → List PortEvent → Type 0
 IsPlanOfDay p h table events = (other : List ℕ)
-    → let s = after_all (watched table) events in (PermitsPlan (flattened p h) (carried table s) other ↔ (PortPermits (fewer_tugs s.withdrawn p) h other × KeepsDay table s other))
+    → let s = after_all (watched table) events in (PermitsPlan (flattened p h) (carried_plan table s) other ↔ (PortPermits (fewer_tugs s.withdrawn p) h other × KeepsDay table s other))
 
 -- a port with its tide, a timetable of it, and events that are all taken after that, each as its text says, if that is told; and the text of the plan that they give
 pub record CarriesDay (instance tides plan events : Option (List ℕ)) (text : List ℕ) : Type 0 where
@@ -30,11 +30,11 @@ pub record CarriesDay (instance tides plan events : Option (List ℕ)) (text : L
   pub tide : TideParts
   pub reads : IsPortOf instance tides port tide
   pub table : List ℕ
-  pub planned : IsPlanOf plan port tide table
+  pub planned : IsPlannedTimetable plan port tide table
   pub happened : List PortEvent
   pub told : AreEventsOf events happened
   pub taken : first_refused (flattened port tide) (whole port.fleet) 2 (watched table) happened ≡ None
-  pub is_text : text ≡ written_plan (carried table (after_all (watched table) happened))
+  pub is_text : text ≡ written_plan (carried_plan table (after_all (watched table) happened))
   pub means : IsPlanOfDay port tide table happened
 
 -- what the report says of the four texts, as far as they are told. If all are told, one report alone holds, apart from out of memory

@@ -9,17 +9,17 @@ use Rattle.hw_port_rules.specs.Numbers.{whole}
 use Rattle.hw_report.specs.Reports.{Report}
 use Rattle.hw_audit.specs.Audits.{audited}
 use Rattle.hw_audit.specs.Watching.{watched, first_refused}
-use Rattle.hw_command.specs.Scope.{Named, named, Entered, GiveBefore}
+use Rattle.hw_command.specs.Scope.{Named, named_feed, Entered, GiveBefore}
 use Rattle.hw_command.specs.Values.{IsPortOf}
-use Rattle.hw_command.specs.Works.{Stops}
+use Rattle.hw_command.specs.Works.{StopsReading}
 use Rattle.hw_command.specs.declared.port_input.PortNames.{PortNames}
 use Rattle.hw_audit_command.specs.Refusals.{NoDay}
-use Rattle.hw_audit_command.specs.Values.{IsPlanOf, AreEventsOf, AuditGives}
+use Rattle.hw_audit_command.specs.Values.{IsPlannedTimetable, AreEventsOf, AuditGives}
 use Rattle.hw_audit_command.specs.declared.day.Day.{Day}
 
 -- its inputs, in the order in which they are begun
 abbrev pub day_inputs : List ℕ → List ℕ → List ℕ → List ℕ → List Named
-day_inputs instance tides plan events = named Instance instance ∷ named Tides tides ∷ named Plan plan ∷ named Events events ∷ []
+day_inputs instance tides plan events = named_feed Instance instance ∷ named_feed Tides tides ∷ named_feed Plan plan ∷ named_feed Events events ∷ []
 
 -- all inputs were begun and no read failed: a port with its tide, a timetable of it, and events that are all taken, with the audit before them
 pub record ReadsDay (instance tides plan events : List ℕ) (old new : DeskState) (day : Day) : Type 0 where
@@ -29,7 +29,7 @@ pub record ReadsDay (instance tides plan events : List ℕ) (old new : DeskState
   pub port : Parts
   pub tide : TideParts
   pub reads : IsPortOf (old.held instance) (old.held tides) port tide
-  pub planned : IsPlanOf (old.held plan) port tide day.table
+  pub planned : IsPlannedTimetable (old.held plan) port tide day.table
   pub told : AreEventsOf (old.held events) day.happened
   pub taken : first_refused (flattened port tide) (whole port.fleet) 2 (watched day.table) day.happened ≡ None
   pub audit : day.audit ≡ audited port tide day.table
@@ -40,7 +40,7 @@ ReadsNamedDay names plan events old new day = ReadsDay names.instance.now names.
 
 -- why there is none
 abbrev pub StopsAtDay : List ℕ → List ℕ → List ℕ → List ℕ → DeskState → DeskState → Report → Type 0
-StopsAtDay instance tides plan events old new r = Stops (day_inputs instance tides plan events) (AuditGives instance tides plan old.held) (NoDay (old.held instance) (old.held tides) (old.held plan) (old.held events)) old new r
+StopsAtDay instance tides plan events old new r = StopsReading (day_inputs instance tides plan events) (AuditGives instance tides plan old.held) (NoDay (old.held instance) (old.held tides) (old.held plan) (old.held events)) old new r
 
 abbrev pub StopsAtNamedDay : PortNames → List ℕ → List ℕ → DeskState → DeskState → Report → Type 0
 StopsAtNamedDay names plan events old new r = StopsAtDay names.instance.now names.tides.now plan events old new r

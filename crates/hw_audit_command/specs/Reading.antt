@@ -3,9 +3,9 @@ use Rattle.std.specs.Prelude.{◌≡◌, ◌≤◌, ℕ, List, Option, Result, O
 use Rattle.hw_desk.specs.State.{DeskState}
 use Rattle.hw_desk.specs.declared.desk.Feed.{Feed}
 use Rattle.hw_desk.specs.declared.whole.ReadStop.TheVariants as stops
-use Rattle.hw_derived.specs.Reading.{Fault, fault}
+use Rattle.hw_derived.specs.Reading.{MalformedLine, malformed_line}
 use Rattle.hw_audit.specs.declared.fault.AuditWord.{AuditWord}
-use Rattle.hw_audit.specs.Words.{word_text}
+use Rattle.hw_audit.specs.Words.{audit_word_text}
 use Rattle.hw_derived.specs.declared.fault.LineFault.{LineFault}
 use Rattle.hw_derived.specs.declared.fault.LineFault.TheVariants as faults
 use Rattle.hw_report.specs.Reports.{Report, bad_text}
@@ -15,7 +15,7 @@ use Rattle.hw_audit_command.specs.declared.reading.TextStop.{TextStop}
 use Rattle.hw_audit_command.specs.declared.reading.TextStop.TheVariants as texts
 
 -- the bytes keep the limit, and as a text they are read as this
-abbrev pub ReadsAs : {A : Type 0} → (List ℕ → Result A (Fault AuditWord)) → Result A (Fault AuditWord) → List ℕ → Type 0
+abbrev pub ReadsAs : {A : Type 0} → (List ℕ → Result A (MalformedLine AuditWord)) → Result A (MalformedLine AuditWord) → List ℕ → Type 0
 ReadsAs read what bytes = (length bytes ≤ most_bytes) × (read bytes ≡ what)
 
 -- why bytes hold nothing
@@ -24,17 +24,17 @@ stop_of_text (faults.Line number word) = texts.Line number word
 stop_of_text faults.NoMemory = texts.Input stops.NoMemory
 
 -- what the bytes held under the name are read as, where they are told; or why nothing was read
-abbrev pub TextAnswer : {A : Type 0} → (List ℕ → Result A (Fault AuditWord)) → Option (List ℕ) → DeskState → DeskState → Result A TextStop → Type 0
+abbrev pub TextAnswer : {A : Type 0} → (List ℕ → Result A (MalformedLine AuditWord)) → Option (List ℕ) → DeskState → DeskState → Result A TextStop → Type 0
 TextAnswer read told old new (Ok x) = IfSome told (ReadsAs read (Ok x)) × (new.read_faults ≡ old.read_faults)
-TextAnswer read told old new (Err (texts.Line number word)) = IfSome told (ReadsAs read (fault number word)) × (new.read_faults ≡ old.read_faults)
+TextAnswer read told old new (Err (texts.Line number word)) = IfSome told (ReadsAs read (malformed_line number word)) × (new.read_faults ≡ old.read_faults)
 TextAnswer read told old new (Err (texts.Input stop)) = StopsFor told old new stop
 
 -- a text is begun under its name, read to its end and parsed
-pub record ReadsText {A : Type 0} (feed : Feed) (read : List ℕ → Result A (Fault AuditWord)) (name : List ℕ) (old new : DeskState) (result : Result A TextStop) : Type 0 where
+pub record ReadsText {A : Type 0} (feed : Feed) (read : List ℕ → Result A (MalformedLine AuditWord)) (name : List ℕ) (old new : DeskState) (result : Result A TextStop) : Type 0 where
   pub enters : Enters feed name old new
   pub answer : TextAnswer read (old.held name) old new result
 
 -- the report of a text that gives nothing
 abbrev pub report_of_text : Feed → TextStop → Report
 report_of_text feed (texts.Input stop) = report_of_stop feed stop
-report_of_text feed (texts.Line number word) = bad_text feed number (word_text word)
+report_of_text feed (texts.Line number word) = bad_text feed number (audit_word_text word)

@@ -8,8 +8,8 @@ use Rattle.hw_audit_command.specs.declared.reading.TextStop.{TextStop}
 use Rattle.hw_audit_command.specs.declared.reading.TextStop.TheVariants as texts
 
 -- all events are taken from a state on, and what is watched stands before them again; or the first one that is refused is told, by its line; or memory ran out
-abbrev pub Tries : Audited → List PortEvent → Result Audited TextStop → Type 0
-Tries first events (Ok again) = (again ≡ first) × (first_refused first.problem first.fleet 2 first.state events ≡ None)
-Tries first events (Err (texts.Line number word)) = first_refused first.problem first.fleet 2 first.state events ≡ Some (number, word)
-Tries first events (Err (texts.Input stops.NoMemory)) = ⊤
-Tries first events (Err stop) = ⊥
+abbrev pub TriesEvents : Audited → List PortEvent → Result Audited TextStop → Type 0
+TriesEvents first events (Ok again) = (again ≡ first) × (first_refused first.problem first.fleet 2 first.state events ≡ None)
+TriesEvents first events (Err (texts.Line number word)) = first_refused first.problem first.fleet 2 first.state events ≡ Some (number, word)
+TriesEvents first events (Err (texts.Input stops.NoMemory)) = ⊤
+TriesEvents first events (Err stop) = ⊥

@@ -7,15 +7,15 @@ use Rattle.hw_port.specs.Whole.{Parts}
 use Rattle.hw_tide.specs.Levels.{TideParts}
 use Rattle.hw_port_rules.specs.Flattened.{flattened}
 use Rattle.hw_port_rules.specs.Timetables.{IsPortTimetable}
-use Rattle.hw_audit.specs.Text.{table_text, events_text}
+use Rattle.hw_audit.specs.Text.{timetable_of_text, events_text}
 use Rattle.hw_audit.specs.declared.event.PortEvent.{PortEvent}
 use Rattle.hw_command.specs.Values.{IsPortOf, GivesPort, GivesTide}
 use Rattle.hw_audit_command.specs.Reading.{ReadsAs}
 
 -- a timetable of the port, that of the plan where it is told
-pub record IsPlanOf (plan : Option (List ℕ)) (p : Parts) (h : TideParts) (table : List ℕ) : Type 0 where
+pub record IsPlannedTimetable (plan : Option (List ℕ)) (p : Parts) (h : TideParts) (table : List ℕ) : Type 0 where
   pub listed : IsPortTimetable p table
-  pub reads : IfSome plan (ReadsAs (table_text (shape_of (flattened p h))) (Ok table))
+  pub reads : IfSome plan (ReadsAs (timetable_of_text (shape_of (flattened p h))) (Ok table))
 
 -- events, those of their text where it is told
 abbrev pub AreEventsOf : Option (List ℕ) → List PortEvent → Type 0
@@ -27,7 +27,7 @@ pub record GivesPlan (instance tides plan : Option (List ℕ)) : Type 0 where
   pub tide : TideParts
   pub reads : IsPortOf instance tides port tide
   pub table : List ℕ
-  pub planned : IsPlanOf plan port tide table
+  pub planned : IsPlannedTimetable plan port tide table
 
 -- what an input gives before a further one is begun: the instance its port, the tide table the port's tide, and the plan a timetable of the port. After the events none is begun
 abbrev pub AuditGives : List ℕ → List ℕ → List ℕ → (List ℕ → Option (List ℕ)) → Feed → Type 0

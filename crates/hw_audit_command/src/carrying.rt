@@ -6,7 +6,7 @@ ghost use Rattle.hw_desk.specs.Whole.{SendsText};
 ghost use Rattle.hw_audit.specs.Audits.{in_state};
 ghost use Rattle.hw_audit.specs.Watching.{after_all, first_refused as refused_first};
 ghost use Rattle.hw_repair.specs.Written.{written_plan};
-ghost use Rattle.hw_carry.specs.Carried.{carried};
+ghost use Rattle.hw_carry.specs.Carried.{carried_plan};
 ghost use Rattle.hw_report.specs.Reports.{whole_text};
 ghost use Rattle.hw_command.specs.Carries.{Carries};
 ghost use Rattle.hw_command.specs.Ends.{Ends};
@@ -31,7 +31,7 @@ fn take_all(audit: &mut Audit, events: &[PortEvent])
 
 /// Sends the plan of the timetable that was planned, and of its audit now. It takes no memory.
 fn send_text<D: Desk>(desk: &mut D, table: &Timetable, audit: &Audit) -> Result<(), DeskFailed>
-    ensures { SendsText Tray.Report (written_plan (carried table.now audit.now.state)) (D.state desk.old) (D.state desk.new) result }
+    ensures { SendsText Tray.Report (written_plan (carried_plan table.now audit.now.state)) (D.state desk.old) (D.state desk.new) result }
 {
     let mut out = TrayWriter::new(desk, Tray::Report);
     put_carried(&mut out, table.as_slice(), audit);
@@ -40,7 +40,7 @@ fn send_text<D: Desk>(desk: &mut D, table: &Timetable, audit: &Audit) -> Result<
 
 /// The same. Returns `Optimal`, or `WriteFault` if a write failed.
 fn send_plan<D: Desk>(desk: &mut D, table: &Timetable, audit: &Audit) -> Status
-    ensures { Ends (whole_text (written_plan (carried table.now audit.now.state)) ∷ []) (D.state desk.old) (D.state desk.new) result }
+    ensures { Ends (whole_text (written_plan (carried_plan table.now audit.now.state)) ∷ []) (D.state desk.old) (D.state desk.new) result }
 {
     match send_text(desk, table, audit) {
         Ok(()) => Status::Optimal,

@@ -2,7 +2,7 @@
 
 ghost use Rattle.std.specs.Prelude.{◌≡◌, ◌<◌, All, IfOk, false, length};
 ghost use Rattle.hw_model.specs.Limits.{ShapeFits};
-ghost use Rattle.hw_audit.specs.Text.{events_text, table_text};
+ghost use Rattle.hw_audit.specs.Text.{events_text, timetable_of_text};
 ghost use Rattle.hw_report.specs.Printing.{CanPrint};
 ghost use Rattle.hw_report.specs.Seen.{report_seen};
 ghost use Rattle.hw_audit_command.specs.Reading.{ReadsText, report_of_text, stop_of_text};
@@ -44,7 +44,7 @@ pub(crate) fn read_plan<D: Desk>(
 ) -> Result<Timetable, TextStop>
     requires fits { ShapeFits shape }
     requires unread { ((D.state desk.old).feeds Feed.Plan).begun ≡ false }
-    ensures reads { ReadsText Feed.Plan (table_text shape) name.now (D.state desk.old) (D.state desk.new) result }
+    ensures reads { ReadsText Feed.Plan (timetable_of_text shape) name.now (D.state desk.old) (D.state desk.new) result }
     ensures each_ship { IfOk result (λ table. length table ≡ shape.ships) }
     ensures each_slot { IfOk result (λ table. All (λ slot. slot < shape.slots) table) }
 {

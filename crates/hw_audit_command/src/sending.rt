@@ -2,7 +2,7 @@
 
 ghost use Rattle.std.specs.Prelude.{◌≡◌, None};
 ghost use Rattle.hw_audit.specs.Audits.{in_state};
-ghost use Rattle.hw_audit.specs.Watching.{after as state_after, broken_now, first_refused, refused};
+ghost use Rattle.hw_audit.specs.Watching.{watched_after as state_after, broken_now, first_refused, refused_event};
 ghost use Rattle.hw_command.specs.Ends.{Ends};
 ghost use Rattle.hw_desk.specs.Whole.{SendsText};
 ghost use Rattle.hw_report.specs.Reports.{after};
@@ -24,7 +24,7 @@ fn send_broken<D: Desk>(desk: &mut D, number: u64, audit: &Audit) -> Result<(), 
 
 /// Applies an event that isn't refused.
 fn take(audit: &mut Audit, event: PortEvent)
-    requires taken { refused audit.old.problem audit.old.fleet audit.old.state event ≡ None }
+    requires taken { refused_event audit.old.problem audit.old.fleet audit.old.state event ≡ None }
     ensures { audit.new ≡ in_state audit.old (state_after audit.old.state event) }
 {
     match audit.apply(event) {
@@ -40,7 +40,7 @@ fn send_next<D: Desk>(
     audit: &mut Audit,
     event: PortEvent,
 ) -> Result<(), DeskFailed>
-    requires taken { refused audit.old.problem audit.old.fleet audit.old.state event ≡ None }
+    requires taken { refused_event audit.old.problem audit.old.fleet audit.old.state event ≡ None }
     ensures stands { audit.new ≡ in_state audit.old (state_after audit.old.state event) }
     ensures sends { SendsText Tray.Report (report_text (after number (broken_after audit.old event))) (D.state desk.old) (D.state desk.new) result }
 {

@@ -4,7 +4,7 @@ ghost use Rattle.std.specs.Prelude.{◌≡◌, IfOk, length, None};
 ghost use Rattle.hw_audit.specs.Audits.{audited, in_state};
 ghost use Rattle.hw_audit.specs.Watching.{after_all, first_refused};
 ghost use Rattle.hw_port_rules.specs.Timetables.{IsPortTimetable};
-ghost use Rattle.hw_audit_command.specs.Trying.{Tries};
+ghost use Rattle.hw_audit_command.specs.Trying.{TriesEvents};
 
 use crate::reading::TextStop;
 use hw_audit::{Audit, AuditWord, PortEvent};
@@ -50,7 +50,7 @@ pub(crate) fn try_events(
 ) -> Result<Audit, TextStop>
     requires columns { problem.now.tide.columns ≡ length problem.now.port.waypoints }
     requires listed { IsPortTimetable problem.now.port table.now }
-    ensures { Tries (audited problem.now.port problem.now.tide table.now) events.now result }
+    ensures { TriesEvents (audited problem.now.port problem.now.tide table.now) events.now result }
 {
     let mut tried = match watch(alloc, problem, table) {
         Ok(audit) => audit,

@@ -13,7 +13,7 @@ use Rattle.hw_dates.specs.Texts.{month_name, weekday_name}
 use Rattle.hw_chart.specs.declared.grid.Axis.{Axis}
 use Rattle.hw_chart.specs.declared.grid.Scale.TheVariants.{Minutes}
 use Rattle.hw_chart.specs.Grids.{line_path, step_of}
-use Rattle.hw_chart.specs.Layout.{place_of}
+use Rattle.hw_chart.specs.Layout.{plot_place}
 
 -- the minutes from midnight to a start
 abbrev pub midnight : List ℕ → ℕ
@@ -49,7 +49,7 @@ moment_class m = if day_begins m then codes "b c" else codes "m c"
 
 -- a mark stands above the plot and below it
 abbrev pub moment_mark : Axis → ℕ → Moment → List ℕ
-moment_mark a at m = line (moment_class m) (place_of at a.total) 116 (moment_words m) ++ line (moment_class m) (place_of at a.total) (a.bottom + 16) (moment_words m)
+moment_mark a at m = line (moment_class m) (plot_place at a.total) 116 (moment_words m) ++ line (moment_class m) (plot_place at a.total) (a.bottom + 16) (moment_words m)
 
 abbrev pub dated_mark : List ℕ → Axis → ℕ → List ℕ
 dated_mark start a at = moment_mark a at (moment_after start at)

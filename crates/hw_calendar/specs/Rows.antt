@@ -3,7 +3,7 @@ use Rattle.std.specs.Prelude.{◌≡◌, ℕ, List, codes}
 use Rattle.hw_dates.specs.Moments.{moment_after}
 use Rattle.hw_calendar.specs.Calendars.{dated_axis, end_mark, first_mark, mark_at, midnight, moment_words}
 
--- this is what the mark so many minutes after a start says
+-- this is what the mark this many minutes after a start says
 abbrev pub Says : List ℕ → ℕ → List ℕ → Type 0
 Says start minutes text = moment_words (moment_after start minutes) ≡ text
 

@@ -3,7 +3,7 @@
 ghost use Rattle.std.specs.Prelude.{◌≡◌, ◌+◌, ◌-◌, ◌*◌, ◌<◌, ◌≤◌, ◌^◌, codes};
 ghost use Rattle.hw_desk.specs.Writers.{Puts};
 ghost use Rattle.hw_svg.specs.Numbers.{clock};
-ghost use Rattle.hw_svg.specs.Pieces.{pieces_text};
+ghost use Rattle.hw_svg.specs.Pieces.{picture_pieces_text};
 ghost use Rattle.hw_svg.specs.Shapes.{shape};
 ghost use Rattle.hw_port.specs.Kept.{IsStart};
 ghost use Rattle.hw_dates.specs.Dates.{IsDate};
@@ -53,7 +53,7 @@ fn dated_axis(minutes: u32, span: u32, bottom: u32) -> Axis
 /// Which day it is, in pieces.
 fn day_words(date: Date) -> [Piece<'static>; 5]
     requires { IsDate date }
-    ensures { pieces_text result ≡ words_of_date date }
+    ensures { picture_pieces_text result ≡ words_of_date date }
 {
     [
         Piece::Name(weekday_name(date)),
@@ -66,7 +66,7 @@ fn day_words(date: Date) -> [Piece<'static>; 5]
 
 /// A time of the day, in as many pieces.
 fn time_words(minute: u32) -> [Piece<'static>; 5]
-    ensures { pieces_text result ≡ clock minute }
+    ensures { picture_pieces_text result ≡ clock minute }
 {
     [
         Piece::Clock(u64::from(minute)),
@@ -80,7 +80,7 @@ fn time_words(minute: u32) -> [Piece<'static>; 5]
 /// What a mark says.
 fn moment_words(moment: Moment) -> [Piece<'static>; 5]
     requires { IsMoment moment }
-    ensures { pieces_text result ≡ words_of_moment moment }
+    ensures { picture_pieces_text result ≡ words_of_moment moment }
 {
     let minute = minute_of_day(moment);
     if minute == 0 {

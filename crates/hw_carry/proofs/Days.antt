@@ -1,6 +1,7 @@
 -- What a state leaves each ship, ship by ship.
 use Rattle.std.proofs.Common.{◌≡◌, ◌≢◌, ◌==◌, ℕ, zero, suc, ◌+◌, ◌<◌, ◌≤◌, Bool, true, false, ◌&&◌, not, cond, nat_lt, List, [], ◌∷◌, Some, slice_get, length, get_or, refl, sym, ap, ◌∙◌, arith}
 use Rattle.std.proofs.lemmas.Bool.{ltb-true, ltb-false, eqb-true, ne_eqb, eq-eqb}
+use Rattle.hw_lemmas.proofs.Truths.{absurd_false}
 use Rattle.hw_repair.specs.declared.plan.Wish.{Wish}
 use Rattle.hw_carry.specs.Carried.{reached, earliest, wish_now, wishes_now}
 
@@ -71,8 +72,5 @@ earliest_parts day planned slot given h =
     let both = by_tests (slot == planned) (nat_lt day slot) day slot given refl h in
     (both.0, λ ne. both.1 (ne_eqb slot planned ne))
 
-not_same : (b : Bool) → b ≡ false → b ≡ true → ⊥
-not_same b e k = absurd (cc)
-
 pub earliest_from : (day planned slot given : ℕ) → day ≤ given → (slot ≢ planned → slot ≤ given) → earliest day planned slot ≤ given
-earliest_from day planned slot given h k = from_tests (slot == planned) (nat_lt day slot) day slot given h (λ e. k (λ is. not_same (slot == planned) e (eq-eqb slot planned is)))
+earliest_from day planned slot given h k = from_tests (slot == planned) (nat_lt day slot) day slot given h (λ e. k (λ is. absurd_false (slot == planned) e (eq-eqb slot planned is)))

@@ -1,7 +1,8 @@
 -- Which timetables meet the plan that a day leaves.
-use Rattle.std.proofs.Common.{◌≡◌, ◌↔◌, ℕ, ◌<◌, ◌≤◌, Bool, true, false, List, Option, Some, None, IfSome, slice_get, length, get_or, refl, sym, subst, ◌∙◌, arith}
+use Rattle.std.proofs.Common.{◌≡◌, ◌↔◌, ℕ, ◌<◌, ◌≤◌, Bool, true, false, List, Some, IfSome, slice_get, length, get_or, refl, sym, subst, ◌∙◌, arith}
+use Rattle.hw_lemmas.proofs.Truths.{if_some, if_some_from}
+use Rattle.hw_lemmas.proofs.Lists.{get_within}
 use Rattle.hw_derived.specs.Fleets.{lessened}
-use Rattle.hw_derived.proofs.Places.{get_within}
 use Rattle.hw_model.specs.Problem.{Problem, IsTimetable}
 use Rattle.hw_model.specs.Timetables.{Permits}
 use Rattle.hw_port_rules.specs.Flattened.{flattened}
@@ -14,7 +15,7 @@ use Rattle.hw_audit.proofs.Ports.{lessened_port, port_kept}
 use Rattle.hw_audit.proofs.Taken.{all_taken}
 use Rattle.hw_repair.specs.declared.plan.Wish.{Wish}
 use Rattle.hw_repair.specs.Wishes.{Grants, PermitsPlan}
-use Rattle.hw_carry.specs.Carried.{reached, earliest, wish_now, wishes_now, carried, LeavesSlot, KeepsDay}
+use Rattle.hw_carry.specs.Carried.{reached, earliest, wish_now, wishes_now, carried_plan, LeavesSlot, KeepsDay}
 use Rattle.hw_carry.specs.Laws.{KeepsTheDay}
 use Rattle.hw_carry.proofs.Days.{wish_at, wishes_many, reached_each, each_reached, earliest_parts, earliest_from}
 
@@ -23,23 +24,16 @@ pub record SameShips (table : List ℕ) (s : Watched) : Type 0 where
   pub planned : length table ≡ length s.sailed
   pub now : length s.table ≡ length s.sailed
 
-some_of_if : {A : Type 0} (P : A → Type 0) (o : Option A) (x : A) → o ≡ Some x → IfSome o P → P x
-some_of_if P o x e h = subst (λ o. IfSome o P) e h
-
-if_some_from : {A : Type 0} (P : A → Type 0) (o : Option A) → ((x : A) → o ≡ Some x → P x) → IfSome o P
-if_some_from P None h = tt
-if_some_from P (Some x) h = h x refl
-
 -- what the plan says of a ship
 abbrev wish_of : List ℕ → Watched → ℕ → Wish
 wish_of table s ship = wish_now (reached s.sailed s.table) (get_or s.sailed ship false) (get_or table ship 0) (get_or s.table ship 0)
 
-granted_at : (table : List ℕ) (s : Watched) (other : List ℕ) (ship : ℕ) → SameShips table s → ship < length table → ((ship : ℕ) → IfSome (slice_get (carried table s).wishes ship) (λ wish. Grants wish (get_or other ship 0))) → Grants (wish_of table s ship) (get_or other ship 0)
+granted_at : (table : List ℕ) (s : Watched) (other : List ℕ) (ship : ℕ) → SameShips table s → ship < length table → ((ship : ℕ) → IfSome (slice_get (carried_plan table s).wishes ship) (λ wish. Grants wish (get_or other ship 0))) → Grants (wish_of table s ship) (get_or other ship 0)
 granted_at table s other ship same lt granted =
     let there = wish_at (reached s.sailed s.table) ship s.sailed table s.table same.planned same.now (omega (arith, lt, same.planned)) in
-    some_of_if (λ wish. Grants wish (get_or other ship 0)) (slice_get (carried table s).wishes ship) (wish_of table s ship) there (granted ship)
+    if_some (λ wish. Grants wish (get_or other ship 0)) (slice_get (carried_plan table s).wishes ship) (wish_of table s ship) there (granted ship)
 
-to_day : (table : List ℕ) (s : Watched) (other : List ℕ) → SameShips table s → ((ship : ℕ) → IfSome (slice_get (carried table s).wishes ship) (λ wish. Grants wish (get_or other ship 0))) → KeepsDay table s other
+to_day : (table : List ℕ) (s : Watched) (other : List ℕ) → SameShips table s → ((ship : ℕ) → IfSome (slice_get (carried_plan table s).wishes ship) (λ wish. Grants wish (get_or other ship 0))) → KeepsDay table s other
 to_day table s other same granted = record {
   kept = λ ship lt is. subst (λ (gone : Bool). Grants (wish_now (reached s.sailed s.table) gone (get_or table ship 0) (get_or s.table ship 0)) (get_or other ship 0)) is (granted_at table s other ship same lt granted);
   left = λ ship lt is.
@@ -59,13 +53,13 @@ grants_by table s other ship false same lt is day =
     earliest_from (reached s.sailed s.table) (get_or table ship 0) (get_or s.table ship 0) (get_or other ship 0)
     (each_reached s.sailed s.table (get_or other ship 0) same.now (λ ship' lt' is'. left.reached ship' (omega (arith, lt', same.planned)) is')) left.delayed
 
-from_day : (table : List ℕ) (s : Watched) (other : List ℕ) → SameShips table s → KeepsDay table s other → (ship : ℕ) → IfSome (slice_get (carried table s).wishes ship) (λ wish. Grants wish (get_or other ship 0))
-from_day table s other same day ship = if_some_from (λ wish. Grants wish (get_or other ship 0)) (slice_get (carried table s).wishes ship) (λ wish e.
+from_day : (table : List ℕ) (s : Watched) (other : List ℕ) → SameShips table s → KeepsDay table s other → (ship : ℕ) → IfSome (slice_get (carried_plan table s).wishes ship) (λ wish. Grants wish (get_or other ship 0))
+from_day table s other same day ship = if_some_from (λ wish. Grants wish (get_or other ship 0)) (slice_get (carried_plan table s).wishes ship) (λ wish e.
     let size = wishes_many (reached s.sailed s.table) s.sailed table s.table same.planned same.now in
-    let lt : ship < length table = omega (arith, get_within (carried table s).wishes ship wish e, size, same.planned) in
+    let lt : ship < length table = omega (arith, get_within (carried_plan table s).wishes ship wish e, size, same.planned) in
     let there = wish_at (reached s.sailed s.table) ship s.sailed table s.table same.planned same.now (omega (arith, lt, same.planned)) in
     let both : Some (wish_of table s ship) ≡ Some wish = sym there ∙ e in
-    some_of_if (λ w. Grants w (get_or other ship 0)) (Some (wish_of table s ship)) wish both (grants_by table s other ship (get_or s.sailed ship false) same lt refl day))
+    if_some (λ w. Grants w (get_or other ship 0)) (Some (wish_of table s ship)) wish both (grants_by table s other ship (get_or s.sailed ship false) same lt refl day))
 
 -- ---- after events
 

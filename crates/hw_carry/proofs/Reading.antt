@@ -18,10 +18,10 @@ use Rattle.hw_audit.specs.Watching.{Watched, watched, IsWatched, after_all}
 use Rattle.hw_audit.proofs.Begun.{of_port, watched_first}
 use Rattle.hw_audit.proofs.PortRules.{Each2, all_pairs, all_berths, all_after}
 use Rattle.hw_audit.proofs.Taken.{all_taken}
-use Rattle.hw_repair.specs.Text.{has_tugs}
+use Rattle.hw_repair.specs.Text.{rule_has_tugs}
 use Rattle.hw_repair.specs.Wishes.{WishFits, IsRepairable, PlanFits}
 use Rattle.hw_repair.proofs.Written.{written_reads}
-use Rattle.hw_carry.specs.Carried.{reached, earliest, wish_now, wishes_now, carried}
+use Rattle.hw_carry.specs.Carried.{reached, earliest, wish_now, wishes_now, carried_plan}
 use Rattle.hw_carry.specs.Laws.{CarriedReads}
 use Rattle.hw_carry.proofs.Days.{wishes_many, each_reached, earliest_from}
 use Rattle.hw_carry.proofs.Meeting.{SameShips, same_ships}
@@ -49,7 +49,7 @@ some_slots : (stay : Bool) (slots : ℕ) → 1 ≤ cond stay (slots - 1) slots �
 some_slots true slots some = omega (arith, some)
 some_slots false slots some = some
 
-fits : (f : Problem) (fleet : ℕ) (table : List ℕ) (s : Watched) → IsFlat f → IsTimetable f table → IsWatched f fleet s → All (λ v. IsRepairable f.ships (unwrap_or v 0)) f.values → PlanFits f (carried table s)
+fits : (f : Problem) (fleet : ℕ) (table : List ℕ) (s : Watched) → IsFlat f → IsTimetable f table → IsWatched f fleet s → All (λ v. IsRepairable f.ships (unwrap_or v 0)) f.values → PlanFits f (carried_plan table s)
 fits f fleet table s flat is kept values =
     let same = same_ships f fleet table s is kept in
     let some : 1 ≤ f.slots = some_slots f.stay f.slots flat.some_slot in
@@ -64,20 +64,20 @@ fits f fleet table s flat is kept values =
 
 -- ---- the tugs
 
-two_have : (withdrawn : ℕ) (rules : List Rule) → Each2 rules → list_all (has_tugs withdrawn) rules ≡ true
+two_have : (withdrawn : ℕ) (rules : List Rule) → Each2 rules → list_all (rule_has_tugs withdrawn) rules ≡ true
 two_have withdrawn [] each = refl
 two_have withdrawn (Pair v w holes ∷ rules) each = two_have withdrawn rules each.1
 two_have withdrawn (After v w gap ∷ rules) each = two_have withdrawn rules each.1
 two_have withdrawn (Tugs fleet jobs ∷ rules) each = absurd each.0
 
-tugs_have : (withdrawn fleet : ℕ) (jobs : List Job) → withdrawn ≤ fleet → list_all (has_tugs withdrawn) (tug_rule fleet jobs) ≡ true
+tugs_have : (withdrawn fleet : ℕ) (jobs : List Job) → withdrawn ≤ fleet → list_all (rule_has_tugs withdrawn) (tug_rule fleet jobs) ≡ true
 tugs_have withdrawn fleet [] le = refl
 tugs_have withdrawn fleet (job ∷ jobs) le = and_from _ _ (le-leb withdrawn fleet le) refl
 
-both_have : (withdrawn : ℕ) (rules more : List Rule) → list_all (has_tugs withdrawn) rules ≡ true → list_all (has_tugs withdrawn) more ≡ true → list_all (has_tugs withdrawn) (rules ++ more) ≡ true
-both_have withdrawn rules more h k = list_all-append (has_tugs withdrawn) rules more ∙ and_from _ _ h k
+both_have : (withdrawn : ℕ) (rules more : List Rule) → list_all (rule_has_tugs withdrawn) rules ≡ true → list_all (rule_has_tugs withdrawn) more ≡ true → list_all (rule_has_tugs withdrawn) (rules ++ more) ≡ true
+both_have withdrawn rules more h k = list_all-append (rule_has_tugs withdrawn) rules more ∙ and_from _ _ h k
 
-port_has : (p : Parts) (withdrawn : ℕ) → withdrawn ≤ whole p.fleet → list_all (has_tugs withdrawn) (rules_of p) ≡ true
+port_has : (p : Parts) (withdrawn : ℕ) → withdrawn ≤ whole p.fleet → list_all (rule_has_tugs withdrawn) (rules_of p) ≡ true
 port_has p withdrawn le =
     let tugs = tug_rule (whole p.fleet) (jobs_from p 0 p.ships) in
     both_have withdrawn (pairs_from p 0 p.ships) (map berth_rule p.berths ++ (map after_rule p.after ++ tugs)) (two_have withdrawn (pairs_from p 0 p.ships) (all_pairs p 0 p.ships))
@@ -94,4 +94,4 @@ carried_reads p h place table events kept listed taken =
     let kept_on : IsWatched f (whole p.fleet) s = all_taken f (whole p.fleet) place (watched table) events (watched_first f (whole p.fleet) table is) taken in
     let few : whole p.fleet ≤ 1_000 = (within 0 1_000 p.fleet kept.fleet).2 in
     let flat : IsFlat f = (flattened_fits_law p h kept).0 in
-    written_reads f (carried table s) flat (fits f (whole p.fleet) table s flat is kept_on (values_repairable p h kept flat.few_ships)) (omega (arith, few, kept_on.few)) (port_has p s.withdrawn kept_on.few)
+    written_reads f (carried_plan table s) flat (fits f (whole p.fleet) table s flat is kept_on (values_repairable p h kept flat.few_ships)) (omega (arith, few, kept_on.few)) (port_has p s.withdrawn kept_on.few)

@@ -1,10 +1,9 @@
 -- A port's values are small enough to be repaired.
 use Rattle.std.proofs.Common.{◌≡◌, ℕ, ◌+◌, ◌*◌, ◌≤◌, ℤ, pos, ◌-ℤ◌, ◌*ℤ◌, ◌≤ℤ◌, Bool, true, false, cond, List, [], ◌∷◌, length, mul-le-mul, Option, Some, None, option_map, option_and_then, unwrap_or, int_lt, flat_map, All, refl, sym, subst, arith}
-use Rattle.std.proofs.lemmas.Int.{ints}
 use Rattle.std.proofs.lemmas.List.Elements.{All-cons, All-nil, All-append, All-map, All-weaker}
 use Rattle.std.specs.Int.{int_min}
 use Rattle.std.specs.List.{range_with_len}
-use Rattle.hw_port.specs.Kept.{PortKept, ShipKept, Within}
+use Rattle.hw_port.specs.Kept.{PortKept, ShipKept}
 use Rattle.hw_port.specs.Parts.{ShipParts}
 use Rattle.hw_port.specs.Whole.{Parts}
 use Rattle.hw_tide.specs.Levels.{TideParts}
@@ -14,26 +13,12 @@ use Rattle.hw_port_rules.specs.Numbers.{whole, horizon_of, some_may_stay, is_out
 use Rattle.hw_port_laws.proofs.Eachs.{Each, each_of_all, all_of_each, each_weaker, each_flat_map}
 use Rattle.hw_port_laws.proofs.Meeting.{le_from_false}
 use Rattle.hw_port_laws.proofs.Wholes.{within}
+use Rattle.hw_port_laws.proofs.Limits.{product, load_in, staying_small}
 use Rattle.hw_repair.specs.Wishes.{IsRepairable}
 
 -- at most 3000 tenths of a tonne for each of 10000 centimetres
 abbrev IsSmall : Option ℕ → Type 0
 IsSmall value = unwrap_or value 0 ≤ 30_000_000
-
-product : (a b m n : ℕ) → a ≤ m → b ≤ n → whole (pos a *ℤ pos b) ≤ m * n
-product a b m n p q = mul-le-mul p q
-
-load_in : (light deep draft : ℤ) → pos 0 ≤ℤ light → light ≤ℤ deep → deep ≤ℤ pos 10_000 → light ≤ℤ draft → Within (pos 0) (pos 10_000) (int_min deep draft -ℤ light)
-load_in light deep draft a b c d =
-    let low : light ≤ℤ int_min deep draft = above light deep draft b d in
-    let high : int_min deep draft ≤ℤ deep = below deep draft in
-    record { low = omega (arith, ints, low); high = omega (arith, ints, high, a, c) }
-  where
-    above : (light deep draft : ℤ) → light ≤ℤ deep → light ≤ℤ draft → light ≤ℤ int_min deep draft
-    above light deep draft b d = grind (arith, ints)
-
-    below : (deep draft : ℤ) → int_min deep draft ≤ℤ deep
-    below deep draft = grind (arith, ints)
 
 carried_small : (p : Parts) (s : ShipParts) (draft : ℤ) → ShipKept p s → s.light ≤ℤ draft → carried s draft ≤ 30_000_000
 carried_small p s draft ks float = by_side (is_outgoing s)
@@ -60,10 +45,6 @@ value_small p h s slot ks = in_all (may_sail p s slot) (allowed_draft p h s slot
     in_all false o = omega arith
     in_all true None = omega arith
     in_all true (Some draft) = floats draft (int_lt draft s.light) refl
-
-staying_small : (b : Bool) → unwrap_or {T = ℕ} (cond b (Some 0) None) 0 ≤ 1
-staying_small true = omega arith
-staying_small false = omega arith
 
 row_small : (p : Parts) (h : TideParts) (s : ShipParts) → ShipKept p s → All IsSmall (value_row p h s)
 row_small p h s ks = All-append IsSmall _ (cond (some_may_stay p) (stay_value s ∷ []) [])

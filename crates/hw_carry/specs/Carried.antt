@@ -27,8 +27,8 @@ wishes_now day (gone ∷ sailed) (planned ∷ table) [] = []
 wishes_now day (gone ∷ sailed) (planned ∷ table) (slot ∷ slots) = wish_now day gone planned slot ∷ wishes_now day sailed table slots
 
 -- the plan of the timetable, after events that led to this state
-abbrev pub carried : List ℕ → Watched → PlanParts
-carried table s = record { withdrawn = s.withdrawn; wishes = wishes_now (reached s.sailed s.table) s.sailed table s.table }
+abbrev pub carried_plan : List ℕ → Watched → PlanParts
+carried_plan table s = record { withdrawn = s.withdrawn; wishes = wishes_now (reached s.sailed s.table) s.sailed table s.table }
 
 -- ---- the same in words
 

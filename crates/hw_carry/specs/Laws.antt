@@ -13,16 +13,16 @@ use Rattle.hw_audit.specs.declared.event.PortEvent.{PortEvent}
 use Rattle.hw_repair.specs.Text.{plan_text}
 use Rattle.hw_repair.specs.Wishes.{PermitsPlan}
 use Rattle.hw_repair.specs.Written.{written_plan}
-use Rattle.hw_carry.specs.Carried.{carried, KeepsDay}
+use Rattle.hw_carry.specs.Carried.{carried_plan, KeepsDay}
 
 -- a timetable meets the plan exactly where the port, with the tugs that are left, permits it, and it keeps the day
 abbrev pub KeepsTheDay : Type 0
 KeepsTheDay = (p : Parts) (h : TideParts) (place : ℕ) (table : List ℕ) (events : List PortEvent) (other : List ℕ) → PortKept p → IsPortTimetable p table
     → first_refused (flattened p h) (whole p.fleet) place (watched table) events ≡ None
-    → let s = after_all (watched table) events in (PermitsPlan (flattened p h) (carried table s) other ↔ (PortPermits (fewer_tugs s.withdrawn p) h other × KeepsDay table s other))
+    → let s = after_all (watched table) events in (PermitsPlan (flattened p h) (carried_plan table s) other ↔ (PortPermits (fewer_tugs s.withdrawn p) h other × KeepsDay table s other))
 
 -- the text of the plan reads as the plan
 abbrev pub CarriedReads : Type 0
 CarriedReads = (p : Parts) (h : TideParts) (place : ℕ) (table : List ℕ) (events : List PortEvent) → PortKept p → IsPortTimetable p table
     → first_refused (flattened p h) (whole p.fleet) place (watched table) events ≡ None
-    → let plan = carried table (after_all (watched table) events) in plan_text (flattened p h) (written_plan plan) ≡ Ok plan
+    → let plan = carried_plan table (after_all (watched table) events) in plan_text (flattened p h) (written_plan plan) ≡ Ok plan

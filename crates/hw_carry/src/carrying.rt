@@ -3,7 +3,7 @@
 ghost use Rattle.std.specs.Prelude.{◌≡◌, length};
 ghost use Rattle.hw_desk.specs.Writers.{Puts};
 ghost use Rattle.hw_repair.specs.Written.{opening_text, wish_text, wishes_text, written_plan};
-ghost use Rattle.hw_carry.specs.Carried.{carried, earliest, reached, wish_now, wishes_now};
+ghost use Rattle.hw_carry.specs.Carried.{carried_plan, earliest, reached, wish_now, wishes_now};
 
 use hw_audit::Audit;
 use hw_desk::Writer;
@@ -99,7 +99,7 @@ fn put_opening<W: Writer>(out: &mut W, withdrawn: u32)
 /// Puts the plan that a day leaves: of the timetable that was planned, and of the audit of it after
 /// the events so far. It takes no memory.
 pub fn put_carried<W: Writer>(out: &mut W, planned: &[Slot], audit: &Audit)
-    ensures { Puts (written_plan (carried planned.now audit.now.state)) (W.state out.old) (W.state out.new) }
+    ensures { Puts (written_plan (carried_plan planned.now audit.now.state)) (W.state out.old) (W.state out.new) }
 {
     let sailed = audit.sailed();
     let slots = audit.slots();

@@ -3,19 +3,19 @@ use Rattle.std.proofs.Common.{◌≡◌, ◌≤◌, ◌+◌, ◌^◌, ◌||◌, 
 use Rattle.std.proofs.lemmas.Bool.{ltb-false}
 use Rattle.std.specs.Prelude.{IfSome, IfOk, IsSome, IsSomeAnd, is_some, is_none, if◌then◌else◌}
 use Rattle.std.specs.Io.KnownBytes.{prepend_known}
-use Rattle.hw_desk.specs.State.{DeskState, Rose}
+use Rattle.hw_desk.specs.State.{DeskState}
 use Rattle.hw_desk.specs.Calls.{Moves}
 use Rattle.hw_desk.specs.declared.desk.Feed.{Feed}
-use Rattle.hw_desk.proofs.Chain.{moves_on}
+use Rattle.hw_desk.proofs.Chain.{moves_on, rose_on}
 use Rattle.hw_model.specs.Problem.{Problem, shape_of}
 use Rattle.hw_text.specs.Parts.{parts_of}
 use Rattle.hw_cert.specs.Fits.{line_read}
 use Rattle.hw_cert.specs.Spelled.{is_within, version_to}
 use Rattle.hw_cert.specs.Laws.{has_form}
-use Rattle.hw_cert.specs.Stream.{Cut, whole, long, passes, cut_of, NextLine, bad, too_long, line_next, header_next, header_by, next_by, line_by, behind}
+use Rattle.hw_cert.specs.Stream.{Cut, whole, long, line_passes_limit, cut_of, NextLine, bad, too_long, line_next, header_next, header_by, next_by, line_by, behind}
 use Rattle.hw_cert.specs.Reader.{ReaderModel, ReaderKeeps}
 use Rattle.hw_cert.specs.Taking.{TakesLine}
-use Rattle.hw_cert.specs.Nexts.{rest_of, next_line, StopsAs, Answers, GoesOn, Takes, TakesHeader}
+use Rattle.hw_cert.specs.Nexts.{rest_of, next_line, StopsAs, Answers, GoesOn, TakesNextLine, TakesHeader}
 use Rattle.hw_lines.specs.Valid.{LineFits}
 use Rattle.hw_lines.specs.declared.line.Line.{Line}
 use Rattle.hw_cert.specs.declared.reader.Next.{Next}
@@ -29,11 +29,11 @@ use Rattle.hw_cert.specs.declared.taking.TakenLine.TheVariants.{Whole, Unended, 
 use Rattle.hw_cert.specs.declared.version.Version.{Version}
 use Rattle.hw_cert.proofs.Cuts.{CutIs, told_cut, whole_sizes}
 
-told_map : {P Q : List ℕ → Type 0} (o : Option (List ℕ)) → ((x : List ℕ) → P x → Q x) → IfSome o P → IfSome o Q
+pub told_map : {P Q : List ℕ → Type 0} (o : Option (List ℕ)) → ((x : List ℕ) → P x → Q x) → IfSome o P → IfSome o Q
 told_map None f h = tt
 told_map (Some x) f h = f x h
 
-some_map : {P Q : List ℕ → Type 0} (o : Option (List ℕ)) → ((x : List ℕ) → P x → Q x) → IsSomeAnd o P → IsSomeAnd o Q
+pub some_map : {P Q : List ℕ → Type 0} (o : Option (List ℕ)) → ((x : List ℕ) → P x → Q x) → IsSomeAnd o P → IsSomeAnd o Q
 some_map None f h = h
 some_map (Some x) f h = f x h
 
@@ -126,11 +126,8 @@ found_both : {P Q : List ℕ → Type 0} (o : Option (List ℕ)) → IsSomeAnd o
 found_both None p q = absurd p
 found_both (Some x) p q = (x, p, q)
 
-rose_after : {a b c : ℕ} → a ≤ b → Rose b c → Rose a c
-rose_after h k = omega arith
-
 -- the line after the header
-pub header_then_line : {x y z : DeskState} (r reader : ReaderModel) (result : Result Next LineStop) → r.at.version ≡ None → TakesHeader r x y (Ok reader) → Takes reader y z result → Takes r x z result
+pub header_then_line : {x y z : DeskState} (r reader : ReaderModel) (result : Result Next LineStop) → r.at.version ≡ None → TakesHeader r x y (Ok reader) → TakesNextLine reader y z result → TakesNextLine r x z result
 header_then_line {x = x} {y = y} {z = z} r reader result none h t =
     let b = h.moved.3 in
     let second : Moves r.feed t.moved.0 y z = subst (λ (f : Feed). Moves f t.moved.0 y z) b.feed t.moved.1 in
@@ -138,7 +135,7 @@ header_then_line {x = x} {y = y} {z = z} r reader result none h t =
       moved = (h.moved.0 ++ t.moved.0, moves_on h.moved.1 second (h.moved.0 ++ t.moved.0) refl, omega (arith, b.room, t.moved.2, length-append h.moved.0 t.moved.0));
       next = told_map (rest_of r x) (λ rest c. let both = found_both (rest_of reader y) c t.next in subst (λ (n : NextLine). Answers n z result) (sym both.1) both.2) b.next;
       line = one_more result t.line;
-      fault = λ e. rose_after h.moved.1.only.later (t.fault e);
+      fault = λ e. rose_on h.moved.1.only.later (t.fault e);
       kept = λ none. t.kept none ∙ h.kept (λ e. absurd (cc));
     }
   where
@@ -171,7 +168,7 @@ header_then_line {x = x} {y = y} {z = z} r reader result none h t =
 
 -- ---- a line
 
-pub line_stopped : {line pending : List ℕ} {x y : DeskState} (r : ReaderModel) (version : Version) (stop : LineStop) → r.at.version ≡ Some version → r.at.taken ≤ 2 ^ 40 → TakesLine r.feed r.at.taken r.pending pending line x y (Err stop) → Takes r x y (Err stop)
+pub line_stopped : {line pending : List ℕ} {x y : DeskState} (r : ReaderModel) (version : Version) (stop : LineStop) → r.at.version ≡ Some version → r.at.taken ≤ 2 ^ 40 → TakesLine r.feed r.at.taken r.pending pending line x y (Err stop) → TakesNextLine r x y (Err stop)
 line_stopped {line = line} {pending = pending} {x = x} {y = y} r version stop named le h = record {
   moved = (h.moved.0, h.moved.1, h.moved.2);
   next = told_map (rest_of r x) (λ rest c. stops_same _ _ stop (at_line r version rest named) (stop_as (line_next r.shape r.at.most version r.at.number r.at.taken) (cut_of r.at.taken (parts_of 10 rest)) r.at.taken rest line (prepend_known pending (y.feeds r.feed).left) stop refl refl c)) (told_cut h le);
@@ -180,7 +177,7 @@ line_stopped {line = line} {pending = pending} {x = x} {y = y} r version stop na
   kept = λ none. h.kept (λ e. none (err_same stop stops.Fault e));
 }
 
-pub line_unended : {line pending : List ℕ} {x y : DeskState} (r : ReaderModel) (version : Version) → r.at.version ≡ Some version → r.at.taken ≤ 2 ^ 40 → TakesLine r.feed r.at.taken r.pending pending line x y (Ok Unended) → Takes r x y (Err (stops.Form r.at.number Form))
+pub line_unended : {line pending : List ℕ} {x y : DeskState} (r : ReaderModel) (version : Version) → r.at.version ≡ Some version → r.at.taken ≤ 2 ^ 40 → TakesLine r.feed r.at.taken r.pending pending line x y (Ok Unended) → TakesNextLine r x y (Err (stops.Form r.at.number Form))
 line_unended {line = line} {pending = pending} {x = x} {y = y} r version named le h = record {
   moved = (h.moved.0, h.moved.1, h.moved.2);
   next = told_map (rest_of r x) (λ rest c. at_line r version rest named ∙ ap (line_next r.shape r.at.most version r.at.number r.at.taken) c) (told_cut h le);
@@ -194,7 +191,7 @@ read_as : (line : List ℕ) (r : ReaderModel) (version : Version) (rest : List �
     → IsSomeAnd left (λ more. next_line r rest ≡ line_by r.at.number (behind r.at.most version r.at.number r.at.taken line) (parts_of 10 more) (line_read r.shape version line))
 read_as line r version rest left named c = some_map left (λ more cut. at_line r version rest named ∙ ap (line_next r.shape r.at.most version r.at.number r.at.taken) cut) c
 
-pub line_bad : {line pending : List ℕ} {x y : DeskState} (r : ReaderModel) (version : Version) (word : FormWord) → r.at.version ≡ Some version → r.at.taken ≤ 2 ^ 40 → line_read r.shape version line ≡ Err word → TakesLine r.feed r.at.taken r.pending pending line x y (Ok Whole) → Takes r x y (Err (stops.Form r.at.number word))
+pub line_bad : {line pending : List ℕ} {x y : DeskState} (r : ReaderModel) (version : Version) (word : FormWord) → r.at.version ≡ Some version → r.at.taken ≤ 2 ^ 40 → line_read r.shape version line ≡ Err word → TakesLine r.feed r.at.taken r.pending pending line x y (Ok Whole) → TakesNextLine r x y (Err (stops.Form r.at.number word))
 line_bad {line = line} {pending = pending} {x = x} {y = y} r version word named le wrong h = record {
   moved = (h.moved.0, h.moved.1, h.moved.2);
   next = told_map (rest_of r x) (λ rest c. is_bad rest (prepend_known pending (y.feeds r.feed).left) (read_as line r version rest _ named c)) (told_cut h le);
@@ -207,7 +204,7 @@ line_bad {line = line} {pending = pending} {x = x} {y = y} r version word named 
     is_bad rest None c = absurd c
     is_bad rest (Some more) c = c ∙ ap (line_by r.at.number (behind r.at.most version r.at.number r.at.taken line) (parts_of 10 more)) wrong
 
-within : (taken size : ℕ) → passes taken size 1 ≡ false → taken + size + 1 ≤ 2 ^ 40
+within : (taken size : ℕ) → line_passes_limit taken size 1 ≡ false → taken + size + 1 ≤ 2 ^ 40
 within taken size h = both_off (nat_lt (2 ^ 20) size) (nat_lt (2 ^ 40) (taken + size + 1)) h (λ k. omega (arith, ltb-false (2 ^ 40) (taken + size + 1) k))
   where
     both_off : {P : Type 0} (a b : Bool) → (a || b) ≡ false → (b ≡ false → P) → P
@@ -218,7 +215,7 @@ pub whole_within : {f : Feed} {taken : ℕ} {before pending line : List ℕ} {x 
 whole_within {taken = taken} {line = line} h = within taken (length line) h.moved.3.limit
 
 pub line_taken : {line pending : List ℕ} {x y : DeskState} (r : ReaderModel) (version : Version) (l : Line) → r.at.version ≡ Some version → r.at.taken ≤ 2 ^ 40 → line_read r.shape version line ≡ Ok l
-    → ((f : Problem) → shape_of f ≡ r.shape → LineFits f l) → has_form r.at.most l ≡ true → TakesLine r.feed r.at.taken r.pending pending line x y (Ok Whole) → Takes r x y (Ok (nexts.Line (past_header r version line pending) l))
+    → ((f : Problem) → shape_of f ≡ r.shape → LineFits f l) → has_form r.at.most l ≡ true → TakesLine r.feed r.at.taken r.pending pending line x y (Ok Whole) → TakesNextLine r x y (Ok (nexts.Line (past_header r version line pending) l))
 line_taken {line = line} {pending = pending} {x = x} {y = y} r version l named le is fits formed h = record {
   moved = (h.moved.0, h.moved.1, h.moved.2);
   next = told_map (rest_of r x) (λ rest c. some_map (prepend_known pending (y.feeds r.feed).left) (λ more e. e ∙ ap (line_by r.at.number (behind r.at.most version r.at.number r.at.taken line) (parts_of 10 more)) is) (read_as line r version rest _ named c)) (told_cut h le);

@@ -1,16 +1,17 @@
 -- What the told bytes begin with, where a line was taken from them.
-use Rattle.std.proofs.Common.{◌≡◌, ◌==◌, ◌≤◌, ◌<◌, ◌+◌, ◌^◌, not, cond, nat_lt, ℕ, Bool, true, false, List, [], ◌∷◌, ◌++◌, length, Option, Some, None, Result, Ok, Err, refl, sym, ap, ◌∙◌, subst, arith, append_assoc, append-nil, length-append, inl, inr}
+use Rattle.std.proofs.Common.{◌≡◌, ◌==◌, ◌≤◌, ◌<◌, ◌+◌, ◌^◌, not, cond, nat_lt, ℕ, Bool, true, false, List, [], ◌∷◌, ◌++◌, length, Option, Some, None, Result, Ok, Err, sym, ap, ◌∙◌, subst, arith, append_assoc, append-nil, length-append, inl, inr}
 use Rattle.std.proofs.lemmas.Bool.{ltb-true, lt-ltb, or_cases, or_left, or_right, and_parts}
 use Rattle.std.proofs.lemmas.List.Splits.{slice_split-cons_no}
 use Rattle.std.specs.List.{onto_first}
 use Rattle.std.specs.Prelude.{IfSome, IsSomeAnd, ⊤}
 use Rattle.std.specs.Io.KnownBytes.{prepend_known}
+use Rattle.hw_lemmas.proofs.Truths.{was_not}
 use Rattle.hw_desk.specs.State.{DeskState}
 use Rattle.hw_desk.specs.declared.desk.Feed.{Feed}
 use Rattle.hw_text.specs.Parts.{lacks, parts_of}
 use Rattle.hw_text.proofs.Joins.{one_part, part_before}
 use Rattle.hw_text.proofs.Splits.{has_part}
-use Rattle.hw_cert.specs.Stream.{nothing, whole, unended, long, passes, cut_of, tail_cut}
+use Rattle.hw_cert.specs.Stream.{nothing, whole, unended, long, line_passes_limit, cut_of, tail_cut}
 use Rattle.hw_cert.specs.Taking.{Stands, TakesLine}
 use Rattle.hw_cert.specs.declared.stop.LineStop.{LineStop}
 use Rattle.hw_cert.specs.declared.stop.LineStop.TheVariants as stops
@@ -18,7 +19,7 @@ use Rattle.hw_cert.specs.declared.taking.TakenLine.{TakenLine}
 use Rattle.hw_cert.specs.declared.taking.TakenLine.TheVariants.{Whole, Unended, Nothing}
 
 -- a line and a line feed
-cut_line : (taken : ℕ) (line more : List ℕ) (b : Bool) → lacks 10 line ≡ true → passes taken (length line) 1 ≡ b → cut_of taken (parts_of 10 (line ++ 10 ∷ more)) ≡ cond b long (whole line (parts_of 10 more))
+cut_line : (taken : ℕ) (line more : List ℕ) (b : Bool) → lacks 10 line ≡ true → line_passes_limit taken (length line) 1 ≡ b → cut_of taken (parts_of 10 (line ++ 10 ∷ more)) ≡ cond b long (whole line (parts_of 10 more))
 cut_line taken line more b l p =
     let r = has_part (λ c. c == 10) more in
     ap (cut_of taken) (part_before 10 line more l) ∙ by_parts (parts_of 10 more) r.0 r.1 r.2
@@ -26,40 +27,36 @@ cut_line taken line more b l p =
     by_parts : (ps : List (List ℕ)) (y : List ℕ) (ys : List (List ℕ)) → ps ≡ y ∷ ys → cut_of taken (line ∷ ps) ≡ cond b long (whole line ps)
     by_parts ps y ys e = rw e (ap (λ (q : Bool). cond q long (whole line (y ∷ ys))) p)
 
-tail_is : (taken : ℕ) (line : List ℕ) (b : Bool) → 0 < length line → passes taken (length line) 0 ≡ b → tail_cut taken line ≡ cond b long unended
+tail_is : (taken : ℕ) (line : List ℕ) (b : Bool) → 0 < length line → line_passes_limit taken (length line) 0 ≡ b → tail_cut taken line ≡ cond b long unended
 tail_is taken [] b lt p = absurd (omega arith)
 tail_is taken (x ∷ xs) b lt p = ap (λ (q : Bool). cond q long unended) p
 
 -- bytes without a line feed
-cut_tail : (taken : ℕ) (line : List ℕ) (b : Bool) → lacks 10 line ≡ true → 0 < length line → passes taken (length line) 0 ≡ b → cut_of taken (parts_of 10 line) ≡ cond b long unended
+cut_tail : (taken : ℕ) (line : List ℕ) (b : Bool) → lacks 10 line ≡ true → 0 < length line → line_passes_limit taken (length line) 0 ≡ b → cut_of taken (parts_of 10 line) ≡ cond b long unended
 cut_tail taken line b l lt p = ap (cut_of taken) (one_part 10 line l) ∙ tail_is taken line b lt p
-
-is_off : (b : Bool) → not b ≡ true → b ≡ false
-is_off true h = absurd cc
-is_off false h = refl
 
 -- the first part begins with the bytes before any line feed
 front_part : (line more y : List ℕ) (ys : List (List ℕ)) → lacks 10 line ≡ true → parts_of 10 more ≡ y ∷ ys → parts_of 10 (line ++ more) ≡ (line ++ y) ∷ ys
 front_part [] more y ys l e = e
 front_part (x ∷ xs) more y ys l e =
     let p = and_parts (not (x == 10)) (lacks 10 xs) l in
-    slice_split-cons_no (λ b. b == 10) x (xs ++ more) (is_off (x == 10) p.0) ∙ ap (onto_first x) (front_part xs more y ys p.1 e)
+    slice_split-cons_no (λ b. b == 10) x (xs ++ more) (was_not (x == 10) p.0) ∙ ap (onto_first x) (front_part xs more y ys p.1 e)
 
 -- what passes a limit without its end does so with more bytes
-passes_more : (taken a b e : ℕ) → a ≤ b → passes taken a 0 ≡ true → passes taken b e ≡ true
+passes_more : (taken a b e : ℕ) → a ≤ b → line_passes_limit taken a 0 ≡ true → line_passes_limit taken b e ≡ true
 passes_more taken a b e le p = elim (or_cases (nat_lt (2 ^ 20) a) (nat_lt (2 ^ 40) (taken + a + 0)) p) [
   | inl h ↦ let lt : 2 ^ 20 < a = ltb-true (2 ^ 20) a h in or_left (nat_lt (2 ^ 20) b) (nat_lt (2 ^ 40) (taken + b + e)) (lt-ltb (2 ^ 20) b (omega (arith, lt, le)))
   | inr h ↦ let lt : 2 ^ 40 < taken + a + 0 = ltb-true (2 ^ 40) (taken + a + 0) h in or_right (nat_lt (2 ^ 20) b) (nat_lt (2 ^ 40) (taken + b + e)) (lt-ltb (2 ^ 40) (taken + b + e) (omega (arith, lt, le)))
 ]
 
-some_size : (taken a : ℕ) → taken ≤ 2 ^ 40 → passes taken a 0 ≡ true → 0 < a
+some_size : (taken a : ℕ) → taken ≤ 2 ^ 40 → line_passes_limit taken a 0 ≡ true → 0 < a
 some_size taken a le p = elim (or_cases (nat_lt (2 ^ 20) a) (nat_lt (2 ^ 40) (taken + a + 0)) p) [
   | inl h ↦ let lt : 2 ^ 20 < a = ltb-true (2 ^ 20) a h in omega (arith, lt)
   | inr h ↦ let lt : 2 ^ 40 < taken + a + 0 = ltb-true (2 ^ 40) (taken + a + 0) h in omega (arith, lt, le)
 ]
 
 -- bytes past a limit, whatever follows them
-cut_past : (taken : ℕ) (line more : List ℕ) → lacks 10 line ≡ true → taken ≤ 2 ^ 40 → passes taken (length line) 0 ≡ true → cut_of taken (parts_of 10 (line ++ more)) ≡ long
+cut_past : (taken : ℕ) (line more : List ℕ) → lacks 10 line ≡ true → taken ≤ 2 ^ 40 → line_passes_limit taken (length line) 0 ≡ true → cut_of taken (parts_of 10 (line ++ more)) ≡ long
 cut_past taken line more l le p =
     let r = has_part (λ c. c == 10) more in
     let longer : length line ≤ length (line ++ r.0) = omega (arith, length-append line r.0) in

@@ -5,11 +5,12 @@ use Rattle.std.proofs.lemmas.List.Splits.{join_with_byte-slice_split}
 use Rattle.std.proofs.lemmas.Slice.Eq.{bytes_eq-Decides}
 use Rattle.std.specs.Prelude.{codes, bytes_eq}
 use Rattle.std.specs.List.{list_all, flat_map, join_with_byte}
+use Rattle.hw_lemmas.proofs.Truths.{chosen}
 use Rattle.hw_model.specs.declared.lit.Lit.{Lit}
 use Rattle.hw_model.specs.declared.shape.Shape.{Shape}
 use Rattle.hw_text.specs.Parts.{words_of}
 use Rattle.hw_cert.specs.Texts.{lit_text, line_text}
-use Rattle.hw_cert.specs.Spelled.{number_word, both, all_numbers, some_numbers, Lits, lits_of, only_lits, table_form, explain_form, order_form, goal_form, hinted_form, lemma_form, delete_form, narrows_form, tugs_form, tariff_form, priced_form, bound_form, form_of, line_of, spelled}
+use Rattle.hw_cert.specs.Spelled.{number_word, both_values, all_numbers, some_numbers, Lits, lits_of, only_lits, table_form, explain_form, order_form, goal_form, hinted_form, lemma_form, delete_form, narrows_form, tugs_form, tariff_form, priced_form, bound_form, form_of, spelled_line, spelled}
 use Rattle.hw_cert.specs.Fits.{line_read}
 use Rattle.hw_cert.specs.Laws.{lit_numbers, line_numbers, wide_numbers, has_form, is_small, is_wide, IsLine}
 use Rattle.hw_lines.specs.declared.line.Line.{Line}
@@ -17,7 +18,7 @@ use Rattle.hw_lines.specs.declared.line.Line.TheVariants as lines
 use Rattle.hw_cert.specs.declared.version.Version.{Version}
 use Rattle.hw_cert.specs.declared.version.Version.TheVariants.{One, Two, Three}
 use Rattle.hw_cert.proofs.WordBytes.{both_on}
-use Rattle.hw_cert.proofs.ReadBack.{mapped, chained, paired, chosen, number_back, numbers_back, some_back, behind_words, lits_back}
+use Rattle.hw_cert.proofs.ReadBack.{mapped, chained, paired, number_back, numbers_back, some_back, behind_words, lits_back}
 use Rattle.hw_cert.proofs.Shapes.{fitted_ok}
 use Rattle.hw_cert.proofs.Spells.{Spells, only_back}
 use Rattle.hw_cert.proofs.TollBack.{narrows_back, tugs_back, tariff_back, priced_back, bound_back}
@@ -31,7 +32,7 @@ table_back version ws line h =
 explain_back : (version : Version) (ws : List (List ℕ)) (line : Line) → explain_form ws ≡ Some line → Spells version (codes "e") ws line
 explain_back version [] line h = absurd cc
 explain_back version (n ∷ ws) line h =
-    let p = mapped (λ (q : ℕ × List Lit). lines.Explain q.0 q.1) (both (number_word n) (only_lits ws)) line h in
+    let p = mapped (λ (q : ℕ × List Lit). lines.Explain q.0 q.1) (both_values (number_word n) (only_lits ws)) line h in
     let q = paired (number_word n) (only_lits ws) p.0 p.1 in
     let a = number_back n p.0.0 q.0 in
     let r = only_back ws p.0.1 q.1 in
@@ -47,9 +48,9 @@ order_back version [] line h = absurd cc
 order_back version (v ∷ []) line h = absurd cc
 order_back version (v ∷ w ∷ []) line h = absurd cc
 order_back version (v ∷ w ∷ x ∷ ws) line h =
-    let p = mapped (λ (s : ℕ × (ℕ × (ℕ × List Lit))). lines.Order s.0 s.1.0 s.1.1.0 s.1.1.1) (both (number_word v) (both (number_word w) (both (number_word x) (only_lits ws)))) line h in
-    let a = paired (number_word v) (both (number_word w) (both (number_word x) (only_lits ws))) p.0 p.1 in
-    let b = paired (number_word w) (both (number_word x) (only_lits ws)) p.0.1 a.1 in
+    let p = mapped (λ (s : ℕ × (ℕ × (ℕ × List Lit))). lines.Order s.0 s.1.0 s.1.1.0 s.1.1.1) (both_values (number_word v) (both_values (number_word w) (both_values (number_word x) (only_lits ws)))) line h in
+    let a = paired (number_word v) (both_values (number_word w) (both_values (number_word x) (only_lits ws))) p.0 p.1 in
+    let b = paired (number_word w) (both_values (number_word x) (only_lits ws)) p.0.1 a.1 in
     let d = paired (number_word x) (only_lits ws) p.0.1.1 b.1 in
     let first = number_back v p.0.0 a.0 in
     let second = number_back w p.0.1.0 b.0 in
@@ -129,7 +130,7 @@ pub record SpellsText (version : Version) (bytes : List ℕ) (line : Line) : Typ
   pub wide : list_all is_wide (wide_numbers line) ≡ true
   pub formed : has_form version line ≡ true
 
-pub text_back : (version : Version) (bytes : List ℕ) (line : Line) (ws : List (List ℕ)) → ws ≡ words_of bytes → line_of version ws ≡ Some line → SpellsText version bytes line
+pub text_back : (version : Version) (bytes : List ℕ) (line : Line) (ws : List (List ℕ)) → ws ≡ words_of bytes → spelled_line version ws ≡ Some line → SpellsText version bytes line
 text_back version bytes line [] e h = absurd cc
 text_back version bytes line (kind ∷ ws) e h =
     let r = form_back version kind ws line h in

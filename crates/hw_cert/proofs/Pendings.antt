@@ -5,11 +5,9 @@ use Rattle.std.proofs.lemmas.Bool.{eqb-true}
 use Rattle.std.proofs.lemmas.List.{drop-take, drop-drop}
 use Rattle.std.proofs.lemmas.Iterator.Adapters.{position_from-zero}
 use Rattle.std.specs.List.{position_from}
+use Rattle.hw_lemmas.proofs.Truths.{same_some}
 use Rattle.hw_text.specs.Parts.{lacks}
 use Rattle.hw_cert.specs.Reader.{Scans}
-
-some_is : (a b : ℕ) → Some a ≡ Some b → a ≡ b
-some_is a b h = cc
 
 none_found : (k : ℕ) (xs : List ℕ) → position_from (λ b. b == 10) k xs ≡ None → lacks 10 xs ≡ true
 none_found k [] e = refl
@@ -27,7 +25,7 @@ one_found : (k i : ℕ) (xs : List ℕ) → position_from (λ b. b == 10) k xs �
 one_found k i [] e = absurd cc
 one_found k i (x ∷ xs) e =
     elim (x == 10) as (λ b. (b ≡ true → x ≡ 10) → cond b (Some k) (position_from (λ b. b == 10) (k + 1) xs) ≡ Some i → (b ≡ false → not (x == 10) ≡ true) → (j : ℕ) × (i ≡ k + j) × Found (x ∷ xs) j) [
-      | true ↦ λ is h no. (0, omega (arith, some_is k i h), (ap (λ y. y ∷ xs) (is refl), refl))
+      | true ↦ λ is h no. (0, omega (arith, same_some k i h), (ap (λ y. y ∷ xs) (is refl), refl))
       | false ↦ λ is h no.
           let r = one_found (k + 1) i xs h in
           let kept : (not (x == 10) && lacks 10 (take r.0 xs)) ≡ true = rw (no refl) r.2.1 in

@@ -1,17 +1,19 @@
 -- What reads as a line is the text of that line.
-use Rattle.std.proofs.Common.{◌≡◌, ◌==◌, ◌-◌, ◌^◌, ◌&&◌, nat_lt, cond, ℕ, Bool, true, false, List, [], ◌∷◌, ◌++◌, length, map, decimal, Option, Some, None, refl, sym, ap, ◌∙◌, subst, arith, inl, inr, ◌⊎◌}
+use Rattle.std.proofs.Common.{◌≡◌, ◌==◌, ◌-◌, ◌^◌, ◌&&◌, nat_lt, cond, ℕ, Bool, true, false, List, [], ◌∷◌, ◌++◌, length, map, decimal, Option, Some, None, refl, sym, ap, ◌∙◌, subst, arith, inl, inr}
 use Rattle.std.proofs.lemmas.Bool.{eqb-true, le-leb}
 use Rattle.std.proofs.lemmas.List.Folds.{list_all-append}
 use Rattle.std.proofs.lemmas.List.Splits.{join_with_byte-slice_split}
 use Rattle.std.proofs.lemmas.Slice.Eq.{bytes_eq-Decides}
 use Rattle.std.specs.Prelude.{codes, option_map, option_and_then, bytes_eq}
 use Rattle.std.specs.List.{list_all, flat_map, join_with_byte}
+use Rattle.hw_lemmas.proofs.Truths.{chosen}
 use Rattle.hw_model.specs.declared.lit.Lit.{Lit}
 use Rattle.hw_model.specs.declared.lit.Lit.TheVariants.{AtOrAfter, Before, First, NotFirst}
 use Rattle.hw_text.specs.Parts.{parts_of}
 use Rattle.hw_text.proofs.Spelled.{is_spelled}
+use Rattle.hw_flat.specs.TextForms.{put_first}
 use Rattle.hw_cert.specs.Texts.{pair_text, lit_text}
-use Rattle.hw_cert.specs.Spelled.{number_word, both, put_first, all_numbers, some_of, some_numbers, number_pair, lettered, lit_word, Lits, put_lit, lits_of}
+use Rattle.hw_cert.specs.Spelled.{number_word, both_values, all_numbers, some_of, some_numbers, number_pair, lettered, lit_word, Lits, put_lit, lits_of}
 use Rattle.hw_cert.specs.Laws.{lit_numbers, is_small}
 use Rattle.hw_cert.proofs.WordBytes.{both_on}
 
@@ -23,7 +25,7 @@ pub chained : {A B : Type 0} (f : A → Option B) (o : Option A) (y : B) → opt
 chained f None y h = absurd cc
 chained f (Some x) y h = (x, refl, h)
 
-pub paired : {A B : Type 0} (a : Option A) (b : Option B) (p : A × B) → both a b ≡ Some p → (a ≡ Some p.0) × (b ≡ Some p.1)
+pub paired : {A B : Type 0} (a : Option A) (b : Option B) (p : A × B) → both_values a b ≡ Some p → (a ≡ Some p.0) × (b ≡ Some p.1)
 paired None b p h = absurd cc
 paired (Some x) None p h = absurd cc
 paired {A = A} {B = B} (Some x) (Some y) p h = let e : (x, y) ≡ p = cc in (ap (λ (q : A × B). Some q.0) e, ap (λ (q : A × B). Some q.1) e)
@@ -32,11 +34,6 @@ pub put_back : {A : Type 0} (a : Option A) (b : Option (List A)) (all : List A) 
 put_back None b all h = absurd cc
 put_back (Some x) None all h = absurd cc
 put_back (Some x) (Some xs) all h = (x, xs, refl, refl, cc)
-
--- which way a test went
-pub chosen : {A : Type 0} (b : Bool) (x y z : A) → cond b x y ≡ z → ((b ≡ true) × (x ≡ z)) ⊎ ((b ≡ false) × (y ≡ z))
-chosen true x y z h = inl (refl, h)
-chosen false x y z h = inr (refl, h)
 
 pub number_back : (w : List ℕ) (n : ℕ) → number_word w ≡ Some n → (w ≡ decimal n) × (is_small n ≡ true)
 number_back w n h = let p = is_spelled (2 ^ 32 - 1) w n (omega arith) h in (p.0, le-leb n (2 ^ 32 - 1) p.1)

@@ -7,9 +7,10 @@ use Rattle.std.specs.List.{list_all}
 use Rattle.hw_model.specs.Problem.{Problem, shape_of}
 use Rattle.hw_model.specs.Lits.{BadLit, out_of_range, not_normal, first_bad}
 use Rattle.hw_model.specs.declared.shape.Shape.{Shape}
-use Rattle.hw_cert.specs.Fits.{unless, ◌or_else◌, lit_fault, clause_fault, ascends, rises, block_fits, weights_small, prices_small, first_fault, refused_by, fitted, line_read}
+use Rattle.hw_cert.specs.Fits.{word_unless, lit_fault, clause_fault, ascends, rises, block_fits_shape, weights_small, prices_small, first_fault, unless_bad, fitted, line_read}
 use Rattle.hw_cert.specs.Spelled.{spelled}
 use Rattle.std.specs.List.Sorted.{IsStrictlyIncreasing}
+use Rattle.hw_lemmas.specs.Operators.{◌or_else◌}
 use Rattle.hw_tolls.specs.declared.toll.Block.{Block}
 use Rattle.hw_tolls.specs.Tolls.{BlockFits}
 use Rattle.hw_lines.specs.Valid.{LineFits}
@@ -41,7 +42,7 @@ first_above : (ids : List ℕ) → 0 < length ids → ascends 0 ids ≡ true →
 first_above [] lt h = absurd (omega arith)
 first_above (n ∷ ns) lt h = ltb-true 0 n (and_parts (nat_lt 0 n) (ascends n ns) h).0
 
-kept : (b : Bool) (word : FormWord) → unless word b ≡ None → b ≡ true
+kept : (b : Bool) (word : FormWord) → word_unless word b ≡ None → b ≡ true
 kept true word h = refl
 kept false word h = absurd cc
 
@@ -72,7 +73,7 @@ each_passes : {A : Type 0} (p : A → Bool) (P : A → Type 0) → ((x : A) → 
 each_passes p P f [] h = All-nil P
 each_passes p P f (x ∷ xs) h = let q = and_parts (p x) (list_all p xs) h in All-cons P x xs (f x q.0) (each_passes p P f xs q.1)
 
-block_in : (f : Problem) (block : Block) → block_fits (shape_of f) block ≡ true → BlockFits f block
+block_in : (f : Problem) (block : Block) → block_fits_shape (shape_of f) block ≡ true → BlockFits f block
 block_in f block h =
     let p = and_parts (nat_lt block.ship f.ships) (nat_le block.low block.high && nat_lt block.high f.slots) h in
     let q = and_parts (nat_le block.low block.high) (nat_lt block.high f.slots) p.1 in
@@ -91,16 +92,16 @@ fits_problem f (lines.Table table) h =
     let p = and_parts (list_all (λ slot. nat_lt slot f.slots) table) (length table == f.ships) (kept _ Range h) in
     record { each_ship = eqb-true (length table) f.ships p.1; each_slot = all_below f.slots table p.0 }
 fits_problem f (lines.Explain n clause) h =
-    let p = neither (unless Range (nat_lt n (f.ships + length f.rules))) (clause_fault (shape_of f) clause) h in
+    let p = neither (word_unless Range (nat_lt n (f.ships + length f.rules))) (clause_fault (shape_of f) clause) h in
     (ltb-true n (f.ships + length f.rules) (kept _ Range p.0), no_bad (first_bad (shape_of f) clause) p.1)
 fits_problem f (lines.Order v w x clause) h =
-    let p = neither (unless Range (nat_lt v w && (nat_lt w x && nat_lt x f.ships))) (clause_fault (shape_of f) clause) h in
+    let p = neither (word_unless Range (nat_lt v w && (nat_lt w x && nat_lt x f.ships))) (clause_fault (shape_of f) clause) h in
     let q = and_parts (nat_lt v w) (nat_lt w x && nat_lt x f.ships) (kept _ Range p.0) in
     let r = and_parts (nat_lt w x) (nat_lt x f.ships) q.1 in
     (ltb-true v w q.0, ltb-true w x r.0, ltb-true x f.ships r.1, no_bad (first_bad (shape_of f) clause) p.1)
 fits_problem f (lines.Goal clause) h = no_bad (first_bad (shape_of f) clause) h
 fits_problem f (lines.Lemma clause hints) h =
-    let p = neither (clause_fault (shape_of f) clause) (unless Range (list_all (λ id. nat_lt 0 id) hints)) h in
+    let p = neither (clause_fault (shape_of f) clause) (word_unless Range (list_all (λ id. nat_lt 0 id) hints)) h in
     no_bad (first_bad (shape_of f) clause) p.0
 fits_problem f (lines.Delete ids) h =
     let p = and_parts (nat_lt 0 (length ids)) (ascends 0 ids) (kept _ Range h) in
@@ -108,17 +109,17 @@ fits_problem f (lines.Delete ids) h =
     (some, first_above ids some p.1, increasing 0 ids p.1)
 fits_problem f (lines.Narrows blocks) h =
     let ships : List ℕ = map (λ (block : Block). block.ship) blocks in
-    let p = and_parts (nat_lt 0 (length blocks)) (nat_le (length blocks) 40 && (list_all (block_fits (shape_of f)) blocks && rises ships)) (kept _ Range h) in
-    let q = and_parts (nat_le (length blocks) 40) (list_all (block_fits (shape_of f)) blocks && rises ships) p.1 in
-    let r = and_parts (list_all (block_fits (shape_of f)) blocks) (rises ships) q.1 in
+    let p = and_parts (nat_lt 0 (length blocks)) (nat_le (length blocks) 40 && (list_all (block_fits_shape (shape_of f)) blocks && rises ships)) (kept _ Range h) in
+    let q = and_parts (nat_le (length blocks) 40) (list_all (block_fits_shape (shape_of f)) blocks && rises ships) p.1 in
+    let r = and_parts (list_all (block_fits_shape (shape_of f)) blocks) (rises ships) q.1 in
     record {
       some_block = ltb-true 0 (length blocks) p.0;
       few_blocks = leb-true (length blocks) 40 q.0;
-      each_block = each_passes (block_fits (shape_of f)) (BlockFits f) (block_in f) blocks r.0;
+      each_block = each_passes (block_fits_shape (shape_of f)) (BlockFits f) (block_in f) blocks r.0;
       ascend = rising ships r.1;
     }
 fits_problem f (lines.Tugs n slot most weights) h =
-    let p = neither (unless Form (weights_small most weights)) (unless Range (nat_le f.ships n && (nat_lt n (f.ships + length f.rules) && (nat_lt slot f.slots && nat_le (length weights) 40)))) h in
+    let p = neither (word_unless Form (weights_small most weights)) (word_unless Range (nat_le f.ships n && (nat_lt n (f.ships + length f.rules) && (nat_lt slot f.slots && nat_le (length weights) 40)))) h in
     let s = and_parts (nat_le most 2_560) (list_all (λ weight. nat_le weight 64) weights) (kept _ Form p.0) in
     let a = and_parts (nat_le f.ships n) (nat_lt n (f.ships + length f.rules) && (nat_lt slot f.slots && nat_le (length weights) 40)) (kept _ Range p.1) in
     let b = and_parts (nat_lt n (f.ships + length f.rules)) (nat_lt slot f.slots && nat_le (length weights) 40) a.1 in
@@ -133,7 +134,7 @@ fits_problem f (lines.Tugs n slot most weights) h =
     }
 fits_problem f (lines.Tariff scale prices) h =
     let tolls : List ℕ = map (λ (due : Price). due.toll) prices in
-    let p = neither (unless Form (prices_small scale prices)) (unless Range (ascends 0 tolls)) h in
+    let p = neither (word_unless Form (prices_small scale prices)) (word_unless Range (ascends 0 tolls)) h in
     let s = and_parts (nat_le scale 1_000_000) (list_all (λ (due : Price). nat_le due.price 1_000_000_000_000_000_000) prices) (kept _ Form p.0) in
     let up = kept _ Range p.1 in
     record {
@@ -145,7 +146,7 @@ fits_problem f (lines.Tariff scale prices) h =
 fits_problem f (lines.Priced clause) h = no_bad (first_bad (shape_of f) clause) h
 fits_problem f (lines.Bound bound) h = leb-true bound 40_000_000_000_000 (kept _ Form h)
 
-pub refused_ok : (line : Line) (o : Option FormWord) (l : Line) → refused_by line o ≡ Ok l → (o ≡ None) × (line ≡ l)
+pub refused_ok : (line : Line) (o : Option FormWord) (l : Line) → unless_bad line o ≡ Ok l → (o ≡ None) × (line ≡ l)
 refused_ok line None l h = (refl, cc)
 refused_ok line (Some word) l h = absurd cc
 

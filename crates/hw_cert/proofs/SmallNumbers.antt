@@ -10,6 +10,7 @@ use Rattle.hw_model.specs.declared.shape.Shape.{Shape}
 use Rattle.hw_model.specs.Limits.{IsFlat}
 use Rattle.hw_model.specs.Lits.{BadLit, lit_fits, keeps_form, first_bad, first_bad_from}
 use Rattle.hw_model.specs.Problem.{Problem, shape_of}
+use Rattle.hw_laws.proofs.Horizon.{few_slots}
 use Rattle.hw_cert.specs.Fits.{ascends}
 use Rattle.hw_cert.specs.Laws.{lit_numbers, is_small}
 use Rattle.hw_cert.proofs.WordBytes.{both_on}
@@ -23,13 +24,6 @@ all_small (n ∷ ns) all = both_on (is_small n) (list_all is_small ns) (small n 
 
 pub weaker : (P Q : ℕ → Type 0) (ns : List ℕ) → ((n : ℕ) → P n → Q n) → All P ns → All Q ns
 weaker P Q ns f all = λ k d lt. f _ (all k d lt)
-
-pub few_slots : (f : Problem) → IsFlat f → f.slots ≤ 513
-few_slots f flat = by f.stay f.slots flat.few_slots
-  where
-    by : (b : Bool) (slots : ℕ) → cond b (slots - 1) slots ≤ 512 → slots ≤ 513
-    by true slots le = omega (arith, le)
-    by false slots le = omega (arith, le)
 
 pub two_on : (x y : ℕ) → x < 2 ^ 32 → y < 2 ^ 32 → list_all is_small (x ∷ y ∷ []) ≡ true
 two_on x y p q = both_on (is_small x) (is_small y && true) (small x p) (both_on (is_small y) true (small y q) refl)

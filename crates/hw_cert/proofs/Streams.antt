@@ -3,7 +3,7 @@ use Rattle.std.proofs.Common.{◌≡◌, ◌+◌, cond, ℕ, true, false, List, 
 use Rattle.hw_model.specs.declared.shape.Shape.{Shape}
 use Rattle.hw_cert.specs.Fits.{line_read}
 use Rattle.hw_cert.specs.Spelled.{version_to}
-use Rattle.hw_cert.specs.Stream.{Position, Cut, nothing, whole, unended, long, passes, cut_of, tail_cut, behind, line_by, line_next, header_by, header_next, next_by, next_of, CertLines, onward, lines_from, lines_by, lines_after, stream_by, stream_of}
+use Rattle.hw_cert.specs.Stream.{Position, Cut, nothing, whole, unended, long, line_passes_limit, cut_of, tail_cut, behind, line_by, line_next, header_by, header_next, next_by, next_of, CertLines, onward, lines_from, lines_by, lines_after, stream_by, stream_of}
 use Rattle.hw_cert.specs.Laws.{following}
 use Rattle.hw_lines.specs.declared.line.Line.{Line}
 use Rattle.hw_cert.specs.declared.stop.FormWord.{FormWord}
@@ -12,7 +12,7 @@ use Rattle.hw_cert.specs.declared.version.Version.{Version}
 tail_steps : (shape : Shape) (most version : Version) (number taken : ℕ) (tail : List ℕ) (later : CertLines) → onward (line_next shape most version number taken (tail_cut taken tail)) later ≡ following shape (line_next shape most version number taken (tail_cut taken tail))
 tail_steps shape most version number taken [] later = refl
 tail_steps shape most version number taken (b ∷ bs) later =
-    elim (passes taken (length (b ∷ bs)) 0) as (λ p. onward (line_next shape most version number taken (cond p long unended)) later ≡ following shape (line_next shape most version number taken (cond p long unended))) [
+    elim (line_passes_limit taken (length (b ∷ bs)) 0) as (λ p. onward (line_next shape most version number taken (cond p long unended)) later ≡ following shape (line_next shape most version number taken (cond p long unended))) [
       | true ↦ refl
       | false ↦ refl
     ]
@@ -27,7 +27,7 @@ pub line_steps : (shape : Shape) (most version : Version) (number taken : ℕ) (
 line_steps shape most version number taken [] = refl
 line_steps shape most version number taken (tail ∷ []) = tail_steps shape most version number taken tail (lines_from shape most version (number + 1) (taken + length tail + 1) [])
 line_steps shape most version number taken (line ∷ next ∷ more) =
-    elim (passes taken (length line) 1) as (λ p. onward (line_next shape most version number taken (cond p long (whole line (next ∷ more)))) (lines_from shape most version (number + 1) (taken + length line + 1) (next ∷ more)) ≡ following shape (line_next shape most version number taken (cond p long (whole line (next ∷ more))))) [
+    elim (line_passes_limit taken (length line) 1) as (λ p. onward (line_next shape most version number taken (cond p long (whole line (next ∷ more)))) (lines_from shape most version (number + 1) (taken + length line + 1) (next ∷ more)) ≡ following shape (line_next shape most version number taken (cond p long (whole line (next ∷ more))))) [
       | true ↦ refl
       | false ↦ read_steps shape most version number taken line next more (line_read shape version line)
     ]

@@ -8,7 +8,7 @@ use Rattle.hw_desk.specs.declared.desk.Feed.{Feed}
 use Rattle.hw_desk.proofs.Chain.{moves_on}
 use Rattle.hw_text.specs.Parts.{lacks}
 use Rattle.hw_cert.specs.Reader.{Scans, Fills}
-use Rattle.hw_cert.specs.Stream.{passes}
+use Rattle.hw_cert.specs.Stream.{line_passes_limit}
 use Rattle.hw_cert.specs.Taking.{WholeLine, Unparted, Stands, TakesLine}
 use Rattle.hw_cert.specs.declared.stop.LineStop.{LineStop}
 use Rattle.hw_cert.specs.declared.stop.LineStop.TheVariants.{Fault}
@@ -41,7 +41,7 @@ takes {f = f} {taken = taken} {before = before} {line = line} {pending = pending
     record { moved = (h.moved.0, h.moved.1, room_left taken before h.moved.0 line pending h.moved.2 h.room, stands); fault = fault; kept = kept }
 
 -- a line feed was found
-pub whole_line : {f : Feed} {taken : ℕ} {before line pending : List ℕ} {x y : DeskState} (h : SoFar f taken before line pending x y) (found rest : List ℕ) (long : Bool) → Scans pending rest line found true → passes taken (length found) 1 ≡ long
+pub whole_line : {f : Feed} {taken : ℕ} {before line pending : List ℕ} {x y : DeskState} (h : SoFar f taken before line pending x y) (found rest : List ℕ) (long : Bool) → Scans pending rest line found true → line_passes_limit taken (length found) 1 ≡ long
     → WholeLine taken (before ++ h.moved.0) found rest long
 whole_line {line = line} h found rest long s limit = record {
   parts = h.moved.2 ∙ ap (λ (bs : List ℕ). line ++ bs) s.1 ∙ sym (append_assoc line s.0 (10 ∷ rest)) ∙ ap (λ (bs : List ℕ). bs ++ 10 ∷ rest) (sym s.3);
@@ -50,7 +50,7 @@ whole_line {line = line} h found rest long s limit = record {
 }
 
 -- none was
-pub unparted : {f : Feed} {taken : ℕ} {before line pending : List ℕ} {x y : DeskState} (h : SoFar f taken before line pending x y) (found rest : List ℕ) (long : Bool) → Scans pending rest line found false → passes taken (length found) 0 ≡ long
+pub unparted : {f : Feed} {taken : ℕ} {before line pending : List ℕ} {x y : DeskState} (h : SoFar f taken before line pending x y) (found rest : List ℕ) (long : Bool) → Scans pending rest line found false → line_passes_limit taken (length found) 0 ≡ long
     → Unparted taken (before ++ h.moved.0) found long
 unparted {line = line} {pending = pending} h found rest long s limit = record {
   parts = h.moved.2 ∙ sym s.1;
@@ -58,7 +58,7 @@ unparted {line = line} {pending = pending} h found rest long s limit = record {
   limit = limit;
 }
 
-within : (taken size : ℕ) → passes taken size 0 ≡ false → taken + size ≤ 2 ^ 40
+within : (taken size : ℕ) → line_passes_limit taken size 0 ≡ false → taken + size ≤ 2 ^ 40
 within taken size h = both_off (nat_lt (2 ^ 20) size) (nat_lt (2 ^ 40) (taken + size + 0)) h (λ k. omega (arith, ltb-false (2 ^ 40) (taken + size + 0) k))
   where
     both_off : {P : Type 0} (a b : Bool) → (a || b) ≡ false → (b ≡ false → P) → P
@@ -66,7 +66,7 @@ within taken size h = both_off (nat_lt (2 ^ 20) size) (nat_lt (2 ^ 40) (taken + 
     both_off false b p f = f p
 
 -- another block is pending
-pub filled : {E : Type 0} {f : Feed} {taken : ℕ} {before line pending : List ℕ} {x y z : DeskState} (h : SoFar f taken before line pending x y) (found rest next : List ℕ) (most : ℕ) (r : Result ℕ E) → Scans pending rest line found false → passes taken (length found) 0 ≡ false
+pub filled : {E : Type 0} {f : Feed} {taken : ℕ} {before line pending : List ℕ} {x y z : DeskState} (h : SoFar f taken before line pending x y) (found rest next : List ℕ) (most : ℕ) (r : Result ℕ E) → Scans pending rest line found false → line_passes_limit taken (length found) 0 ≡ false
     → most ≡ 2 ^ 40 + 1 - taken - length found → Fills {E = E} f most next y z r → SoFar f taken before found next x z
 filled {f = f} {taken = taken} {before = before} {line = line} {pending = pending} {x = x} {y = y} {z = z} h found rest next most r s limit e fills =
     let u = unparted h found rest false s limit in
@@ -84,18 +84,14 @@ none_left [] e = refl
 none_left (b ∷ bs) e = absurd (omega (arith, e))
 
 -- the feed ended
-pub tail_of : {f : Feed} {taken : ℕ} {before found next : List ℕ} {x z : DeskState} (h : SoFar f taken before found next x z) (t : TakenLine) → 0 ≡ length next → IsAtEnd (z.feeds f).left → passes taken (length found) 0 ≡ false → t ≡ cond (nat_lt 0 (length found)) Unended Nothing
+pub tail_of : {f : Feed} {taken : ℕ} {before found next : List ℕ} {x z : DeskState} (h : SoFar f taken before found next x z) (t : TakenLine) → 0 ≡ length next → IsAtEnd (z.feeds f).left → line_passes_limit taken (length found) 0 ≡ false → t ≡ cond (nat_lt 0 (length found)) Unended Nothing
     → Stands taken (before ++ h.moved.0) found next (z.feeds f).left (Ok t)
 tail_of {f = f} {taken = taken} {before = before} {found = found} {next = next} {z = z} h t none ended limit e =
     let same : before ++ h.moved.0 ≡ found = h.moved.2 ∙ ap (λ (bs : List ℕ). found ++ bs) (none_left next none) ∙ append-nil found in
     subst (λ (u : TakenLine). Stands taken (before ++ h.moved.0) found next (z.feeds f).left (Ok u)) (sym e) (by_size found same h.lacking limit)
   where
-    by_size : (bs : List ℕ) → before ++ h.moved.0 ≡ bs → lacks 10 bs ≡ true → passes taken (length bs) 0 ≡ false → Stands taken (before ++ h.moved.0) bs next (z.feeds f).left (Ok (cond (nat_lt 0 (length bs)) Unended Nothing))
+    by_size : (bs : List ℕ) → before ++ h.moved.0 ≡ bs → lacks 10 bs ≡ true → line_passes_limit taken (length bs) 0 ≡ false → Stands taken (before ++ h.moved.0) bs next (z.feeds f).left (Ok (cond (nat_lt 0 (length bs)) Unended Nothing))
     by_size [] same l p = (same, ended)
     by_size (b ∷ bs) same l p =
         let some : nat_lt 0 (length (b ∷ bs)) ≡ true = lt-ltb 0 (length (b ∷ bs)) (omega arith) in
         subst (λ (q : Bool). Stands taken (before ++ h.moved.0) (b ∷ bs) next (z.feeds f).left (Ok (cond q Unended Nothing))) (sym some) (record { parts = same; lacking = l; limit = p }, omega arith, ended)
-
--- a rise after a step is a rise
-pub rose_after : {a b c : ℕ} → a ≤ b → Rose b c → Rose a c
-rose_after h k = omega arith

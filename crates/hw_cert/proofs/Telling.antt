@@ -17,10 +17,10 @@ use Rattle.hw_cert.specs.declared.version.Version.{Version}
 use Rattle.hw_cert.specs.declared.version.Version.TheVariants.{Three}
 use Rattle.hw_cert.specs.declared.log.LogStop.TheVariants.{Failed}
 use Rattle.hw_cert.specs.Texts.{line_words, line_text}
-use Rattle.hw_cert.specs.Spelled.{spelled, line_of}
+use Rattle.hw_cert.specs.Spelled.{spelled, spelled_line}
 use Rattle.hw_cert.specs.Laws.{line_numbers, wide_numbers, is_small, is_wide}
 use Rattle.hw_cert.specs.Logs.{LogTold, ended_text, IsWhole, TellsLine, TakesLine}
-use Rattle.hw_cert.specs.Told.{header_of, behind_text, line_told, with_line, parts_told, lines_told, told_under, is_told_under, log_under}
+use Rattle.hw_cert.specs.Told.{header_line_of, behind_text, line_told, with_line, parts_told, lines_told, told_under, is_told_under, log_under}
 use Rattle.hw_cert.proofs.ReadBack.{chained}
 use Rattle.hw_cert.proofs.Written.{line_again, word_count}
 use Rattle.hw_cert.proofs.LineBytes.{words_lack}
@@ -118,8 +118,8 @@ told_after (p ∷ r ∷ ps) qs was h e none =
 text_lacks : (line : Line) → list_all is_small (line_numbers line) ≡ true → list_all is_wide (wide_numbers line) ≡ true → lacks 10 (line_text line) ≡ true
 text_lacks line small wide = joined_lacks 10 32 (line_words line) refl (words_lack 10 line (omega arith) small wide)
 
-by_words : (line : Line) → list_all is_small (line_numbers line) ≡ true → list_all is_wide (wide_numbers line) ≡ true → spelled Three (line_text line) ≡ line_of Three (line_words line)
-by_words line small wide = ap (line_of Three) (cut_joined 32 (line_words line) (word_count line) (words_lack 32 line (omega arith) small wide))
+by_words : (line : Line) → list_all is_small (line_numbers line) ≡ true → list_all is_wide (wide_numbers line) ≡ true → spelled Three (line_text line) ≡ spelled_line Three (line_words line)
+by_words line small wide = ap (spelled_line Three) (cut_joined 32 (line_words line) (word_count line) (words_lack 32 line (omega arith) small wide))
 
 -- the text of a line is told as that line
 told_itself : (line : Line) → list_all is_small (line_numbers line) ≡ true → list_all is_wide (wide_numbers line) ≡ true → line_told (line_text line) ≡ Some line
@@ -201,10 +201,10 @@ grown version P None (Some ys) more f told whole t = absurd (cc)
 grown version P (Some xs) (Some ys) more f told whole t =
     let same : xs ++ more ≡ ys = cc in
     let b = some_told (told_under version xs) told in
-    let p = chained lines_told (behind_text (header_of version) xs) b.0 b.1 in
+    let p = chained lines_told (behind_text (header_line_of version) xs) b.0 b.1 in
     let none = subst (λ (o : Option LogTold). IfSome o (λ s. s.behind ≡ [])) b.1 whole in
     let s = f p.0 b.0 p.2 none in
-    let new : told_under version ys ≡ Some s.0 = ap (told_under version) (sym same) ∙ ap (option_and_then lines_told) (behind_more (header_of version) xs more p.0 p.1) ∙ s.1 in
+    let new : told_under version ys ≡ Some s.0 = ap (told_under version) (sym same) ∙ ap (option_and_then lines_told) (behind_more (header_line_of version) xs more p.0 p.1) ∙ s.1 in
     record {
       grows = subst (λ (o : Option LogTold). IfSome o (λ now. IsSomeAnd (told_under version xs) (λ was. P was now))) (sym new) (subst (λ (o : Option LogTold). IsSomeAnd o (λ was. P was s.0)) (sym b.1) s.2);
       told = ap is_some new;

@@ -5,17 +5,18 @@ use Rattle.std.proofs.lemmas.List.Splits.{join_with_byte-slice_split}
 use Rattle.std.proofs.lemmas.Slice.Eq.{bytes_eq-Decides}
 use Rattle.std.specs.Prelude.{bytes_eq, codes}
 use Rattle.std.specs.List.{list_all, join_with_byte}
+use Rattle.hw_lemmas.proofs.Truths.{chosen}
 use Rattle.hw_text.specs.Parts.{parts_of, lacks, ended_lines}
 use Rattle.hw_text.proofs.Joins.{parts_lack}
 use Rattle.hw_lines.specs.declared.line.Line.{Line}
 use Rattle.hw_lines.specs.declared.line.Line.TheVariants.{Table, Delete, Narrows}
 use Rattle.hw_cert.specs.declared.version.Version.TheVariants.{Two, Three}
-use Rattle.hw_cert.specs.Texts.{line_text, header_text}
+use Rattle.hw_cert.specs.Texts.{line_text, certificate_header}
 use Rattle.hw_cert.specs.Spelled.{spelled}
 use Rattle.hw_cert.specs.Logs.{LogTold}
-use Rattle.hw_cert.specs.Told.{header_of, behind_text, line_told, parts_told, lines_told, TextTold, EachTextTold}
+use Rattle.hw_cert.specs.Told.{header_line_of, behind_text, line_told, parts_told, lines_told, TextTold, EachTextTold}
 use Rattle.hw_cert.proofs.FormText.{form_read}
-use Rattle.hw_cert.proofs.ReadBack.{chained, chosen}
+use Rattle.hw_cert.proofs.ReadBack.{chained}
 use Rattle.hw_cert.proofs.Telling.{with_both}
 
 -- a part that tells a line is its text
@@ -66,12 +67,12 @@ behind_is (p ∷ ps) (b ∷ bs) rest e = by (b == p) (λ t. grind (arith, t)) (b
 
 pub each_text_told : EachTextTold
 each_text_told version bytes told h =
-    let p = chained lines_told (behind_text (header_of version) bytes) told h in
+    let p = chained lines_told (behind_text (header_line_of version) bytes) told h in
     record {
-      text = behind_is (header_of version) bytes p.0 p.1
-          ∙ ap (λ (rest : List ℕ). header_of version ++ rest) (sym (join_with_byte-slice_split 10 p.0) ∙ joined_told (parts_of 10 p.0) told p.2)
-          ∙ append_assoc (header_text version) (10 ∷ []) (ended_lines (map line_text told.lines) ++ told.behind)
-          ∙ sym (append_assoc (header_text version) (10 ∷ ended_lines (map line_text told.lines)) told.behind);
+      text = behind_is (header_line_of version) bytes p.0 p.1
+          ∙ ap (λ (rest : List ℕ). header_line_of version ++ rest) (sym (join_with_byte-slice_split 10 p.0) ∙ joined_told (parts_of 10 p.0) told p.2)
+          ∙ append_assoc (certificate_header version) (10 ∷ []) (ended_lines (map line_text told.lines) ++ told.behind)
+          ∙ sym (append_assoc (certificate_header version) (10 ∷ ended_lines (map line_text told.lines)) told.behind);
       no_end = last_lacks (parts_of 10 p.0) told (parts_lack 10 p.0) p.2;
     }
 

@@ -11,7 +11,7 @@ use Rattle.hw_lines.specs.declared.line.Price.{Price}
 use Rattle.hw_cert.specs.declared.version.Version.{Version}
 use Rattle.hw_cert.specs.declared.version.Version.TheVariants.{One, Two, Three}
 use Rattle.hw_cert.specs.Texts.{block_text, price_text}
-use Rattle.hw_cert.specs.Spelled.{number_word, both, all_numbers, all_of, some_of, price_word, third, narrows_form, tugs_form, tariff_form, bound_form}
+use Rattle.hw_cert.specs.Spelled.{number_word, both_values, all_numbers, all_of, some_of, price_word, third, narrows_form, tugs_form, tariff_form, bound_form}
 use Rattle.hw_cert.specs.Laws.{line_numbers, wide_numbers, has_form, is_small, is_wide}
 use Rattle.hw_cert.proofs.NumberText.{number_again, numbers_again, some_list}
 use Rattle.hw_cert.proofs.TollWords.{wide_again, blocks_again, prices_again}
@@ -59,10 +59,10 @@ tugs_again version n slot most weights h f =
     let r = and_parts (is_small most) (list_all is_small weights) q.1 in
     let made : Option (ℕ × (ℕ × (ℕ × List ℕ))) → Option Line = option_map (λ s. lines.Tugs s.0 s.1.0 s.1.1.0 s.1.1.1) in
     third_again version _ (lines.Tugs n slot most weights)
-    (ap (λ (o : Option ℕ). made (both o (both (number_word (decimal slot)) (both (number_word (decimal most)) (all_numbers (map decimal weights)))))) (number_again n p.0)
-    ∙ ap (λ (o : Option ℕ). made (both (Some n) (both o (both (number_word (decimal most)) (all_numbers (map decimal weights)))))) (number_again slot q.0)
-    ∙ ap (λ (o : Option ℕ). made (both (Some n) (both (Some slot) (both o (all_numbers (map decimal weights)))))) (number_again most r.0)
-    ∙ ap (λ (o : Option (List ℕ)). made (both (Some n) (both (Some slot) (both (Some most) o)))) (numbers_again weights r.1))
+    (ap (λ (o : Option ℕ). made (both_values o (both_values (number_word (decimal slot)) (both_values (number_word (decimal most)) (all_numbers (map decimal weights)))))) (number_again n p.0)
+    ∙ ap (λ (o : Option ℕ). made (both_values (Some n) (both_values o (both_values (number_word (decimal most)) (all_numbers (map decimal weights)))))) (number_again slot q.0)
+    ∙ ap (λ (o : Option ℕ). made (both_values (Some n) (both_values (Some slot) (both_values o (all_numbers (map decimal weights)))))) (number_again most r.0)
+    ∙ ap (λ (o : Option (List ℕ)). made (both_values (Some n) (both_values (Some slot) (both_values (Some most) o)))) (numbers_again weights r.1))
     (tugs_third version n slot most weights f)
 
 pub tariff_again : (version : Version) (scale : ℕ) (prices : List Price) → list_all is_small (line_numbers (lines.Tariff scale prices)) ≡ true → list_all is_wide (wide_numbers (lines.Tariff scale prices)) ≡ true → has_form version (lines.Tariff scale prices) ≡ true
@@ -71,8 +71,8 @@ tariff_again version scale prices h l f =
     let p = and_parts (is_small scale) (list_all is_small (map (λ (due : Price). due.toll) prices)) h in
     let made : Option (ℕ × List Price) → Option Line = option_map (λ s. lines.Tariff s.0 s.1) in
     third_again version _ (lines.Tariff scale prices)
-    (ap (λ (o : Option ℕ). made (both o (all_of price_word (map price_text prices)))) (number_again scale p.0)
-    ∙ ap (λ (o : Option (List Price)). made (both (Some scale) o)) (prices_again prices p.1 l))
+    (ap (λ (o : Option ℕ). made (both_values o (all_of price_word (map price_text prices)))) (number_again scale p.0)
+    ∙ ap (λ (o : Option (List Price)). made (both_values (Some scale) o)) (prices_again prices p.1 l))
     (tariff_third version scale prices f)
 
 pub bound_again : (version : Version) (bound : ℕ) → list_all is_wide (bound ∷ []) ≡ true → has_form version (lines.Bound bound) ≡ true → bound_form version (decimal bound ∷ []) ≡ Some (lines.Bound bound)

@@ -7,13 +7,14 @@ use Rattle.std.specs.List.{list_all, flat_map}
 use Rattle.std.specs.List.Sorted.{IsStrictlyIncreasing}
 use Rattle.hw_model.specs.Limits.{IsFlat}
 use Rattle.hw_model.specs.Problem.{Problem, shape_of}
+use Rattle.hw_laws.proofs.Horizon.{few_slots}
 use Rattle.hw_tolls.specs.declared.toll.Block.{Block}
 use Rattle.hw_tolls.specs.Tolls.{BlockFits}
 use Rattle.hw_lines.specs.declared.line.Price.{Price}
-use Rattle.hw_cert.specs.Fits.{rises, block_fits}
+use Rattle.hw_cert.specs.Fits.{rises, block_fits_shape}
 use Rattle.hw_cert.specs.Laws.{block_numbers, is_small, is_wide}
 use Rattle.hw_cert.proofs.WordBytes.{both_on}
-use Rattle.hw_cert.proofs.SmallNumbers.{small, few_slots, two_on, ascending}
+use Rattle.hw_cert.proofs.SmallNumbers.{small, two_on, ascending}
 
 pub wide_number : (n : ℕ) → n < 2 ^ 64 → is_wide n ≡ true
 wide_number n lt = le-leb n (2 ^ 64 - 1) (omega (arith, lt))
@@ -22,7 +23,7 @@ pub all_pass : {A : Type 0} (p : A → Bool) (xs : List A) → All (λ x. p x �
 all_pass p [] all = refl
 all_pass p (x ∷ xs) all = both_on (p x) (list_all p xs) (All-head (λ y. p y ≡ true) x xs all) (all_pass p xs (All-tail (λ y. p y ≡ true) x xs all))
 
-pub block_on : (f : Problem) (block : Block) → BlockFits f block → block_fits (shape_of f) block ≡ true
+pub block_on : (f : Problem) (block : Block) → BlockFits f block → block_fits_shape (shape_of f) block ≡ true
 block_on f block fit = both_on (nat_lt block.ship f.ships) _ (lt-ltb block.ship f.ships fit.ship_in) (both_on (nat_le block.low block.high) _ (le-leb block.low block.high fit.ordered) (lt-ltb block.high f.slots fit.slot_in))
 
 pub risen : (ns : List ℕ) → IsStrictlyIncreasing ns → rises ns ≡ true

@@ -12,10 +12,11 @@ use Rattle.hw_text.specs.Parts.{lacks, parts_of}
 use Rattle.hw_text.proofs.Digits.{own}
 use Rattle.hw_text.proofs.Joins.{one_part, part_before}
 use Rattle.hw_text.proofs.Spelled.{is_spelled, reads_back}
+use Rattle.hw_flat.specs.TextForms.{put_first}
 use Rattle.hw_tolls.specs.declared.toll.Block.{Block}
 use Rattle.hw_lines.specs.declared.line.Price.{Price}
 use Rattle.hw_cert.specs.Texts.{block_text, price_text}
-use Rattle.hw_cert.specs.Spelled.{number_word, wide_word, both, put_first, all_of, block_parts, block_word, price_parts, price_word}
+use Rattle.hw_cert.specs.Spelled.{number_word, wide_word, both_values, all_of, block_parts, block_word, price_parts, price_word}
 use Rattle.hw_cert.specs.Laws.{block_numbers, is_small, is_wide}
 use Rattle.hw_cert.proofs.WordBytes.{both_on, small_is, small_parts}
 use Rattle.hw_cert.proofs.ReadBack.{mapped, paired, put_back, number_back}
@@ -56,8 +57,8 @@ block_parts_back (x ∷ []) block h = absurd cc
 block_parts_back (x ∷ y ∷ []) block h = absurd cc
 block_parts_back (x ∷ y ∷ z ∷ []) block h =
     let made : ℕ × (ℕ × ℕ) → Block = λ q. record { ship = q.0; low = q.1.0; high = q.1.1 } in
-    let p = mapped made (both (number_word x) (both (number_word y) (number_word z))) block h in
-    let a = paired (number_word x) (both (number_word y) (number_word z)) p.0 p.1 in
+    let p = mapped made (both_values (number_word x) (both_values (number_word y) (number_word z))) block h in
+    let a = paired (number_word x) (both_values (number_word y) (number_word z)) p.0 p.1 in
     let b = paired (number_word y) (number_word z) p.0.1 a.1 in
     let first = number_back x p.0.0 a.0 in
     let second = number_back y p.0.1.0 b.0 in
@@ -92,7 +93,7 @@ price_parts_back [] due h = absurd cc
 price_parts_back (x ∷ []) due h = absurd cc
 price_parts_back (x ∷ y ∷ []) due h =
     let made : ℕ × ℕ → Price = λ q. record { toll = q.0; price = q.1 } in
-    let p = mapped made (both (number_word x) (wide_word y)) due h in
+    let p = mapped made (both_values (number_word x) (wide_word y)) due h in
     let a = paired (number_word x) (wide_word y) p.0 p.1 in
     let first = number_back x p.0.0 a.0 in
     let second = wide_back y p.0.1 a.1 in
@@ -142,9 +143,9 @@ block_again block h =
     ∙ ap (λ (ps : List (List ℕ)). decimal block.ship ∷ ps) (part_before 58 (decimal block.low) (decimal block.high) (small_uncut block.low s.1)
     ∙ ap (λ (ps : List (List ℕ)). decimal block.low ∷ ps) (one_part 58 (decimal block.high) (small_uncut block.high s.2)))
     )
-    ∙ ap (λ (o : Option ℕ). made (both o (both (number_word (decimal block.low)) (number_word (decimal block.high))))) (number_again block.ship s.0)
-    ∙ ap (λ (o : Option ℕ). made (both (Some block.ship) (both o (number_word (decimal block.high))))) (number_again block.low s.1)
-    ∙ ap (λ (o : Option ℕ). made (both (Some block.ship) (both (Some block.low) o))) (number_again block.high s.2)
+    ∙ ap (λ (o : Option ℕ). made (both_values o (both_values (number_word (decimal block.low)) (number_word (decimal block.high))))) (number_again block.ship s.0)
+    ∙ ap (λ (o : Option ℕ). made (both_values (Some block.ship) (both_values o (number_word (decimal block.high))))) (number_again block.low s.1)
+    ∙ ap (λ (o : Option ℕ). made (both_values (Some block.ship) (both_values (Some block.low) o))) (number_again block.high s.2)
 
 pub blocks_again : (bs : List Block) → list_all is_small (flat_map block_numbers bs) ≡ true → all_of block_word (map block_text bs) ≡ Some bs
 blocks_again [] h = refl
@@ -159,8 +160,8 @@ price_again due s w =
     part_before 58 (decimal due.toll) (decimal due.price) (small_uncut due.toll s)
     ∙ ap (λ (ps : List (List ℕ)). decimal due.toll ∷ ps) (one_part 58 (decimal due.price) (wide_uncut due.price w))
     )
-    ∙ ap (λ (o : Option ℕ). made (both o (wide_word (decimal due.price)))) (number_again due.toll s)
-    ∙ ap (λ (o : Option ℕ). made (both (Some due.toll) o)) (wide_again due.price w)
+    ∙ ap (λ (o : Option ℕ). made (both_values o (wide_word (decimal due.price)))) (number_again due.toll s)
+    ∙ ap (λ (o : Option ℕ). made (both_values (Some due.toll) o)) (wide_again due.price w)
 
 pub prices_again : (dues : List Price) → list_all is_small (map (λ (due : Price). due.toll) dues) ≡ true → list_all is_wide (map (λ (due : Price). due.price) dues) ≡ true → all_of price_word (map price_text dues) ≡ Some dues
 prices_again [] s w = refl

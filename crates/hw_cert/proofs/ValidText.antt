@@ -1,12 +1,14 @@
 -- Valid lines of a problem have a text that reads back as them.
-use Rattle.std.proofs.Common.{◌≡◌, ◌==◌, ◌+◌, ◌^◌, ◌≤◌, ◌<◌, ◌&&◌, cond, nat_lt, nat_le, ℕ, zero, suc, Bool, true, false, List, [], ◌∷◌, ◌++◌, length, map, Option, Some, None, All, IfSome, IsSome, refl, ap, ◌∙◌, arith}
+use Rattle.std.proofs.Common.{◌≡◌, ◌==◌, ◌+◌, ◌^◌, ◌≤◌, ◌<◌, ◌&&◌, cond, nat_lt, nat_le, ℕ, Bool, true, false, List, [], ◌∷◌, ◌++◌, length, map, Option, Some, None, All, IfSome, IsSome, refl, ap, ◌∙◌, arith}
 use Rattle.std.proofs.lemmas.Bool.{and_parts, eq-eqb, lt-ltb, le-leb}
 use Rattle.std.proofs.lemmas.List.Elements.{All-head, All-tail, All-weaker}
 use Rattle.std.proofs.lemmas.List.Folds.{list_all-append}
 use Rattle.std.specs.List.{list_all, flat_map, AllByRecursion}
+use Rattle.hw_lemmas.specs.Operators.{◌or_else◌}
 use Rattle.hw_model.specs.declared.lit.Lit.{Lit}
 use Rattle.hw_model.specs.Limits.{IsFlat}
 use Rattle.hw_model.specs.Problem.{Problem, shape_of}
+use Rattle.hw_laws.proofs.Horizon.{few_slots}
 use Rattle.hw_lines.specs.declared.line.Line.{Line}
 use Rattle.hw_lines.specs.declared.line.Line.TheVariants as lines
 use Rattle.hw_lines.specs.Lines.{clause_of, clause_count, live}
@@ -18,13 +20,14 @@ use Rattle.hw_lines.specs.declared.line.Price.{Price}
 use Rattle.hw_lines.specs.Tolled.{tolls_of}
 use Rattle.hw_tolls.specs.declared.toll.Block.{Block}
 use Rattle.hw_tolls.specs.Tolls.{BlockFits}
+use Rattle.hw_lines.proofs.Live.{live_above}
 use Rattle.hw_cert.specs.declared.stop.FormWord.{FormWord}
 use Rattle.hw_cert.specs.declared.stop.FormWord.TheVariants.{Form, Range}
 use Rattle.hw_cert.specs.declared.version.Version.{Version}
-use Rattle.hw_cert.specs.Fits.{unless, ◌or_else◌, lit_fault, ascends, block_fits}
+use Rattle.hw_cert.specs.Fits.{word_unless, lit_fault, ascends, block_fits_shape}
 use Rattle.hw_cert.specs.Laws.{lit_numbers, has_form, is_small, is_wide, IsLine}
 use Rattle.hw_cert.proofs.WordBytes.{both_on}
-use Rattle.hw_cert.proofs.SmallNumbers.{small, all_small, weaker, few_slots, clause_small, ascending}
+use Rattle.hw_cert.proofs.SmallNumbers.{small, all_small, weaker, clause_small, ascending}
 use Rattle.hw_cert.proofs.TollLimits.{wide_number, all_pass, block_on, risen, blocks_small, first_toll, tolls_small, prices_wide}
 
 -- ---- numbers of lines
@@ -38,27 +41,12 @@ count_more f before line valid lt =
     let more = one_more f before line in
     count_after before line (clause_of line) refl valid.numbered more.counted more.uncounted lt
 
-zero_none : (b : Bool) (o : Option (List Lit)) → o ≡ None → cond b None o ≡ None
-zero_none true o e = refl
-zero_none false o e = e
-
-none_some : (o : Option (List Lit)) → o ≡ None → IsSome o → ⊥
-none_some None e h = cc
-none_some (Some x) e h = cc
-
-at_zero : (before : List Line) → IsSome (live before 0) → ⊥
-at_zero before some = none_some (live before 0) (zero_none _ None refl) some
-
-above_zero : (before : List Line) (id : ℕ) → IsSome (live before id) → 0 < id
-above_zero before zero some = absurd (at_zero before some)
-above_zero before (suc n) some = omega arith
-
 numbers_small : (before : List Line) (ids : List ℕ) → clause_count before < 2 ^ 32 → All (λ id. IsSome (live before id)) ids → list_all is_small ids ≡ true
 numbers_small before ids lt all = all_small ids (weaker (λ id. IsSome (live before id)) (λ id. id < 2 ^ 32) ids (λ id some. omega (arith, live_in before id some, lt)) all)
 
 -- ---- no bad word
 
-holds : (word : FormWord) (b : Bool) → b ≡ true → unless word b ≡ None
+holds : (word : FormWord) (b : Bool) → b ≡ true → word_unless word b ≡ None
 holds word true e = refl
 holds word false e = absurd cc
 
@@ -99,7 +87,7 @@ is_line f version before (lines.Order v w x clause) formed flat few fits valid =
 }
 is_line f version before (lines.Goal clause) formed flat few fits valid = record { fits = ap lit_fault fits; small = clause_small f clause flat fits; wide = refl; formed = formed }
 is_line f version before (lines.Lemma clause hints) formed flat few fits valid = record {
-  fits = both_none _ _ (ap lit_fault fits) (holds Range _ (all_on (λ id. nat_lt 0 id) hints (weaker (λ id. IsSome (live before id)) (λ id. nat_lt 0 id ≡ true) hints (λ id some. lt-ltb 0 id (above_zero before id some)) valid.claim.0)));
+  fits = both_none _ _ (ap lit_fault fits) (holds Range _ (all_on (λ id. nat_lt 0 id) hints (weaker (λ id. IsSome (live before id)) (λ id. nat_lt 0 id ≡ true) hints (λ id some. lt-ltb 0 id (live_above before id some)) valid.claim.0)));
   small = list_all-append is_small (flat_map lit_numbers clause) hints ∙ both_on (list_all is_small (flat_map lit_numbers clause)) (list_all is_small hints) (clause_small f clause flat fits) (numbers_small before hints few.clauses valid.claim.0);
   wide = refl;
   formed = formed;
@@ -112,7 +100,7 @@ is_line f version before (lines.Delete ids) formed flat few fits valid = record 
 }
 is_line f version before (lines.Narrows blocks) formed flat few fits valid = record {
   fits = holds Range _ (both_on (nat_lt 0 (length blocks)) _ (lt-ltb 0 (length blocks) (omega (arith, fits.some_block))) (both_on (nat_le (length blocks) 40) _ (le-leb (length blocks) 40 fits.few_blocks)
-      (both_on (list_all (block_fits (shape_of f)) blocks) _ (all_pass (block_fits (shape_of f)) blocks (All-weaker (BlockFits f) (λ (block : Block). block_fits (shape_of f) block ≡ true) (λ block fit. block_on f block fit) blocks fits.each_block))
+      (both_on (list_all (block_fits_shape (shape_of f)) blocks) _ (all_pass (block_fits_shape (shape_of f)) blocks (All-weaker (BlockFits f) (λ (block : Block). block_fits_shape (shape_of f) block ≡ true) (λ block fit. block_on f block fit) blocks fits.each_block))
       (risen (map (λ (block : Block). block.ship) blocks) fits.ascend))));
   small = blocks_small f flat blocks fits.each_block;
   wide = refl;

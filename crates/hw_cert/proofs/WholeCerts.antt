@@ -5,12 +5,12 @@ use Rattle.std.specs.List.{list_all, AllByRecursion}
 use Rattle.hw_model.specs.declared.shape.Shape.{Shape}
 use Rattle.hw_text.specs.Parts.{lacks, parts_of}
 use Rattle.hw_text.proofs.Joins.{is_ended_lines, cut_ended}
-use Rattle.hw_cert.specs.Texts.{line_words, line_text, header_text}
+use Rattle.hw_cert.specs.Texts.{line_words, line_text, certificate_header}
 use Rattle.hw_cert.specs.Spelled.{is_within, version_to}
 use Rattle.hw_cert.specs.Fits.{line_read}
 use Rattle.hw_cert.specs.Certs.{Cert, BadLine, last_read, put_line, part_read, lines_read, with_version, headed, parts_read, cert_read_to}
-use Rattle.hw_cert.specs.Stream.{Position, whole, unended, long, passes, cut_of, tail_cut, behind, line_by, line_next, CertEnd, complete, broken, overlong, CertLines, onward, lines_from, lines_by, lines_after, cert_stream_to}
-use Rattle.hw_cert.specs.Laws.{IsLine, IsCert, Agrees}
+use Rattle.hw_cert.specs.Stream.{Position, whole, unended, long, line_passes_limit, cut_of, tail_cut, behind, line_by, line_next, CertEnd, complete, broken, overlong, CertLines, onward, lines_from, lines_by, lines_after, cert_stream_to}
+use Rattle.hw_cert.specs.Laws.{IsLine, IsCert, StreamAgrees}
 use Rattle.hw_lines.specs.declared.line.Line.{Line}
 use Rattle.hw_cert.specs.declared.stop.FormWord.{FormWord}
 use Rattle.hw_cert.specs.declared.version.Version.{Version}
@@ -30,7 +30,7 @@ texts_lack : (shape : Shape) (version : Version) (all : List Line) → AllByRecu
 texts_lack shape version [] h = refl
 texts_lack shape version (line ∷ all) h = both_on (lacks 10 (line_text line)) (list_all (lacks 10) (map line_text all)) (text_lacks shape version line h.0) (texts_lack shape version all h.1)
 
-header_lacks : (version : Version) → lacks 10 (header_text version) ≡ true
+header_lacks : (version : Version) → lacks 10 (certificate_header version) ≡ true
 header_lacks One = refl
 header_lacks Two = refl
 header_lacks Three = refl
@@ -50,14 +50,14 @@ lines_again shape version number (line ∷ all) some h =
     one_line shape version number (line_text line) line (map line_text all ++ [] ∷ []) (lines_read shape version (number + 1) (map line_text all ++ [] ∷ [])) (text_read shape version line some h.0) (some_parts (map line_text all))
     ∙ ap (put_line number (Ok line)) (lines_again shape version (number + 1) all some h.1)
 
-parts_again : (most : Version) (shape : Shape) (version : Version) (parts : List (List ℕ)) (all : List Line) → is_within most version ≡ true → 1 ≤ length parts → lines_read shape version 2 parts ≡ Ok all → parts_read most shape (header_text version ∷ parts) ≡ Ok (record { version = version; lines = all })
+parts_again : (most : Version) (shape : Shape) (version : Version) (parts : List (List ℕ)) (all : List Line) → is_within most version ≡ true → 1 ≤ length parts → lines_read shape version 2 parts ≡ Ok all → parts_read most shape (certificate_header version ∷ parts) ≡ Ok (record { version = version; lines = all })
 parts_again most shape version [] all within lt e = absurd (omega (arith, lt))
-parts_again most shape version (next ∷ parts) all within lt e = ap (headed shape (next ∷ parts)) (header_again most (header_text version) version refl within) ∙ ap (with_version version) e
+parts_again most shape version (next ∷ parts) all within lt e = ap (headed shape (next ∷ parts)) (header_again most (certificate_header version) version refl within) ∙ ap (with_version version) e
 
 pub cert_again : (most : Version) (shape : Shape) (bytes : List ℕ) (version : Version) (all : List Line) → 1 ≤ shape.ships → IsCert most shape bytes version all → cert_read_to most shape bytes ≡ Ok (record { version = version; lines = all })
 cert_again most shape bytes version all some is =
     ap (λ (bs : List ℕ). parts_read most shape (parts_of 10 bs)) is.text
-    ∙ ap (parts_read most shape) (cut_ended (header_text version ∷ map line_text all) (both_on (lacks 10 (header_text version)) (list_all (lacks 10) (map line_text all)) (header_lacks version) (texts_lack shape version all is.each)))
+    ∙ ap (parts_read most shape) (cut_ended (certificate_header version ∷ map line_text all) (both_on (lacks 10 (certificate_header version)) (list_all (lacks 10) (map line_text all)) (header_lacks version) (texts_lack shape version all is.each)))
     ∙ parts_again most shape version (map line_text all ++ [] ∷ []) all is.within (some_parts (map line_text all)) (lines_again shape version 2 all some is.each)
 
 -- ---- what reads is the text
@@ -102,7 +102,7 @@ headed_back shape parts (Some version) c h =
 
 -- parts that are a certificate of a version within the greatest one
 record AreParts (most : Version) (shape : Shape) (parts : List (List ℕ)) (c : Cert) : Type 0 where
-  parts_are : parts ≡ (header_text c.version ∷ map line_text c.lines) ++ [] ∷ []
+  parts_are : parts ≡ (certificate_header c.version ∷ map line_text c.lines) ++ [] ∷ []
   within : is_within most c.version ≡ true
   each : AllByRecursion (IsLine shape c.version) c.lines
 
@@ -114,7 +114,7 @@ parts_back most shape (header ∷ next ∷ parts) c h =
     let r = lines_back shape c.version 2 next parts c.lines p.1 in
     let t = header_back most header c.version p.0 in
     record {
-      parts_are = ap (λ (x : List ℕ). x ∷ next ∷ parts) t.0 ∙ ap (λ (xs : List (List ℕ)). header_text c.version ∷ xs) r.parts_are;
+      parts_are = ap (λ (x : List ℕ). x ∷ next ∷ parts) t.0 ∙ ap (λ (xs : List (List ℕ)). certificate_header c.version ∷ xs) r.parts_are;
       within = t.1;
       each = r.each;
     }
@@ -122,7 +122,7 @@ parts_back most shape (header ∷ next ∷ parts) c h =
 pub cert_back : (most : Version) (shape : Shape) (bytes : List ℕ) (version : Version) (all : List Line) → cert_read_to most shape bytes ≡ Ok (record { version = version; lines = all }) → IsCert most shape bytes version all
 cert_back most shape bytes version all h =
     let r = parts_back most shape (parts_of 10 bytes) (record { version = version; lines = all }) h in
-    record { text = is_ended_lines (header_text version ∷ map line_text all) bytes r.parts_are; within = r.within; each = r.each }
+    record { text = is_ended_lines (certificate_header version ∷ map line_text all) bytes r.parts_are; within = r.within; each = r.each }
 
 -- ---- the stream
 
@@ -141,7 +141,7 @@ put_agrees number line overlong all read h = tt
 tail_agrees : (shape : Shape) (most version : Version) (number taken : ℕ) (tail : List ℕ) (later : CertLines) → AgreesLines (onward (line_next shape most version number taken (tail_cut taken tail)) later).stop (onward (line_next shape most version number taken (tail_cut taken tail)) later).lines (last_read number tail)
 tail_agrees shape most version number taken [] later = refl
 tail_agrees shape most version number taken (b ∷ bs) later =
-    elim (passes taken (length (b ∷ bs)) 0) as (λ p. AgreesLines (onward (line_next shape most version number taken (cond p long unended)) later).stop (onward (line_next shape most version number taken (cond p long unended)) later).lines (last_read number (b ∷ bs))) [
+    elim (line_passes_limit taken (length (b ∷ bs)) 0) as (λ p. AgreesLines (onward (line_next shape most version number taken (cond p long unended)) later).stop (onward (line_next shape most version number taken (cond p long unended)) later).lines (last_read number (b ∷ bs))) [
       | true ↦ tt
       | false ↦ refl
     ]
@@ -155,34 +155,34 @@ lines_agree shape most version number taken [] = refl
 lines_agree shape most version number taken (tail ∷ []) = tail_agrees shape most version number taken tail (lines_from shape most version (number + 1) (taken + length tail + 1) [])
 lines_agree shape most version number taken (line ∷ next ∷ more) =
     let later : CertLines = lines_from shape most version (number + 1) (taken + length line + 1) (next ∷ more) in
-    elim (passes taken (length line) 1) as (λ p. AgreesLines (onward (line_next shape most version number taken (cond p long (whole line (next ∷ more)))) later).stop (onward (line_next shape most version number taken (cond p long (whole line (next ∷ more)))) later).lines (put_line number (line_read shape version line) (lines_read shape version (number + 1) (next ∷ more)))) [
+    elim (line_passes_limit taken (length line) 1) as (λ p. AgreesLines (onward (line_next shape most version number taken (cond p long (whole line (next ∷ more)))) later).stop (onward (line_next shape most version number taken (cond p long (whole line (next ∷ more)))) later).lines (put_line number (line_read shape version line) (lines_read shape version (number + 1) (next ∷ more)))) [
       | true ↦ tt
       | false ↦ read_agrees number (behind most version number taken line) (next ∷ more) (line_read shape version line) later (lines_read shape version (number + 1) (next ∷ more)) (lines_agree shape most version (number + 1) (taken + length line + 1) (next ∷ more))
     ]
 
 -- the same with the version
-version_agrees : (version : Version) (end : CertEnd) (all : List Line) (read : Result (List Line) BadLine) → AgreesLines end all read → Agrees end all (with_version version read)
+version_agrees : (version : Version) (end : CertEnd) (all : List Line) (read : Result (List Line) BadLine) → AgreesLines end all read → StreamAgrees end all (with_version version read)
 version_agrees version complete all read h = (version, ap (with_version version) h)
 version_agrees version (broken number word) all read h = ap (with_version version) h
 version_agrees version overlong all read h = tt
 
-header_agrees : (shape : Shape) (most : Version) (line next : List ℕ) (more : List (List ℕ)) (v : Option Version) → Agrees (lines_by shape most 1 0 line (next ∷ more) v).stop (lines_by shape most 1 0 line (next ∷ more) v).lines (headed shape (next ∷ more) v)
+header_agrees : (shape : Shape) (most : Version) (line next : List ℕ) (more : List (List ℕ)) (v : Option Version) → StreamAgrees (lines_by shape most 1 0 line (next ∷ more) v).stop (lines_by shape most 1 0 line (next ∷ more) v).lines (headed shape (next ∷ more) v)
 header_agrees shape most line next more None = refl
 header_agrees shape most line next more (Some version) = version_agrees version _ _ _ (lines_agree shape most version 2 (0 + length line + 1) (next ∷ more))
 
-first_agrees : (shape : Shape) (most : Version) (parts : List (List ℕ)) → Agrees (lines_after shape most 1 0 (cut_of 0 parts)).stop (lines_after shape most 1 0 (cut_of 0 parts)).lines (parts_read most shape parts)
+first_agrees : (shape : Shape) (most : Version) (parts : List (List ℕ)) → StreamAgrees (lines_after shape most 1 0 (cut_of 0 parts)).stop (lines_after shape most 1 0 (cut_of 0 parts)).lines (parts_read most shape parts)
 first_agrees shape most [] = refl
 first_agrees shape most ([] ∷ []) = refl
 first_agrees shape most ((b ∷ bs) ∷ []) =
-    elim (passes 0 (length (b ∷ bs)) 0) as (λ p. Agrees (lines_after shape most 1 0 (cond p long unended)).stop (lines_after shape most 1 0 (cond p long unended)).lines (parts_read most shape ((b ∷ bs) ∷ []))) [
+    elim (line_passes_limit 0 (length (b ∷ bs)) 0) as (λ p. StreamAgrees (lines_after shape most 1 0 (cond p long unended)).stop (lines_after shape most 1 0 (cond p long unended)).lines (parts_read most shape ((b ∷ bs) ∷ []))) [
       | true ↦ tt
       | false ↦ refl
     ]
 first_agrees shape most (line ∷ next ∷ more) =
-    elim (passes 0 (length line) 1) as (λ p. Agrees (lines_after shape most 1 0 (cond p long (whole line (next ∷ more)))).stop (lines_after shape most 1 0 (cond p long (whole line (next ∷ more)))).lines (headed shape (next ∷ more) (version_to most line))) [
+    elim (line_passes_limit 0 (length line) 1) as (λ p. StreamAgrees (lines_after shape most 1 0 (cond p long (whole line (next ∷ more)))).stop (lines_after shape most 1 0 (cond p long (whole line (next ∷ more)))).lines (headed shape (next ∷ more) (version_to most line))) [
       | true ↦ tt
       | false ↦ header_agrees shape most line next more (version_to most line)
     ]
 
-pub stream_agrees : (most : Version) (shape : Shape) (bytes : List ℕ) → Agrees (cert_stream_to most shape bytes).stop (cert_stream_to most shape bytes).lines (cert_read_to most shape bytes)
+pub stream_agrees : (most : Version) (shape : Shape) (bytes : List ℕ) → StreamAgrees (cert_stream_to most shape bytes).stop (cert_stream_to most shape bytes).lines (cert_read_to most shape bytes)
 stream_agrees most shape bytes = first_agrees shape most (parts_of 10 bytes)

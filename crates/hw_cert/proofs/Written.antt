@@ -9,8 +9,8 @@ use Rattle.hw_model.specs.declared.shape.Shape.{Shape}
 use Rattle.hw_text.specs.Parts.{parts_of}
 use Rattle.hw_text.proofs.Joins.{one_part, part_before, cut_joined}
 use Rattle.hw_cert.specs.Texts.{pair_text, lit_text, line_words, line_text}
-use Rattle.hw_cert.specs.Spelled.{number_word, both, number_pair, lettered, lit_word, Lits, put_lit, lits_of, unparted, only_lits, hinted_form, delete_form, line_of, spelled}
-use Rattle.hw_cert.specs.Fits.{ascends, unless, first_fault, refused_by, fitted, line_read}
+use Rattle.hw_cert.specs.Spelled.{number_word, both_values, number_pair, lettered, lit_word, Lits, put_lit, lits_of, unparted, only_lits, hinted_form, delete_form, spelled_line, spelled}
+use Rattle.hw_cert.specs.Fits.{ascends, word_unless, first_fault, unless_bad, fitted, line_read}
 use Rattle.hw_cert.specs.Laws.{lit_numbers, line_numbers, wide_numbers, has_form, is_small, is_wide, IsLine}
 use Rattle.hw_cert.specs.Forms.{HasWords}
 use Rattle.hw_lines.specs.declared.line.Line.{Line}
@@ -27,7 +27,7 @@ use Rattle.hw_cert.proofs.WordBytes.{number_lacks, two_small, small_parts}
 pair_again : (x y : ℕ) → is_small x ≡ true → is_small y ≡ true → number_pair (parts_of 46 (pair_text x y)) ≡ Some (x, y)
 pair_again x y p q =
     ap number_pair (part_before 46 (decimal x) (decimal y) (number_lacks 46 x (omega arith) p) ∙ ap (λ (ps : List (List ℕ)). decimal x ∷ ps) (one_part 46 (decimal y) (number_lacks 46 y (omega arith) q)))
-    ∙ ap (λ (o : Option ℕ). both o (number_word (decimal y))) (number_again x p) ∙ ap (both (Some x)) (number_again y q)
+    ∙ ap (λ (o : Option ℕ). both_values o (number_word (decimal y))) (number_again x p) ∙ ap (both_values (Some x)) (number_again y q)
 
 lit_again : (lit : Lit) → list_all is_small (lit_numbers lit) ≡ true → lit_word (lit_text lit) ≡ Some lit
 lit_again (AtOrAfter ship slot) h = let p = two_small ship slot h in ap (option_and_then (lettered 97)) (pair_again ship slot p.0 p.1)
@@ -57,21 +57,21 @@ deletes_again One ids f lt h = absurd cc
 deletes_again Two ids f lt h = ap (option_map lines.Delete) (some_again ids lt h)
 deletes_again Three ids f lt h = ap (option_map lines.Delete) (some_again ids lt h)
 
-pub line_again : (version : Version) (line : Line) → list_all is_small (line_numbers line) ≡ true → list_all is_wide (wide_numbers line) ≡ true → has_form version line ≡ true → HasWords line → line_of version (line_words line) ≡ Some line
+pub line_again : (version : Version) (line : Line) → list_all is_small (line_numbers line) ≡ true → list_all is_wide (wide_numbers line) ≡ true → has_form version line ≡ true → HasWords line → spelled_line version (line_words line) ≡ Some line
 line_again version (lines.Table table) h l f w = ap (option_map lines.Table) (some_again table w h)
 line_again version (lines.Explain n clause) h l f w =
     let p = and_parts (is_small n) (list_all is_small (flat_map lit_numbers clause)) h in
-    ap (λ (o : Option ℕ). option_map (λ (q : ℕ × List Lit). lines.Explain q.0 q.1) (both o (only_lits (map lit_text clause)))) (number_again n p.0)
-    ∙ ap (λ (o : Option (List Lit)). option_map (λ (q : ℕ × List Lit). lines.Explain q.0 q.1) (both (Some n) o)) (only_again clause p.1)
+    ap (λ (o : Option ℕ). option_map (λ (q : ℕ × List Lit). lines.Explain q.0 q.1) (both_values o (only_lits (map lit_text clause)))) (number_again n p.0)
+    ∙ ap (λ (o : Option (List Lit)). option_map (λ (q : ℕ × List Lit). lines.Explain q.0 q.1) (both_values (Some n) o)) (only_again clause p.1)
 line_again version (lines.Order v w x clause) h l f t =
     let p = and_parts (is_small v) (list_all is_small (w ∷ x ∷ flat_map lit_numbers clause)) h in
     let q = and_parts (is_small w) (list_all is_small (x ∷ flat_map lit_numbers clause)) p.1 in
     let r = and_parts (is_small x) (list_all is_small (flat_map lit_numbers clause)) q.1 in
     let made : Option (ℕ × (ℕ × (ℕ × List Lit))) → Option Line = option_map (λ s. lines.Order s.0 s.1.0 s.1.1.0 s.1.1.1) in
-    ap (λ (o : Option ℕ). made (both o (both (number_word (decimal w)) (both (number_word (decimal x)) (only_lits (map lit_text clause)))))) (number_again v p.0)
-    ∙ ap (λ (o : Option ℕ). made (both (Some v) (both o (both (number_word (decimal x)) (only_lits (map lit_text clause)))))) (number_again w q.0)
-    ∙ ap (λ (o : Option ℕ). made (both (Some v) (both (Some w) (both o (only_lits (map lit_text clause)))))) (number_again x r.0)
-    ∙ ap (λ (o : Option (List Lit)). made (both (Some v) (both (Some w) (both (Some x) o)))) (only_again clause r.1)
+    ap (λ (o : Option ℕ). made (both_values o (both_values (number_word (decimal w)) (both_values (number_word (decimal x)) (only_lits (map lit_text clause)))))) (number_again v p.0)
+    ∙ ap (λ (o : Option ℕ). made (both_values (Some v) (both_values o (both_values (number_word (decimal x)) (only_lits (map lit_text clause)))))) (number_again w q.0)
+    ∙ ap (λ (o : Option ℕ). made (both_values (Some v) (both_values (Some w) (both_values o (only_lits (map lit_text clause)))))) (number_again x r.0)
+    ∙ ap (λ (o : Option (List Lit)). made (both_values (Some v) (both_values (Some w) (both_values (Some x) o)))) (only_again clause r.1)
 line_again version (lines.Goal clause) h l f w = ap (option_map lines.Goal) (only_again clause h)
 line_again version (lines.Lemma clause hints) h l f w =
     let p = small_parts (flat_map lit_numbers clause) hints h in
@@ -84,7 +84,7 @@ line_again version (lines.Tariff scale prices) h l f w = tariff_again version sc
 line_again version (lines.Priced clause) h l f w = third_again version _ (lines.Priced clause) (ap (option_map lines.Priced) (only_again clause h)) (priced_third version clause f)
 line_again version (lines.Bound bound) h l f w = bound_again version bound l f
 
-kept : (b : Bool) (word : FormWord) → unless word b ≡ None → b ≡ true
+kept : (b : Bool) (word : FormWord) → word_unless word b ≡ None → b ≡ true
 kept true word h = refl
 kept false word h = absurd cc
 
@@ -118,9 +118,9 @@ word_count (lines.Priced clause) = omega arith
 word_count (lines.Bound bound) = omega arith
 
 pub text_spelled : (version : Version) (line : Line) → list_all is_small (line_numbers line) ≡ true → list_all is_wide (wide_numbers line) ≡ true → has_form version line ≡ true → HasWords line → spelled version (line_text line) ≡ Some line
-text_spelled version line small wide formed words = ap (line_of version) (cut_joined 32 (line_words line) (word_count line) (words_lack 32 line (omega arith) small wide)) ∙ line_again version line small wide formed words
+text_spelled version line small wide formed words = ap (spelled_line version) (cut_joined 32 (line_words line) (word_count line) (words_lack 32 line (omega arith) small wide)) ∙ line_again version line small wide formed words
 
 pub text_read : (shape : Shape) (version : Version) (line : Line) → 1 ≤ shape.ships → IsLine shape version line → line_read shape version (line_text line) ≡ Ok line
 text_read shape version line some is =
     ap (fitted shape) (text_spelled version line is.small is.wide is.formed (has_words shape line some is.fits))
-    ∙ ap (refused_by line) is.fits
+    ∙ ap (unless_bad line) is.fits

@@ -11,7 +11,7 @@ use Rattle.hw_lines.specs.declared.line.Line.TheVariants as lines
 use Rattle.hw_lines.specs.Tolled.{is_plain}
 use Rattle.hw_cert.specs.declared.version.Version.{Version}
 use Rattle.hw_cert.specs.declared.version.Version.TheVariants.{One, Two, Three}
-use Rattle.hw_cert.specs.Texts.{line_text, header_text, cert_text}
+use Rattle.hw_cert.specs.Texts.{line_text, certificate_header, cert_text}
 use Rattle.hw_cert.specs.Spelled.{is_within, version_to}
 use Rattle.hw_cert.specs.Fits.{first_fault, line_read}
 use Rattle.hw_cert.specs.Stream.{Position, NextLine, ends, comes, bad, too_long, next_of, CertEnd, complete, broken, overlong, CertLines, stopped, stream_of, cert_stream_to, cert_stream}
@@ -108,8 +108,8 @@ LineSpelled = (shape : Shape) (version : Version) (bytes : List ℕ) (line : Lin
 
 -- the same of headers of versions up to the greatest one
 pub record SpellsHeader (most : Version) (bytes : List ℕ) (version : Version) : Type 0 where
-  pub read : version_to most bytes ≡ Some version → (bytes ≡ header_text version) × (is_within most version ≡ true)
-  pub written : bytes ≡ header_text version → is_within most version ≡ true → version_to most bytes ≡ Some version
+  pub read : version_to most bytes ≡ Some version → (bytes ≡ certificate_header version) × (is_within most version ≡ true)
+  pub written : bytes ≡ certificate_header version → is_within most version ≡ true → version_to most bytes ≡ Some version
 
 -- bytes are read as the header of a version exactly where they are its one text and the version is within the greatest one
 abbrev pub HeaderSpelled : Type 0
@@ -158,14 +158,14 @@ abbrev pub StreamSteps : Type 0
 StreamSteps = (shape : Shape) (at : Position) (parts : List (List ℕ)) → stream_of shape at parts ≡ following shape (next_of shape at parts)
 
 -- the lines of a stream and how they end, by what the bytes read as. A limit that is passed says nothing
-abbrev pub Agrees : CertEnd → List Line → Result Cert BadLine → Type 0
-Agrees complete all read = (version : Version) × (read ≡ Ok (record { version = version; lines = all }))
-Agrees (broken number word) all read = read ≡ Err (record { number = number; word = word })
-Agrees overlong all read = ⊤
+abbrev pub StreamAgrees : CertEnd → List Line → Result Cert BadLine → Type 0
+StreamAgrees complete all read = (version : Version) × (read ≡ Ok (record { version = version; lines = all }))
+StreamAgrees (broken number word) all read = read ≡ Err (record { number = number; word = word })
+StreamAgrees overlong all read = ⊤
 
 -- where no limit is passed, the stream is what the bytes read as
 abbrev pub StreamReads : Type 0
-StreamReads = (most : Version) (shape : Shape) (bytes : List ℕ) → Agrees (cert_stream_to most shape bytes).stop (cert_stream_to most shape bytes).lines (cert_read_to most shape bytes)
+StreamReads = (most : Version) (shape : Shape) (bytes : List ℕ) → StreamAgrees (cert_stream_to most shape bytes).stop (cert_stream_to most shape bytes).lines (cert_read_to most shape bytes)
 
 -- how many bytes a line has with its end
 abbrev pub ended_size : List ℕ → ℕ

@@ -57,7 +57,7 @@ GoesOn r (nexts.Line reader line) = Behind r reader line
 GoesOn r nexts.End = ⊤
 
 -- the next line was taken, or why not
-pub record Takes (r : ReaderModel) (old new : DeskState) (result : Result Next LineStop) : Type 0 where
+pub record TakesNextLine (r : ReaderModel) (old new : DeskState) (result : Result Next LineStop) : Type 0 where
   -- bytes of the feed were moved, up to one past the limit of the whole, and nothing else happened but faults
   pub moved : (bytes : List ℕ) × Moves r.feed bytes old new × (r.at.taken + length r.pending + length bytes ≤ 2 ^ 40 + 1)
   -- where the bytes are told, the answer is what they read as

@@ -6,14 +6,14 @@ use Rattle.hw_cert.specs.declared.fitting.LineFault.{LineFault}
 use Rattle.hw_cert.specs.declared.fitting.LineFault.TheVariants.{Bad, NoMemory}
 
 -- a word that is the answer, or out of memory, which may come at any time
-abbrev pub Fails : {A : Type 0} → LineFault → Result A FormWord → Type 0
-Fails (Bad word) read = read ≡ Err word
-Fails NoMemory read = Unit {0}
+abbrev pub ReadFails : {A : Type 0} → LineFault → Result A FormWord → Type 0
+ReadFails (Bad word) read = read ≡ Err word
+ReadFails NoMemory read = Unit {0}
 
 -- what a call that reads one line gives is this, unless memory runs out
-abbrev pub Gives : {A : Type 0} → Result A LineFault → Result A FormWord → Type 0
-Gives (Ok x) read = read ≡ Ok x
-Gives (Err e) read = Fails e read
+abbrev pub ReadGives : {A : Type 0} → Result A LineFault → Result A FormWord → Type 0
+ReadGives (Ok x) read = read ≡ Ok x
+ReadGives (Err e) read = ReadFails e read
 
 -- the same of the first bad literal alone
 abbrev pub FailsBy : LineFault → Option FormWord → Type 0

@@ -4,6 +4,7 @@ use Rattle.hw_model.specs.declared.lit.Lit.{Lit}
 use Rattle.hw_model.specs.declared.lit.Lit.TheVariants.{AtOrAfter, Before, First, NotFirst}
 use Rattle.hw_text.specs.Numbers.{number_up_to}
 use Rattle.hw_text.specs.Parts.{parts_of, words_of}
+use Rattle.hw_flat.specs.TextForms.{put_first}
 use Rattle.hw_tolls.specs.declared.toll.Block.{Block}
 use Rattle.hw_lines.specs.declared.line.Line.{Line}
 use Rattle.hw_lines.specs.declared.line.Line.TheVariants as lines
@@ -20,16 +21,10 @@ abbrev pub wide_word : List ℕ → Option ℕ
 wide_word word = number_up_to (2 ^ 64 - 1) word
 
 -- both values, where both are there
-abbrev pub both : {A B : Type 0} → Option A → Option B → Option (A × B)
-both None o = None
-both (Some a) None = None
-both (Some a) (Some b) = Some (a, b)
-
--- the value put before the others, where all are there
-abbrev pub put_first : {A : Type 0} → Option A → Option (List A) → Option (List A)
-put_first None o = None
-put_first (Some x) None = None
-put_first (Some x) (Some xs) = Some (x ∷ xs)
+abbrev pub both_values : {A B : Type 0} → Option A → Option B → Option (A × B)
+both_values None o = None
+both_values (Some a) None = None
+both_values (Some a) (Some b) = Some (a, b)
 
 -- the numbers that the words spell, where each spells one
 abbrev pub all_numbers : List (List ℕ) → Option (List ℕ)
@@ -51,12 +46,12 @@ some_numbers words = option_and_then some_of (all_numbers words)
 
 -- the two numbers of two words
 abbrev pub number_pair : List (List ℕ) → Option (ℕ × ℕ)
-number_pair (x ∷ y ∷ []) = both (number_word x) (number_word y)
+number_pair (x ∷ y ∷ []) = both_values (number_word x) (number_word y)
 number_pair _ = None
 
 -- the block of three words
 abbrev pub block_parts : List (List ℕ) → Option Block
-block_parts (ship ∷ low ∷ high ∷ []) = option_map (λ p. record { ship = p.0; low = p.1.0; high = p.1.1 }) (both (number_word ship) (both (number_word low) (number_word high)))
+block_parts (ship ∷ low ∷ high ∷ []) = option_map (λ p. record { ship = p.0; low = p.1.0; high = p.1.1 }) (both_values (number_word ship) (both_values (number_word low) (number_word high)))
 block_parts _ = None
 
 -- the block that a word spells: a ship and two slots with colons between them
@@ -65,7 +60,7 @@ block_word word = block_parts (parts_of 58 word)
 
 -- the price of two words
 abbrev pub price_parts : List (List ℕ) → Option Price
-price_parts (toll ∷ price ∷ []) = option_map (λ p. record { toll = p.0; price = p.1 }) (both (number_word toll) (wide_word price))
+price_parts (toll ∷ price ∷ []) = option_map (λ p. record { toll = p.0; price = p.1 }) (both_values (number_word toll) (wide_word price))
 price_parts _ = None
 
 -- the price that a word spells: a toll and its price with a colon between them
@@ -118,11 +113,11 @@ table_form words = option_map lines.Table (some_numbers words)
 -- `RESTRICTION LITS`
 abbrev pub explain_form : List (List ℕ) → Option Line
 explain_form [] = None
-explain_form (n ∷ words) = option_map (λ p. lines.Explain p.0 p.1) (both (number_word n) (only_lits words))
+explain_form (n ∷ words) = option_map (λ p. lines.Explain p.0 p.1) (both_values (number_word n) (only_lits words))
 
 -- `V W X LITS`
 abbrev pub order_form : List (List ℕ) → Option Line
-order_form (v ∷ w ∷ x ∷ words) = option_map (λ p. lines.Order p.0 p.1.0 p.1.1.0 p.1.1.1) (both (number_word v) (both (number_word w) (both (number_word x) (only_lits words))))
+order_form (v ∷ w ∷ x ∷ words) = option_map (λ p. lines.Order p.0 p.1.0 p.1.1.0 p.1.1.1) (both_values (number_word v) (both_values (number_word w) (both_values (number_word x) (only_lits words))))
 order_form _ = None
 
 -- `LITS`
@@ -154,17 +149,17 @@ third Three o = o
 abbrev pub narrows_form : Version → List (List ℕ) → Option Line
 narrows_form version words = third version (option_map lines.Narrows (option_and_then some_of (all_of block_word words)))
 
-abbrev pub tugs_words : List (List ℕ) → Option Line
-tugs_words (n ∷ slot ∷ most ∷ words) = option_map (λ p. lines.Tugs p.0 p.1.0 p.1.1.0 p.1.1.1) (both (number_word n) (both (number_word slot) (both (number_word most) (all_numbers words))))
-tugs_words _ = None
+abbrev pub tug_toll_words : List (List ℕ) → Option Line
+tug_toll_words (n ∷ slot ∷ most ∷ words) = option_map (λ p. lines.Tugs p.0 p.1.0 p.1.1.0 p.1.1.1) (both_values (number_word n) (both_values (number_word slot) (both_values (number_word most) (all_numbers words))))
+tug_toll_words _ = None
 
 -- `RESTRICTION SLOT MOST WEIGHT ..`
 abbrev pub tugs_form : Version → List (List ℕ) → Option Line
-tugs_form version words = third version (tugs_words words)
+tugs_form version words = third version (tug_toll_words words)
 
 abbrev pub tariff_words : List (List ℕ) → Option Line
 tariff_words [] = None
-tariff_words (scale ∷ words) = option_map (λ p. lines.Tariff p.0 p.1) (both (number_word scale) (all_of price_word words))
+tariff_words (scale ∷ words) = option_map (λ p. lines.Tariff p.0 p.1) (both_values (number_word scale) (all_of price_word words))
 
 -- `SCALE TOLL:PRICE ..`
 abbrev pub tariff_form : Version → List (List ℕ) → Option Line
@@ -198,13 +193,13 @@ form_of version kind words =
     else if bytes_eq (codes "b") kind then bound_form version words
     else None
 
-abbrev pub line_of : Version → List (List ℕ) → Option Line
-line_of version [] = None
-line_of version (kind ∷ words) = form_of version kind words
+abbrev pub spelled_line : Version → List (List ℕ) → Option Line
+spelled_line version [] = None
+spelled_line version (kind ∷ words) = form_of version kind words
 
 -- the line whose form the bytes have in this version, its numbers not yet tested
 abbrev pub spelled : Version → List ℕ → Option Line
-spelled version bytes = line_of version (words_of bytes)
+spelled version bytes = spelled_line version (words_of bytes)
 
 -- the version that this word names
 abbrev pub version_word : List ℕ → Option Version
@@ -237,5 +232,5 @@ abbrev pub version_to : Version → List ℕ → Option Version
 version_to most bytes = option_and_then (kept_to most) (header_words (words_of bytes))
 
 -- the version of a header, where it is the second or the first
-abbrev pub version_of : List ℕ → Option Version
-version_of bytes = version_to Two bytes
+abbrev pub version_of_header : List ℕ → Option Version
+version_of_header bytes = version_to Two bytes

@@ -27,8 +27,8 @@ abbrev pub start : Position
 start = start_to Two
 
 -- a line of `size` bytes with an end of `end` bytes, after `taken` bytes, passes a limit
-abbrev pub passes : ℕ → ℕ → ℕ → Bool
-passes taken size end = nat_lt (2 ^ 20) size || nat_lt (2 ^ 40) (taken + size + end)
+abbrev pub line_passes_limit : ℕ → ℕ → ℕ → Bool
+line_passes_limit taken size end = nat_lt (2 ^ 20) size || nat_lt (2 ^ 40) (taken + size + end)
 
 -- what the parts that are left between line feeds begin with
 pub data Cut : Type 0 where
@@ -43,12 +43,12 @@ pub data Cut : Type 0 where
 -- the bytes after the last line feed
 abbrev pub tail_cut : ℕ → List ℕ → Cut
 tail_cut taken [] = nothing
-tail_cut taken (b ∷ bs) = if passes taken (length (b ∷ bs)) 0 then long else unended
+tail_cut taken (b ∷ bs) = if line_passes_limit taken (length (b ∷ bs)) 0 then long else unended
 
 abbrev pub cut_of : ℕ → List (List ℕ) → Cut
 cut_of taken [] = nothing
 cut_of taken (tail ∷ []) = tail_cut taken tail
-cut_of taken (line ∷ next ∷ more) = if passes taken (length line) 1 then long else whole line (next ∷ more)
+cut_of taken (line ∷ next ∷ more) = if line_passes_limit taken (length line) 1 then long else whole line (next ∷ more)
 
 -- what comes next of a certificate
 pub data NextLine : Type 0 where

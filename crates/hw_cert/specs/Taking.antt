@@ -9,19 +9,19 @@ use Rattle.hw_cert.specs.declared.stop.LineStop.{LineStop}
 use Rattle.hw_cert.specs.declared.stop.LineStop.TheVariants as stops
 use Rattle.hw_cert.specs.declared.taking.TakenLine.{TakenLine}
 use Rattle.hw_cert.specs.declared.taking.TakenLine.TheVariants.{Whole, Unended, Nothing}
-use Rattle.hw_cert.specs.Stream.{passes}
+use Rattle.hw_cert.specs.Stream.{line_passes_limit}
 
 -- these bytes are a line, a line feed and what is pending, and whether the line passes a limit
 pub record WholeLine (taken : ℕ) (all line pending : List ℕ) (long : Bool) : Type 0 where
   pub parts : all ≡ line ++ 10 ∷ pending
   pub lacking : lacks 10 line ≡ true
-  pub limit : passes taken (length line) 1 ≡ long
+  pub limit : line_passes_limit taken (length line) 1 ≡ long
 
 -- these bytes have no line feed, and whether they pass a limit
 pub record Unparted (taken : ℕ) (all line : List ℕ) (long : Bool) : Type 0 where
   pub parts : all ≡ line
   pub lacking : lacks 10 line ≡ true
-  pub limit : passes taken (length line) 0 ≡ long
+  pub limit : line_passes_limit taken (length line) 0 ≡ long
 
 -- what stands at the place of the line, of the bytes that were pending or moved
 abbrev pub Stands : ℕ → List ℕ → List ℕ → List ℕ → Option (List ℕ) → Result TakenLine LineStop → Type 0

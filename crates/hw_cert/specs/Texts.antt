@@ -48,11 +48,11 @@ abbrev pub line_text : Line → List ℕ
 line_text line = spaced (line_words line)
 
 -- the first line of a certificate
-abbrev pub header_text : Version → List ℕ
-header_text One = codes "cert 1"
-header_text Two = codes "cert 2"
-header_text Three = codes "cert 3"
+abbrev pub certificate_header : Version → List ℕ
+certificate_header One = codes "cert 1"
+certificate_header Two = codes "cert 2"
+certificate_header Three = codes "cert 3"
 
 -- the header and then the lines, each ended by a line feed
 abbrev pub cert_text : Version → List Line → List ℕ
-cert_text version all = ended_lines (header_text version ∷ map line_text all)
+cert_text version all = ended_lines (certificate_header version ∷ map line_text all)

@@ -9,21 +9,21 @@ use Rattle.hw_lines.specs.declared.line.Line.{Line}
 use Rattle.hw_lines.specs.declared.line.Line.TheVariants.{Table, Delete, Narrows}
 use Rattle.hw_cert.specs.declared.version.Version.{Version}
 use Rattle.hw_cert.specs.declared.version.Version.TheVariants.{Two, Three}
-use Rattle.hw_cert.specs.Texts.{header_text, cert_text}
+use Rattle.hw_cert.specs.Texts.{certificate_header, cert_text}
 use Rattle.hw_cert.specs.Spelled.{spelled}
 use Rattle.hw_cert.specs.Logs.{LogAnchor, LogTold, LogModel, outside_of}
 
 -- the header's line of a version with its end
-abbrev pub header_of : Version → List ℕ
-header_of version = header_text version ++ 10 ∷ []
+abbrev pub header_line_of : Version → List ℕ
+header_line_of version = certificate_header version ++ 10 ∷ []
 
 -- the same of the second version
 abbrev pub header_line : List ℕ
-header_line = header_of Two
+header_line = header_line_of Two
 
 -- the header of a version was not sent whole: a proper prefix of it was, and then a write failed
 abbrev pub FailsHeaderOf : Version → DeskState → DeskState → Type 0
-FailsHeaderOf version old new = ((n : ℕ) × (n < length (header_of version)) × Sends Proof (take n (header_of version)) old new) × Rose old.write_faults new.write_faults
+FailsHeaderOf version old new = ((n : ℕ) × (n < length (header_line_of version)) × Sends Proof (take n (header_line_of version)) old new) × Rose old.write_faults new.write_faults
 
 -- the same of the second version
 abbrev pub FailsHeader : DeskState → DeskState → Type 0
@@ -62,7 +62,7 @@ lines_told bytes = parts_told (parts_of 10 bytes)
 
 -- what bytes tell, the header of this version first
 abbrev pub told_under : Version → List ℕ → Option LogTold
-told_under version bytes = option_and_then lines_told (behind_text (header_of version) bytes)
+told_under version bytes = option_and_then lines_told (behind_text (header_line_of version) bytes)
 
 -- the same of the second version
 abbrev pub bytes_told : List ℕ → Option LogTold

@@ -9,11 +9,11 @@ use Rattle.hw_lines.specs.declared.line.Price.{Price}
 use Rattle.hw_cert.specs.Texts.{lit_text, block_text, price_text}
 
 -- a number after a space
-abbrev pub number_text : ℕ → List ℕ
-number_text n = 32 ∷ decimal n
+abbrev pub spaced_number : ℕ → List ℕ
+spaced_number n = 32 ∷ decimal n
 
-abbrev pub numbers_text : List ℕ → List ℕ
-numbers_text = flat_map number_text
+abbrev pub spaced_numbers : List ℕ → List ℕ
+spaced_numbers = flat_map spaced_number
 
 -- literals, each after a space
 abbrev pub lits_text : List Lit → List ℕ
@@ -29,14 +29,14 @@ prices_text = flat_map (λ due. 32 ∷ price_text due)
 
 -- the text of a line
 abbrev pub worded : Line → List ℕ
-worded (lines.Table table) = codes "t" ++ numbers_text table
-worded (lines.Explain n clause) = codes "e" ++ (number_text n ++ lits_text clause)
-worded (lines.Order v w x clause) = codes "o" ++ (number_text v ++ (number_text w ++ (number_text x ++ lits_text clause)))
+worded (lines.Table table) = codes "t" ++ spaced_numbers table
+worded (lines.Explain n clause) = codes "e" ++ (spaced_number n ++ lits_text clause)
+worded (lines.Order v w x clause) = codes "o" ++ (spaced_number v ++ (spaced_number w ++ (spaced_number x ++ lits_text clause)))
 worded (lines.Goal clause) = codes "g" ++ lits_text clause
-worded (lines.Lemma clause hints) = codes "l" ++ (lits_text clause ++ (codes " ;" ++ numbers_text hints))
-worded (lines.Delete ids) = codes "d" ++ numbers_text ids
+worded (lines.Lemma clause hints) = codes "l" ++ (lits_text clause ++ (codes " ;" ++ spaced_numbers hints))
+worded (lines.Delete ids) = codes "d" ++ spaced_numbers ids
 worded (lines.Narrows blocks) = codes "n" ++ blocks_text blocks
-worded (lines.Tugs n slot most weights) = codes "u" ++ (number_text n ++ (number_text slot ++ (number_text most ++ numbers_text weights)))
-worded (lines.Tariff scale prices) = codes "y" ++ (number_text scale ++ prices_text prices)
+worded (lines.Tugs n slot most weights) = codes "u" ++ (spaced_number n ++ (spaced_number slot ++ (spaced_number most ++ spaced_numbers weights)))
+worded (lines.Tariff scale prices) = codes "y" ++ (spaced_number scale ++ prices_text prices)
 worded (lines.Priced clause) = codes "p" ++ lits_text clause
-worded (lines.Bound bound) = codes "b" ++ number_text bound
+worded (lines.Bound bound) = codes "b" ++ spaced_number bound

@@ -3,8 +3,8 @@
 ghost use Rattle.std.specs.Prelude.{◌≡◌, ◌≤◌, ◌&&◌, nat_lt, nat_le, length, map};
 ghost use Rattle.std.specs.List.{list_all};
 ghost use Rattle.hw_cert.specs.declared.fitting.LineFault.TheVariants.{NoMemory};
-ghost use Rattle.hw_cert.specs.Fits.{ascends, rises, block_fits, blocks_fit, weights_small, weights_fit, prices_small, unless, clause_fault, first_fault, refused_by, fitted, line_read};
-ghost use Rattle.hw_cert.specs.Reads.{GivesClause, Gives};
+ghost use Rattle.hw_cert.specs.Fits.{ascends, rises, block_fits_shape, blocks_fit, weights_small, weights_fit, prices_small, word_unless, clause_fault, first_fault, unless_bad, fitted, line_read};
+ghost use Rattle.hw_cert.specs.Reads.{GivesClause, ReadGives};
 ghost use Rattle.hw_cert.specs.Spellings.{spelling_view};
 
 use crate::spelling::{Spelling, spelling_of};
@@ -81,7 +81,7 @@ fn clause_of(shape: Shape, lits: Vec<Lit>) -> Result<Clause, LineFault>
 
 fn table_line(alloc: Global, shape: Shape, slots: &[u32]) -> Result<Line, LineFault>
     requires few_ships { shape.ships ≤ MOST_SHIPS }
-    ensures { Gives result (refused_by (Line.Table slots.now) (first_fault shape (Line.Table slots.now))) }
+    ensures { ReadGives result (unless_bad (Line.Table slots.now) (first_fault shape (Line.Table slots.now))) }
 {
     if !each_below(slots, shape.slots) || slots.len() != shape.ships as usize {
         return Err(LineFault::Bad(FormWord::Range));
@@ -92,7 +92,7 @@ fn table_line(alloc: Global, shape: Shape, slots: &[u32]) -> Result<Line, LineFa
 
 fn explain_line(shape: Shape, restriction: u32, lits: Vec<Lit>) -> Result<Line, LineFault>
     requires few_ships { shape.ships ≤ MOST_SHIPS }
-    ensures { Gives result (refused_by (Line.Explain restriction lits.items) (first_fault shape (Line.Explain restriction lits.items))) }
+    ensures { ReadGives result (unless_bad (Line.Explain restriction lits.items) (first_fault shape (Line.Explain restriction lits.items))) }
 {
     if u64::from(restriction) >= u64::from(shape.ships) + u64::from(shape.rules) {
         return Err(LineFault::Bad(FormWord::Range));
@@ -106,7 +106,7 @@ fn explain_line(shape: Shape, restriction: u32, lits: Vec<Lit>) -> Result<Line, 
 
 fn order_line(shape: Shape, v: u32, w: u32, x: u32, lits: Vec<Lit>) -> Result<Line, LineFault>
     requires few_ships { shape.ships ≤ MOST_SHIPS }
-    ensures { Gives result (refused_by (Line.Order v w x lits.items) (first_fault shape (Line.Order v w x lits.items))) }
+    ensures { ReadGives result (unless_bad (Line.Order v w x lits.items) (first_fault shape (Line.Order v w x lits.items))) }
 {
     if !(v < w && w < x && x < shape.ships) {
         return Err(LineFault::Bad(FormWord::Range));
@@ -117,7 +117,7 @@ fn order_line(shape: Shape, v: u32, w: u32, x: u32, lits: Vec<Lit>) -> Result<Li
 
 fn goal_line(shape: Shape, lits: Vec<Lit>) -> Result<Line, LineFault>
     requires few_ships { shape.ships ≤ MOST_SHIPS }
-    ensures { Gives result (refused_by (Line.Goal lits.items) (first_fault shape (Line.Goal lits.items))) }
+    ensures { ReadGives result (unless_bad (Line.Goal lits.items) (first_fault shape (Line.Goal lits.items))) }
 {
     let clause = clause_of(shape, lits)?;
     Ok(Line::Goal { clause })
@@ -125,7 +125,7 @@ fn goal_line(shape: Shape, lits: Vec<Lit>) -> Result<Line, LineFault>
 
 fn lemma_line(shape: Shape, lits: Vec<Lit>, hints: Vec<u32>) -> Result<Line, LineFault>
     requires few_ships { shape.ships ≤ MOST_SHIPS }
-    ensures { Gives result (refused_by (Line.Lemma lits.items hints.items) (first_fault shape (Line.Lemma lits.items hints.items))) }
+    ensures { ReadGives result (unless_bad (Line.Lemma lits.items hints.items) (first_fault shape (Line.Lemma lits.items hints.items))) }
 {
     let clause = clause_of(shape, lits)?;
     if !each_above_zero(&hints) {
@@ -138,7 +138,7 @@ fn lemma_line(shape: Shape, lits: Vec<Lit>, hints: Vec<u32>) -> Result<Line, Lin
 }
 
 fn delete_line(ids: Vec<u32>) -> Result<Line, LineFault>
-    ensures { Gives result (refused_by (Line.Delete ids.items) (unless FormWord.Range (nat_lt 0 (length ids.items) && ascends 0 ids.items))) }
+    ensures { ReadGives result (unless_bad (Line.Delete ids.items) (word_unless FormWord.Range (nat_lt 0 (length ids.items) && ascends 0 ids.items))) }
 {
     if ids.is_empty() || !is_ascending(&ids) {
         return Err(LineFault::Bad(FormWord::Range));
@@ -149,13 +149,13 @@ fn delete_line(ids: Vec<u32>) -> Result<Line, LineFault>
 }
 
 fn is_block(shape: Shape, block: Block) -> bool
-    ensures { result ≡ block_fits shape block }
+    ensures { result ≡ block_fits_shape shape block }
 {
     block.ship < shape.ships && block.low <= block.high && block.high < shape.slots
 }
 
 fn each_fits(shape: Shape, blocks: &[Block]) -> bool
-    ensures { result ≡ list_all (block_fits shape) blocks.now }
+    ensures { result ≡ list_all (block_fits_shape shape) blocks.now }
 {
     blocks.iter().all(|block| is_block(shape, *block))
 }
@@ -187,7 +187,7 @@ fn are_blocks(shape: Shape, blocks: &[Block]) -> bool
 }
 
 fn narrows_line(shape: Shape, blocks: Vec<Block>) -> Result<Line, LineFault>
-    ensures { Gives result (refused_by (Line.Narrows blocks.items) (first_fault shape (Line.Narrows blocks.items))) }
+    ensures { ReadGives result (unless_bad (Line.Narrows blocks.items) (first_fault shape (Line.Narrows blocks.items))) }
 {
     if !are_blocks(shape, &blocks) {
         return Err(LineFault::Bad(FormWord::Range));
@@ -227,7 +227,7 @@ fn tugs_line(
     most: u32,
     weights: Vec<u32>,
 ) -> Result<Line, LineFault>
-    ensures { Gives result (refused_by (Line.Tugs restriction slot most weights.items) (first_fault shape (Line.Tugs restriction slot most weights.items))) }
+    ensures { ReadGives result (unless_bad (Line.Tugs restriction slot most weights.items) (first_fault shape (Line.Tugs restriction slot most weights.items))) }
 {
     if !are_small(most, &weights) {
         return Err(LineFault::Bad(FormWord::Form));
@@ -270,7 +270,7 @@ fn tolls_ascend(prices: &[Price]) -> bool
 }
 
 fn tariff_line(shape: Shape, scale: u32, prices: Vec<Price>) -> Result<Line, LineFault>
-    ensures { Gives result (refused_by (Line.Tariff scale prices.items) (first_fault shape (Line.Tariff scale prices.items))) }
+    ensures { ReadGives result (unless_bad (Line.Tariff scale prices.items) (first_fault shape (Line.Tariff scale prices.items))) }
 {
     if !are_cheap(scale, &prices) {
         return Err(LineFault::Bad(FormWord::Form));
@@ -286,14 +286,14 @@ fn tariff_line(shape: Shape, scale: u32, prices: Vec<Price>) -> Result<Line, Lin
 
 fn priced_line(shape: Shape, lits: Vec<Lit>) -> Result<Line, LineFault>
     requires few_ships { shape.ships ≤ MOST_SHIPS }
-    ensures { Gives result (refused_by (Line.Priced lits.items) (first_fault shape (Line.Priced lits.items))) }
+    ensures { ReadGives result (unless_bad (Line.Priced lits.items) (first_fault shape (Line.Priced lits.items))) }
 {
     let clause = clause_of(shape, lits)?;
     Ok(Line::Priced { clause })
 }
 
 fn bound_line(bound: u64) -> Result<Line, LineFault>
-    ensures { Gives result (refused_by (Line.Bound bound) (unless FormWord.Form (nat_le bound MOST_CARGO))) }
+    ensures { ReadGives result (unless_bad (Line.Bound bound) (word_unless FormWord.Form (nat_le bound MOST_CARGO))) }
 {
     if bound > MOST_CARGO {
         return Err(LineFault::Bad(FormWord::Form));
@@ -304,7 +304,7 @@ fn bound_line(bound: u64) -> Result<Line, LineFault>
 /// The line of this spelling, or its first bad word.
 fn fitted_line(alloc: Global, shape: Shape, spelling: Spelling) -> Result<Line, LineFault>
     requires few_ships { shape.ships ≤ MOST_SHIPS }
-    ensures { Gives result (refused_by (spelling_view spelling) (first_fault shape (spelling_view spelling))) }
+    ensures { ReadGives result (unless_bad (spelling_view spelling) (first_fault shape (spelling_view spelling))) }
 {
     match spelling {
         Spelling::Table { slots } => table_line(alloc, shape, &slots),
@@ -334,7 +334,7 @@ pub fn read_line(
     bytes: &[u8],
 ) -> Result<Line, LineFault>
     requires few_ships { shape.ships ≤ MOST_SHIPS }
-    ensures { Gives result (line_read shape version bytes.now) }
+    ensures { ReadGives result (line_read shape version bytes.now) }
 {
     match spelling_of(alloc, version, bytes)? {
         Some(spelling) => fitted_line(alloc, shape, spelling),

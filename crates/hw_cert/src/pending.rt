@@ -21,12 +21,13 @@ pub struct Pending {
 
 impl Model for Pending {
     ghost use Rattle.std.specs.Prelude.{List, ℕ, ◌≡◌, ◌≤◌, ◌-◌, length, take, drop};
+    ghost use Rattle.hw_cert.specs.declared.pending.TheConstants.{BLOCK};
 
     ghost Value = { List ℕ };
 
     ghost view = { λ p. take (p.end - p.at) (drop p.at p.block.items) };
 
-    ghost invariant = { λ p. (p.at ≤ p.end) × (p.end ≤ length p.block.items) × (length p.block.items ≡ 65536) };
+    ghost invariant = { λ p. (p.at ≤ p.end) × (p.end ≤ length p.block.items) × (length p.block.items ≡ BLOCK) };
 }
 
 /// The place of the first line feed.

@@ -4,7 +4,7 @@ ghost use Rattle.std.specs.Prelude.{◌≡◌, [], true, Err, IfErr, IfOk, IfSom
 ghost use Rattle.hw_desk.specs.Calls.{Sends};
 ghost use Rattle.hw_desk.specs.declared.desk.Tray.TheVariants.{Proof};
 ghost use Rattle.hw_cert.specs.Logs.{IsEmpty, IsWhole, TakesLine};
-ghost use Rattle.hw_cert.specs.Told.{FailsHeaderOf, header_of, is_told_under, log_under, tray_anchor};
+ghost use Rattle.hw_cert.specs.Told.{FailsHeaderOf, header_line_of, is_told_under, log_under, tray_anchor};
 ghost use Rattle.hw_cert.specs.declared.version.Version.TheVariants.{Three};
 
 use crate::sending::{send_header_of, send_line};
@@ -32,7 +32,7 @@ impl<'d, D: Desk> PriceLog<'d, D> {
         requires made { ((D.state desk.old).trays Tray.Proof).made ≡ true }
         requires none { IfSome ((D.state desk.old).trays Tray.Proof).sent (λ bytes. bytes ≡ []) }
         ensures same_reference { IfOk result (λ log. log.desk.ghost_name ≡ desk.entry.ghost_name) }
-        ensures sent { IfOk result (λ log. Sends Tray.Proof (header_of Three) (D.state desk.old) (D.state log.desk.now)) }
+        ensures sent { IfOk result (λ log. Sends Tray.Proof (header_line_of Three) (D.state desk.old) (D.state log.desk.now)) }
         ensures kept { IfOk result (λ log. (D.state log.desk.now).write_faults ≡ (D.state desk.old).write_faults) }
         ensures empty { IfOk result (λ log. IsEmpty (log_under Three (D.state log.desk.now))) }
         ensures desk_back { IfErr result (λ failed. failed.desk.ghost_name ≡ desk.entry.ghost_name) }

@@ -4,7 +4,7 @@ ghost use Rattle.std.specs.Prelude.{◌≡◌, ◌++◌, ◌∷◌, [], true, co
 ghost use Rattle.std.specs.List.{list_all, flat_map};
 ghost use Rattle.hw_desk.specs.Writers.{Puts};
 ghost use Rattle.hw_cert.specs.Texts.{lit_text, block_text, price_text, line_text, pair_text};
-ghost use Rattle.hw_cert.specs.Worded.{number_text, numbers_text, lits_text, blocks_text, prices_text, worded};
+ghost use Rattle.hw_cert.specs.Worded.{spaced_number, spaced_numbers, lits_text, blocks_text, prices_text, worded};
 ghost use Rattle.hw_cert.specs.Laws.{is_small, is_wide, lit_numbers, block_numbers, line_numbers, wide_numbers};
 
 use hw_desk::Writer;
@@ -15,7 +15,7 @@ use hw_tolls::Block;
 /// Puts a number after a space.
 #[tactic(auto, using(hw_desk::proofs::Written::puts_on))]
 fn put_number<W: Writer>(out: &mut W, number: u32)
-    ensures puts { Puts (number_text number) (W.state out.old) (W.state out.new) }
+    ensures puts { Puts (spaced_number number) (W.state out.old) (W.state out.new) }
     ensures small { is_small number ≡ true }
 {
     out.put(b" ");
@@ -25,7 +25,7 @@ fn put_number<W: Writer>(out: &mut W, number: u32)
 /// Puts numbers, each after a space.
 #[tactic(auto, using(hw_desk::proofs::Written::puts_on))]
 fn put_numbers<W: Writer>(out: &mut W, numbers: &[u32])
-    ensures puts { Puts (numbers_text numbers.now) (W.state out.old) (W.state out.new) }
+    ensures puts { Puts (spaced_numbers numbers.now) (W.state out.old) (W.state out.new) }
     ensures small { list_all is_small numbers.now ≡ true }
 {
     for number in numbers {
@@ -72,7 +72,7 @@ fn put_lits<W: Writer>(out: &mut W, lits: &[Lit])
 /// Puts a letter and numbers.
 #[tactic(auto, using(hw_desk::proofs::Written::puts_on))]
 fn put_listed<W: Writer>(out: &mut W, letter: &[u8], numbers: &[u32])
-    ensures puts { Puts (letter.now ++ numbers_text numbers.now) (W.state out.old) (W.state out.new) }
+    ensures puts { Puts (letter.now ++ spaced_numbers numbers.now) (W.state out.old) (W.state out.new) }
     ensures small { list_all is_small numbers.now ≡ true }
 {
     out.put(letter);

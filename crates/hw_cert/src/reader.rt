@@ -59,7 +59,7 @@ pub enum Next {
 }
 
 impl LineReader {
-    ghost use Rattle.hw_cert.specs.Nexts.{Takes, TakesHeader};
+    ghost use Rattle.hw_cert.specs.Nexts.{TakesNextLine, TakesHeader};
 
     /// A reader of a certificate of version 1 or 2 for a problem of this shape, before its header.
     /// It takes one line's buffer and that of one read, which no call of the reader makes greater.
@@ -140,7 +140,7 @@ impl LineReader {
     fn next_line<D: Desk>(mut self, desk: &mut D) -> Result<Next, LineStop>
         requires begun { ((D.state desk.old).feeds self.feed).begun ≡ true }
         requires header { IsSome self.at.version }
-        ensures { Takes self (D.state desk.old) (D.state desk.new) result }
+        ensures { TakesNextLine self (D.state desk.old) (D.state desk.new) result }
     {
         let Some(version) = self.version else {
             unreachable!()
@@ -182,7 +182,7 @@ impl LineReader {
     /// `Fault` where a read failed, and `NoMemory`.
     pub fn next<D: Desk>(self, desk: &mut D) -> Result<Next, LineStop>
         requires begun { ((D.state desk.old).feeds self.feed).begun ≡ true }
-        ensures { Takes self (D.state desk.old) (D.state desk.new) result }
+        ensures { TakesNextLine self (D.state desk.old) (D.state desk.new) result }
     {
         if self.version.is_some() {
             return self.next_line(desk);

@@ -9,7 +9,7 @@ ghost use Rattle.hw_text.specs.Parts.{ended_lines};
 ghost use Rattle.hw_cert.specs.Laws.{is_small, is_wide, line_numbers, wide_numbers};
 ghost use Rattle.hw_cert.specs.Logs.{IsEmpty, ended_text};
 ghost use Rattle.hw_cert.specs.Texts.{cert_text, line_text};
-ghost use Rattle.hw_cert.specs.Told.{header_of, is_told_under, log_under};
+ghost use Rattle.hw_cert.specs.Told.{header_line_of, is_told_under, log_under};
 
 use crate::putting::put_line;
 use crate::version::Version;
@@ -41,7 +41,7 @@ pub fn send_cert<D: Desk>(desk: &mut D, lines: &[Line]) -> Result<(), DeskFailed
 
 /// The header's line of a version, with its end.
 fn header_line(version: Version) -> &'static [u8]
-    ensures { result.now ≡ header_of version }
+    ensures { result.now ≡ header_line_of version }
 {
     match version {
         Version::One => b"cert 1\n",
@@ -54,7 +54,7 @@ fn header_line(version: Version) -> &'static [u8]
 pub fn send_header_of<D: Desk>(desk: &mut D, version: Version) -> Result<(), DeskFailed>
     requires made { ((D.state desk.old).trays Tray.Proof).made ≡ true }
     requires none { IfSome ((D.state desk.old).trays Tray.Proof).sent (λ bytes. bytes ≡ []) }
-    ensures sends { SendsText Tray.Proof (header_of version) (D.state desk.old) (D.state desk.new) result }
+    ensures sends { SendsText Tray.Proof (header_line_of version) (D.state desk.old) (D.state desk.new) result }
     ensures told { OnOk result (is_told_under version ((D.state desk.new).trays Tray.Proof).sent ≡ true) }
     ensures empty { OnOk result (IsEmpty (log_under version (D.state desk.new))) }
 {

@@ -1,7 +1,7 @@
 //! Taking the bytes of one line from a feed.
 
 ghost use Rattle.std.specs.Prelude.{◌≡◌, ◌≤◌, ◌<◌, ◌+◌, ◌^◌, length, true, nat_lt, if◌then◌else◌};
-ghost use Rattle.hw_cert.specs.Stream.{passes};
+ghost use Rattle.hw_cert.specs.Stream.{line_passes_limit};
 ghost use Rattle.hw_cert.specs.Taking.{TakesLine};
 
 use crate::pending::Pending;
@@ -25,7 +25,7 @@ pub enum TakenLine {
 /// Whether a line of `size` bytes with an end of `end` bytes, after `taken` bytes, passes a limit.
 fn passes_limit(taken: u64, size: u64, end: u64) -> bool
     requires { taken + size + end < 2 ^ 64 }
-    ensures { result ≡ passes taken size end }
+    ensures { result ≡ line_passes_limit taken size end }
 {
     size > MOST_OF_LINE || taken + size + end > MOST_OF_ALL
 }

@@ -1,7 +1,7 @@
 //! What the words of a line of the third version spell, whatever the problem.
 
 ghost use Rattle.std.specs.Prelude.{◌≡◌, IfOk, option_map};
-ghost use Rattle.hw_cert.specs.Spelled.{wide_word, all_of, block_word, price_word, narrows_form, tugs_words, tugs_form, tariff_words, tariff_form, priced_form, bound_words, bound_form};
+ghost use Rattle.hw_cert.specs.Spelled.{wide_word, all_of, block_word, price_word, narrows_form, tug_toll_words, tugs_form, tariff_words, tariff_form, priced_form, bound_words, bound_form};
 ghost use Rattle.hw_cert.specs.Spellings.{blocks_view, prices_view, spelling_view};
 
 use crate::spelling::{Spelling, number_of, numbers_of, only_lits_of};
@@ -93,7 +93,7 @@ pub fn narrows_of(
 
 /// `RESTRICTION SLOT MOST WEIGHT ..`
 fn tugs_from(alloc: Global, mut words: Words<'_>) -> Result<Option<Spelling>, AllocError>
-    ensures { IfOk result (λ o. option_map spelling_view o ≡ tugs_words words.entry) }
+    ensures { IfOk result (λ o. option_map spelling_view o ≡ tug_toll_words words.entry) }
 {
     let (Some(restriction), Some(slot), Some(most)) = (words.word(), words.word(), words.word())
     else {

@@ -9,7 +9,7 @@ use Rattle.hw_chart.specs.declared.grid.TheConstants.{MINUTES, SLOTS}
 use Rattle.hw_chart.specs.declared.grid.Axis.{Axis}
 use Rattle.hw_chart.specs.declared.grid.Scale.{Scale}
 use Rattle.hw_chart.specs.declared.grid.Scale.TheVariants.{Minutes, Slots}
-use Rattle.hw_chart.specs.Layout.{place_of}
+use Rattle.hw_chart.specs.Layout.{plot_place}
 
 -- how much an axis over this many slots counts
 abbrev pub total_of : Scale → ℕ → ℕ
@@ -28,7 +28,7 @@ abbrev pub axis_of : Scale → ℕ → ℕ → Axis
 axis_of scale span bottom = record { scale = scale; total = total_of scale span; step = step_of scale (total_of scale span); bottom = bottom }
 
 abbrev pub line_path : Axis → ℕ → List ℕ
-line_path a at = joined (codes "M" ∷ decimal (place_of at a.total) ∷ codes " 120V" ∷ decimal (a.bottom + 4) ∷ [])
+line_path a at = joined (codes "M" ∷ decimal (plot_place at a.total) ∷ codes " 120V" ∷ decimal (a.bottom + 4) ∷ [])
 
 -- the lines at this many marks from this one on
 abbrev pub line_paths : Axis → ℕ → ℕ → List ℕ
@@ -40,21 +40,21 @@ abbrev pub axis_lines : Axis → List ℕ
 axis_lines a = shape (codes "ln") (line_paths a 0 (div_ceil a.total a.step))
 
 -- a mark of whole days
-abbrev pub is_day : ℕ → Bool
-is_day at = nat_lt 0 at && nat_eq (at % 1440) 0
+abbrev pub is_day_mark : ℕ → Bool
+is_day_mark at = nat_lt 0 at && nat_eq (at % 1440) 0
 
-abbrev pub mark_class : Scale → ℕ → List ℕ
-mark_class (Minutes minutes) at = if is_day at then codes "b c" else codes "m c"
-mark_class Slots at = codes "m c"
+abbrev pub axis_mark_class : Scale → ℕ → List ℕ
+axis_mark_class (Minutes minutes) at = if is_day_mark at then codes "b c" else codes "m c"
+axis_mark_class Slots at = codes "m c"
 
 -- whole days, a time of a day, or a slot
 abbrev pub mark_text : Scale → ℕ → List ℕ
-mark_text (Minutes minutes) at = if is_day at then decimal (at / 1440) ++ codes "d" else clock (at % 1440)
+mark_text (Minutes minutes) at = if is_day_mark at then decimal (at / 1440) ++ codes "d" else clock (at % 1440)
 mark_text Slots at = decimal at
 
 -- a mark stands above the plot and below it
 abbrev pub mark : Axis → ℕ → List ℕ
-mark a at = line (mark_class a.scale at) (place_of at a.total) 116 (mark_text a.scale at) ++ line (mark_class a.scale at) (place_of at a.total) (a.bottom + 16) (mark_text a.scale at)
+mark a at = line (axis_mark_class a.scale at) (plot_place at a.total) 116 (mark_text a.scale at) ++ line (axis_mark_class a.scale at) (plot_place at a.total) (a.bottom + 16) (mark_text a.scale at)
 
 abbrev pub marks : Axis → ℕ → ℕ → List ℕ
 marks a i zero = []
@@ -72,4 +72,4 @@ grid scale span bottom = axis_text (axis_of scale span bottom)
 
 -- a line at the end of the slots in which ships sail, where the picture goes on beyond it
 abbrev pub span_end : ℕ → ℕ → ℕ → List ℕ
-span_end slots span bottom = if nat_lt slots span then shape (codes "hz") (joined (codes "M" ∷ decimal (place_of slots span) ∷ codes " 120V" ∷ decimal (bottom + 4) ∷ [])) else []
+span_end slots span bottom = if nat_lt slots span then shape (codes "hz") (joined (codes "M" ∷ decimal (plot_place slots span) ∷ codes " 120V" ∷ decimal (bottom + 4) ∷ [])) else []

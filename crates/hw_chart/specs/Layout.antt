@@ -22,9 +22,9 @@ abbrev pub stripe : ℕ → ℕ → List ℕ
 stripe rank y = if nat_eq (rank % 2) 0 then block (codes "bd") (record { left = 0; right = 1280; top = y - 1; bottom = y + 41 }) else []
 
 -- where a part of a whole stands on the plot
-abbrev pub place_of : ℕ → ℕ → ℕ
-place_of part whole = 172 + part * 720 / whole
+abbrev pub plot_place : ℕ → ℕ → ℕ
+plot_place part whole = 172 + part * 720 / whole
 
 -- a wedge above the middle of a slot
 abbrev pub pin : List ℕ → ℕ → ℕ → ℕ → List ℕ
-pin class slot span y = shape class (joined (codes "M" ∷ decimal (place_of (2 * slot + 1) (2 * span) - 4) ∷ codes " " ∷ decimal (y - 1) ∷ codes "h9l-4 6z" ∷ []))
+pin class slot span y = shape class (joined (codes "M" ∷ decimal (plot_place (2 * slot + 1) (2 * span) - 4) ∷ codes " " ∷ decimal (y - 1) ∷ codes "h9l-4 6z" ∷ []))

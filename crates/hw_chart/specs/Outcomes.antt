@@ -3,16 +3,16 @@ use Rattle.std.specs.Prelude.{ℕ, List, [], ◌∷◌, ◌++◌, Option, Some, 
 use Rattle.hw_lines.specs.declared.check.Verdict.{Verdict}
 use Rattle.hw_lines.specs.declared.check.Verdict.TheVariants.{Optimal, Infeasible, Unfinished}
 use Rattle.hw_svg.specs.Joined.{joined}
-use Rattle.hw_svg.specs.Numbers.{tenths}
+use Rattle.hw_svg.specs.Numbers.{tonnes_label}
 use Rattle.hw_svg.specs.Shapes.{shape}
 use Rattle.hw_chart.specs.declared.outcome.CargoUnit.{CargoUnit}
 use Rattle.hw_chart.specs.declared.outcome.CargoUnit.TheVariants.{Tonnes, Plain}
 use Rattle.hw_chart.specs.declared.outcome.Outcome.{Outcome}
 
 -- a cargo as it is written
-abbrev pub cargo_text : CargoUnit → ℕ → List ℕ
-cargo_text Tonnes cargo = tenths cargo
-cargo_text Plain cargo = decimal cargo
+abbrev pub cargo_in_unit : CargoUnit → ℕ → List ℕ
+cargo_in_unit Tonnes cargo = tonnes_label cargo
+cargo_in_unit Plain cargo = decimal cargo
 
 abbrev pub unit_text : CargoUnit → List ℕ
 unit_text Tonnes = codes " t"
@@ -20,7 +20,7 @@ unit_text Plain = []
 
 -- a cargo with its unit
 abbrev pub amount_parts : CargoUnit → ℕ → List (List ℕ)
-amount_parts unit cargo = cargo_text unit cargo ∷ unit_text unit ∷ []
+amount_parts unit cargo = cargo_in_unit unit cargo ∷ unit_text unit ∷ []
 
 -- what no permitted timetable carries more than, where that is known
 abbrev pub most_parts : CargoUnit → Option ℕ → List (List ℕ)
@@ -31,7 +31,7 @@ most_parts unit (Some bound) = codes ", at most " ∷ amount_parts unit bound
 abbrev pub title_by : CargoUnit → Option ℕ → Verdict → List ℕ
 title_by unit bound (Optimal cargo) = joined (codes "Proved best: " ∷ amount_parts unit cargo)
 title_by unit bound Infeasible = codes "Infeasible"
-title_by unit bound (Unfinished (Some cargo)) = joined (codes "Not proved best: " ∷ cargo_text unit cargo ∷ unit_text unit ∷ most_parts unit bound)
+title_by unit bound (Unfinished (Some cargo)) = joined (codes "Not proved best: " ∷ cargo_in_unit unit cargo ∷ unit_text unit ∷ most_parts unit bound)
 title_by unit bound (Unfinished None) = joined (codes "No plan" ∷ most_parts unit bound)
 
 abbrev pub title_text : CargoUnit → Outcome → List ℕ

@@ -31,8 +31,8 @@ bars_begin y span = window_begin (plot (y + 31) 8 span 2)
 abbrev pub bar : List ℕ → ℕ → ℕ → ℕ → List ℕ
 bar class from to lane = block class (record { left = from; right = to; top = lane; bottom = lane + 1 })
 
-abbrev pub stays : ℕ → List ℕ
-stays y = line (codes "r b") 956 (y + 17) (codes "stays")
+abbrev pub stays_label : ℕ → List ℕ
+stays_label y = line (codes "r b") 956 (y + 17) (codes "stays")
 
 abbrev pub no_slot : ℕ → List ℕ
 no_slot y = line (codes "r q") 956 (y + 17) (codes "no slot")

@@ -4,8 +4,8 @@ ghost use Rattle.std.specs.Prelude.{◌≡◌, ◌^◌, ◌<◌, IsTrue, nat_lt}
 ghost use Rattle.std.specs.Int.{div_ceil};
 ghost use Rattle.std.specs.List.{list_all};
 ghost use Rattle.hw_desk.specs.Writers.{Puts};
-ghost use Rattle.hw_svg.specs.Pieces.{pieces_text};
-ghost use Rattle.hw_chart.specs.Grids.{axis_lines, axis_of, caption_text, grid, line_path, line_paths, mark, mark_class, mark_text, marks, span_end, step_among, step_of, total_of};
+ghost use Rattle.hw_svg.specs.Pieces.{picture_pieces_text};
+ghost use Rattle.hw_chart.specs.Grids.{axis_lines, axis_of, caption_text, grid, line_path, line_paths, mark, axis_mark_class, mark_text, marks, span_end, step_among, step_of, total_of};
 
 use crate::layout::place;
 use hw_desk::Writer;
@@ -132,7 +132,7 @@ fn put_axis_lines<W: Writer>(out: &mut W, axis: Axis)
 
 /// The class of a mark: whole days stand out.
 fn class_of_mark(scale: Scale, at: u32) -> &'static [u8]
-    ensures { result.now ≡ mark_class scale at }
+    ensures { result.now ≡ axis_mark_class scale at }
 {
     match scale {
         Scale::Minutes(_) => {
@@ -148,7 +148,7 @@ fn class_of_mark(scale: Scale, at: u32) -> &'static [u8]
 
 /// What a mark says, in two pieces: a whole day, a time of a day, or a slot.
 fn pieces_of_mark(scale: Scale, at: u32) -> [Piece<'static>; 2]
-    ensures { pieces_text result ≡ mark_text scale at }
+    ensures { picture_pieces_text result ≡ mark_text scale at }
 {
     let at = u64::from(at);
     match scale {

@@ -1,7 +1,7 @@
 //! The head of a picture.
 
 ghost use Rattle.hw_desk.specs.Writers.{Puts};
-ghost use Rattle.hw_svg.specs.Pieces.{pieces_text};
+ghost use Rattle.hw_svg.specs.Pieces.{picture_pieces_text};
 ghost use Rattle.hw_chart.specs.Headings.{entries_text, entry_text, ground, heading, heading_lines};
 ghost use Rattle.hw_chart.specs.Outcomes.{title_text};
 
@@ -33,7 +33,7 @@ fn put_ground<W: Writer>(out: &mut W, height: u64)
 
 /// Puts the title, what it means, and the sizes of the problem.
 fn put_heading_lines<W: Writer>(out: &mut W, unit: CargoUnit, outcome: Outcome, sizes: &[Piece])
-    ensures { Puts (heading_lines unit outcome (pieces_text sizes.now)) (W.state out.old) (W.state out.new) }
+    ensures { Puts (heading_lines unit outcome (picture_pieces_text sizes.now)) (W.state out.old) (W.state out.new) }
 {
     put_line(out, b"h", 48, 36, &title(unit, outcome));
     put_line(out, b"m", 48, 56, &meaning(unit, outcome));
@@ -48,7 +48,7 @@ pub fn put_heading<W: Writer>(
     height: u64,
     sizes: &[Piece],
 )
-    ensures { Puts (heading unit outcome height (pieces_text sizes.now)) (W.state out.old) (W.state out.new) }
+    ensures { Puts (heading unit outcome height (picture_pieces_text sizes.now)) (W.state out.old) (W.state out.new) }
 {
     put_picture_begin(out, 1280, height, &title(unit, outcome));
     put_style(out);

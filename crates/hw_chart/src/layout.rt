@@ -2,7 +2,7 @@
 
 ghost use Rattle.std.specs.Prelude.{◌≡◌, ◌^◌, ◌<◌, length};
 ghost use Rattle.hw_desk.specs.Writers.{Puts};
-ghost use Rattle.hw_chart.specs.Layout.{pin, place_of, plot, rank_of, stripe};
+ghost use Rattle.hw_chart.specs.Layout.{pin, plot_place, plot, rank_of, stripe};
 
 use hw_desk::Writer;
 use hw_model::{ShipId, Slot};
@@ -58,7 +58,7 @@ pub fn put_stripe<W: Writer>(out: &mut W, rank: u32, y: u32)
 pub fn place(part: u64, whole: u64) -> u64
     requires some { 0 < whole }
     requires small { part < 2 ^ 40 }
-    ensures { result ≡ place_of part whole }
+    ensures { result ≡ plot_place part whole }
 {
     172 + part * 720 / whole
 }

@@ -3,8 +3,8 @@
 ghost use Rattle.std.specs.Prelude.{◌≡◌, ◌∷◌};
 ghost use Rattle.hw_desk.specs.Writers.{Puts};
 ghost use Rattle.hw_svg.specs.Joined.{joined};
-ghost use Rattle.hw_svg.specs.Pieces.{piece_text, pieces_text};
-ghost use Rattle.hw_chart.specs.Outcomes.{amount_parts, badge, cargo_text, disc_class, meaning_text, most_parts, sign_path, title_text, unit_text};
+ghost use Rattle.hw_svg.specs.Pieces.{picture_piece_text, picture_pieces_text};
+ghost use Rattle.hw_chart.specs.Outcomes.{amount_parts, badge, cargo_in_unit, disc_class, meaning_text, most_parts, sign_path, title_text, unit_text};
 
 use hw_desk::Writer;
 use hw_lines::Verdict;
@@ -27,7 +27,7 @@ pub struct Outcome {
 
 /// A cargo as a piece of text.
 pub fn cargo_piece(unit: CargoUnit, cargo: u64) -> Piece<'static>
-    ensures { piece_text result ≡ cargo_text unit cargo }
+    ensures { picture_piece_text result ≡ cargo_in_unit unit cargo }
 {
     match unit {
         CargoUnit::Tonnes => Piece::Tenths(cargo),
@@ -37,7 +37,7 @@ pub fn cargo_piece(unit: CargoUnit, cargo: u64) -> Piece<'static>
 
 /// The unit's sign after a cargo.
 fn unit_piece(unit: CargoUnit) -> Piece<'static>
-    ensures { piece_text result ≡ unit_text unit }
+    ensures { picture_piece_text result ≡ unit_text unit }
 {
     match unit {
         CargoUnit::Tonnes => Piece::Word(b" t"),
@@ -47,7 +47,7 @@ fn unit_piece(unit: CargoUnit) -> Piece<'static>
 
 /// A bound after what was said, in three pieces that are empty where there is none.
 fn at_most(unit: CargoUnit, bound: Option<u64>) -> [Piece<'static>; 3]
-    ensures { pieces_text result ≡ joined (most_parts unit bound) }
+    ensures { picture_pieces_text result ≡ joined (most_parts unit bound) }
 {
     let nothing = Piece::Word(b"");
     match bound {
@@ -61,7 +61,7 @@ fn at_most(unit: CargoUnit, bound: Option<u64>) -> [Piece<'static>; 3]
 
 /// The title of a picture, in six pieces.
 pub fn title(unit: CargoUnit, outcome: Outcome) -> [Piece<'static>; 6]
-    ensures { pieces_text result ≡ title_text unit outcome }
+    ensures { picture_pieces_text result ≡ title_text unit outcome }
 {
     let sign = unit_piece(unit);
     let nothing = Piece::Word(b"");
@@ -91,7 +91,7 @@ pub fn title(unit: CargoUnit, outcome: Outcome) -> [Piece<'static>; 6]
 
 /// What an unfinished certificate with this bound means, by the words before the bound.
 fn bounded(unit: CargoUnit, words: &'static [u8], bound: u64) -> [Piece<'static>; 3]
-    ensures { pieces_text result ≡ joined (words.now ∷ amount_parts unit bound) }
+    ensures { picture_pieces_text result ≡ joined (words.now ∷ amount_parts unit bound) }
 {
     let bound = cargo_piece(unit, bound);
     [Piece::Word(words), bound, unit_piece(unit)]
@@ -99,14 +99,14 @@ fn bounded(unit: CargoUnit, words: &'static [u8], bound: u64) -> [Piece<'static>
 
 /// A text as three pieces.
 fn plain(words: &'static [u8]) -> [Piece<'static>; 3]
-    ensures { pieces_text result ≡ words.now }
+    ensures { picture_pieces_text result ≡ words.now }
 {
     [Piece::Word(words), Piece::Word(b""), Piece::Word(b"")]
 }
 
 /// What the title means, in a sentence of three pieces.
 pub fn meaning(unit: CargoUnit, outcome: Outcome) -> [Piece<'static>; 3]
-    ensures { pieces_text result ≡ meaning_text unit outcome }
+    ensures { picture_pieces_text result ≡ meaning_text unit outcome }
 {
     match (outcome.verdict, outcome.bound) {
         (Verdict::Optimal(_), _) => {

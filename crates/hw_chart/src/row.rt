@@ -2,7 +2,7 @@
 
 ghost use Rattle.std.specs.Prelude.{◌-◌, ◌≤◌};
 ghost use Rattle.hw_desk.specs.Writers.{Puts};
-ghost use Rattle.hw_chart.specs.Rows.{bar, bars_begin, moves_window, no_slot, sailing_mark, sailing_steps, sailings_begin, stays};
+ghost use Rattle.hw_chart.specs.Rows.{bar, bars_begin, moves_window, no_slot, sailing_mark, sailing_steps, sailings_begin, stays_label};
 
 use crate::layout::plot;
 use hw_desk::Writer;
@@ -105,7 +105,7 @@ pub fn put_bar<W: Writer>(out: &mut W, class: &[u8], from: u64, to: u64, lane: u
 
 /// Puts that a ship stays.
 pub fn put_stays<W: Writer>(out: &mut W, y: u32)
-    ensures { Puts (stays y) (W.state out.old) (W.state out.new) }
+    ensures { Puts (stays_label y) (W.state out.old) (W.state out.new) }
 {
     put_line(
         out,

@@ -6,6 +6,7 @@ use Rattle.hw_desk.specs.State.{DeskState}
 use Rattle.hw_desk.specs.declared.desk.Feed.TheVariants.{Certificate}
 use Rattle.hw_lines.specs.declared.check.Verdict.{Verdict}
 use Rattle.hw_cert.specs.declared.version.Version.TheVariants.{Three}
+use Rattle.hw_cert.proofs.Answered.{told_map}
 use Rattle.hw_chart.specs.declared.outcome.Outcome.{Outcome}
 use Rattle.hw_repair.specs.Wishes.{PlanFits, PlanParts}
 use Rattle.hw_report.specs.Reports.{Report, Naming, by_number, checked, no_memory, picture}
@@ -13,7 +14,7 @@ use Rattle.hw_command.specs.Carries.{Carries}
 use Rattle.hw_command.specs.Certificates.{report_of_check}
 use Rattle.hw_command.specs.Ends.{Ends}
 use Rattle.hw_command.specs.Readings.{KeepsTable, ReadsCert, outcome_in}
-use Rattle.hw_command.specs.Scope.{named}
+use Rattle.hw_command.specs.Scope.{named_feed}
 use Rattle.hw_command.specs.declared.cert.ReadCert.{ReadCert}
 use Rattle.hw_command.specs.declared.outcome.CertOutcome.TheVariants.{Shows}
 use Rattle.hw_command.specs.declared.outcome.CertStop.{CertStop}
@@ -21,7 +22,6 @@ use Rattle.hw_command.specs.declared.status.Status.{Status}
 use Rattle.hw_command.specs.declared.taking.LastTable.{LastTable}
 use Rattle.hw_command.proofs.Begun.{answers, wants_memory}
 use Rattle.hw_command.proofs.Stops.{stops_carries}
-use Rattle.hw_command.proofs.Told.{told_map}
 use Rattle.hw_subject.specs.Meanings.{repaired_problem}
 use Rattle.hw_subject.specs.Reading.{ReadsSubject, StopsAtSubject, plan_in, searched_in}
 use Rattle.hw_subject.specs.Subjects.{Topic, topic_subject}
@@ -44,7 +44,7 @@ refused_says topic cert held r h = refuses_on (topic_subject topic) Three cert h
 
 -- the inputs give no value
 pub chart_stops : {x y z : DeskState} {r : Report} {s : Status} (topic : Topic) (cert : List ℕ) → StopsAtSubject (topic_subject topic) x y r → Ends (r ∷ []) y z s → Carries (chart_task (topic_subject topic) cert) x z s
-chart_stops {x = x} {r = r} topic cert h ends = stops_carries (chart_task (topic_subject topic) cert) (named Certificate cert ∷ []) h refl (λ feed given. given) (refused_says topic cert x.held r) ends
+chart_stops {x = x} {r = r} topic cert h ends = stops_carries (chart_task (topic_subject topic) cert) (named_feed Certificate cert ∷ []) h refl (λ feed given. given) (refused_says topic cert x.held r) ends
 
 -- the certificate shows nothing
 pub chart_refuses : {cert : List ℕ} {x y z end : DeskState} {given : Given} {s : Status} (topic : Topic) (result : Result (ReadCert LastTable) CertStop) → ShowsNothing result → ReadsSubject (topic_subject topic) x y given → ReadsCert Three KeepsTable (searched_in given.flat given.repair) cert y z result → Ends (report_of_check by_number None None (outcome_in result) ∷ []) z end s → Carries (chart_task (topic_subject topic) cert) x end s
@@ -65,7 +65,7 @@ chart_draws {cert = cert} {x = x} {z = z} {given = given} {read = read} topic v 
     record {
       mid = z;
       reports = drawn_report given table o ∷ [];
-      works = answers None _ refl (all_entered topic h k) (before_last (s.Gives x.held) s.inputs (named Certificate cert) h.give) (k.reads.0 ∙ h.read_faults);
+      works = answers None _ refl (all_entered topic h k) (before_last (s.Gives x.held) s.inputs (named_feed Certificate cert) h.give) (k.reads.0 ∙ h.read_faults);
       says = λ own. record {
         value = h.value;
         reads = h.reads;
@@ -81,7 +81,7 @@ chart_draws {cert = cert} {x = x} {z = z} topic v e h k (inr ends) =
     record {
       mid = z;
       reports = no_memory ∷ [];
-      works = wants_memory None (s.inputs ++ named Certificate cert ∷ []) [] (sym (append-nil _)) (all_entered topic h k) (before_last (s.Gives x.held) s.inputs (named Certificate cert) h.give) (k.reads.0 ∙ h.read_faults);
+      works = wants_memory None (s.inputs ++ named_feed Certificate cert ∷ []) [] (sym (append-nil _)) (all_entered topic h k) (before_last (s.Gives x.held) s.inputs (named_feed Certificate cert) h.give) (k.reads.0 ∙ h.read_faults);
       says = λ own. absurd (cc);
       ends = ends;
     }

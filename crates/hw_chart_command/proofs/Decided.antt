@@ -14,8 +14,8 @@ use Rattle.hw_cert.specs.Stream.{CertLines, cert_stream_to}
 use Rattle.hw_report.specs.Reports.{Report, Naming, checked, picture, refused, too_long}
 use Rattle.hw_command.specs.Certificates.{cert_outcome_to}
 use Rattle.hw_command.specs.Inputs.{NoFlat}
-use Rattle.hw_command.specs.Keeping.{whole_lines}
-use Rattle.hw_command.specs.Values.{most_bytes, IsTextOf}
+use Rattle.hw_command.specs.Keeping.{complete_lines}
+use Rattle.hw_command.specs.Values.{most_bytes, IsProblemText}
 use Rattle.hw_command.specs.declared.outcome.CertOutcome.{CertOutcome}
 use Rattle.hw_command.specs.declared.outcome.CertOutcome.TheVariants.{Shows}
 use Rattle.hw_command.proofs.FlatForms.{by_line}
@@ -39,7 +39,7 @@ abbrev pub DrawnBy : (s : Subject) → (List ℕ → Option (List ℕ)) → List
 DrawnBy s held bytes r = ReportedBy s held (drawn_of s bytes) r
 
 -- valid lines of the judged problem that are all of the certificate's
-drawn_told : (names : Naming) (f : Problem) (plan : Option PlanParts) (g : Problem) (bytes : List ℕ) (lines : List Line) (w : Verdict) (bound : Option ℕ) (table : Option (List ℕ)) → bound ≡ bound_of lines → table ≡ last_table lines → cert_stream_to Three (shape_of g) bytes ≡ whole_lines lines → Shows w ≡ cert_outcome_to Three g bytes → picture w (picture_of names f plan table (record { verdict = w; bound = bound })) ≡ judged_chart names f plan g bytes
+drawn_told : (names : Naming) (f : Problem) (plan : Option PlanParts) (g : Problem) (bytes : List ℕ) (lines : List Line) (w : Verdict) (bound : Option ℕ) (table : Option (List ℕ)) → bound ≡ bound_of lines → table ≡ last_table lines → cert_stream_to Three (shape_of g) bytes ≡ complete_lines lines → Shows w ≡ cert_outcome_to Three g bytes → picture w (picture_of names f plan table (record { verdict = w; bound = bound })) ≡ judged_chart names f plan g bytes
 drawn_told names f plan g bytes lines w bound table b t read o =
     ap (λ (t : Option (List ℕ)). picture w (picture_of names f plan t (record { verdict = w; bound = bound }))) (t ∙ sym (ap (λ (all : CertLines). last_table all.lines) read))
     ∙ ap (λ (b : Option ℕ). picture w (picture_of names f plan (cert_table g bytes) (record { verdict = w; bound = b }))) (b ∙ sym (ap (λ (all : CertLines). bound_of all.lines) read))
@@ -87,7 +87,7 @@ no_flat text bytes r h = by_line (Some text) (λ (r : Report). r ≡ texts_chart
 by_text : (name text bytes : List ℕ) (held : List ℕ → Option (List ℕ)) (r : Report) → held name ≡ Some text → (flat_subject name).Refuses held r ⊎ DrawnBy (flat_subject name) held bytes r → r ≡ texts_chart text bytes
 by_text name text bytes held r told (inl bad) = no_flat text bytes r (subst (λ (o : Option (List ℕ)). NoFlat o r) told bad)
 by_text name text bytes held r told (inr drawn) =
-    let is_text : IsTextOf drawn.value text = subst (λ (o : Option (List ℕ)). IfSome o (IsTextOf drawn.value)) told drawn.reads.reads in
+    let is_text : IsProblemText drawn.value text = subst (λ (o : Option (List ℕ)). IfSome o (IsProblemText drawn.value)) told drawn.reads.reads in
     drawn.report ∙ sym (within text bytes is_text.0 ∙ ap (λ read. read_chart read bytes) is_text.1)
 
 pub texts_decide_law : TextsDecideChart

@@ -6,7 +6,7 @@ use Rattle.hw_report.specs.Reports.{Report, checked}
 use Rattle.hw_command.specs.Certificates.{cert_outcome_to, report_of}
 use Rattle.hw_command.specs.declared.outcome.CertOutcome.{CertOutcome}
 use Rattle.hw_command.specs.declared.outcome.CertOutcome.TheVariants.{Shows, Wrong, TooLong}
-use Rattle.hw_subject.specs.Meanings.{judged, ships_of}
+use Rattle.hw_subject.specs.Meanings.{judged, repair_ships}
 use Rattle.hw_subject.specs.Subjects.{Subject, Topic, topic_subject}
 use Rattle.hw_subject.specs.Decided.{DecidedBy, IsDecided, NamesThird}
 use Rattle.hw_subject.specs.Texts.{cert_bound}
@@ -36,7 +36,7 @@ alike topic held bytes c r d (inr a) (inr b) =
     let s = topic_subject topic in
     let v = a.value in
     let drawn : cert_chart (s.naming v) (s.problem v) (s.plan v) bytes ≡ r = ap (λ (v : s.Value). cert_chart (s.naming v) (s.problem v) (s.plan v) bytes) (d.one_value v b.value a.reads b.reads) ∙ sym b.report in
-    subst (λ (x : Report). IsChartOf s held x r) (sym a.report) (subst (IsChartOf s held _) drawn (outcome_alike s held v (judged s v) bytes (cert_outcome_to Three (judged s v) bytes) (ships_of (s.problem v) (s.plan v)) a.reads))
+    subst (λ (x : Report). IsChartOf s held x r) (sym a.report) (subst (IsChartOf s held _) drawn (outcome_alike s held v (judged s v) bytes (cert_outcome_to Three (judged s v) bytes) (repair_ships (s.problem v) (s.plan v)) a.reads))
 
 pub charts_as_verified_law : ChartsAsVerified
 charts_as_verified_law topic cert held c r all told h g =

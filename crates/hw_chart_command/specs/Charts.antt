@@ -11,7 +11,7 @@ use Rattle.hw_port_chart.specs.Pictures.{port_picture}
 use Rattle.hw_repair.specs.Wishes.{PlanParts}
 use Rattle.hw_report.specs.Reports.{Report, Naming, by_number, by_name, checked, picture}
 use Rattle.hw_command.specs.Carries.{Task, one_report}
-use Rattle.hw_command.specs.Scope.{named}
+use Rattle.hw_command.specs.Scope.{named_feed}
 use Rattle.hw_subject.specs.Subjects.{Subject}
 use Rattle.hw_subject.specs.Checks.{Checks}
 use Rattle.hw_subject.specs.Shown.{Shown}
@@ -45,7 +45,7 @@ ChartSays s cert old (Some r) = Charts s cert old.held r
 
 abbrev pub chart_task : Subject → List ℕ → Task
 chart_task s cert = record {
-  inputs = s.inputs ++ (named Certificate cert ∷ []);
+  inputs = s.inputs ++ (named_feed Certificate cert ∷ []);
   Gives = s.Gives;
   proof = None;
   Says = one_report (λ old new. ChartSays s cert old);

@@ -2,7 +2,7 @@
 use Rattle.std.proofs.Common.{◌≡◌, ◌≢◌, ◌⊎◌, ◌<◌, ◌≤◌, ◌+◌, ◌*◌, ℕ, Option, Some, None, List, length, refl, ap, arith, inl, inr}
 use Rattle.std.proofs.lemmas.Bool.{cases_lt}
 use Rattle.hw_model.specs.Problem.{Problem}
-use Rattle.hw_flat_chart.specs.Pictures.{bottom}
+use Rattle.hw_flat_chart.specs.Pictures.{flat_picture_bottom}
 use Rattle.hw_port_chart.specs.Charts.{ChartParts}
 use Rattle.hw_port_chart.specs.Heads.{places}
 use Rattle.hw_port_chart.specs.Rows.{rank_in}
@@ -63,7 +63,7 @@ ship_y_is : (f : Problem) (table : Option (List ℕ)) (ship : ℕ) → ship_y f 
 ship_y_is f None ship = refl
 ship_y_is f (Some slots) ship = refl
 
-flat_inside : (f : Problem) (table : Option (List ℕ)) → HasSlots table f.ships → (a : Part) → IsFlatPart f a → (120 ≤ (flat_band f table a).top) × ((flat_band f table a).bottom ≤ bottom f)
+flat_inside : (f : Problem) (table : Option (List ℕ)) → HasSlots table f.ships → (a : Part) → IsFlatPart f a → (120 ≤ (flat_band f table a).top) × ((flat_band f table a).bottom ≤ flat_picture_bottom f)
 flat_inside f table has (tide i) p = absurd p
 flat_inside f table has (row v) p =
     let y = ship_y_is f table v in

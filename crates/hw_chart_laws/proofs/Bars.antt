@@ -10,7 +10,7 @@ use Rattle.hw_port_rules.specs.Drafts.{carried, loaded, sailing, usable_draft, v
 use Rattle.hw_port_chart.proofs.Bounds.{sails_between}
 use Rattle.hw_port_chart.specs.Charts.{ChartParts, full_of}
 use Rattle.hw_port_chart.specs.Drafts.{full_draft_level, short_level}
-use Rattle.hw_chart_laws.specs.Laws.{bar_level, foot_of, full_level}
+use Rattle.hw_chart_laws.specs.Laws.{bar_level, foot_of, level_of_full_draft}
 
 pub short_less : (light full d : ℤ) → light ≤ℤ d → d ≤ℤ full → unsigned_abs (full -ℤ d) ≤ unsigned_abs (full -ℤ light)
 short_less light full d low high = grind (arith, ints)
@@ -35,5 +35,5 @@ full_of_draft full tall (Some d) some =
     let same : (int_eq d full ≡ true) ↔ (d ≡ full) = Decides-int_eq d full in
     full_where (int_eq d full) tall (Some d ≡ Some full) some (λ e. let f = same.0 e in cc, λ e. same.1 cc)
 
-pub full_bars : (chart : ChartParts) (v slot : ℕ) (s : ShipParts) → (full_level chart v s slot ≡ 0) ↔ (sailing chart.port chart.tide v slot ≡ Some (full_of s))
+pub full_bars : (chart : ChartParts) (v slot : ℕ) (s : ShipParts) → (level_of_full_draft chart v s slot ≡ 0) ↔ (sailing chart.port chart.tide v slot ≡ Some (full_of s))
 full_bars chart v slot s = full_of_draft (full_of s) (foot_of s) (sailing chart.port chart.tide v slot) (omega arith)

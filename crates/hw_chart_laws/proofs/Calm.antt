@@ -2,6 +2,7 @@
 use Rattle.std.proofs.Common.{◌≡◌, ◌++◌, ◌&&◌, ℕ, Bool, true, false, not, nat_eq, nat_lt, List, [], ◌∷◌, codes, refl, sym, subst, if◌then◌else◌, arith}
 use Rattle.std.specs.List.{list_all}
 use Rattle.std.proofs.lemmas.Bool.{and_parts, and_from, cond_both}
+use Rattle.hw_lemmas.proofs.Truths.{was_not}
 use Rattle.hw_svg.specs.Lettering.{line, name_line, squeeze, squeezed, text_begin}
 use Rattle.hw_svg.specs.Marks.{is_word}
 use Rattle.hw_svg.specs.Names.{escaped}
@@ -12,7 +13,7 @@ use Rattle.hw_svg.specs.declared.area.Area.{Area}
 use Rattle.hw_svg.specs.declared.sheet.Window.{Window}
 use Rattle.hw_svg.proofs.Words.{name_is_word}
 use Rattle.hw_chart.specs.Hatches.{hatch}
-use Rattle.hw_chart_laws.specs.Trees.{is_plain}
+use Rattle.hw_chart_laws.specs.Trees.{is_plain_byte}
 use Rattle.hw_chart_laws.proofs.Plain.{Plain, area, number}
 use Rattle.hw_chart_laws.proofs.Spelled.{Spelled}
 use Rattle.hw_chart_laws.proofs.Writing.{Tags, Writing}
@@ -34,10 +35,6 @@ alone : (c d : Bool) → (not (c && true) && true) ≡ true → (not (c && d)) �
 alone true d p = absurd cc
 alone false d p = refl
 
-is_not : (c : Bool) → not c ≡ true → c ≡ false
-is_not true p = absurd cc
-is_not false p = refl
-
 calm_both : (a b : List ℕ) → is_calm a ≡ true → is_calm b ≡ true → is_calm (a ++ b) ≡ true
 calm_both [] b p q = q
 calm_both (x ∷ []) b p q = and_from _ _ (alone (nat_eq x 60) (is_group b) p) q
@@ -45,8 +42,8 @@ calm_both (x ∷ (y ∷ ys)) b p q = let parts = and_parts _ _ p in and_from _ _
 
 pub cut_past : (a t : List ℕ) → is_calm a ≡ true → cut (a ++ t) ≡ cut t
 cut_past [] t p = refl
-cut_past (x ∷ []) t p = rw (is_not (nat_eq x 60 && is_group t) (alone (nat_eq x 60) (is_group t) p)) refl
-cut_past (x ∷ (y ∷ ys)) t p = let parts = and_parts _ _ p in rw (is_not (nat_eq x 60 && is_group (y ∷ ys)) parts.0) (cut_past (y ∷ ys) t parts.1)
+cut_past (x ∷ []) t p = rw (was_not (nat_eq x 60 && is_group t) (alone (nat_eq x 60) (is_group t) p)) refl
+cut_past (x ∷ (y ∷ ys)) t p = let parts = and_parts _ _ p in rw (was_not (nat_eq x 60 && is_group (y ∷ ys)) parts.0) (cut_past (y ∷ ys) t parts.1)
 
 -- no group begins in a text
 pub record Still (text : List ℕ) : Type 0 where
@@ -59,7 +56,7 @@ words_calm : (text : List ℕ) → list_all is_word text ≡ true → is_calm te
 words_calm [] p = refl
 words_calm (b ∷ bs) p = let parts = and_parts _ _ p in and_from _ _ (word_calm b bs parts.0) (words_calm bs parts.1)
 
-pub plain_words : (text : List ℕ) → list_all is_plain text ≡ true → list_all is_word text ≡ true
+pub plain_words : (text : List ℕ) → list_all is_plain_byte text ≡ true → list_all is_word text ≡ true
 plain_words [] p = refl
 plain_words (b ∷ bs) p = let parts = and_parts _ _ p in and_from _ _ (and_parts _ _ parts.0).0 (plain_words bs parts.1)
 

@@ -14,14 +14,14 @@ use Rattle.hw_svg.specs.declared.area.Area.{Area}
 use Rattle.hw_svg.specs.declared.sheet.Window.{Window}
 use Rattle.hw_svg.proofs.Nested.{name_nested, titled_nested}
 use Rattle.hw_chart.specs.Hatches.{hatch}
-use Rattle.hw_chart_laws.specs.Trees.{are_attributes, are_trees, is_attribute, is_name, is_other, is_tree}
+use Rattle.hw_chart_laws.specs.Trees.{are_attributes, are_trees, is_attribute, is_element_name, is_other, is_tree}
 use Rattle.hw_chart_laws.proofs.Plain.{Plain, area, both, letters, number}
 use Rattle.hw_chart_laws.proofs.Spelled.{Spelled}
 use Rattle.hw_chart_laws.proofs.Writing.{Tags, Writing, svg, group}
 use Rattle.hw_chart_laws.proofs.Open.{Leads, begins, closes, grows, likewise, onward, start_text, unmoved}
 
-pub kept : (a : Attribute) (more : List Attribute) → is_name a.name ≡ true → Plain a.value → list_all (is_other a.name) more ≡ true → are_attributes more ≡ true → are_attributes (a ∷ more) ≡ true
-kept a more name value other rest = and_from (is_attribute a) _ (and_from (is_name a.name) _ name value.none) (and_from (list_all (is_other a.name) more) _ other rest)
+pub kept : (a : Attribute) (more : List Attribute) → is_element_name a.name ≡ true → Plain a.value → list_all (is_other a.name) more ≡ true → are_attributes more ≡ true → are_attributes (a ∷ more) ≡ true
+kept a more name value other rest = and_from (is_attribute a) _ (and_from (is_element_name a.name) _ name value.none) (and_from (list_all (is_other a.name) more) _ other rest)
 
 on_line_tree : (part : Node) → is_tree part ≡ true → are_trees (on_a_line part) ≡ true
 on_line_tree part p = and_from (is_tree part) _ p refl

@@ -10,8 +10,8 @@ use Rattle.hw_model.specs.Problem.{IsTimetable, Problem, horizon, value_at}
 use Rattle.hw_port_laws.proofs.Eachs.{each_at, each_of_all}
 use Rattle.hw_chart.specs.Figures.{greatest_level}
 use Rattle.hw_flat_chart.specs.declared.row.Row.{Row}
-use Rattle.hw_flat_chart.specs.Rows.{row_y}
-use Rattle.hw_flat_chart.specs.Values.{carried, most, most_level, tall_of, unit_of, value_level}
+use Rattle.hw_flat_chart.specs.Rows.{row_top}
+use Rattle.hw_flat_chart.specs.Values.{cargo_in_slot, most_carried, most_level, tall_of, unit_of, value_level}
 use Rattle.hw_chart_laws.specs.Alike.{CarryAlike, SameClass, flat_row}
 use Rattle.hw_chart_laws.proofs.Bars.{full_where}
 use Rattle.hw_chart_laws.proofs.FlatRowParts.{ground_area, levels, most_line, most_text, shared, stripe_on, tall_in, title_in, tops, written}
@@ -23,7 +23,7 @@ value_small : (o : Option (Option ℕ)) → IfSome o (λ v. unwrap_or v 0 ≤ 1_
 value_small None h = omega arith
 value_small (Some v) h = h
 
-carried_small : (f : Problem) (ship slot : ℕ) → IsFlat f → carried f ship slot ≤ 1_000_000_000_000
+carried_small : (f : Problem) (ship slot : ℕ) → IsFlat f → cargo_in_slot f ship slot ≤ 1_000_000_000_000
 carried_small f ship slot limits =
     let Few : Option ℕ → Type 0 = λ v. unwrap_or v 0 ≤ 1_000_000_000_000 in
     value_small (slice_get f.values (ship * f.slots + slot)) (each_at Few f.values (ship * f.slots + slot) (each_of_all Few f.values limits.small_values))
@@ -35,9 +35,9 @@ greatest_small level (suc count) bound h =
     let before = greatest_small level count bound h in
     omega (arith, here, before)
 
-most_small : (f : Problem) (ship : ℕ) → IsFlat f → most f ship ≤ 1_000_000_000_000
-unfolding most
-most_small f ship limits = greatest_small (carried f ship) (horizon f) 1_000_000_000_000 (λ k. carried_small f ship k limits)
+most_small : (f : Problem) (ship : ℕ) → IsFlat f → most_carried f ship ≤ 1_000_000_000_000
+unfolding most_carried
+most_small f ship limits = greatest_small (cargo_in_slot f ship) (horizon f) 1_000_000_000_000 (λ k. carried_small f ship k limits)
 
 tall_small : (top : ℕ) → top ≤ 1_000_000_000_000 → tall_of top ≤ 3_000_000_000_000
 tall_small top le = let units = div-le_self top (unit_of top) in omega (arith, units, le)
@@ -81,18 +81,18 @@ mosts_back top o q e = (λ p. (most_where top q).0 (sym e ∙ (most_where top o)
 
 ground_small : (f : Problem) (row : Row) → IsFlat f → IsSmall (ground_area f row)
 ground_small f row limits =
-    let tall = tall_small (most f row.ship) (most_small f row.ship limits) in
+    let tall = tall_small (most_carried f row.ship) (most_small f row.ship limits) in
     record { left = omega arith; top = omega arith; right = omega (arith, limits.few_slots); bottom = omega (arith, tall) }
 
-row_small : (row : Row) → row.rank ≤ 40 → row_y row + 33 < 2 ^ 64
+row_small : (row : Row) → row.rank ≤ 40 → row_top row + 33 < 2 ^ 64
 row_small row few = omega (arith, few)
 
-tops_same : (f g : Problem) (a b : Row) → IsFlat f → IsFlat g → a.rank ≤ 40 → b.rank ≤ 40 → most_line f a ≡ most_line g b → most f a.ship ≡ most g b.ship
+tops_same : (f g : Problem) (a b : Row) → IsFlat f → IsFlat g → a.rank ≤ 40 → b.rank ≤ 40 → most_line f a ≡ most_line g b → most_carried f a.ship ≡ most_carried g b.ship
 tops_same f g a b limits also_limits few also_few e =
     let m = most_small f a.ship limits in
     let n = most_small g b.ship also_limits in
-    let text = line_back (codes "m") 16 (row_y a + 33) (row_y b + 33) (most_text f a) (most_text g b) (row_small a few) (row_small b also_few) e in
-    decimal_injective (most f a.ship) (most g b.ship) (omega (arith, m)) (omega (arith, n)) (append_cancel_right (decimal (most f a.ship)) (decimal (most g b.ship)) [] (append_cancel_left (codes "most ") (decimal (most f a.ship) ++ []) (decimal (most g b.ship) ++ []) text))
+    let text = line_back (codes "m") 16 (row_top a + 33) (row_top b + 33) (most_text f a) (most_text g b) (row_small a few) (row_small b also_few) e in
+    decimal_injective (most_carried f a.ship) (most_carried g b.ship) (omega (arith, m)) (omega (arith, n)) (append_cancel_right (decimal (most_carried f a.ship)) (decimal (most_carried g b.ship)) [] (append_cancel_left (codes "most ") (decimal (most_carried f a.ship) ++ []) (decimal (most_carried g b.ship) ++ []) text))
 
 rows_alike : (f g : Problem) (a b : Row) (m n : List ℕ) → IsFlat f → IsFlat g → a.rank ≤ 40 → b.rank ≤ 40 → title_in f a ++ stripe_on f a m ≡ title_in g b ++ stripe_on g b n → CarryAlike f a.ship g b.ship
 rows_alike f g a b m n limits also_limits few also_few e =
@@ -104,13 +104,13 @@ rows_alike f g a b m n limits also_limits few also_few e =
     let slots : horizon f ≡ horizon g = sides.right in
     let count : horizon f - 0 ≡ horizon g - 0 = omega (arith, slots) in
     let tall : tall_in f a ≡ tall_in g b = sides.bottom in
-    let value_levels = figure_back (codes "dr") (levels f a) (levels g b) 0 (horizon f - 0) (tall_in f a) 0 (horizon g - 0) (tall_in g b) (λ k. level_small (most f a.ship) (value_at f a.ship k) small) (λ k. level_small (most g b.ship) (value_at g b.ship k) also_small) refl count tall parts.values in
-    let most_levels = figure_back (codes "fl") (tops f a) (tops g b) 0 (horizon f - 0) (tall_in f a) 0 (horizon g - 0) (tall_in g b) (λ k. top_small (most f a.ship) (value_at f a.ship k) small) (λ k. top_small (most g b.ship) (value_at g b.ship k) also_small) refl count tall parts.mosts in
+    let value_levels = figure_back (codes "dr") (levels f a) (levels g b) 0 (horizon f - 0) (tall_in f a) 0 (horizon g - 0) (tall_in g b) (λ k. level_small (most_carried f a.ship) (value_at f a.ship k) small) (λ k. level_small (most_carried g b.ship) (value_at g b.ship k) also_small) refl count tall parts.values in
+    let most_levels = figure_back (codes "fl") (tops f a) (tops g b) 0 (horizon f - 0) (tall_in f a) 0 (horizon g - 0) (tall_in g b) (λ k. top_small (most_carried f a.ship) (value_at f a.ship k) small) (λ k. top_small (most_carried g b.ship) (value_at g b.ship k) also_small) refl count tall parts.mosts in
     record {
       slots = slots;
       top = top;
-      classes = λ slot lt. class_back (most f a.ship) (value_at f a.ship slot) (value_at g b.ship slot) (value_levels slot (omega arith) (omega (arith, lt)) ∙ ap (λ (t : ℕ). value_level t (value_at g b.ship slot)) (sym top));
-      mosts = λ slot lt. mosts_back (most f a.ship) (value_at f a.ship slot) (value_at g b.ship slot) (most_levels slot (omega arith) (omega (arith, lt)) ∙ ap (λ (t : ℕ). most_level t (value_at g b.ship slot)) (sym top));
+      classes = λ slot lt. class_back (most_carried f a.ship) (value_at f a.ship slot) (value_at g b.ship slot) (value_levels slot (omega arith) (omega (arith, lt)) ∙ ap (λ (t : ℕ). value_level t (value_at g b.ship slot)) (sym top));
+      mosts = λ slot lt. mosts_back (most_carried f a.ship) (value_at f a.ship slot) (value_at g b.ship slot) (most_levels slot (omega arith) (omega (arith, lt)) ∙ ap (λ (t : ℕ). most_level t (value_at g b.ship slot)) (sym top));
     }
 
 pub same_classes : (f g : Problem) (table given : Option (List ℕ)) (ship other : ℕ) → IsFlat f → IsFlat g → IfSome table (IsTimetable f) → IfSome given (IsTimetable g) → ship < f.ships → other < g.ships → flat_row f table ship ≡ flat_row g given other → CarryAlike f ship g other

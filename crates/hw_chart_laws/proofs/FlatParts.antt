@@ -12,19 +12,19 @@ use Rattle.hw_chart.specs.declared.course.Course.TheVariants.{Unplanned, Stays, 
 use Rattle.hw_chart.specs.Layout.{plot, stripe}
 use Rattle.hw_chart.specs.Rows.{moves_window}
 use Rattle.hw_flat_chart.specs.declared.row.Row.{Row}
-use Rattle.hw_flat_chart.specs.Fleets.{fleets, jobs_of}
-use Rattle.hw_flat_chart.specs.Moves.{open_level}
-use Rattle.hw_flat_chart.specs.Pictures.{columns, entry, legend, other_entries, panel_of, planned_panels, sailing_entries, sizes, unplanned_panels}
-use Rattle.hw_flat_chart.specs.Rows.{bars, course_parts, course_text, figures, fleet_bars, job_bars, nowhere_text, row_label, row_y, value_mark, value_window, values_text, wait_bar, wait_bars}
-use Rattle.hw_flat_chart.specs.Values.{carried, most, most_level, sails_nowhere, tall_of, value_level}
-use Rattle.hw_chart_laws.specs.Trees.{is_plain}
+use Rattle.hw_flat_chart.specs.Fleets.{fleets, jobs_of_rule}
+use Rattle.hw_flat_chart.specs.Moves.{flat_open_level}
+use Rattle.hw_flat_chart.specs.Pictures.{flat_columns, entry, flat_legend, flat_other_entries, flat_panel_of, planned_panels, flat_sailing_entries, flat_picture_sizes, unplanned_panels}
+use Rattle.hw_flat_chart.specs.Rows.{flat_bars, course_parts, course_text, flat_figures, fleet_bars, job_bars, nowhere_text, flat_row_label, row_top, value_mark, value_window, values_text, wait_bar, flat_wait_bars}
+use Rattle.hw_flat_chart.specs.Values.{cargo_in_slot, most_carried, most_level, sails_nowhere, tall_of, value_level}
+use Rattle.hw_chart_laws.specs.Trees.{is_plain_byte}
 use Rattle.hw_chart_laws.proofs.Plain.{letters}
 use Rattle.hw_chart_laws.proofs.Spelled.{Spelled, also, fixed, of_number, nothing}
 use Rattle.hw_chart_laws.proofs.Writing.{Tags, Writing, group}
 use Rattle.hw_chart_laws.proofs.Shared.{figure, filled, four, if_so, of_bar, of_mark, of_moves, of_no_slot, of_pin, of_planned, of_sailings, of_stays, of_stripe, of_unplanned, says, three}
 
-pub spelled_sizes : (f : Problem) → Spelled (sizes f)
-unfolding sizes
+pub spelled_sizes : (f : Problem) → Spelled (flat_picture_sizes f)
+unfolding flat_picture_sizes
 spelled_sizes f = also (fixed (codes "ships ") refl) (also (of_number _) (also (fixed (codes ", slots ") refl) (also (of_number _) (also (fixed (codes ", rules ") refl) (also (of_number _) nothing)))))
 
 pub spelled_course : (f : Problem) (ship : ℕ) (course : Course) → Spelled (course_text f ship course)
@@ -34,43 +34,43 @@ spelled_course f ship Stays = fixed (codes ", stays") refl
 spelled_course f ship (Sails slot) = also (fixed (codes ", sails in slot ") refl) (also (of_number _) (also (fixed (codes ", carries ") refl) (also (of_number _) nothing)))
 
 module _ {P : Tags → List ℕ → Tags → Type 0} (w : Writing P) where
-  of_entry : {a : Tags} (class : List ℕ) (p : list_all is_plain class ≡ true) (x : ℕ) {text : List ℕ} → Spelled text → P a (entry class x text) a
+  of_entry : {a : Tags} (class : List ℕ) (p : list_all is_plain_byte class ≡ true) (x : ℕ) {text : List ℕ} → Spelled text → P a (entry class x text) a
   of_entry class p x text = w.onward (filled w class p (record { left = x; right = x + 10; top = 77; bottom = 87 })) (says w (codes "m") refl (x + 14) 86 text)
 
-  of_sailing_entries : {a : Tags} → P a sailing_entries a
-  unfolding sailing_entries
+  of_sailing_entries : {a : Tags} → P a flat_sailing_entries a
+  unfolding flat_sailing_entries
   of_sailing_entries = four w (of_entry (codes "dr") refl 16 (fixed (codes "may sail: the higher, the more cargo") refl)) (of_entry (codes "fl") refl 234 (fixed (codes "with its most cargo") refl)) (of_entry (codes "pl") refl 362 (fixed (codes "could move there alone") refl)) (of_entry (codes "ou") refl 506 (fixed (codes "sails") refl))
 
-  of_other_entries : {a : Tags} → P a other_entries a
-  unfolding other_entries
+  of_other_entries : {a : Tags} → P a flat_other_entries a
+  unfolding flat_other_entries
   of_other_entries = three w (of_entry (codes "tu") refl 560 (fixed (codes "holds tugs") refl)) (of_entry (codes "be") refl 642 (fixed (codes "must wait for another") refl)) (of_entry (codes "fu") refl 778 (fixed (codes "whole fleet held") refl))
 
-  pub of_legend : {a : Tags} → P a legend a
+  pub of_legend : {a : Tags} → P a flat_legend a
   of_legend = w.onward of_sailing_entries of_other_entries
 
-  pub of_columns : {a : Tags} → P a columns a
-  unfolding columns
+  pub of_columns : {a : Tags} → P a flat_columns a
+  unfolding flat_columns
   of_columns = w.onward (says w (codes "m r") refl 956 138 (fixed (codes "slot") refl)) (says w (codes "m r") refl 1268 138 (fixed (codes "value") refl))
 
-  of_row_label : {a : Tags} (f : Problem) (row : Row) → P a (row_label f row) a
-  unfolding row_label
-  of_row_label f row = w.onward (says w (codes "b") refl 16 (row_y row + 17) (also (fixed (codes "ship ") refl) (also (of_number row.ship) nothing))) (says w (codes "m") refl 16 (row_y row + 33) (also (fixed (codes "most ") refl) (also (of_number (most f row.ship)) nothing)))
+  of_row_label : {a : Tags} (f : Problem) (row : Row) → P a (flat_row_label f row) a
+  unfolding flat_row_label
+  of_row_label f row = w.onward (says w (codes "b") refl 16 (row_top row + 17) (also (fixed (codes "ship ") refl) (also (of_number row.ship) nothing))) (says w (codes "m") refl 16 (row_top row + 33) (also (fixed (codes "most ") refl) (also (of_number (most_carried f row.ship)) nothing)))
 
   of_value_mark : {a : Tags} (f : Problem) (row : Row) (course : Course) → P a (value_mark f row course) a
   of_value_mark f row Unplanned = w.none
   of_value_mark f row Stays = w.none
-  of_value_mark f row (Sails slot) = of_mark w (value_window f row) slot (value_level (most f row.ship) (value_at f row.ship slot)) (letters (codes "ou mk") refl)
+  of_value_mark f row (Sails slot) = of_mark w (value_window f row) slot (value_level (most_carried f row.ship) (value_at f row.ship slot)) (letters (codes "ou mk") refl)
 
   of_values : {a : Tags} (f : Problem) (row : Row) → P a (values_text f row) a
   unfolding values_text
-  of_values f row = four w (of_sailings w (value_window f row)) (w.onward (figure w (codes "dr") refl (λ slot. value_level (most f row.ship) (value_at f row.ship slot)) 0 (horizon f - 0) (tall_of (most f row.ship))) (figure w (codes "fl") refl (λ slot. most_level (most f row.ship) (value_at f row.ship slot)) 0 (horizon f - 0) (tall_of (most f row.ship)))) (of_value_mark f row row.course) w.closed
+  of_values f row = four w (of_sailings w (value_window f row)) (w.onward (figure w (codes "dr") refl (λ slot. value_level (most_carried f row.ship) (value_at f row.ship slot)) 0 (horizon f - 0) (tall_of (most_carried f row.ship))) (figure w (codes "fl") refl (λ slot. most_level (most_carried f row.ship) (value_at f row.ship slot)) 0 (horizon f - 0) (tall_of (most_carried f row.ship)))) (of_value_mark f row row.course) w.closed
 
   of_wait : {a : Tags} (table : List ℕ) (ship : ℕ) (rule : Rule) → P a (wait_bar table ship rule) a
   of_wait table ship (Pair v x holes) = w.none
   of_wait table ship (After v x gap) = if_so w (nat_eq x ship) (of_bar w (slice_index table v) (slice_index table v + gap) 0 (letters (codes "be") refl))
   of_wait table ship (Tugs fleet jobs) = w.none
 
-  of_waits : {a : Tags} (table : List ℕ) (ship : ℕ) (rules : List Rule) → P a (wait_bars table ship rules) a
+  of_waits : {a : Tags} (table : List ℕ) (ship : ℕ) (rules : List Rule) → P a (flat_wait_bars table ship rules) a
   of_waits table ship [] = w.none
   of_waits table ship (rule ∷ rules) = w.onward (of_wait table ship rule) (of_waits table ship rules)
 
@@ -80,33 +80,33 @@ module _ {P : Tags → List ℕ → Tags → Type 0} (w : Writing P) where
 
   of_fleets : {a : Tags} (slot ship : ℕ) (rules : List Rule) → P a (fleet_bars slot ship rules) a
   of_fleets slot ship [] = w.none
-  of_fleets slot ship (rule ∷ rules) = w.onward (of_jobs slot ship (jobs_of rule)) (of_fleets slot ship rules)
+  of_fleets slot ship (rule ∷ rules) = w.onward (of_jobs slot ship (jobs_of_rule rule)) (of_fleets slot ship rules)
 
-  of_bars : {a : Tags} (f : Problem) (table : List ℕ) (row : Row) (slot : ℕ) → P a (bars f table row slot) a
-  unfolding bars
-  of_bars f table row slot = four w (w.opened (plot (row_y row + 31) 8 row.span 2)) (of_waits table row.ship f.rules) (of_fleets slot row.ship (fleets f)) w.closed
+  of_bars : {a : Tags} (f : Problem) (table : List ℕ) (row : Row) (slot : ℕ) → P a (flat_bars f table row slot) a
+  unfolding flat_bars
+  of_bars f table row slot = four w (w.opened (plot (row_top row + 31) 8 row.span 2)) (of_waits table row.ship f.rules) (of_fleets slot row.ship (fleets f)) w.closed
 
-  of_figures : {a : Tags} (f : Problem) (row : Row) (slot : ℕ) → P a (figures f row slot) a
-  unfolding figures
-  of_figures f row slot = three w (says w (codes "r b") refl 956 (row_y row + 17) (of_number slot)) (says w (codes "r b") refl 1268 (row_y row + 17) (of_number (carried f row.ship slot))) (says w (codes "r m") refl 1268 (row_y row + 33) (also (fixed (codes "of ") refl) (also (of_number (most f row.ship)) nothing)))
+  of_figures : {a : Tags} (f : Problem) (row : Row) (slot : ℕ) → P a (flat_figures f row slot) a
+  unfolding flat_figures
+  of_figures f row slot = three w (says w (codes "r b") refl 956 (row_top row + 17) (of_number slot)) (says w (codes "r b") refl 1268 (row_top row + 17) (of_number (cargo_in_slot f row.ship slot))) (says w (codes "r m") refl 1268 (row_top row + 33) (also (fixed (codes "of ") refl) (also (of_number (most_carried f row.ship)) nothing)))
 
   of_course : {a : Tags} (f : Problem) (table : List ℕ) (row : Row) (course : Course) → P a (course_parts f table row course) a
   unfolding course_parts
   of_course f table row Unplanned = w.none
-  of_course f table row Stays = of_stays w (row_y row)
-  of_course f table row (Sails slot) = three w (of_pin w slot row.span (row_y row) (letters (codes "ou") refl)) (of_bars f table row slot) (of_figures f row slot)
+  of_course f table row Stays = of_stays w (row_top row)
+  of_course f table row (Sails slot) = three w (of_pin w slot row.span (row_top row) (letters (codes "ou") refl)) (of_bars f table row slot) (of_figures f row slot)
 
   -- what follows the title of a row
-  pub of_planned_rest : {a : Tags} (f : Problem) (table : List ℕ) (row : Row) → P (group ∷ a) (stripe row.rank (row_y row) ++ (row_label f row ++ (values_text f row ++ (moves_window (row_y row) row.span (open_level f table row.ship) (horizon f) ++ (course_parts f table row row.course ++ group_end))))) a
-  of_planned_rest f table row = w.onward (of_stripe w row.rank (row_y row)) (w.onward (of_row_label f row) (w.onward (of_values f row) (w.onward (of_moves w (row_y row) row.span (open_level f table row.ship) (horizon f)) (w.onward (of_course f table row row.course) w.finished))))
+  pub of_planned_rest : {a : Tags} (f : Problem) (table : List ℕ) (row : Row) → P (group ∷ a) (stripe row.rank (row_top row) ++ (flat_row_label f row ++ (values_text f row ++ (moves_window (row_top row) row.span (flat_open_level f table row.ship) (horizon f) ++ (course_parts f table row row.course ++ group_end))))) a
+  of_planned_rest f table row = w.onward (of_stripe w row.rank (row_top row)) (w.onward (of_row_label f row) (w.onward (of_values f row) (w.onward (of_moves w (row_top row) row.span (flat_open_level f table row.ship) (horizon f)) (w.onward (of_course f table row row.course) w.finished))))
 
-  pub of_unplanned_rest : {a : Tags} (f : Problem) (row : Row) → P (group ∷ a) (stripe row.rank (row_y row) ++ (row_label f row ++ (values_text f row ++ (nowhere_text f row ++ group_end)))) a
-  of_unplanned_rest f row = w.onward (of_stripe w row.rank (row_y row)) (w.onward (of_row_label f row) (w.onward (of_values f row) (w.onward (if_so w (sails_nowhere f row.ship) (of_no_slot w (row_y row))) w.finished)))
+  pub of_unplanned_rest : {a : Tags} (f : Problem) (row : Row) → P (group ∷ a) (stripe row.rank (row_top row) ++ (flat_row_label f row ++ (values_text f row ++ (nowhere_text f row ++ group_end)))) a
+  of_unplanned_rest f row = w.onward (of_stripe w row.rank (row_top row)) (w.onward (of_row_label f row) (w.onward (of_values f row) (w.onward (if_so w (sails_nowhere f row.ship) (of_no_slot w (row_top row))) w.finished)))
 
   pub of_unplanned_panels : {a : Tags} (f : Problem) (span y : ℕ) (rules : List Rule) → P a (unplanned_panels f span y rules) a
   of_unplanned_panels f span y [] = w.none
-  of_unplanned_panels f span y (rule ∷ rules) = w.onward (of_unplanned w (panel_of f span y rule)) (of_unplanned_panels f span (y + 66) rules)
+  of_unplanned_panels f span y (rule ∷ rules) = w.onward (of_unplanned w (flat_panel_of f span y rule)) (of_unplanned_panels f span (y + 66) rules)
 
   pub of_planned_panels : {a : Tags} (f : Problem) (table : List ℕ) (span y : ℕ) (rules : List Rule) → P a (planned_panels f table span y rules) a
   of_planned_panels f table span y [] = w.none
-  of_planned_panels f table span y (rule ∷ rules) = w.onward (of_planned w (panel_of f span y rule) (busy rule table)) (of_planned_panels f table span (y + 66) rules)
+  of_planned_panels f table span y (rule ∷ rules) = w.onward (of_planned w (flat_panel_of f span y rule) (busy rule table)) (of_planned_panels f table span (y + 66) rules)

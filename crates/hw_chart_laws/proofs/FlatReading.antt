@@ -12,10 +12,10 @@ use Rattle.hw_chart.specs.declared.outcome.Outcome.{Outcome}
 use Rattle.hw_chart.specs.Courses.{SailsBefore, course_of}
 use Rattle.hw_chart.specs.Headings.{ground, heading_lines, style}
 use Rattle.hw_chart.specs.Outcomes.{badge, title_text}
-use Rattle.hw_flat_chart.specs.Fleets.{fleets, span_of}
-use Rattle.hw_flat_chart.specs.Pictures.{body, bottom, columns, flat_picture, foot, head, legend, panels_y, planned_body, planned_panels, sizes}
+use Rattle.hw_flat_chart.specs.Fleets.{fleets, picture_span}
+use Rattle.hw_flat_chart.specs.Pictures.{body, flat_picture_bottom, flat_columns, flat_picture, flat_foot, flat_head, flat_legend, panels_y, planned_body, planned_panels, flat_picture_sizes}
 use Rattle.hw_flat_chart.specs.Rows.{course_text, planned_row, planned_row_text, planned_rows}
-use Rattle.hw_flat_chart.specs.Values.{carried}
+use Rattle.hw_flat_chart.specs.Values.{cargo_in_slot}
 use Rattle.hw_chart_laws.proofs.Calm.{Still, both, calm_writing, cut, spelled}
 use Rattle.hw_chart_laws.proofs.FlatParts.{of_columns, of_legend, of_planned_rest, spelled_sizes}
 use Rattle.hw_chart_laws.proofs.FlatTrees.{flat_title, planned_is, planned_rest, spelled_title}
@@ -36,8 +36,8 @@ course_back f ship Stays (Sails slot) x y p q e = let no : ◌≡◌ {A = ℕ} 1
 course_back f ship (Sails slot) Unplanned x y p q e = let no : ◌≡◌ {A = ℕ} 44 60 = ap (λ (l : List ℕ). get_or l 0 0) e in absurd (omega (arith, no))
 course_back f ship (Sails slot) Stays x y p q e = let no : ◌≡◌ {A = ℕ} 97 116 = ap (λ (l : List ℕ). get_or l 3 0) e in absurd (omega (arith, no))
 course_back f ship (Sails slot) (Sails other) x y p q e =
-    let a : List ℕ = codes ", carries " ++ (decimal (carried f ship slot) ++ []) in
-    let b : List ℕ = codes ", carries " ++ (decimal (carried f ship other) ++ []) in
+    let a : List ℕ = codes ", carries " ++ (decimal (cargo_in_slot f ship slot) ++ []) in
+    let b : List ℕ = codes ", carries " ++ (decimal (cargo_in_slot f ship other) ++ []) in
     let digits = append_cancel_left (codes ", sails in slot ") ((decimal slot ++ a) ++ (title_end ++ x)) ((decimal other ++ b) ++ (title_end ++ y)) e in
     let apart = sym (append_assoc (decimal slot) a (title_end ++ x)) ∙ digits ∙ append_assoc (decimal other) b (title_end ++ y) in
     ap Sails (number_back slot other 44 _ _ refl p q apart)
@@ -70,25 +70,25 @@ rows_back f table other small ship (suc more) x y e k low high =
     ]
 
 abbrev panels_of : Problem → List ℕ → List ℕ
-panels_of f table = planned_panels f table (span_of f (Some table)) (panels_y f) (fleets f)
+panels_of f table = planned_panels f table (picture_span f (Some table)) (panels_y f) (fleets f)
 
 -- what stands before the list of rows, and what after it
 abbrev before_rows : Problem → Outcome → List ℕ
-before_rows f outcome = picture_begin 1280 (bottom f + 28) (title_text PlainUnit outcome) ++ (style ++ (ground (bottom f + 28) ++ (badge outcome.verdict ++ (heading_lines PlainUnit outcome (sizes f) ++ (legend ++ columns)))))
+before_rows f outcome = picture_begin 1280 (flat_picture_bottom f + 28) (title_text PlainUnit outcome) ++ (style ++ (ground (flat_picture_bottom f + 28) ++ (badge outcome.verdict ++ (heading_lines PlainUnit outcome (flat_picture_sizes f) ++ (flat_legend ++ flat_columns)))))
 
 abbrev after_rows : Problem → List ℕ → List ℕ
-after_rows f table = group_end ++ (panels_of f table ++ foot f (span_of f (Some table)))
+after_rows f table = group_end ++ (panels_of f table ++ flat_foot f (picture_span f (Some table)))
 
 parts : (pb st gr ba hl lg co lb rs ge pa ft : List ℕ) → ((pb ++ (st ++ (gr ++ (ba ++ (hl ++ []))))) ++ lg) ++ ((co ++ ((lb ++ (rs ++ (ge ++ []))) ++ (pa ++ []))) ++ (ft ++ [])) ≡ (pb ++ (st ++ (gr ++ (ba ++ (hl ++ (lg ++ co)))))) ++ (lb ++ (rs ++ (ge ++ (pa ++ ft))))
 parts pb st gr ba hl lg co lb rs ge pa ft = simp (append_assoc, append-nil)
 
 by_rows : (f : Problem) (table : List ℕ) (outcome : Outcome) → flat_picture f (Some table) outcome ≡ before_rows f outcome ++ (list_begin ++ (planned_rows f table 0 f.ships ++ after_rows f table))
-unfolding flat_picture head body planned_body
-by_rows f table outcome = parts (picture_begin 1280 (bottom f + 28) (title_text PlainUnit outcome)) style (ground (bottom f + 28)) (badge outcome.verdict) (heading_lines PlainUnit outcome (sizes f)) legend columns list_begin (planned_rows f table 0 f.ships) group_end (panels_of f table) (foot f (span_of f (Some table)))
+unfolding flat_picture flat_head body planned_body
+by_rows f table outcome = parts (picture_begin 1280 (flat_picture_bottom f + 28) (title_text PlainUnit outcome)) style (ground (flat_picture_bottom f + 28)) (badge outcome.verdict) (heading_lines PlainUnit outcome (flat_picture_sizes f)) flat_legend flat_columns list_begin (planned_rows f table 0 f.ships) group_end (panels_of f table) (flat_foot f (picture_span f (Some table)))
 
 still_before : (f : Problem) (outcome : Outcome) → Still (before_rows f outcome)
 still_before f outcome =
-    both (still_begin 1280 (bottom f + 28) (plain_title PlainUnit outcome)) (both still_style (both (of_ground calm_writing {a = []} (bottom f + 28)).still (both (of_badge calm_writing {a = []} outcome.verdict).still (both (head_lines calm_writing {a = []} PlainUnit outcome (spelled_sizes f)).still (both (of_legend calm_writing {a = []}).still (of_columns calm_writing {a = []}).still)))))
+    both (still_begin 1280 (flat_picture_bottom f + 28) (plain_title PlainUnit outcome)) (both still_style (both (of_ground calm_writing {a = []} (flat_picture_bottom f + 28)).still (both (of_badge calm_writing {a = []} outcome.verdict).still (both (head_lines calm_writing {a = []} PlainUnit outcome (spelled_sizes f)).still (both (of_legend calm_writing {a = []}).still (of_columns calm_writing {a = []}).still)))))
 
 -- two slots of which a ship's course is the same
 pub slots_same : (slots x y : ℕ) → x ≤ slots → y ≤ slots → course_of (Some x) slots ≡ course_of (Some y) slots → x ≡ y

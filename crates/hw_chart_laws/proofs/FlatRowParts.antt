@@ -13,13 +13,13 @@ use Rattle.hw_chart.specs.declared.course.Course.{Course}
 use Rattle.hw_chart.specs.declared.course.Course.TheVariants.{Unplanned, Stays, Sails}
 use Rattle.hw_chart.specs.Layout.{plot, stripe}
 use Rattle.hw_chart.specs.Rows.{moves_window}
-use Rattle.hw_flat_chart.proofs.Onward.{rank_small}
+use Rattle.hw_chart.proofs.Ranks.{rank_small}
 use Rattle.hw_flat_chart.specs.declared.row.Row.{Row}
-use Rattle.hw_flat_chart.specs.Moves.{open_level}
-use Rattle.hw_flat_chart.specs.Rows.{course_parts, nowhere_text, planned_row, row_label, row_y, unplanned_row, value_mark, values_text}
-use Rattle.hw_flat_chart.specs.Values.{most, most_level, tall_of, value_level}
+use Rattle.hw_flat_chart.specs.Moves.{flat_open_level}
+use Rattle.hw_flat_chart.specs.Rows.{course_parts, nowhere_text, planned_row, flat_row_label, row_top, unplanned_row, value_mark, values_text}
+use Rattle.hw_flat_chart.specs.Values.{most_carried, most_level, tall_of, value_level}
 use Rattle.hw_chart_laws.specs.Alike.{flat_row}
-use Rattle.hw_chart_laws.specs.Trees.{is_plain}
+use Rattle.hw_chart_laws.specs.Trees.{is_plain_byte}
 use Rattle.hw_chart_laws.proofs.FlatTrees.{flat_title, planned_is, spelled_title, unplanned_is}
 use Rattle.hw_chart_laws.proofs.Marked.{AsMany, Begins, begins_either, both, fixed, line_first, of_block, of_line, of_shape, of_window, past_stripe, shape_first, spelled, told, window_first}
 use Rattle.hw_chart_laws.proofs.Plain.{letters, path}
@@ -29,13 +29,13 @@ use Rattle.hw_chart_laws.proofs.Spelled.{Spelled, also, fixed as words, nothing,
 
 -- the level of each slot, and of those with the most
 abbrev pub levels : Problem → Row → ℕ → ℕ
-levels f row slot = value_level (most f row.ship) (value_at f row.ship slot)
+levels f row slot = value_level (most_carried f row.ship) (value_at f row.ship slot)
 
 abbrev pub tops : Problem → Row → ℕ → ℕ
-tops f row slot = most_level (most f row.ship) (value_at f row.ship slot)
+tops f row slot = most_level (most_carried f row.ship) (value_at f row.ship slot)
 
 abbrev pub tall_in : Problem → Row → ℕ
-tall_in f row = tall_of (most f row.ship)
+tall_in f row = tall_of (most_carried f row.ship)
 
 abbrev pub steps_in : List ℕ → Problem → Row → (ℕ → ℕ) → List ℕ
 steps_in class f row level = steps class level 0 (horizon f - 0) (tall_in f row)
@@ -56,17 +56,17 @@ abbrev ground_on : Problem → Row → List ℕ → List ℕ
 ground_on f row more = block (codes "wi") (ground_area f row) ++ levels_on f row more
 
 abbrev window_in : Problem → Row → Window
-window_in f row = plot (row_y row + 3) 21 row.span (tall_in f row)
+window_in f row = plot (row_top row + 3) 21 row.span (tall_in f row)
 
 abbrev window_on : Problem → Row → List ℕ → List ℕ
 window_on f row more = window_begin (window_in f row) ++ ground_on f row more
 
 -- the most that the ship may carry
 abbrev pub most_text : Problem → Row → List ℕ
-most_text f row = codes "most " ++ (decimal (most f row.ship) ++ [])
+most_text f row = codes "most " ++ (decimal (most_carried f row.ship) ++ [])
 
 abbrev pub most_line : Problem → Row → List ℕ
-most_line f row = line (codes "m") 16 (row_y row + 33) (most_text f row)
+most_line f row = line (codes "m") 16 (row_top row + 33) (most_text f row)
 
 abbrev most_on : Problem → Row → List ℕ → List ℕ
 most_on f row more = most_line f row ++ window_on f row more
@@ -75,13 +75,13 @@ abbrev ship_text : Row → List ℕ
 ship_text row = codes "ship " ++ (decimal row.ship ++ [])
 
 abbrev ship_line : Row → List ℕ
-ship_line row = line (codes "b") 16 (row_y row + 17) (ship_text row)
+ship_line row = line (codes "b") 16 (row_top row + 17) (ship_text row)
 
 abbrev ship_on : Problem → Row → List ℕ → List ℕ
 ship_on f row more = ship_line row ++ most_on f row more
 
 abbrev pub stripe_on : Problem → Row → List ℕ → List ℕ
-stripe_on f row more = stripe row.rank (row_y row) ++ ship_on f row more
+stripe_on f row more = stripe row.rank (row_top row) ++ ship_on f row more
 
 abbrev pub title_in : Problem → Row → List ℕ
 title_in f row = item_begin ++ (flat_title f row ++ title_end)
@@ -89,9 +89,9 @@ title_in f row = item_begin ++ (flat_title f row ++ title_end)
 spread : (st sh mo wi bl dr fl mk se more : List ℕ) → st ++ ((sh ++ mo) ++ (((wi ++ bl) ++ ((dr ++ fl) ++ (mk ++ (se ++ [])))) ++ more)) ≡ st ++ (sh ++ (mo ++ (wi ++ (bl ++ (dr ++ (fl ++ (mk ++ (se ++ more))))))))
 spread st sh mo wi bl dr fl mk se more = simp (append_assoc, append-nil)
 
-rest_is : (f : Problem) (row : Row) (more : List ℕ) → stripe row.rank (row_y row) ++ (row_label f row ++ (values_text f row ++ more)) ≡ stripe_on f row more
-unfolding row_label values_text
-rest_is f row more = spread (stripe row.rank (row_y row)) (ship_line row) (most_line f row) (window_begin (window_in f row)) (block (codes "wi") (ground_area f row)) (steps_in (codes "dr") f row (levels f row)) (steps_in (codes "fl") f row (tops f row)) (value_mark f row row.course) svg_end more
+rest_is : (f : Problem) (row : Row) (more : List ℕ) → stripe row.rank (row_top row) ++ (flat_row_label f row ++ (values_text f row ++ more)) ≡ stripe_on f row more
+unfolding flat_row_label values_text
+rest_is f row more = spread (stripe row.rank (row_top row)) (ship_line row) (most_line f row) (window_begin (window_in f row)) (block (codes "wi") (ground_area f row)) (steps_in (codes "dr") f row (levels f row)) (steps_in (codes "fl") f row (tops f row)) (value_mark f row row.course) svg_end more
 
 -- a row that is written so
 pub record Written (f : Problem) (ship : ℕ) (text : List ℕ) : Type 0 where
@@ -108,7 +108,7 @@ written f None ship limits listed lt =
     record { row = row; more = more; own = refl; few = omega (arith, lt, limits.few_ships); same = unplanned_is f row ∙ ap (λ (l : List ℕ). title_in f row ++ l) (rest_is f row more) }
 written f (Some table) ship limits listed lt =
     let row = planned_row f table ship in
-    let more : List ℕ = moves_window (row_y row) row.span (open_level f table row.ship) (horizon f) ++ (course_parts f table row row.course ++ group_end) in
+    let more : List ℕ = moves_window (row_top row) row.span (flat_open_level f table row.ship) (horizon f) ++ (course_parts f table row row.course ++ group_end) in
     let small = rank_small table ship in
     record { row = row; more = more; own = refl; few = omega (arith, small, listed.each_ship, limits.few_ships); same = planned_is f table row ∙ ap (λ (l : List ℕ). title_in f row ++ l) (rest_is f row more) }
 
@@ -121,16 +121,16 @@ spelled_ship : (row : Row) → Spelled (ship_text row)
 spelled_ship row = also (words (codes "ship ") refl) (also (of_number row.ship) nothing)
 
 spelled_most : (f : Problem) (row : Row) → Spelled (most_text f row)
-spelled_most f row = also (words (codes "most ") refl) (also (of_number (most f row.ship)) nothing)
+spelled_most f row = also (words (codes "most ") refl) (also (of_number (most_carried f row.ship)) nothing)
 
-figures_as : (class : List ℕ) (f g : Problem) (a b : Row) (level other : ℕ → ℕ) → list_all is_plain class ≡ true → AsMany (steps_in class f a level) (steps_in class g b other)
+figures_as : (class : List ℕ) (f g : Problem) (a b : Row) (level other : ℕ → ℕ) → list_all is_plain_byte class ≡ true → AsMany (steps_in class f a level) (steps_in class g b other)
 figures_as class f g a b level other p = of_shape (letters class p) (path level 0 (horizon f - 0) (tall_in f a)) (letters class p) (path other 0 (horizon g - 0) (tall_in g b))
 
 abbrev stripe_area : Row → Area
-stripe_area row = record { left = 0; right = 1280; top = row_y row - 1; bottom = row_y row + 41 }
+stripe_area row = record { left = 0; right = 1280; top = row_top row - 1; bottom = row_top row + 41 }
 
 ship_first : (f : Problem) (row : Row) (more : List ℕ) → Begins (ship_on f row more)
-ship_first f row more = line_first (codes "b") 16 (row_y row + 17) (ship_text row) (most_on f row more)
+ship_first f row more = line_first (codes "b") 16 (row_top row + 17) (ship_text row) (most_on f row more)
 
 stripe_first : (f : Problem) (row : Row) (more : List ℕ) → Begins (stripe_on f row more)
 stripe_first f row more = begins_either (nat_eq (row.rank % 2) 0) (block (codes "bd") (stripe_area row)) (ship_on f row more) (shape_first (codes "bd") (area_path (stripe_area row)) (ship_on f row more)) (ship_first f row more)
@@ -156,9 +156,9 @@ pub record SharedParts (f g : Problem) (a b : Row) : Type 0 where
 pub shared : (f g : Problem) (a b : Row) (m n : List ℕ) → title_in f a ++ stripe_on f a m ≡ title_in g b ++ stripe_on g b n → SharedParts f g a b
 shared f g a b m n e =
     let titles = told (stripe_on f a m) (stripe_on g b n) (titles_as f g a b) (stripe_first f a m) (stripe_first g b n) e in
-    let ships = past_stripe (nat_eq (a.rank % 2) 0) (nat_eq (b.rank % 2) 0) (ship_on f a m) (ship_on g b n) (of_block (codes "bd") (stripe_area a) (stripe_area b) refl) (ship_first f a m) (ship_first g b n) (λ same. not_line (stripe_area a) (codes "b") 16 (row_y b + 17) (ship_text b) (ship_on f a m) (most_on g b n) same) (λ same. not_line (stripe_area b) (codes "b") 16 (row_y a + 17) (ship_text a) (ship_on g b n) (most_on f a m) (sym same)) titles.rest in
-    let numbers = told (most_on f a m) (most_on g b n) (of_line (codes "b") 16 (row_y a + 17) (row_y b + 17) (spelled_ship a) (spelled_ship b)) (line_first (codes "m") 16 (row_y a + 33) (most_text f a) (window_on f a m)) (line_first (codes "m") 16 (row_y b + 33) (most_text g b) (window_on g b n)) ships in
-    let mosts = told (window_on f a m) (window_on g b n) (of_line (codes "m") 16 (row_y a + 33) (row_y b + 33) (spelled_most f a) (spelled_most g b)) (window_first (window_in f a) (ground_on f a m)) (window_first (window_in g b) (ground_on g b n)) numbers.rest in
+    let ships = past_stripe (nat_eq (a.rank % 2) 0) (nat_eq (b.rank % 2) 0) (ship_on f a m) (ship_on g b n) (of_block (codes "bd") (stripe_area a) (stripe_area b) refl) (ship_first f a m) (ship_first g b n) (λ same. not_line (stripe_area a) (codes "b") 16 (row_top b + 17) (ship_text b) (ship_on f a m) (most_on g b n) same) (λ same. not_line (stripe_area b) (codes "b") 16 (row_top a + 17) (ship_text a) (ship_on g b n) (most_on f a m) (sym same)) titles.rest in
+    let numbers = told (most_on f a m) (most_on g b n) (of_line (codes "b") 16 (row_top a + 17) (row_top b + 17) (spelled_ship a) (spelled_ship b)) (line_first (codes "m") 16 (row_top a + 33) (most_text f a) (window_on f a m)) (line_first (codes "m") 16 (row_top b + 33) (most_text g b) (window_on g b n)) ships in
+    let mosts = told (window_on f a m) (window_on g b n) (of_line (codes "m") 16 (row_top a + 33) (row_top b + 33) (spelled_most f a) (spelled_most g b)) (window_first (window_in f a) (ground_on f a m)) (window_first (window_in g b) (ground_on g b n)) numbers.rest in
     let windows = told (ground_on f a m) (ground_on g b n) (of_window (window_in f a) (window_in g b)) (shape_first (codes "wi") (area_path (ground_area f a)) (levels_on f a m)) (shape_first (codes "wi") (area_path (ground_area g b)) (levels_on g b n)) mosts.rest in
     let grounds = told (levels_on f a m) (levels_on g b n) (of_block (codes "wi") (ground_area f a) (ground_area g b) refl) (shape_first (codes "dr") (steps_path (levels f a) 0 (horizon f - 0) (tall_in f a)) (tops_on f a m)) (shape_first (codes "dr") (steps_path (levels g b) 0 (horizon g - 0) (tall_in g b)) (tops_on g b n)) windows.rest in
     let drawn = told (tops_on f a m) (tops_on g b n) (figures_as (codes "dr") f g a b (levels f a) (levels g b) refl) (shape_first (codes "fl") (steps_path (tops f a) 0 (horizon f - 0) (tall_in f a)) (marks_on f a m)) (shape_first (codes "fl") (steps_path (tops g b) 0 (horizon g - 0) (tall_in g b)) (marks_on g b n)) grounds.rest in

@@ -11,10 +11,10 @@ use Rattle.hw_chart.specs.Layout.{stripe}
 use Rattle.hw_chart.specs.Outcomes.{badge, title_text}
 use Rattle.hw_chart.specs.Rows.{moves_window}
 use Rattle.hw_flat_chart.specs.declared.row.Row.{Row}
-use Rattle.hw_flat_chart.specs.Fleets.{fleets, span_of}
-use Rattle.hw_flat_chart.specs.Moves.{open_level}
-use Rattle.hw_flat_chart.specs.Pictures.{body, bottom, flat_picture, foot, head, legend, panels_y, planned_body, sizes, unplanned_body}
-use Rattle.hw_flat_chart.specs.Rows.{course_parts, course_text, nowhere_text, planned_row, planned_row_text, planned_rows, row_begin, row_label, row_title, row_y, unplanned_row, unplanned_row_text, unplanned_rows, values_text}
+use Rattle.hw_flat_chart.specs.Fleets.{fleets, picture_span}
+use Rattle.hw_flat_chart.specs.Moves.{flat_open_level}
+use Rattle.hw_flat_chart.specs.Pictures.{body, flat_picture_bottom, flat_picture, flat_foot, flat_head, flat_legend, panels_y, planned_body, flat_picture_sizes, unplanned_body}
+use Rattle.hw_flat_chart.specs.Rows.{course_parts, course_text, nowhere_text, planned_row, planned_row_text, planned_rows, flat_row_begin, flat_row_label, flat_row_title, row_top, unplanned_row, unplanned_row_text, unplanned_rows, values_text}
 use Rattle.hw_chart_laws.specs.Trees.{IsPicture}
 use Rattle.hw_chart_laws.proofs.Elements.{leads_item, leads_list, tree_writing}
 use Rattle.hw_chart_laws.proofs.FlatParts.{of_columns, of_legend, of_planned_panels, of_planned_rest, of_unplanned_panels, of_unplanned_rest, spelled_course, spelled_sizes}
@@ -35,10 +35,10 @@ spelled_title f row = also (also (fixed (codes "ship ") refl) (of_number row.shi
 
 -- what follows it
 abbrev pub planned_rest : Problem → List ℕ → Row → List ℕ
-planned_rest f table row = stripe row.rank (row_y row) ++ (row_label f row ++ (values_text f row ++ (moves_window (row_y row) row.span (open_level f table row.ship) (horizon f) ++ (course_parts f table row row.course ++ group_end))))
+planned_rest f table row = stripe row.rank (row_top row) ++ (flat_row_label f row ++ (values_text f row ++ (moves_window (row_top row) row.span (flat_open_level f table row.ship) (horizon f) ++ (course_parts f table row row.course ++ group_end))))
 
 abbrev pub unplanned_rest : Problem → Row → List ℕ
-unplanned_rest f row = stripe row.rank (row_y row) ++ (row_label f row ++ (values_text f row ++ (nowhere_text f row ++ group_end)))
+unplanned_rest f row = stripe row.rank (row_top row) ++ (flat_row_label f row ++ (values_text f row ++ (nowhere_text f row ++ group_end)))
 
 planned_parts : (ib sh nu ct te st lb vt mv cp ge : List ℕ) → ((ib ++ (sh ++ (nu ++ (ct ++ (te ++ []))))) ++ (st ++ (lb ++ (vt ++ [])))) ++ (mv ++ (cp ++ (ge ++ []))) ≡ (ib ++ (((sh ++ nu) ++ ct) ++ te)) ++ (st ++ (lb ++ (vt ++ (mv ++ (cp ++ ge)))))
 planned_parts ib sh nu ct te st lb vt mv cp ge = simp (append_assoc, append-nil)
@@ -47,12 +47,12 @@ unplanned_parts : (ib sh nu ct te st lb vt nw ge : List ℕ) → ((ib ++ (sh ++ 
 unplanned_parts ib sh nu ct te st lb vt nw ge = simp (append_assoc, append-nil)
 
 pub planned_is : (f : Problem) (table : List ℕ) (row : Row) → planned_row_text f table row ≡ item_text (flat_title f row) (planned_rest f table row)
-unfolding planned_row_text row_begin row_title
-planned_is f table row = planned_parts item_begin (codes "ship ") (decimal row.ship) (course_text f row.ship row.course) title_end (stripe row.rank (row_y row)) (row_label f row) (values_text f row) (moves_window (row_y row) row.span (open_level f table row.ship) (horizon f)) (course_parts f table row row.course) group_end
+unfolding planned_row_text flat_row_begin flat_row_title
+planned_is f table row = planned_parts item_begin (codes "ship ") (decimal row.ship) (course_text f row.ship row.course) title_end (stripe row.rank (row_top row)) (flat_row_label f row) (values_text f row) (moves_window (row_top row) row.span (flat_open_level f table row.ship) (horizon f)) (course_parts f table row row.course) group_end
 
 pub unplanned_is : (f : Problem) (row : Row) → unplanned_row_text f row ≡ item_text (flat_title f row) (unplanned_rest f row)
-unfolding unplanned_row_text row_begin row_title
-unplanned_is f row = unplanned_parts item_begin (codes "ship ") (decimal row.ship) (course_text f row.ship row.course) title_end (stripe row.rank (row_y row)) (row_label f row) (values_text f row) (nowhere_text f row) group_end
+unfolding unplanned_row_text flat_row_begin flat_row_title
+unplanned_is f row = unplanned_parts item_begin (codes "ship ") (decimal row.ship) (course_text f row.ship row.course) title_end (stripe row.rank (row_top row)) (flat_row_label f row) (values_text f row) (nowhere_text f row) group_end
 
 lead_planned : {a : Tags} (f : Problem) (table : List ℕ) (ship count : ℕ) → Leads (group ∷ a) (planned_rows f table ship count) (group ∷ a)
 lead_planned f table ship zero = unmoved
@@ -72,22 +72,22 @@ lead_list p = onward leads_list (onward p (onward tree_writing.finished unmoved)
 lead_body : {a : Tags} (f : Problem) (table : Option (List ℕ)) → Leads a (body f table) a
 unfolding body planned_body unplanned_body
 lead_body f None = onward (lead_list (lead_unplanned f 0 f.ships)) (onward (of_unplanned_panels tree_writing f (horizon f) (panels_y f) (fleets f)) unmoved)
-lead_body f (Some table) = onward (of_columns tree_writing) (onward (lead_list (lead_planned f table 0 f.ships)) (onward (of_planned_panels tree_writing f table (span_of f (Some table)) (panels_y f) (fleets f)) unmoved))
+lead_body f (Some table) = onward (of_columns tree_writing) (onward (lead_list (lead_planned f table 0 f.ships)) (onward (of_planned_panels tree_writing f table (picture_span f (Some table)) (panels_y f) (fleets f)) unmoved))
 
 pub arranged : (pb st gr ba hl lg bd gd se en : List ℕ) → ((pb ++ (st ++ (gr ++ (ba ++ (hl ++ []))))) ++ lg) ++ (bd ++ ((gd ++ (se ++ (en ++ []))) ++ [])) ≡ pb ++ ((st ++ (gr ++ (ba ++ (hl ++ (lg ++ (bd ++ (gd ++ se))))))) ++ (en ++ []))
 arranged pb st gr ba hl lg bd gd se en = simp (append_assoc, append-nil)
 
 abbrev middle : Problem → Option (List ℕ) → Outcome → List ℕ
-middle f table outcome = ground (bottom f + 28) ++ (badge outcome.verdict ++ (heading_lines PlainUnit outcome (sizes f) ++ (legend ++ (body f table ++ (grid Slots (span_of f table) (bottom f) ++ span_end (horizon f) (span_of f table) (bottom f))))))
+middle f table outcome = ground (flat_picture_bottom f + 28) ++ (badge outcome.verdict ++ (heading_lines PlainUnit outcome (flat_picture_sizes f) ++ (flat_legend ++ (body f table ++ (grid Slots (picture_span f table) (flat_picture_bottom f) ++ span_end (horizon f) (picture_span f table) (flat_picture_bottom f))))))
 
-flat_is : (f : Problem) (table : Option (List ℕ)) (outcome : Outcome) → flat_picture f table outcome ≡ picture 1280 (bottom f + 28) (title_text PlainUnit outcome) (style ++ middle f table outcome)
-unfolding flat_picture head foot
-flat_is f table outcome = arranged (picture_begin 1280 (bottom f + 28) (title_text PlainUnit outcome)) style (ground (bottom f + 28)) (badge outcome.verdict) (heading_lines PlainUnit outcome (sizes f)) legend (body f table) (grid Slots (span_of f table) (bottom f)) (span_end (horizon f) (span_of f table) (bottom f)) svg_end
+flat_is : (f : Problem) (table : Option (List ℕ)) (outcome : Outcome) → flat_picture f table outcome ≡ picture 1280 (flat_picture_bottom f + 28) (title_text PlainUnit outcome) (style ++ middle f table outcome)
+unfolding flat_picture flat_head flat_foot
+flat_is f table outcome = arranged (picture_begin 1280 (flat_picture_bottom f + 28) (title_text PlainUnit outcome)) style (ground (flat_picture_bottom f + 28)) (badge outcome.verdict) (heading_lines PlainUnit outcome (flat_picture_sizes f)) flat_legend (body f table) (grid Slots (picture_span f table) (flat_picture_bottom f)) (span_end (horizon f) (picture_span f table) (flat_picture_bottom f)) svg_end
 
 lead_middle : (f : Problem) (table : Option (List ℕ)) (outcome : Outcome) → Leads [] (middle f table outcome) []
 lead_middle f table outcome =
-    onward (of_ground tree_writing (bottom f + 28)) (onward (of_badge tree_writing outcome.verdict) (onward (head_lines tree_writing PlainUnit outcome (spelled_sizes f)) (onward (of_legend tree_writing) (onward (lead_body f table) (onward (of_grid tree_writing Slots (span_of f table) (bottom f)) (of_span_end tree_writing (horizon f) (span_of f table) (bottom f)))))))
+    onward (of_ground tree_writing (flat_picture_bottom f + 28)) (onward (of_badge tree_writing outcome.verdict) (onward (head_lines tree_writing PlainUnit outcome (spelled_sizes f)) (onward (of_legend tree_writing) (onward (lead_body f table) (onward (of_grid tree_writing Slots (picture_span f table) (flat_picture_bottom f)) (of_span_end tree_writing (horizon f) (picture_span f table) (flat_picture_bottom f)))))))
 
 pub flat_trees : (f : Problem) (table : Option (List ℕ)) (outcome : Outcome) → IsPicture (flat_picture f table outcome)
 flat_trees f table outcome =
-    subst IsPicture (sym (flat_is f table outcome)) (one_picture 1280 (bottom f + 28) (title_text PlainUnit outcome) (middle f table outcome) (plain_title PlainUnit outcome) (lead_middle f table outcome))
+    subst IsPicture (sym (flat_is f table outcome)) (one_picture 1280 (flat_picture_bottom f + 28) (title_text PlainUnit outcome) (middle f table outcome) (plain_title PlainUnit outcome) (lead_middle f table outcome))

@@ -11,7 +11,7 @@ use Rattle.hw_svg.specs.Widths.{width_of}
 use Rattle.hw_svg.specs.declared.area.Area.{Area}
 use Rattle.hw_svg.specs.declared.sheet.Window.{Window}
 use Rattle.hw_svg.proofs.Words.{name_is_word}
-use Rattle.hw_chart_laws.specs.Trees.{is_plain}
+use Rattle.hw_chart_laws.specs.Trees.{is_plain_byte}
 use Rattle.hw_chart_laws.proofs.Calm.{plain_words}
 use Rattle.hw_chart_laws.proofs.Plain.{Plain, area, letters, nothing, number}
 use Rattle.hw_chart_laws.proofs.Spelled.{Spelled}
@@ -94,7 +94,7 @@ pub of_shape : {class path kind way : List ℕ} → Plain class → Plain path �
 unfolding shape_begin
 of_shape c p k w = both (both (fixed (codes "<path class=\"")) (both (plain c k) (both (fixed (codes "\" d=\"")) (fixed [])))) (both (plain p w) (both (fixed (codes "\"/>\n")) (fixed [])))
 
-pub of_block : (class : List ℕ) (a b : Area) → list_all is_plain class ≡ true → AsMany (block class a) (block class b)
+pub of_block : (class : List ℕ) (a b : Area) → list_all is_plain_byte class ≡ true → AsMany (block class a) (block class b)
 of_block class a b p = of_shape (letters class p) (area a) (letters class p) (area b)
 
 pub shape_first : (class path t : List ℕ) → Begins (shape class path ++ t)

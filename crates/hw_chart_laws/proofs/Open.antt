@@ -3,7 +3,7 @@ use Rattle.std.proofs.Common.{◌≡◌, ◌++◌, ◌∙◌, ◌&&◌, ℕ, Boo
 use Rattle.std.proofs.lemmas.Bool.{and_parts, and_from}
 use Rattle.hw_svg.specs.Trees.{Attribute, Node, Nodes, words, element, no_more, node, node_text, nodes_text, attributes_text}
 use Rattle.hw_chart_laws.proofs.Writing.{Tags}
-use Rattle.hw_chart_laws.specs.Trees.{are_attributes, are_trees, is_name, is_tree}
+use Rattle.hw_chart_laws.specs.Trees.{are_attributes, are_trees, is_element_name, is_tree}
 
 pub data Open : Type 0 where
   whole : Nodes → Open
@@ -27,7 +27,7 @@ open_tags (within o tag attributes inside) = tag ∷ open_tags o
 
 abbrev pub are_open : Open → Bool
 are_open (whole inside) = are_trees inside
-are_open (within o tag attributes inside) = are_open o && (is_name tag && (are_attributes attributes && are_trees inside))
+are_open (within o tag attributes inside) = are_open o && (is_element_name tag && (are_attributes attributes && are_trees inside))
 
 -- what stands after what
 abbrev pub chained : Nodes → Nodes → Nodes
@@ -56,9 +56,9 @@ more_open : (o : Open) (more : Nodes) → are_open o ≡ true → are_trees more
 more_open (whole inside) more p q = chained_trees inside more p q
 more_open (within o tag attributes inside) more p q =
     let a = and_parts (are_open o) _ p in
-    let b = and_parts (is_name tag) _ a.1 in
+    let b = and_parts (is_element_name tag) _ a.1 in
     let c = and_parts (are_attributes attributes) _ b.1 in
-    and_from (are_open o) _ a.0 (and_from (is_name tag) _ b.0 (and_from (are_attributes attributes) _ c.0 (chained_trees inside more c.1 q)))
+    and_from (are_open o) _ a.0 (and_from (is_element_name tag) _ b.0 (and_from (are_attributes attributes) _ c.0 (chained_trees inside more c.1 q)))
 
 more_tags : (o : Open) (more : Nodes) → open_tags (more_in o more) ≡ open_tags o
 more_tags (whole inside) more = refl
@@ -98,11 +98,11 @@ grows more trees = record {
   };
 }
 
-pub begins : {a : Tags} (tag : List ℕ) (attributes : List Attribute) (inside : Nodes) → is_name tag ≡ true → are_attributes attributes ≡ true → are_trees inside ≡ true → Leads a (start_text tag attributes ++ nodes_text inside) (tag ∷ a)
+pub begins : {a : Tags} (tag : List ℕ) (attributes : List Attribute) (inside : Nodes) → is_element_name tag ≡ true → are_attributes attributes ≡ true → are_trees inside ≡ true → Leads a (start_text tag attributes ++ nodes_text inside) (tag ∷ a)
 begins tag attributes inside names attr trees = record {
   go = λ o sound named. record {
     at = within o tag attributes inside;
-    sound = and_from (are_open o) _ sound (and_from (is_name tag) _ names (and_from (are_attributes attributes) _ attr trees));
+    sound = and_from (are_open o) _ sound (and_from (is_element_name tag) _ names (and_from (are_attributes attributes) _ attr trees));
     named = ap (λ (l : Tags). tag ∷ l) named;
     same = refl;
   };

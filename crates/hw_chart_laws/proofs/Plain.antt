@@ -7,34 +7,34 @@ use Rattle.std.proofs.lemmas.List.Folds.{list_all-append}
 use Rattle.hw_svg.specs.Figures.{move, moves, steps_begin, steps_end, steps_path}
 use Rattle.hw_svg.specs.Shapes.{area_path}
 use Rattle.hw_svg.specs.declared.area.Area.{Area}
-use Rattle.hw_chart_laws.specs.Trees.{is_plain}
+use Rattle.hw_chart_laws.specs.Trees.{is_plain_byte}
 
 -- no mark stands in a text
 pub record Plain (text : List ℕ) : Type 0 where
-  pub none : list_all is_plain text ≡ true
+  pub none : list_all is_plain_byte text ≡ true
 
 pub both : {a b : List ℕ} → Plain a → Plain b → Plain (a ++ b)
-both {a = a} {b = b} p q = record { none = list_all-append is_plain a b ∙ and_from _ _ p.none q.none }
+both {a = a} {b = b} p q = record { none = list_all-append is_plain_byte a b ∙ and_from _ _ p.none q.none }
 
-pub letters : (a : List ℕ) → list_all is_plain a ≡ true → Plain a
+pub letters : (a : List ℕ) → list_all is_plain_byte a ≡ true → Plain a
 letters a p = record { none = p }
 
 pub nothing : Plain []
 nothing = letters [] refl
 
-plain_digit : (d : ℕ) → d < 10 → is_plain (48 + d) ≡ true
+plain_digit : (d : ℕ) → d < 10 → is_plain_byte (48 + d) ≡ true
 plain_digit d lt = rw (ne_eqb (48 + d) 60 (λ e. omega (arith, e, lt)), ne_eqb (48 + d) 62 (λ e. omega (arith, e, lt)), ne_eqb (48 + d) 34 (λ e. omega (arith, e, lt)), ne_eqb (48 + d) 39 (λ e. omega (arith, e, lt)), ne_eqb (48 + d) 38 (λ e. omega (arith, e, lt))) refl
 
-plain_glyph : (n : ℕ) → is_plain (digit_glyph false (n % 10)) ≡ true
+plain_glyph : (n : ℕ) → is_plain_byte (digit_glyph false (n % 10)) ≡ true
 plain_glyph n =
     let small : n % 10 < 10 = omega arith in
     rw (lt-ltb (n % 10) 10 small) (plain_digit (n % 10) small)
 
-onto : (k n : ℕ) (acc : List ℕ) → list_all is_plain acc ≡ true → list_all is_plain (digits_onto k 10 false n acc) ≡ true
+onto : (k n : ℕ) (acc : List ℕ) → list_all is_plain_byte acc ≡ true → list_all is_plain_byte (digits_onto k 10 false n acc) ≡ true
 onto zero n acc h = h
 onto (suc k) n acc h =
     let here = and_from _ _ (plain_glyph n) h in
-    cond_both (n / 10 == 0) _ _ (λ (text : List ℕ). list_all is_plain text ≡ true) (λ e. here) (λ e. onto k (n / 10) (digit_glyph false (n % 10) ∷ acc) here)
+    cond_both (n / 10 == 0) _ _ (λ (text : List ℕ). list_all is_plain_byte text ≡ true) (λ e. here) (λ e. onto k (n / 10) (digit_glyph false (n % 10) ∷ acc) here)
 
 pub number : (n : ℕ) → Plain (decimal n)
 unfolding digits

@@ -14,7 +14,7 @@ use Rattle.hw_port_rules.specs.Drafts.{allowed_draft, floating, in_window, loade
 use Rattle.hw_port_rules.specs.Numbers.{is_outgoing, whole}
 use Rattle.hw_svg.specs.Numbers.{metres}
 use Rattle.hw_port_chart.proofs.Bounds.{sails_between}
-use Rattle.hw_port_chart.proofs.Ranks.{rank_small}
+use Rattle.hw_chart.proofs.Ranks.{rank_small}
 use Rattle.hw_port_chart.specs.Charts.{ChartParts, IsChart, full_of, tall_between}
 use Rattle.hw_port_chart.specs.Drafts.{draft_level, short_level}
 use Rattle.hw_port_chart.specs.Rows.{rank_in, ranked_row, row_y}

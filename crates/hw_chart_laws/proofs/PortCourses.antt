@@ -9,7 +9,7 @@ use Rattle.hw_svg.specs.Sheets.{title_end}
 use Rattle.hw_chart.specs.declared.course.Course.{Course}
 use Rattle.hw_chart.specs.declared.course.Course.TheVariants.{Unplanned, Stays, Sails}
 use Rattle.hw_chart.specs.Courses.{SailsBefore, course_of}
-use Rattle.hw_port_chart.specs.Charts.{ChartParts, waypoint_name}
+use Rattle.hw_port_chart.specs.Charts.{ChartParts, charted_waypoint_name}
 use Rattle.hw_port_chart.specs.Sailings.{sailing_of}
 use Rattle.hw_port_chart.specs.Titles.{course_title, load_title, time_title, way_title}
 use Rattle.hw_chart_laws.proofs.Reading.{after_both, number_back}
@@ -41,8 +41,8 @@ unfolding time_title
 sails_back one two v s m n x y p q e =
     let g = sailing_of one v s m in
     let k = sailing_of two v s n in
-    let load = load_title (waypoint_name one g.by) g ++ [] in
-    let other = load_title (waypoint_name two k.by) k ++ [] in
+    let load = load_title (charted_waypoint_name one g.by) g ++ [] in
+    let other = load_title (charted_waypoint_name two k.by) k ++ [] in
     let times = after_both (way_title s) (time_title g ++ load) (time_title k ++ other) x y e in
     slot_back m n (clock g.time ++ []) (clock k.time ++ []) load other x y p q times
 

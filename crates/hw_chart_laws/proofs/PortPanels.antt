@@ -12,18 +12,19 @@ use Rattle.hw_chart.specs.declared.course.Course.{Course}
 use Rattle.hw_chart.specs.declared.course.Course.TheVariants.{Unplanned, Stays, Sails}
 use Rattle.hw_chart.specs.Hatches.{entry_below}
 use Rattle.hw_chart.specs.Layout.{plot}
+use Rattle.hw_flat_chart.specs.Pictures.{entry}
 use Rattle.hw_port_chart.specs.declared.heights.Heights.{Heights}
 use Rattle.hw_port_chart.specs.declared.passing.Strip.{Strip}
 use Rattle.hw_port_chart.specs.declared.passing.Underway.{Underway}
-use Rattle.hw_port_chart.specs.Charts.{ChartParts, course, shown, tall_between, waypoint_name}
-use Rattle.hw_port_chart.specs.Fleets.{fleet_panel, held_in, panel_of}
-use Rattle.hw_port_chart.specs.Heads.{columns, columns_where, entry, legend, other_entries, sailing_entries, way_entries}
+use Rattle.hw_port_chart.specs.Charts.{ChartParts, course, shown, tall_between, charted_waypoint_name}
+use Rattle.hw_port_chart.specs.Fleets.{fleet_panel, tugs_held_in, panel_of}
+use Rattle.hw_port_chart.specs.Heads.{columns, columns_where, legend, other_entries, sailing_entries, way_entries}
 use Rattle.hw_port_chart.specs.Lanes.{course_stays, lane_begin, lane_text, lane_y, lanes_from, stay_of, stays_from, stretch_marks}
 use Rattle.hw_port_chart.specs.Passings.{course_marks, marks_from, pass_marks, passing, passing_area, underway}
 use Rattle.hw_port_chart.specs.Pictures.{legend_of}
 use Rattle.hw_port_chart.specs.Signs.{closed_sign, has_closings, stay_signs}
-use Rattle.hw_port_chart.specs.Strips.{greatest_of, height_in, heights_of, least_of, strip_at_place, strip_heights, strip_label, strip_of, strip_text, strip_y, strips, strips_from, water_level}
-use Rattle.hw_chart_laws.specs.Trees.{is_plain}
+use Rattle.hw_port_chart.specs.Strips.{greatest_of, height_in, heights_of, least_height, strip_at_place, strip_heights, strip_label, strip_of, strip_text, strip_y, strips, strips_from, water_level}
+use Rattle.hw_chart_laws.specs.Trees.{is_plain_byte}
 use Rattle.hw_chart_laws.proofs.Plain.{letters}
 use Rattle.hw_chart_laws.proofs.PortTexts.{plain_mark, plain_stay, spelled_passing, spelled_stay}
 use Rattle.hw_chart_laws.proofs.Shared.{figure, filled, five, four, if_so, of_planned, of_unplanned, says, three}
@@ -31,7 +32,7 @@ use Rattle.hw_chart_laws.proofs.Spelled.{Spelled, also, fixed, nothing, of_heigh
 use Rattle.hw_chart_laws.proofs.Writing.{Tags, Writing, svg}
 
 module _ {P : Tags → List ℕ → Tags → Type 0} (w : Writing P) where
-  of_entry : {a : Tags} (class : List ℕ) (p : list_all is_plain class ≡ true) (x : ℕ) {text : List ℕ} → Spelled text → P a (entry class x text) a
+  of_entry : {a : Tags} (class : List ℕ) (p : list_all is_plain_byte class ≡ true) (x : ℕ) {text : List ℕ} → Spelled text → P a (entry class x text) a
   of_entry class p x text = w.onward (filled w class p (record { left = x; right = x + 10; top = 77; bottom = 87 })) (says w (codes "m") refl (x + 14) 86 text)
 
   of_sailing_entries : {a : Tags} → P a sailing_entries a
@@ -49,7 +50,7 @@ module _ {P : Tags → List ℕ → Tags → Type 0} (w : Writing P) where
   of_legend : {a : Tags} → P a legend a
   of_legend = three w of_sailing_entries of_way_entries of_other_entries
 
-  of_entry_below : {a : Tags} (class : List ℕ) (p : list_all is_plain class ≡ true) (x : ℕ) {text : List ℕ} → Spelled text → P a (entry_below class x text) a
+  of_entry_below : {a : Tags} (class : List ℕ) (p : list_all is_plain_byte class ≡ true) (x : ℕ) {text : List ℕ} → Spelled text → P a (entry_below class x text) a
   of_entry_below class p x text = w.onward (filled w class p (record { left = x; right = x + 10; top = 93; bottom = 103 })) (says w (codes "m") refl (x + 14) 102 text)
 
   of_closed_sign : {a : Tags} → P a closed_sign a
@@ -69,7 +70,7 @@ module _ {P : Tags → List ℕ → Tags → Type 0} (w : Writing P) where
 
   of_passes : {a : Tags} (chart : ChartParts) (strip : Strip) (ship : Underway) (s : ShipParts) (passes : List Pass) → P a (pass_marks chart strip ship s passes) a
   of_passes chart strip ship s [] = w.none
-  of_passes chart strip ship s (pass ∷ more) = w.onward (if_so w (nat_eq (whole pass.waypoint) strip.place) (w.named (passing_area strip (passing chart strip ship pass)) (plain_mark s) (spelled_passing s.name (waypoint_name chart strip.place) (passing chart strip ship pass)))) (of_passes chart strip ship s more)
+  of_passes chart strip ship s (pass ∷ more) = w.onward (if_so w (nat_eq (whole pass.waypoint) strip.place) (w.named (passing_area strip (passing chart strip ship pass)) (plain_mark s) (spelled_passing s.name (charted_waypoint_name chart strip.place) (passing chart strip ship pass)))) (of_passes chart strip ship s more)
 
   of_course : {a : Tags} (chart : ChartParts) (strip : Strip) (v : ℕ) (s : ShipParts) (course : Course) → P a (course_marks chart strip v s course) a
   of_course chart strip v s Unplanned = w.none
@@ -84,7 +85,7 @@ module _ {P : Tags → List ℕ → Tags → Type 0} (w : Writing P) where
   of_strip_label strip name = w.onward (w.called 16 (strip_y strip + 16) name 148 (letters (codes "b") refl)) (says w (codes "m") refl 16 (strip_y strip + 32) (also (fixed (codes "charted ") refl) (also (of_metres strip.depth) (also (fixed (codes " m") refl) nothing))))
 
   of_strip_heights : {a : Tags} (chart : ChartParts) (strip : Strip) → P a (strip_heights chart strip) a
-  of_strip_heights chart strip = says w (codes "m") refl 900 (strip_y strip + 16) (also (fixed (codes "tide ") refl) (also (of_height (least_of (height_in chart.tide strip.place) (shown chart))) (also (fixed (codes " to ") refl) (also (of_height (greatest_of (height_in chart.tide strip.place) (shown chart))) (also (fixed (codes " m") refl) nothing)))))
+  of_strip_heights chart strip = says w (codes "m") refl 900 (strip_y strip + 16) (also (fixed (codes "tide ") refl) (also (of_height (least_height (height_in chart.tide strip.place) (shown chart))) (also (fixed (codes " to ") refl) (also (of_height (greatest_of (height_in chart.tide strip.place) (shown chart))) (also (fixed (codes " m") refl) nothing)))))
 
   of_strip : {a : Tags} (chart : ChartParts) (strip : Strip) (name : List ℕ) → P a (strip_text chart strip name) a
   of_strip chart strip name =
@@ -127,4 +128,4 @@ module _ {P : Tags → List ℕ → Tags → Type 0} (w : Writing P) where
 
   pub of_fleet : {a : Tags} (chart : ChartParts) (table : Option (List ℕ)) → P a (fleet_panel chart table) a
   of_fleet chart None = of_unplanned w (panel_of chart)
-  of_fleet chart (Some table) = of_planned w (panel_of chart) (held_in chart.port table)
+  of_fleet chart (Some table) = of_planned w (panel_of chart) (tugs_held_in chart.port table)

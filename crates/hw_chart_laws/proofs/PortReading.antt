@@ -18,7 +18,7 @@ use Rattle.hw_port_chart.specs.Charts.{ChartParts, course}
 use Rattle.hw_port_chart.specs.Fleets.{fleet_panel}
 use Rattle.hw_port_chart.specs.Heads.{columns_where, places, sizes}
 use Rattle.hw_port_chart.specs.Lanes.{lanes_from}
-use Rattle.hw_port_chart.specs.Pictures.{chart_of, foot, legend_of, picture_of, port_picture}
+use Rattle.hw_port_chart.specs.Pictures.{chart_of, foot, legend_of, picture_of_chart, port_picture}
 use Rattle.hw_port_chart.specs.Rows.{rank_in, rows_from}
 use Rattle.hw_port_chart.specs.Strips.{strips}
 use Rattle.hw_port_chart.specs.Titles.{course_title, ship_title}
@@ -66,8 +66,8 @@ after_ships chart = group_end ++ (lanes_from chart 0 chart.port.sections ++ (fle
 parts : (pb st gr ba hl lg sr co lb rs ge la fl ft : List ℕ) → ((pb ++ (st ++ (gr ++ (ba ++ (hl ++ []))))) ++ lg) ++ ((sr ++ (co ++ ((lb ++ (rs ++ (ge ++ []))) ++ (la ++ (fl ++ []))))) ++ (ft ++ [])) ≡ (pb ++ (st ++ (gr ++ (ba ++ (hl ++ (lg ++ (sr ++ co))))))) ++ (lb ++ (rs ++ (ge ++ (la ++ (fl ++ ft)))))
 parts pb st gr ba hl lg sr co lb rs ge la fl ft = simp (append_assoc, append-nil)
 
-by_ships : (chart : ChartParts) (outcome : Outcome) → picture_of chart outcome ≡ before_ships chart outcome ++ (list_begin ++ (rows_from chart 0 chart.port.ships ++ after_ships chart))
-unfolding picture_of
+by_ships : (chart : ChartParts) (outcome : Outcome) → picture_of_chart chart outcome ≡ before_ships chart outcome ++ (list_begin ++ (rows_from chart 0 chart.port.ships ++ after_ships chart))
+unfolding picture_of_chart
 by_ships chart outcome = parts (picture_begin 1280 (height_of chart) (title_text Tonnes outcome)) style (ground (height_of chart)) (badge outcome.verdict) (heading_lines Tonnes outcome (sizes chart.port)) (legend_of chart.port) (strips chart) (columns_where chart.table ((places chart.port).rows)) list_begin (rows_from chart 0 chart.port.ships) group_end (lanes_from chart 0 chart.port.sections) (fleet_panel chart chart.table) (foot chart)
 
 still_before : (chart : ChartParts) (outcome : Outcome) → Still (before_ships chart outcome)

@@ -16,7 +16,7 @@ use Rattle.hw_chart.specs.Layout.{plot, stripe}
 use Rattle.hw_port_chart.specs.Charts.{ChartParts, course, full_of, mark_class, tall_between, way}
 use Rattle.hw_port_chart.specs.Closings.{closings}
 use Rattle.hw_port_chart.specs.Drafts.{draft_level, draft_steps, full_sailings, full_steps, fullness_level, moves_text, sailing_where, window_of}
-use Rattle.hw_port_chart.specs.Rows.{arrow, arrow_path, full_word, rank_in, ranked_row, row_name, row_right, row_y}
+use Rattle.hw_port_chart.specs.Rows.{arrow, arrow_path, full_draft_word, rank_in, ranked_row, row_name, row_right, row_y}
 use Rattle.hw_chart_laws.proofs.Marked.{AsMany, Begins, begins_either, both, fixed, line_first, name_first, of_block, of_line, of_name, of_shape, of_window, past_stripe, shape_first, spelled, told, window_first}
 use Rattle.hw_chart_laws.proofs.Plain.{Plain, letters, path}
 use Rattle.hw_chart_laws.proofs.PortTexts.{plain_arrow, plain_way, spelled_full, spelled_row}
@@ -47,7 +47,7 @@ window_on chart v s y = window_begin (window_in chart s y) ++ ground_on chart v 
 
 -- the ship's number and its full draft
 abbrev pub number_text : ℕ → ShipParts → List ℕ
-number_text v s = codes "ship " ++ (decimal v ++ (full_word s ++ (metres (whole (full_of s)) ++ (codes " m" ++ []))))
+number_text v s = codes "ship " ++ (decimal v ++ (full_draft_word s ++ (metres (whole (full_of s)) ++ (codes " m" ++ []))))
 
 abbrev pub number_in : ℕ → ShipParts → ℕ → List ℕ
 number_in v s y = line (codes "m") 16 (y + 33) (number_text v s)

@@ -14,14 +14,14 @@ use Rattle.hw_chart.specs.Layout.{plot, stripe}
 use Rattle.hw_port_chart.specs.declared.sailing.Sailing.{Sailing}
 use Rattle.hw_port_chart.specs.declared.stays.Wait.{Wait}
 use Rattle.hw_port_chart.specs.Bars.{bars, clearings}
-use Rattle.hw_port_chart.specs.Charts.{ChartParts, course, full_of, slot_at, waypoint_name}
+use Rattle.hw_port_chart.specs.Charts.{ChartParts, course, full_of, slot_in_chart, charted_waypoint_name}
 use Rattle.hw_port_chart.specs.Closings.{closings_from}
 use Rattle.hw_port_chart.specs.Drafts.{draft_level, drafts_text, fullness_level, open_level, sailing_where, window_of}
-use Rattle.hw_port_chart.specs.Figures.{allowed_figures, capacity, cargo_figures, draft_figures, figures, keel_figures, keel_of, time_figures}
+use Rattle.hw_port_chart.specs.Figures.{allowed_figures, deepest_cargo, cargo_figures, draft_figures, figures, keel_figures, keel_of_sailing, time_figures}
 use Rattle.hw_port_chart.specs.Rows.{row_left, row_number, row_right, row_windows, row_y}
 use Rattle.hw_port_chart.specs.Sailings.{sailing_of}
-use Rattle.hw_port_chart.specs.Spans.{last_pass}
-use Rattle.hw_port_chart.specs.Stays.{ship_name, stays_of, wait_of}
+use Rattle.hw_port_chart.specs.Spans.{last_pass_offset}
+use Rattle.hw_port_chart.specs.Stays.{chart_ship_name, stays_of, wait_of}
 use Rattle.hw_chart_laws.proofs.Plain.{letters}
 use Rattle.hw_chart_laws.proofs.PortTexts.{plain_arrow, plain_mark, plain_tight, plain_way, spelled_closing, spelled_full, spelled_short, spelled_wait}
 use Rattle.hw_chart_laws.proofs.Shared.{figure, five, if_so, of_bar, of_mark, of_moves, of_no_slot, of_pin, of_sailings, of_stays, of_stripe, says, three}
@@ -53,17 +53,17 @@ module _ {P : Tags → List ℕ → Tags → Type 0} (w : Writing P) where
 
   of_clearings : {a : Tags} (chart : ChartParts) (v : ℕ) (berths : List BerthPair) → P a (clearings chart v berths) a
   of_clearings chart v [] = w.none
-  of_clearings chart v (b ∷ more) = w.onward (if_so w (nat_eq (whole b.incoming) v) (of_bar w (slot_at chart (whole b.outgoing)) (slot_at chart (whole b.outgoing) + whole b.clear) 0 (letters (codes "be") refl))) (of_clearings chart v more)
+  of_clearings chart v (b ∷ more) = w.onward (if_so w (nat_eq (whole b.incoming) v) (of_bar w (slot_in_chart chart (whole b.outgoing)) (slot_in_chart chart (whole b.outgoing) + whole b.clear) 0 (letters (codes "be") refl))) (of_clearings chart v more)
 
   of_waits : {a : Tags} (chart : ChartParts) (v : ℕ) (pairs : List AfterPair) → P a (stays_of chart v pairs) a
   of_waits chart v [] = w.none
   of_waits chart v (pair ∷ more) =
       let wait : Wait = wait_of chart pair in
-      w.onward (if_so w (nat_eq (whole pair.second) v) (w.onward (w.named (record { left = wait.from; right = wait.until; top = 0; bottom = 1 }) (letters (codes "wi") refl) (spelled_wait (ship_name chart (whole pair.second)) (ship_name chart (whole pair.first)) wait)) (of_bar w wait.from wait.free 0 (letters (codes "be") refl)))) (of_waits chart v more)
+      w.onward (if_so w (nat_eq (whole pair.second) v) (w.onward (w.named (record { left = wait.from; right = wait.until; top = 0; bottom = 1 }) (letters (codes "wi") refl) (spelled_wait (chart_ship_name chart (whole pair.second)) (chart_ship_name chart (whole pair.first)) wait)) (of_bar w wait.from wait.free 0 (letters (codes "be") refl)))) (of_waits chart v more)
 
   of_bars : {a : Tags} (chart : ChartParts) (v : ℕ) (s : ShipParts) (slot y : ℕ) → P a (bars chart v s slot y) a
   of_bars chart v s slot y =
-      w.onward (w.opened (plot (y + 31) 8 chart.span 2)) (five w (of_clearings chart v chart.port.berths) (of_waits chart v chart.port.after) (of_bar w slot (slot + last_pass s.route + 1) 0 (plain_way s)) (if_so w (nat_lt 0 (whole s.tugs)) (w.onward (of_bar w slot (slot + whole s.job) 1 (letters (codes "tu") refl)) (of_bar w (slot + whole s.job) (slot + hold_of chart.port s) 1 (letters (codes "ba") refl)))) w.closed)
+      w.onward (w.opened (plot (y + 31) 8 chart.span 2)) (five w (of_clearings chart v chart.port.berths) (of_waits chart v chart.port.after) (of_bar w slot (slot + last_pass_offset s.route + 1) 0 (plain_way s)) (if_so w (nat_lt 0 (whole s.tugs)) (w.onward (of_bar w slot (slot + whole s.job) 1 (letters (codes "tu") refl)) (of_bar w (slot + whole s.job) (slot + hold_of chart.port s) 1 (letters (codes "ba") refl)))) w.closed)
 
   of_time : {a : Tags} (g : Sailing) (y : ℕ) → P a (time_figures g y) a
   of_time g y = w.onward (says w (codes "r b") refl 956 (y + 17) (of_clock g.time)) (says w (codes "r m") refl 956 (y + 33) (also (fixed (codes "slot ") refl) (also (of_number g.slot) nothing)))
@@ -72,13 +72,13 @@ module _ {P : Tags → List ℕ → Tags → Type 0} (w : Writing P) where
   of_draft s g y = w.onward (says w (codes "r b") refl 1020 (y + 17) (of_metres g.draft)) (if_so w (is_outgoing s) (says w (codes "r m") refl 1020 (y + 33) (spelled_short (whole (full_of s)) g.draft)))
 
   of_allowed : {a : Tags} (chart : ChartParts) (g : Sailing) (y : ℕ) → P a (allowed_figures chart g y) a
-  of_allowed chart g y = w.onward (w.lettered 1094 (y + 17) (plain_tight g) (of_metres g.allowed)) (w.called 1094 (y + 33) (waypoint_name chart g.by) 64 (letters (codes "r m") refl))
+  of_allowed chart g y = w.onward (w.lettered 1094 (y + 17) (plain_tight g) (of_metres g.allowed)) (w.called 1094 (y + 33) (charted_waypoint_name chart g.by) 64 (letters (codes "r m") refl))
 
   of_keel : {a : Tags} (g : Sailing) (y : ℕ) → P a (keel_figures g y) a
-  of_keel g y = w.onward (w.lettered 1176 (y + 17) (plain_tight g) (of_metres (keel_of g))) (says w (codes "r m") refl 1176 (y + 33) (also (fixed (codes "min ") refl) (also (of_metres g.clearance) nothing)))
+  of_keel g y = w.onward (w.lettered 1176 (y + 17) (plain_tight g) (of_metres (keel_of_sailing g))) (says w (codes "r m") refl 1176 (y + 33) (also (fixed (codes "min ") refl) (also (of_metres g.clearance) nothing)))
 
   of_cargo : {a : Tags} (s : ShipParts) (g : Sailing) (y : ℕ) → P a (cargo_figures s g y) a
-  of_cargo s g y = if_so w (is_outgoing s) (w.onward (says w (codes "r b") refl 1268 (y + 17) (of_tenths g.cargo)) (says w (codes "r m") refl 1268 (y + 33) (also (fixed (codes "of ") refl) (also (of_tenths (capacity s)) nothing))))
+  of_cargo s g y = if_so w (is_outgoing s) (w.onward (says w (codes "r b") refl 1268 (y + 17) (of_tenths g.cargo)) (says w (codes "r m") refl 1268 (y + 33) (also (fixed (codes "of ") refl) (also (of_tenths (deepest_cargo s)) nothing))))
 
   of_figures : {a : Tags} (chart : ChartParts) (s : ShipParts) (g : Sailing) (y : ℕ) → P a (figures chart s g y) a
   of_figures chart s g y = five w (of_time g y) (of_draft s g y) (of_allowed chart g y) (of_keel g y) (of_cargo s g y)

@@ -9,13 +9,13 @@ use Rattle.hw_port_chart.specs.declared.lane.Stay.{Stay}
 use Rattle.hw_port_chart.specs.declared.passing.Passing.{Passing}
 use Rattle.hw_port_chart.specs.declared.sailing.Sailing.{Sailing}
 use Rattle.hw_port_chart.specs.declared.stays.Wait.{Wait}
-use Rattle.hw_port_chart.specs.Charts.{ChartParts, mark_class, minutes_to, way, waypoint_name}
+use Rattle.hw_port_chart.specs.Charts.{ChartParts, mark_class, minutes_to, way, charted_waypoint_name}
 use Rattle.hw_port_chart.specs.Closings.{closing_title}
 use Rattle.hw_port_chart.specs.Figures.{shortness, tight}
 use Rattle.hw_port_chart.specs.Heads.{sizes, sizes_text}
 use Rattle.hw_port_chart.specs.Lanes.{stay_class, stay_title}
 use Rattle.hw_port_chart.specs.Passings.{passing_title}
-use Rattle.hw_port_chart.specs.Rows.{arrow_in, arrow_out, arrow_path, full_word}
+use Rattle.hw_port_chart.specs.Rows.{arrow_in, arrow_out, arrow_path, full_draft_word}
 use Rattle.hw_port_chart.specs.Sailings.{sailing_of}
 use Rattle.hw_port_chart.specs.Stays.{wait_title}
 use Rattle.hw_port_chart.specs.Titles.{course_title, load_title, row_title, ship_title, time_title}
@@ -50,7 +50,7 @@ pub spelled_sizes : (p : Parts) → Spelled (sizes p)
 unfolding sizes_text
 spelled_sizes p = also (fixed (codes "ships ") refl) (also (of_number _) (also (fixed (codes ", slots ") refl) (also (of_number _) (also (fixed (codes " of ") refl) (also (of_number _) (also (fixed (codes " min, tugs ") refl) (also (of_number _) nothing)))))))
 
-pub spelled_full : (s : ShipParts) → Spelled (full_word s)
+pub spelled_full : (s : ShipParts) → Spelled (full_draft_word s)
 spelled_full s = either (is_outgoing s) (fixed (codes ", full ") refl) (fixed (codes ", draft ") refl)
 
 pub spelled_short : (full draft : ℕ) → Spelled (shortness full draft)
@@ -73,7 +73,7 @@ spelled_course chart v s Unplanned = nothing
 spelled_course chart v s Stays = fixed (codes ", stays") refl
 spelled_course chart v s (Sails slot) =
     let g = sailing_of chart v s slot in
-    also (either (is_outgoing s) (fixed (codes ", sails out") refl) (fixed (codes ", comes in") refl)) (also (spelled_time g) (also (spelled_load (waypoint_name chart g.by) g) nothing))
+    also (either (is_outgoing s) (fixed (codes ", sails out") refl) (fixed (codes ", comes in") refl)) (also (spelled_time g) (also (spelled_load (charted_waypoint_name chart g.by) g) nothing))
 
 pub spelled_row : (chart : ChartParts) (v : ℕ) (s : ShipParts) (course : Course) → Spelled (row_title chart v s course)
 spelled_row chart v s course = also (spelled_ship s.name v) (spelled_course chart v s course)

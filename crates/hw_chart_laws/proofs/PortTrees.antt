@@ -12,7 +12,7 @@ use Rattle.hw_chart.specs.Layout.{stripe}
 use Rattle.hw_chart.specs.Outcomes.{badge, title_text}
 use Rattle.hw_port_chart.specs.Charts.{ChartParts, course}
 use Rattle.hw_port_chart.specs.Heads.{places, sizes}
-use Rattle.hw_port_chart.specs.Pictures.{bottom, chart_of, horizon_line, legend_of, panels, picture_of, port_picture, times}
+use Rattle.hw_port_chart.specs.Pictures.{bottom, chart_of, horizon_line, legend_of, panels, picture_of_chart, port_picture, times}
 use Rattle.hw_port_chart.specs.Rows.{rank_in, ranked_row, row_left, row_right, row_windows, row_y, rows_from, ship_list}
 use Rattle.hw_port_chart.specs.Titles.{row_title}
 use Rattle.hw_chart_laws.specs.Trees.{IsPicture}
@@ -63,8 +63,8 @@ height_of chart = (places chart.port).bottom + 28
 abbrev middle : ChartParts → Outcome → List ℕ
 middle chart outcome = ground (height_of chart) ++ (badge outcome.verdict ++ (heading_lines Tonnes outcome (sizes chart.port) ++ (legend_of chart.port ++ (panels chart ++ (times chart ++ horizon_line chart)))))
 
-picture_is : (chart : ChartParts) (outcome : Outcome) → picture_of chart outcome ≡ picture 1280 (height_of chart) (title_text Tonnes outcome) (style ++ middle chart outcome)
-unfolding picture_of
+picture_is : (chart : ChartParts) (outcome : Outcome) → picture_of_chart chart outcome ≡ picture 1280 (height_of chart) (title_text Tonnes outcome) (style ++ middle chart outcome)
+unfolding picture_of_chart
 picture_is chart outcome = arranged (picture_begin 1280 (height_of chart) (title_text Tonnes outcome)) style (ground (height_of chart)) (badge outcome.verdict) (heading_lines Tonnes outcome (sizes chart.port)) (legend_of chart.port) (panels chart) (times chart) (horizon_line chart) svg_end
 
 lead_middle : (chart : ChartParts) (outcome : Outcome) → Leads [] (middle chart outcome) []

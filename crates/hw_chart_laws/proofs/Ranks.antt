@@ -5,15 +5,11 @@ use Rattle.std.proofs.lemmas.Bool.{cases_lt}
 use Rattle.std.proofs.lemmas.Bool.Decides.{nat_tests}
 use Rattle.std.proofs.lemmas.List.FromFn.{get_or-enumerate_from, length-enumerate_from}
 use Rattle.std.proofs.lemmas.List.Sums.{count_by-le-length, sum_by-cons}
+use Rattle.hw_lemmas.proofs.Truths.{one_le}
 use Rattle.hw_chart.specs.Layout.{rank_of, stands_above}
 use Rattle.hw_port_chart.specs.Rows.{rank_in}
 
 -- ---- how often two tests hold
-
-one_le : (a b : Bool) → (a ≡ true → b ≡ true) → cond a 1 0 ≤ cond b 1 0
-one_le true true h = omega arith
-one_le true false h = absurd (let e = h refl in cc)
-one_le false b h = omega arith
 
 as_often : {X : Type 0} (p q : X → Bool) (xs : List X) → ((x : X) → p x ≡ true → q x ≡ true) → count_by p xs ≤ count_by q xs
 as_often p q [] h = omega arith

@@ -1,22 +1,11 @@
 -- What is read back from a text: numbers, the items of a list, and lists from their elements.
-use Rattle.std.proofs.Common.{◌≡◌, ◌<◌, ◌^◌, ◌++◌, ◌∙◌, ℕ, suc, true, false, List, [], ◌∷◌, codes, decimal, drop, get_or, length, refl, ap, sym, arith, append_assoc}
-use Rattle.std.specs.List.{list_all}
-use Rattle.std.proofs.lemmas.Bool.{both_ways, and_parts}
+use Rattle.std.proofs.Common.{◌≡◌, ◌<◌, ◌^◌, ◌++◌, ◌∙◌, ℕ, suc, false, List, [], ◌∷◌, codes, decimal, get_or, length, refl, ap, sym, arith, append_assoc}
 use Rattle.std.proofs.lemmas.List.{append_cancel_left}
 use Rattle.std.proofs.lemmas.Fmt.{decimal_injective}
 use Rattle.hw_svg.specs.Sheets.{item_begin, list_begin, title_end}
 use Rattle.hw_svg.proofs.Digits.{is_digit, digits_of}
+use Rattle.hw_svg.proofs.ReadBack.{parted}
 use Rattle.hw_chart_laws.proofs.Calm.{Still, cut, cut_past}
-
--- digits end where something else begins
-parted : (a b : List ℕ) (x : ℕ) (r s : List ℕ) → is_digit x ≡ false → list_all is_digit a ≡ true → list_all is_digit b ≡ true → a ++ x ∷ r ≡ b ++ x ∷ s → (a ≡ b) × (r ≡ s)
-parted [] [] x r s none p q e = (refl, ap (drop 1) e)
-parted [] (d ∷ b) x r s none p q e = absurd (both_ways (is_digit x) none (ap is_digit (ap (λ (l : List ℕ). get_or l 0 0) e) ∙ (and_parts _ _ q).0))
-parted (c ∷ a) [] x r s none p q e = absurd (both_ways (is_digit x) none (ap is_digit (sym (ap (λ (l : List ℕ). get_or l 0 0) e)) ∙ (and_parts _ _ p).0))
-parted (c ∷ a) (d ∷ b) x r s none p q e =
-    let same : c ≡ d = ap (λ (l : List ℕ). get_or l 0 0) e in
-    let rest = parted a b x r s none (and_parts _ _ p).1 (and_parts _ _ q).1 (ap (drop 1) e) in
-    (rw (same, rest.0) refl, rest.1)
 
 -- a number, and what follows it
 pub number_parted : (m n x : ℕ) (r s : List ℕ) → is_digit x ≡ false → m < 2 ^ 64 → n < 2 ^ 64 → decimal m ++ x ∷ r ≡ decimal n ++ x ∷ s → (m ≡ n) × (r ≡ s)

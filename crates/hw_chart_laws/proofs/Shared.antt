@@ -14,13 +14,13 @@ use Rattle.hw_chart.specs.declared.outcome.CargoUnit.{CargoUnit}
 use Rattle.hw_chart.specs.declared.outcome.Outcome.{Outcome}
 use Rattle.hw_chart.specs.declared.panel.Panel.{Panel}
 use Rattle.hw_chart.specs.declared.row.Sailings.{Sailings}
-use Rattle.hw_chart.specs.Grids.{axis_of, axis_text, caption_text, grid, is_day, line_paths, mark, mark_class, mark_text, marks, span_end}
+use Rattle.hw_chart.specs.Grids.{axis_of, axis_text, caption_text, grid, is_day_mark, line_paths, mark, axis_mark_class, mark_text, marks, span_end}
 use Rattle.hw_chart.specs.Headings.{ground, heading_lines}
 use Rattle.hw_chart.specs.Layout.{pin, stripe}
 use Rattle.hw_chart.specs.Outcomes.{badge}
 use Rattle.hw_chart.specs.Panels.{at_most, fleet_label, held_inside, panel_ground, planned_panel, unplanned_panel}
-use Rattle.hw_chart.specs.Rows.{bar, moves_window, no_slot, sailing_mark, sailings_begin, stays}
-use Rattle.hw_chart_laws.specs.Trees.{is_plain}
+use Rattle.hw_chart.specs.Rows.{bar, moves_window, no_slot, sailing_mark, sailings_begin, stays_label}
+use Rattle.hw_chart_laws.specs.Trees.{is_plain_byte}
 use Rattle.hw_chart_laws.proofs.Plain.{Plain, area, both, letters, nothing, number, path}
 use Rattle.hw_chart_laws.proofs.Titles.{plain_disc, plain_meaning, plain_sign, plain_title}
 use Rattle.hw_chart_laws.proofs.Spelled.{Spelled, also, fixed, of_clock, of_number, plain}
@@ -36,12 +36,12 @@ plain_lines : (a : Axis) (i count : ℕ) → Plain (line_paths a i count)
 plain_lines a i zero = nothing
 plain_lines a i (suc more) = both (both (letters (codes "M") refl) (both (number _) (both (letters (codes " 120V") refl) (both (number _) nothing)))) (plain_lines a (i + 1) more)
 
-plain_mark : (scale : Scale) (at : ℕ) → Plain (mark_class scale at)
-plain_mark (Minutes minutes) at = either (is_day at) (letters (codes "b c") refl) (letters (codes "m c") refl)
+plain_mark : (scale : Scale) (at : ℕ) → Plain (axis_mark_class scale at)
+plain_mark (Minutes minutes) at = either (is_day_mark at) (letters (codes "b c") refl) (letters (codes "m c") refl)
 plain_mark Slots at = letters _ refl
 
 spelled_mark : (scale : Scale) (at : ℕ) → Spelled (mark_text scale at)
-spelled_mark (Minutes minutes) at = cond_both (is_day at) _ _ Spelled (λ e. also (of_number _) (fixed (codes "d") refl)) (λ e. of_clock _)
+spelled_mark (Minutes minutes) at = cond_both (is_day_mark at) _ _ Spelled (λ e. also (of_number _) (fixed (codes "d") refl)) (λ e. of_clock _)
 spelled_mark Slots at = of_number at
 
 spelled_caption : (scale : Scale) → Spelled (caption_text scale)
@@ -65,13 +65,13 @@ module _ {P : Tags → List ℕ → Tags → Type 0} (w : Writing P) where
   pub if_so : {a : Tags} (b : Bool) {s : List ℕ} → P a s a → P a (if b then s else []) a
   if_so {a = a} b p = cond_both b _ _ (λ (t : List ℕ). P a t a) (λ e. p) (λ e. w.none)
 
-  pub filled : {a : Tags} (class : List ℕ) (p : list_all is_plain class ≡ true) (at : Area) → P a (block class at) a
+  pub filled : {a : Tags} (class : List ℕ) (p : list_all is_plain_byte class ≡ true) (at : Area) → P a (block class at) a
   filled class p at = w.shaped (letters class p) (area at)
 
-  pub figure : {a : Tags} (class : List ℕ) (p : list_all is_plain class ≡ true) (level : ℕ → ℕ) (first count base : ℕ) → P a (steps class level first count base) a
+  pub figure : {a : Tags} (class : List ℕ) (p : list_all is_plain_byte class ≡ true) (level : ℕ → ℕ) (first count base : ℕ) → P a (steps class level first count base) a
   figure class p level first count base = w.shaped (letters class p) (path level first count base)
 
-  pub says : {a : Tags} (class : List ℕ) (p : list_all is_plain class ≡ true) (x y : ℕ) {text : List ℕ} → Spelled text → P a (line class x y text) a
+  pub says : {a : Tags} (class : List ℕ) (p : list_all is_plain_byte class ≡ true) (x y : ℕ) {text : List ℕ} → Spelled text → P a (line class x y text) a
   says class p x y text = w.lettered x y (letters class p) text
 
   pub head_lines : {a : Tags} (unit : CargoUnit) (outcome : Outcome) {sizes : List ℕ} → Spelled sizes → P a (heading_lines unit outcome sizes) a
@@ -101,7 +101,7 @@ module _ {P : Tags → List ℕ → Tags → Type 0} (w : Writing P) where
   pub of_bar : {a : Tags} {class : List ℕ} (from to lane : ℕ) → Plain class → P a (bar class from to lane) a
   of_bar from to lane c = w.shaped c (area _)
 
-  pub of_stays : {a : Tags} (y : ℕ) → P a (stays y) a
+  pub of_stays : {a : Tags} (y : ℕ) → P a (stays_label y) a
   of_stays y = says (codes "r b") refl 956 (y + 17) (fixed (codes "stays") refl)
 
   pub of_no_slot : {a : Tags} (y : ℕ) → P a (no_slot y) a

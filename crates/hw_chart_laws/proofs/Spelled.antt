@@ -4,8 +4,8 @@ use Rattle.std.specs.Int.{is_negative}
 use Rattle.std.specs.List.{list_all}
 use Rattle.std.proofs.lemmas.Bool.{and_parts, cond_both}
 use Rattle.hw_svg.specs.Names.{byte_text, escaped}
-use Rattle.hw_svg.specs.Numbers.{clock, height_text, metres, tenths, two_digits}
-use Rattle.hw_chart_laws.specs.Trees.{is_plain}
+use Rattle.hw_svg.specs.Numbers.{clock, height_text, metres, tonnes_label, digit_pair}
+use Rattle.hw_chart_laws.specs.Trees.{is_plain_byte}
 use Rattle.hw_chart_laws.proofs.Plain.{Plain, number}
 
 -- a text is that of some words
@@ -23,7 +23,7 @@ also {a = a} {b = b} p q = record { from = p.from ++ q.from; same = rw (p.same, 
 pub name : (text : List ℕ) → Spelled (escaped text)
 name text = record { from = text; same = refl }
 
-plain_byte : (b : ℕ) → is_plain b ≡ true → byte_text b ≡ b ∷ []
+plain_byte : (b : ℕ) → is_plain_byte b ≡ true → byte_text b ≡ b ∷ []
 unfolding byte_text
 plain_byte b p =
     let P : List ℕ → Type 0 = λ text. text ≡ b ∷ [] in
@@ -33,7 +33,7 @@ plain_byte b p =
     cond_both (nat_eq b 34) _ _ P (λ e. absurd (grind (arith, e, p))) (λ s.
     cond_both (nat_eq b 39) _ _ P (λ e. absurd (grind (arith, e, p))) (λ t. refl)))))
 
-pub plain_same : (text : List ℕ) → list_all is_plain text ≡ true → text ≡ escaped text
+pub plain_same : (text : List ℕ) → list_all is_plain_byte text ≡ true → text ≡ escaped text
 plain_same [] p = refl
 plain_same (b ∷ bs) p =
     let parts = and_parts _ _ p in
@@ -42,7 +42,7 @@ plain_same (b ∷ bs) p =
 pub plain : {text : List ℕ} → Plain text → Spelled text
 plain {text = text} p = record { from = text; same = plain_same text p.none }
 
-pub fixed : (text : List ℕ) → list_all is_plain text ≡ true → Spelled text
+pub fixed : (text : List ℕ) → list_all is_plain_byte text ≡ true → Spelled text
 fixed text p = record { from = text; same = plain_same text p }
 
 pub nothing : Spelled []
@@ -51,8 +51,8 @@ nothing = record { from = []; same = refl }
 pub of_number : (n : ℕ) → Spelled (decimal n)
 of_number n = plain (number n)
 
-pub of_tenths : (n : ℕ) → Spelled (tenths n)
-unfolding tenths
+pub of_tenths : (n : ℕ) → Spelled (tonnes_label n)
+unfolding tonnes_label
 of_tenths n = also (of_number _) (also (fixed (codes ".") refl) (also (of_number _) nothing))
 
 pub of_metres : (n : ℕ) → Spelled (metres n)
@@ -67,7 +67,7 @@ pub of_height : (z : ℤ) → Spelled (height_text z)
 unfolding height_text
 of_height z = also (either (is_negative z) (fixed (codes "-") refl) nothing) (also (of_metres (unsigned_abs z)) nothing)
 
-two : (n : ℕ) → Spelled (two_digits n)
+two : (n : ℕ) → Spelled (digit_pair n)
 two n = also (of_number _) (also (of_number _) nothing)
 
 pub of_clock : (n : ℕ) → Spelled (clock n)

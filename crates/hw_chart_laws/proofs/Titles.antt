@@ -3,18 +3,18 @@ use Rattle.std.proofs.Common.{ℕ, Option, Some, None, codes, refl}
 use Rattle.hw_lines.specs.declared.check.Verdict.{Verdict}
 use Rattle.hw_lines.specs.declared.check.Verdict.TheVariants.{Optimal, Infeasible, Unfinished}
 use Rattle.hw_svg.specs.Joined.{joined}
-use Rattle.hw_svg.specs.Numbers.{tenths}
+use Rattle.hw_svg.specs.Numbers.{tonnes_label}
 use Rattle.hw_chart.specs.declared.outcome.CargoUnit.{CargoUnit}
 use Rattle.hw_chart.specs.declared.outcome.CargoUnit.TheVariants.{Tonnes, Plain as PlainUnit}
 use Rattle.hw_chart.specs.declared.outcome.Outcome.{Outcome}
-use Rattle.hw_chart.specs.Outcomes.{amount_parts, cargo_text, disc_class, meaning_by, meaning_text, most_parts, sign_path, title_by, title_text, unit_text}
+use Rattle.hw_chart.specs.Outcomes.{amount_parts, cargo_in_unit, disc_class, meaning_by, meaning_text, most_parts, sign_path, title_by, title_text, unit_text}
 use Rattle.hw_chart_laws.proofs.Plain.{Plain, both, letters, nothing, number}
 
-plain_tenths : (n : ℕ) → Plain (tenths n)
-unfolding tenths
+plain_tenths : (n : ℕ) → Plain (tonnes_label n)
+unfolding tonnes_label
 plain_tenths n = both (number _) (both (letters (codes ".") refl) (both (number _) nothing))
 
-plain_cargo : (unit : CargoUnit) (cargo : ℕ) → Plain (cargo_text unit cargo)
+plain_cargo : (unit : CargoUnit) (cargo : ℕ) → Plain (cargo_in_unit unit cargo)
 plain_cargo Tonnes cargo = plain_tenths cargo
 plain_cargo PlainUnit cargo = number cargo
 

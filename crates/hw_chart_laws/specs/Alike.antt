@@ -5,7 +5,7 @@ use Rattle.hw_model.specs.Problem.{IsTimetable, Problem, horizon, value_at}
 use Rattle.hw_port.specs.Parts.{ShipParts}
 use Rattle.hw_port_rules.specs.Drafts.{sailing}
 use Rattle.hw_flat_chart.specs.Rows.{planned_row, planned_row_text, unplanned_row, unplanned_row_text}
-use Rattle.hw_flat_chart.specs.Values.{most, unit_of}
+use Rattle.hw_flat_chart.specs.Values.{most_carried, unit_of}
 use Rattle.hw_port_chart.specs.Charts.{ChartParts, IsChart}
 use Rattle.hw_port_chart.specs.Rows.{ranked_row}
 
@@ -28,9 +28,9 @@ SameClass top (Some a) (Some b) = (top - a) / unit_of top ≡ (top - b) / unit_o
 -- two ships carry the same at most, and in each slot their values are of one class; and they carry their most in the same slots
 pub record CarryAlike (f : Problem) (ship : ℕ) (g : Problem) (other : ℕ) : Type 0 where
   pub slots : horizon f ≡ horizon g
-  pub top : most f ship ≡ most g other
-  pub classes : (slot : ℕ) → slot < horizon f → SameClass (most f ship) (value_at f ship slot) (value_at g other slot)
-  pub mosts : (slot : ℕ) → slot < horizon f → (value_at f ship slot ≡ Some (most f ship)) ↔ (value_at g other slot ≡ Some (most f ship))
+  pub top : most_carried f ship ≡ most_carried g other
+  pub classes : (slot : ℕ) → slot < horizon f → SameClass (most_carried f ship) (value_at f ship slot) (value_at g other slot)
+  pub mosts : (slot : ℕ) → slot < horizon f → (value_at f ship slot ≡ Some (most_carried f ship)) ↔ (value_at g other slot ≡ Some (most_carried f ship))
 
 -- rows of a flat problem's ships that are written alike show ships that carry alike
 abbrev pub FlatRowsReadBack : Type 0

@@ -3,8 +3,8 @@ use Rattle.std.specs.Prelude.{◌≡◌, ◌≢◌, ◌⊎◌, ◌<◌, ◌≤�
 use Rattle.hw_model.specs.Problem.{Problem}
 use Rattle.hw_port.specs.Whole.{Parts}
 use Rattle.hw_flat_chart.specs.Fleets.{fleets}
-use Rattle.hw_flat_chart.specs.Pictures.{bottom, panels_y}
-use Rattle.hw_flat_chart.specs.Rows.{planned_row, row_y as flat_row_y, unplanned_row}
+use Rattle.hw_flat_chart.specs.Pictures.{flat_picture_bottom, panels_y}
+use Rattle.hw_flat_chart.specs.Rows.{planned_row, row_top as flat_row_y, unplanned_row}
 use Rattle.hw_port_chart.specs.Charts.{ChartParts}
 use Rattle.hw_port_chart.specs.Heads.{places}
 use Rattle.hw_port_chart.specs.Lanes.{lane_y}
@@ -24,8 +24,8 @@ pub record Band : Type 0 where
   pub bottom : ℕ
 
 -- this many lines from one on
-abbrev pub lines_from : ℕ → ℕ → Band
-lines_from y count = record { top = y; bottom = y + count }
+abbrev pub band_of_lines : ℕ → ℕ → Band
+band_of_lines y count = record { top = y; bottom = y + count }
 
 -- as far as the stripe of a row reaches: from the line above it
 abbrev pub stripe_band : ℕ → Band
@@ -50,10 +50,10 @@ IsPortPart p (panel fleet) = fleet ≡ 0
 
 -- a part is as tall as its window; a row has its stripe
 abbrev pub port_band : ChartParts → Part → Band
-port_band chart (tide place) = lines_from (place_y place) 40
+port_band chart (tide place) = band_of_lines (place_y place) 40
 port_band chart (row ship) = stripe_band (row_y chart (rank_in chart.table ship))
-port_band chart (lane section) = lines_from (lane_y chart section) 18
-port_band chart (panel fleet) = lines_from (places chart.port).tugs 56
+port_band chart (lane section) = band_of_lines (lane_y chart section) 18
+port_band chart (panel fleet) = band_of_lines (places chart.port).tugs 56
 
 -- the tides, the rows of the ships, the lanes and the tugs share no line, whatever the timetable is
 abbrev pub PortPartsLieApart : Type 0
@@ -73,11 +73,11 @@ ship_y f None ship = flat_row_y (unplanned_row f ship)
 ship_y f (Some table) ship = flat_row_y (planned_row f table ship)
 
 abbrev pub flat_band : Problem → Option (List ℕ) → Part → Band
-flat_band f table (tide place) = lines_from 0 0
+flat_band f table (tide place) = band_of_lines 0 0
 flat_band f table (row ship) = stripe_band (ship_y f table ship)
-flat_band f table (lane section) = lines_from 0 0
-flat_band f table (panel fleet) = lines_from (panels_y f + 66 * fleet) 56
+flat_band f table (lane section) = band_of_lines 0 0
+flat_band f table (panel fleet) = band_of_lines (panels_y f + 66 * fleet) 56
 
 -- the rows of the ships and the panels of tugs share no line, whatever the timetable is
 abbrev pub FlatPartsLieApart : Type 0
-FlatPartsLieApart = (f : Problem) (table : Option (List ℕ)) → IfSome table (λ slots. length slots ≡ f.ships) → AreArranged (IsFlatPart f) (flat_band f table) (bottom f)
+FlatPartsLieApart = (f : Problem) (table : Option (List ℕ)) → IfSome table (λ slots. length slots ≡ f.ships) → AreArranged (IsFlatPart f) (flat_band f table) (flat_picture_bottom f)

@@ -42,13 +42,13 @@ blocks_from chart place v (s ∷ more) = course_blocks chart place s (course cha
 abbrev pub blocks_in : ChartParts → ℕ → List Block
 blocks_in chart place = blocks_from chart place 0 chart.port.ships
 
-abbrev pub blocks_text : List ℕ → List Block → List ℕ
-blocks_text section [] = []
-blocks_text section (block ∷ more) = stay_mark block.ship section block.stay ++ blocks_text section more
+abbrev pub stay_marks_text : List ℕ → List Block → List ℕ
+stay_marks_text section [] = []
+stay_marks_text section (block ∷ more) = stay_mark block.ship section block.stay ++ stay_marks_text section more
 
 -- what is drawn over the ground of a section's window are its blocks
 abbrev pub LanesAreBlocks : Type 0
-LanesAreBlocks = (chart : ChartParts) (place : ℕ) (section : List ℕ) → stays_from chart place section 0 chart.port.ships ≡ blocks_text section (blocks_in chart place)
+LanesAreBlocks = (chart : ChartParts) (place : ℕ) (section : List ℕ) → stays_from chart place section 0 chart.port.ships ≡ stay_marks_text section (blocks_in chart place)
 
 -- ships that go out have the upper half of the window, ships that come in the lower one
 abbrev pub lane_of : Bool → ℕ

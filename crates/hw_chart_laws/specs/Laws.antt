@@ -40,8 +40,8 @@ abbrev pub bar_level : ChartParts → ℕ → ShipParts → ℕ → ℕ
 bar_level chart v s slot = draft_level chart v (full_of s) (foot_of s) slot
 
 -- the same among its full drafts
-abbrev pub full_level : ChartParts → ℕ → ShipParts → ℕ → ℕ
-full_level chart v s slot = fullness_level chart v (full_of s) (foot_of s) slot
+abbrev pub level_of_full_draft : ChartParts → ℕ → ShipParts → ℕ → ℕ
+level_of_full_draft chart v s slot = fullness_level chart v (full_of s) (foot_of s) slot
 
 -- a bar stands above the foot of a ship's window exactly in the slots in which the port lets the ship sail
 abbrev pub BarsAreSlots : Type 0
@@ -49,4 +49,4 @@ BarsAreSlots = (chart : ChartParts) (v slot : ℕ) (s : ShipParts) → PortKept 
 
 -- a full bar reaches the top exactly in the slots in which the ship sails with its full draft
 abbrev pub FullBarsAreFullDrafts : Type 0
-FullBarsAreFullDrafts = (chart : ChartParts) (v slot : ℕ) (s : ShipParts) → (full_level chart v s slot ≡ 0) ↔ (sailing chart.port chart.tide v slot ≡ Some (full_of s))
+FullBarsAreFullDrafts = (chart : ChartParts) (v slot : ℕ) (s : ShipParts) → (level_of_full_draft chart v s slot ≡ 0) ↔ (sailing chart.port chart.tide v slot ≡ Some (full_of s))

@@ -4,15 +4,15 @@ use Rattle.hw_chart.specs.declared.hatch.TheConstants.{HATCH}
 use Rattle.hw_chart.specs.declared.style.TheConstants.{STYLE}
 
 -- the first bytes are these
-abbrev pub begins : List ℕ → List ℕ → Bool
-begins [] bytes = true
-begins (c ∷ part) [] = false
-begins (c ∷ part) (b ∷ bytes) = c == b && begins part bytes
+abbrev pub begins_with : List ℕ → List ℕ → Bool
+begins_with [] bytes = true
+begins_with (c ∷ part) [] = false
+begins_with (c ∷ part) (b ∷ bytes) = c == b && begins_with part bytes
 
 -- these bytes stand somewhere in the others
 abbrev pub stands_in : List ℕ → List ℕ → Bool
 stands_in part [] = false
-stands_in part (b ∷ bytes) = begins part (b ∷ bytes) || stands_in part bytes
+stands_in part (b ∷ bytes) = begins_with part (b ∷ bytes) || stands_in part bytes
 
 -- no other sheet is imported, and nothing is named by its address
 pub record FetchesNothing : Type 0 where
@@ -22,7 +22,7 @@ pub record FetchesNothing : Type 0 where
 -- something is named by an address that doesn't begin with #, so that it isn't a part of the same picture
 abbrev pub names_outside : List ℕ → Bool
 names_outside [] = false
-names_outside (b ∷ bytes) = (begins (codes "url(") (b ∷ bytes) && not (begins (codes "url(#") (b ∷ bytes))) || names_outside bytes
+names_outside (b ∷ bytes) = (begins_with (codes "url(") (b ∷ bytes) && not (begins_with (codes "url(#") (b ∷ bytes))) || names_outside bytes
 
 -- the same of the sheet of the hatch, which names a pattern beside it
 pub record HatchFetchesNothing : Type 0 where

@@ -6,8 +6,8 @@ use Rattle.hw_svg.specs.Marks.{is_word}
 use Rattle.hw_svg.specs.Trees.{Attribute, Node, Nodes, words, element, no_more, node, attributes_text, nodes_text}
 
 -- none of the marks < > " ' &
-abbrev pub is_plain : ℕ → Bool
-is_plain b = is_word b && not (nat_eq b 38)
+abbrev pub is_plain_byte : ℕ → Bool
+is_plain_byte b = is_word b && not (nat_eq b 38)
 
 -- a letter
 abbrev pub is_letter : ℕ → Bool
@@ -18,13 +18,13 @@ abbrev pub is_name_byte : ℕ → Bool
 is_name_byte b = is_letter b || nat_eq b 45 || nat_eq b 58
 
 -- a name of an element or an attribute begins with a letter
-abbrev pub is_name : List ℕ → Bool
-is_name [] = false
-is_name (b ∷ bs) = is_letter b && list_all is_name_byte bs
+abbrev pub is_element_name : List ℕ → Bool
+is_element_name [] = false
+is_element_name (b ∷ bs) = is_letter b && list_all is_name_byte bs
 
 -- an attribute has a name, and no mark stands in its value
 abbrev pub is_attribute : Attribute → Bool
-is_attribute a = is_name a.name && list_all is_plain a.value
+is_attribute a = is_element_name a.name && list_all is_plain_byte a.value
 
 -- an attribute has another name than this
 abbrev pub is_other : List ℕ → Attribute → Bool
@@ -39,7 +39,7 @@ abbrev mutual
   -- an element has a name and attributes, and what stands in it is as it must be too
   pub is_tree : Node → Bool
   is_tree (words text) = true
-  is_tree (element tag attributes inside) = is_name tag && (are_attributes attributes && are_trees inside)
+  is_tree (element tag attributes inside) = is_element_name tag && (are_attributes attributes && are_trees inside)
 
   pub are_trees : Nodes → Bool
   are_trees no_more = true

@@ -1,5 +1,5 @@
 -- What a checker keeps says all that later lines need of those before them.
-use Rattle.std.proofs.Common.{◌≡◌, ℕ, ◌<◌, Bool, true, false, cond, List, [], ◌∷◌, ◌++◌, Option, Some, None, length, Result, Ok, Err, IfOk, IfErr, IfSome, All, sym, ap, ◌∙◌, subst, append_assoc, append-nil}
+use Rattle.std.proofs.Common.{◌≡◌, ℕ, ◌<◌, Bool, true, false, cond, List, [], ◌∷◌, ◌++◌, Option, Some, None, length, Result, Ok, Err, IfOk, IfErr, IfSome, All, sym, ap, ◌∙◌, subst}
 use Rattle.std.proofs.lemmas.Bool.{ltb-true}
 use Rattle.std.proofs.lemmas.List.{length-map}
 use Rattle.std.proofs.lemmas.List.Elements.{All-nil, All-cons, All-append}
@@ -15,13 +15,14 @@ use Rattle.hw_lines.specs.declared.line.Line.{Line}
 use Rattle.hw_lines.specs.declared.line.Line.TheVariants as lines
 use Rattle.hw_lines.specs.Lines.{clause_of, live_numbers}
 use Rattle.hw_lines.specs.Tolled.{bound_of}
-use Rattle.hw_lines.specs.Valid.{LineFits, ValidAfter, ValidFrom, Valid, verdict, verdict_by}
+use Rattle.hw_lines.specs.Valid.{LineFits, ValidAfter, Valid, verdict, verdict_by}
 use Rattle.hw_lines.specs.Kept.{NumberedClause, Kept, kept_of, kept_after}
 use Rattle.hw_lines.specs.declared.check.CheckWord.TheVariants as words
 use Rattle.hw_lines.specs.Refusals.{refused, is_past, claim_refusal, refusal, kept_refusal}
 use Rattle.hw_lines.proofs.Deleted.{valid_deletes}
 use Rattle.hw_lines.proofs.Keeping as keeping
 use Rattle.hw_lines.proofs.Priced.{are_tolls}
+use Rattle.hw_lines.proofs.Live.{valid_push}
 use Rattle.hw_verdict.specs.Laws.{IsBound}
 use Rattle.hw_verdict.proofs.Bounded.{bounds}
 use Rattle.hw_verdict.proofs.Priced.{toll_from}
@@ -29,11 +30,7 @@ use Rattle.hw_verdict.proofs.Refused.{can_judge, valid_from}
 use Rattle.hw_check.specs.States.{CheckState, ClauseStore, kept_in}
 use Rattle.hw_check.specs.declared.stop.CheckStop.{CheckStop}
 use Rattle.hw_check.specs.declared.stop.CheckStop.TheVariants as stops
-use Rattle.hw_check.specs.Follows.{Follows, Answers, Stops}
-
-pub valid_push : (f : Problem) (more before : List Line) (line : Line) → ValidFrom f before more → ValidAfter f (before ++ more) line → ValidFrom f before (more ++ line ∷ [])
-valid_push f [] before line valid after = (subst (λ all. ValidAfter f all line) (append-nil before) after, tt)
-valid_push f (first ∷ more) before line valid after = (valid.0, valid_push f more (before ++ first ∷ []) line valid.1 (subst (λ all. ValidAfter f all line) (sym (append_assoc before (first ∷ []) more)) after))
+use Rattle.hw_check.specs.Follows.{CheckerFollows, CheckerAnswers, Stops}
 
 -- a line that has a number and follows no end is refused by its own claim alone
 pub claimed : (f : Problem) (kept : Kept) (line : Line) → kept.closed ≡ false → is_past kept.next (clause_of line) ≡ false → kept_refusal f kept line ≡ claim_refusal f kept line
@@ -60,13 +57,13 @@ narrows_declared f kept blocks e =
     let parts = toll_from _ _ (claim_none f kept (lines.Narrows blocks) e) in
     (ltb-true _ _ parts.0, judged f (tolls.Narrows blocks) parts.1)
 
-pub followed_refusal : (c : CheckState) (before : List Line) (line : Line) → Follows c before → refusal c.problem before line ≡ kept_refusal c.problem c.kept line
+pub followed_refusal : (c : CheckState) (before : List Line) (line : Line) → CheckerFollows c before → refusal c.problem before line ≡ kept_refusal c.problem c.kept line
 followed_refusal c before line follows = ap (λ kept. kept_refusal c.problem kept line) (sym follows.kept)
 
-valid_line : (c : CheckState) (before : List Line) (line : Line) → IsFlat c.problem → Follows c before → LineFits c.problem line → kept_refusal c.problem c.kept line ≡ None → ValidAfter c.problem before line
+valid_line : (c : CheckState) (before : List Line) (line : Line) → IsFlat c.problem → CheckerFollows c before → LineFits c.problem line → kept_refusal c.problem c.kept line ≡ None → ValidAfter c.problem before line
 valid_line c before line flat follows fits none = valid_from c.problem before line fits (can_judge c.problem before line flat (are_tolls c.problem before follows.valid).each) (followed_refusal c before line follows ∙ none)
 
-followed_line : (c next : CheckState) (before : List Line) (line : Line) → IsFlat c.problem → Follows c before → LineFits c.problem line → kept_refusal c.problem c.kept line ≡ None → next.problem ≡ c.problem → next.kept ≡ kept_after c.problem c.kept line → Follows next (before ++ line ∷ [])
+followed_line : (c next : CheckState) (before : List Line) (line : Line) → IsFlat c.problem → CheckerFollows c before → LineFits c.problem line → kept_refusal c.problem c.kept line ≡ None → next.problem ≡ c.problem → next.kept ≡ kept_after c.problem c.kept line → CheckerFollows next (before ++ line ∷ [])
 followed_line c next before line flat follows fits none same after =
     let valid : Valid c.problem (before ++ line ∷ []) = valid_push c.problem before [] line follows.valid (valid_line c before line flat follows fits none) in
     let fit : All (LineFits c.problem) (before ++ line ∷ []) = All-append (LineFits c.problem) before (line ∷ []) follows.fit (All-cons (LineFits c.problem) line [] fits (All-nil (LineFits c.problem))) in
@@ -77,22 +74,22 @@ followed_line c next before line flat follows fits none same after =
       kept = subst (λ f. next.kept ≡ kept_of f (before ++ line ∷ [])) (sym same) kept;
     }
 
-pub followed_verdict : (c : CheckState) (all : List Line) → Follows c all → verdict c.problem all ≡ verdict_by c.kept.closed c.kept.best
+pub followed_verdict : (c : CheckState) (all : List Line) → CheckerFollows c all → verdict c.problem all ≡ verdict_by c.kept.closed c.kept.best
 followed_verdict c all follows = keeping.kept_verdict c.problem all follows.valid ∙ ap (λ (kept : Kept). verdict_by kept.closed kept.best) (sym follows.kept)
 
-pub followed_bound : (c : CheckState) (all : List Line) → Follows c all → c.kept.bound ≡ bound_of all
+pub followed_bound : (c : CheckState) (all : List Line) → CheckerFollows c all → c.kept.bound ≡ bound_of all
 followed_bound c all follows = ap (λ (kept : Kept). kept.bound) follows.kept
 
 -- the bound that is kept is one of the problem
-pub kept_bound : (c : CheckState) (all : List Line) → IsFlat c.problem → Follows c all → IfSome c.kept.bound (IsBound c.problem)
+pub kept_bound : (c : CheckState) (all : List Line) → IsFlat c.problem → CheckerFollows c all → IfSome c.kept.bound (IsBound c.problem)
 kept_bound c all flat follows = subst (λ o. IfSome o (IsBound c.problem)) (sym (followed_bound c all follows)) (bounds c.problem all flat follows.valid)
 
-pub followed_held : (c : CheckState) (all : List Line) → Follows c all → length c.kept.live ≡ length (live_numbers all)
+pub followed_held : (c : CheckState) (all : List Line) → CheckerFollows c all → length c.kept.live ≡ length (live_numbers all)
 followed_held c all follows = ap (λ (kept : Kept). length kept.live) follows.kept ∙ sym (length-map (kept_of c.problem all).live (λ (one : NumberedClause). one.id)) ∙ ap length (keeping.kept_numbers c.problem all)
 
 -- ---- what callers conclude
 
-pub answers : (c : CheckState) (before : List Line) (line : Line) (result : Result CheckState CheckStop) → IsFlat c.problem → LineFits c.problem line → IfOk result (λ next. (next.problem ≡ c.problem) × (next.kept ≡ kept_after c.problem c.kept line) × (kept_refusal c.problem c.kept line ≡ None)) → IfErr result (λ stop. Stops stop (kept_refusal c.problem c.kept line)) → Follows c before → Answers c.problem before line result
+pub answers : (c : CheckState) (before : List Line) (line : Line) (result : Result CheckState CheckStop) → IsFlat c.problem → LineFits c.problem line → IfOk result (λ next. (next.problem ≡ c.problem) × (next.kept ≡ kept_after c.problem c.kept line) × (kept_refusal c.problem c.kept line ≡ None)) → IfErr result (λ stop. Stops stop (kept_refusal c.problem c.kept line)) → CheckerFollows c before → CheckerAnswers c.problem before line result
 answers c before line (Ok next) flat fits taken refused follows = (
   taken.0,
   valid_line c before line flat follows fits taken.2,

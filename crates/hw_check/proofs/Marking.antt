@@ -1,23 +1,23 @@
 -- How certificates are renewed from the last line back.
-use Rattle.std.proofs.Common.{◌≡◌, ℕ, ◌+◌, ◌<◌, ◌≤◌, Bool, true, false, ◌&&◌, not, List, [], ◌∷◌, ◌++◌, reverse, Option, Some, None, is_some, length, get_or, take, drop, filter, max, fold, All, refl, sym, ap, ◌∙◌, subst, arith, append_assoc, length-append}
+use Rattle.std.proofs.Common.{◌≡◌, ℕ, ◌+◌, ◌<◌, ◌≤◌, Bool, true, false, ◌&&◌, not, List, [], ◌∷◌, ◌++◌, reverse, Option, Some, None, is_some, length, get_or, take, drop, filter, max, fold, All, refl, sym, ap, ◌∙◌, subst, arith, append_assoc}
 use Rattle.std.proofs.lemmas.Bool.{and_parts}
-use Rattle.std.proofs.lemmas.List.{take_more, take_all, take-append-drop, take-append-le, reverse-append}
-use Rattle.std.proofs.lemmas.List.Elements.{All-head, All-tail, All-weaker, filter_map-append}
-use Rattle.std.proofs.lemmas.List.Kept.{IsStrictlyIncreasing-filter}
+use Rattle.std.proofs.lemmas.List.{take_more, take_all, take-append-le, reverse-append}
+use Rattle.std.proofs.lemmas.List.Elements.{All-head, All-tail, All-weaker}
 use Rattle.std.specs.List.{cons_option, range_with_len}
 use Rattle.std.specs.List.Sorted.{IsStrictlyIncreasing}
 use Rattle.hw_model.specs.declared.lit.Lit.{Lit}
 use Rattle.hw_lines.specs.declared.line.Line.{Line}
-use Rattle.hw_lines.specs.Lines.{clause_of, clauses_of, clause_count}
+use Rattle.hw_lines.specs.Lines.{clause_of, clause_count}
 use Rattle.hw_verdict.specs.Renewing.{hints_of, has_hint, is_hint_of, last_named, deletions, undeleting, next_number, renewed_from, IsNumbered}
-use Rattle.hw_verdict.proofs.Fitting.{range_ascends}
+use Rattle.hw_verdict.proofs.Fitting.{last_ascends}
 use Rattle.hw_verdict.proofs.Naming.{from_among}
-use Rattle.hw_check.specs.Marks.{Marks, among}
+use Rattle.hw_verdict.proofs.Numbered.{count_append}
+use Rattle.hw_check.specs.Marks.{Marks, is_among_numbers}
 use Rattle.hw_check.proofs.Ascending.{among_filter, among_range, at_most_greatest, same_ascending}
 
 -- ---- the hints of which a line is the last
 
-last_among : (line : Line) (later : List Line) (id : ℕ) → among id (last_named line later) ≡ (has_hint id line && not (is_hint_of later id))
+last_among : (line : Line) (later : List Line) (id : ℕ) → is_among_numbers id (last_named line later) ≡ (has_hint id line && not (is_hint_of later id))
 last_among line later id = among_filter (λ id. has_hint id line && not (is_hint_of later id)) (range_with_len 0 (fold max 0 (hints_of line) + 1)) id ∙ within (has_hint id line && not (is_hint_of later id)) _ (λ e.
     let most = at_most_greatest 0 (hints_of line) id (and_parts _ _ e).0 in
     among_range 0 _ id (omega arith) (omega (arith, most)))
@@ -26,12 +26,9 @@ last_among line later id = among_filter (λ id. has_hint id line && not (is_hint
     within true in_range e = e refl
     within false in_range e = refl
 
-last_ascends : (line : Line) (later : List Line) → IsStrictlyIncreasing (last_named line later)
-last_ascends line later = IsStrictlyIncreasing-filter (λ id. has_hint id line && not (is_hint_of later id)) _ (range_ascends 0 (fold max 0 (hints_of line) + 1))
-
 -- what is kept of the hints is what no later line names, where the marks say that
-pub last_unmarked : (line : Line) (later : List Line) (marked : List Bool) (kept ids : List ℕ) → All (λ id. id < length marked) (hints_of line) → Marks marked later → kept ≡ filter (λ id. not (get_or marked id false)) (hints_of line) → IsStrictlyIncreasing ids → ((id : ℕ) → among id ids ≡ among id kept) → ids ≡ last_named line later
-last_unmarked line later marked kept ids within marks is ascends same = same_ascending ids (last_named line later) ascends (last_ascends line later) (λ id. same id ∙ ap (among id) is ∙ among_filter (λ id. not (get_or marked id false)) (hints_of line) id ∙ by id (has_hint id line) refl ∙ sym (last_among line later id))
+pub last_unmarked : (line : Line) (later : List Line) (marked : List Bool) (kept ids : List ℕ) → All (λ id. id < length marked) (hints_of line) → Marks marked later → kept ≡ filter (λ id. not (get_or marked id false)) (hints_of line) → IsStrictlyIncreasing ids → ((id : ℕ) → is_among_numbers id ids ≡ is_among_numbers id kept) → ids ≡ last_named line later
+last_unmarked line later marked kept ids within marks is ascends same = same_ascending ids (last_named line later) ascends (last_ascends line later) (λ id. same id ∙ ap (is_among_numbers id) is ∙ among_filter (λ id. not (get_or marked id false)) (hints_of line) id ∙ by id (has_hint id line) refl ∙ sym (last_among line later id))
   where
     by : (id : ℕ) (here : Bool) → has_hint id line ≡ here → (not (get_or marked id false) && here) ≡ (here && not (is_hint_of later id))
     by id true e = with_true _ ∙ ap not (marks id (from_among (λ id. id < length marked) (hints_of line) id e within))
@@ -47,9 +44,6 @@ last_unmarked line later marked kept ids within marks is ascends same = same_asc
 
 -- ---- clause lines
 
-count_append : (before more : List Line) → clause_count (before ++ more) ≡ clause_count before + clause_count more
-count_append before more = ap length (filter_map-append clause_of before more) ∙ length-append (clauses_of before) (clauses_of more)
-
 -- how many numbers a line with such a clause takes
 abbrev pub numbers_of : Option (List Lit) → ℕ
 numbers_of o = length (cons_option o [])
@@ -64,11 +58,6 @@ numbered_one (Some clause) e = refl
 pub numbered_none : (o : Option (List Lit)) → is_some o ≡ false → numbers_of o ≡ 0
 numbered_none None e = refl
 numbered_none (Some clause) e = absurd cc
-
-pub count_at_most : (all : List Line) (i : ℕ) → clause_count (take i all) ≤ clause_count all
-count_at_most all i =
-    let parts : clause_count all ≡ clause_count (take i all) + clause_count (drop i all) = sym (ap clause_count (take-append-drop i all)) ∙ count_append (take i all) (drop i all) in
-    omega (arith, parts)
 
 -- ---- from the last line back
 

@@ -10,7 +10,7 @@ use Rattle.hw_model.specs.declared.lit.Lit.{Lit}
 use Rattle.hw_lines.specs.Kept.{NumberedClause, clause_under, without}
 use Rattle.hw_check.specs.declared.place.Place.{Place}
 use Rattle.hw_check.specs.States.{literals}
-use Rattle.hw_check.specs.Places.{lits_at, clause_at, clauses_at, new_place, PlaceFits, Ascends, NoneHas, StandsAt}
+use Rattle.hw_check.specs.Places.{lits_at, clause_at_place, clauses_at, new_place, PlaceFits, PlacesAscend, NoneHas, StandsAt}
 
 -- the clause at a place, dead or live
 abbrev pub whole_at : List Lit → Place → NumberedClause
@@ -28,14 +28,14 @@ skipped : (b : Bool) (one : NumberedClause) (rest : List NumberedClause) (id : �
 skipped true one rest id e = passes one rest id e
 skipped false one rest id e = refl
 
-pub ascends_tail : (p : Place) (ps : List Place) → Ascends (p ∷ ps) → Ascends ps
+pub ascends_tail : (p : Place) (ps : List Place) → PlacesAscend (p ∷ ps) → PlacesAscend ps
 ascends_tail p ps up = λ i j d lt within. up (suc i) (suc j) d (omega (arith, lt)) (omega (arith, within))
 
 -- the numbers after the first one are greater
-none_behind : (p : Place) (ps : List Place) (id : ℕ) → Ascends (p ∷ ps) → p.id ≡ id → NoneHas ps id
+none_behind : (p : Place) (ps : List Place) (id : ℕ) → PlacesAscend (p ∷ ps) → p.id ≡ id → NoneHas ps id
 none_behind p ps id up e = λ k d lt same. omega (arith, e, same, up 0 (suc k) d (omega arith) (omega (arith, lt)))
 
-first_less : (p : Place) (ps : List Place) (i : ℕ) (d : Place) → Ascends (p ∷ ps) → i < length ps → p.id < (get_or ps i d).id
+first_less : (p : Place) (ps : List Place) (i : ℕ) (d : Place) → PlacesAscend (p ∷ ps) → i < length ps → p.id < (get_or ps i d).id
 first_less p ps i d up lt = up 0 (suc i) d (omega arith) (omega (arith, lt))
 
 pub none_under : (lits : List Lit) (places : List Place) (id : ℕ) → NoneHas places id → clause_under (clauses_at lits places) id ≡ None
@@ -44,7 +44,7 @@ none_under lits (p ∷ ps) id none =
     skipped p.is_live (whole_at lits p) (clauses_at lits ps) id (ne_eqb p.id id (All-head (λ place. place.id ≢ id) p ps none))
     ∙ none_under lits ps id (All-tail (λ place. place.id ≢ id) p ps none)
 
-pub found_at : (lits : List Lit) (places : List Place) (id i : ℕ) (d : Place) → Ascends places → i < length places → (get_or places i d).id ≡ id → clause_under (clauses_at lits places) id ≡ option_map (λ one. one.clause) (clause_at lits (get_or places i d))
+pub found_at : (lits : List Lit) (places : List Place) (id i : ℕ) (d : Place) → PlacesAscend places → i < length places → (get_or places i d).id ≡ id → clause_under (clauses_at lits places) id ≡ option_map (λ one. one.clause) (clause_at_place lits (get_or places i d))
 found_at lits [] id i d up lt e = absurd (omega (arith, lt))
 found_at lits (p ∷ ps) id zero d up lt e = here p.is_live
   where
@@ -59,16 +59,16 @@ found_at lits (p ∷ ps) id (suc i) d up lt e =
 abbrev pub IsRead : List Place → ℕ → Place → Type 0
 IsRead places i p = p ≡ get_or places i p
 
-pub live_under : (lits : List Lit) (places : List Place) (id i : ℕ) (p : Place) → Ascends places → StandsAt places id i → IsRead places i p → p.is_live ≡ true → clause_under (clauses_at lits places) id ≡ Some (lits_at lits p)
+pub live_under : (lits : List Lit) (places : List Place) (id i : ℕ) (p : Place) → PlacesAscend places → StandsAt places id i → IsRead places i p → p.is_live ≡ true → clause_under (clauses_at lits places) id ≡ Some (lits_at lits p)
 live_under lits places id i p up stands read live =
     found_at lits places id i p up stands.in_list (stands.has_number p)
-    ∙ ap (λ q. option_map (λ (one : NumberedClause). one.clause) (clause_at lits q)) (sym read)
+    ∙ ap (λ q. option_map (λ (one : NumberedClause). one.clause) (clause_at_place lits q)) (sym read)
     ∙ ap (λ b. option_map (λ (one : NumberedClause). one.clause) (cond b (Some (whole_at lits p)) None)) live
 
-pub dead_under : (lits : List Lit) (places : List Place) (id i : ℕ) (p : Place) → Ascends places → StandsAt places id i → IsRead places i p → p.is_live ≡ false → clause_under (clauses_at lits places) id ≡ None
+pub dead_under : (lits : List Lit) (places : List Place) (id i : ℕ) (p : Place) → PlacesAscend places → StandsAt places id i → IsRead places i p → p.is_live ≡ false → clause_under (clauses_at lits places) id ≡ None
 dead_under lits places id i p up stands read is_dead =
     found_at lits places id i p up stands.in_list (stands.has_number p)
-    ∙ ap (λ q. option_map (λ (one : NumberedClause). one.clause) (clause_at lits q)) (sym read)
+    ∙ ap (λ q. option_map (λ (one : NumberedClause). one.clause) (clause_at_place lits q)) (sym read)
     ∙ ap (λ b. option_map (λ (one : NumberedClause). one.clause) (cond b (Some (whole_at lits p)) None)) is_dead
 
 -- ---- one less
@@ -91,27 +91,27 @@ pub none_gone : (lits : List Lit) (places : List Place) (id : ℕ) → NoneHas p
 none_gone lits [] id none = refl
 none_gone lits (p ∷ ps) id none =
     keeps_any p.is_live (whole_at lits p) (clauses_at lits ps) id (ne_eqb id p.id (λ e. All-head (λ place. place.id ≢ id) p ps none (sym e)))
-    ∙ ap (cons_option (clause_at lits p)) (none_gone lits ps id (All-tail (λ place. place.id ≢ id) p ps none))
+    ∙ ap (cons_option (clause_at_place lits p)) (none_gone lits ps id (All-tail (λ place. place.id ≢ id) p ps none))
 
-dead_none : (lits : List Lit) (p : Place) (rest : List NumberedClause) → p.is_live ≡ false → cons_option (clause_at lits p) rest ≡ rest
+dead_none : (lits : List Lit) (p : Place) (rest : List NumberedClause) → p.is_live ≡ false → cons_option (clause_at_place lits p) rest ≡ rest
 dead_none lits p rest e = ap (λ b. cons_option (cond b (Some (whole_at lits p)) None) rest) e
 
-live_some : (lits : List Lit) (p : Place) (rest : List NumberedClause) → p.is_live ≡ true → cons_option (clause_at lits p) rest ≡ whole_at lits p ∷ rest
+live_some : (lits : List Lit) (p : Place) (rest : List NumberedClause) → p.is_live ≡ true → cons_option (clause_at_place lits p) rest ≡ whole_at lits p ∷ rest
 live_some lits p rest e = ap (λ b. cons_option (cond b (Some (whole_at lits p)) None) rest) e
 
 -- a dead place in the place of one
-pub removed_at : (lits : List Lit) (places : List Place) (id i : ℕ) (d dead : Place) → Ascends places → i < length places → (get_or places i d).id ≡ id → dead.is_live ≡ false → clauses_at lits (set places i dead) ≡ without (id ∷ []) (clauses_at lits places)
+pub removed_at : (lits : List Lit) (places : List Place) (id i : ℕ) (d dead : Place) → PlacesAscend places → i < length places → (get_or places i d).id ≡ id → dead.is_live ≡ false → clauses_at lits (set places i dead) ≡ without (id ∷ []) (clauses_at lits places)
 removed_at lits [] id i d dead up lt e is_dead = absurd (omega (arith, lt))
 removed_at lits (p ∷ ps) id zero d dead up lt e is_dead =
     dead_none lits dead (clauses_at lits ps) is_dead
     ∙ sym (none_gone lits ps id (none_behind p ps id up e))
     ∙ sym (drops_any p.is_live (whole_at lits p) (clauses_at lits ps) id (eq-eqb id p.id (sym e)))
 removed_at lits (p ∷ ps) id (suc i) d dead up lt e is_dead =
-    ap (cons_option (clause_at lits p)) (removed_at lits ps id i d dead (ascends_tail p ps up) (omega (arith, lt)) e is_dead)
+    ap (cons_option (clause_at_place lits p)) (removed_at lits ps id i d dead (ascends_tail p ps up) (omega (arith, lt)) e is_dead)
     ∙ sym (keeps_any p.is_live (whole_at lits p) (clauses_at lits ps) id (ne_eqb id p.id (λ same. omega (arith, same, e, first_less p ps i d up (omega (arith, lt))))))
 
 -- where it is dead already, nothing goes
-pub dead_already : (lits : List Lit) (places : List Place) (id i : ℕ) (d : Place) → Ascends places → i < length places → (get_or places i d).id ≡ id → (get_or places i d).is_live ≡ false → without (id ∷ []) (clauses_at lits places) ≡ clauses_at lits places
+pub dead_already : (lits : List Lit) (places : List Place) (id i : ℕ) (d : Place) → PlacesAscend places → i < length places → (get_or places i d).id ≡ id → (get_or places i d).is_live ≡ false → without (id ∷ []) (clauses_at lits places) ≡ clauses_at lits places
 dead_already lits [] id i d up lt e is_dead = absurd (omega (arith, lt))
 dead_already lits (p ∷ ps) id zero d up lt e is_dead =
     drops_any p.is_live (whole_at lits p) (clauses_at lits ps) id (eq-eqb id p.id (sym e))
@@ -119,9 +119,9 @@ dead_already lits (p ∷ ps) id zero d up lt e is_dead =
     ∙ sym (dead_none lits p (clauses_at lits ps) is_dead)
 dead_already lits (p ∷ ps) id (suc i) d up lt e is_dead =
     keeps_any p.is_live (whole_at lits p) (clauses_at lits ps) id (ne_eqb id p.id (λ same. omega (arith, same, e, first_less p ps i d up (omega (arith, lt)))))
-    ∙ ap (cons_option (clause_at lits p)) (dead_already lits ps id i d (ascends_tail p ps up) (omega (arith, lt)) e is_dead)
+    ∙ ap (cons_option (clause_at_place lits p)) (dead_already lits ps id i d (ascends_tail p ps up) (omega (arith, lt)) e is_dead)
 
-pub dead_now : (lits : List Lit) (places : List Place) (id i : ℕ) (p : Place) → Ascends places → StandsAt places id i → IsRead places i p → p.is_live ≡ false → without (id ∷ []) (clauses_at lits places) ≡ clauses_at lits places
+pub dead_now : (lits : List Lit) (places : List Place) (id i : ℕ) (p : Place) → PlacesAscend places → StandsAt places id i → IsRead places i p → p.is_live ≡ false → without (id ∷ []) (clauses_at lits places) ≡ clauses_at lits places
 dead_now lits places id i p up stands read is_dead = dead_already lits places id i p up stands.in_list (stands.has_number p) (ap (λ (q : Place). q.is_live) (sym read) ∙ is_dead)
 
 -- ---- how many, and with how many literals
@@ -137,7 +137,7 @@ one_less lits (p ∷ ps) zero d dead lt live is_dead =
   where
     more : (xs : List NumberedClause) → length xs + 1 ≡ length (whole_at lits p ∷ xs)
     more xs = omega arith
-one_less lits (p ∷ ps) (suc i) d dead lt live is_dead = length_any (clause_at lits p) _ _ (one_less lits ps i d dead (omega (arith, lt)) live is_dead)
+one_less lits (p ∷ ps) (suc i) d dead lt live is_dead = length_any (clause_at_place lits p) _ _ (one_less lits ps i d dead (omega (arith, lt)) live is_dead)
 
 literals-cons : (one : NumberedClause) (xs : List NumberedClause) → literals (one ∷ xs) ≡ length one.clause + literals xs
 literals-cons one xs = sum_by-cons (λ (x : NumberedClause). length x.clause) one xs
@@ -159,11 +159,11 @@ literals_less lits (p ∷ ps) zero d dead lt live is_dead fits =
   where
     more : literals (clauses_at lits ps) + p.len ≡ literals (whole_at lits p ∷ clauses_at lits ps)
     more = omega (arith, literals-cons (whole_at lits p) (clauses_at lits ps), length-lits_at lits p fits)
-literals_less lits (p ∷ ps) (suc i) d dead lt live is_dead fits = literals_any (clause_at lits p) (get_or ps i d).len _ _ (literals_less lits ps i d dead (omega (arith, lt)) live is_dead fits)
+literals_less lits (p ∷ ps) (suc i) d dead lt live is_dead fits = literals_any (clause_at_place lits p) (get_or ps i d).len _ _ (literals_less lits ps i d dead (omega (arith, lt)) live is_dead fits)
 
 pub clauses_few : (lits : List Lit) (places : List Place) → length (clauses_at lits places) ≤ length places
 clauses_few lits [] = omega arith
-clauses_few lits (p ∷ ps) = by (clause_at lits p) (clauses_few lits ps)
+clauses_few lits (p ∷ ps) = by (clause_at_place lits p) (clauses_few lits ps)
   where
     by : (o : Option NumberedClause) → length (clauses_at lits ps) ≤ length ps → length (cons_option o (clauses_at lits ps)) ≤ length (p ∷ ps)
     by None le = omega (arith, le)
@@ -180,7 +180,7 @@ pub more_lits : (lits more : List Lit) (places : List Place) → All (PlaceFits 
 more_lits lits more [] all = refl
 more_lits lits more (p ∷ ps) all =
     ap (λ part. cons_option (cond p.is_live (Some (record { id = p.id; clause = part })) None) (clauses_at (lits ++ more) ps)) (still_there lits more p (All-head (PlaceFits (length lits)) p ps all))
-    ∙ ap (cons_option (clause_at lits p)) (more_lits lits more ps (All-tail (PlaceFits (length lits)) p ps all))
+    ∙ ap (cons_option (clause_at_place lits p)) (more_lits lits more ps (All-tail (PlaceFits (length lits)) p ps all))
 
 -- the literals after a list
 behind : (lits more : List Lit) → take (length lits + length more - length lits) (drop (length lits) (lits ++ more)) ≡ more
@@ -190,7 +190,7 @@ behind lits more =
 
 pub pushed_at : (lits more : List Lit) (places : List Place) (id : ℕ) → All (PlaceFits (length lits)) places → clauses_at (lits ++ more) (places ++ new_place id lits more ∷ []) ≡ clauses_at lits places ++ (record { id = id; clause = more }) ∷ []
 pushed_at lits more places id all =
-    filter_map-append (clause_at (lits ++ more)) places (new_place id lits more ∷ [])
+    filter_map-append (clause_at_place (lits ++ more)) places (new_place id lits more ∷ [])
     ∙ ap (λ part. clauses_at (lits ++ more) places ++ (record { id = id; clause = part }) ∷ []) (behind lits more)
     ∙ ap (λ xs. xs ++ (record { id = id; clause = more }) ∷ []) (more_lits lits more places all)
 

@@ -7,12 +7,12 @@ use Rattle.std.proofs.lemmas.Cmp.{ranked}
 use Rattle.std.proofs.lemmas.List.Sorted.{IsNonDecreasingBy-from_default}
 use Rattle.std.proofs.lemmas.Bool.Decides.{nat_tests}
 use Rattle.hw_check.specs.declared.place.Place.{Place}
-use Rattle.hw_check.specs.Places.{Ascends, NoneHas, StandsAt}
+use Rattle.hw_check.specs.Places.{PlacesAscend, NoneHas, StandsAt}
 
 nowhere : Place
 nowhere = record { id = 0; start = 0; len = 0; is_live = false }
 
-rising : (places : List Place) (i j : ℕ) → Ascends places → i ≤ j → j < length places → (get_or places i nowhere).id ≤ (get_or places j nowhere).id
+rising : (places : List Place) (i j : ℕ) → PlacesAscend places → i ≤ j → j < length places → (get_or places i nowhere).id ≤ (get_or places j nowhere).id
 rising places i j up le lt = elim (cases_lt i j) [
   | inl less ↦ omega (arith, up i j nowhere less lt)
   | inr more ↦
@@ -20,7 +20,7 @@ rising places i j up le lt = elim (cases_lt i j) [
       omega (arith, ap (λ k. (get_or places k nowhere).id) same)
 ]
 
-module _ (places : List Place) (up : Ascends places) (id : ℕ) where
+module _ (places : List Place) (up : PlacesAscend places) (id : ℕ) where
   -- the comparisons with the number rise along the list
   comparisons_rise : IsNonDecreasingBy (λ place. ordering_index (nat_cmp place.id id)) places
   comparisons_rise = IsNonDecreasingBy-from_default (λ place. ordering_index (nat_cmp place.id id)) places nowhere (λ i j le lt.

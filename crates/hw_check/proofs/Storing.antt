@@ -9,8 +9,8 @@ use Rattle.std.proofs.lemmas.List.Quantifiers.{all_pairs_push}
 use Rattle.hw_model.specs.declared.lit.Lit.{Lit}
 use Rattle.hw_lines.specs.Kept.{NumberedClause, without}
 use Rattle.hw_check.specs.declared.place.Place.{Place}
-use Rattle.hw_check.specs.States.{ClauseStore, IsBounded, literals}
-use Rattle.hw_check.specs.Places.{lits_at, clauses_at, new_place, PlaceFits, Ascends, StandsAt, IsStored, Gathers}
+use Rattle.hw_check.specs.States.{ClauseStore, FewDeadClauses, literals}
+use Rattle.hw_check.specs.Places.{lits_at, clauses_at, new_place, PlaceFits, PlacesAscend, StandsAt, IsStored, Gathers}
 use Rattle.hw_check.proofs.Places.{clauses_few, pushed_at, literals_push, one_less, literals_less, removed_at, IsRead}
 
 -- lists of the same numbers
@@ -20,7 +20,7 @@ same_number xs ys i d e lx ly = sym (get_or-map (λ (place : Place). place.id) x
 same_length : (xs ys : List Place) → map (λ place. place.id) xs ≡ map (λ place. place.id) ys → length xs ≡ length ys
 same_length xs ys e = sym (length-map xs (λ (place : Place). place.id)) ∙ ap length e ∙ length-map ys (λ (place : Place). place.id)
 
-ascends_same : (xs ys : List Place) → map (λ place. place.id) xs ≡ map (λ place. place.id) ys → Ascends ys → Ascends xs
+ascends_same : (xs ys : List Place) → map (λ place. place.id) xs ≡ map (λ place. place.id) ys → PlacesAscend ys → PlacesAscend xs
 ascends_same xs ys e up = λ i j d lt within.
     let size : length xs ≡ length ys = same_length xs ys e in
     let inside : j < length ys = omega (arith, size, within) in
@@ -178,7 +178,7 @@ removed_next old now new ids i d lt before step =
 pub unchanged : (s : ClauseStore) (held : List NumberedClause) → held ≡ s.live → s ≡ record { live = held; next = s.next; kept_lits = s.kept_lits; kept_places = s.kept_places }
 unchanged s held e = ap (λ xs. record { live = xs; next = s.next; kept_lits = s.kept_lits; kept_places = s.kept_places }) (sym e)
 
-pub removed_store : (lits : List Lit) (places : List Place) (count id i : ℕ) (dead : Place) → Ascends places → StandsAt places id i → dead.is_live ≡ false → seen lits (set places i dead) count ≡ record { live = without (id ∷ []) (clauses_at lits places); next = count + 1; kept_lits = length lits; kept_places = length places }
+pub removed_store : (lits : List Lit) (places : List Place) (count id i : ℕ) (dead : Place) → PlacesAscend places → StandsAt places id i → dead.is_live ≡ false → seen lits (set places i dead) count ≡ record { live = without (id ∷ []) (clauses_at lits places); next = count + 1; kept_lits = length lits; kept_places = length places }
 removed_store lits places count id i dead up stands is_dead =
     ap (λ xs. store xs (length (set places i dead))) (removed_at lits places id i dead dead up stands.in_list (stands.has_number dead) is_dead)
     ∙ ap (store (without (id ∷ []) (clauses_at lits places))) (length-set places i dead)
@@ -199,5 +199,5 @@ stored_dead lits places count held live_lits i p q lt read read_too live is =
 
 -- ---- what a checker keeps
 
-pub bounded_push : (s : ClauseStore) (id next : ℕ) (more : List Lit) → IsBounded s → IsBounded (record { live = s.live ++ (record { id = id; clause = more }) ∷ []; next = next; kept_lits = s.kept_lits + length more; kept_places = s.kept_places + 1 })
+pub bounded_push : (s : ClauseStore) (id next : ℕ) (more : List Lit) → FewDeadClauses s → FewDeadClauses (record { live = s.live ++ (record { id = id; clause = more }) ∷ []; next = next; kept_lits = s.kept_lits + length more; kept_places = s.kept_places + 1 })
 bounded_push s id next more is = omega (arith, is, length-append s.live ((record { id = id; clause = more }) ∷ []), literals_push s.live id more)

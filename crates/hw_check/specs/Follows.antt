@@ -11,7 +11,7 @@ use Rattle.hw_check.specs.declared.stop.CheckStop.TheVariants as stops
 use Rattle.hw_check.specs.States.{CheckState}
 
 -- the lines are valid lines of the problem, and what is kept is what a later line needs of them
-pub record Follows (c : CheckState) (all : List Line) : Type 0 where
+pub record CheckerFollows (c : CheckState) (all : List Line) : Type 0 where
   pub fit : All (LineFits c.problem) all
   pub valid : Valid c.problem all
   pub kept : c.kept ≡ kept_of c.problem all
@@ -22,6 +22,6 @@ Stops (stops.Refused r) found = found ≡ Some r
 Stops stops.NoMemory found = ⊤
 
 -- what a checker that follows these lines answers to one more
-abbrev pub Answers : Problem → List Line → Line → Result CheckState CheckStop → Type 0
-Answers f before line (Ok c) = (c.problem ≡ f) × ValidAfter f before line × Follows c (before ++ line ∷ [])
-Answers f before line (Err stop) = Stops stop (refusal f before line)
+abbrev pub CheckerAnswers : Problem → List Line → Line → Result CheckState CheckStop → Type 0
+CheckerAnswers f before line (Ok c) = (c.problem ≡ f) × ValidAfter f before line × CheckerFollows c (before ++ line ∷ [])
+CheckerAnswers f before line (Err stop) = Stops stop (refusal f before line)

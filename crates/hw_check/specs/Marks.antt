@@ -6,8 +6,8 @@ use Rattle.hw_lines.specs.Lines.{clause_of}
 use Rattle.hw_verdict.specs.Renewing.{deletions, is_hint_of, undeleting}
 
 -- whether this number is one of these
-abbrev pub among : ℕ → List ℕ → Bool
-among id ids = list_any (λ other. other == id) ids
+abbrev pub is_among_numbers : ℕ → List ℕ → Bool
+is_among_numbers id ids = list_any (λ other. other == id) ids
 
 -- whether this number is marked
 abbrev pub is_marked : List Bool → ℕ → Bool

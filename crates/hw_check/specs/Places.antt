@@ -15,20 +15,20 @@ abbrev pub new_place : ℕ → List Lit → List Lit → Place
 new_place id lits more = record { id = id; start = length lits; len = length more; is_live = true }
 
 -- the clause at a place, unless it is dead
-abbrev pub clause_at : List Lit → Place → Option NumberedClause
-clause_at lits place = if place.is_live then Some (record { id = place.id; clause = lits_at lits place }) else None
+abbrev pub clause_at_place : List Lit → Place → Option NumberedClause
+clause_at_place lits place = if place.is_live then Some (record { id = place.id; clause = lits_at lits place }) else None
 
 -- the live clauses at these places
 abbrev pub clauses_at : List Lit → List Place → List NumberedClause
-clauses_at lits places = filter_map (clause_at lits) places
+clauses_at lits places = filter_map (clause_at_place lits) places
 
 -- the place ends before this one
 abbrev pub PlaceFits : ℕ → Place → Type 0
 PlaceFits end place = place.start + place.len ≤ end
 
 -- each number is above those of the places before it
-abbrev pub Ascends : List Place → Type 0
-Ascends places = AllPairs (λ a b. a.id < b.id) places
+abbrev pub PlacesAscend : List Place → Type 0
+PlacesAscend places = AllPairs (λ a b. a.id < b.id) places
 
 -- no place has this number
 abbrev pub NoneHas : List Place → ℕ → Type 0
@@ -40,14 +40,14 @@ pub record StandsAt (places : List Place) (id index : ℕ) : Type 0 where
   pub has_number : HoldsAt (λ place. place.id ≡ id) places index
 
 -- where the place of a number stands, if one has it
-abbrev pub Finds : List Place → ℕ → Option ℕ → Type 0
-Finds places id (Some index) = StandsAt places id index
-Finds places id None = NoneHas places id
+abbrev pub FindsPlace : List Place → ℕ → Option ℕ → Type 0
+FindsPlace places id (Some index) = StandsAt places id index
+FindsPlace places id None = NoneHas places id
 
 -- what the type of the list keeps: `count` numbers were given, `held` clauses are live, with `live_lits` literals
 pub record IsStored (lits : List Lit) (places : List Place) (count held live_lits : ℕ) : Type 0 where
   pub fit : All (PlaceFits (length lits)) places
-  pub ascend : Ascends places
+  pub ascend : PlacesAscend places
   pub given : All (λ place. place.id ≤ count) places
   pub few : length places ≤ count
   pub counted : held ≡ length (clauses_at lits places)

@@ -19,8 +19,8 @@ abbrev pub literals : List NumberedClause → ℕ
 literals held = sum_by (λ one. length one.clause) held
 
 -- how many literals and places live clauses need
-abbrev pub needed : List NumberedClause → ℕ
-needed held = length held + literals held
+abbrev pub needed_by_clauses : List NumberedClause → ℕ
+needed_by_clauses held = length held + literals held
 
 -- no lines yet
 abbrev pub no_lines : Problem → CheckState
@@ -46,12 +46,12 @@ abbrev pub LitsFit : ℕ → List NumberedClause → Type 0
 LitsFit ships held = All (λ one. All (IsLitOf ships) one.clause) held
 
 -- no more is kept of dead clauses than of live ones
-abbrev pub IsBounded : ClauseStore → Type 0
-IsBounded store = store.kept_lits + store.kept_places ≤ 2 * needed store.live
+abbrev pub FewDeadClauses : ClauseStore → Type 0
+FewDeadClauses store = store.kept_lits + store.kept_places ≤ 2 * needed_by_clauses store.live
 
 -- what the type of a checker keeps: each clause is one of the problem, so is each toll, the tariff in force is charged, and the room is one of the problem
 pub record IsKept (f : Problem) (store : ClauseStore) (prices : PriceState) (room : RoomModel) : Type 0 where
   pub lits : LitsFit f.ships store.live
-  pub bounded : IsBounded store
+  pub bounded : FewDeadClauses store
   pub good : AreGood f prices
   pub fits : RoomFits f room

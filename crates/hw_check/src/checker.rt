@@ -12,7 +12,7 @@ ghost use Rattle.hw_lines.specs.Refusals.{is_past, first_unknown, kept_refusal};
 ghost use Rattle.hw_tolls.specs.Tolls.{IsToll};
 ghost use Rattle.hw_verdict.specs.Laws.{IsBound};
 ghost use Rattle.hw_check.specs.States.{no_lines, literals};
-ghost use Rattle.hw_check.specs.Follows.{Follows, Answers, Stops};
+ghost use Rattle.hw_check.specs.Follows.{CheckerFollows, CheckerAnswers, Stops};
 
 use crate::clause_list::ClauseList;
 use crate::refusing::{claim, clause_of, refused};
@@ -59,7 +59,7 @@ impl<'f> Checker<'f> {
     /// A checker of no lines, without a best.
     pub fn new(alloc: Global, flat: &'f Flat) -> Result<Checker<'f>, NoMemory>
         ensures state { IfOk result (λ c. c ≡ no_lines flat.now) }
-        ensures followed { IfOk result (λ c. Follows c []) }
+        ensures followed { IfOk result (λ c. CheckerFollows c []) }
     {
         let room = Room::whole(alloc, flat.shape())?;
         Ok(Checker {
@@ -75,7 +75,7 @@ impl<'f> Checker<'f> {
     /// The number of live clauses.
     pub fn held(&self) -> u32
         ensures state { result ≡ length self.now.kept.live }
-        ensures followed { (all : List Line) → Follows self.now all → result ≡ length (live_numbers all) }
+        ensures followed { (all : List Line) → CheckerFollows self.now all → result ≡ length (live_numbers all) }
     {
         self.clauses.held()
     }
@@ -100,7 +100,7 @@ impl<'f> Checker<'f> {
     /// What the lines prove.
     pub fn verdict(&self) -> Verdict
         ensures state { result ≡ verdict_by self.now.kept.closed self.now.kept.best }
-        ensures followed { (all : List Line) → Follows self.now all → result ≡ verdict self.now.problem all }
+        ensures followed { (all : List Line) → CheckerFollows self.now all → result ≡ verdict self.now.problem all }
     {
         match (self.is_closed, self.best) {
             (true, Some(best)) => Verdict::Optimal(best),
@@ -113,8 +113,8 @@ impl<'f> Checker<'f> {
     /// None where no line shows one.
     pub fn bound(&self) -> Option<u64>
         ensures state { result ≡ self.now.kept.bound }
-        ensures followed { (all : List Line) → Follows self.now all → result ≡ bound_of all }
-        ensures sound { (all : List Line) → Follows self.now all → IfSome result (IsBound self.now.problem) }
+        ensures followed { (all : List Line) → CheckerFollows self.now all → result ≡ bound_of all }
+        ensures sound { (all : List Line) → CheckerFollows self.now all → IfSome result (IsBound self.now.problem) }
     {
         let _shape = self.flat.shape();
         self.prices.bound()
@@ -129,7 +129,7 @@ impl<'f> Checker<'f> {
         ensures problem { IfOk result (λ c. c.problem ≡ self.entry.problem) }
         ensures taken { OnOk result (kept_refusal self.entry.problem self.entry.kept line ≡ None) }
         ensures refused { IfErr result (λ stop. Stops stop (kept_refusal self.entry.problem self.entry.kept line)) }
-        ensures followed { (before : List Line) → Follows self.entry before → Answers self.entry.problem before line result }
+        ensures followed { (before : List Line) → CheckerFollows self.entry before → CheckerAnswers self.entry.problem before line result }
     {
         self.borrowed_line(&line)
     }
@@ -147,7 +147,7 @@ impl<'f> Checker<'f> {
         ensures problem { IfOk result (λ c. c.problem ≡ self.entry.problem) }
         ensures taken { OnOk result (kept_refusal self.entry.problem self.entry.kept line.now ≡ None) }
         ensures refused { IfErr result (λ stop. Stops stop (kept_refusal self.entry.problem self.entry.kept line.now)) }
-        ensures followed { (before : List Line) → Follows self.entry before → Answers self.entry.problem before line.now result }
+        ensures followed { (before : List Line) → CheckerFollows self.entry before → CheckerAnswers self.entry.problem before line.now result }
     {
         let _shape = self.flat.shape();
         if let Some(refusal) = self.refusal(line)? {

@@ -3,7 +3,7 @@
 
 ghost use Rattle.std.specs.Prelude.{◌≡◌, ◌∷◌, ◌++◌, [], ◌+◌, ◌*◌, ◌^◌, ◌<◌, ◌≤◌, Some, length, nat_lt, option_copied, OnOk, OnErr};
 ghost use Rattle.hw_lines.specs.Kept.{clause_under, without};
-ghost use Rattle.hw_check.specs.States.{IsBounded, literals, with_next};
+ghost use Rattle.hw_check.specs.States.{FewDeadClauses, literals, with_next};
 
 use crate::stored::{Stored, find_place, gathered, lits_at};
 use hw_model::{Lit, NoMemory};
@@ -146,7 +146,7 @@ impl ClauseList {
     pub(crate) fn give_back(&mut self) -> Result<(), NoMemory>
         ensures same { self.new.live ≡ self.old.live }
         ensures numbered { self.new.next ≡ self.old.next }
-        ensures bounded { OnOk result (IsBounded self.new) }
+        ensures bounded { OnOk result (FewDeadClauses self.new) }
     {
         let kept = self.stored.lits.len() + self.stored.places.len();
         let needed = self.live_lits + self.held as usize;

@@ -7,7 +7,7 @@ ghost use Rattle.std.specs.List.Sorted.{IsStrictlyIncreasing};
 ghost use Rattle.hw_lines.specs.declared.line.Line.{Line};
 ghost use Rattle.hw_lines.specs.Lines as counting;
 ghost use Rattle.hw_verdict.specs.Renewing as renewal;
-ghost use Rattle.hw_check.specs.Marks.{Marks, among, is_marked, due_after, renewed_line};
+ghost use Rattle.hw_check.specs.Marks.{Marks, is_among_numbers, is_marked, due_after, renewed_line};
 
 use crate::refusing::clause_of;
 use hw_lines::{Hints, Line};
@@ -157,7 +157,7 @@ fn last_named(alloc: Global, line: &Line, marked: &[bool]) -> Result<Vec<u32>, N
 /// Brings the numbers into order, each once.
 fn sort_once(ids: &mut Vec<u32>)
     ensures ascends { IsStrictlyIncreasing ids.new.items }
-    ensures same { (id : ℕ) → among id ids.new.items ≡ among id ids.old.items }
+    ensures same { (id : ℕ) → is_among_numbers id ids.new.items ≡ is_among_numbers id ids.old.items }
 {
     ids.sort_unstable();
     ids.dedup();
@@ -180,7 +180,7 @@ fn unmarked(alloc: Global, ids: &[u32], marked: &[bool]) -> Result<Vec<u32>, NoM
 /// Marks these numbers.
 fn mark(ids: &[u32], marked: &mut [bool])
     requires hints { All (λ id. id < length marked.old) ids.now }
-    ensures marked { (id : ℕ) → id < length marked.old → is_marked marked.new id ≡ (is_marked marked.old id || among id ids.now) }
+    ensures marked { (id : ℕ) → id < length marked.old → is_marked marked.new id ≡ (is_marked marked.old id || is_among_numbers id ids.now) }
 {
     for id in ids {
         marked[*id as usize] = true;

@@ -1,7 +1,7 @@
 //! The literals of clauses in one list, each clause with its place.
 
 ghost use Rattle.std.specs.Prelude.{◌≡◌, ◌∷◌, ◌++◌, [], ◌+◌, ◌^◌, ◌<◌, ◌≤◌, length, All, IfOk, OnOk, OnErr};
-ghost use Rattle.hw_check.specs.Places.{Ascends, Finds, PlaceFits, Gathers, lits_at, new_place};
+ghost use Rattle.hw_check.specs.Places.{PlacesAscend, FindsPlace, PlaceFits, Gathers, lits_at, new_place};
 
 use crate::place::Place;
 use hw_model::{Lit, NoMemory};
@@ -48,7 +48,7 @@ impl Stored {
 /// The live clauses alone, moved together: one pass over the places and over what is live.
 pub(crate) fn gathered(alloc: Global, lits: &[Lit], places: &[Place]) -> Result<Stored, NoMemory>
     requires fit { All (PlaceFits (length lits.now)) places.now }
-    requires ascend { Ascends places.now }
+    requires ascend { PlacesAscend places.now }
     ensures gathered { IfOk result (λ stored. Gathers lits.now places.now stored.lits.items stored.places.items) }
 {
     let mut stored = Stored::new(alloc);
@@ -70,8 +70,8 @@ pub(crate) fn lits_at(lits: &[Lit], place: Place) -> &[Lit]
 
 /// Where the place of a number stands, in as many steps as the number of places has bits.
 pub(crate) fn find_place(places: &[Place], id: u32) -> Option<usize>
-    requires ascend { Ascends places.now }
-    ensures found { Finds places.now id result }
+    requires ascend { PlacesAscend places.now }
+    ensures found { FindsPlace places.now id result }
 {
     match places.binary_search_by_key(&id, |place| place.id) {
         Ok(index) => Some(index),

@@ -8,7 +8,7 @@ use Rattle.hw_verdict.specs.Renewing.{renewed}
 use Rattle.hw_cert.specs.declared.version.Version.TheVariants.{Two}
 use Rattle.hw_report.specs.Reports.{Report, Naming, checked}
 use Rattle.hw_command.specs.Carries.{Task, one_report}
-use Rattle.hw_command.specs.Scope.{named, MakesProof}
+use Rattle.hw_command.specs.Scope.{named_feed, MakesProof}
 use Rattle.hw_command.specs.Sending.{IsCutOf}
 use Rattle.hw_subject.specs.Meanings.{judged}
 use Rattle.hw_subject.specs.Subjects.{Subject}
@@ -46,7 +46,7 @@ RenewSays s cert proof old new (Some r) = Renews s cert proof old new r
 
 abbrev pub renew_task : Subject → List ℕ → List ℕ → Task
 renew_task s cert proof = record {
-  inputs = s.inputs ++ (named Certificate cert ∷ []);
+  inputs = s.inputs ++ (named_feed Certificate cert ∷ []);
   Gives = s.Gives;
   proof = Some proof;
   Says = one_report (RenewSays s cert proof);

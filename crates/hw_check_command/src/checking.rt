@@ -5,7 +5,7 @@ ghost use Rattle.hw_desk.specs.State.{IsNewDesk};
 ghost use Rattle.hw_report.specs.Printing.{CanPrint};
 ghost use Rattle.hw_report.specs.Seen.{report_seen};
 ghost use Rattle.hw_command.specs.Carries.{Carries};
-ghost use Rattle.hw_subject.specs.Meanings.{ships_of};
+ghost use Rattle.hw_subject.specs.Meanings.{repair_ships};
 ghost use Rattle.hw_subject.specs.Reading.{naming_of, plan_in};
 ghost use Rattle.hw_subject.specs.Subjects.{subject_of};
 ghost use Rattle.hw_subject.specs.Checks.{check_task};
@@ -59,7 +59,7 @@ pub(crate) fn reading_report<'a>(
     read: Result<ReadCert<()>, CertStop>,
     given: &'a Given,
 ) -> Report<'a>
-    ensures value { report_seen result ≡ report_of_reading (naming_of given.now.named) (ships_of given.now.flat (plan_in given.now.repair)) read }
+    ensures value { report_seen result ≡ report_of_reading (naming_of given.now.named) (repair_ships given.now.flat (plan_in given.now.repair)) read }
     ensures printed { CanPrint (report_seen result) }
 {
     let ships = given.repaired_ships();

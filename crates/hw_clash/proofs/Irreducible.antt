@@ -7,13 +7,13 @@ use Rattle.std.proofs.lemmas.List.FromFn.{length-range_with_len, get_or-range_wi
 use Rattle.std.proofs.lemmas.List.Kept.{IsStrictlyIncreasing-filter}
 use Rattle.std.specs.List.{range_with_len}
 use Rattle.std.specs.List.Sorted.{IsStrictlyIncreasing}
+use Rattle.hw_lemmas.proofs.Lists.{range_ascends}
 use Rattle.hw_model.specs.Limits.{IsFlat}
 use Rattle.hw_model.specs.Timetables.{Permits, NonePermitted}
-use Rattle.hw_derived.proofs.Grids.{increasing_range}
 use Rattle.hw_rules.specs.Outcomes.{SomePermitted}
 use Rattle.hw_clash.specs.Wished.{Wished, wished_count, wished_holds, NoneWished}
 use Rattle.hw_clash.specs.Parts.{has, part}
-use Rattle.hw_clash.specs.Clashing.{all_numbers, without, Tries, IsLeft}
+use Rattle.hw_clash.specs.Clashing.{all_restriction_numbers, without_number, Tries, IsLeft}
 use Rattle.hw_clash.specs.Laws.{ClashMeans, OneClash}
 use Rattle.hw_clash.proofs.Lists.{has_all, all_has, of_without, Within, without_within}
 use Rattle.hw_clash.proofs.Parts.{part_permits, part_of_all}
@@ -41,17 +41,17 @@ pub record Known (f : Wished) (n : ℕ) (left : List ℕ) : Type 0 where
   pub numbered : (m : ℕ) → has left m ≡ true → m < wished_count f
   pub ascending : IsStrictlyIncreasing left
   pub clash : NoneWished f → NonePermitted (part f left)
-  pub needed : (m : ℕ) → m < n → has left m ≡ true → SomePermitted (part f (without m left))
+  pub needed : (m : ℕ) → m < n → has left m ≡ true → SomePermitted (part f (without_number m left))
 
-known_first : (f : Wished) → Known f 0 (all_numbers f)
+known_first : (f : Wished) → Known f 0 (all_restriction_numbers f)
 known_first f = record {
   numbered = λ m e. omega (arith, range_below 0 (wished_count f) m e);
-  ascending = increasing_range 0 (wished_count f);
+  ascending = range_ascends 0 (wished_count f);
   clash = λ none table permits. none table ((part_of_all f table).0 permits);
   needed = λ m lt e. absurd (omega (arith, lt));
 }
 
-known_taken : (f : Wished) (n : ℕ) (before : List ℕ) → Known f n before → NonePermitted (part f (without n before)) → Known f (suc n) (without n before)
+known_taken : (f : Wished) (n : ℕ) (before : List ℕ) → Known f n before → NonePermitted (part f (without_number n before)) → Known f (suc n) (without_number n before)
 known_taken f n before known none = record {
   numbered = λ m e. known.numbered m (of_without n m before e).0;
   ascending = IsStrictlyIncreasing-filter (λ m. not (m == n)) before known.ascending;
@@ -59,19 +59,19 @@ known_taken f n before known none = record {
   needed = λ m lt e.
       let was = of_without n m before e in
       let some = known.needed m (below m was.1 lt) was.0 in
-      (some.0, fewer f (without m (without n before)) (without m before) some.0 (without_within m (without n before) before (λ k h. (of_without n k before h).0)) some.1);
+      (some.0, fewer f (without_number m (without_number n before)) (without_number m before) some.0 (without_within m (without_number n before) before (λ k h. (of_without n k before h).0)) some.1);
 }
   where
     below : (m : ℕ) → (m ≡ n → ⊥) → m < suc n → m < n
     below m other lt = elim (cases_eq m n) [ inl same ↦ absurd (other same) | inr ne ↦ omega (arith, ne, lt) ]
 
-known_kept : (f : Wished) (n : ℕ) (before : List ℕ) → Known f n before → SomePermitted (part f (without n before)) → Known f (suc n) before
+known_kept : (f : Wished) (n : ℕ) (before : List ℕ) → Known f n before → SomePermitted (part f (without_number n before)) → Known f (suc n) before
 known_kept f n before known some = record {
   numbered = known.numbered;
   ascending = known.ascending;
   clash = known.clash;
   needed = λ m lt e. elim (cases_eq m n) [
-    | inl same ↦ subst (λ k. SomePermitted (part f (without k before))) (sym same) some
+    | inl same ↦ subst (λ k. SomePermitted (part f (without_number k before))) (sym same) some
     | inr ne ↦ known.needed m (omega (arith, ne, lt)) e
   ];
 }
@@ -117,7 +117,7 @@ clash_means f kept flat none is =
       numbered = all_has (λ n. n < wished_count f) kept k.numbered;
       ascending = k.ascending;
       clash = k.clash none;
-      needed = all_has (λ n. SomePermitted (part f (without n kept))) kept (λ n e. k.needed n (k.numbered n e) e);
+      needed = all_has (λ n. SomePermitted (part f (without_number n kept))) kept (λ n e. k.needed n (k.numbered n e) e);
     }
 
 -- ---- only one

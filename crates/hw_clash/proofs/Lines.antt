@@ -1,9 +1,10 @@
 -- Reading a clash text, one line after the other, as loops do.
 use Rattle.std.proofs.Common.{◌≡◌, ℕ, zero, suc, ◌+◌, ◌≤◌, ◌<◌, List, [], ◌∷◌, ◌++◌, drop, drop-cons, get_or, length, Result, Ok, Err, refl, sym, ap, ◌∙◌, append_assoc, arith}
 use Rattle.std.proofs.lemmas.List.{append-nil}
+use Rattle.hw_lemmas.specs.Operators.{◌>>=◌}
 use Rattle.hw_derived.specs.declared.fault.LineFault.{LineFault}
 use Rattle.hw_derived.specs.declared.fault.LineFault.TheVariants as faults
-use Rattle.hw_derived.specs.Reading.{Fault, ◌>>=◌, Fails}
+use Rattle.hw_derived.specs.Reading.{MalformedLine, TextReadFails}
 use Rattle.hw_clash.specs.declared.fault.ClashWord.{ClashWord}
 use Rattle.hw_clash.specs.Wished.{Wished}
 use Rattle.hw_clash.specs.Text.{drop_at, drops_at}
@@ -11,7 +12,7 @@ use Rattle.hw_clash.specs.Text.{drop_at, drops_at}
 -- ---- timetables
 
 abbrev Read : Type 0
-Read = Result (List (List ℕ) × List (List ℕ)) (Fault ClashWord)
+Read = Result (List (List ℕ) × List (List ℕ)) (MalformedLine ClashWord)
 
 -- what was read before, and what is still read
 abbrev pub with_read : List (List ℕ) → Read → Read
@@ -35,8 +36,8 @@ drops_go_on f kept front table i parts after total lt h so_far =
     rw (later kept i lt, h, n) (regroup_tables front table (drops_at f kept (3 + (i + 1)) (drop (i + 1) kept) after)) in
     sym one ∙ so_far
 
-pub drops_fail : (e : LineFault ClashWord) (f : Wished) (kept : List ℕ) (front : List (List ℕ)) (i : ℕ) (parts : List (List ℕ)) (total : Read) → i < length kept → Fails e (drop_at f kept (3 + i) (get_or kept i 0) parts)
-    → with_read front (drops_at f kept (3 + i) (drop i kept) parts) ≡ total → Fails e total
+pub drops_fail : (e : LineFault ClashWord) (f : Wished) (kept : List ℕ) (front : List (List ℕ)) (i : ℕ) (parts : List (List ℕ)) (total : Read) → i < length kept → TextReadFails e (drop_at f kept (3 + i) (get_or kept i 0) parts)
+    → with_read front (drops_at f kept (3 + i) (drop i kept) parts) ≡ total → TextReadFails e total
 unfolding drops_at
 drops_fail faults.NoMemory f kept front i parts total lt h so_far = tt
 drops_fail (faults.Line at word) f kept front i parts total lt h so_far =

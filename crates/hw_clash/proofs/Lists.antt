@@ -1,5 +1,5 @@
 -- Lists of numbers, and what holds of each of them.
-use Rattle.std.proofs.Common.{◌≡◌, ◌==◌, ℕ, zero, suc, ◌<◌, ◌≤◌, Bool, true, false, not, cond, List, [], ◌∷◌, Option, Some, None, Result, Ok, Err, is_ok, MatchResult, slice_get, IfSome, All, length, get_or, refl, sym, ap, subst, ◌∙◌, arith, inl, inr, ◌⊎◌}
+use Rattle.std.proofs.Common.{◌≡◌, ◌==◌, ℕ, zero, suc, ◌<◌, ◌≤◌, Bool, true, false, not, cond, List, [], ◌∷◌, Result, Ok, Err, is_ok, MatchResult, slice_get, IfSome, All, length, get_or, refl, sym, ap, subst, ◌∙◌, arith, inl, inr, ◌⊎◌}
 use Rattle.std.proofs.lemmas.Bool.{eqb-true, eq-eqb, ne_eqb, or_cases, or_left, or_right, or_from, cases_eq, cases_lt, eqb-false}
 use Rattle.std.proofs.lemmas.List.Elements.{All-nil, All-cons, All-head, All-tail}
 use Rattle.std.proofs.lemmas.List.Kept.{AllPairs-from_increasing}
@@ -7,7 +7,7 @@ use Rattle.std.proofs.lemmas.List.Sorted.{searched}
 use Rattle.std.specs.List.Sorted.{IsStrictlyIncreasing, IsBinarySearchResult}
 use Rattle.std.specs.Ordering.{nat_cmp}
 use Rattle.hw_clash.specs.Parts.{has}
-use Rattle.hw_clash.specs.Clashing.{without}
+use Rattle.hw_clash.specs.Clashing.{without_number}
 
 -- ---- numbers of a list
 
@@ -43,9 +43,9 @@ test_same m n k false rest e h = elim (has_cases m k rest h) [
   | inr later ↦ inl later
 ]
 
-pub of_without : (n k : ℕ) (kept : List ℕ) → has (without n kept) k ≡ true → (has kept k ≡ true) × (k ≡ n → ⊥)
+pub of_without : (n k : ℕ) (kept : List ℕ) → has (without_number n kept) k ≡ true → (has kept k ≡ true) × (k ≡ n → ⊥)
 of_without n k [] h = absurd cc
-of_without n k (m ∷ kept) h = elim (test_same m n k (m == n) (without n kept) refl h) [
+of_without n k (m ∷ kept) h = elim (test_same m n k (m == n) (without_number n kept) refl h) [
   | inl later ↦ let r = of_without n k kept later in (has_tail m k kept r.0, r.1)
   | inr here ↦ (subst (λ i. has (m ∷ kept) i ≡ true) here.0 (has_head m kept), λ same. here.1 (here.0 ∙ same))
 ]
@@ -61,18 +61,18 @@ keep_later : (m k : ℕ) (b : Bool) (rest : List ℕ) → has rest k ≡ true �
 keep_later m k true rest h = h
 keep_later m k false rest h = has_tail m k rest h
 
-pub to_without : (n k : ℕ) (kept : List ℕ) → has kept k ≡ true → (k ≡ n → ⊥) → has (without n kept) k ≡ true
+pub to_without : (n k : ℕ) (kept : List ℕ) → has kept k ≡ true → (k ≡ n → ⊥) → has (without_number n kept) k ≡ true
 to_without n k [] h other = absurd cc
 to_without n k (m ∷ kept) h other = elim (has_cases m k kept h) [
-  | inl same ↦ keep_first m k (m == n) (without n kept) (ne_eqb m n (λ e. other (sym same ∙ e))) (inl same)
-  | inr later ↦ keep_later m k (m == n) (without n kept) (to_without n k kept later other)
+  | inl same ↦ keep_first m k (m == n) (without_number n kept) (ne_eqb m n (λ e. other (sym same ∙ e))) (inl same)
+  | inr later ↦ keep_later m k (m == n) (without_number n kept) (to_without n k kept later other)
 ]
 
 -- each number of the first list is one of the second
 abbrev pub Within : List ℕ → List ℕ → Type 0
 Within few many = (n : ℕ) → has few n ≡ true → has many n ≡ true
 
-pub without_within : (n : ℕ) (few many : List ℕ) → Within few many → Within (without n few) (without n many)
+pub without_within : (n : ℕ) (few many : List ℕ) → Within few many → Within (without_number n few) (without_number n many)
 without_within n few many within k h = let r = of_without n k few h in to_without n k many (within k r.0) r.1
 
 -- ---- what holds of each element of a list, by recursion on it
@@ -97,13 +97,6 @@ each_at P (x ∷ xs) (suc i) h = each_at P xs i h.1
 pub each_from : {A : Type 0} (P : A → Type 0) (xs : List A) → ((i : ℕ) → IfSome (slice_get xs i) P) → Each P xs
 each_from P [] h = tt
 each_from P (x ∷ xs) h = (h 0, each_from P xs (λ i. h (suc i)))
-
-pub if_some : {A : Type 0} (P : A → Type 0) (o : Option A) (x : A) → o ≡ Some x → IfSome o P → P x
-if_some P o x e h = subst (λ o. IfSome o P) e h
-
-pub if_some_from : {A : Type 0} (P : A → Type 0) (o : Option A) → ((x : A) → o ≡ Some x → P x) → IfSome o P
-if_some_from P None h = tt
-if_some_from P (Some x) h = h x refl
 
 -- ---- a search by halves
 

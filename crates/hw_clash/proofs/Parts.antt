@@ -4,20 +4,21 @@ use Rattle.std.proofs.lemmas.Bool.{cond-true, cond-false, lt-ltb, le-ltb, cases_
 use Rattle.std.proofs.lemmas.List.Elements.{All-get_or}
 use Rattle.hw_derived.proofs.Alike.{rules_alike}
 use Rattle.hw_derived.proofs.Grids.{grid_length, grid_all, grid_value}
-use Rattle.hw_derived.proofs.Places.{get_within}
 use Rattle.std.proofs.lemmas.Option.{get_or_from_slice_get}
 use Rattle.hw_model.specs.declared.rule.Rule.{Rule}
 use Rattle.hw_model.specs.Problem.{Problem, IsTimetable, value_at, horizon}
 use Rattle.hw_model.specs.Limits.{IsFlat, RuleFits}
 use Rattle.hw_model.specs.Rules.{rule_holds}
 use Rattle.hw_model.specs.Timetables.{Permits, plus, cargo_from, holds_at, restriction_holds, restriction_count}
-use Rattle.hw_clash.specs.Parts.{has, is_closed, is_refused, part_value, part, rules_in, Meets}
+use Rattle.hw_clash.specs.Parts.{has, is_window_closed, is_refused, part_value, part, rules_in, Meets}
 use Rattle.hw_repair.specs.declared.plan.Wish.{Wish}
 use Rattle.hw_clash.specs.Wished.{Wished, is_granted, wished_count, wish_holds, wished_holds, PermitsWished}
-use Rattle.hw_clash.specs.Clashing.{all_numbers}
+use Rattle.hw_clash.specs.Clashing.{all_restriction_numbers}
 use Rattle.hw_clash.specs.Laws.{PartValue, PartPermits, PartFits, PartCargo, PartOfAll}
 use Rattle.std.specs.List.{range_with_len}
-use Rattle.hw_clash.proofs.Lists.{has_head, has_tail, has_all, all_has, Each, each_of_all, all_of_each, each_at, each_from, if_some, if_some_from}
+use Rattle.hw_lemmas.proofs.Truths.{if_some, if_some_from}
+use Rattle.hw_lemmas.proofs.Lists.{get_within}
+use Rattle.hw_clash.proofs.Lists.{has_head, has_tail, has_all, all_has, Each, each_of_all, all_of_each, each_at, each_from}
 use Rattle.hw_clash.proofs.Kept.{kept_holds, holds_kept, few_kept}
 
 pub value_is : PartValue
@@ -63,7 +64,7 @@ last_in f flat stay =
     omega (arith, flat.some_slot, e)
 
 last_none : (f : Wished) (kept : List ℕ) (ship : ℕ) → IsFlat f.problem → ship < f.problem.ships → IsTrue f.problem.stay → unwrap_or (value_at (part f kept) ship (horizon f.problem)) 0 ≡ 0
-last_none f kept ship flat lt stay = ap (λ o. unwrap_or o 0) (value_is f kept ship (horizon f.problem) lt (last_in f flat stay)) ∙ small_value (is_closed f kept ship (horizon f.problem) || is_refused f kept ship (horizon f.problem))
+last_none f kept ship flat lt stay = ap (λ o. unwrap_or o 0) (value_is f kept ship (horizon f.problem) lt (last_in f flat stay)) ∙ small_value (is_window_closed f kept ship (horizon f.problem) || is_refused f kept ship (horizon f.problem))
 
 rules_fit : (f : Wished) (kept : List ℕ) → IsFlat f.problem → All (RuleFits f.problem.ships) (rules_in kept f.problem.ships f.problem.rules)
 rules_fit f kept flat =
@@ -79,7 +80,7 @@ part_fits f kept flat = record {
     few_slots = flat.few_slots;
     each_value = grid_length (part_value f kept) f.problem.ships f.problem.slots;
     last_value = λ ship lt stay. at_most _ 1 (last_none f kept ship flat lt stay);
-    small_values = grid_all (λ v. unwrap_or v 0 ≤ 1_000_000_000_000) (part_value f kept) f.problem.ships f.problem.slots (λ ship slot lt in'. at_most _ 1_000_000_000_000 (small_value (is_closed f kept ship slot || is_refused f kept ship slot)));
+    small_values = grid_all (λ v. unwrap_or v 0 ≤ 1_000_000_000_000) (part_value f kept) f.problem.ships f.problem.slots (λ ship slot lt in'. at_most _ 1_000_000_000_000 (small_value (is_window_closed f kept ship slot || is_refused f kept ship slot)));
     few_rules = omega (arith, few_kept kept f.problem.ships f.problem.rules, flat.few_rules);
     each_rule = rules_fit f kept flat;
   };
@@ -131,7 +132,7 @@ wish_kept f kept table ship permits in' = by (slice_get table ship) refl
         let is_slot : get_or table ship 0 ≡ slot = get_or_from_slice_get table ship slot 0 e in
         let within : slot < f.problem.slots = subst (λ n. n < f.problem.slots) is_slot (All-get_or (λ slot. slot < f.problem.slots) table ship 0 (omega (arith, lt, permits.listed.each_ship)) permits.listed.each_slot) in
         let there : IsSome (part_value f kept ship slot) = subst (λ o. IsSome o) (value_is f kept ship slot lt within) (subst (λ n. IsSome (value_at (part f kept) ship n)) is_slot (permits.sails ship lt)) in
-        value_granted (is_closed f kept ship slot) (has kept (restriction_count f.problem + ship)) (is_granted (slice_get f.wishes ship) (Some slot)) there in'
+        value_granted (is_window_closed f kept ship slot) (has kept (restriction_count f.problem + ship)) (is_granted (slice_get f.wishes ship) (Some slot)) there in'
 
 to_meets : (f : Wished) (kept table : List ℕ) → Permits (part f kept) table → Meets f kept table
 to_meets f kept table permits =
@@ -202,7 +203,7 @@ part_cargo f kept table permits = nothing (part f kept) 0 table (λ i s slot her
     let is_slot : get_or table s 0 ≡ slot = ap (λ n. get_or table n 0) there ∙ get_or_from_slice_get table i slot 0 e in
     let at : value_at (part f kept) s slot ≡ part_value f kept s slot = value_is f kept s slot lt (subst (λ n. n < f.problem.slots) is_slot (All-get_or (λ slot. slot < f.problem.slots) table s 0 (omega (arith, lt, permits.listed.each_ship)) permits.listed.each_slot)) in
     let some : IsSome (part_value f kept s slot) = subst (λ o. IsSome o) at (subst (λ n. IsSome (value_at (part f kept) s n)) is_slot (permits.sails s lt)) in
-    at ∙ zero_value (is_closed f kept s slot || is_refused f kept s slot) some)
+    at ∙ zero_value (is_window_closed f kept s slot || is_refused f kept s slot) some)
 
 -- ---- all restrictions
 
@@ -213,12 +214,12 @@ has_range a (suc n) k low high = elim (cases_eq a k) [
   | inr other ↦ has_tail a k (range_with_len (a + 1) n) (has_range (a + 1) n k (omega (arith, low, other)) (omega (arith, high)))
 ]
 
-pub numbered : (f : Wished) (n : ℕ) → n < wished_count f → has (all_numbers f) n ≡ true
+pub numbered : (f : Wished) (n : ℕ) → n < wished_count f → has (all_restriction_numbers f) n ≡ true
 numbered f n lt = has_range 0 (wished_count f) n (omega arith) (omega (arith, lt))
 
-of_all : (f : Wished) (table : List ℕ) → Meets f (all_numbers f) table → PermitsWished f table
+of_all : (f : Wished) (table : List ℕ) → Meets f (all_restriction_numbers f) table → PermitsWished f table
 of_all f table meets =
-    let at = λ (n : ℕ) (lt : n < wished_count f). has_all (λ n. IsTrue (wished_holds f table n)) (all_numbers f) n meets.holds (numbered f n lt) in
+    let at = λ (n : ℕ) (lt : n < wished_count f). has_all (λ n. IsTrue (wished_holds f table n)) (all_restriction_numbers f) n meets.holds (numbered f n lt) in
     record {
       permitted = record {
         listed = meets.listed;
@@ -249,8 +250,8 @@ holds_all f table n permits = elim (cases_lt n f.problem.ships) [
 
 pub part_of_all : PartOfAll
 part_of_all f table = (
-  λ permits. of_all f table (to_meets f (all_numbers f) table permits),
-  λ permits. from_meets f (all_numbers f) table (record { listed = permits.permitted.listed; holds = all_has (λ n. IsTrue (wished_holds f table n)) (all_numbers f) (λ n in'. holds_all f table n permits) }),
+  λ permits. of_all f table (to_meets f (all_restriction_numbers f) table permits),
+  λ permits. from_meets f (all_restriction_numbers f) table (record { listed = permits.permitted.listed; holds = all_has (λ n. IsTrue (wished_holds f table n)) (all_restriction_numbers f) (λ n in'. holds_all f table n permits) }),
 )
 
 -- ---- a value as it is computed
@@ -259,7 +260,7 @@ pub value_by : (f : Wished) (kept : List ℕ) (ship slot : ℕ) (h : Bool) (v : 
 value_by f kept ship slot h v r e d c =
     ap (λ (b : Bool). cond ((b && is_none v) || r) None nought) e
     ∙ ap (λ (o : Option ℕ). cond ((has kept ship && is_none o) || r) None nought) d
-    ∙ ap (λ (b : Bool). cond (is_closed f kept ship slot || b) None nought) c
+    ∙ ap (λ (b : Bool). cond (is_window_closed f kept ship slot || b) None nought) c
 
 pub refused_by : (f : Wished) (kept : List ℕ) (ship slot : ℕ) (h : Bool) (n : ℕ) (wish : Option Wish) → h ≡ has kept n → n ≡ restriction_count f.problem + ship → wish ≡ slice_get f.wishes ship → (h && not (is_granted wish (Some slot))) ≡ is_refused f kept ship slot
 refused_by f kept ship slot h n wish e at is = rw (e, at, is) refl

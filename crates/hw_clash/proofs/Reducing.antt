@@ -8,7 +8,7 @@ use Rattle.std.proofs.lemmas.List.FromFn.{length-range_with_len, get_or-range_wi
 use Rattle.std.proofs.lemmas.Option.{same_Some}
 use Rattle.std.specs.List.{range_with_len}
 use Rattle.std.specs.List.Sorted.{IsStrictlyIncreasing}
-use Rattle.hw_derived.proofs.Places.{get_left, get_right, get_within}
+use Rattle.hw_lemmas.proofs.Lists.{get_left, get_right, get_within}
 use Rattle.hw_lines.specs.declared.check.Verdict.TheVariants.{Optimal}
 use Rattle.hw_lines.specs.declared.line.Line.{Line}
 use Rattle.hw_model.specs.Limits.{IsFlat}
@@ -16,7 +16,7 @@ use Rattle.hw_model.specs.Timetables.{Permits, NonePermitted}
 use Rattle.hw_clash.specs.Asking.{FitsAt, NoneAt, SpentAt}
 use Rattle.hw_clash.specs.Wished.{Wished, wished_count, NoneWished}
 use Rattle.hw_clash.specs.Parts.{has, part}
-use Rattle.hw_clash.specs.Clashing.{all_numbers, without, IsLeft, IsClash}
+use Rattle.hw_clash.specs.Clashing.{all_restriction_numbers, without_number, IsLeft, IsClash}
 use Rattle.hw_clash.specs.Outcomes.{Asks, IsClashFound, IsMet, MayAsk, IsSpentAt}
 use Rattle.hw_clash.proofs.Lists.{all_has, of_without, without_within}
 use Rattle.hw_clash.proofs.Parts.{part_of_all, part_cargo}
@@ -24,25 +24,25 @@ use Rattle.hw_clash.proofs.Irreducible.{known, fewer, clash_means}
 
 -- ---- lists
 
-without_other : (n : ℕ) (xs : List ℕ) → All (λ m. m ≡ n → ⊥) xs → without n xs ≡ xs
+without_other : (n : ℕ) (xs : List ℕ) → All (λ m. m ≡ n → ⊥) xs → without_number n xs ≡ xs
 without_other n [] each = refl
 without_other n (m ∷ xs) each =
-    ap (λ (b : Bool). cond (not b) (m ∷ without n xs) (without n xs)) (ne_eqb m n (All-head (λ m. m ≡ n → ⊥) m xs each))
+    ap (λ (b : Bool). cond (not b) (m ∷ without_number n xs) (without_number n xs)) (ne_eqb m n (All-head (λ m. m ≡ n → ⊥) m xs each))
     ∙ ap (λ (rest : List ℕ). m ∷ rest) (without_other n xs (All-tail (λ m. m ≡ n → ⊥) m xs each))
 
-without_itself : (n : ℕ) (xs : List ℕ) → without n (n ∷ xs) ≡ without n xs
-without_itself n xs = ap (λ (b : Bool). cond (not b) (n ∷ without n xs) (without n xs)) (eq-eqb n n refl)
+without_itself : (n : ℕ) (xs : List ℕ) → without_number n (n ∷ xs) ≡ without_number n xs
+without_itself n xs = ap (λ (b : Bool). cond (not b) (n ∷ without_number n xs) (without_number n xs)) (eq-eqb n n refl)
 
 above : (n many : ℕ) → All (λ m. m ≡ n → ⊥) (range_with_len (n + 1) many)
 above n many = All-from_get_or (λ m. m ≡ n → ⊥) (range_with_len (n + 1) many) 0 (λ i lt same.
     let in' : i < many = omega (arith, lt, length-range_with_len (n + 1) many) in
     omega (arith, same, get_or-range_with_len (n + 1) many i 0 in'))
 
-without_between : (n many : ℕ) (front : List ℕ) → All (λ m. m < n) front → without n (front ++ range_with_len n (suc many)) ≡ front ++ range_with_len (n + 1) many
+without_between : (n many : ℕ) (front : List ℕ) → All (λ m. m < n) front → without_number n (front ++ range_with_len n (suc many)) ≡ front ++ range_with_len (n + 1) many
 without_between n many front below =
     let others : All (λ m. m ≡ n → ⊥) front = All-weaker (λ m. m < n) (λ m. m ≡ n → ⊥) (λ m lt same. omega (arith, lt, same)) front below in
     filter-append (λ m. not (m == n)) front (n ∷ range_with_len (n + 1) many)
-    ∙ (ap (λ (xs : List ℕ). xs ++ without n (n ∷ range_with_len (n + 1) many)) (without_other n front others)
+    ∙ (ap (λ (xs : List ℕ). xs ++ without_number n (n ∷ range_with_len (n + 1) many)) (without_other n front others)
     ∙ ap (λ (xs : List ℕ). front ++ xs) (without_itself n (range_with_len (n + 1) many) ∙ without_other n (range_with_len (n + 1) many) (above n many)))
 
 -- ---- what is kept while restrictions are tried
@@ -54,7 +54,7 @@ pub record Reducing (f : Wished) (n : ℕ) (kept : List ℕ) (drops : List (List
   pub below : All (λ m. m < n) front
   pub is : kept ≡ front ++ range_with_len n (wished_count f - n)
   pub each : length drops ≡ length front
-  pub met : (place m : ℕ) (table : List ℕ) → slice_get kept place ≡ Some m → slice_get drops place ≡ Some table → Permits (part f (without m kept)) table
+  pub met : (place m : ℕ) (table : List ℕ) → slice_get kept place ≡ Some m → slice_get drops place ≡ Some table → Permits (part f (without_number m kept)) table
 
 next_left : (f : Wished) (n : ℕ) (kept : List ℕ) → IsLeft f (suc n) kept → IsLeft f (n + 1) kept
 next_left f n kept h = let e : suc n ≡ n + 1 = omega arith in subst (λ k. IsLeft f k kept) e h
@@ -64,9 +64,9 @@ begun f n kept drops lt r =
     let k : wished_count f - n ≡ suc (wished_count f - (n + 1)) = omega arith in
     r.is ∙ ap (λ (m : ℕ). r.front ++ range_with_len n m) k
 
-pub taken_away : (f : Wished) (n : ℕ) (kept others : List ℕ) (drops : List (List ℕ)) → n < wished_count f → Reducing f n kept drops → others ≡ without n kept → NonePermitted (part f others) → Reducing f (n + 1) others drops
+pub taken_away : (f : Wished) (n : ℕ) (kept others : List ℕ) (drops : List (List ℕ)) → n < wished_count f → Reducing f n kept drops → others ≡ without_number n kept → NonePermitted (part f others) → Reducing f (n + 1) others drops
 taken_away f n kept others drops lt r e none =
-    let is : others ≡ r.front ++ range_with_len (n + 1) (wished_count f - (n + 1)) = e ∙ (ap (without n) (begun f n kept drops lt r) ∙ without_between n (wished_count f - (n + 1)) r.front r.below) in
+    let is : others ≡ r.front ++ range_with_len (n + 1) (wished_count f - (n + 1)) = e ∙ (ap (without_number n) (begun f n kept drops lt r) ∙ without_between n (wished_count f - (n + 1)) r.front r.below) in
     record {
       left = next_left f n others (kept, r.left, inl (subst (λ xs. NonePermitted (part f xs)) e none, e));
       front = r.front;
@@ -76,10 +76,10 @@ taken_away f n kept others drops lt r e none =
       met = λ place m table p q.
           let in' : place < length r.front = omega (arith, get_within drops place table q, r.each) in
           let at_front : slice_get others place ≡ slice_get kept place = ap (λ xs. slice_get xs place) is ∙ (get_left r.front _ place in' ∙ (sym (get_left r.front _ place in') ∙ ap (λ xs. slice_get xs place) (sym r.is))) in
-          fewer f (without m others) (without m kept) table (without_within m others kept (λ k h. (of_without n k kept (subst (λ xs. has xs k ≡ true) e h)).0)) (r.met place m table (sym at_front ∙ p) q);
+          fewer f (without_number m others) (without_number m kept) table (without_within m others kept (λ k h. (of_without n k kept (subst (λ xs. has xs k ≡ true) e h)).0)) (r.met place m table (sym at_front ∙ p) q);
     }
 
-pub one_kept : (f : Wished) (n : ℕ) (kept : List ℕ) (drops : List (List ℕ)) (table : List ℕ) → n < wished_count f → Reducing f n kept drops → Permits (part f (without n kept)) table → Reducing f (n + 1) kept (drops ++ table ∷ [])
+pub one_kept : (f : Wished) (n : ℕ) (kept : List ℕ) (drops : List (List ℕ)) (table : List ℕ) → n < wished_count f → Reducing f n kept drops → Permits (part f (without_number n kept)) table → Reducing f (n + 1) kept (drops ++ table ∷ [])
 one_kept f n kept drops table lt r permits =
     let rest : List ℕ = range_with_len (n + 1) (wished_count f - (n + 1)) in
     let is : kept ≡ r.front ++ n ∷ rest = begun f n kept drops lt r in
@@ -97,15 +97,15 @@ one_kept f n kept drops table lt r permits =
             let there : place ≡ length r.front + 0 = omega (arith, here, r.each) in
             let same_table : table ≡ other = same_Some table other (sym (get_right drops (table ∷ []) 0 place here) ∙ q) in
             let same_number : n ≡ m = same_Some n m (sym (get_right r.front (n ∷ rest) 0 place there) ∙ (sym (ap (λ xs. slice_get xs place) is) ∙ p)) in
-            subst (λ k. Permits (part f (without k kept)) other) same_number (subst (Permits (part f (without n kept))) same_table permits)
+            subst (λ k. Permits (part f (without_number k kept)) other) same_number (subst (Permits (part f (without_number n kept))) same_table permits)
       ];
     }
 
-none_at_all : (f : Wished) (first : List Line) → NoneAt (part f (all_numbers f)) first → NoneWished f
+none_at_all : (f : Wished) (first : List Line) → NoneAt (part f (all_restriction_numbers f)) first → NoneWished f
 none_at_all f first none table permits = none.none table ((part_of_all f table).1 permits)
 
 pub asked_there : (f : Wished) (n : ℕ) (kept others : List ℕ) (drops : List (List ℕ)) (budget : ℕ) (first all : List Line)
-    → NoneAt (part f (all_numbers f)) first → n < wished_count f → Reducing f n kept drops → others ≡ without n kept → SpentAt (part f others) budget all → IsSpentAt f budget (n + 1) all
+    → NoneAt (part f (all_restriction_numbers f)) first → n < wished_count f → Reducing f n kept drops → others ≡ without_number n kept → SpentAt (part f others) budget all → IsSpentAt f budget (n + 1) all
 asked_there f n kept others drops budget first all none lt r e spent =
     let next : suc n ≡ n + 1 = omega arith in
     record {
@@ -129,14 +129,14 @@ numbers_left f n kept h =
     let k = known f n kept h in
     record { numbered = all_has (λ n. n < wished_count f) kept k.numbered; ascending = k.ascending }
 
-pub numbers_without : (f : Wished) (n : ℕ) (kept : List ℕ) (drops : List (List ℕ)) (m : ℕ) (others : List ℕ) → Reducing f n kept drops → others ≡ without m kept → Numbers f others
+pub numbers_without : (f : Wished) (n : ℕ) (kept : List ℕ) (drops : List (List ℕ)) (m : ℕ) (others : List ℕ) → Reducing f n kept drops → others ≡ without_number m kept → Numbers f others
 numbers_without f n kept drops m others r e =
     let k = numbers_left f n kept r.left in
     subst (Numbers f) (sym e) (record { numbered = All-filter (λ i. not (i == m)) (λ i. i < wished_count f) kept k.numbered; ascending = IsStrictlyIncreasing-filter (λ i. not (i == m)) kept k.ascending })
 
 -- ---- the end
 
-pub all_tried : (f : Wished) (n : ℕ) (kept : List ℕ) (drops : List (List ℕ)) (all first : List Line) → IsFlat f.problem → wished_count f ≤ n → n ≤ wished_count f → Reducing f n kept drops → NoneAt (part f (all_numbers f)) first → NoneAt (part f kept) all → IsClashFound f kept drops all
+pub all_tried : (f : Wished) (n : ℕ) (kept : List ℕ) (drops : List (List ℕ)) (all first : List Line) → IsFlat f.problem → wished_count f ≤ n → n ≤ wished_count f → Reducing f n kept drops → NoneAt (part f (all_restriction_numbers f)) first → NoneAt (part f kept) all → IsClashFound f kept drops all
 all_tried f n kept drops all first flat le ge r none shown =
     let e : n ≡ wished_count f = omega (arith, le, ge) in
     let clash : IsClash f kept = subst (λ k. IsLeft f k kept) e r.left in
@@ -154,10 +154,10 @@ all_tried f n kept drops all first flat le ge r none shown =
 
 -- ---- the first step
 
-pub met_at_once : (f : Wished) (numbers table : List ℕ) (all : List Line) → numbers ≡ all_numbers f → FitsAt (part f numbers) table all → IsMet f table all
+pub met_at_once : (f : Wished) (numbers table : List ℕ) (all : List Line) → numbers ≡ all_restriction_numbers f → FitsAt (part f numbers) table all → IsMet f table all
 met_at_once f numbers table all e fits' =
     let fits = subst (λ xs. FitsAt (part f xs) table all) e fits' in
-    let nought : 0 ≡ fits.shown.0 = same_Some 0 fits.shown.0 (sym (part_cargo f (all_numbers f) table fits.permitted) ∙ fits.shown.1) in
+    let nought : 0 ≡ fits.shown.0 = same_Some 0 fits.shown.0 (sym (part_cargo f (all_restriction_numbers f) table fits.permitted) ∙ fits.shown.1) in
     record {
       permitted = (part_of_all f table).0 fits.permitted;
       proof = fits.proof;
@@ -166,8 +166,8 @@ met_at_once f numbers table all e fits' =
     }
 
 -- the timetable of a part without a number, by the list that is asked about
-pub fits_without : (f : Wished) (n : ℕ) (kept others : List ℕ) (table : List ℕ) (all : List Line) → others ≡ without n kept → FitsAt (part f others) table all → Permits (part f (without n kept)) table
+pub fits_without : (f : Wished) (n : ℕ) (kept others : List ℕ) (table : List ℕ) (all : List Line) → others ≡ without_number n kept → FitsAt (part f others) table all → Permits (part f (without_number n kept)) table
 fits_without f n kept others table all e fits = subst (λ xs. Permits (part f xs) table) e fits.permitted
 
-pub numbers_all : (f : Wished) → Numbers f (all_numbers f)
-numbers_all f = numbers_left f 0 (all_numbers f) refl
+pub numbers_all : (f : Wished) → Numbers f (all_restriction_numbers f)
+numbers_all f = numbers_left f 0 (all_restriction_numbers f) refl

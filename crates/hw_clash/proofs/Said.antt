@@ -5,7 +5,8 @@ use Rattle.std.proofs.lemmas.Option.{cond_some, same_Some, option_and_then_some}
 use Rattle.std.proofs.lemmas.List.Elements.{All-nil, All-cons, All-head, All-weaker}
 use Rattle.std.specs.List.Sorted.{IsStrictlyIncreasing}
 use Rattle.std.specs.Str.Parse.{digits_value}
-use Rattle.hw_derived.specs.Slots.{put_first, slot_form, slots_form}
+use Rattle.hw_lemmas.specs.Operators.{◌>>=◌}
+use Rattle.hw_derived.specs.Slots.{put_value_first, slot_form, slots_form}
 use Rattle.hw_text.specs.Numbers.{is_number, number_up_to, number_from_to}
 use Rattle.hw_text.specs.Parts.{words_of}
 use Rattle.hw_model.specs.Problem.{IsTimetable}
@@ -15,9 +16,9 @@ use Rattle.hw_clash.specs.declared.fault.ClashWord.{ClashWord}
 use Rattle.hw_clash.specs.declared.fault.ClashWord.TheVariants as words
 use Rattle.hw_clash.specs.Wished.{Wished, wished_count}
 use Rattle.hw_clash.specs.Parts.{part}
-use Rattle.hw_clash.specs.Clashing.{without, AreDrops}
+use Rattle.hw_clash.specs.Clashing.{without_number, AreDrops}
 use Rattle.hw_derived.proofs.Reading.{bind_ok, formed_ok, slot_below}
-use Rattle.hw_derived.specs.Reading.{Fault, ◌>>=◌, fault, formed, line_at}
+use Rattle.hw_derived.specs.Reading.{MalformedLine, malformed_line, formed_line, formed_line_at}
 use Rattle.hw_clash.specs.Text.{ids_from, some_ids, keep_words, keep_form, drop_words, drop_form, keep_at, drop_at, drops_at}
 
 -- ---- reading
@@ -47,7 +48,7 @@ rising n (m ∷ ids) above increasing (suc k) lt =
     let next : suc k + 1 ≡ suc (k + 1) = omega arith in
     subst (λ i. get_or (m ∷ ids) k 0 < get_or (n ∷ m ∷ ids) i 0) (sym next) (increasing k (omega (arith, lt)))
 
-pub put_some : (n : ℕ) (more : Option (List ℕ)) (ids : List ℕ) → put_first (Some n) more ≡ Some ids → (rest : List ℕ) × (more ≡ Some rest) × (n ∷ rest ≡ ids)
+pub put_some : (n : ℕ) (more : Option (List ℕ)) (ids : List ℕ) → put_value_first (Some n) more ≡ Some ids → (rest : List ℕ) × (more ≡ Some rest) × (n ∷ rest ≡ ids)
 put_some n None ids e = absurd cc
 put_some n (Some rest) ids e = (rest, refl, same_Some (n ∷ rest) ids e)
 
@@ -55,7 +56,7 @@ pub ids_read : (least many : ℕ) (words : List (List ℕ)) (ids : List ℕ) →
 ids_read least many [] ids some e =
     let none : [] ≡ ids = same_Some [] ids e in
     (subst (IdsFrom least many) none (record { above = All-nil (λ n. least ≤ n); below = All-nil (λ n. n < many); ascending = λ k lt. absurd (omega (arith, lt)) }), ap length (sym none))
-ids_read least many (word ∷ words) ids some e = option_and_then_some (λ id. put_first (Some id) (ids_from (id + 1) many words)) (number_from_to least (many - 1) word) ids e (λ n from kept.
+ids_read least many (word ∷ words) ids some e = option_and_then_some (λ id. put_value_first (Some id) (ids_from (id + 1) many words)) (number_from_to least (many - 1) word) ids e (λ n from kept.
     let range = in_range least many word n some from in
     let put = put_some n (ids_from (n + 1) many words) ids kept in
     let rest = ids_read (n + 1) many words put.0 some put.1 in
@@ -87,26 +88,26 @@ keep_words_read : (f : Wished) (words : List (List ℕ)) (kept : List ℕ) → 0
 keep_words_read f [] kept some e = absurd cc
 keep_words_read f (key ∷ words) kept some e = some_read f words kept some (by_key (bytes_eq key (codes "keep")) (some_ids (wished_count f) words) kept e)
 
-abbrev pub kept_and : List (List ℕ) → List ℕ → Result (List ℕ × List (List ℕ)) (Fault ClashWord)
+abbrev pub kept_and : List (List ℕ) → List ℕ → Result (List ℕ × List (List ℕ)) (MalformedLine ClashWord)
 kept_and rest kept = Ok (kept, rest)
 
-abbrev pub after_keep : Wished → List ℕ × List (List ℕ) → Result (List ℕ × List (List ℕ)) (Fault ClashWord)
-after_keep f line = formed 2 words.Keep (keep_form f line.0) >>= kept_and line.1
+abbrev pub after_keep : Wished → List ℕ × List (List ℕ) → Result (List ℕ × List (List ℕ)) (MalformedLine ClashWord)
+after_keep f line = formed_line 2 words.Keep (keep_form f line.0) >>= kept_and line.1
 
-first_same : (a b : List ℕ × List (List ℕ)) → ◌≡◌ {A = Result (List ℕ × List (List ℕ)) (Fault ClashWord)} (Ok a) (Ok b) → a.0 ≡ b.0
+first_same : (a b : List ℕ × List (List ℕ)) → ◌≡◌ {A = Result (List ℕ × List (List ℕ)) (MalformedLine ClashWord)} (Ok a) (Ok b) → a.0 ≡ b.0
 first_same a b e = let p : a ≡ b = cc in ap (λ (x : List ℕ × List (List ℕ)). x.0) p
 
 pub keep_read : (f : Wished) (parts : List (List ℕ)) (read : List ℕ × List (List ℕ)) → 0 < f.problem.ships → keep_at f parts ≡ Ok read → KeepRead f read.0
 unfolding keep_at
 keep_read f parts read some e =
-    let line = bind_ok (line_at 2 words.Keep parts) (after_keep f) read e in
-    let kept = bind_ok (formed 2 words.Keep (keep_form f line.value.0)) (kept_and line.value.1) read line.then' in
+    let line = bind_ok (formed_line_at 2 words.Keep parts) (after_keep f) read e in
+    let kept = bind_ok (formed_line 2 words.Keep (keep_form f line.value.0)) (kept_and line.value.1) read line.then' in
     let form = formed_ok 2 words.Keep (keep_form f line.value.0) kept.value kept.is in
     subst (KeepRead f) (first_same (kept.value, line.value.1) read kept.then') (keep_words_read f (words_of line.value.0) kept.value (omega (arith, some)) form)
 
 -- ---- timetables
 
-pub put_parts : (o : Option ℕ) (more : Option (List ℕ)) (list : List ℕ) → put_first o more ≡ Some list → (n : ℕ) × (rest : List ℕ) × (o ≡ Some n) × (more ≡ Some rest) × (n ∷ rest ≡ list)
+pub put_parts : (o : Option ℕ) (more : Option (List ℕ)) (list : List ℕ) → put_value_first o more ≡ Some list → (n : ℕ) × (rest : List ℕ) × (o ≡ Some n) × (more ≡ Some rest) × (n ∷ rest ≡ list)
 put_parts None more list e = absurd cc
 put_parts (Some n) None list e = absurd cc
 put_parts (Some n) (Some rest) list e = (n, rest, refl, refl, same_Some (n ∷ rest) list e)
@@ -130,43 +131,43 @@ drop_words_read f id (key ∷ word ∷ words) table some e =
     let r = slots_read f.problem.slots f.problem.ships words table some form in
     record { each_ship = r.0; each_slot = r.1 }
 
-abbrev pub after_form : Wished → List ℕ → ℕ → ℕ → List (List ℕ) → List ℕ → Result (List ℕ × List (List ℕ)) (Fault ClashWord)
-after_form f kept number id rest table = cond (is_some (first_broken (part f (without id kept)) table)) (fault number words.Table) (Ok (table, rest))
+abbrev pub after_form : Wished → List ℕ → ℕ → ℕ → List (List ℕ) → List ℕ → Result (List ℕ × List (List ℕ)) (MalformedLine ClashWord)
+after_form f kept number id rest table = cond (is_some (first_broken (part f (without_number id kept)) table)) (malformed_line number words.Table) (Ok (table, rest))
 
-abbrev pub after_line : Wished → List ℕ → ℕ → ℕ → List ℕ × List (List ℕ) → Result (List ℕ × List (List ℕ)) (Fault ClashWord)
-after_line f kept number id line = formed number words.Drop (drop_form f id line.0) >>= after_form f kept number id line.1
+abbrev pub after_line : Wished → List ℕ → ℕ → ℕ → List ℕ × List (List ℕ) → Result (List ℕ × List (List ℕ)) (MalformedLine ClashWord)
+after_line f kept number id line = formed_line number words.Drop (drop_form f id line.0) >>= after_form f kept number id line.1
 
-pub unbroken : (o : Option ℕ) (number : ℕ) (x y : List ℕ × List (List ℕ)) → cond (is_some o) (fault number words.Table) (Ok x) ≡ Ok y → (o ≡ None) × (x ≡ y)
+pub unbroken : (o : Option ℕ) (number : ℕ) (x y : List ℕ × List (List ℕ)) → cond (is_some o) (malformed_line number words.Table) (Ok x) ≡ Ok y → (o ≡ None) × (x ≡ y)
 unbroken None number x y e = (refl, cc)
 unbroken (Some n) number x y e = absurd cc
 
-drop_read : (f : Wished) (kept : List ℕ) (number id : ℕ) (parts : List (List ℕ)) (read : List ℕ × List (List ℕ)) → 0 < f.problem.slots → drop_at f kept number id parts ≡ Ok read → Permits (part f (without id kept)) read.0
+drop_read : (f : Wished) (kept : List ℕ) (number id : ℕ) (parts : List (List ℕ)) (read : List ℕ × List (List ℕ)) → 0 < f.problem.slots → drop_at f kept number id parts ≡ Ok read → Permits (part f (without_number id kept)) read.0
 unfolding drop_at
 drop_read f kept number id parts read some e =
-    let line = bind_ok (line_at number words.Drop parts) (after_line f kept number id) read e in
-    let table = bind_ok (formed number words.Drop (drop_form f id line.value.0)) (after_form f kept number id line.value.1) read line.then' in
+    let line = bind_ok (formed_line_at number words.Drop parts) (after_line f kept number id) read e in
+    let table = bind_ok (formed_line number words.Drop (drop_form f id line.value.0)) (after_form f kept number id line.value.1) read line.then' in
     let form = formed_ok number words.Drop (drop_form f id line.value.0) table.value table.is in
-    let last = unbroken (first_broken (part f (without id kept)) table.value) number (table.value, line.value.1) read table.then' in
+    let last = unbroken (first_broken (part f (without_number id kept)) table.value) number (table.value, line.value.1) read table.then' in
     let is = drop_words_read f id (words_of line.value.0) table.value some form in
-    let permits : Permits (part f (without id kept)) table.value = permits_from (part f (without id kept)) table.value (record { each_ship = is.each_ship; each_slot = is.each_slot }) last.0 in
-    subst (Permits (part f (without id kept))) (ap (λ (x : List ℕ × List (List ℕ)). x.0) last.1) permits
+    let permits : Permits (part f (without_number id kept)) table.value = permits_from (part f (without_number id kept)) table.value (record { each_ship = is.each_ship; each_slot = is.each_slot }) last.0 in
+    subst (Permits (part f (without_number id kept))) (ap (λ (x : List ℕ × List (List ℕ)). x.0) last.1) permits
 
 -- each timetable is permitted by the part of the kept ones without its own
 abbrev MetBy : Wished → List ℕ → List ℕ → List (List ℕ) → Type 0
-MetBy f kept ids drops = (length drops ≡ length ids) × ((place n : ℕ) (table : List ℕ) → slice_get ids place ≡ Some n → slice_get drops place ≡ Some table → Permits (part f (without n kept)) table)
+MetBy f kept ids drops = (length drops ≡ length ids) × ((place n : ℕ) (table : List ℕ) → slice_get ids place ≡ Some n → slice_get drops place ≡ Some table → Permits (part f (without_number n kept)) table)
 
-met_more : (f : Wished) (kept ids : List ℕ) (drops : List (List ℕ)) (id : ℕ) (first : List ℕ) → Permits (part f (without id kept)) first → MetBy f kept ids drops → (place n : ℕ) (table : List ℕ) → slice_get (id ∷ ids) place ≡ Some n → slice_get (first ∷ drops) place ≡ Some table → Permits (part f (without n kept)) table
+met_more : (f : Wished) (kept ids : List ℕ) (drops : List (List ℕ)) (id : ℕ) (first : List ℕ) → Permits (part f (without_number id kept)) first → MetBy f kept ids drops → (place n : ℕ) (table : List ℕ) → slice_get (id ∷ ids) place ≡ Some n → slice_get (first ∷ drops) place ≡ Some table → Permits (part f (without_number n kept)) table
 met_more f kept ids drops id first permits more zero n table p q =
-    subst (Permits (part f (without n kept))) (same_Some first table q) (subst (λ m. Permits (part f (without m kept)) first) (same_Some id n p) permits)
+    subst (Permits (part f (without_number n kept))) (same_Some first table q) (subst (λ m. Permits (part f (without_number m kept)) first) (same_Some id n p) permits)
 met_more f kept ids drops id first permits more (suc place) n table p q = more.1 place n table p q
 
-abbrev pub after_more : List ℕ → List (List ℕ) × List (List ℕ) → Result (List (List ℕ) × List (List ℕ)) (Fault ClashWord)
+abbrev pub after_more : List ℕ → List (List ℕ) × List (List ℕ) → Result (List (List ℕ) × List (List ℕ)) (MalformedLine ClashWord)
 after_more table more = Ok (table ∷ more.0, more.1)
 
-abbrev pub after_first : Wished → List ℕ → ℕ → List ℕ → List ℕ × List (List ℕ) → Result (List (List ℕ) × List (List ℕ)) (Fault ClashWord)
+abbrev pub after_first : Wished → List ℕ → ℕ → List ℕ → List ℕ × List (List ℕ) → Result (List (List ℕ) × List (List ℕ)) (MalformedLine ClashWord)
 after_first f kept number ids table = drops_at f kept (number + 1) ids table.1 >>= after_more table.0
 
-lists_same : (a b : List (List ℕ) × List (List ℕ)) → ◌≡◌ {A = Result (List (List ℕ) × List (List ℕ)) (Fault ClashWord)} (Ok a) (Ok b) → a.0 ≡ b.0
+lists_same : (a b : List (List ℕ) × List (List ℕ)) → ◌≡◌ {A = Result (List (List ℕ) × List (List ℕ)) (MalformedLine ClashWord)} (Ok a) (Ok b) → a.0 ≡ b.0
 lists_same a b e = let p : a ≡ b = cc in ap (λ (x : List (List ℕ) × List (List ℕ)). x.0) p
 
 pub drops_read : (f : Wished) (kept : List ℕ) (number : ℕ) (ids : List ℕ) (parts : List (List ℕ)) (read : List (List ℕ) × List (List ℕ)) → 0 < f.problem.slots → drops_at f kept number ids parts ≡ Ok read → MetBy f kept ids read.0

@@ -3,7 +3,9 @@ use Rattle.std.proofs.Common.{◌≡◌, ℕ, zero, suc, ◌+◌, ◌-◌, ◌<�
 use Rattle.std.proofs.Math.Path.{ap₂}
 use Rattle.std.proofs.lemmas.List.Elements.{All-head, All-tail, All-weaker}
 use Rattle.std.proofs.lemmas.Option.{same_Some, option_and_then_some}
-use Rattle.hw_derived.specs.Slots.{put_first, slot_form, slots_form}
+use Rattle.hw_lemmas.specs.Operators.{◌>>=◌}
+use Rattle.hw_laws.proofs.Horizon.{few_slots}
+use Rattle.hw_derived.specs.Slots.{put_value_first, slot_form, slots_form}
 use Rattle.hw_text.specs.Numbers.{number_from_to}
 use Rattle.hw_text.specs.Parts.{parts_of, words_of, first_part, at_end}
 use Rattle.hw_text.proofs.Joins.{is_ended_lines}
@@ -15,8 +17,7 @@ use Rattle.hw_clash.specs.declared.fault.ClashWord.TheVariants as words
 use Rattle.hw_clash.specs.Clashes.{Clash}
 use Rattle.hw_clash.specs.Wished.{Wished, IsWished, wished_count}
 use Rattle.hw_derived.proofs.Reading.{bind_ok, formed_ok}
-use Rattle.hw_derived.specs.Reading.{Fault, ◌>>=◌, fault, formed, line_at, only_at, ended_at}
-use Rattle.hw_cert.proofs.SmallNumbers.{few_slots}
+use Rattle.hw_derived.specs.Reading.{MalformedLine, malformed_line, formed_line, formed_line_at, only_at, ended_at}
 use Rattle.hw_clash.specs.Text.{ids_from, some_ids, keep_words, keep_form, drop_words, drop_form, keep_at, drop_at, drops_at, clash_by, clash_of}
 use Rattle.hw_clash.specs.Written.{keep_line, drop_line, drop_lines, clash_lines}
 use Rattle.hw_clash.specs.Laws.{OneClashText}
@@ -30,7 +31,7 @@ Parts = List (List ℕ)
 
 ids_spelled : (least many : ℕ) (words : Parts) (ids : List ℕ) → many ≤ 4_080 → ids_from least many words ≡ Some ids → words ≡ map decimal ids
 ids_spelled least many [] ids few e = ap (map decimal) (same_Some [] ids e)
-ids_spelled least many (word ∷ words) ids few e = option_and_then_some (λ id. put_first (Some id) (ids_from (id + 1) many words)) (number_from_to least (many - 1) word) ids e (λ n from kept.
+ids_spelled least many (word ∷ words) ids few e = option_and_then_some (λ id. put_value_first (Some id) (ids_from (id + 1) many words)) (number_from_to least (many - 1) word) ids e (λ n from kept.
     let put = put_some n (ids_from (n + 1) many words) ids kept in
     let one = from_to_is least (many - 1) word n (omega (arith, few)) from in
     ap₂ ◌∷◌ one.0 (ids_spelled (n + 1) many words put.0 few put.1) ∙ ap (map decimal) put.2)
@@ -95,30 +96,30 @@ first_is [] read e = absurd cc
 first_is (x ∷ []) read e = absurd cc
 first_is (x ∷ y ∷ more) read e = ap (λ (r : List ℕ × Parts). r.0 ∷ r.1) (same_Some (x, y ∷ more) read e)
 
-line_is : (number : ℕ) (word : ClashWord) (parts : Parts) (read : List ℕ × Parts) → line_at number word parts ≡ Ok read → parts ≡ read.0 ∷ read.1
+line_is : (number : ℕ) (word : ClashWord) (parts : Parts) (read : List ℕ × Parts) → formed_line_at number word parts ≡ Ok read → parts ≡ read.0 ∷ read.1
 line_is number word parts read e = first_is parts read (formed_ok number word (first_part parts) read e)
 
-by_test : (b : Bool) (number : ℕ) (word : ClashWord) (x y : Parts) → cond b (Ok x) (fault number word) ≡ Ok y → (b ≡ true) × (x ≡ y)
+by_test : (b : Bool) (number : ℕ) (word : ClashWord) (x y : Parts) → cond b (Ok x) (malformed_line number word) ≡ Ok y → (b ≡ true) × (x ≡ y)
 by_test true number word x y e = (refl, cc)
 by_test false number word x y e = absurd cc
 
-abbrev after_only : ℕ → ClashWord → List ℕ → List ℕ × Parts → Result Parts (Fault ClashWord)
-after_only number word text line = cond (bytes_eq line.0 text) (Ok line.1) (fault number word)
+abbrev after_only : ℕ → ClashWord → List ℕ → List ℕ × Parts → Result Parts (MalformedLine ClashWord)
+after_only number word text line = cond (bytes_eq line.0 text) (Ok line.1) (malformed_line number word)
 
 only_is : (number : ℕ) (word : ClashWord) (text : List ℕ) (parts rest : Parts) → only_at number word text parts ≡ Ok rest → parts ≡ text ∷ rest
 only_is number word text parts rest e =
-    let line = bind_ok (line_at number word parts) (after_only number word text) rest e in
+    let line = bind_ok (formed_line_at number word parts) (after_only number word text) rest e in
     let t = by_test (bytes_eq line.value.0 text) number word line.value.1 rest line.then' in
     line_is number word parts line.value line.is ∙ ap₂ ◌∷◌ (same_text line.value.0 text t.0) t.1
 
-pair_same : {A : Type 0} (a b : A × Parts) → ◌≡◌ {A = Result (A × Parts) (Fault ClashWord)} (Ok a) (Ok b) → a ≡ b
+pair_same : {A : Type 0} (a b : A × Parts) → ◌≡◌ {A = Result (A × Parts) (MalformedLine ClashWord)} (Ok a) (Ok b) → a ≡ b
 pair_same a b e = cc
 
 keep_is : (f : Wished) (parts : Parts) (read : List ℕ × Parts) → IsWished f → keep_at f parts ≡ Ok read → parts ≡ keep_line read.0 ∷ read.1
 unfolding keep_at
 keep_is f parts read flat e =
-    let line = bind_ok (line_at 2 words.Keep parts) (after_keep f) read e in
-    let kept = bind_ok (formed 2 words.Keep (keep_form f line.value.0)) (kept_and line.value.1) read line.then' in
+    let line = bind_ok (formed_line_at 2 words.Keep parts) (after_keep f) read e in
+    let kept = bind_ok (formed_line 2 words.Keep (keep_form f line.value.0)) (kept_and line.value.1) read line.then' in
     let form = formed_ok 2 words.Keep (keep_form f line.value.0) kept.value kept.is in
     line_is 2 words.Keep parts line.value line.is
     ∙ ap (λ (l : List ℕ). l ∷ line.value.1) (keep_spelled f line.value.0 kept.value flat form)
@@ -127,8 +128,8 @@ keep_is f parts read flat e =
 drop_is : (f : Wished) (kept : List ℕ) (number id : ℕ) (parts : Parts) (read : List ℕ × Parts) → IsWished f → id ≤ 4_080 → drop_at f kept number id parts ≡ Ok read → parts ≡ drop_line id read.0 ∷ read.1
 unfolding drop_at
 drop_is f kept number id parts read flat few e =
-    let line = bind_ok (line_at number words.Drop parts) (after_line f kept number id) read e in
-    let table = bind_ok (formed number words.Drop (drop_form f id line.value.0)) (after_form f kept number id line.value.1) read line.then' in
+    let line = bind_ok (formed_line_at number words.Drop parts) (after_line f kept number id) read e in
+    let table = bind_ok (formed_line number words.Drop (drop_form f id line.value.0)) (after_form f kept number id line.value.1) read line.then' in
     let form = formed_ok number words.Drop (drop_form f id line.value.0) table.value table.is in
     let last = unbroken _ number (table.value, line.value.1) read table.then' in
     line_is number words.Drop parts line.value line.is
@@ -160,20 +161,20 @@ empty_is (x ∷ y ∷ more) e = absurd (no_more x y more e)
 ended_is : (number : ℕ) (word : ClashWord) (read clash : Clash) (parts : Parts) → ended_at number word read parts ≡ Ok clash → (read ≡ clash) × (parts ≡ [] ∷ [])
 ended_is number word read clash parts e = by_end (at_end parts) refl e
   where
-    by_end : (b : Bool) → at_end parts ≡ b → cond b (Ok read) (fault number word) ≡ Ok clash → (read ≡ clash) × (parts ≡ [] ∷ [])
+    by_end : (b : Bool) → at_end parts ≡ b → cond b (Ok read) (malformed_line number word) ≡ Ok clash → (read ≡ clash) × (parts ≡ [] ∷ [])
     by_end true t h = (cc, empty_is parts t)
     by_end false t h = absurd cc
 
-abbrev after_end : List ℕ → List (List ℕ) → Parts → Result Clash (Fault ClashWord)
+abbrev after_end : List ℕ → List (List ℕ) → Parts → Result Clash (MalformedLine ClashWord)
 after_end kept drops rest = ended_at (4 + length kept) words.Tail (clash_by kept drops) rest
 
-abbrev after_drops : List ℕ → List (List ℕ) × Parts → Result Clash (Fault ClashWord)
+abbrev after_drops : List ℕ → List (List ℕ) × Parts → Result Clash (MalformedLine ClashWord)
 after_drops kept drops = only_at (3 + length kept) words.Tail (codes "end") drops.1 >>= after_end kept drops.0
 
-abbrev after_kept : Wished → List ℕ × Parts → Result Clash (Fault ClashWord)
+abbrev after_kept : Wished → List ℕ × Parts → Result Clash (MalformedLine ClashWord)
 after_kept f keep = drops_at f keep.0 3 keep.0 keep.1 >>= after_drops keep.0
 
-abbrev after_header : Wished → Parts → Result Clash (Fault ClashWord)
+abbrev after_header : Wished → Parts → Result Clash (MalformedLine ClashWord)
 after_header f first = keep_at f first >>= after_kept f
 
 lines_are : (f : Wished) (parts : Parts) (clash : Clash) → IsWished f → clash_of f parts ≡ Ok clash → parts ≡ clash_lines clash ++ [] ∷ []

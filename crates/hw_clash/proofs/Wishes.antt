@@ -1,14 +1,14 @@
 -- Timetables that meet the wishes of a plan.
 use Rattle.std.proofs.Common.{◌≡◌, ℕ, ◌<◌, List, length, Option, Some, None, IfSome, IsTrue, slice_get, get_or, refl, subst, arith}
-use Rattle.hw_derived.proofs.Places.{get_within}
 use Rattle.hw_model.specs.Problem.{Problem}
 use Rattle.hw_derived.specs.Fleets.{lessened}
 use Rattle.hw_repair.specs.Wishes.{PlanParts, Grants, PlanFits, PermitsPlan}
 use Rattle.hw_repair.specs.declared.plan.Wish.{Wish}
 use Rattle.hw_repair.proofs.Values.{grants_of, of_grants}
 use Rattle.std.proofs.lemmas.Option.{get_or_from_slice_get}
+use Rattle.hw_lemmas.proofs.Lists.{get_within}
 use Rattle.hw_clash.specs.Laws.{WishesMean}
-use Rattle.hw_clash.specs.Wished.{PermitsWished, is_granted, wished}
+use Rattle.hw_clash.specs.Wished.{PermitsWished, is_granted, with_wishes}
 use Rattle.hw_clash.proofs.Parts.{slot_at}
 
 -- one wish
@@ -22,7 +22,7 @@ wish_granted wish table ship h = by (slice_get table ship) refl
     by None e = refl
     by (Some slot) e = of_grants wish slot (subst (Grants wish) (get_or_from_slice_get table ship slot 0 e) h)
 
-to_plan : (f : Problem) (plan : PlanParts) (table : List ℕ) → PlanFits f plan → PermitsWished (wished (lessened plan.withdrawn f) plan.wishes) table → PermitsPlan f plan table
+to_plan : (f : Problem) (plan : PlanParts) (table : List ℕ) → PlanFits f plan → PermitsWished (with_wishes (lessened plan.withdrawn f) plan.wishes) table → PermitsPlan f plan table
 to_plan f plan table fits permits = record { permitted = permits.permitted; granted = λ ship. by ship (slice_get plan.wishes ship) refl }
   where
     by : (ship : ℕ) (o : Option Wish) → slice_get plan.wishes ship ≡ o → IfSome o (λ wish. Grants wish (get_or table ship 0))
@@ -31,7 +31,7 @@ to_plan f plan table fits permits = record { permitted = permits.permitted; gran
         let lt : ship < f.ships = omega (arith, get_within plan.wishes ship wish e, fits.each_ship) in
         granted_wish wish table ship (omega (arith, lt, permits.permitted.listed.each_ship)) (subst (λ o. IsTrue (is_granted o (slice_get table ship))) e (permits.granted ship))
 
-of_plan : (f : Problem) (plan : PlanParts) (table : List ℕ) → PermitsPlan f plan table → PermitsWished (wished (lessened plan.withdrawn f) plan.wishes) table
+of_plan : (f : Problem) (plan : PlanParts) (table : List ℕ) → PermitsPlan f plan table → PermitsWished (with_wishes (lessened plan.withdrawn f) plan.wishes) table
 of_plan f plan table meets = record { permitted = meets.permitted; granted = λ ship. by ship (slice_get plan.wishes ship) (meets.granted ship) }
   where
     by : (ship : ℕ) (o : Option Wish) → IfSome o (λ wish. Grants wish (get_or table ship 0)) → IsTrue (is_granted o (slice_get table ship))

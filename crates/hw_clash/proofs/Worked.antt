@@ -7,7 +7,7 @@ use Rattle.hw_laws.proofs.Broken.{permits_from, from_permits}
 use Rattle.hw_rules.specs.Outcomes.{SomePermitted}
 use Rattle.hw_clash.specs.Parts.{part}
 use Rattle.hw_clash.specs.Clashing.{IsLeft}
-use Rattle.hw_clash.specs.Rows.{no_way, late}
+use Rattle.hw_clash.specs.Rows.{no_way, late_first_ship}
 use Rattle.hw_clash.specs.Wished.{unplanned}
 
 broken : (f : Problem) (table : List ℕ) (n : ℕ) → first_broken f table ≡ Some n → Permits f table → ⊥
@@ -62,13 +62,13 @@ the_clash = (
   inr (without_third, refl),
 )
 
-without_rule : SomePermitted (part late (3 ∷ 4 ∷ []))
-without_rule = (1 ∷ 1 ∷ [], permits_from (part late (3 ∷ 4 ∷ [])) (1 ∷ 1 ∷ []) (listed (part late (3 ∷ 4 ∷ [])) 1 1 refl (omega arith) (omega arith)) refl)
+without_rule : SomePermitted (part late_first_ship (3 ∷ 4 ∷ []))
+without_rule = (1 ∷ 1 ∷ [], permits_from (part late_first_ship (3 ∷ 4 ∷ [])) (1 ∷ 1 ∷ []) (listed (part late_first_ship (3 ∷ 4 ∷ [])) 1 1 refl (omega arith) (omega arith)) refl)
 
-without_late : SomePermitted (part late (2 ∷ 4 ∷ []))
-without_late = (0 ∷ 1 ∷ [], permits_from (part late (2 ∷ 4 ∷ [])) (0 ∷ 1 ∷ []) (listed (part late (2 ∷ 4 ∷ [])) 0 1 refl (omega arith) (omega arith)) refl)
+without_late : SomePermitted (part late_first_ship (2 ∷ 4 ∷ []))
+without_late = (0 ∷ 1 ∷ [], permits_from (part late_first_ship (2 ∷ 4 ∷ [])) (0 ∷ 1 ∷ []) (listed (part late_first_ship (2 ∷ 4 ∷ [])) 0 1 refl (omega arith) (omega arith)) refl)
 
-pub the_late_clash : IsLeft late 5 (2 ∷ 3 ∷ [])
+pub the_late_clash : IsLeft late_first_ship 5 (2 ∷ 3 ∷ [])
 the_late_clash = (
   2 ∷ 3 ∷ 4 ∷ [],
   (
@@ -77,12 +77,12 @@ the_late_clash = (
       2 ∷ 3 ∷ 4 ∷ [],
       (
         1 ∷ 2 ∷ 3 ∷ 4 ∷ [],
-        (0 ∷ 1 ∷ 2 ∷ 3 ∷ 4 ∷ [], refl, inl (of_two (part late (1 ∷ 2 ∷ 3 ∷ 4 ∷ [])) refl refl 0 0 1 2 refl refl refl refl, refl)),
-        inl (of_two (part late (2 ∷ 3 ∷ 4 ∷ [])) refl refl 0 0 1 2 refl refl refl refl, refl),
+        (0 ∷ 1 ∷ 2 ∷ 3 ∷ 4 ∷ [], refl, inl (of_two (part late_first_ship (1 ∷ 2 ∷ 3 ∷ 4 ∷ [])) refl refl 0 0 1 2 refl refl refl refl, refl)),
+        inl (of_two (part late_first_ship (2 ∷ 3 ∷ 4 ∷ [])) refl refl 0 0 1 2 refl refl refl refl, refl),
       ),
       inr (without_rule, refl),
     ),
     inr (without_late, refl),
   ),
-  inl (of_two (part late (2 ∷ 3 ∷ [])) refl refl 0 0 2 2 refl refl refl refl, refl),
+  inl (of_two (part late_first_ship (2 ∷ 3 ∷ [])) refl refl 0 0 2 2 refl refl refl refl, refl),
 )

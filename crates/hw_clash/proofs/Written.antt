@@ -16,15 +16,15 @@ use Rattle.hw_flat.proofs.TextLacks.{number_lacks, joined_lacks}
 use Rattle.hw_laws.proofs.Broken.{from_permits}
 use Rattle.hw_model.specs.Problem.{IsTimetable}
 use Rattle.hw_model.specs.Timetables.{Permits}
-use Rattle.hw_cert.proofs.SmallNumbers.{few_slots}
+use Rattle.hw_laws.proofs.Horizon.{few_slots}
 use Rattle.hw_clash.specs.Clashes.{Clash}
 use Rattle.hw_clash.specs.Wished.{Wished, IsWished, wished_count}
 use Rattle.hw_clash.specs.Parts.{part}
-use Rattle.hw_clash.specs.Clashing.{without}
+use Rattle.hw_clash.specs.Clashing.{without_number}
 use Rattle.hw_clash.specs.Read.{SaysClash}
 use Rattle.hw_clash.specs.Text.{ids_from, some_ids, keep_words, keep_form, drop_words, drop_form, keep_at, drop_at, drops_at, clash_of}
 use Rattle.hw_clash.specs.Written.{keep_line, drop_line, drop_lines, clash_lines, written_clash}
-use Rattle.hw_clash.specs.Laws.{WrittenReads}
+use Rattle.hw_clash.specs.Laws.{WrittenClashReads}
 use Rattle.hw_clash.proofs.Irreducible.{slots_there}
 
 abbrev Small : ℕ → Type 0
@@ -101,13 +101,13 @@ full_after (x ∷ xs) parts full = (x, xs ++ parts, refl)
 
 -- each timetable is permitted by the part of the kept ones without its own
 abbrev MetBy : Wished → List ℕ → List ℕ → List (List ℕ) → Type 0
-MetBy f kept ids drops = (place n : ℕ) (table : List ℕ) → slice_get ids place ≡ Some n → slice_get drops place ≡ Some table → Permits (part f (without n kept)) table
+MetBy f kept ids drops = (place n : ℕ) (table : List ℕ) → slice_get ids place ≡ Some n → slice_get drops place ≡ Some table → Permits (part f (without_number n kept)) table
 
-one_back : (f : Wished) (kept : List ℕ) (number id : ℕ) (table : List ℕ) (rest : Parts) → Full rest → IsWished f → id < wished_count f → Permits (part f (without id kept)) table → drop_at f kept number id (drop_line id table ∷ rest) ≡ Ok (table, rest)
+one_back : (f : Wished) (kept : List ℕ) (number id : ℕ) (table : List ℕ) (rest : Parts) → Full rest → IsWished f → id < wished_count f → Permits (part f (without_number id kept)) table → drop_at f kept number id (drop_line id table ∷ rest) ≡ Ok (table, rest)
 unfolding drop_at
 one_back f kept number id table rest full flat lt permits =
     let is : IsTimetable f.problem table = record { each_ship = permits.listed.each_ship; each_slot = permits.listed.each_slot } in
-    rw (full.2, drop_back f id table flat lt is, from_permits (part f (without id kept)) table permits) refl
+    rw (full.2, drop_back f id table flat lt is, from_permits (part f (without_number id kept)) table permits) refl
 
 pub drops_back : (f : Wished) (kept : List ℕ) (number : ℕ) (ids : List ℕ) (drops : List (List ℕ)) (rest : Parts) → Full rest → IsWished f → All (λ n. n < wished_count f) ids → length drops ≡ length ids → MetBy f kept ids drops
     → drops_at f kept number ids (drop_lines ids drops ++ rest) ≡ Ok (drops, rest)
@@ -150,7 +150,7 @@ lines_back f clash flat says =
     let drops : drops_at f clash.kept 3 clash.kept (full.0 ∷ full.1) ≡ Ok (clash.drops, tail) = rw (sym full.2) (drops_back f clash.kept 3 clash.kept clash.drops tail (codes "end", [] ∷ [], refl) flat says.numbered says.drops.each_id says.drops.met) in
     rw (full.2, keep_back f clash flat says, drops) refl
 
-pub written_reads : WrittenReads
+pub written_reads : WrittenClashReads
 written_reads f clash flat says =
     let lines : parts_of 10 (written_clash clash) ≡ codes "clash 1" ∷ keep_line clash.kept ∷ (drop_lines clash.kept clash.drops ++ codes "end" ∷ [] ∷ []) =
     cut_ended (clash_lines clash) (lines_lack f clash flat says) ∙ ap (λ (ps : Parts). codes "clash 1" ∷ keep_line clash.kept ∷ ps) (append_assoc (drop_lines clash.kept clash.drops) (codes "end" ∷ []) ([] ∷ [])) in

@@ -29,8 +29,8 @@ pub record SpentAt (g : Problem) (budget : ℕ) (all : List Line) : Type 0 where
   pub unclosed : is_closed all ≡ false
   pub few : budget ≤ room_count g
 
-abbrev pub AskMeets : Problem → ℕ → Asked → Type 0
-AskMeets g budget (Fits table proof) = FitsAt g table proof
-AskMeets g budget (NoneFits proof) = NoneAt g proof
-AskMeets g budget (Spent proof) = SpentAt g budget proof
-AskMeets g budget NoMemory = ⊤
+abbrev pub ClashAskMeets : Problem → ℕ → Asked → Type 0
+ClashAskMeets g budget (Fits table proof) = FitsAt g table proof
+ClashAskMeets g budget (NoneFits proof) = NoneAt g proof
+ClashAskMeets g budget (Spent proof) = SpentAt g budget proof
+ClashAskMeets g budget NoMemory = ⊤

@@ -6,10 +6,10 @@ use Rattle.hw_model.specs.Timetables.{Permits, cargo}
 use Rattle.hw_flat.specs.TextWritten.{IsWritable}
 use Rattle.hw_derived.specs.Fleets.{lessened}
 use Rattle.hw_repair.specs.Wishes.{PlanParts, PlanFits, PermitsPlan}
-use Rattle.hw_clash.specs.Wished.{Wished, IsWished, PermitsWished, NoneWished, wished, unplanned}
+use Rattle.hw_clash.specs.Wished.{Wished, IsWished, PermitsWished, NoneWished, with_wishes, unplanned}
 use Rattle.hw_clash.specs.Parts.{part_value, part, rule_numbers, Meets}
 use Rattle.hw_clash.specs.Clashes.{Clash}
-use Rattle.hw_clash.specs.Clashing.{all_numbers, IsClash, IsIrreducible}
+use Rattle.hw_clash.specs.Clashing.{all_restriction_numbers, IsClash, IsIrreducible}
 use Rattle.hw_clash.specs.Read.{SaysClash}
 use Rattle.hw_clash.specs.Text.{clash_text}
 use Rattle.hw_clash.specs.Written.{written_clash}
@@ -46,11 +46,11 @@ PartRules = (f : Wished) (kept : List ℕ) → PartNumbers f kept
 
 -- all restrictions together permit what the problem permits and all wishes grant
 abbrev pub PartOfAll : Type 0
-PartOfAll = (f : Wished) (table : List ℕ) → (Permits (part f (all_numbers f)) table ↔ PermitsWished f table)
+PartOfAll = (f : Wished) (table : List ℕ) → (Permits (part f (all_restriction_numbers f)) table ↔ PermitsWished f table)
 
 -- with the wishes of a plan that fits and the tugs that are left, these are the timetables that meet the plan; without wishes those that the problem permits
 pub record WishesMean : Type 0 where
-  pub plan : (f : Problem) (plan : PlanParts) (table : List ℕ) → PlanFits f plan → (PermitsWished (wished (lessened plan.withdrawn f) plan.wishes) table ↔ PermitsPlan f plan table)
+  pub plan : (f : Problem) (plan : PlanParts) (table : List ℕ) → PlanFits f plan → (PermitsWished (with_wishes (lessened plan.withdrawn f) plan.wishes) table ↔ PermitsPlan f plan table)
   pub none : (f : Problem) (table : List ℕ) → (PermitsWished (unplanned f) table ↔ Permits f table)
 
 -- where nothing is permitted that meets all wishes, the clash is irreducible
@@ -62,8 +62,8 @@ abbrev pub OneClash : Type 0
 OneClash = (f : Wished) (one other : List ℕ) → IsClash f one → IsClash f other → one ≡ other
 
 -- a clash that is written reads as itself
-abbrev pub WrittenReads : Type 0
-WrittenReads = (f : Wished) (clash : Clash) → IsWished f → SaysClash f clash → clash_text f (written_clash clash) ≡ Ok clash
+abbrev pub WrittenClashReads : Type 0
+WrittenClashReads = (f : Wished) (clash : Clash) → IsWished f → SaysClash f clash → clash_text f (written_clash clash) ≡ Ok clash
 
 -- no other text reads as it
 abbrev pub OneClashText : Type 0

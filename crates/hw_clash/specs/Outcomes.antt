@@ -13,7 +13,7 @@ use Rattle.hw_clash.specs.declared.clashing.Clashed.{Clashed}
 use Rattle.hw_clash.specs.declared.clashing.Clashed.TheVariants.{Clash, Met, Spent, NoMemory}
 use Rattle.hw_clash.specs.Parts.{part}
 use Rattle.hw_clash.specs.Wished.{Wished, wished_count, PermitsWished, NoneWished}
-use Rattle.hw_clash.specs.Clashing.{all_numbers, without, IsLeft, IsClash, IsIrreducible, AreDrops}
+use Rattle.hw_clash.specs.Clashing.{all_restriction_numbers, without_number, IsLeft, IsClash, IsIrreducible, AreDrops}
 
 -- plain lines of a problem, each valid and lean after those before it, no lemma useless, and few clauses live at any time
 pub record IsProof (f : Problem) (all : List Line) : Type 0 where
@@ -26,8 +26,8 @@ pub record IsProof (f : Problem) (all : List Line) : Type 0 where
 
 -- the list that a step asks about: all numbers first, and then for each number what is left without it
 abbrev pub Asks : Wished → ℕ → List ℕ → Type 0
-Asks f zero asked = asked ≡ all_numbers f
-Asks f (suc n) asked = (before : List ℕ) × IsLeft f n before × (asked ≡ without n before)
+Asks f zero asked = asked ≡ all_restriction_numbers f
+Asks f (suc n) asked = (before : List ℕ) × IsLeft f n before × (asked ≡ without_number n before)
 
 -- the clash of a problem with wishes where nothing is permitted that meets them all, with timetables that meet all of it but one, and a certificate that it can't be met whole
 pub record IsClashFound (f : Wished) (kept : List ℕ) (drops : List (List ℕ)) (all : List Line) : Type 0 where
@@ -41,8 +41,8 @@ pub record IsClashFound (f : Wished) (kept : List ℕ) (drops : List (List ℕ))
 -- a permitted timetable that meets all wishes, the last one of a certificate of the part of all restrictions
 pub record IsMet (f : Wished) (table : List ℕ) (all : List Line) : Type 0 where
   pub permitted : PermitsWished f table
-  pub proof : IsProof (part f (all_numbers f)) all
-  pub shown : verdict (part f (all_numbers f)) all ≡ Optimal 0
+  pub proof : IsProof (part f (all_restriction_numbers f)) all
+  pub shown : verdict (part f (all_restriction_numbers f)) all ≡ Optimal 0
   pub last : last_table all ≡ Some table
 
 -- a later step than the first comes only where nothing is permitted that meets all wishes

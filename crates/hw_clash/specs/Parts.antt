@@ -4,7 +4,7 @@ use Rattle.std.specs.List.{list_any, range_with_len}
 use Rattle.hw_model.specs.declared.rule.Rule.{Rule}
 use Rattle.hw_model.specs.Problem.{Problem, IsTimetable, value_at}
 use Rattle.hw_model.specs.Timetables.{restriction_count}
-use Rattle.hw_derived.specs.Grids.{grid}
+use Rattle.hw_derived.specs.Grids.{grid_of_values}
 use Rattle.hw_clash.specs.Wished.{Wished, is_granted, wished_holds}
 
 -- the number is one of the list
@@ -12,8 +12,8 @@ abbrev pub has : List ℕ → ℕ → Bool
 has kept n = list_any (λ m. m == n) kept
 
 -- the ship's window is kept, and the problem has no value there
-abbrev pub is_closed : Wished → List ℕ → ℕ → ℕ → Bool
-is_closed f kept ship slot = has kept ship && is_none (value_at f.problem ship slot)
+abbrev pub is_window_closed : Wished → List ℕ → ℕ → ℕ → Bool
+is_window_closed f kept ship slot = has kept ship && is_none (value_at f.problem ship slot)
 
 -- the ship's wish is kept, and doesn't grant the slot
 abbrev pub is_refused : Wished → List ℕ → ℕ → ℕ → Bool
@@ -21,7 +21,7 @@ is_refused f kept ship slot = has kept (restriction_count f.problem + ship) && n
 
 -- none where one of these is so, and 0 elsewhere
 abbrev pub part_value : Wished → List ℕ → ℕ → ℕ → Option ℕ
-part_value f kept ship slot = if is_closed f kept ship slot || is_refused f kept ship slot then None else Some 0
+part_value f kept ship slot = if is_window_closed f kept ship slot || is_refused f kept ship slot then None else Some 0
 
 -- those of these rules whose numbers are kept, in order; the first one has this number
 abbrev pub rules_in : List ℕ → ℕ → List Rule → List Rule
@@ -30,7 +30,7 @@ rules_in kept n (rule ∷ rules) = if has kept n then rule ∷ rules_in kept (n 
 
 -- the sizes and the staying of the problem, the kept windows and wishes, and the kept rules
 abbrev pub part : Wished → List ℕ → Problem
-part f kept = record { ships = f.problem.ships; slots = f.problem.slots; stay = f.problem.stay; values = grid (part_value f kept) f.problem.ships f.problem.slots; rules = rules_in kept f.problem.ships f.problem.rules }
+part f kept = record { ships = f.problem.ships; slots = f.problem.slots; stay = f.problem.stay; values = grid_of_values (part_value f kept) f.problem.ships f.problem.slots; rules = rules_in kept f.problem.ships f.problem.rules }
 
 -- the problem's numbers of the part's rules, in order
 abbrev pub rule_numbers : Wished → List ℕ → List ℕ

@@ -13,12 +13,12 @@ pub record Wished : Type 0 where
   pub problem : Problem
   pub wishes : List Wish
 
-abbrev pub wished : Problem → List Wish → Wished
-wished f wishes = record { problem = f; wishes = wishes }
+abbrev pub with_wishes : Problem → List Wish → Wished
+with_wishes f wishes = record { problem = f; wishes = wishes }
 
 -- the problem alone
 abbrev pub unplanned : Problem → Wished
-unplanned f = wished f []
+unplanned f = with_wishes f []
 
 -- the problem with other rules
 abbrev pub ruled : Problem → List Rule → Problem

@@ -4,7 +4,7 @@ ghost use Rattle.std.specs.Prelude.{◌≡◌, ◌<◌, ◌≤◌, [], All};
 ghost use Rattle.std.specs.List.Sorted.{IsStrictlyIncreasing};
 ghost use Rattle.hw_cert.specs.Logs.{memory_log};
 ghost use Rattle.hw_progress.specs.Solving.{SolveMeets};
-ghost use Rattle.hw_clash.specs.Asking.{AskMeets};
+ghost use Rattle.hw_clash.specs.Asking.{ClashAskMeets};
 ghost use Rattle.hw_clash.specs.Parts.{part};
 ghost use Rattle.hw_clash.specs.Wished.{wished_count};
 
@@ -31,7 +31,7 @@ pub(crate) enum Asked {
 /// The outcome by what `solve` answered. A log in memory never fails.
 fn asked_of(solved: Solved, proof: MemoryLog, flat: &Flat, budget: u32) -> Asked
     requires solved { SolveMeets flat.now budget (memory_log []) solved (memory_log proof) }
-    ensures { AskMeets flat.now budget result }
+    ensures { ClashAskMeets flat.now budget result }
 {
     match solved {
         Solved::Optimal { table, .. } => Asked::Fits { table, proof },
@@ -47,7 +47,7 @@ pub(crate) fn ask(alloc: Global, wished: &WishedFlat, kept: &[u32], budget: u32)
     requires ascending { IsStrictlyIncreasing kept.now }
     requires least { 1 ≤ budget }
     requires most { budget ≤ MOST_BUDGET }
-    ensures { AskMeets (part wished.now kept.now) budget result }
+    ensures { ClashAskMeets (part wished.now kept.now) budget result }
 {
     let Ok(made) = part(alloc, wished, kept) else {
         return Asked::NoMemory;

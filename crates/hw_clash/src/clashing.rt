@@ -2,7 +2,7 @@
 
 ghost use Rattle.std.specs.Prelude.{◌≡◌, ◌≤◌, ◌++◌, ◌∷◌, [], IfOk, IfSome};
 ghost use Rattle.hw_clash.specs.Asking.{NoneAt};
-ghost use Rattle.hw_clash.specs.Clashing.{all_numbers};
+ghost use Rattle.hw_clash.specs.Clashing.{all_restriction_numbers};
 ghost use Rattle.hw_clash.specs.Outcomes.{ClashMeets};
 ghost use Rattle.hw_clash.specs.Parts.{part};
 
@@ -42,7 +42,7 @@ pub enum Clashed {
 
 /// The numbers of all restrictions.
 fn all_numbers(alloc: Global, wished: &WishedFlat) -> Result<Vec<u32>, NoMemory>
-    ensures { IfOk result (λ list. list.items ≡ all_numbers wished.now) }
+    ensures { IfOk result (λ list. list.items ≡ all_restriction_numbers wished.now) }
 {
     let many = wished.count();
     let mut list = Vec::new(alloc);
@@ -72,8 +72,8 @@ fn reduce(
 ) -> Clashed
     requires least { 1 ≤ budget }
     requires most { budget ≤ MOST_BUDGET }
-    requires all { all.items ≡ all_numbers wished.now }
-    requires none { NoneAt (part wished.now (all_numbers wished.now)) first }
+    requires all { all.items ≡ all_restriction_numbers wished.now }
+    requires none { NoneAt (part wished.now (all_restriction_numbers wished.now)) first }
     ensures { ClashMeets wished.now budget result }
 {
     let many = wished.count();

@@ -1,7 +1,7 @@
 //! Why a text is no clash.
 
 ghost use Rattle.std.specs.Prelude.{◌≡◌, codes};
-ghost use Rattle.hw_clash.specs.Words.{word_text};
+ghost use Rattle.hw_clash.specs.Words.{clash_word_text};
 
 use hw_derived::LineFault;
 
@@ -23,7 +23,7 @@ pub enum ClashWord {
 impl ClashWord {
     /// Its name as it is printed. It takes no memory.
     pub fn text(self) -> &'static [u8]
-        ensures { result.now ≡ word_text self }
+        ensures { result.now ≡ clash_word_text self }
     {
         match self {
             ClashWord::Header => b"header",

@@ -1,7 +1,7 @@
 //! The laws of parts and of the clash, each a function without a body whose clause is the law.
 
-ghost use Rattle.hw_clash.specs.Laws.{PartValue, PartPermits, PartFits, PartCargo, PartRules, PartOfAll, WishesMean, ClashMeans, OneClash, WrittenReads, OneClashText};
-ghost use Rattle.hw_clash.specs.Rows.{PartRows, ClashRows, TextRows};
+ghost use Rattle.hw_clash.specs.Laws.{PartValue, PartPermits, PartFits, PartCargo, PartRules, PartOfAll, WishesMean, ClashMeans, OneClash, WrittenClashReads, OneClashText};
+ghost use Rattle.hw_clash.specs.Rows.{PartRows, ClashRows, ClashTextRows};
 
 /// The value of a ship in a slot of a part.
 pub fn part_value()
@@ -51,7 +51,7 @@ pub fn one_clash()
 
 /// A clash of a problem, written as a text, reads back as itself.
 pub fn written_reads()
-    ensures { WrittenReads }
+    ensures { WrittenClashReads }
 {}
 
 /// A clash has one text: no other one reads as it.
@@ -71,5 +71,5 @@ pub fn clash_rows()
 
 /// Worked rows: what texts of clashes say.
 pub fn text_rows()
-    ensures { TextRows }
+    ensures { ClashTextRows }
 {}

@@ -2,7 +2,7 @@
 
 ghost use Rattle.std.specs.Prelude.{◌≡◌, ◌<◌, ◌≤◌, ◌++◌, ◌&&◌, ◌||◌, IfOk, OnOk, All, length, is_none, if◌then◌else◌, Some, None};
 ghost use Rattle.std.specs.List.Sorted.{IsStrictlyIncreasing};
-ghost use Rattle.hw_derived.specs.Grids.{row_of, grid};
+ghost use Rattle.hw_derived.specs.Grids.{row_of, grid_of_values};
 ghost use Rattle.hw_clash.specs.Parts.{has, part_value, rules_in, part};
 ghost use Rattle.hw_clash.specs.Wished.{wished_count};
 
@@ -62,7 +62,7 @@ fn values_of(
     kept: &[u32],
 ) -> Result<Vec<Option<u64>>, AllocError>
     requires ascending { IsStrictlyIncreasing kept.now }
-    ensures { IfOk result (λ values. values.items ≡ grid (part_value wished.now kept.now) wished.now.problem.ships wished.now.problem.slots) }
+    ensures { IfOk result (λ values. values.items ≡ grid_of_values (part_value wished.now kept.now) wished.now.problem.ships wished.now.problem.slots) }
 {
     let mut values = Vec::new(alloc);
     for ship in 0..wished.shape().ships {
@@ -89,7 +89,7 @@ fn rules_of(alloc: Global, rules: &[Rule], kept: &[u32], first: u32) -> Result<V
 
 /// The problem made of these values and rules, which keeps its limits.
 fn assembled(wished: &WishedFlat, kept: &[u32], values: Vec<Option<u64>>, rules: Vec<Rule>) -> Flat
-    requires values { values.items ≡ grid (part_value wished.now kept.now) wished.now.problem.ships wished.now.problem.slots }
+    requires values { values.items ≡ grid_of_values (part_value wished.now kept.now) wished.now.problem.ships wished.now.problem.slots }
     requires rules { rules.items ≡ rules_in kept.now wished.now.problem.ships wished.now.problem.rules }
     ensures { result ≡ part wished.now kept.now }
 {

@@ -4,7 +4,7 @@ ghost use Rattle.std.specs.Prelude.{◌≡◌, ◌<◌, ◌≤◌, ◌+◌, IfOk
 ghost use Rattle.std.specs.List.Sorted.{IsStrictlyIncreasing};
 ghost use Rattle.hw_text.specs.Parts.{parts_of};
 ghost use Rattle.hw_clash.specs.Read.{SaysClash};
-ghost use Rattle.hw_derived.specs.Reading.{Gives};
+ghost use Rattle.hw_derived.specs.Reading.{TextReadGives};
 ghost use Rattle.hw_clash.specs.Wished.{wished_count};
 ghost use Rattle.hw_clash.specs.Text.{keep_at, drop_at, drops_at, clash_of, clash_text};
 
@@ -25,7 +25,7 @@ fn keep_line<'b>(
     bytes: &'b [u8],
     wished: &WishedFlat,
 ) -> Result<(Vec<u32>, &'b [u8]), ClashFault>
-    ensures { Gives (λ x. (x.0.items, parts_of 10 x.1.now)) result (keep_at wished.now (parts_of 10 bytes.now)) }
+    ensures { TextReadGives (λ x. (x.0.items, parts_of 10 x.1.now)) result (keep_at wished.now (parts_of 10 bytes.now)) }
 {
     let (line, rest) = line_of(bytes, 2, ClashWord::Keep)?;
     let Some(kept) = keep_of(alloc, line, wished)? else {
@@ -49,7 +49,7 @@ fn drop_line<'b>(
 ) -> Result<(Timetable, &'b [u8]), ClashFault>
     requires numbered { All (λ n. n < wished_count wished.now) kept.now }
     requires ascending { IsStrictlyIncreasing kept.now }
-    ensures { Gives (λ x. (x.0, parts_of 10 x.1.now)) result (drop_at wished.now kept.now number id (parts_of 10 bytes.now)) }
+    ensures { TextReadGives (λ x. (x.0, parts_of 10 x.1.now)) result (drop_at wished.now kept.now number id (parts_of 10 bytes.now)) }
 {
     let _limits = wished.count();
     let (line, rest) = line_of(bytes, number, ClashWord::Drop)?;
@@ -79,7 +79,7 @@ fn drops_of<'b>(
 ) -> Result<(Vec<Timetable>, &'b [u8]), ClashFault>
     requires numbered { All (λ n. n < wished_count wished.now) kept.now }
     requires ascending { IsStrictlyIncreasing kept.now }
-    ensures { Gives (λ x. (x.0.items, parts_of 10 x.1.now)) result (drops_at wished.now kept.now 3 kept.now (parts_of 10 bytes.now)) }
+    ensures { TextReadGives (λ x. (x.0.items, parts_of 10 x.1.now)) result (drops_at wished.now kept.now 3 kept.now (parts_of 10 bytes.now)) }
 {
     let mut drops = Vec::new(alloc);
     let mut rest = bytes;
@@ -100,7 +100,7 @@ fn drops_of<'b>(
 /// For each kept restriction it makes the part of the others, one at a time.
 #[tactic(auto, unfolding(crate::specs::Text::clash_of))]
 pub fn read_clash(alloc: Global, bytes: &[u8], wished: &WishedFlat) -> Result<ClashText, ClashFault>
-    ensures reads { Gives (λ text. text) result (clash_text wished.now bytes.now) }
+    ensures reads { TextReadGives (λ text. text) result (clash_text wished.now bytes.now) }
     ensures says { IfOk result (SaysClash wished.now) }
 {
     let _limits = wished.count();

@@ -4,7 +4,7 @@ ghost use Rattle.std.specs.Prelude.{◌≡◌, ◌<◌, ◌≤◌, ◌+◌, ◌&
 ghost use Rattle.hw_model.specs.Limits.{IsFlat, ShapeFits};
 ghost use Rattle.hw_model.specs.Problem.{shape_of, value_at};
 ghost use Rattle.hw_model.specs.Timetables.{restriction_count};
-ghost use Rattle.hw_clash.specs.Wished.{IsWished, is_granted, ruled, unplanned, wished, wished_count};
+ghost use Rattle.hw_clash.specs.Wished.{IsWished, is_granted, ruled, unplanned, with_wishes, wished_count};
 
 use hw_flat::Flat;
 use hw_model::{Rule, Shape, ShipId, Slot};
@@ -45,8 +45,8 @@ impl<'f> WishedFlat<'f> {
 
     /// The sizes and the values of the problem with these rules and wishes.
     pub fn of(flat: &'f Flat, rules: &'f [Rule], wishes: &'f [Wish]) -> WishedFlat<'f>
-        requires fits { IsWished (wished (ruled flat.now rules.now) wishes.now) }
-        ensures { result ≡ wished (ruled flat.now rules.now) wishes.now }
+        requires fits { IsWished (with_wishes (ruled flat.now rules.now) wishes.now) }
+        ensures { result ≡ with_wishes (ruled flat.now rules.now) wishes.now }
     {
         WishedFlat {
             flat,

@@ -20,7 +20,7 @@ use Rattle.hw_command.specs.Certificates.{cert_outcome, report_of, report_of_che
 use Rattle.hw_command.specs.Checking.{Comes}
 use Rattle.hw_command.specs.Ends.{Ends}
 use Rattle.hw_command.specs.Readings.{KeepsNone, ReadsLines, ReadsCert, outcome_in}
-use Rattle.hw_command.specs.Scope.{Named, named, GiveBefore}
+use Rattle.hw_command.specs.Scope.{Named, named_feed, GiveBefore}
 use Rattle.hw_command.specs.Verdicts.{ShownBy}
 use Rattle.hw_command.specs.Works.{Works, is_common}
 use Rattle.hw_command.specs.declared.cert.ReadCert.{ReadCert}
@@ -33,10 +33,10 @@ use Rattle.hw_command.proofs.Begun.{entered_on}
 use Rattle.hw_command.proofs.CertWorks.{cert_works}
 use Rattle.hw_command.proofs.Meanings.{means}
 use Rattle.hw_command.proofs.Stops.{stops_carries}
-use Rattle.hw_subject.specs.Reading.{AllGive, ReadsSubject, StopsAtSubject, plan_in}
+use Rattle.hw_subject.specs.Reading.{ReadsSubject, StopsAtSubject, plan_in}
 use Rattle.hw_subject.specs.Subjects.{Subject, Topic, topic_subject}
 use Rattle.hw_subject.specs.declared.subject.Given.{Given}
-use Rattle.hw_subject.proofs.Readings.{all_as, before_last}
+use Rattle.hw_subject.proofs.Readings.{all_as, before_last, all_on}
 use Rattle.hw_clash_command.specs.Asked.{asked, asked_by}
 use Rattle.hw_clash_command.specs.CheckClash.{HoldsWhere, ChecksClash, ClashChecks, ClashGives, GivesClash, check_clash_task}
 use Rattle.hw_clash_command.specs.Inputs.{IsClashOf, ReadsPart, StopsAtPart, clash_feed}
@@ -80,16 +80,11 @@ says s name cert held TooLong c = c
 
 -- ---- the work
 
--- the inputs and the clash text gave what they give
-all_on : (G : Feed → Type 0) (inputs : List Named) (last : Named) → AllGive G inputs → G last.feed → AllGive G (inputs ++ last ∷ [])
-all_on G [] last h k = (k, tt)
-all_on G (input ∷ more) last h k = (h.0, all_on G more last h.1 k)
-
-give_all : {name : List ℕ} {x y : DeskState} {given : Given} (topic : Topic) (cert : List ℕ) → ReadsSubject (topic_subject topic) x y given → GivesClash (topic_subject topic) name x.held → GiveBefore (ClashGives (topic_subject topic) name x.held) (((topic_subject topic).inputs ++ named (clash_feed (topic_subject topic)) name ∷ []) ++ named Certificate cert ∷ [])
+give_all : {name : List ℕ} {x y : DeskState} {given : Given} (topic : Topic) (cert : List ℕ) → ReadsSubject (topic_subject topic) x y given → GivesClash (topic_subject topic) name x.held → GiveBefore (ClashGives (topic_subject topic) name x.held) (((topic_subject topic).inputs ++ named_feed (clash_feed (topic_subject topic)) name ∷ []) ++ named_feed Certificate cert ∷ [])
 give_all {name = name} {x = x} topic cert h clash =
     let s = topic_subject topic in
     let G = ClashGives s name x.held in
-    before_last G (s.inputs ++ named (clash_feed s) name ∷ []) (named Certificate cert) (all_on G s.inputs (named (clash_feed s) name) (all_as (s.Gives x.held) G s.inputs ((clashable topic).gives name x.held) h.give) ((clashable topic).given name x.held clash))
+    before_last G (s.inputs ++ named_feed (clash_feed s) name ∷ []) (named_feed Certificate cert) (all_on G s.inputs (named_feed (clash_feed s) name) (all_as (s.Gives x.held) G s.inputs ((clashable topic).gives name x.held) h.give) ((clashable topic).given name x.held clash))
 
 -- the work up to a report of this kind is the work up to that of any check
 part_works : {inputs : List Named} {Gives : Feed → Type 0} {x z : DeskState} (o : CertOutcome) → Works inputs Gives None x z (report_of by_number None None o) → Works inputs Gives None x z (report_of_part o)
@@ -103,7 +98,7 @@ part_works TooLong w = w
 read_works : {name cert : List ℕ} {x y w z : DeskState} {given : Given} {g : Problem} (topic : Topic) (result : Result (ReadCert (Unit {0})) CertStop) → ReadsSubject (topic_subject topic) x y given → ReadsPart (clash_feed (topic_subject topic)) (asked_in given) name y w g → GivesClash (topic_subject topic) name x.held → ReadsCert Two KeepsNone g cert w z result → Works (check_clash_task (topic_subject topic) name cert).inputs (ClashGives (topic_subject topic) name x.held) None x z (report_of_check by_number None None (outcome_in result))
 read_works {name = name} {cert = cert} {x = x} {z = z} topic result h k clash m =
     let s = topic_subject topic in
-    subst (λ (inputs : List Named). Works inputs (ClashGives s name x.held) None x z (report_of_check by_number None None (outcome_in result))) (append_assoc s.inputs (named (clash_feed s) name ∷ []) (named Certificate cert ∷ []))
+    subst (λ (inputs : List Named). Works inputs (ClashGives s name x.held) None x z (report_of_check by_number None None (outcome_in result))) (append_assoc s.inputs (named_feed (clash_feed s) name ∷ []) (named_feed Certificate cert ∷ []))
     (cert_works by_number None None None result (entered_on s.inputs h.entered k.enters (clashable topic).unread) (k.read_faults ∙ h.read_faults) ((clashable topic).certless name) (give_all topic cert h clash) m)
 
 -- ---- before it
@@ -120,18 +115,18 @@ unread_cert {name = name} topic new h k = ap (λ (feed : FeedState). feed.begun)
 
 -- the inputs give no value
 pub check_stops : {x y z : DeskState} {r : Report} {s : Status} (topic : Topic) (name cert : List ℕ) → StopsAtSubject (topic_subject topic) x y r → Ends (r ∷ []) y z s → Carries (check_clash_task (topic_subject topic) name cert) x z s
-check_stops {x = x} {r = r} topic name cert h ends = stops_carries (check_clash_task (topic_subject topic) name cert) (named (clash_feed (topic_subject topic)) name ∷ named Certificate cert ∷ []) h refl ((clashable topic).gives name x.held) ((clashable topic).refuses name cert x.held r) ends
+check_stops {x = x} {r = r} topic name cert h ends = stops_carries (check_clash_task (topic_subject topic) name cert) (named_feed (clash_feed (topic_subject topic)) name ∷ named_feed Certificate cert ∷ []) h refl ((clashable topic).gives name x.held) ((clashable topic).refuses name cert x.held r) ends
 
 -- the clash text gives no part
 clash_stopped : {x y z end : DeskState} {given : Given} {r : Report} {s : Status} (topic : Topic) (name cert : List ℕ) → (h : ReadsSubject (topic_subject topic) x y given) → StopsAtPart (clash_feed (topic_subject topic)) (asked (topic_subject topic) h.value) name y z r → Ends (r ∷ []) z end s → Carries (check_clash_task (topic_subject topic) name cert) x end s
 clash_stopped {x = x} {r = r} topic name cert h k ends =
     let s = topic_subject topic in
     let G = ClashGives s name x.held in
-    stops_carries (check_clash_task s name cert) (named Certificate cert ∷ [])
-    (part_stops {Gives = G} (ClashChecks s name cert x.held) h.entered h.read_faults (clashable topic).unread (before_last G s.inputs (named (clash_feed s) name) (all_as (s.Gives x.held) G s.inputs ((clashable topic).gives name x.held) h.give))
+    stops_carries (check_clash_task s name cert) (named_feed Certificate cert ∷ [])
+    (part_stops {Gives = G} (ClashChecks s name cert x.held) h.entered h.read_faults (clashable topic).unread (before_last G s.inputs (named_feed (clash_feed s) name) (all_as (s.Gives x.held) G s.inputs ((clashable topic).gives name x.held) h.give))
     (λ long. (clashable topic).long name cert x.held (record { value = h.value; reads = h.reads; long = long }))
     (λ number word bad. (clashable topic).bad name cert x.held number word (record { value = h.value; reads = h.reads; bad = bad }))
-    k) (sym (append_assoc s.inputs (named (clash_feed s) name ∷ []) (named Certificate cert ∷ []))) (λ feed given. given) (λ says. says) ends
+    k) (sym (append_assoc s.inputs (named_feed (clash_feed s) name ∷ []) (named_feed Certificate cert ∷ []))) (λ feed given. given) (λ says. says) ends
 
 pub check_clash_stops : {x y z end : DeskState} {given : Given} {r : Report} {s : Status} (topic : Topic) (name cert : List ℕ) → ReadsSubject (topic_subject topic) x y given → StopsAtPart (clash_feed (topic_subject topic)) (asked_in given) name y z r → Ends (r ∷ []) z end s → Carries (check_clash_task (topic_subject topic) name cert) x end s
 check_clash_stops {y = y} {z = z} {r = r} topic name cert h k ends = clash_stopped topic name cert h (subst (λ (f : Wished). StopsAtPart (clash_feed (topic_subject topic)) f name y z r) (is_asked {s = topic_subject topic} h) k) ends

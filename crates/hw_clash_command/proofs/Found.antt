@@ -17,7 +17,7 @@ use Rattle.hw_subject.specs.Reading.{ReadsSubject, StopsAtSubject, plan_in}
 use Rattle.hw_subject.specs.Subjects.{Origin, flat_text, port_of, origin_subject, repaired_by, Topic, topic_subject}
 use Rattle.hw_subject.specs.declared.subject.Given.{Given}
 use Rattle.hw_subject.proofs.Readings.{give_before}
-use Rattle.hw_clash_command.specs.Clashes.{Clashes, ClashSays, clash_task}
+use Rattle.hw_clash_command.specs.Clashes.{ClashesSubject, ClashSays, clash_task}
 use Rattle.hw_clash_command.specs.Found.{Found, a_clash, a_table, a_step, IsFound, IsClashTold, lines_found, report_found, SendsBoth, SendsFound}
 use Rattle.hw_clash_command.specs.PortWords.{FoundOf}
 use Rattle.hw_clash_command.specs.Asked.{asked, asked_by}
@@ -74,7 +74,7 @@ means topic held v budget (a_step (suc n)) all reads shown = none_of topic held 
 -- ---- what was sent
 
 -- what was found was sent, or a part of its certificate
-sent : {given : Given} {proof : List ℕ} {budget : ℕ} {x y end : DeskState} {s : Status} (topic : Topic) (found : Found) (all : List Line) (r : Report) → speaks r ≡ of_answer → ((mid : DeskState) → mid.read_faults ≡ x.read_faults → ReadCauseOf x mid r) → ((mid : DeskState) → Clashes (topic_subject topic) budget proof x mid found → ClashSays (topic_subject topic) budget proof x mid (Some r))
+sent : {given : Given} {proof : List ℕ} {budget : ℕ} {x y end : DeskState} {s : Status} (topic : Topic) (found : Found) (all : List Line) (r : Report) → speaks r ≡ of_answer → ((mid : DeskState) → mid.read_faults ≡ x.read_faults → ReadCauseOf x mid r) → ((mid : DeskState) → ClashesSubject (topic_subject topic) budget proof x mid found → ClashSays (topic_subject topic) budget proof x mid (Some r))
     → (h : ReadsSubject (topic_subject topic) x y given) → IsFound (asked (topic_subject topic) h.value) budget found all → SendsBoth all r proof y end s → Carries (clash_task (topic_subject topic) budget proof) x end s
 sent {proof = proof} {budget = budget} {x = x} topic found all r answer cause says h shown k =
     let s = topic_subject topic in

@@ -9,7 +9,7 @@ use Rattle.hw_desk.specs.declared.desk.Feed.{Feed}
 use Rattle.hw_desk.specs.declared.desk.Feed.TheVariants as feeds
 use Rattle.hw_desk.specs.declared.whole.ReadStop.{ReadStop}
 use Rattle.hw_desk.specs.declared.whole.ReadStop.TheVariants as stops
-use Rattle.hw_derived.specs.Reading.{Fails}
+use Rattle.hw_derived.specs.Reading.{TextReadFails}
 use Rattle.hw_derived.specs.declared.fault.LineFault.{LineFault}
 use Rattle.hw_derived.specs.declared.fault.LineFault.TheVariants as faults
 use Rattle.hw_clash.specs.declared.fault.ClashWord.{ClashWord}
@@ -18,18 +18,18 @@ use Rattle.hw_clash.specs.Parts.{part}
 use Rattle.hw_clash.specs.Read.{SaysClash}
 use Rattle.hw_clash.specs.Text.{clash_text}
 use Rattle.hw_clash.specs.Wished.{Wished}
-use Rattle.hw_clash.specs.Words.{word_text}
+use Rattle.hw_clash.specs.Words.{clash_word_text}
 use Rattle.hw_report.specs.Reports.{Report, bad_text, too_long, no_memory}
 use Rattle.hw_command.specs.Inputs.{ReadsInput, report_of_stop}
-use Rattle.hw_command.specs.Scope.{Named, named, is_among, GiveBefore, Entered}
+use Rattle.hw_command.specs.Scope.{Named, named_feed, feed_is_among, GiveBefore, Entered}
 use Rattle.hw_command.specs.Values.{IsLong}
-use Rattle.hw_command.specs.Works.{Stops}
+use Rattle.hw_command.specs.Works.{StopsReading}
 use Rattle.hw_command.proofs.Begun.{entered_on, input_stops, refuses}
 use Rattle.hw_command.proofs.FlatForms.{by_line, of_whole}
 use Rattle.hw_command.proofs.PortForms.{by_fault}
 use Rattle.hw_subject.specs.Subjects.{Subject, Origin, Topic, flat_text, port_of, flat_subject, port_subject, repair_of, topic_subject, repaired_by, origin_subject}
 use Rattle.hw_clash_command.specs.CheckClash.{BadClash, ClashChecks, ClashGives, GivesClash, LongClash}
-use Rattle.hw_clash_command.specs.Inputs.{IsBadClash, ReadsPart, StopsAtPart, StopsAtRead, StopsAtLine, clash_feed, feed_by, report_of_fault}
+use Rattle.hw_clash_command.specs.Inputs.{IsBadClash, ReadsPart, StopsAtPart, StopsAtRead, StopsAtLine, clash_feed, feed_by, report_of_clash_fault}
 
 -- ---- the call
 
@@ -38,12 +38,12 @@ pub no_text : {feed : Feed} {f : Wished} {name : List ℕ} {x y : DeskState} (st
 no_text stop h = record { enters = h.enters; stop = inl (record { stop = stop; report = refl; cause = h.answer }) }
 
 -- it has a bad line
-pub bad_line : {feed : Feed} {f : Wished} {name : List ℕ} {x y : DeskState} {v : Vec ℕ Global} (fault : LineFault ClashWord) → ReadsInput feed name x y (Ok v) → Fails fault (clash_text f v.items) → StopsAtPart feed f name x y (report_of_fault feed fault)
+pub bad_line : {feed : Feed} {f : Wished} {name : List ℕ} {x y : DeskState} {v : Vec ℕ Global} (fault : LineFault ClashWord) → ReadsInput feed name x y (Ok v) → TextReadFails fault (clash_text f v.items) → StopsAtPart feed f name x y (report_of_clash_fault feed fault)
 bad_line {f = f} {name = name} {x = x} {v = v} (faults.Line number word) h fails = record {
   enters = h.enters;
   stop = inr (record {
     number = number;
-    word = word_text word;
+    word = clash_word_text word;
     report = refl;
     bad = record {
       kind = word;
@@ -73,16 +73,16 @@ reads_part {f = f} {name = name} {x = x} {v = v} clash h is_text says made limit
 -- ---- the work
 
 -- the work that ends at the clash text, where other inputs were read before it
-pub part_stops : {before : List Named} {Gives : Feed → Type 0} {feed : Feed} {f : Wished} {name : List ℕ} {x y z : DeskState} {r : Report} (Why : Report → Type 0) → Entered before x y → y.read_faults ≡ x.read_faults → is_among before feed ≡ false → GiveBefore Gives (before ++ named feed name ∷ [])
+pub part_stops : {before : List Named} {Gives : Feed → Type 0} {feed : Feed} {f : Wished} {name : List ℕ} {x y z : DeskState} {r : Report} (Why : Report → Type 0) → Entered before x y → y.read_faults ≡ x.read_faults → feed_is_among before feed ≡ false → GiveBefore Gives (before ++ named_feed feed name ∷ [])
     → (IfSome (x.held name) IsLong → Why (too_long feed)) → ((number : ℕ) (word : List ℕ) → IsBadClash (x.held name) f number word → Why (bad_text feed number word))
-    → StopsAtPart feed f name y z r → Stops (before ++ named feed name ∷ []) Gives Why x z r
+    → StopsAtPart feed f name y z r → StopsReading (before ++ named_feed feed name ∷ []) Gives Why x z r
 part_stops {before = before} {Gives = Gives} {feed = feed} {f = f} {name = name} {x = x} {y = y} {z = z} {r = r} Why h read new give long bad k =
     let entered = entered_on before h k.enters new in
     let told = subst (λ (text : Option (List ℕ)). StopsAtRead feed text y z r ⊎ StopsAtLine feed f text y z r) (ap (λ held. held name) h.begins.held) k.stop in
     elim told [
-      | inl stop ↦ subst (λ (r : Report). Stops (before ++ named feed name ∷ []) Gives Why x z r) (sym stop.report) (input_stops y before feed name [] stop.stop long (sym (append-nil _)) entered give read stop.cause)
-      | inr line ↦ subst (λ (r : Report). Stops (before ++ named feed name ∷ []) Gives Why x z r) (sym line.report) (record {
-        works = refuses None before (named feed name) [] (bad_text feed line.number line.word) (sym (append-nil _)) refl entered give (line.read_faults ∙ read);
+      | inl stop ↦ subst (λ (r : Report). StopsReading (before ++ named_feed feed name ∷ []) Gives Why x z r) (sym stop.report) (input_stops y before feed name [] stop.stop long (sym (append-nil _)) entered give read stop.cause)
+      | inr line ↦ subst (λ (r : Report). StopsReading (before ++ named_feed feed name ∷ []) Gives Why x z r) (sym line.report) (record {
+        works = refuses None before (named_feed feed name) [] (bad_text feed line.number line.word) (sym (append-nil _)) refl entered give (line.read_faults ∙ read);
         early = λ e. absurd (cc);
         why = λ own. bad line.number line.word line.bad;
       })
@@ -92,8 +92,8 @@ part_stops {before = before} {Gives = Gives} {feed = feed} {f = f} {name = name}
 
 -- a clash text comes as an input that the subject doesn't begin, and what it gives and refuses stands beside what the subject does
 pub record Clashable (s : Subject) : Type 0 where
-  pub unread : is_among s.inputs (clash_feed s) ≡ false
-  pub certless : (name : List ℕ) → is_among (s.inputs ++ named (clash_feed s) name ∷ []) feeds.Certificate ≡ false
+  pub unread : feed_is_among s.inputs (clash_feed s) ≡ false
+  pub certless : (name : List ℕ) → feed_is_among (s.inputs ++ named_feed (clash_feed s) name ∷ []) feeds.Certificate ≡ false
   pub gives : (name : List ℕ) (held : List ℕ → Option (List ℕ)) (feed : Feed) → s.Gives held feed → ClashGives s name held feed
   pub given : (name : List ℕ) (held : List ℕ → Option (List ℕ)) → GivesClash s name held → ClashGives s name held (clash_feed s)
   pub refuses : (name cert : List ℕ) (held : List ℕ → Option (List ℕ)) (r : Report) → s.Refuses held r → ClashChecks s name cert held r

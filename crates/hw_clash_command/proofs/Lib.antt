@@ -2,7 +2,6 @@ pub mod Inputs
 mod Printed
 mod Irreducible
 mod Sent
-mod PortLists
 mod PortMeans
 mod Worded
 mod Sources

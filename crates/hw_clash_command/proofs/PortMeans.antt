@@ -3,19 +3,19 @@ use Rattle.std.proofs.Common.{◌≡◌, ℕ, ◌+◌, ◌-◌, ◌<◌, ◌≤�
 use Rattle.std.specs.Prelude.{IsSomeAnd}
 use Rattle.std.proofs.lemmas.Bool.{cases_lt}
 use Rattle.std.proofs.lemmas.List.Elements.{All-weaker, All-get_or, All-from_get_or, All-filter}
-use Rattle.hw_derived.proofs.Places.{get_within}
+use Rattle.hw_lemmas.proofs.Lists.{get_within, has_get}
 use Rattle.hw_model.specs.Timetables.{NonePermitted, restriction_count}
 use Rattle.hw_port.specs.Kept.{PortKept}
 use Rattle.hw_port.specs.Whole.{Parts}
 use Rattle.hw_tide.specs.Levels.{TideParts}
 use Rattle.hw_port_rules.specs.Flattened.{flattened}
 use Rattle.hw_port_rules.specs.Timetables.{IsPortTimetable}
-use Rattle.hw_port_laws.proofs.Eachs.{has_get}
+use Rattle.hw_audit.proofs.Begun.{of_port, to_port}
 use Rattle.hw_clash.specs.Clashes.{Clash}
-use Rattle.hw_clash.specs.Clashing.{without}
+use Rattle.hw_clash.specs.Clashing.{without_number}
 use Rattle.hw_clash.specs.Parts.{part, Meets}
 use Rattle.hw_clash.specs.Read.{SaysClash}
-use Rattle.hw_clash.specs.Wished.{is_granted, wished, wished_count, wished_holds, wish_holds}
+use Rattle.hw_clash.specs.Wished.{is_granted, with_wishes, wished_count, wished_holds, wish_holds}
 use Rattle.hw_clash.proofs.Parts.{part_permits, below, wish_is}
 use Rattle.hw_clash.proofs.Wishes.{wish_granted, granted_wish}
 use Rattle.hw_explain.specs.declared.named.Named.{Named}
@@ -25,13 +25,12 @@ use Rattle.hw_explain.proofs.Numbers.{each_is_named, named_means}
 use Rattle.hw_repair.specs.Wishes.{Grants}
 use Rattle.hw_repair.specs.declared.plan.Wish.{Wish}
 use Rattle.hw_clash_command.specs.PortWords.{WishHolds, LineHolds, MeetsLines, IsPortClash, IsPortDrops}
-use Rattle.hw_clash_command.proofs.PortLists.{of_port, to_port}
 
 -- ---- one restriction
 
-line_holds : (p : Parts) (h : TideParts) (wishes : List Wish) (table : List ℕ) (n : ℕ) → PortKept p → length wishes ≤ (flattened p h).ships → IsPortTimetable p table → n < wished_count (wished (flattened p h) wishes) → IsTrue (wished_holds (wished (flattened p h) wishes) table n) → LineHolds p h wishes table n
+line_holds : (p : Parts) (h : TideParts) (wishes : List Wish) (table : List ℕ) (n : ℕ) → PortKept p → length wishes ≤ (flattened p h).ships → IsPortTimetable p table → n < wished_count (with_wishes (flattened p h) wishes) → IsTrue (wished_holds (with_wishes (flattened p h) wishes) table n) → LineHolds p h wishes table n
 line_holds p h wishes table n kept few listed lt holds =
-    let f = wished (flattened p h) wishes in
+    let f = with_wishes (flattened p h) wishes in
     let many : length (named_restrictions p) ≡ restriction_count (flattened p h) = each_is_named p h kept in
     elim (cases_lt n (restriction_count (flattened p h))) [
       | inl within ↦
@@ -48,20 +47,20 @@ line_holds p h wishes table n kept few listed lt holds =
           inr (omega (arith, past, many), subst (λ (m : ℕ). WishHolds wishes table (n - m)) (sym many) this)
     ]
 
-holds_line : (p : Parts) (h : TideParts) (wishes : List Wish) (table : List ℕ) (n : ℕ) → PortKept p → IsPortTimetable p table → LineHolds p h wishes table n → IsTrue (wished_holds (wished (flattened p h) wishes) table n)
+holds_line : (p : Parts) (h : TideParts) (wishes : List Wish) (table : List ℕ) (n : ℕ) → PortKept p → IsPortTimetable p table → LineHolds p h wishes table n → IsTrue (wished_holds (with_wishes (flattened p h) wishes) table n)
 holds_line p h wishes table n kept listed holds = elim holds [
   | inl named ↦ by_line (slice_get (named_restrictions p) n) refl named
   | inr wish ↦
       let many : length (named_restrictions p) ≡ restriction_count (flattened p h) = each_is_named p h kept in
       let past : restriction_count (flattened p h) ≤ n = omega (arith, wish.0, many) in
-      subst (λ b. IsTrue b) (sym (wish_is (wished (flattened p h) wishes) table n past)) (by_wish (n - restriction_count (flattened p h)) (slice_get wishes (n - restriction_count (flattened p h))) refl (subst (λ (m : ℕ). WishHolds wishes table (n - m)) many wish.1))
+      subst (λ b. IsTrue b) (sym (wish_is (with_wishes (flattened p h) wishes) table n past)) (by_wish (n - restriction_count (flattened p h)) (slice_get wishes (n - restriction_count (flattened p h))) refl (subst (λ (m : ℕ). WishHolds wishes table (n - m)) many wish.1))
 ]
   where
-    by_line : (o : Option Named) → slice_get (named_restrictions p) n ≡ o → IsSomeAnd o (NamedHolds p h table) → IsTrue (wished_holds (wished (flattened p h) wishes) table n)
+    by_line : (o : Option Named) → slice_get (named_restrictions p) n ≡ o → IsSomeAnd o (NamedHolds p h table) → IsTrue (wished_holds (with_wishes (flattened p h) wishes) table n)
     by_line None e is = absurd is
     by_line (Some line) e is =
         let within : n < restriction_count (flattened p h) = omega (arith, get_within (named_restrictions p) n line e, each_is_named p h kept) in
-        subst (λ b. IsTrue b) (sym (below (wished (flattened p h) wishes) table n within)) ((named_means p h table n line kept listed e).1 is)
+        subst (λ b. IsTrue b) (sym (below (with_wishes (flattened p h) wishes) table n within)) ((named_means p h table n line kept listed e).1 is)
 
     by_wish : (ship : ℕ) (o : Option Wish) → slice_get wishes ship ≡ o → IsSomeAnd o (λ wish. Grants wish (get_or table ship 0)) → IsTrue (is_granted o (slice_get table ship))
     by_wish ship None e is = absurd is
@@ -69,38 +68,38 @@ holds_line p h wishes table n kept listed holds = elim holds [
 
 -- ---- several
 
-meets_lines : (p : Parts) (h : TideParts) (wishes : List Wish) (numbers table : List ℕ) → PortKept p → length wishes ≤ (flattened p h).ships → All (λ n. n < wished_count (wished (flattened p h) wishes)) numbers → Meets (wished (flattened p h) wishes) numbers table → MeetsLines p h wishes numbers table
+meets_lines : (p : Parts) (h : TideParts) (wishes : List Wish) (numbers table : List ℕ) → PortKept p → length wishes ≤ (flattened p h).ships → All (λ n. n < wished_count (with_wishes (flattened p h) wishes)) numbers → Meets (with_wishes (flattened p h) wishes) numbers table → MeetsLines p h wishes numbers table
 meets_lines p h wishes numbers table kept few numbered meets =
-    let f = wished (flattened p h) wishes in
+    let f = with_wishes (flattened p h) wishes in
     let listed = to_port p h table meets.listed in
     record {
       listed = listed;
       holds = All-from_get_or (LineHolds p h wishes table) numbers 0 (λ i lt. line_holds p h wishes table (get_or numbers i 0) kept few listed (All-get_or (λ n. n < wished_count f) numbers i 0 lt numbered) (All-get_or (λ n. IsTrue (wished_holds f table n)) numbers i 0 lt meets.holds));
     }
 
-lines_meet : (p : Parts) (h : TideParts) (wishes : List Wish) (numbers table : List ℕ) → PortKept p → MeetsLines p h wishes numbers table → Meets (wished (flattened p h) wishes) numbers table
+lines_meet : (p : Parts) (h : TideParts) (wishes : List Wish) (numbers table : List ℕ) → PortKept p → MeetsLines p h wishes numbers table → Meets (with_wishes (flattened p h) wishes) numbers table
 lines_meet p h wishes numbers table kept meets = record {
   listed = of_port p h table meets.listed;
-  holds = All-weaker (LineHolds p h wishes table) (λ n. IsTrue (wished_holds (wished (flattened p h) wishes) table n)) (λ n is. holds_line p h wishes table n kept meets.listed is) numbers meets.holds;
+  holds = All-weaker (LineHolds p h wishes table) (λ n. IsTrue (wished_holds (with_wishes (flattened p h) wishes) table n)) (λ n is. holds_line p h wishes table n kept meets.listed is) numbers meets.holds;
 }
 
 -- ---- the clash
 
 -- each kept restriction has a timetable that meets the others
-pub port_drops : (p : Parts) (h : TideParts) (wishes : List Wish) (clash : Clash) → PortKept p → length wishes ≤ (flattened p h).ships → SaysClash (wished (flattened p h) wishes) clash → IsPortDrops p h wishes clash.kept clash.drops
+pub port_drops : (p : Parts) (h : TideParts) (wishes : List Wish) (clash : Clash) → PortKept p → length wishes ≤ (flattened p h).ships → SaysClash (with_wishes (flattened p h) wishes) clash → IsPortDrops p h wishes clash.kept clash.drops
 port_drops p h wishes clash kept few says =
-    let f = wished (flattened p h) wishes in
+    let f = with_wishes (flattened p h) wishes in
     let many : length (named_restrictions p) ≡ restriction_count (flattened p h) = each_is_named p h kept in
     record {
       some = says.some;
       numbered = All-weaker (λ n. n < wished_count f) (λ n. n < length (named_restrictions p) + length wishes) (λ n lt. omega (arith, lt, many)) clash.kept says.numbered;
       each_id = says.drops.each_id;
-      met = λ place n table e d. meets_lines p h wishes (without n clash.kept) table kept few (All-filter (λ m. not (m == n)) (λ n. n < wished_count f) clash.kept says.numbered) ((part_permits f (without n clash.kept) table).0 (says.drops.met place n table e d));
+      met = λ place n table e d. meets_lines p h wishes (without_number n clash.kept) table kept few (All-filter (λ m. not (m == n)) (λ n. n < wished_count f) clash.kept says.numbered) ((part_permits f (without_number n clash.kept) table).0 (says.drops.met place n table e d));
     }
 
 -- and nothing meets all of them
-pub port_clash : (p : Parts) (h : TideParts) (wishes : List Wish) (clash : Clash) → PortKept p → length wishes ≤ (flattened p h).ships → SaysClash (wished (flattened p h) wishes) clash → NonePermitted (part (wished (flattened p h) wishes) clash.kept) → IsPortClash p h wishes clash.kept clash.drops
+pub port_clash : (p : Parts) (h : TideParts) (wishes : List Wish) (clash : Clash) → PortKept p → length wishes ≤ (flattened p h).ships → SaysClash (with_wishes (flattened p h) wishes) clash → NonePermitted (part (with_wishes (flattened p h) wishes) clash.kept) → IsPortClash p h wishes clash.kept clash.drops
 port_clash p h wishes clash kept few says none = record {
-  clash = λ table meets. none table ((part_permits (wished (flattened p h) wishes) clash.kept table).1 (lines_meet p h wishes clash.kept table kept meets));
+  clash = λ table meets. none table ((part_permits (with_wishes (flattened p h) wishes) clash.kept table).1 (lines_meet p h wishes clash.kept table kept meets));
   met = port_drops p h wishes clash kept few says;
 }

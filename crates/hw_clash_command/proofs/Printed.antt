@@ -7,7 +7,7 @@ use Rattle.hw_clash.specs.Text.{clash_by, clash_text}
 use Rattle.hw_clash.specs.Wished.{Wished, IsWished}
 use Rattle.hw_clash.specs.Written.{keep_line, drop_line, drop_lines, written_clash}
 use Rattle.hw_clash.proofs.Written.{written_reads}
-use Rattle.hw_report.specs.Lines.{numbers_text, drop_line as printed_line, drop_lines as printed_lines}
+use Rattle.hw_report.specs.Lines.{numbers_text, reported_drop_line as printed_line, reported_drop_lines as printed_lines}
 use Rattle.hw_report.specs.Reports.{clashed}
 use Rattle.hw_report.specs.Texts.{report_text}
 

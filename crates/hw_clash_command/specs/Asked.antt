@@ -5,7 +5,7 @@ use Rattle.hw_derived.specs.Fleets.{lessened}
 use Rattle.hw_repair.specs.Wishes.{PlanParts}
 use Rattle.hw_repair.specs.declared.plan.Wish.{Wish}
 use Rattle.hw_report.specs.Reports.{Naming}
-use Rattle.hw_clash.specs.Wished.{Wished, wished}
+use Rattle.hw_clash.specs.Wished.{Wished, with_wishes}
 use Rattle.hw_subject.specs.Subjects.{Subject}
 
 abbrev pub wishes_in : Option PlanParts → List Wish
@@ -17,7 +17,7 @@ tugs_left f None = f
 tugs_left f (Some plan) = lessened plan.withdrawn f
 
 abbrev pub asked_by : Problem → Option PlanParts → Wished
-asked_by f plan = wished (tugs_left f plan) (wishes_in plan)
+asked_by f plan = with_wishes (tugs_left f plan) (wishes_in plan)
 
 abbrev pub asked : (s : Subject) → s.Value → Wished
 asked s v = asked_by (s.problem v) (s.plan v)

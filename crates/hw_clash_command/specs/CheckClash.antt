@@ -7,7 +7,7 @@ use Rattle.hw_lines.specs.declared.check.Verdict.TheVariants as verdicts
 use Rattle.hw_report.specs.Reports.{Report, by_number, checked, refused, bad_text, too_long, clash_holds}
 use Rattle.hw_command.specs.Carries.{Task, one_report}
 use Rattle.hw_command.specs.Certificates.{cert_outcome}
-use Rattle.hw_command.specs.Scope.{named}
+use Rattle.hw_command.specs.Scope.{named_feed}
 use Rattle.hw_command.specs.Values.{IsLong}
 use Rattle.hw_command.specs.Verdicts.{ShownBy}
 use Rattle.hw_command.specs.declared.outcome.CertOutcome.{CertOutcome}
@@ -86,7 +86,7 @@ ClashGives s name held other = ClashGivesAs (clash_feed s) s name held other
 
 abbrev pub check_clash_task : Subject → List ℕ → List ℕ → Task
 check_clash_task s name cert = record {
-  inputs = s.inputs ++ (named (clash_feed s) name ∷ named feeds.Certificate cert ∷ []);
+  inputs = s.inputs ++ (named_feed (clash_feed s) name ∷ named_feed feeds.Certificate cert ∷ []);
   Gives = ClashGives s name;
   proof = None;
   Says = one_report (λ old new. CheckClashSays s name cert old);

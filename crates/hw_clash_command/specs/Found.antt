@@ -36,14 +36,14 @@ IsFound f budget (a_table table) all = IsMet f table all
 IsFound f budget (a_step step) all = IsSpentAt f budget step all
 
 -- lines that show what was found; Proof was made, and holds their text where it is told
-pub record Shows (f : Wished) (budget : ℕ) (proof : List ℕ) (old new : DeskState) (found : Found) : Type 0 where
+pub record ShowsFound (f : Wished) (budget : ℕ) (proof : List ℕ) (old new : DeskState) (found : Found) : Type 0 where
   pub lines : List Line
   pub shown : IsFound f budget found lines
   pub made : MakesProof proof old new
   pub holds : IfSome (new.trays tray.Proof).sent (λ bytes. bytes ≡ cert_text Two lines)
 
 -- lines that show what was found; after a failed make or write Proof holds a proper prefix of their text, where it is told
-pub record ShowsPart (f : Wished) (budget : ℕ) (new : DeskState) : Type 0 where
+pub record ShowsClashPart (f : Wished) (budget : ℕ) (new : DeskState) : Type 0 where
   pub found : Found
   pub lines : List Line
   pub shown : IsFound f budget found lines

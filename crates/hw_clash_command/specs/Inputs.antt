@@ -15,16 +15,16 @@ use Rattle.hw_clash.specs.Parts.{part}
 use Rattle.hw_clash.specs.Read.{SaysClash}
 use Rattle.hw_clash.specs.Text.{clash_text}
 use Rattle.hw_clash.specs.Wished.{Wished}
-use Rattle.hw_clash.specs.Words.{word_text}
+use Rattle.hw_clash.specs.Words.{clash_word_text}
 use Rattle.hw_report.specs.Reports.{Report, bad_text, no_memory}
 use Rattle.hw_command.specs.Inputs.{Enters, StopsFor, report_of_stop}
-use Rattle.hw_command.specs.Scope.{is_among}
+use Rattle.hw_command.specs.Scope.{feed_is_among}
 use Rattle.hw_command.specs.Values.{most_bytes}
 use Rattle.hw_subject.specs.Subjects.{Subject}
 
 -- as a plan where none is read before it, and otherwise beside that plan
 abbrev pub clash_feed : Subject → Feed
-clash_feed s = if is_among s.inputs feeds.Plan then feeds.Clash else feeds.Plan
+clash_feed s = if feed_is_among s.inputs feeds.Plan then feeds.Clash else feeds.Plan
 
 -- the same by the plan
 abbrev pub feed_by : Option PlanParts → Feed
@@ -47,7 +47,7 @@ IsBadClashAt f number word bytes = (length bytes ≤ most_bytes) × (clash_text 
 -- the text has a bad line, which has this number and this word, where the text is told
 pub record IsBadClash (text : Option (List ℕ)) (f : Wished) (number : ℕ) (word : List ℕ) : Type 0 where
   pub kind : ClashWord
-  pub named : word ≡ word_text kind
+  pub named : word ≡ clash_word_text kind
   pub reads : IfSome text (IsBadClashAt f number kind)
 
 -- ---- the call
@@ -81,6 +81,6 @@ pub record StopsAtPart (feed : Feed) (f : Wished) (name : List ℕ) (old new : D
   pub stop : StopsAtRead feed (old.held name) old new r ⊎ StopsAtLine feed f (old.held name) old new r
 
 -- the report of bytes that are no clash of the problem
-abbrev pub report_of_fault : Feed → LineFault ClashWord → Report
-report_of_fault feed (faults.Line number word) = bad_text feed number (word_text word)
-report_of_fault feed faults.NoMemory = no_memory
+abbrev pub report_of_clash_fault : Feed → LineFault ClashWord → Report
+report_of_clash_fault feed (faults.Line number word) = bad_text feed number (clash_word_text word)
+report_of_clash_fault feed faults.NoMemory = no_memory

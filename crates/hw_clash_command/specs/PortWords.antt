@@ -3,7 +3,7 @@ use Rattle.std.specs.Prelude.{◌≡◌, ◌<◌, ◌≤◌, ◌+◌, ◌-◌, �
 use Rattle.hw_port.specs.Whole.{Parts}
 use Rattle.hw_tide.specs.Levels.{TideParts}
 use Rattle.hw_port_rules.specs.Timetables.{IsPortTimetable}
-use Rattle.hw_clash.specs.Clashing.{without}
+use Rattle.hw_clash.specs.Clashing.{without_number}
 use Rattle.hw_explain.specs.Meaning.{NamedHolds}
 use Rattle.hw_explain.specs.Restrictions.{named_restrictions}
 use Rattle.hw_repair.specs.Wishes.{Grants}
@@ -34,7 +34,7 @@ pub record IsPortDrops (p : Parts) (h : TideParts) (wishes : List Wish) (kept : 
   pub some : 1 ≤ length kept
   pub numbered : All (λ n. n < length (named_restrictions p) + length wishes) kept
   pub each_id : length drops ≡ length kept
-  pub met : (place n : ℕ) (table : List ℕ) → slice_get kept place ≡ Some n → slice_get drops place ≡ Some table → MeetsLines p h wishes (without n kept) table
+  pub met : (place n : ℕ) (table : List ℕ) → slice_get kept place ≡ Some n → slice_get drops place ≡ Some table → MeetsLines p h wishes (without_number n kept) table
 
 -- no timetable of the port meets these restrictions and wishes together
 abbrev pub NoneMeetsLines : Parts → TideParts → List Wish → List ℕ → Type 0

@@ -3,7 +3,7 @@
 ghost use Rattle.std.specs.Prelude.{◌≡◌, IfErr, IfOk, false};
 ghost use Rattle.hw_report.specs.Printing.{CanPrint};
 ghost use Rattle.hw_report.specs.Seen.{report_seen};
-ghost use Rattle.hw_clash_command.specs.Inputs.{ReadsPart, StopsAtPart, report_of_fault};
+ghost use Rattle.hw_clash_command.specs.Inputs.{ReadsPart, StopsAtPart, report_of_clash_fault};
 
 use hw_clash::{ClashFault, WishedFlat, part, read_clash};
 use hw_command::{read_input, stopped};
@@ -46,7 +46,7 @@ pub fn read_part<D: Desk>(
 
 /// The report of bytes that are no clash of the problem.
 fn bad_clash(feed: Feed, fault: ClashFault) -> Report<'static>
-    ensures value { report_seen result ≡ report_of_fault feed fault }
+    ensures value { report_seen result ≡ report_of_clash_fault feed fault }
     ensures printed { CanPrint (report_seen result) }
 {
     match fault {

@@ -2,16 +2,16 @@
 use Rattle.std.proofs.Common.{◌≡◌, ◌==◌, ◌||◌, ◌++◌, ◌∙◌, ℕ, Bool, true, false, cond, List, [], ◌∷◌, Option, Some, None, append-nil, inl, refl, sym, ap, subst, arith}
 use Rattle.std.specs.Prelude.{IfSome, IsSomeAnd}
 use Rattle.hw_desk.specs.Calls.{OnlyFeed, OnlyTray}
-use Rattle.hw_desk.specs.State.{DeskState, FeedState, place_of, same_feed, Rose}
+use Rattle.hw_desk.specs.State.{DeskState, FeedState, feed_place, same_feed, Rose}
 use Rattle.hw_desk.specs.declared.desk.Feed.{Feed}
 use Rattle.hw_desk.specs.declared.desk.Tray.{Tray}
 use Rattle.hw_desk.specs.declared.whole.ReadStop.{ReadStop}
 use Rattle.hw_desk.specs.declared.whole.ReadStop.TheVariants as stops
 use Rattle.hw_report.specs.Reports.{Report, read_fault, too_long, no_memory}
 use Rattle.hw_command.specs.Inputs.{Enters, StopsFor, report_of_stop}
-use Rattle.hw_command.specs.Scope.{Named, named, is_among, last_of, IsBegun, AllBegun, GiveBefore, BeginsAll, Entered}
+use Rattle.hw_command.specs.Scope.{Named, named_feed, feed_is_among, last_of, IsBegun, AllBegun, GiveBefore, BeginsAll, Entered}
 use Rattle.hw_command.specs.Values.{IsLong}
-use Rattle.hw_command.specs.Works.{Speaks, of_answer, of_input, of_memory, speaks, UpTo, TraysOf, ReadCauseOf, Works, Stops}
+use Rattle.hw_command.specs.Works.{Speaks, of_answer, of_input, of_memory, speaks, UpTo, TraysOf, ReadCauseOf, Works, StopsReading}
 
 not_first : (a b : Bool) → (a || b) ≡ false → a ≡ false
 not_first true b e = absurd (cc)
@@ -30,42 +30,42 @@ other_kept {feed = feed} {x = x} {y = y} f h e = ap (λ feeds. feeds f) h.feeds 
 
 begun_kept : {feed : Feed} {x y : DeskState} (input : Named) → OnlyFeed feed x y → same_feed feed input.feed ≡ false → IsBegun x input → IsBegun y input
 begun_kept {feed = feed} {x = x} {y = y} input h e b =
-    let same : y.feeds input.feed ≡ x.feeds input.feed = other_kept input.feed h (same_back (place_of feed) (place_of input.feed) e) in
+    let same : y.feeds input.feed ≡ x.feeds input.feed = other_kept input.feed h (same_back (feed_place feed) (feed_place input.feed) e) in
     record {
       begun = ap (λ (s : FeedState). s.begun) same ∙ b.begun;
       named = subst (λ (s : FeedState). IfSome s.name (λ n. n ≡ input.name)) (sym same) b.named;
     }
 
-all_kept : {feed : Feed} {x y : DeskState} (done : List Named) → OnlyFeed feed x y → is_among done feed ≡ false → AllBegun x done → AllBegun y done
+all_kept : {feed : Feed} {x y : DeskState} (done : List Named) → OnlyFeed feed x y → feed_is_among done feed ≡ false → AllBegun x done → AllBegun y done
 all_kept [] h e b = tt
-all_kept {feed = feed} (input ∷ more) h e b = (begun_kept input h (not_first (same_feed feed input.feed) (is_among more feed) e) b.0, all_kept more h (not_second (same_feed feed input.feed) (is_among more feed) e) b.1)
+all_kept {feed = feed} (input ∷ more) h e b = (begun_kept input h (not_first (same_feed feed input.feed) (feed_is_among more feed) e) b.0, all_kept more h (not_second (same_feed feed input.feed) (feed_is_among more feed) e) b.1)
 
 all_more : {y : DeskState} (done : List Named) (last : Named) → AllBegun y done → IsBegun y last → AllBegun y (done ++ last ∷ [])
 all_more [] last b l = (l, tt)
 all_more (input ∷ more) last b l = (b.0, all_more more last b.1 l)
 
-among_front : (done : List Named) (last : Named) (f : Feed) → is_among (done ++ last ∷ []) f ≡ false → is_among done f ≡ false
+among_front : (done : List Named) (last : Named) (f : Feed) → feed_is_among (done ++ last ∷ []) f ≡ false → feed_is_among done f ≡ false
 among_front [] last f e = refl
-among_front (input ∷ more) last f e = neither (same_feed f input.feed) (is_among (more ++ last ∷ []) f) (is_among more f) e (among_front more last f)
+among_front (input ∷ more) last f e = neither (same_feed f input.feed) (feed_is_among (more ++ last ∷ []) f) (feed_is_among more f) e (among_front more last f)
   where
     neither : (a b c : Bool) → (a || b) ≡ false → (b ≡ false → c ≡ false) → (a || c) ≡ false
     neither true b c e h = absurd (cc)
     neither false b c e h = h e
 
-among_last : (done : List Named) (last : Named) (f : Feed) → is_among (done ++ last ∷ []) f ≡ false → same_feed f last.feed ≡ false
+among_last : (done : List Named) (last : Named) (f : Feed) → feed_is_among (done ++ last ∷ []) f ≡ false → same_feed f last.feed ≡ false
 among_last [] last f e = not_first (same_feed f last.feed) false e
-among_last (input ∷ more) last f e = among_last more last f (not_second (same_feed f input.feed) (is_among (more ++ last ∷ []) f) e)
+among_last (input ∷ more) last f e = among_last more last f (not_second (same_feed f input.feed) (feed_is_among (more ++ last ∷ []) f) e)
 
 pub entered_none : (x : DeskState) → Entered [] x x
 entered_none x = record { begins = record { held = refl; begun = tt; others = λ f e. refl }; trays = refl; write_faults = refl }
 
 -- one input more
-pub entered_on : {feed : Feed} {name : List ℕ} {x y z : DeskState} (done : List Named) → Entered done x y → Enters feed name y z → is_among done feed ≡ false → Entered (done ++ named feed name ∷ []) x z
+pub entered_on : {feed : Feed} {name : List ℕ} {x y z : DeskState} (done : List Named) → Entered done x y → Enters feed name y z → feed_is_among done feed ≡ false → Entered (done ++ named_feed feed name ∷ []) x z
 entered_on {feed = feed} {name = name} {x = x} {y = y} {z = z} done h k e = record {
   begins = record {
     held = k.only.held ∙ h.begins.held;
-    begun = all_more done (named feed name) (all_kept done k.only e h.begins.begun) (record { begun = k.begun; named = k.named });
-    others = λ f out. other_kept f k.only (among_last done (named feed name) f out) ∙ h.begins.others f (among_front done (named feed name) f out);
+    begun = all_more done (named_feed feed name) (all_kept done k.only e h.begins.begun) (record { begun = k.begun; named = k.named });
+    others = λ f out. other_kept f k.only (among_last done (named_feed feed name) f out) ∙ h.begins.others f (among_front done (named_feed feed name) f out);
   };
   trays = k.only.trays ∙ h.trays;
   write_faults = k.only.write_faults ∙ h.write_faults;
@@ -155,19 +155,19 @@ pub rose_on : {a b c : ℕ} → b ≡ a → Rose b c → Rose a c
 rose_on e h = omega arith
 
 -- an input that isn't read to its end
-pub input_stops : {inputs : List Named} {Gives : Feed → Type 0} {Why : Report → Type 0} {x z : DeskState} (y : DeskState) (done : List Named) (feed : Feed) (name : List ℕ) (rest : List Named) (stop : ReadStop) → (IfSome (x.held name) IsLong → Why (too_long feed)) → inputs ≡ (done ++ named feed name ∷ []) ++ rest → Entered (done ++ named feed name ∷ []) x z → GiveBefore Gives (done ++ named feed name ∷ []) → y.read_faults ≡ x.read_faults → StopsFor (x.held name) y z stop → Stops inputs Gives Why x z (report_of_stop feed stop)
+pub input_stops : {inputs : List Named} {Gives : Feed → Type 0} {Why : Report → Type 0} {x z : DeskState} (y : DeskState) (done : List Named) (feed : Feed) (name : List ℕ) (rest : List Named) (stop : ReadStop) → (IfSome (x.held name) IsLong → Why (too_long feed)) → inputs ≡ (done ++ named_feed feed name ∷ []) ++ rest → Entered (done ++ named_feed feed name ∷ []) x z → GiveBefore Gives (done ++ named_feed feed name ∷ []) → y.read_faults ≡ x.read_faults → StopsFor (x.held name) y z stop → StopsReading inputs Gives Why x z (report_of_stop feed stop)
 input_stops y done feed name rest stops.Fault long parts h give before s = record {
-  works = refuses None done (named feed name) rest (read_fault feed) parts refl h give (rose_on before s);
+  works = refuses None done (named_feed feed name) rest (read_fault feed) parts refl h give (rose_on before s);
   early = λ e. absurd (cc);
   why = λ own. absurd (cc);
 }
 input_stops y done feed name rest stops.TooLong long parts h give before s = record {
-  works = refuses None done (named feed name) rest (too_long feed) parts refl h give (s.1 ∙ before);
+  works = refuses None done (named_feed feed name) rest (too_long feed) parts refl h give (s.1 ∙ before);
   early = λ e. absurd (cc);
   why = λ own. long s.0;
 }
 input_stops y done feed name rest stops.NoMemory long parts h give before s = record {
-  works = wants_memory None (done ++ named feed name ∷ []) rest parts h give (s ∙ before);
+  works = wants_memory None (done ++ named_feed feed name ∷ []) rest parts h give (s ∙ before);
   early = λ e. absurd (cc);
   why = λ own. absurd (cc);
 }

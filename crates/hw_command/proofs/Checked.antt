@@ -16,15 +16,16 @@ use Rattle.hw_check.specs.declared.stop.CheckStop.TheVariants as checks
 use Rattle.hw_check.specs.Follows.{Stops}
 use Rattle.hw_cert.specs.declared.version.Version.{Version}
 use Rattle.hw_cert.specs.Laws.{following}
-use Rattle.hw_cert.specs.Nexts.{rest_of, next_line, Behind, Takes}
+use Rattle.hw_cert.specs.Nexts.{rest_of, next_line, Behind, TakesNextLine}
 use Rattle.hw_cert.specs.Reader.{ReaderModel}
 use Rattle.hw_lines.specs.Refusals.{refusal}
 use Rattle.hw_cert.specs.Stream.{NextLine, comes, bad, too_long, next_of, CertLines, stream_of}
+use Rattle.hw_cert.proofs.Answered.{told_map, some_map}
 use Rattle.hw_report.specs.declared.report.RefusedWord.TheVariants.{Form, Check}
 use Rattle.hw_command.specs.Certificates.{line_outcome}
 use Rattle.hw_command.specs.Checking.{line_number, left_outcome, rest_outcome, ComesOrStops, of_check_stop, of_line_stop}
 use Rattle.hw_command.specs.declared.outcome.CertOutcome.TheVariants.{Wrong, TooLong}
-use Rattle.hw_command.proofs.Told.{told_map, some_map, some_gives}
+use Rattle.hw_command.proofs.Told.{some_gives}
 
 pub line_number_on : {r reader : ReaderModel} {line : Line} → Behind r reader line → line_number reader.at ≡ line_number r.at + 1
 line_number_on {r = r} {reader = reader} h = on r.at.version reader.at.version h.version h.number
@@ -81,7 +82,7 @@ line_refused x y r reader line f before number (checks.Refused w) same h count i
 line_refused x y r reader line f before number checks.NoMemory same h count is next kept = kept
 
 -- no further line is read
-pub none_had : (x y : DeskState) (r : ReaderModel) (f : Problem) (before : List Line) (stop : LineStop) → r.shape ≡ shape_of f → Takes r x y (Err stop)
+pub none_had : (x y : DeskState) (r : ReaderModel) (f : Problem) (before : List Line) (stop : LineStop) → r.shape ≡ shape_of f → TakesNextLine r x y (Err stop)
     → ComesOrStops f before (rest_of r x) (rest_outcome f before r.at) x y (of_line_stop stop)
 none_had x y r f before (lines.Form number word) same t = (t.kept (λ e. absurd (cc)), bad_comes r f before number word (rest_of r x) same t.next)
 none_had x y r f before lines.Fault same t = t.fault refl

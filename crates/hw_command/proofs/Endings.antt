@@ -1,14 +1,14 @@
 -- Reports that are sent, one after another.
-use Rattle.std.proofs.Common.{◌≡◌, ◌<◌, ◌++◌, ◌∙◌, ℕ, List, [], ◌∷◌, Option, Some, None, Ok, Err, append-nil, append_assoc, length-append, inl, inr, length, take, refl, sym, ap, subst, arith}
+use Rattle.std.proofs.Common.{◌≡◌, ◌<◌, ◌++◌, ◌∙◌, ℕ, List, [], ◌∷◌, Ok, Err, append-nil, append_assoc, length-append, inl, inr, length, take, refl, sym, ap, subst, arith}
 use Rattle.std.proofs.lemmas.Grind.{flat_map-append}
 use Rattle.std.proofs.lemmas.List.{take-append-le}
-use Rattle.std.specs.Io.KnownBytes.{append_known}
 use Rattle.hw_desk.proofs.Chain.{text_on}
-use Rattle.hw_desk.specs.Calls.{Sends, Tells}
+use Rattle.hw_desk.specs.Calls.{Sends}
 use Rattle.hw_desk.specs.State.{DeskState, TrayState, put_tray, Rose}
 use Rattle.hw_desk.specs.Whole.{SendsText}
 use Rattle.hw_desk.specs.declared.desk.Tray.{Tray}
 use Rattle.hw_desk.specs.declared.desk.Tray.TheVariants as tray
+use Rattle.hw_desk.proofs.Written.{tells_nothing}
 use Rattle.hw_report.specs.Reports.{Report}
 use Rattle.hw_report.specs.Texts.{report_text}
 use Rattle.hw_command.specs.Ends.{reports_text, Ends}
@@ -43,10 +43,6 @@ same_trays x = λ i t. (at t) i
     at : (t : Tray) → x t ≡ put_tray x tray.Report (x tray.Report) t
     at tray.Report = refl
     at tray.Proof = refl
-
-tells_nothing : (known : Option (List ℕ)) → Tells known (append_known known [])
-tells_nothing None = tt
-tells_nothing (Some bytes) = ap Some (append-nil bytes)
 
 -- before the first report
 pub nothing_sent : (x : DeskState) → Sends tray.Report (reports_text []) x x

@@ -2,6 +2,7 @@
 use Rattle.std.proofs.Common.{◌≡◌, ◌∙◌, ℕ, List, [], ◌∷◌, Option, inl, inr, sym, arith}
 use Rattle.hw_desk.specs.State.{DeskState, Rose}
 use Rattle.hw_desk.specs.declared.desk.Feed.{Feed}
+use Rattle.hw_desk.proofs.Chain.{rose_past}
 use Rattle.hw_lines.specs.declared.check.Verdict.{Verdict}
 use Rattle.hw_lines.specs.declared.check.Verdict.TheVariants as verdicts
 use Rattle.hw_report.specs.Reports.{Report, solved, checked, demo, read_fault, picture}
@@ -54,9 +55,6 @@ no_write (demo head best verdict lemmas) e = no_write_head head e
 no_write (checked v bound ships names) e = no_write_verdict v e
 no_write (picture v text) e = no_write_verdict v e
 no_write _ e = cc
-
-rose_past : (a b c : ℕ) → b ≡ a → Rose b c → Rose a c
-rose_past a b c e h = omega arith
 
 rose_before : (a b c : ℕ) → c ≡ b → Rose a b → Rose a c
 rose_before a b c e h = omega arith

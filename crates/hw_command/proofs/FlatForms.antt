@@ -15,7 +15,7 @@ use Rattle.hw_flat.specs.declared.fault.FlatWord.{FlatWord}
 use Rattle.hw_text.specs.Parts.{parts_of}
 use Rattle.hw_report.specs.Reports.{Report, bad_flat, too_long}
 use Rattle.hw_command.specs.Inputs.{ReadsInput, IsWholeOf, ReadsFlat, NoFlat, StopsAtFlat, report_of_fault, report_of_stop}
-use Rattle.hw_command.specs.Scope.{Entered, named}
+use Rattle.hw_command.specs.Scope.{Entered, named_feed}
 use Rattle.hw_command.specs.Values.{most_bytes, IsLong, GivesProblem}
 use Rattle.hw_command.proofs.Begun.{entered_none, entered_on, input_stops, refuses, wants_memory}
 
@@ -25,7 +25,7 @@ of_whole P None bytes whole p = tt
 of_whole P (Some all) bytes whole p = subst (λ (xs : List ℕ). (length xs ≤ most_bytes) × P xs) (sym whole.0) (whole.1, p)
 
 -- the flat text was begun
-entered : {name : List ℕ} {x y : DeskState} {r : Result (Vec ℕ Global) ReadStop} → ReadsInput Flat name x y r → Entered (named Flat name ∷ []) x y
+entered : {name : List ℕ} {x y : DeskState} {r : Result (Vec ℕ Global) ReadStop} → ReadsInput Flat name x y r → Entered (named_feed Flat name ∷ []) x y
 entered {x = x} h = entered_on [] (entered_none x) h.enters refl
 
 -- the text isn't read to its end
@@ -35,12 +35,12 @@ no_text_stops {name = name} {x = x} stop h = input_stops x [] Flat name [] stop 
 -- it has a bad line
 pub bad_text_stops : {name : List ℕ} {x y : DeskState} {v : Vec ℕ Global} (fault : FlatFault) → ReadsInput Flat name x y (Ok v) → Fails fault (flat_text v.items) → StopsAtFlat name x y (report_of_fault fault)
 bad_text_stops {name = name} {x = x} {v = v} (faults.Line number word) h fails = record {
-  works = refuses None [] (named Flat name) [] (bad_flat number word) refl refl (entered h) tt h.answer.1;
+  works = refuses None [] (named_feed Flat name) [] (bad_flat number word) refl refl (entered h) tt h.answer.1;
   early = λ e. absurd (cc);
   why = λ own. of_whole (λ bytes. flat_text bytes ≡ Err (record { number = number; word = word })) (x.held name) v.items h.answer.0 fails;
 }
 bad_text_stops {name = name} faults.NoMemory h fails = record {
-  works = wants_memory None (named Flat name ∷ []) [] refl (entered h) tt h.answer.1;
+  works = wants_memory None (named_feed Flat name ∷ []) [] refl (entered h) tt h.answer.1;
   early = λ e. absurd (cc);
   why = λ own. absurd (cc);
 }

@@ -14,16 +14,16 @@ use Rattle.hw_cert.specs.Nexts.{rest_of, Behind}
 use Rattle.hw_cert.specs.Reader.{ReaderModel}
 use Rattle.hw_cert.specs.declared.version.Version.{Version}
 use Rattle.hw_cert.specs.Stream.{start_to, CertLines, stream_of}
-use Rattle.hw_check.specs.Follows.{Follows}
+use Rattle.hw_cert.proofs.Answered.{told_map, some_map}
+use Rattle.hw_check.specs.Follows.{CheckerFollows}
 use Rattle.hw_check.specs.States.{CheckState, no_lines}
-use Rattle.hw_command.specs.Checking.{Reached, rest_outcome, ComesOrStops, IsOpen, line_number}
+use Rattle.hw_command.specs.Checking.{Reached, rest_outcome, ComesOrStops, IsCheckingOpen, line_number}
 use Rattle.hw_command.specs.Inputs.{Enters}
-use Rattle.hw_command.specs.Keeping.{before_lines, whole_lines, rest_read, StepReads, Keeps}
+use Rattle.hw_command.specs.Keeping.{before_lines, complete_lines, rest_read, StepReads, Keeps}
 use Rattle.hw_command.specs.declared.cert.CertStep.TheVariants.{Ended}
 use Rattle.hw_command.specs.declared.outcome.CertOutcome.{CertOutcome}
 use Rattle.hw_command.specs.declared.outcome.CertOutcome.TheVariants.{Shows, Wrong, TooLong}
 use Rattle.hw_command.proofs.Checked.{ComesNext, streamed}
-use Rattle.hw_command.proofs.Told.{told_map, some_map}
 use Rattle.hw_command.proofs.Chained.{comes_back, none_pending}
 
 -- the line that comes next is the next one that is read
@@ -51,7 +51,7 @@ kept_behind {f = f} {told = told} {outcome = outcome} {read = is_read} {all = al
     fit = subst (λ (p : Problem). All (LineFits p) all) h.problem h.follows.fit;
     valid = subst (λ (p : Problem). Valid p all) h.problem h.follows.valid;
     comes = comes_back f all told (rest_of r y) outcome (rest_outcome f all r.at) (Shows v) h.rest k.1;
-    reads = read_back is_read (rest_read f all r.at) (whole_lines all) told (rest_of r y) read reads;
+    reads = read_back is_read (rest_read f all r.at) (complete_lines all) told (rest_of r y) read reads;
   },
 )
 kept_behind {f = f} {told = told} {outcome = outcome} {all = all} {r = r} {y = y} x z (Wrong number word hint) h read kept k reads = (
@@ -82,10 +82,10 @@ enters_on {cert = cert} h m = record {
 }
 
 -- a reader and a checker that were made for a certificate that was begun
-pub open_is : {most : Version} {f : Problem} {told : Option (List ℕ)} {now : DeskState} (shape : Shape) (r : ReaderModel) (c : CheckState) → shape ≡ shape_of f → r ≡ record { shape = shape; feed = Certificate; at = start_to most; pending = [] } → c ≡ no_lines f → Follows c [] → (now.feeds Certificate).begun ≡ true → (now.feeds Certificate).left ≡ told → IsOpen most f told r c now
+pub open_is : {most : Version} {f : Problem} {told : Option (List ℕ)} {now : DeskState} (shape : Shape) (r : ReaderModel) (c : CheckState) → shape ≡ shape_of f → r ≡ record { shape = shape; feed = Certificate; at = start_to most; pending = [] } → c ≡ no_lines f → CheckerFollows c [] → (now.feeds Certificate).begun ≡ true → (now.feeds Certificate).left ≡ told → IsCheckingOpen most f told r c now
 open_is {most = most} {f = f} {told = told} {now = now} shape r c same e h follows begun left =
     let problem : c.problem ≡ f = ap (λ (k : CheckState). k.problem) h in
-    subst (λ (q : ReaderModel). IsOpen most f told q c now) (sym e) (record {
+    subst (λ (q : ReaderModel). IsCheckingOpen most f told q c now) (sym e) (record {
       ready = record { shape = same ∙ ap shape_of (sym problem); feed = refl; limit = omega arith; begun = begun };
       follows = follows;
       problem = problem;

@@ -3,11 +3,11 @@ use Rattle.std.proofs.Common.{◌≡◌, ◌≤◌, ◌<◌, ◌⊎◌, ◌∙�
 use Rattle.std.specs.Prelude.{◌≢◌}
 use Rattle.hw_port.specs.declared.fault.PortFault.{PortFault}
 use Rattle.hw_port.specs.Whole.{Parts}
-use Rattle.hw_read.specs.Instance.{instance_of, Reads as ReadsPort}
+use Rattle.hw_read.specs.Instance.{instance_of, PortReads as ReadsPort}
 use Rattle.hw_read.specs.declared.fault.ReadFault.{ReadFault}
 use Rattle.hw_read.specs.declared.fault.ReadFault.TheVariants as read
 use Rattle.hw_tide.specs.Levels.{TideParts}
-use Rattle.hw_tide.specs.Whole.{HasRecords, Reads as ReadsHeights}
+use Rattle.hw_tide.specs.Whole.{HasRecords, TideReads as ReadsHeights}
 use Rattle.hw_tide.specs.declared.fault.TideFault.{TideFault}
 use Rattle.hw_tide.specs.declared.fault.TideFault.TheVariants as tide
 use Rattle.hw_tide.proofs.OneList.{one_list_law}

@@ -7,8 +7,8 @@ use Rattle.hw_desk.specs.State.{DeskState, Rose}
 use Rattle.hw_desk.specs.Whole.{SendsText}
 use Rattle.hw_desk.specs.declared.desk.Tray.TheVariants.{Proof}
 use Rattle.hw_desk.proofs.Chain.{only_tray_on}
+use Rattle.hw_cert.proofs.Answered.{told_map}
 use Rattle.hw_command.specs.Sending.{SendsTo}
-use Rattle.hw_command.proofs.Told.{told_map}
 
 -- what was sent after nothing
 first_sent : (before now : Option (List ℕ)) (text : List ℕ) → IfSome before (λ bytes. bytes ≡ []) → Tells now (append_known before text) → IfSome now (λ bytes. bytes ≡ text)

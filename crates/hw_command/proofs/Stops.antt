@@ -7,7 +7,7 @@ use Rattle.hw_report.specs.Reports.{Report}
 use Rattle.hw_command.specs.Carries.{Task, Carries}
 use Rattle.hw_command.specs.Ends.{Ends}
 use Rattle.hw_command.specs.Scope.{Named}
-use Rattle.hw_command.specs.Works.{Speaks, of_answer, of_input, of_memory, speaks, UpTo, TraysOf, Works, Stops}
+use Rattle.hw_command.specs.Works.{Speaks, of_answer, of_input, of_memory, speaks, UpTo, TraysOf, Works, StopsReading}
 use Rattle.hw_command.specs.declared.status.Status.{Status}
 use Rattle.hw_command.proofs.Begun.{gives_on}
 
@@ -37,7 +37,7 @@ further {x = x} {y = y} {r = r} all more proof parts same early h = record {
 
 -- a command whose first inputs stop it
 pub stops_carries : {inputs : List Named} {Gives : Feed → Type 0} {Why : Report → Type 0} {x y z : DeskState} {r : Report} {s : Status} (task : Task) (more : List Named)
-    → Stops inputs Gives Why x y r → task.inputs ≡ inputs ++ more → ((feed : Feed) → Gives feed → task.Gives x.held feed) → (Why r → task.Says x y (r ∷ [])) → Ends (r ∷ []) y z s → Carries task x z s
+    → StopsReading inputs Gives Why x y r → task.inputs ≡ inputs ++ more → ((feed : Feed) → Gives feed → task.Gives x.held feed) → (Why r → task.Says x y (r ∷ [])) → Ends (r ∷ []) y z s → Carries task x z s
 stops_carries {y = y} {r = r} task more h parts same says ends = record {
   mid = y;
   reports = r ∷ [];

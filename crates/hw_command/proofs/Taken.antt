@@ -16,7 +16,7 @@ use Rattle.hw_cert.specs.Reader.{ReaderModel}
 use Rattle.hw_cert.specs.Stream.{Position, CertLines, cert_stream_to}
 use Rattle.hw_check.specs.States.{CheckState}
 use Rattle.hw_command.specs.Certificates.{cert_outcome_to}
-use Rattle.hw_command.specs.Checking.{Reached, rest_outcome, ComesOrStops, IsOpen, OpensCert}
+use Rattle.hw_command.specs.Checking.{Reached, rest_outcome, ComesOrStops, IsCheckingOpen, OpensCert}
 use Rattle.hw_command.specs.Keeping.{rest_read, StepReads}
 use Rattle.hw_command.specs.Readings.{ReadsOrStops, ReadsRest, ReadsCert}
 use Rattle.hw_command.specs.declared.cert.CertStep.TheVariants.{Further, Ended}
@@ -73,7 +73,7 @@ reads_from most Kept f told outcome read x y z (Err Fault) before h = rose_on be
 reads_from most Kept f told outcome read x y z (Err NoMemory) before h = h ∙ before
 
 -- what was read of a certificate that was opened
-read_of : {K : Type 0} (Kept : K → List Line → Type 0) {most : Version} {f : Problem} {told : Option (List ℕ)} {r : ReaderModel} {c : CheckState} (x y z : DeskState) (found : Result (ReadCert K) CertStop) → IsOpen most f told r c y → y.read_faults ≡ x.read_faults → ReadsRest Kept r c y z found → ReadsOrStops most Kept f told (cert_outcome_to most f) (cert_stream_to most (shape_of f)) x z found
+read_of : {K : Type 0} (Kept : K → List Line → Type 0) {most : Version} {f : Problem} {told : Option (List ℕ)} {r : ReaderModel} {c : CheckState} (x y z : DeskState) (found : Result (ReadCert K) CertStop) → IsCheckingOpen most f told r c y → y.read_faults ≡ x.read_faults → ReadsRest Kept r c y z found → ReadsOrStops most Kept f told (cert_outcome_to most f) (cert_stream_to most (shape_of f)) x z found
 read_of Kept {most = most} {f = f} {told = told} {r = r} x y z found h before k =
     let of_problem = subst (λ (p : Problem). ReadsOrStops r.at.most Kept p (rest_of r y) (rest_outcome p [] r.at) (rest_read p [] r.at) y z found) h.problem k in
     let at_start = subst (λ (p : Position). ReadsOrStops p.most Kept f (rest_of r y) (rest_outcome f [] p) (rest_read f [] p) y z found) h.first of_problem in

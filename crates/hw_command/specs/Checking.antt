@@ -13,7 +13,7 @@ use Rattle.hw_cert.specs.declared.stop.LineStop.{LineStop}
 use Rattle.hw_cert.specs.declared.stop.LineStop.TheVariants as lines
 use Rattle.hw_lines.specs.declared.line.Line.{Line}
 use Rattle.hw_lines.specs.Valid.{verdict}
-use Rattle.hw_check.specs.Follows.{Follows}
+use Rattle.hw_check.specs.Follows.{CheckerFollows}
 use Rattle.hw_check.specs.States.{CheckState}
 use Rattle.hw_check.specs.declared.stop.CheckStop.{CheckStop}
 use Rattle.hw_check.specs.declared.stop.CheckStop.TheVariants as checks
@@ -49,7 +49,7 @@ pub record IsReady (reader : ReaderModel) (checker : CheckState) (now : DeskStat
 
 -- these lines of the problem were taken by now, and what is left decides the outcome that was to come, where the bytes are told
 pub record Reached (f : Problem) (told : Option (List ℕ)) (outcome : List ℕ → CertOutcome) (all : List Line) (reader : ReaderModel) (checker : CheckState) (now : DeskState) : Type 0 where
-  pub follows : Follows checker all
+  pub follows : CheckerFollows checker all
   pub problem : checker.problem ≡ f
   pub rest : IfSome told (λ bytes. IsSomeAnd (rest_of reader now) (λ rest. outcome bytes ≡ rest_outcome f all reader.at rest))
 
@@ -65,15 +65,15 @@ NoOutcome old new Fault = Rose old.read_faults new.read_faults
 NoOutcome old new NoMemory = new.read_faults ≡ old.read_faults
 
 -- a reader before a certificate's header, of a version up to this one, whose bytes left are those told, and a checker of the problem without lines
-pub record IsOpen (most : Version) (f : Problem) (told : Option (List ℕ)) (reader : ReaderModel) (checker : CheckState) (now : DeskState) : Type 0 where
+pub record IsCheckingOpen (most : Version) (f : Problem) (told : Option (List ℕ)) (reader : ReaderModel) (checker : CheckState) (now : DeskState) : Type 0 where
   pub ready : IsReady reader checker now
-  pub follows : Follows checker []
+  pub follows : CheckerFollows checker []
   pub problem : checker.problem ≡ f
   pub first : reader.at ≡ start_to most
   pub left : rest_of reader now ≡ told
 
 abbrev pub OpenAnswer : Version → Problem → Option (List ℕ) → DeskState → DeskState → Result OpenCert CertStop → Type 0
-OpenAnswer most f told old new (Ok open_cert) = IsOpen most f told open_cert.reader open_cert.checker new × (new.read_faults ≡ old.read_faults)
+OpenAnswer most f told old new (Ok open_cert) = IsCheckingOpen most f told open_cert.reader open_cert.checker new × (new.read_faults ≡ old.read_faults)
 OpenAnswer most f told old new (Err stop) = NoOutcome old new stop
 
 -- a certificate of a version up to this one is begun under its name, and none of its lines was taken
@@ -92,8 +92,8 @@ Steps f before r old new (Further reader checker line) = (new.read_faults ≡ ol
 Steps f before r old new (Ended found) = ComesOrStops f before (rest_of r old) (rest_outcome f before r.at) old new found
 
 -- the same of a checker, whatever the lines before
-abbrev pub StepsOn : ReaderModel → CheckState → DeskState → DeskState → CertStep → Type 0
-StepsOn r c old new step = (before : List Line) → Follows c before → Steps c.problem before r old new step
+abbrev pub CheckerSteps : ReaderModel → CheckState → DeskState → DeskState → CertStep → Type 0
+CheckerSteps r c old new step = (before : List Line) → CheckerFollows c before → Steps c.problem before r old new step
 
 -- after a line one more can be taken
 abbrev pub GoesFurther : ReaderModel → DeskState → CertStep → Type 0

@@ -15,9 +15,9 @@ use Rattle.hw_flat.specs.declared.fault.FlatFault.{FlatFault}
 use Rattle.hw_flat.specs.declared.fault.FlatFault.TheVariants as faults
 use Rattle.hw_flat.specs.declared.fault.FlatWord.{FlatWord}
 use Rattle.hw_report.specs.Reports.{Report, bad_flat, read_fault, too_long, no_memory}
-use Rattle.hw_command.specs.Scope.{Entered, named}
-use Rattle.hw_command.specs.Values.{most_bytes, IsLong, IsTextOf, FlatGives}
-use Rattle.hw_command.specs.Works.{Stops}
+use Rattle.hw_command.specs.Scope.{Entered, named_feed}
+use Rattle.hw_command.specs.Values.{most_bytes, IsLong, IsProblemText, FlatGives}
+use Rattle.hw_command.specs.Works.{StopsReading}
 
 -- an input is begun under its name, and nothing else is touched
 pub record Enters (feed : Feed) (name : List ℕ) (old new : DeskState) : Type 0 where
@@ -50,11 +50,11 @@ IsBadAt number word bytes = (length bytes ≤ most_bytes) × (flat_text bytes �
 
 -- the text was begun and no read failed: a problem within the limits, which has a text, and that of the bytes held under the name, where they are told
 pub record ReadsFlat (name : List ℕ) (old new : DeskState) (f : Problem) : Type 0 where
-  pub entered : Entered (named feeds.Flat name ∷ []) old new
+  pub entered : Entered (named_feed feeds.Flat name ∷ []) old new
   pub read_faults : new.read_faults ≡ old.read_faults
   pub limits : IsFlat f
   pub writable : IsWritable f
-  pub reads : IfSome (old.held name) (IsTextOf f)
+  pub reads : IfSome (old.held name) (IsProblemText f)
 
 -- what a report says of a text that gives no problem, where it is told. No other is given
 abbrev pub NoFlat : Option (List ℕ) → Report → Type 0
@@ -64,7 +64,7 @@ NoFlat text _ = ⊥
 
 -- why there is no problem
 abbrev pub StopsAtFlat : List ℕ → DeskState → DeskState → Report → Type 0
-StopsAtFlat name old new r = Stops (named feeds.Flat name ∷ []) (FlatGives name old.held) (NoFlat (old.held name)) old new r
+StopsAtFlat name old new r = StopsReading (named_feed feeds.Flat name ∷ []) (FlatGives name old.held) (NoFlat (old.held name)) old new r
 
 -- the report of an input that isn't read to its end
 abbrev pub report_of_stop : Feed → ReadStop → Report

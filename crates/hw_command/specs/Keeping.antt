@@ -16,8 +16,8 @@ use Rattle.hw_command.specs.declared.outcome.CertOutcome.{CertOutcome}
 use Rattle.hw_command.specs.declared.outcome.CertOutcome.TheVariants.{Shows, Wrong, TooLong}
 
 -- all lines of a certificate that ends after them
-abbrev pub whole_lines : List Line → CertLines
-whole_lines all = record { lines = all; stop = complete }
+abbrev pub complete_lines : List Line → CertLines
+complete_lines all = record { lines = all; stop = complete }
 
 -- lines, and after them those that are left
 abbrev pub before_lines : List Line → CertLines → CertLines
@@ -30,7 +30,7 @@ rest_read f before at rest = before_lines before (stream_of (shape_of f) at (par
 -- the line that was taken is the next one that is read; and where something is shown, nothing is left
 abbrev pub StepReads : Problem → List Line → ReaderModel → DeskState → DeskState → CertStep → Type 0
 StepReads f before r old new (Further reader checker line) = IfSome (rest_of r old) (λ rest. IsSomeAnd (rest_of reader new) (λ more. rest_read f before r.at rest ≡ rest_read f (before ++ line ∷ []) reader.at more))
-StepReads f before r old new (Ended (Ok (Shows v))) = IfSome (rest_of r old) (λ rest. rest_read f before r.at rest ≡ whole_lines before)
+StepReads f before r old new (Ended (Ok (Shows v))) = IfSome (rest_of r old) (λ rest. rest_read f before r.at rest ≡ complete_lines before)
 StepReads f before r old new (Ended found) = ⊤
 
 -- the same of a checker, whatever the lines before
@@ -39,7 +39,7 @@ ReadsOn r c old new step = (before : List Line) → StepReads c.problem before r
 
 -- where something is shown, these are all lines of the bytes told
 abbrev pub ReadsAll : Option (List ℕ) → (List ℕ → CertLines) → List Line → CertOutcome → Type 0
-ReadsAll told read all (Shows v) = IfSome told (λ bytes. read bytes ≡ whole_lines all)
+ReadsAll told read all (Shows v) = IfSome told (λ bytes. read bytes ≡ complete_lines all)
 ReadsAll told read all (Wrong number word hint) = ⊤
 ReadsAll told read all TooLong = ⊤
 

@@ -17,9 +17,9 @@ use Rattle.hw_port_rules.specs.Alike.{IsSameProblem}
 use Rattle.hw_port_rules.specs.Flattened.{flattened}
 use Rattle.hw_report.specs.Reports.{Report, bad_json, bad_field, bad_tides, too_long}
 use Rattle.hw_command.specs.Inputs.{Enters, StopsFor, report_of_stop}
-use Rattle.hw_command.specs.Scope.{Entered, named}
-use Rattle.hw_command.specs.Values.{IsLong, IsInstance, IsTable, IsPortOf, GivesPort, PortGives}
-use Rattle.hw_command.specs.Works.{Stops}
+use Rattle.hw_command.specs.Scope.{Entered, named_feed}
+use Rattle.hw_command.specs.Values.{IsLong, IsInstance, ReadsTideTable, IsPortOf, GivesPort, PortGives}
+use Rattle.hw_command.specs.Works.{StopsReading}
 use Rattle.hw_command.specs.declared.port_input.InstanceStop.{InstanceStop}
 use Rattle.hw_command.specs.declared.port_input.InstanceStop.TheVariants as instances
 use Rattle.hw_command.specs.declared.port_input.PortNames.{PortNames}
@@ -55,8 +55,8 @@ pub record ReadsInstance (name : List ℕ) (old new : DeskState) (result : Resul
 
 -- a tide within the limits, with as many columns as the port has waypoints, and that of the bytes held under the name, where they are told; or why there is none
 abbrev pub TideAnswer : Parts → Option (List ℕ) → DeskState → DeskState → Result TideParts TideStop → Type 0
-TideAnswer p told old new (Ok h) = IsTide h × (h.columns ≡ length p.waypoints) × IfSome told (IsTable p (Ok h)) × (new.read_faults ≡ old.read_faults)
-TideAnswer p told old new (Err (tables.Table fault)) = (fault ≢ tide.NoMemory) × IfSome told (IsTable p (Err fault)) × (new.read_faults ≡ old.read_faults)
+TideAnswer p told old new (Ok h) = IsTide h × (h.columns ≡ length p.waypoints) × IfSome told (ReadsTideTable p (Ok h)) × (new.read_faults ≡ old.read_faults)
+TideAnswer p told old new (Err (tables.Table fault)) = (fault ≢ tide.NoMemory) × IfSome told (ReadsTideTable p (Err fault)) × (new.read_faults ≡ old.read_faults)
 TideAnswer p told old new (Err (tables.Input stop)) = StopsFor told old new stop
 
 -- the tide table of a port is begun under its name, read to its end and parsed
@@ -81,7 +81,7 @@ pub record IsBadTable (instance table : Option (List ℕ)) (fault : TideFault) :
   pub kept : PortKept port
   pub instance_reads : IfSome instance (IsInstance (Ok port))
   pub is_fault : fault ≢ tide.NoMemory
-  pub table_reads : IfSome table (IsTable port (Err fault))
+  pub table_reads : IfSome table (ReadsTideTable port (Err fault))
 
 -- what a report says of an instance and a table that give no port with its tide, each where it is told. For the same told bytes at most one report but `memory` is right, and nothing else is printed
 abbrev pub NoPort : Option (List ℕ) → Option (List ℕ) → Report → Type 0
@@ -94,7 +94,7 @@ NoPort instance table _ = ⊥
 
 -- both inputs were begun and no read failed: a port with its tide, and its flat problem, which has a text and says what the port says
 pub record ReadsPortProblem (instance table : List ℕ) (old new : DeskState) (p : Parts) (h : TideParts) (f : Problem) : Type 0 where
-  pub entered : Entered (named Instance instance ∷ named Tides table ∷ []) old new
+  pub entered : Entered (named_feed Instance instance ∷ named_feed Tides table ∷ []) old new
   pub read_faults : new.read_faults ≡ old.read_faults
   pub port : IsPortOf (old.held instance) (old.held table) p h
   pub problem : f ≡ flattened p h
@@ -104,7 +104,7 @@ pub record ReadsPortProblem (instance table : List ℕ) (old new : DeskState) (p
 
 -- why there is no port with its tide
 abbrev pub StopsAtPort : List ℕ → List ℕ → DeskState → DeskState → Report → Type 0
-StopsAtPort instance table old new r = Stops (named Instance instance ∷ named Tides table ∷ []) (PortGives instance table old.held) (NoPort (old.held instance) (old.held table)) old new r
+StopsAtPort instance table old new r = StopsReading (named_feed Instance instance ∷ named_feed Tides table ∷ []) (PortGives instance table old.held) (NoPort (old.held instance) (old.held table)) old new r
 
 -- the same, by the names and what was read
 abbrev pub ReadsNamed : PortNames → DeskState → DeskState → PortProblem → Type 0

@@ -9,13 +9,13 @@ pub record Named : Type 0 where
   pub feed : Feed
   pub name : List ℕ
 
-abbrev pub named : Feed → List ℕ → Named
-named feed name = record { feed = feed; name = name }
+abbrev pub named_feed : Feed → List ℕ → Named
+named_feed feed name = record { feed = feed; name = name }
 
 -- whether a feed is one of some inputs
-abbrev pub is_among : List Named → Feed → Bool
-is_among [] feed = false
-is_among (input ∷ more) feed = same_feed feed input.feed || is_among more feed
+abbrev pub feed_is_among : List Named → Feed → Bool
+feed_is_among [] feed = false
+feed_is_among (input ∷ more) feed = same_feed feed input.feed || feed_is_among more feed
 
 -- the last of some inputs
 abbrev pub last_of : List Named → Option Named
@@ -42,7 +42,7 @@ GiveBefore Gives (input ∷ next ∷ more) = Gives input.feed × GiveBefore Give
 pub record BeginsAll (inputs : List Named) (old new : DeskState) : Type 0 where
   pub held : new.held ≡ old.held
   pub begun : AllBegun new inputs
-  pub others : (feed : Feed) → is_among inputs feed ≡ false → new.feeds feed ≡ old.feeds feed
+  pub others : (feed : Feed) → feed_is_among inputs feed ≡ false → new.feeds feed ≡ old.feeds feed
 
 -- these inputs were begun, and neither a tray nor a write was touched
 pub record Entered (inputs : List Named) (old new : DeskState) : Type 0 where

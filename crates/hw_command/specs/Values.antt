@@ -7,10 +7,10 @@ use Rattle.hw_desk.specs.declared.desk.Feed.TheVariants.{Flat, Instance, Tides}
 use Rattle.hw_flat.specs.Text.{flat_text}
 use Rattle.hw_port.specs.Kept.{PortKept}
 use Rattle.hw_port.specs.Whole.{Parts}
-use Rattle.hw_read.specs.Instance.{Reads as ReadsPort}
+use Rattle.hw_read.specs.Instance.{PortReads as ReadsPort}
 use Rattle.hw_read.specs.declared.fault.ReadFault.{ReadFault}
 use Rattle.hw_tide.specs.Levels.{IsTide, TideParts}
-use Rattle.hw_tide.specs.Whole.{Reads as ReadsHeights, tide_by_header, waypoint_names}
+use Rattle.hw_tide.specs.Whole.{TideReads as ReadsHeights, tide_by_header, waypoint_names}
 use Rattle.hw_tide.specs.declared.fault.TideFault.{TideFault}
 
 -- the most bytes of a feed other than the certificate
@@ -22,16 +22,16 @@ abbrev pub IsLong : List ℕ → Type 0
 IsLong bytes = most_bytes < length bytes
 
 -- the bytes keep the limit and are the text of this problem
-abbrev pub IsTextOf : Problem → List ℕ → Type 0
-IsTextOf f bytes = (length bytes ≤ most_bytes) × (flat_text bytes ≡ Ok f)
+abbrev pub IsProblemText : Problem → List ℕ → Type 0
+IsProblemText f bytes = (length bytes ≤ most_bytes) × (flat_text bytes ≡ Ok f)
 
 -- the bytes keep the limit, and as an instance they are read as this
 abbrev pub IsInstance : Result Parts ReadFault → List ℕ → Type 0
 IsInstance what bytes = (length bytes ≤ most_bytes) × ReadsPort bytes what
 
 -- the bytes keep the limit, and as a tide table of the port they are read as this
-abbrev pub IsTable : Parts → Result TideParts TideFault → List ℕ → Type 0
-IsTable p what bytes = (length bytes ≤ most_bytes) × ReadsHeights bytes (tide_by_header (waypoint_names p)) what
+abbrev pub ReadsTideTable : Parts → Result TideParts TideFault → List ℕ → Type 0
+ReadsTideTable p what bytes = (length bytes ≤ most_bytes) × ReadsHeights bytes (tide_by_header (waypoint_names p)) what
 
 -- a port that keeps the meaning rules, with a tide within the limits, of as many columns as the port has waypoints: that of the instance and of the table, each where it is told
 pub record IsPortOf (instance table : Option (List ℕ)) (p : Parts) (h : TideParts) : Type 0 where
@@ -39,7 +39,7 @@ pub record IsPortOf (instance table : Option (List ℕ)) (p : Parts) (h : TidePa
   pub limits : IsTide h
   pub columns : h.columns ≡ length p.waypoints
   pub instance_reads : IfSome instance (IsInstance (Ok p))
-  pub table_reads : IfSome table (IsTable p (Ok h))
+  pub table_reads : IfSome table (ReadsTideTable p (Ok h))
 
 -- ---- some value
 
@@ -47,7 +47,7 @@ pub record IsPortOf (instance table : Option (List ℕ)) (p : Parts) (h : TidePa
 pub record GivesProblem (text : Option (List ℕ)) : Type 0 where
   pub problem : Problem
   pub limits : IsFlat problem
-  pub reads : IfSome text (IsTextOf problem)
+  pub reads : IfSome text (IsProblemText problem)
 
 -- the instance gives a port that keeps the meaning rules, its own where it is told
 pub record GivesPort (instance : Option (List ℕ)) : Type 0 where

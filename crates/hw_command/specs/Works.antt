@@ -81,7 +81,7 @@ is_common no_memory = true
 is_common r = false
 
 -- reading stopped at one of these inputs: what was done until the report, and its cause if the command has one of its own
-pub record Stops (inputs : List Named) (Gives : Feed → Type 0) (Why : Report → Type 0) (old new : DeskState) (r : Report) : Type 0 where
+pub record StopsReading (inputs : List Named) (Gives : Feed → Type 0) (Why : Report → Type 0) (old new : DeskState) (r : Report) : Type 0 where
   pub works : Works inputs Gives None old new r
   pub early : speaks r ≢ of_answer
   pub why : is_common r ≡ false → Why r

@@ -1,12 +1,12 @@
 //! Checking a certificate of a problem, line by line.
 
 ghost use Rattle.std.specs.Prelude.{◌≡◌, [], ℕ, List, false};
-ghost use Rattle.hw_check.specs.Follows.{Follows};
+ghost use Rattle.hw_check.specs.Follows.{CheckerFollows};
 ghost use Rattle.hw_desk.specs.Calls.{Moves};
 ghost use Rattle.hw_report.specs.Printing.{CanPrint};
 ghost use Rattle.hw_report.specs.Seen.{names_seen, report_seen};
 ghost use Rattle.hw_command.specs.Certificates.{report_of_check};
-ghost use Rattle.hw_command.specs.Checking.{GoesFurther, IsReady, OpensCert, StaysWithin, StepsOn, of_line_stop, of_check_stop};
+ghost use Rattle.hw_command.specs.Checking.{GoesFurther, IsReady, OpensCert, StaysWithin, CheckerSteps, of_line_stop, of_check_stop};
 ghost use Rattle.hw_command.specs.Keeping.{ReadsOn};
 ghost use Rattle.hw_command.specs.Readings.{ReadsCert, ReadsRest};
 
@@ -99,7 +99,7 @@ fn read_lines<D: Desk, K: LineTaker>(
     mut kept: K,
 ) -> Result<ReadCert<K>, CertStop>
     requires ready { IsReady reader checker (D.state desk.old) }
-    requires fresh { Follows checker [] }
+    requires fresh { CheckerFollows checker [] }
     requires none { K.keeps kept [] }
     ensures moved { (bytes : List ℕ) × Moves Feed.Certificate bytes (D.state desk.old) (D.state desk.new) }
     ensures reads { ReadsRest K.keeps reader checker.entry (D.state desk.old) (D.state desk.new) result }
@@ -137,7 +137,7 @@ fn check_line<'f, D: Desk>(desk: &mut D, reader: LineReader, checker: Checker<'f
     ensures further { GoesFurther reader (D.state desk.new) result }
     ensures within { StaysWithin reader result }
     ensures reads { ReadsOn reader checker.entry (D.state desk.old) (D.state desk.new) result }
-    ensures steps { StepsOn reader checker.entry (D.state desk.old) (D.state desk.new) result }
+    ensures steps { CheckerSteps reader checker.entry (D.state desk.old) (D.state desk.new) result }
 {
     match reader.next(desk) {
         Ok(Next::Line { reader, line }) => {

@@ -15,8 +15,8 @@ pub record Page : Type 0 where
   pub numbers : List ℕ
 
 -- a page without lines
-abbrev pub no_lines : Page
-no_lines = record { lines = []; numbers = [] }
+abbrev pub blank_page : Page
+blank_page = record { lines = []; numbers = [] }
 
 -- ---- what is handed on of a line
 
@@ -58,18 +58,18 @@ abbrev pub handed : Problem → Option ℕ → List ℕ → Line → Option Line
 handed f best numbers line = if is_handed f best line then Some (renumbered numbers line) else None
 
 -- lines followed by one more, if there is one
-abbrev pub with_next : List Line → Option Line → List Line
-with_next all None = all
-with_next all (Some line) = all ++ line ∷ []
+abbrev pub with_next_line : List Line → Option Line → List Line
+with_next_line all None = all
+with_next_line all (Some line) = all ++ line ∷ []
 
 -- numbers followed by that of one more own clause line, if the line has a clause
-abbrev pub with_number : List ℕ → ℕ → Option (List Lit) → List ℕ
-with_number numbers n None = numbers
-with_number numbers n (Some clause) = numbers ++ n ∷ []
+abbrev pub with_clause_number : List ℕ → ℕ → Option (List Lit) → List ℕ
+with_clause_number numbers n None = numbers
+with_clause_number numbers n (Some clause) = numbers ++ n ∷ []
 
 -- the page with one more line; before it the shared log had `count` clause lines
 abbrev pub page_after : Page → ℕ → Line → Page
-page_after page count line = record { lines = page.lines ++ line ∷ []; numbers = with_number page.numbers (count + 1) (clause_of line) }
+page_after page count line = record { lines = page.lines ++ line ∷ []; numbers = with_clause_number page.numbers (count + 1) (clause_of line) }
 
 -- ---- what ties own lines to shared ones
 
@@ -89,5 +89,5 @@ pub record Tied (f : Problem) (page : Page) (shared : List Line) : Type 0 where
   pub best : AtMost (best_of f page.lines) (best_of f shared)
 
 -- no shared number is one of both
-abbrev pub Apart : Page → Page → Type 0
-Apart page other = (number : ℕ) → Contains page.numbers number → Contains other.numbers number → ⊥
+abbrev pub NumbersApart : Page → Page → Type 0
+NumbersApart page other = (number : ℕ) → Contains page.numbers number → Contains other.numbers number → ⊥

@@ -61,7 +61,7 @@ minutes_on t more = omega arith
 joined : (n first more : ℕ) → n + first + more ≡ n + (first + more)
 joined n first more = omega arith
 
--- so many minutes after the midnight of a day that comes after the minutes t
+-- this many minutes after the midnight of a day that comes after the minutes t
 abbrev from_days : Date → ℕ → ℕ → Moment
 from_days d t minutes = in_day (days_after (t / 1440) d) minutes
 

@@ -58,7 +58,7 @@ text_law m n p q e =
 
 -- ---- a start is written as it stands
 
--- so many bytes of a text, from this place on
+-- this many bytes of a text, from this place on
 from : List ℕ → ℕ → ℕ → List ℕ
 from s i zero = []
 from s i (suc n) = get_or s i 0 ∷ from s (i + 1) n

@@ -5,7 +5,7 @@ use Rattle.hw_dates.specs.declared.moment.Moment.{Moment}
 use Rattle.hw_dates.specs.Moments.{IsMoment, later, minutes_of, moment_after}
 use Rattle.hw_dates.specs.Texts.{moment_text}
 
--- what stands some minutes after a moment is a moment, and its minutes are so many more
+-- what stands some minutes after a moment is a moment, and its minutes are more by that number
 pub record CountsLater (minutes : ℕ) (m : Moment) : Type 0 where
   pub moment : IsMoment (later minutes m)
   pub count : minutes_of (later minutes m) ≡ minutes_of m + minutes

@@ -19,11 +19,11 @@ minute_of_day m = 60 * m.hour + m.minute
 abbrev pub minutes_of : Moment → ℕ
 minutes_of m = 1440 * day_number m.date + minute_of_day m
 
--- so many minutes after the midnight with which a day begins
+-- this many minutes after the midnight with which a day begins
 abbrev pub in_day : Date → ℕ → Moment
 in_day d minutes = record { date = days_after (minutes / 1440) d; hour = minutes % 1440 / 60; minute = minutes % 60 }
 
--- so many minutes after a moment
+-- this many minutes after a moment
 abbrev pub later : ℕ → Moment → Moment
 later minutes m = in_day m.date (minute_of_day m + minutes)
 
@@ -31,6 +31,6 @@ later minutes m = in_day m.date (minute_of_day m + minutes)
 abbrev pub start_of : List ℕ → Moment
 start_of text = record { date = date (year_of text) (pair_at text 5) (pair_at text 8); hour = pair_at text 11; minute = pair_at text 14 }
 
--- so many minutes after a start
+-- this many minutes after a start
 abbrev pub moment_after : List ℕ → ℕ → Moment
 moment_after start minutes = later minutes (start_of start)

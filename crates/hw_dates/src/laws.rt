@@ -3,7 +3,7 @@
 ghost use Rattle.hw_dates.specs.Laws.{CountTells, CountsAreExact, MomentsCompose, StartReadsBack, TextTells};
 ghost use Rattle.hw_dates.specs.Rows.{DateRows};
 
-/// What stands some minutes after a moment is a date and a time, and its minutes since 1970-01-01 are so many more.
+/// What stands some minutes after a moment is a date and a time, that many minutes later since 1970-01-01.
 pub fn counts_are_exact()
     ensures { CountsAreExact }
 {}

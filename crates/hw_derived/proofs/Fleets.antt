@@ -40,7 +40,7 @@ same_rules : (rules : List Rule) → map (lessened_rule 0) rules ≡ rules
 same_rules [] = refl
 same_rules (rule ∷ rules) = ap (λ r. r ∷ map (lessened_rule 0) rules) (same_rule rule) ∙ ap (λ rs. rule ∷ rs) (same_rules rules)
 
-with_rules : Problem → List Rule → Problem
+pub with_rules : Problem → List Rule → Problem
 with_rules f rules = record { ships = f.ships; slots = f.slots; stay = f.stay; values = f.values; rules = rules }
 
 pub same_problem : (f : Problem) → lessened 0 f ≡ f

@@ -99,7 +99,10 @@ one_write {t = t} {x = x} {y = y} {z = z} {n = n} {rest = rest} text at e le h w
     (sends_on h part (take (at + n) text) (take-add at n text), omega (arith, fits, length-drop at text))
 
 -- a rise after a step is a rise
-rose_on : {a b c : ℕ} → a ≤ b → Rose b c → Rose a c
+pub rose_past : (a b c : ℕ) → b ≡ a → Rose b c → Rose a c
+rose_past a b c e h = omega (arith, e, h)
+
+pub rose_on : {a b c : ℕ} → a ≤ b → Rose b c → Rose a c
 rose_on h k = omega arith
 
 -- one text after another

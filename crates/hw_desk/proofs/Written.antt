@@ -42,7 +42,7 @@ puts_on {a = a} {b = b} {x = x} {y = y} {z = z} h k = record {
 pub puts_same : {a : List ℕ} {x y : WriterState} → (b : List ℕ) → b ≡ a → Puts a x y → Puts b x y
 puts_same {x = x} {y = y} b e h = subst (λ (t : List ℕ). Puts t x y) (sym e) h
 
-tells_nothing : (known : Option (List ℕ)) → Tells known (append_known known [])
+pub tells_nothing : (known : Option (List ℕ)) → Tells known (append_known known [])
 tells_nothing None = tt
 tells_nothing (Some bytes) = ap Some (append-nil bytes)
 

@@ -123,7 +123,7 @@ write_call Report = call.WriteReport
 write_call Proof = call.WriteProof
 
 -- a call of a kind was counted, and what a desk is made with stays
-pub record Counts (c : DeskCall) (old new : MemoryModel) : Type 0 where
+pub record CountsCall (c : DeskCall) (old new : MemoryModel) : Type 0 where
   pub files : new.files ≡ old.files
   pub most : new.most ≡ old.most
   pub fails : new.fails ≡ old.fails

@@ -29,17 +29,17 @@ pub record DeskState : Type 0 where
   pub write_faults : ℕ
 
 -- the feeds in order
-abbrev pub place_of : Feed → ℕ
-place_of Flat = 0
-place_of Instance = 1
-place_of Tides = 2
-place_of Certificate = 3
-place_of Plan = 4
-place_of Events = 5
-place_of Clash = 6
+abbrev pub feed_place : Feed → ℕ
+feed_place Flat = 0
+feed_place Instance = 1
+feed_place Tides = 2
+feed_place Certificate = 3
+feed_place Plan = 4
+feed_place Events = 5
+feed_place Clash = 6
 
 abbrev pub same_feed : Feed → Feed → Bool
-same_feed f g = place_of f == place_of g
+same_feed f g = feed_place f == feed_place g
 
 abbrev pub same_tray : Tray → Tray → Bool
 same_tray Report Report = true

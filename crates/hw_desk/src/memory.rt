@@ -250,7 +250,7 @@ impl MemoryDesk {
 
 impl Desk for MemoryDesk {
     ghost use Rattle.hw_desk.specs.State.{CanSend};
-    ghost use Rattle.hw_desk.specs.Memory.{memory_state, memory_fresh, memory_bounded, Counts, ReadFaults, WriteFaults, is_listed, write_call, sent_to};
+    ghost use Rattle.hw_desk.specs.Memory.{memory_state, memory_fresh, memory_bounded, CountsCall, ReadFaults, WriteFaults, is_listed, write_call, sent_to};
     ghost use Rattle.hw_desk.specs.Files.{held_in};
     ghost use Rattle.hw_desk.specs.Calls.{Begins, Reads, Makes, Writes};
 
@@ -263,7 +263,7 @@ impl Desk for MemoryDesk {
     fn begin(&mut self, feed: Feed, name: &str) -> Result<(), DeskFailed>
         requires fresh { ((memory_state self.old).feeds feed).begun ≡ false }
         ensures begins { Begins feed name.now (memory_state self.old) (memory_state self.new) result }
-        ensures counts { Counts DeskCall.Begin self.old self.new }
+        ensures counts { CountsCall DeskCall.Begin self.old self.new }
         ensures named { ((memory_state self.new).feeds feed).name ≡ kept_name name.now }
         ensures faults { ReadFaults self.old self.new result }
         ensures exactly { IsErr result ↔ (IsTrue (is_listed self.old DeskCall.Begin) ⊎ IsNone (held_in self.old.files name.now)) }
@@ -281,7 +281,7 @@ impl Desk for MemoryDesk {
         requires begun { ((memory_state self.old).feeds feed).begun ≡ true }
         requires some { 0 < length into.old }
         ensures reads { Reads feed into.new (memory_state self.old) (memory_state self.new) result }
-        ensures counts { Counts DeskCall.Read self.old self.new }
+        ensures counts { CountsCall DeskCall.Read self.old self.new }
         ensures faults { ReadFaults self.old self.new result }
         ensures count { IfOk result (λ n. IfSome ((memory_state self.old).feeds feed).left (λ left. n ≡ min (length into.old) (min self.old.most (length left)))) }
         ensures exactly { IsErr result ↔ IsTrue (is_listed self.old DeskCall.Read) }
@@ -296,7 +296,7 @@ impl Desk for MemoryDesk {
     fn make(&mut self, tray: Tray, name: &str) -> Result<(), DeskFailed>
         requires fresh { ((memory_state self.old).trays tray).made ≡ false }
         ensures makes { Makes tray name.now (memory_state self.old) (memory_state self.new) result }
-        ensures counts { Counts DeskCall.Make self.old self.new }
+        ensures counts { CountsCall DeskCall.Make self.old self.new }
         ensures named { ((memory_state self.new).trays tray).name ≡ kept_name name.now }
         ensures faults { WriteFaults self.old self.new result }
         ensures exactly { IsErr result ↔ IsTrue (is_listed self.old DeskCall.Make) }
@@ -312,7 +312,7 @@ impl Desk for MemoryDesk {
         requires made { CanSend tray (memory_state self.old) }
         requires some { 0 < length bytes.now }
         ensures writes { Writes tray bytes.now (memory_state self.old) (memory_state self.new) result }
-        ensures counts { Counts (write_call tray) self.old self.new }
+        ensures counts { CountsCall (write_call tray) self.old self.new }
         ensures faults { WriteFaults self.old self.new result }
         ensures count { IfOk result (λ n. n ≡ min (length bytes.now) (min self.old.most ((sent_to self.old tray).room - length (sent_to self.old tray).bytes))) }
         ensures exactly { IsErr result ↔ (IsTrue (is_listed self.old (write_call tray)) ⊎ ((sent_to self.old tray).room ≤ length (sent_to self.old tray).bytes)) }

@@ -1,17 +1,18 @@
 -- What each number of a restriction stands for.
-use Rattle.std.proofs.Common.{◌≡◌, ◌↔◌, ℕ, zero, suc, ◌+◌, ◌-◌, ◌<◌, ◌≤◌, nat_lt, List, map, Some, is_some, IsTrue, slice_get, slice_index, length, length-append, refl, sym, ap, ◌∙◌, subst, inl, inr, arith}
-use Rattle.std.proofs.lemmas.Bool.{cases_lt, cond-true, cond-false, lt-ltb, le-ltb}
+use Rattle.std.proofs.Common.{◌≡◌, ◌↔◌, ℕ, zero, suc, ◌+◌, ◌-◌, ◌<◌, ◌≤◌, nat_lt, List, map, Some, IsTrue, slice_get, length, length-append, refl, sym, ap, ◌∙◌, subst, inl, inr, arith}
+use Rattle.std.proofs.lemmas.Bool.{cases_lt, cond-false, le-ltb}
 use Rattle.std.proofs.lemmas.List.FromFn.{length-map-range_with_len}
 use Rattle.std.proofs.lemmas.Option.{same_Some}
 use Rattle.std.specs.List.{range_with_len}
+use Rattle.hw_lemmas.proofs.Lists.{get_left, get_right}
 use Rattle.hw_model.specs.declared.rule.Rule.{Rule}
-use Rattle.hw_model.specs.Problem.{Problem, value_at}
+use Rattle.hw_model.specs.Problem.{Problem}
 use Rattle.hw_model.specs.Rules.{rule_holds}
 use Rattle.hw_model.specs.Timetables.{holds_at, restriction_holds}
+use Rattle.hw_laws.proofs.Broken.{window_at}
 use Rattle.hw_port.specs.Kept.{PortKept}
 use Rattle.hw_port.specs.Whole.{Parts}
 use Rattle.hw_port_rules.specs.Flattened.{rules_of, flattened}
-use Rattle.hw_port_laws.proofs.Eachs.{get_left, get_right}
 use Rattle.hw_explain.specs.declared.named.Named.{Named}
 use Rattle.hw_explain.specs.declared.named.Named.TheVariants.{Window}
 use Rattle.hw_explain.specs.Restrictions.{windows, rules_named, named_restrictions}
@@ -65,9 +66,6 @@ named_by_rule p h number named kept e = by (at_number p number named kept e)
     by (at_window is lt) = subst (IsNamed (flattened p h) number) (sym is) (refl, lt)
     by (at_rule rule le there stands) = stands_is p (flattened p h) number named rule kept (record { after_windows = le; there = there }) stands
 
-window_is : (f : Problem) (table : List ℕ) (n : ℕ) → n < f.ships → restriction_holds f table n ≡ is_some (value_at f n (slice_index table n))
-window_is f table n lt = cond-true (nat_lt n f.ships) _ _ (lt-ltb n f.ships lt)
-
 rule_is : (f : Problem) (table : List ℕ) (n : ℕ) (rule : Rule) → f.ships ≤ n → slice_get f.rules (n - f.ships) ≡ Some rule → restriction_holds f table n ≡ rule_holds f table rule
 rule_is f table n rule le there = cond-false (nat_lt n f.ships) _ _ (le-ltb n f.ships le) ∙ ap (holds_at f table) there
 
@@ -76,8 +74,8 @@ named_means p h table number named kept listed e = by (at_number p number named 
   where
     by : At p number named → IsTrue (restriction_holds (flattened p h) table number) ↔ NamedHolds p h table named
     by (at_window is lt) = subst (λ n. IsTrue (restriction_holds (flattened p h) table number) ↔ NamedHolds p h table n) (sym is) (
-      λ holds. window_holds p h table number listed (sym (window_is (flattened p h) table number lt) ∙ holds),
-      λ holds. window_is (flattened p h) table number lt ∙ value_there p h table number kept listed lt holds,
+      λ holds. window_holds p h table number listed (sym (window_at (flattened p h) table number lt) ∙ holds),
+      λ holds. window_at (flattened p h) table number lt ∙ value_there p h table number kept listed lt holds,
     )
     by (at_rule rule le there stands) =
         let says = stands_means p h table named rule kept listed stands in (

@@ -5,6 +5,7 @@ use Rattle.std.proofs.lemmas.Bool.Decides.{Decides-int_eq}
 use Rattle.std.proofs.lemmas.Option.{same_Some}
 use Rattle.std.specs.List.{list_all, list_any}
 use Rattle.std.specs.Ordering.{int_eq}
+use Rattle.hw_lemmas.proofs.Lists.{has_get, stands_at}
 use Rattle.hw_model.specs.declared.rule.Hole.{Hole}
 use Rattle.hw_model.specs.declared.rule.Rule.TheVariants as rules
 use Rattle.hw_model.specs.Problem.{horizon, value_at}
@@ -18,12 +19,12 @@ use Rattle.hw_port_rules.specs.Numbers.{whole, horizon_of, some_may_stay, separa
 use Rattle.hw_port_rules.specs.Timetables.{IsPortTimetable, SailsIn}
 use Rattle.hw_port_rules.specs.Permitted.{Occupies}
 use Rattle.hw_port_rules.specs.Flattened.{separation_hole, section_hole, shared_holes, flattened}
-use Rattle.hw_port_laws.proofs.Eachs.{get_within, has_get}
 use Rattle.hw_port_laws.proofs.Meeting.{meet_is_hit, hit_meets}
 use Rattle.hw_port_laws.proofs.Rows.{horizon_is, value_sails, value_stays}
 use Rattle.hw_port_laws.proofs.Holes.{both_sail, one_stays, apart_misses, misses_apart, each_shared, shared_each}
-use Rattle.hw_port_laws.proofs.Ships.{ship_kept, stretch_kept, given_is, is_given, slot_kind, value_in_horizon, stay_may, may_value, some_by}
+use Rattle.hw_port_laws.proofs.Ships.{ship_kept, stretch_kept, given_is, slot_kind, value_in_horizon, stay_may, may_value, some_by}
 use Rattle.hw_port_laws.proofs.Wholes.{is_whole}
+use Rattle.hw_port_laws.proofs.Permits.{sails_in}
 use Rattle.hw_explain.specs.Restrictions.{uses, shared_sections}
 use Rattle.hw_explain.specs.Meaning.{WindowHolds, SailApart, NeverMeet}
 
@@ -33,7 +34,7 @@ pub value_there : (p : Parts) (h : TideParts) (table : List ℕ) (v : ℕ) → P
 value_there p h table v kept listed lt holds =
     let ship = has_get p.ships v lt in
     let many : length table ≡ length p.ships = listed.each_ship in
-    let given : slice_get table v ≡ Some (slice_index table v) = is_given table v (omega (arith, lt, many)) in
+    let given : slice_get table v ≡ Some (slice_index table v) = stands_at table v (omega (arith, lt, many)) in
     elim (holds ship.0 (slice_index table v) (record { ship = ship.1; given = given })) [
       | inl some ↦ some_by _ _ (value_sails p h v (slice_index table v) ship.0 ship.1 (value_in_horizon p h ship.0 (slice_index table v) (ship_kept p v ship.0 kept ship.1) some)) some
       | inr stays ↦
@@ -55,11 +56,6 @@ window_holds p h table v listed some s x given =
     ]
 
 -- ---- two ships
-
-sails_in : (p : Parts) (table : List ℕ) (v : ℕ) (s : ShipParts) → length table ≡ length p.ships → slice_get p.ships v ≡ Some s → slice_index table v < horizon_of p → SailsIn p table v s (slice_index table v)
-sails_in p table v s many e lt =
-    let in' : v < length p.ships = get_within p.ships v s e in
-    record { ship = e; given = is_given table v (omega (arith, many, in')); sails = lt }
 
 one_ship : (p : Parts) (table : List ℕ) (v x : ℕ) (s r : ShipParts) → slice_get p.ships v ≡ Some s → SailsIn p table v r x → s ≡ r
 one_ship p table v x s r e sails = same_Some s r (sym e ∙ sails.ship)

@@ -32,13 +32,13 @@ abbrev pub section_name : Parts → ℕ → List ℕ
 section_name p n = option_map_or (λ s. s.name) (slice_get p.sections n) []
 
 -- the names after the numbers: of the ships, and then of the sections
-abbrev pub names_of : Parts → Named → List (List ℕ)
-names_of p (Window ship) = ship_name p ship ∷ []
-names_of p (Separation v w after before) = ship_name p v ∷ ship_name p w ∷ []
-names_of p (Sections v w sections) = ship_name p v ∷ ship_name p w ∷ map (section_name p) sections
-names_of p (Berth v w clear) = ship_name p v ∷ ship_name p w ∷ []
-names_of p (After v w gap) = ship_name p v ∷ ship_name p w ∷ []
-names_of p (Tugs fleet) = []
+abbrev pub restriction_names : Parts → Named → List (List ℕ)
+restriction_names p (Window ship) = ship_name p ship ∷ []
+restriction_names p (Separation v w after before) = ship_name p v ∷ ship_name p w ∷ []
+restriction_names p (Sections v w sections) = ship_name p v ∷ ship_name p w ∷ map (section_name p) sections
+restriction_names p (Berth v w clear) = ship_name p v ∷ ship_name p w ∷ []
+restriction_names p (After v w gap) = ship_name p v ∷ ship_name p w ∷ []
+restriction_names p (Tugs fleet) = []
 
 -- names, each after a slash
 abbrev pub slashed : List (List ℕ) → List ℕ
@@ -61,7 +61,7 @@ with_closed p (Tugs fleet) text = text
 
 -- the line of a restriction: its number, its kind, numbers and names
 abbrev pub named_line : Parts → ℕ → Named → List ℕ
-named_line p number named = with_closed p named (decimal number ++ 32 ∷ kind_text named ++ led (map decimal (numbers_of named)) ++ names_text (names_of p named))
+named_line p number named = with_closed p named (decimal number ++ 32 ∷ kind_text named ++ led (map decimal (numbers_of named)) ++ names_text (restriction_names p named))
 
 -- the lines of restrictions, the first of which has this number
 abbrev pub named_lines : Parts → ℕ → List Named → List ℕ

@@ -5,7 +5,7 @@ ghost use Rattle.hw_port.specs.Kept.{PassKept, PortKept, ShipKept, Within};
 ghost use Rattle.hw_explain.specs.Closed.{closes_some, closing_text, closing_told, closings_told, pass_told, passed, passes_told, place_told, ship_told, waypoint_told, window_told};
 
 use crate::naming::natural;
-use hw_model::ShipId;
+use hw_model::{MOST_SLOTS, ShipId};
 use hw_port::{Closing, Pass, PortParts, Ship, Waypoint};
 use hw_text::put_number;
 use std::alloc::AllocError;
@@ -94,7 +94,7 @@ fn put_place(
 #[tactic(auto, unfolding(crate::specs::Closed::passed))]
 fn passed(slot: i64, pass: &Pass) -> i64
     requires low { pos 0 ≤ℤ slot }
-    requires high { slot ≤ℤ pos 512 }
+    requires high { slot ≤ℤ pos MOST_SLOTS }
     requires pass { Within (pos 0) (pos 1_023) pass.now.offset }
     ensures { result ≡ passed slot pass.now }
 {

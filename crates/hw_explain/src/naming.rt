@@ -236,7 +236,7 @@ fn push_berths(
 
 /// What a ship after another one asks for, where there are this many ships.
 fn after(ships: u32, pair: &AfterPair) -> Named
-    requires few { ships ≤ 40 }
+    requires few { ships ≤ MOST_SHIPS }
     requires pair { AfterKept (pos ships) pair.now }
     ensures { result ≡ after_named pair.now }
 {
@@ -249,7 +249,7 @@ fn after(ships: u32, pair: &AfterPair) -> Named
 
 /// Appends what ships after others ask for.
 fn push_after(list: &mut Vec<Named>, ships: u32, pairs: &[AfterPair]) -> Result<(), AllocError>
-    requires few { ships ≤ 40 }
+    requires few { ships ≤ MOST_SHIPS }
     requires pairs { All (AfterKept (pos ships)) pairs.now }
     ensures { OnOk result (list.new.items ≡ list.old.items ++ map after_named pairs.now) }
 {

@@ -3,13 +3,14 @@ use Rattle.std.proofs.Common.{◌≡◌, ◌≢◌, ◌==◌, ◌∙◌, ℕ, �
 use Rattle.std.proofs.lemmas.Bool.{eq-eqb, ne_eqb}
 use Rattle.std.proofs.lemmas.List.Recursion.{is_count_by}
 use Rattle.std.proofs.lemmas.Option.{same_Some}
+use Rattle.hw_lemmas.proofs.Truths.{absurd_false}
 use Rattle.hw_model.specs.Problem.{Problem, value_at}
 use Rattle.hw_model.specs.Timetables.{plus, cargo_from}
 use Rattle.hw_repair.specs.declared.plan.Wish.{Wish}
-use Rattle.hw_repair.specs.Wishes.{wished, moves}
+use Rattle.hw_repair.specs.Wishes.{wished, moves_from_wish}
 use Rattle.hw_explain_repair.specs.declared.fate.Fate.{Fate}
 use Rattle.hw_explain_repair.specs.declared.fate.Fate.TheVariants.{Moved, Kept, Sailed}
-use Rattle.hw_explain_repair.specs.Fates.{fate, fates, has_sailed, is_moved, worth, worths}
+use Rattle.hw_explain_repair.specs.Fates.{fate, fates, wish_has_sailed, is_moved, worth, worths}
 use Rattle.hw_explain_repair.specs.Laws.{EachIsMoved, SumsAreCargo, TotalIsOfChanges, ValueOrNothing, won, lost}
 
 -- ---- moved ships
@@ -28,11 +29,8 @@ is_told true true = refl
 is_told true false = refl
 is_told false sailed = refl
 
-moved_is : (f : Problem) (wish : Wish) (slot : ℕ) → is_moved (fate f wish slot) ≡ moves (wish, slot)
-moved_is f wish slot = is_told (slot == wished wish) (has_sailed f wish)
-
-apart_from : (same : Bool) → same ≡ false → same ≡ true → ⊥
-apart_from same e is = absurd cc
+moved_is : (f : Problem) (wish : Wish) (slot : ℕ) → is_moved (fate f wish slot) ≡ moves_from_wish (wish, slot)
+moved_is f wish slot = is_told (slot == wished wish) (wish_has_sailed f wish)
 
 -- ---- how many
 
@@ -44,17 +42,17 @@ count_is : {A : Type 0} (test : A → Bool) (xs : List A) → count test xs ≡ 
 unfolding count
 count_is test xs = is_count_by (count test) test refl (λ x xs. refl) xs
 
-counted : (f : Problem) (plan : List Wish) (table : List ℕ) → count is_moved (fates f plan table) ≡ count moves (zip plan table)
+counted : (f : Problem) (plan : List Wish) (table : List ℕ) → count is_moved (fates f plan table) ≡ count moves_from_wish (zip plan table)
 unfolding count
 counted f [] [] = refl
 counted f [] (slot ∷ table) = refl
 counted f (wish ∷ plan) [] = refl
-counted f (wish ∷ plan) (slot ∷ table) = ap (λ b. cond b (1 + count is_moved (fates f plan table)) (count is_moved (fates f plan table))) (moved_is f wish slot) ∙ ap (λ n. cond (moves (wish, slot)) (1 + n) n) (counted f plan table)
+counted f (wish ∷ plan) (slot ∷ table) = ap (λ b. cond b (1 + count is_moved (fates f plan table)) (count is_moved (fates f plan table))) (moved_is f wish slot) ∙ ap (λ n. cond (moves_from_wish (wish, slot)) (1 + n) n) (counted f plan table)
 
 pub each_is_moved_law : EachIsMoved
 each_is_moved_law f = record {
-  each = λ wish slot. (λ e is. apart_from (slot == wished wish) (told_moved (slot == wished wish) (has_sailed f wish) e) (eq-eqb slot (wished wish) is), λ ne. ap (λ same. by_tests same (has_sailed f wish)) (ne_eqb slot (wished wish) ne));
-  many = λ plan table. sym (count_is is_moved (fates f plan.wishes table)) ∙ counted f plan.wishes table ∙ count_is moves (zip plan.wishes table);
+  each = λ wish slot. (λ e is. absurd_false (slot == wished wish) (told_moved (slot == wished wish) (wish_has_sailed f wish) e) (eq-eqb slot (wished wish) is), λ ne. ap (λ same. by_tests same (wish_has_sailed f wish)) (ne_eqb slot (wished wish) ne));
+  many = λ plan table. sym (count_is is_moved (fates f plan.wishes table)) ∙ counted f plan.wishes table ∙ count_is moves_from_wish (zip plan.wishes table);
 }
 
 -- ---- cargo

@@ -3,22 +3,22 @@ use Rattle.std.specs.Prelude.{ℕ, ◌+◌, Bool, true, false, not, List, [], �
 use Rattle.hw_model.specs.Problem.{Problem, stays, value_at}
 use Rattle.hw_repair.specs.declared.plan.Wish.{Wish}
 use Rattle.hw_repair.specs.declared.plan.Wish.TheVariants as wishes
-use Rattle.hw_repair.specs.Wishes.{moves}
+use Rattle.hw_repair.specs.Wishes.{moves_from_wish}
 use Rattle.hw_explain_repair.specs.declared.fate.Fate.{Fate}
 use Rattle.hw_explain_repair.specs.declared.fate.Fate.TheVariants.{Moved, Kept, Sailed}
 
 -- ---- ships
 
 -- the ship has sailed: the plan keeps its slot, which isn't that of staying
-abbrev pub has_sailed : Problem → Wish → Bool
-has_sailed f (wishes.Kept slot) = not (stays f slot)
-has_sailed f (wishes.Planned slot from) = false
+abbrev pub wish_has_sailed : Problem → Wish → Bool
+wish_has_sailed f (wishes.Kept slot) = not (stays f slot)
+wish_has_sailed f (wishes.Planned slot from) = false
 
 -- moved where its slot isn't the wish's; otherwise it has sailed, or it keeps its slot
 abbrev pub fate : Problem → Wish → ℕ → Fate
 fate f wish slot =
-    if moves (wish, slot) then Moved
-    else if has_sailed f wish then Sailed
+    if moves_from_wish (wish, slot) then Moved
+    else if wish_has_sailed f wish then Sailed
     else Kept
 
 abbrev pub is_moved : Fate → Bool

@@ -9,14 +9,14 @@ use Rattle.hw_explain_repair.specs.declared.piece.Piece.{Piece}
 use Rattle.hw_explain_repair.specs.declared.piece.Piece.TheVariants.{Word, Number, Tonnes}
 
 -- the text of a word, a number or a cargo in tonnes
-abbrev pub piece_text : Piece → List ℕ
-piece_text (Word word) = word.now
-piece_text (Number n) = decimal n
-piece_text (Tonnes c) = tenths c
+abbrev pub repair_piece_text : Piece → List ℕ
+repair_piece_text (Word word) = word.now
+repair_piece_text (Number n) = decimal n
+repair_piece_text (Tonnes c) = tenths c
 
-abbrev pub pieces_text : List Piece → List ℕ
-pieces_text [] = []
-pieces_text (piece ∷ pieces) = piece_text piece ++ pieces_text pieces
+abbrev pub repair_pieces_text : List Piece → List ℕ
+repair_pieces_text [] = []
+repair_pieces_text (piece ∷ pieces) = repair_piece_text piece ++ repair_pieces_text pieces
 
 -- a slot, or that the ship stays
 abbrev pub slot_text : Problem → ℕ → List ℕ
@@ -34,9 +34,9 @@ number_moved f ship old new = joined (codes "moved " ∷ decimal ship ∷ codes 
 unfoldable pub name_moved : Problem → ℕ → List ℕ → ℕ → ℕ → ℕ → List ℕ
 name_moved f minutes name ship old new = joined (codes "moved " ∷ decimal ship ∷ codes " " ∷ slot_text f old ∷ codes " " ∷ slot_text f new ∷ codes " " ∷ minute_text f minutes old ∷ codes " " ∷ minute_text f minutes new ∷ codes " " ∷ name ∷ codes "\n" ∷ [])
 
-abbrev pub moved_line : Problem → Naming → ℕ → ℕ → ℕ → List ℕ
-moved_line f by_number ship old new = number_moved f ship old new
-moved_line f (by_name p h) ship old new = name_moved f (whole p.slot_minutes) (name_in p.ships ship) ship old new
+abbrev pub ship_moved_line : Problem → Naming → ℕ → ℕ → ℕ → List ℕ
+ship_moved_line f by_number ship old new = number_moved f ship old new
+ship_moved_line f (by_name p h) ship old new = name_moved f (whole p.slot_minutes) (name_in p.ships ship) ship old new
 
 -- a ship that isn't moved, by number
 unfoldable pub number_stands : Problem → List ℕ → ℕ → ℕ → List ℕ

@@ -8,22 +8,22 @@ use Rattle.hw_report.specs.Reports.{Naming}
 use Rattle.hw_explain_repair.specs.declared.fate.Fate.{Fate}
 use Rattle.hw_explain_repair.specs.declared.fate.Fate.TheVariants.{Moved, Kept, Sailed}
 use Rattle.hw_explain_repair.specs.Fates.{fate, worth, worths}
-use Rattle.hw_explain_repair.specs.Lines.{change_line, moved_line, stands_line, total_line}
+use Rattle.hw_explain_repair.specs.Lines.{change_line, ship_moved_line, stands_line, total_line}
 
 -- the line of a ship, by what the repair makes of it
-abbrev pub line_of : Problem → Naming → ℕ → Wish → ℕ → Fate → List ℕ
-line_of f names ship wish slot Moved = moved_line f names ship (wished wish) slot
-line_of f names ship wish slot Kept = stands_line f names (codes "kept ") ship slot
-line_of f names ship wish slot Sailed = stands_line f names (codes "sailed ") ship slot
+abbrev pub fate_line : Problem → Naming → ℕ → Wish → ℕ → Fate → List ℕ
+fate_line f names ship wish slot Moved = ship_moved_line f names ship (wished wish) slot
+fate_line f names ship wish slot Kept = stands_line f names (codes "kept ") ship slot
+fate_line f names ship wish slot Sailed = stands_line f names (codes "sailed ") ship slot
 
-abbrev pub ship_line : Problem → Naming → ℕ → Wish → ℕ → List ℕ
-ship_line f names ship wish slot = line_of f names ship wish slot (fate f wish slot)
+abbrev pub repaired_ship_line : Problem → Naming → ℕ → Wish → ℕ → List ℕ
+repaired_ship_line f names ship wish slot = fate_line f names ship wish slot (fate f wish slot)
 
 -- the lines of the ships from this one on
-abbrev pub ship_lines : Problem → Naming → ℕ → List Wish → List ℕ → List ℕ
-ship_lines f names ship [] table = []
-ship_lines f names ship (wish ∷ plan) [] = []
-ship_lines f names ship (wish ∷ plan) (slot ∷ table) = ship_line f names ship wish slot ++ ship_lines f names (ship + 1) plan table
+abbrev pub repair_ship_lines : Problem → Naming → ℕ → List Wish → List ℕ → List ℕ
+repair_ship_lines f names ship [] table = []
+repair_ship_lines f names ship (wish ∷ plan) [] = []
+repair_ship_lines f names ship (wish ∷ plan) (slot ∷ table) = repaired_ship_line f names ship wish slot ++ repair_ship_lines f names (ship + 1) plan table
 
 -- what a ship wins or loses against its planned slot
 abbrev pub change_in : Problem → Naming → ℕ → Wish → ℕ → List ℕ
@@ -40,4 +40,4 @@ abbrev pub total_in : Problem → Naming → List Wish → List ℕ → List ℕ
 total_in f names plan table = total_line names (worths f 0 (map wished plan)) (worths f 0 table)
 
 abbrev pub repair_text : Problem → Naming → PlanParts → List ℕ → List ℕ
-repair_text f names plan table = joined (ship_lines f names 0 plan.wishes table ∷ change_lines f names 0 plan.wishes table ∷ total_in f names plan.wishes table ∷ codes "end\n" ∷ [])
+repair_text f names plan table = joined (repair_ship_lines f names 0 plan.wishes table ∷ change_lines f names 0 plan.wishes table ∷ total_in f names plan.wishes table ∷ codes "end\n" ∷ [])

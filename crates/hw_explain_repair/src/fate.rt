@@ -3,7 +3,7 @@
 ghost use Rattle.std.specs.Prelude.{◌≡◌, ◌<◌};
 ghost use Rattle.hw_model.specs.Problem.{stays};
 ghost use Rattle.hw_repair.specs.Wishes.{wished};
-ghost use Rattle.hw_explain_repair.specs.Fates.{fate, has_sailed};
+ghost use Rattle.hw_explain_repair.specs.Fates.{fate, wish_has_sailed};
 
 use hw_flat::Flat;
 use hw_model::Slot;
@@ -39,7 +39,7 @@ pub fn stays(flat: &Flat, slot: Slot) -> bool
 
 /// Whether the ship has sailed.
 fn has_sailed(flat: &Flat, wish: Wish) -> bool
-    ensures { result ≡ has_sailed flat.now wish }
+    ensures { result ≡ wish_has_sailed flat.now wish }
 {
     match wish {
         Wish::Kept { slot } => !stays(flat, slot),

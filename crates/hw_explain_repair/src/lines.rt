@@ -7,7 +7,7 @@ ghost use Rattle.hw_port_rules.specs.Numbers.{whole};
 ghost use Rattle.hw_report.specs.Lines.{cargo_text, name_in};
 ghost use Rattle.hw_report.specs.Printing.{AreNamesOf};
 ghost use Rattle.hw_report.specs.Seen.{names_seen};
-ghost use Rattle.hw_explain_repair.specs.Lines.{apart, change_line, change_word, minute_text, moved_line, name_change, name_moved, name_stands, number_change, number_moved, number_stands, piece_text, slot_text, stands_line, total_line};
+ghost use Rattle.hw_explain_repair.specs.Lines.{apart, change_line, change_word, minute_text, ship_moved_line, name_change, name_moved, name_stands, number_change, number_moved, number_stands, repair_piece_text, slot_text, stands_line, total_line};
 
 use crate::fate::stays;
 use crate::piece::{Piece, put_pieces};
@@ -19,7 +19,7 @@ use hw_report::Names;
 
 /// A slot, or that the ship stays.
 fn slot_piece(flat: &Flat, slot: Slot) -> Piece<'static>
-    ensures { piece_text result ≡ slot_text flat.now slot }
+    ensures { repair_piece_text result ≡ slot_text flat.now slot }
 {
     if stays(flat, slot) {
         Piece::Word(b"stay")
@@ -40,7 +40,7 @@ fn minute(slot: Slot, slot_minutes: i64) -> u64
 /// The minute in which a slot begins, or that the ship stays.
 fn minute_piece(flat: &Flat, slot_minutes: i64, slot: Slot) -> Piece<'static>
     requires minutes { Within (pos 1) (pos 1_440) slot_minutes }
-    ensures { piece_text result ≡ minute_text flat.now (whole slot_minutes) slot }
+    ensures { repair_piece_text result ≡ minute_text flat.now (whole slot_minutes) slot }
 {
     if flat.horizon() <= slot {
         Piece::Word(b"stay")
@@ -51,7 +51,7 @@ fn minute_piece(flat: &Flat, slot_minutes: i64, slot: Slot) -> Piece<'static>
 
 /// A cargo, in tenths of a tonne, as it is printed.
 fn cargo_piece(names: Names, cargo: u64) -> Piece<'static>
-    ensures { piece_text result ≡ cargo_text (names_seen names.entry) cargo }
+    ensures { repair_piece_text result ≡ cargo_text (names_seen names.entry) cargo }
 {
     match names {
         Names::Flat => Piece::Number(cargo),
@@ -146,7 +146,7 @@ pub fn put_moved<W: Writer>(
 )
     requires ship_in { ship < flat.now.ships }
     requires names { AreNamesOf flat.now (names_seen names) }
-    ensures { Puts (moved_line flat.now (names_seen names.entry) ship old new) (W.state out.old) (W.state out.new) }
+    ensures { Puts (ship_moved_line flat.now (names_seen names.entry) ship old new) (W.state out.old) (W.state out.new) }
 {
     match names {
         Names::Flat => put_number_moved(out, flat, ship, old, new),

@@ -2,7 +2,7 @@
 
 ghost use Rattle.hw_desk.specs.Writers.{Puts};
 ghost use Rattle.hw_report.specs.Pieces.{tenths};
-ghost use Rattle.hw_explain_repair.specs.Lines.{piece_text, pieces_text};
+ghost use Rattle.hw_explain_repair.specs.Lines.{repair_piece_text, repair_pieces_text};
 
 use hw_desk::Writer;
 
@@ -24,7 +24,7 @@ fn put_tonnes<W: Writer>(out: &mut W, cargo: u64)
 }
 
 fn put_piece<W: Writer>(out: &mut W, piece: Piece)
-    ensures { Puts (piece_text piece.entry) (W.state out.old) (W.state out.new) }
+    ensures { Puts (repair_piece_text piece.entry) (W.state out.old) (W.state out.new) }
 {
     match piece {
         Piece::Word(word) => out.put(word),
@@ -35,7 +35,7 @@ fn put_piece<W: Writer>(out: &mut W, piece: Piece)
 
 /// Puts the pieces one after another, at most a dozen.
 pub fn put_pieces<W: Writer>(out: &mut W, pieces: &[Piece])
-    ensures { Puts (pieces_text pieces.now) (W.state out.old) (W.state out.new) }
+    ensures { Puts (repair_pieces_text pieces.now) (W.state out.old) (W.state out.new) }
 {
     if let [piece, more @ ..] = pieces {
         put_piece(out, *piece);

@@ -6,7 +6,7 @@ ghost use Rattle.hw_model.specs.Problem.{IsTimetable};
 ghost use Rattle.hw_repair.specs.Wishes.{PlanFits, WishFits};
 ghost use Rattle.hw_report.specs.Printing.{AreNamesOf};
 ghost use Rattle.hw_report.specs.Seen.{names_seen};
-ghost use Rattle.hw_explain_repair.specs.Texts.{change_in, change_lines, repair_text, ship_line, ship_lines, total_in};
+ghost use Rattle.hw_explain_repair.specs.Texts.{change_in, change_lines, repair_text, repaired_ship_line, repair_ship_lines, total_in};
 
 use crate::cargo::{planned_worth, planned_worths, worth, worths};
 use crate::fate::{Fate, fate_of, wished};
@@ -21,7 +21,7 @@ use hw_report::Names;
 fn put_ship<W: Writer>(out: &mut W, flat: &Flat, names: Names, ship: ShipId, wish: Wish, slot: Slot)
     requires ship_in { ship < flat.now.ships }
     requires names { AreNamesOf flat.now (names_seen names) }
-    ensures { Puts (ship_line flat.now (names_seen names.entry) ship wish slot) (W.state out.old) (W.state out.new) }
+    ensures { Puts (repaired_ship_line flat.now (names_seen names.entry) ship wish slot) (W.state out.old) (W.state out.new) }
 {
     match fate_of(flat, wish, slot) {
         Fate::Moved => put_moved(out, flat, names, ship, wished(wish), slot),
@@ -41,7 +41,7 @@ fn put_ships<W: Writer>(
 )
     requires ships { ship + length wishes.now ≤ flat.now.ships }
     requires names { AreNamesOf flat.now (names_seen names) }
-    ensures { Puts (ship_lines flat.now (names_seen names.entry) ship wishes.now slots.now) (W.state out.old) (W.state out.new) }
+    ensures { Puts (repair_ship_lines flat.now (names_seen names.entry) ship wishes.now slots.now) (W.state out.old) (W.state out.new) }
 {
     let _shape = flat.shape();
     if let [wish, wishes @ ..] = wishes {

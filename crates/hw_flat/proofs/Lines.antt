@@ -1,13 +1,14 @@
 -- Reading lines one after the other, as a loop does.
 use Rattle.std.proofs.Common.{◌≡◌, ◌==◌, ℕ, suc, ◌-◌, ◌+◌, ◌≤◌, ◌<◌, Bool, true, false, List, [], ◌∷◌, ◌++◌, length, Option, Some, None, Result, Ok, Err, codes, bytes_eq, refl, sym, ap, ◌∙◌, append_assoc, arith}
 use Rattle.std.proofs.lemmas.List.{append-nil, length_push}
+use Rattle.hw_lemmas.specs.Operators.{◌>>=◌}
 use Rattle.hw_model.specs.declared.rule.Rule.{Rule}
 use Rattle.hw_text.specs.Parts.{parts_of, first_part}
 use Rattle.hw_text.proofs.Splits.{has_part}
 use Rattle.hw_flat.specs.declared.fault.FlatWord.TheVariants as words
 use Rattle.hw_flat.specs.declared.fault.FlatFault.{FlatFault}
 use Rattle.hw_flat.specs.declared.fault.FlatFault.TheVariants as faults
-use Rattle.hw_flat.specs.Text.{Fault, fault, ◌>>=◌, Fails, row_at, rows_at, rules_at, rule_before}
+use Rattle.hw_flat.specs.Text.{Fault, fault, Fails, row_at, rows_at, rules_at, rule_before}
 use Rattle.hw_flat.specs.TextForms.{rule_form}
 
 abbrev Read : Type 0 → Type 0

@@ -23,7 +23,7 @@ use Rattle.hw_text.proofs.Joins.{cut_joined, cut_ended}
 use Rattle.std.proofs.lemmas.Fmt.{digits_decimal}
 use Rattle.hw_flat.specs.declared.fault.FlatWord.{FlatWord}
 use Rattle.hw_flat.specs.declared.fault.FlatWord.TheVariants as words
-use Rattle.hw_flat.specs.Text.{line_at, row_at, rows_at, rules_at, problem_of, text_of}
+use Rattle.hw_flat.specs.Text.{line_at, row_at, rows_at, rules_at, problem_of, problem_of_lines}
 use Rattle.hw_flat.specs.TextForms.{header_form, size_words, size_form, ship_word, hole_parts, hole_form, job_parts, job_form, items_of, some_items, ascend_from, rule_words, rule_form, value_word, last_values, row_values, row_words, row_form}
 use Rattle.hw_flat.specs.TextWritten.{header_text, size_text, value_text, stay_text, row_texts, row_text, hole_text, job_text, rule_texts, rule_text, rows_in, problem_lines, problem_text}
 use Rattle.hw_flat.specs.TextLaws.{ReadsBack}
@@ -263,7 +263,7 @@ lines_lack stay ships slots w values rules few few' small each =
 
 -- the parts of a problem's text
 parts_back : (stay : Bool) (ships slots : ℕ) (values : List (Option ℕ)) (rules : List Rule) → 1 ≤ ships → ships ≤ 40 → 1 ≤ slots → slots ≤ 512 → RowsFit stay slots ships values → All (RuleFits ships) rules → length rules ≤ 4_000
-    → text_of (header_text stay ∷ size_text ships slots ∷ (map (row_text slots) (rows_in ships (width stay slots) values) ++ (map rule_text rules ++ codes "end" ∷ [] ∷ []))) ≡ Ok (problem_of stay (ships, slots) values rules)
+    → problem_of_lines (header_text stay ∷ size_text ships slots ∷ (map (row_text slots) (rows_in ships (width stay slots) values) ++ (map rule_text rules ++ codes "end" ∷ [] ∷ []))) ≡ Ok (problem_of stay (ships, slots) values rules)
 parts_back stay ships slots values rules some few some' few' fits each count =
     let ends : Parts = map rule_text rules ++ codes "end" ∷ [] ∷ [] in
     let body : Parts = map (row_text slots) (rows_in ships (width stay slots) values) ++ ends in
@@ -295,5 +295,5 @@ text_reads_back f limits writable =
     cut_ended (problem_lines f) lack ∙ ap (λ ps. header_text f.stay ∷ size_text f.ships (horizon f) ∷ ps) split in
     let wide_rows : parts_of 10 (problem_text f) ≡ header_text f.stay ∷ size_text f.ships (horizon f) ∷ (map (row_text (horizon f)) (rows_in f.ships (width f.stay (horizon f)) f.values) ++ (map rule_text f.rules ++ codes "end" ∷ [] ∷ [])) =
     lines ∙ ap (λ n. header_text f.stay ∷ size_text f.ships (horizon f) ∷ (map (row_text (horizon f)) (rows_in f.ships n f.values) ++ (map rule_text f.rules ++ codes "end" ∷ [] ∷ []))) slots in
-    ap text_of wide_rows ∙ parts_back f.stay f.ships (horizon f) f.values f.rules limits.some_ship limits.few_ships limits.some_slot limits.few_slots fits limits.each_rule limits.few_rules
+    ap problem_of_lines wide_rows ∙ parts_back f.stay f.ships (horizon f) f.values f.rules limits.some_ship limits.few_ships limits.some_slot limits.few_slots fits limits.each_rule limits.few_rules
     ∙ ap (λ n. Ok (record { ships = f.ships; slots = n; stay = f.stay; values = f.values; rules = f.rules })) (sym slots)

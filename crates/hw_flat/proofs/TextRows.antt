@@ -3,6 +3,7 @@ use Rattle.std.proofs.Common.{IsTrue, ◌≡◌, ℕ, zero, suc, ◌+◌, ◌*�
 use Rattle.std.proofs.Math.Path.{ap₂}
 use Rattle.std.proofs.lemmas.List.{take_at, drop_at, length-append}
 use Rattle.std.proofs.lemmas.List.Elements.{All-nil, All-cons, All-append}
+use Rattle.hw_lemmas.specs.Operators.{◌>>=◌}
 use Rattle.hw_model.specs.declared.rule.Rule.{Rule}
 use Rattle.hw_model.specs.Limits.{RuleFits, IsFlat}
 use Rattle.hw_model.specs.Problem.{Problem, horizon}
@@ -12,7 +13,7 @@ use Rattle.hw_text.proofs.Spelled.{is_spelled}
 use Rattle.hw_text.proofs.Signs.{from_to_is}
 use Rattle.hw_flat.specs.declared.fault.FlatWord.{FlatWord}
 use Rattle.hw_flat.specs.declared.fault.FlatWord.TheVariants as words
-use Rattle.hw_flat.specs.Text.{Fault, fault, ◌>>=◌, formed, line_at, row_at, rows_at, rule_before, rules_at, problem_of, text_of}
+use Rattle.hw_flat.specs.Text.{Fault, fault, formed, line_at, row_at, rows_at, rule_before, rules_at, problem_of, problem_of_lines}
 use Rattle.hw_flat.specs.TextForms.{header_form, both, size_words, size_form, value_word, stay_word, last_values, row_values, row_words, row_form, rule_form}
 use Rattle.hw_flat.specs.TextWritten.{header_text, size_text, value_text, stay_text, row_texts, row_text, rule_text, rows_in, problem_lines, IsWritable}
 use Rattle.hw_flat.proofs.TextWords.{bound, first_read, same_text, rejoined, rule_read}
@@ -128,7 +129,7 @@ row_read stay slots line row h = let r = by_words (words_of line) h in (rejoined
 
 -- ---- steps of the lines
 
-step : {A B : Type 0} (r : Result A Fault) (f : A → Result B Fault) (y : B) → (r >>= f) ≡ Ok y → (x : A) × (r ≡ Ok x) × (f x ≡ Ok y)
+pub step : {A B : Type 0} (r : Result A Fault) (f : A → Result B Fault) (y : B) → (r >>= f) ≡ Ok y → (x : A) × (r ≡ Ok x) × (f x ≡ Ok y)
 step (Err e) f y h = absurd cc
 step (Ok x) f y h = (x, refl, h)
 
@@ -339,8 +340,8 @@ problem_read parts stay size values rules first second rest third header z p q t
         sym (append_assoc (map (row_text size.1) (rows_in size.0 (width stay size.1) values)) (map rule_text rules) (codes "end" ∷ [] ∷ []))
         ∙ sym (append_assoc (map (row_text size.1) (rows_in size.0 (width stay size.1) values) ++ map rule_text rules) (codes "end" ∷ []) ([] ∷ []))
 
-pub text_read : (parts : List (List ℕ)) (f : Problem) → text_of parts ≡ Ok f → TextRead parts f
-unfolding text_of
+pub text_read : (parts : List (List ℕ)) (f : Problem) → problem_of_lines parts ≡ Ok f → TextRead parts f
+unfolding problem_of_lines
 text_read parts f h =
     let a = step (line_at 1 words.Header parts) _ f h in
     let s = step (formed 1 words.Header (header_form a.0.0)) _ f a.2 in
@@ -363,6 +364,6 @@ text_read parts f h =
 
 pub text_is : (parts : List (List ℕ)) (first : List ℕ) (rest : List (List ℕ)) (stay : Bool) (second : List ℕ) (third : List (List ℕ)) (size : ℕ × ℕ) (values : Row) (fourth : List (List ℕ)) (rules : List Rule) (fifth : List (List ℕ)) → line_at 1 words.Header parts ≡ Ok (first, rest)
     → header_form first ≡ Some stay → line_at 2 words.Size rest ≡ Ok (second, third) → size_form second ≡ Some size → rows_at stay size.1 3 size.0 third ≡ Ok (values, fourth) → rules_at size.0 (3 + size.0) 4_000 fourth ≡ Ok (rules, fifth) → at_end fifth ≡ true
-    → text_of parts ≡ Ok (problem_of stay size values rules)
-unfolding text_of
+    → problem_of_lines parts ≡ Ok (problem_of stay size values rules)
+unfolding problem_of_lines
 text_is parts first rest stay second third size values fourth rules fifth a b c d e f g = rw (a, b, c, d, e, f, g) refl

@@ -18,11 +18,11 @@ use Rattle.hw_text.specs.Numbers.{number_up_to, number_from_to, signed_up_to}
 use Rattle.hw_text.specs.Parts.{parts_of, words_of}
 use Rattle.hw_text.proofs.Spelled.{is_spelled}
 use Rattle.hw_text.proofs.Signs.{is_signed, from_to_is}
-use Rattle.hw_flat.specs.TextForms.{◌>>=◌, kept_if, put_first, ship_word, hole_parts, hole_form, job_parts, job_form, items_of, some_items, ascend_from, pair_words, after_words, tugs_words, rule_words, rule_form}
+use Rattle.hw_flat.specs.TextForms.{◌and_then◌, kept_if, put_first, ship_word, hole_parts, hole_form, job_parts, job_form, items_of, some_items, ascend_from, pair_words, after_words, tugs_words, rule_words, rule_form}
 use Rattle.hw_flat.specs.TextWritten.{hole_text, job_text, rule_texts, rule_text}
 
 -- a step of a chain that gave something, and what came of it
-pub bound : {A B : Type 0} (o : Option A) (f : A → Option B) (y : B) → (o >>= f) ≡ Some y → (x : A) × (o ≡ Some x) × (f x ≡ Some y)
+pub bound : {A B : Type 0} (o : Option A) (f : A → Option B) (y : B) → (o and_then f) ≡ Some y → (x : A) × (o ≡ Some x) × (f x ≡ Some y)
 bound None f y h = absurd cc
 bound (Some x) f y h = (x, refl, h)
 

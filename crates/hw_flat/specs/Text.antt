@@ -1,5 +1,6 @@
 -- The flat text, over the list of its lines.
 use Rattle.std.specs.Prelude.{◌≡◌, ℕ, zero, suc, ◌+◌, ◌-◌, Bool, List, [], ◌∷◌, ◌++◌, length, Option, Some, None, Result, Ok, Err, codes, bytes_eq, if◌then◌else◌}
+use Rattle.hw_lemmas.specs.Operators.{◌>>=◌}
 use Rattle.hw_model.specs.declared.limits.TheConstants.{MOST_RULES}
 use Rattle.hw_model.specs.declared.rule.Rule.{Rule}
 use Rattle.hw_model.specs.Problem.{Problem}
@@ -14,11 +15,6 @@ use Rattle.hw_flat.specs.TextForms.{header_form, size_form, row_form, rule_form}
 pub record Fault : Type 0 where
   pub number : ℕ
   pub word : FlatWord
-
-infixl 10 ◌>>=◌
-abbrev pub ◌>>=◌ : {A B : Type 0} → Result A Fault → (A → Result B Fault) → Result B Fault
-(Ok x) >>= f = f x
-(Err e) >>= f = Err e
 
 abbrev pub fault : {A : Type 0} → ℕ → FlatWord → Result A Fault
 fault number word = Err (record { number = number; word = word })
@@ -66,8 +62,8 @@ abbrev pub problem_of : Bool → ℕ × ℕ → List (Option ℕ) → List Rule 
 problem_of stay size values rules = record { ships = size.0; slots = if stay then size.1 + 1 else size.1; stay = stay; values = values; rules = rules }
 
 -- the problem of the lines, or the first bad line
-unfoldable pub text_of : List (List ℕ) → Result Problem Fault
-text_of parts = do
+unfoldable pub problem_of_lines : List (List ℕ) → Result Problem Fault
+problem_of_lines parts = do
   first ← line_at 1 words.Header parts
   stay ← formed 1 words.Header (header_form first.0)
   second ← line_at 2 words.Size first.1
@@ -78,7 +74,7 @@ text_of parts = do
 
 -- what a text says: a problem, or the first line that isn't of the form demanded at its place
 abbrev pub flat_text : List ℕ → Result Problem Fault
-flat_text bytes = text_of (parts_of 10 bytes)
+flat_text bytes = problem_of_lines (parts_of 10 bytes)
 
 -- the fault names the line and the word that reading gives. Memory may run out at any time
 abbrev pub Fails : {A : Type 0} → FlatFault → Result A Fault → Type 0

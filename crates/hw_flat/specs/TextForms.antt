@@ -8,10 +8,10 @@ use Rattle.hw_model.specs.declared.rule.Rule.TheVariants.{Pair, After, Tugs}
 use Rattle.hw_text.specs.Numbers.{number_up_to, number_from_to, signed_up_to}
 use Rattle.hw_text.specs.Parts.{parts_of, words_of}
 
-infixl 10 ◌>>=◌
-abbrev pub ◌>>=◌ : {A B : Type 0} → Option A → (A → Option B) → Option B
-None >>= f = None
-(Some x) >>= f = f x
+infixl 10 ◌and_then◌
+abbrev pub ◌and_then◌ : {A B : Type 0} → Option A → (A → Option B) → Option B
+None and_then f = None
+(Some x) and_then f = f x
 
 -- the value, where the test is passed
 abbrev pub kept_if : {A : Type 0} → Bool → A → Option A
@@ -22,7 +22,7 @@ abbrev pub header_form : List ℕ → Option Bool
 header_form line = if bytes_eq line (codes "flat 1") then Some false else if bytes_eq line (codes "flat 2") then Some true else None
 
 abbrev pub both : Option ℕ → Option ℕ → Option (ℕ × ℕ)
-both m n = m >>= λ m'. n >>= λ n'. Some (m', n')
+both m n = m and_then λ m'. n and_then λ n'. Some (m', n')
 
 abbrev pub size_words : List (List ℕ) → Option (ℕ × ℕ)
 size_words (key ∷ ships ∷ slots ∷ []) =
@@ -86,10 +86,10 @@ some_items form most (word ∷ words) = items_of form most (word ∷ words)
 
 -- a ship of the problem
 abbrev pub ship_word : ℕ → List ℕ → Option ℕ
-ship_word ships word = number_up_to ships word >>= λ ship. kept_if (nat_lt ship ships) ship
+ship_word ships word = number_up_to ships word and_then λ ship. kept_if (nat_lt ship ships) ship
 
 abbrev pub hole_parts : List (List ℕ) → Option Hole
-hole_parts (lo ∷ hi ∷ []) = signed_up_to MOST_DIFFERENCE lo >>= λ lo'. signed_up_to MOST_DIFFERENCE hi >>= λ hi'. kept_if (int_le lo' hi') (record { lo = lo'; hi = hi' })
+hole_parts (lo ∷ hi ∷ []) = signed_up_to MOST_DIFFERENCE lo and_then λ lo'. signed_up_to MOST_DIFFERENCE hi and_then λ hi'. kept_if (int_le lo' hi') (record { lo = lo'; hi = hi' })
 hole_parts _ = None
 
 -- `LO:HI`
@@ -98,7 +98,7 @@ hole_form word = hole_parts (parts_of 58 word)
 
 abbrev pub job_parts : ℕ → List (List ℕ) → Option Job
 job_parts ships (ship ∷ tugs ∷ hold ∷ []) =
-    ship_word ships ship >>= λ ship'. number_from_to 1 MOST_TUGS tugs >>= λ tugs'. number_from_to 1 MOST_HOLD hold >>= λ hold'.
+    ship_word ships ship and_then λ ship'. number_from_to 1 MOST_TUGS tugs and_then λ tugs'. number_from_to 1 MOST_HOLD hold and_then λ hold'.
     Some (record { ship = ship'; tugs = tugs'; hold = hold' })
 job_parts ships _ = None
 
@@ -114,21 +114,21 @@ ascend_from least (job ∷ jobs) = nat_le least job.ship && ascend_from (job.shi
 -- `V W LO:HI ..` with V below W
 abbrev pub pair_words : ℕ → List (List ℕ) → Option Rule
 pair_words ships (v ∷ w ∷ words) =
-    ship_word ships v >>= λ v'. ship_word ships w >>= λ w'. some_items hole_form MOST_HOLES words >>= λ holes.
+    ship_word ships v and_then λ v'. ship_word ships w and_then λ w'. some_items hole_form MOST_HOLES words and_then λ holes.
     kept_if (nat_lt v' w') (Pair v' w' holes)
 pair_words ships _ = None
 
 -- `V W GAP` with V other than W
 abbrev pub after_words : ℕ → List (List ℕ) → Option Rule
 after_words ships (v ∷ w ∷ gap ∷ []) =
-    ship_word ships v >>= λ v'. ship_word ships w >>= λ w'. number_up_to MOST_SLOTS gap >>= λ gap'.
+    ship_word ships v and_then λ v'. ship_word ships w and_then λ w'. number_up_to MOST_SLOTS gap and_then λ gap'.
     kept_if (nat_lt v' w' || nat_lt w' v') (After v' w' gap')
 after_words ships _ = None
 
 -- `FLEET SHIP:TUGS:HOLD ..` with ascending ships
 abbrev pub tugs_words : ℕ → List (List ℕ) → Option Rule
 tugs_words ships (fleet ∷ words) =
-    number_up_to MOST_FLEET fleet >>= λ fleet'. some_items (job_form ships) MOST_SHIPS words >>= λ jobs.
+    number_up_to MOST_FLEET fleet and_then λ fleet'. some_items (job_form ships) MOST_SHIPS words and_then λ jobs.
     kept_if (ascend_from 0 jobs) (Tugs fleet' jobs)
 tugs_words ships _ = None
 

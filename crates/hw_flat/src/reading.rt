@@ -3,7 +3,7 @@
 ghost use Rattle.std.specs.Prelude.{◌≡◌, ◌≤◌, ◌+◌, ◌*◌, length, IfOk, option_map};
 ghost use Rattle.hw_text.specs.Parts.{parts_of};
 ghost use Rattle.hw_model.specs.Limits.{IsFlat};
-ghost use Rattle.hw_flat.specs.Text.{Gives, formed, line_at, row_at, rows_at, rules_at, text_of, problem_of, flat_text};
+ghost use Rattle.hw_flat.specs.Text.{Gives, formed, line_at, row_at, rows_at, rules_at, problem_of_lines, problem_of, flat_text};
 
 use crate::fault::{FlatFault, FlatWord};
 use crate::flat::Flat;
@@ -123,7 +123,7 @@ impl Flat {
     /// that is not of the form demanded at its place, and what was demanded there. Lines are
     /// numbered from 1; where the bytes end before a line that is demanded, that line is named.
     /// `NoMemory` says nothing of the bytes. The time is linear in their number.
-    #[tactic(auto, unfolding(crate::specs::Text::text_of))]
+    #[tactic(auto, unfolding(crate::specs::Text::problem_of_lines))]
     pub fn read(alloc: Global, bytes: &[u8]) -> Result<Flat, FlatFault>
         ensures { Gives (λ flat. flat) result (flat_text bytes.now) }
     {

@@ -1,25 +1,21 @@
 -- Rows, bars and fleets, one step on.
-use Rattle.std.proofs.Common.{◌≡◌, ◌≤◌, ◌<◌, ◌+◌, ◌-◌, ◌++◌, ◌∙◌, ℕ, zero, suc, Bool, true, false, cond, List, [], ◌∷◌, length, drop, take, filter, get_or, add-one, ap, refl, sym, arith, slice_index}
+use Rattle.std.proofs.Common.{◌≡◌, ◌≤◌, ◌<◌, ◌+◌, ◌-◌, ◌++◌, ◌∙◌, ℕ, zero, suc, Bool, true, false, cond, List, [], ◌∷◌, length, drop, take, filter, get_or, add-one, ap, refl, sym, arith}
 use Rattle.std.proofs.Math.ListN.{drop_of_length-le}
 use Rattle.std.proofs.Math.Seq.{drop-cons}
-use Rattle.std.proofs.lemmas.List.Sums.{count_by-le-length}
-use Rattle.std.proofs.lemmas.List.FromFn.{length-enumerate_from}
-use Rattle.std.specs.List.{enumerate_from}
-use Rattle.hw_chart.specs.Layout.{rank_of, stands_above}
 use Rattle.hw_model.specs.declared.rule.Rule.{Rule}
 use Rattle.hw_model.specs.Problem.{Problem}
 use Rattle.hw_flat_chart.specs.Fleets.{is_fleet}
-use Rattle.hw_flat_chart.specs.Rows.{wait_bar, wait_bars, planned_row, planned_row_text, planned_rows, unplanned_row, unplanned_row_text, unplanned_rows}
+use Rattle.hw_flat_chart.specs.Rows.{wait_bar, flat_wait_bars, planned_row, planned_row_text, planned_rows, unplanned_row, unplanned_row_text, unplanned_rows}
 
 -- the rule at a place, and those after it
 rule_at : (place : ℕ) (rules : List Rule) (rule : Rule) → place < length rules → rule ≡ get_or rules place rule → drop place rules ≡ rule ∷ drop (place + 1) rules
 rule_at place rules rule lt e = rw (add-one, drop-cons rules place rule lt, ← e) refl
 
-pub wait_next : (table : List ℕ) (ship : ℕ) (rules : List Rule) (i : ℕ) (rule : Rule) → i < length rules → rule ≡ get_or rules i rule → wait_bars table ship (drop i rules) ≡ wait_bar table ship rule ++ wait_bars table ship (drop (i + 1) rules)
-wait_next table ship rules i rule lt e = ap (wait_bars table ship) (rule_at i rules rule lt e)
+pub wait_next : (table : List ℕ) (ship : ℕ) (rules : List Rule) (i : ℕ) (rule : Rule) → i < length rules → rule ≡ get_or rules i rule → flat_wait_bars table ship (drop i rules) ≡ wait_bar table ship rule ++ flat_wait_bars table ship (drop (i + 1) rules)
+wait_next table ship rules i rule lt e = ap (flat_wait_bars table ship) (rule_at i rules rule lt e)
 
-pub wait_end : (table : List ℕ) (ship : ℕ) (rules : List Rule) (i : ℕ) → length rules ≤ i → wait_bars table ship (drop i rules) ≡ []
-wait_end table ship rules i le = ap (wait_bars table ship) (drop_of_length-le rules le)
+pub wait_end : (table : List ℕ) (ship : ℕ) (rules : List Rule) (i : ℕ) → length rules ≤ i → flat_wait_bars table ship (drop i rules) ≡ []
+wait_end table ship rules i le = ap (flat_wait_bars table ship) (drop_of_length-le rules le)
 
 pub planned_next : (f : Problem) (table : List ℕ) (ship count : ℕ) → ship < count → planned_rows f table ship (count - ship) ≡ planned_row_text f table (planned_row f table ship) ++ planned_rows f table (ship + 1) (count - (ship + 1))
 planned_next f table ship count lt =
@@ -40,13 +36,6 @@ pub unplanned_end : (f : Problem) (ship count : ℕ) → count ≤ ship → unpl
 unplanned_end f ship count le =
     let e : count - ship ≡ 0 = omega (arith, le) in
     ap (unplanned_rows f ship) e
-
--- a rank is at most the number of ships
-pub rank_small : (table : List ℕ) (ship : ℕ) → rank_of table ship ≤ length table
-rank_small table ship =
-    let many : length (enumerate_from 0 table) ≡ length table = length-enumerate_from 0 table in
-    let few = count_by-le-length (λ (given : ℕ × ℕ). stands_above given.0 given.1 ship (slice_index table ship)) (enumerate_from 0 table) in
-    omega (arith, many, few)
 
 -- the first fleet from a place on, and the fleets after it
 pub fleets_next : (left from place : ℕ) (rules : List Rule) (rule : Rule) → 0 < left → place < length rules → rule ≡ get_or rules place rule → is_fleet rule ≡ true → filter is_fleet (drop place rules) ≡ filter is_fleet (drop from rules) → take left (filter is_fleet (drop from rules)) ≡ rule ∷ take (left - 1) (filter is_fleet (drop (place + 1) rules))

@@ -4,7 +4,7 @@ use Rattle.std.proofs.lemmas.List.Elements.{All-set}
 use Rattle.hw_model.specs.Problem.{Problem, IsTimetable}
 use Rattle.hw_model.specs.Timetables.{Permits, first_broken}
 use Rattle.hw_rules.proofs.Permitted.{test_permits}
-use Rattle.hw_flat_chart.specs.Moves.{with_move, is_open}
+use Rattle.hw_flat_chart.specs.Moves.{with_move, move_is_open}
 
 some_or_none : {A : Type 0} (o : Option A) → is_some o ≡ not (is_none o)
 some_or_none None = refl
@@ -18,16 +18,16 @@ moved_listed f table ship slot listed lt = record {
 }
 
 -- a slot is open exactly where the problem permits the timetable with that slot for the ship
-pub open_permits : (f : Problem) (table : List ℕ) (ship slot : ℕ) → IsTimetable f table → slot < f.slots → (is_open f table ship slot ≡ true) ↔ Permits f (with_move table ship slot)
+pub open_permits : (f : Problem) (table : List ℕ) (ship slot : ℕ) → IsTimetable f table → slot < f.slots → (move_is_open f table ship slot ≡ true) ↔ Permits f (with_move table ship slot)
 open_permits f table ship slot listed lt =
     let other = with_move table ship slot in
     test_permits f other (first_broken f other) (is_none (first_broken f other)) (moved_listed f table ship slot listed lt) refl (some_or_none (first_broken f other))
 
 -- so a test with that answer is whether the slot is open
-pub same_open : (f : Problem) (table : List ℕ) (ship slot : ℕ) (flag : Bool) → IsTimetable f table → slot < f.slots → ((flag ≡ true) ↔ Permits f (with_move table ship slot)) → flag ≡ is_open f table ship slot
-same_open f table ship slot flag listed lt means = both flag (is_open f table ship slot) (λ e. here.1 (means.0 e)) (λ e. means.1 (here.0 e))
+pub same_open : (f : Problem) (table : List ℕ) (ship slot : ℕ) (flag : Bool) → IsTimetable f table → slot < f.slots → ((flag ≡ true) ↔ Permits f (with_move table ship slot)) → flag ≡ move_is_open f table ship slot
+same_open f table ship slot flag listed lt means = both flag (move_is_open f table ship slot) (λ e. here.1 (means.0 e)) (λ e. means.1 (here.0 e))
   where
-    here : (is_open f table ship slot ≡ true) ↔ Permits f (with_move table ship slot)
+    here : (move_is_open f table ship slot ≡ true) ↔ Permits f (with_move table ship slot)
     here = open_permits f table ship slot listed lt
 
     both : (a b : Bool) → (a ≡ true → b ≡ true) → (b ≡ true → a ≡ true) → a ≡ b

@@ -18,10 +18,10 @@ fleet_of (Pair v w holes) = 0
 fleet_of (After v w gap) = 0
 fleet_of (Tugs fleet jobs) = fleet
 
-abbrev pub jobs_of : Rule → List Job
-jobs_of (Pair v w holes) = []
-jobs_of (After v w gap) = []
-jobs_of (Tugs fleet jobs) = jobs
+abbrev pub jobs_of_rule : Rule → List Job
+jobs_of_rule (Pair v w holes) = []
+jobs_of_rule (After v w gap) = []
+jobs_of_rule (Tugs fleet jobs) = jobs
 
 -- the first of the rules on tugs, at most `count`
 abbrev pub first_fleets : ℕ → List Rule → List Rule
@@ -46,9 +46,9 @@ jobs_end slots table (job ∷ jobs) = max (job_end slots table job) (jobs_end sl
 -- the last end of the jobs of several fleets, and at least the number of slots in which ships sail
 abbrev pub fleets_end : ℕ → List ℕ → List Rule → ℕ
 fleets_end slots table [] = slots
-fleets_end slots table (rule ∷ rules) = max (jobs_end slots table (jobs_of rule)) (fleets_end slots table rules)
+fleets_end slots table (rule ∷ rules) = max (jobs_end slots table (jobs_of_rule rule)) (fleets_end slots table rules)
 
 -- how many slots a picture shows: those in which ships sail, and as many more as its tugs are held
-unfoldable pub span_of : Problem → Option (List ℕ) → ℕ
-span_of f None = horizon f
-span_of f (Some table) = fleets_end (horizon f) table (fleets f)
+unfoldable pub picture_span : Problem → Option (List ℕ) → ℕ
+picture_span f None = horizon f
+picture_span f (Some table) = fleets_end (horizon f) table (fleets f)

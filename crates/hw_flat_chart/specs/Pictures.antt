@@ -14,7 +14,7 @@ use Rattle.hw_chart.specs.declared.panel.Panel.{Panel}
 use Rattle.hw_chart.specs.Grids.{grid, span_end}
 use Rattle.hw_chart.specs.Headings.{heading}
 use Rattle.hw_chart.specs.Panels.{planned_panel, unplanned_panel}
-use Rattle.hw_flat_chart.specs.Fleets.{fleet_of, fleets, span_of}
+use Rattle.hw_flat_chart.specs.Fleets.{fleet_of, fleets, picture_span}
 use Rattle.hw_flat_chart.specs.Rows.{planned_rows, unplanned_rows}
 
 -- where the first panel stands, below the rows
@@ -22,54 +22,54 @@ abbrev pub panels_y : Problem → ℕ
 panels_y f = 156 + 42 * f.ships
 
 -- where the plot ends
-abbrev pub bottom : Problem → ℕ
-bottom f = panels_y f + 66 * length (fleets f)
+abbrev pub flat_picture_bottom : Problem → ℕ
+flat_picture_bottom f = panels_y f + 66 * length (fleets f)
 
-unfoldable pub sizes : Problem → List ℕ
-sizes f = joined (codes "ships " ∷ decimal f.ships ∷ codes ", slots " ∷ decimal (horizon f) ∷ codes ", rules " ∷ decimal (length f.rules) ∷ [])
+unfoldable pub flat_picture_sizes : Problem → List ℕ
+flat_picture_sizes f = joined (codes "ships " ∷ decimal f.ships ∷ codes ", slots " ∷ decimal (horizon f) ∷ codes ", rules " ∷ decimal (length f.rules) ∷ [])
 
 -- an entry of the legend: a patch of a class, and what it says
 abbrev pub entry : List ℕ → ℕ → List ℕ → List ℕ
 entry class x says = block class (record { left = x; right = x + 10; top = 77; bottom = 87 }) ++ line (codes "m") (x + 14) 86 says
 
-unfoldable pub sailing_entries : List ℕ
-sailing_entries = joined (entry (codes "dr") 16 (codes "may sail: the higher, the more cargo") ∷ entry (codes "fl") 234 (codes "with its most cargo") ∷ entry (codes "pl") 362 (codes "could move there alone") ∷ entry (codes "ou") 506 (codes "sails") ∷ [])
+unfoldable pub flat_sailing_entries : List ℕ
+flat_sailing_entries = joined (entry (codes "dr") 16 (codes "may sail: the higher, the more cargo") ∷ entry (codes "fl") 234 (codes "with its most cargo") ∷ entry (codes "pl") 362 (codes "could move there alone") ∷ entry (codes "ou") 506 (codes "sails") ∷ [])
 
-unfoldable pub other_entries : List ℕ
-other_entries = joined (entry (codes "tu") 560 (codes "holds tugs") ∷ entry (codes "be") 642 (codes "must wait for another") ∷ entry (codes "fu") 778 (codes "whole fleet held") ∷ [])
+unfoldable pub flat_other_entries : List ℕ
+flat_other_entries = joined (entry (codes "tu") 560 (codes "holds tugs") ∷ entry (codes "be") 642 (codes "must wait for another") ∷ entry (codes "fu") 778 (codes "whole fleet held") ∷ [])
 
 -- what the colours say
-abbrev pub legend : List ℕ
-legend = sailing_entries ++ other_entries
+abbrev pub flat_legend : List ℕ
+flat_legend = flat_sailing_entries ++ flat_other_entries
 
-unfoldable pub head : Problem → Outcome → List ℕ
-head f outcome = heading Plain outcome (bottom f + 28) (sizes f) ++ legend
+unfoldable pub flat_head : Problem → Outcome → List ℕ
+flat_head f outcome = heading Plain outcome (flat_picture_bottom f + 28) (flat_picture_sizes f) ++ flat_legend
 
 -- what the figures right of the rows are
-unfoldable pub columns : List ℕ
-columns = line (codes "m r") 956 138 (codes "slot") ++ line (codes "m r") 1268 138 (codes "value")
+unfoldable pub flat_columns : List ℕ
+flat_columns = line (codes "m r") 956 138 (codes "slot") ++ line (codes "m r") 1268 138 (codes "value")
 
 -- a panel for the fleet of a rule
-abbrev pub panel_of : Problem → ℕ → ℕ → Rule → Panel
-panel_of f span y rule = record { y = y; fleet = fleet_of rule; slots = horizon f; span = span }
+abbrev pub flat_panel_of : Problem → ℕ → ℕ → Rule → Panel
+flat_panel_of f span y rule = record { y = y; fleet = fleet_of rule; slots = horizon f; span = span }
 
 abbrev pub unplanned_panels : Problem → ℕ → ℕ → List Rule → List ℕ
 unplanned_panels f span y [] = []
-unplanned_panels f span y (rule ∷ rules) = unplanned_panel (panel_of f span y rule) ++ unplanned_panels f span (y + 66) rules
+unplanned_panels f span y (rule ∷ rules) = unplanned_panel (flat_panel_of f span y rule) ++ unplanned_panels f span (y + 66) rules
 
 -- the tugs that each fleet holds in each slot
 abbrev pub planned_panels : Problem → List ℕ → ℕ → ℕ → List Rule → List ℕ
 planned_panels f table span y [] = []
-planned_panels f table span y (rule ∷ rules) = planned_panel (panel_of f span y rule) (busy rule table) ++ planned_panels f table span (y + 66) rules
+planned_panels f table span y (rule ∷ rules) = planned_panel (flat_panel_of f span y rule) (busy rule table) ++ planned_panels f table span (y + 66) rules
 
-unfoldable pub foot : Problem → ℕ → List ℕ
-foot f span = joined (grid Slots span (bottom f) ∷ span_end (horizon f) span (bottom f) ∷ svg_end ∷ [])
+unfoldable pub flat_foot : Problem → ℕ → List ℕ
+flat_foot f span = joined (grid Slots span (flat_picture_bottom f) ∷ span_end (horizon f) span (flat_picture_bottom f) ∷ svg_end ∷ [])
 
 unfoldable pub unplanned_body : Problem → List ℕ
 unplanned_body f = joined (list_of (unplanned_rows f 0 f.ships) ∷ unplanned_panels f (horizon f) (panels_y f) (fleets f) ∷ [])
 
 unfoldable pub planned_body : Problem → List ℕ → List ℕ
-planned_body f table = joined (columns ∷ list_of (planned_rows f table 0 f.ships) ∷ planned_panels f table (span_of f (Some table)) (panels_y f) (fleets f) ∷ [])
+planned_body f table = joined (flat_columns ∷ list_of (planned_rows f table 0 f.ships) ∷ planned_panels f table (picture_span f (Some table)) (panels_y f) (fleets f) ∷ [])
 
 unfoldable pub body : Problem → Option (List ℕ) → List ℕ
 body f None = unplanned_body f
@@ -77,4 +77,4 @@ body f (Some table) = planned_body f table
 
 -- the whole text: what a certificate shows, and the timetable, if there is one
 unfoldable pub flat_picture : Problem → Option (List ℕ) → Outcome → List ℕ
-flat_picture f table outcome = joined (head f outcome ∷ body f table ∷ foot f (span_of f table) ∷ [])
+flat_picture f table outcome = joined (flat_head f outcome ∷ body f table ∷ flat_foot f (picture_span f table) ∷ [])

@@ -5,12 +5,12 @@ use Rattle.hw_model.specs.Problem.{Problem, horizon, value_at}
 use Rattle.hw_chart.specs.Figures.{greatest_level}
 
 -- what a ship carries in a slot, 0 where it may not sail
-abbrev pub carried : Problem → ℕ → ℕ → ℕ
-carried f ship slot = unwrap_or (value_at f ship slot) 0
+abbrev pub cargo_in_slot : Problem → ℕ → ℕ → ℕ
+cargo_in_slot f ship slot = unwrap_or (value_at f ship slot) 0
 
 -- the most that a ship may carry in a slot in which ships sail
-unfoldable pub most : Problem → ℕ → ℕ
-most f ship = greatest_level (carried f ship) (horizon f)
+unfoldable pub most_carried : Problem → ℕ → ℕ
+most_carried f ship = greatest_level (cargo_in_slot f ship) (horizon f)
 
 -- the ship has no value in any slot in which ships sail
 unfoldable pub sails_nowhere : Problem → ℕ → Bool

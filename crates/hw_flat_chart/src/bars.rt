@@ -5,7 +5,7 @@ ghost use Rattle.hw_model.specs.Limits.{RuleFits};
 ghost use Rattle.hw_model.specs.Problem.{IsTimetable};
 ghost use Rattle.hw_desk.specs.Writers.{Puts};
 ghost use Rattle.hw_flat_chart.specs.Fleets.{fleets_in};
-ghost use Rattle.hw_flat_chart.specs.Rows.{bars, fleet_bars, job_bar, job_bars, wait_bar, wait_bars};
+ghost use Rattle.hw_flat_chart.specs.Rows.{flat_bars, fleet_bars, job_bar, job_bars, wait_bar, flat_wait_bars};
 
 use crate::fleets::{Fleets, fleets_of, jobs, next};
 use crate::row::{Row, row_y};
@@ -36,7 +36,7 @@ fn put_wait_bar<W: Writer>(out: &mut W, table: &[Slot], ship: ShipId, rule: &Rul
 /// Puts how long a ship must wait for others.
 fn put_wait_bars<W: Writer>(out: &mut W, table: &[Slot], ship: ShipId, rules: &[Rule])
     requires { All (RuleFits (length table.now)) rules.now }
-    ensures { Puts (wait_bars table.now ship rules.now) (W.state out.old) (W.state out.new) }
+    ensures { Puts (flat_wait_bars table.now ship rules.now) (W.state out.old) (W.state out.new) }
 {
     for rule in rules {
         put_wait_bar(out, table, ship, rule);
@@ -76,11 +76,11 @@ fn put_fleet_bars<W: Writer>(out: &mut W, slot: Slot, ship: ShipId, fleets: Flee
 }
 
 /// Puts the window of a ship's bars.
-#[tactic(auto, unfolding(crate::specs::Rows::bars))]
+#[tactic(auto, unfolding(crate::specs::Rows::flat_bars))]
 pub(crate) fn put_bars<W: Writer>(out: &mut W, flat: &Flat, table: &Timetable, row: Row, slot: Slot)
     requires listed { IsTimetable flat.now table.now }
     requires few { row.rank ≤ MOST_SHIPS }
-    ensures { Puts (bars flat.now table.now row slot) (W.state out.old) (W.state out.new) }
+    ensures { Puts (flat_bars flat.now table.now row slot) (W.state out.old) (W.state out.new) }
 {
     put_bars_begin(out, row_y(row), row.span);
     put_wait_bars(out, table.as_slice(), row.ship, flat.rules());

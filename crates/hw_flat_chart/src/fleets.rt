@@ -2,7 +2,7 @@
 
 ghost use Rattle.std.specs.Prelude.{◌≡◌, ◌≤◌, ◌<◌, ℕ, [], ◌∷◌, All, IfSome, IsNone, length};
 ghost use Rattle.hw_model.specs.Limits.{RuleFits};
-ghost use Rattle.hw_flat_chart.specs.Fleets.{fleet_of, fleets, fleets_in, is_fleet, jobs_of};
+ghost use Rattle.hw_flat_chart.specs.Fleets.{fleet_of, fleets, fleets_in, is_fleet, jobs_of_rule};
 
 use hw_flat::Flat;
 use hw_model::{Job, Rule};
@@ -91,7 +91,7 @@ pub(crate) fn fleet_size(rule: &Rule) -> u32
 
 /// The jobs of a rule's fleet.
 pub(crate) fn jobs(rule: &Rule) -> &[Job]
-    ensures { result.now ≡ jobs_of rule.now }
+    ensures { result.now ≡ jobs_of_rule rule.now }
 {
     match rule {
         Rule::Pair { .. } | Rule::After { .. } => &[],

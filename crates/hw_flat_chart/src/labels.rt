@@ -4,8 +4,8 @@ ghost use Rattle.std.specs.Prelude.{◌≡◌, ◌≤◌, ◌<◌, unwrap_or};
 ghost use Rattle.hw_model.specs.Problem.{horizon};
 ghost use Rattle.hw_desk.specs.Writers.{Puts};
 ghost use Rattle.hw_chart.specs.Courses.{SailsBefore};
-ghost use Rattle.hw_flat_chart.specs.Rows.{course_text, figures, row_label, row_title};
-ghost use Rattle.hw_flat_chart.specs.Values.{carried};
+ghost use Rattle.hw_flat_chart.specs.Rows.{course_text, flat_figures, flat_row_label, flat_row_title};
+ghost use Rattle.hw_flat_chart.specs.Values.{cargo_in_slot};
 
 use crate::row::{Row, row_y};
 use crate::values::{most, value};
@@ -19,7 +19,7 @@ use hw_svg::{Piece, put_item_begin, put_line, put_pieces, put_title_end};
 fn carried(flat: &Flat, ship: ShipId, slot: Slot) -> u64
     requires ship_in { ship < flat.now.ships }
     requires slot_in { slot < horizon flat.now }
-    ensures { result ≡ carried flat.now ship slot }
+    ensures { result ≡ cargo_in_slot flat.now ship slot }
 {
     value(flat, ship, slot).unwrap_or(0)
 }
@@ -47,11 +47,11 @@ fn put_course<W: Writer>(out: &mut W, flat: &Flat, ship: ShipId, course: Course)
 }
 
 /// Puts the beginning of a row, with its title.
-#[tactic(auto, unfolding(crate::specs::Rows::row_title))]
+#[tactic(auto, unfolding(crate::specs::Rows::flat_row_title))]
 pub(crate) fn put_row_title<W: Writer>(out: &mut W, flat: &Flat, row: Row)
     requires ship_in { row.ship < flat.now.ships }
     requires before { SailsBefore (horizon flat.now) row.course }
-    ensures { Puts (row_title flat.now row) (W.state out.old) (W.state out.new) }
+    ensures { Puts (flat_row_title flat.now row) (W.state out.old) (W.state out.new) }
 {
     put_item_begin(out);
     out.put(b"ship ");
@@ -61,11 +61,11 @@ pub(crate) fn put_row_title<W: Writer>(out: &mut W, flat: &Flat, row: Row)
 }
 
 /// Puts the ship's number, and the most that it may carry.
-#[tactic(auto, unfolding(crate::specs::Rows::row_label))]
+#[tactic(auto, unfolding(crate::specs::Rows::flat_row_label))]
 pub(crate) fn put_row_label<W: Writer>(out: &mut W, flat: &Flat, row: Row)
     requires ship_in { row.ship < flat.now.ships }
     requires few { row.rank ≤ MOST_SHIPS }
-    ensures { Puts (row_label flat.now row) (W.state out.old) (W.state out.new) }
+    ensures { Puts (flat_row_label flat.now row) (W.state out.old) (W.state out.new) }
 {
     let y = u64::from(row_y(row));
     let ship = Piece::Number(u64::from(row.ship));
@@ -75,12 +75,12 @@ pub(crate) fn put_row_label<W: Writer>(out: &mut W, flat: &Flat, row: Row)
 }
 
 /// Puts the slot, what the ship carries, and the most that it may carry.
-#[tactic(auto, unfolding(crate::specs::Rows::figures))]
+#[tactic(auto, unfolding(crate::specs::Rows::flat_figures))]
 pub(crate) fn put_figures<W: Writer>(out: &mut W, flat: &Flat, row: Row, slot: Slot)
     requires ship_in { row.ship < flat.now.ships }
     requires slot_in { slot < horizon flat.now }
     requires few { row.rank ≤ MOST_SHIPS }
-    ensures { Puts (figures flat.now row slot) (W.state out.old) (W.state out.new) }
+    ensures { Puts (flat_figures flat.now row slot) (W.state out.old) (W.state out.new) }
 {
     let y = u64::from(row_y(row));
     let value = Piece::Number(carried(flat, row.ship, slot));

@@ -1,6 +1,6 @@
 //! What the picture of a flat problem says, in the words of the problem.
 
-ghost use Rattle.hw_flat_chart.specs.Moves.{MovesArePermitted};
+ghost use Rattle.hw_flat_chart.specs.Moves.{FlatMovesArePermitted};
 ghost use Rattle.hw_flat_chart.specs.Values.{BarsAreValues};
 
 /// In the window of a ship, the bar of a slot stands above the foot exactly where the ship has a value in that slot.
@@ -10,5 +10,5 @@ pub fn bars_are_values()
 
 /// The level of a move is 0 exactly where the problem permits the timetable with that slot for the ship.
 pub fn moves_are_permitted()
-    ensures { MovesArePermitted }
+    ensures { FlatMovesArePermitted }
 {}

@@ -3,10 +3,10 @@
 ghost use Rattle.std.specs.Prelude.{◌≡◌, ◌↔◌, ◌<◌, ℕ, IfOk, true, false, length, slice_index_or};
 ghost use Rattle.hw_model.specs.Problem.{IsTimetable, horizon};
 ghost use Rattle.hw_model.specs.Timetables.{Permits};
-ghost use Rattle.hw_flat_chart.specs.Moves.{TellAll, Tells, TellsAt, flag_place, with_move};
+ghost use Rattle.hw_flat_chart.specs.Moves.{TellAll, TellsPermittedMove, TellsAt, flag_place, with_move};
 
 use hw_flat::{Flat, Timetable};
-use hw_model::{NoMemory, ShipId, Slot};
+use hw_model::{MOST_SLOTS, NoMemory, ShipId, Slot};
 use hw_rules::broken;
 use std::alloc::Global;
 
@@ -37,7 +37,7 @@ fn is_move(
     requires listed { IsTimetable flat.now table.now }
     requires ship_in { ship < flat.now.ships }
     requires slot_in { slot < horizon flat.now }
-    ensures { IfOk result (Tells flat.now table.now ship slot) }
+    ensures { IfOk result (TellsPermittedMove flat.now table.now ship slot) }
 {
     let _horizon = flat.horizon();
     if flat.value(ship, slot).is_none() {
@@ -52,8 +52,8 @@ fn flag_at(alloc: Global, flat: &Flat, table: &Timetable, place: u32) -> Result<
     requires listed { IsTimetable flat.now table.now }
     ensures { IfOk result (TellsAt flat.now table.now place) }
 {
-    let ship = place / 512;
-    let slot = place % 512;
+    let ship = place / MOST_SLOTS;
+    let slot = place % MOST_SLOTS;
     if ship < flat.shape().ships && slot < flat.horizon() {
         is_move(alloc, flat, table, ship, slot)
     } else {

@@ -6,7 +6,7 @@ ghost use Rattle.hw_model.specs.Problem.{IsTimetable};
 ghost use Rattle.hw_model.specs.Rules.{busy};
 ghost use Rattle.hw_desk.specs.Writers.{Puts};
 ghost use Rattle.hw_flat_chart.specs.Fleets.{fleets_in};
-ghost use Rattle.hw_flat_chart.specs.Pictures.{panel_of, planned_panels, unplanned_panels};
+ghost use Rattle.hw_flat_chart.specs.Pictures.{flat_panel_of, planned_panels, unplanned_panels};
 
 use crate::fleets::{Fleets, fleet_size, next};
 use hw_chart::{Panel, put_planned_panel, put_unplanned_panel};
@@ -36,7 +36,7 @@ impl Levels for Held<'_> {
 
 /// The panel of a fleet.
 fn panel(flat: &Flat, span: u32, y: u32, rule: &Rule) -> Panel
-    ensures { result ≡ panel_of flat.now span y rule.now }
+    ensures { result ≡ flat_panel_of flat.now span y rule.now }
 {
     Panel {
         y,

@@ -2,10 +2,10 @@
 
 ghost use Rattle.std.specs.Prelude.{◌≡◌, ◌≤◌, ◌<◌, IfSome, None, Some, option_map};
 ghost use Rattle.hw_desk.specs.Writers.{Puts};
-ghost use Rattle.hw_flat_chart.specs.Fleets.{span_of};
+ghost use Rattle.hw_flat_chart.specs.Fleets.{picture_span};
 ghost use Rattle.hw_flat_chart.specs.Moves.{IsPlan};
-ghost use Rattle.hw_flat_chart.specs.Pictures.{body, bottom, columns, flat_picture, foot, head, legend, other_entries, panels_y, planned_body, sailing_entries, sizes as sizes_of, unplanned_body};
-ghost use Rattle.hw_svg.specs.Pieces.{pieces_text};
+ghost use Rattle.hw_flat_chart.specs.Pictures.{body, flat_picture_bottom, flat_columns, flat_picture, flat_foot, flat_head, flat_legend, flat_other_entries, panels_y, planned_body, flat_sailing_entries, flat_picture_sizes as sizes_of, unplanned_body};
+ghost use Rattle.hw_svg.specs.Pieces.{picture_pieces_text};
 
 use crate::fleets::{count, fleets_of};
 use crate::panels::{put_planned_panels, put_unplanned_panels};
@@ -18,9 +18,9 @@ use hw_flat::Flat;
 use hw_svg::{Piece, put_group_end, put_line, put_list_begin, put_svg_end};
 
 /// Puts what the colours of sailings say.
-#[tactic(auto, unfolding(crate::specs::Pictures::sailing_entries))]
+#[tactic(auto, unfolding(crate::specs::Pictures::flat_sailing_entries))]
 fn put_sailing_entries<W: Writer>(out: &mut W)
-    ensures { Puts sailing_entries (W.state out.old) (W.state out.new) }
+    ensures { Puts flat_sailing_entries (W.state out.old) (W.state out.new) }
 {
     put_legend(
         out,
@@ -50,9 +50,9 @@ fn put_sailing_entries<W: Writer>(out: &mut W)
 }
 
 /// Puts what the other colours say.
-#[tactic(auto, unfolding(crate::specs::Pictures::other_entries))]
+#[tactic(auto, unfolding(crate::specs::Pictures::flat_other_entries))]
 fn put_other_entries<W: Writer>(out: &mut W)
-    ensures { Puts other_entries (W.state out.old) (W.state out.new) }
+    ensures { Puts flat_other_entries (W.state out.old) (W.state out.new) }
 {
     put_legend(
         out,
@@ -78,7 +78,7 @@ fn put_other_entries<W: Writer>(out: &mut W)
 
 /// Puts what the colours say.
 pub(crate) fn put_colours<W: Writer>(out: &mut W)
-    ensures { Puts legend (W.state out.old) (W.state out.new) }
+    ensures { Puts flat_legend (W.state out.old) (W.state out.new) }
 {
     put_sailing_entries(out);
     put_other_entries(out);
@@ -94,16 +94,16 @@ fn panels_y(flat: &Flat) -> u32
 
 /// Where the plot ends.
 pub fn bottom(flat: &Flat) -> u32
-    ensures value { result ≡ bottom flat.now }
+    ensures value { result ≡ flat_picture_bottom flat.now }
     ensures small { result ≤ 3_000 }
 {
     panels_y(flat) + 66 * count(fleets_of(flat))
 }
 
 /// The sizes of the problem, in pieces.
-#[tactic(auto, unfolding(crate::specs::Pictures::sizes))]
+#[tactic(auto, unfolding(crate::specs::Pictures::flat_picture_sizes))]
 pub fn sizes(flat: &Flat) -> [Piece<'static>; 6]
-    ensures { pieces_text result ≡ sizes_of flat.now }
+    ensures { picture_pieces_text result ≡ sizes_of flat.now }
 {
     let shape = flat.shape();
     [
@@ -117,9 +117,9 @@ pub fn sizes(flat: &Flat) -> [Piece<'static>; 6]
 }
 
 /// Puts the head of the picture: what a certificate shows, the sizes of the problem, and what the colours say.
-#[tactic(auto, unfolding(crate::specs::Pictures::head))]
+#[tactic(auto, unfolding(crate::specs::Pictures::flat_head))]
 fn put_head<W: Writer>(out: &mut W, flat: &Flat, outcome: Outcome)
-    ensures { Puts (head flat.now outcome) (W.state out.old) (W.state out.new) }
+    ensures { Puts (flat_head flat.now outcome) (W.state out.old) (W.state out.new) }
 {
     let height = u64::from(bottom(flat)) + 28;
     put_heading(out, CargoUnit::Plain, outcome, height, &sizes(flat));
@@ -127,9 +127,9 @@ fn put_head<W: Writer>(out: &mut W, flat: &Flat, outcome: Outcome)
 }
 
 /// Puts what the figures right of the rows are.
-#[tactic(auto, unfolding(crate::specs::Pictures::columns))]
+#[tactic(auto, unfolding(crate::specs::Pictures::flat_columns))]
 fn put_columns<W: Writer>(out: &mut W)
-    ensures { Puts columns (W.state out.old) (W.state out.new) }
+    ensures { Puts flat_columns (W.state out.old) (W.state out.new) }
 {
     put_line(out, b"m r", 956, 138, &[Piece::Word(b"slot")]);
     put_line(out, b"m r", 1268, 138, &[Piece::Word(b"value")]);
@@ -139,7 +139,7 @@ fn put_columns<W: Writer>(out: &mut W)
 #[tactic(auto, unfolding(crate::specs::Pictures::planned_body))]
 pub(crate) fn put_planned_body<W: Writer>(out: &mut W, flat: &Flat, plan: &Plan, span: u32)
     requires planned { IsPlan flat.now plan.now }
-    requires span { span ≡ span_of flat.now (Some plan.now.table) }
+    requires span { span ≡ picture_span flat.now (Some plan.now.table) }
     requires some { 0 < span }
     ensures { Puts (planned_body flat.now plan.now.table) (W.state out.old) (W.state out.new) }
 {
@@ -169,10 +169,10 @@ pub(crate) fn put_unplanned_body<W: Writer>(out: &mut W, flat: &Flat)
 }
 
 /// Puts the grid over this many slots, and the end of the picture.
-#[tactic(auto, unfolding(crate::specs::Pictures::foot))]
+#[tactic(auto, unfolding(crate::specs::Pictures::flat_foot))]
 fn put_foot<W: Writer>(out: &mut W, flat: &Flat, span: u32)
     requires { span ≤ 1_535 }
-    ensures { Puts (foot flat.now span) (W.state out.old) (W.state out.new) }
+    ensures { Puts (flat_foot flat.now span) (W.state out.old) (W.state out.new) }
 {
     let bottom = bottom(flat);
     put_grid(out, Scale::Slots, span, bottom);
@@ -185,7 +185,7 @@ fn put_foot<W: Writer>(out: &mut W, flat: &Flat, span: u32)
 ///
 /// It takes no memory. The timetable need not be permitted; where a ship has no value in its slot, the ship carries 0
 /// there and has no mark above the foot of its window.
-#[tactic(auto, unfolding(crate::specs::Pictures::flat_picture, crate::specs::Pictures::body, crate::specs::Fleets::span_of))]
+#[tactic(auto, unfolding(crate::specs::Pictures::flat_picture, crate::specs::Pictures::body, crate::specs::Fleets::picture_span))]
 pub fn put_flat_picture<W: Writer>(out: &mut W, flat: &Flat, plan: Option<&Plan>, outcome: Outcome)
     requires { IfSome plan (λ p. IsPlan flat.now p.now) }
     ensures { Puts (flat_picture flat.now (option_map (λ p. p.now.table) plan.entry) outcome) (W.state out.old) (W.state out.new) }

@@ -55,6 +55,6 @@ impl Plan {
         requires slot { slot < MOST_SLOTS }
         ensures value { result ≡ slice_index_or self.now.flags (flag_place ship slot) false }
     {
-        self.flags[(ship * 512 + slot) as usize]
+        self.flags[(ship * MOST_SLOTS + slot) as usize]
     }
 }

@@ -2,7 +2,7 @@
 
 ghost use Rattle.std.specs.Prelude.{◌≡◌, ◌≤◌, ◌<◌, IfSome, None, Some, option_map};
 ghost use Rattle.hw_desk.specs.Writers.{Puts};
-ghost use Rattle.hw_flat_chart.specs.Fleets.{span_of};
+ghost use Rattle.hw_flat_chart.specs.Fleets.{picture_span};
 ghost use Rattle.hw_flat_chart.specs.Moves.{IsPlan};
 ghost use Rattle.hw_flat_chart.specs.Pictures.{body};
 ghost use Rattle.hw_flat_chart.specs.Rests.{flat_rest, lines_over};
@@ -15,10 +15,10 @@ use hw_desk::Writer;
 use hw_flat::Flat;
 
 /// How many slots the picture shows.
-#[tactic(auto, unfolding(crate::specs::Fleets::span_of))]
+#[tactic(auto, unfolding(crate::specs::Fleets::picture_span))]
 pub fn slots_shown(flat: &Flat, plan: Option<&Plan>) -> u32
     requires { IfSome plan (λ p. IsPlan flat.now p.now) }
-    ensures value { result ≡ span_of flat.now (option_map (λ p. p.now.table) plan.entry) }
+    ensures value { result ≡ picture_span flat.now (option_map (λ p. p.now.table) plan.entry) }
     ensures some { 0 < result }
     ensures small { result ≤ 1_535 }
 {
@@ -40,7 +40,7 @@ fn put_lines_over<W: Writer>(out: &mut W, flat: &Flat, span: u32)
 }
 
 /// Puts the rows and the panels, with a timetable or without one.
-#[tactic(auto, unfolding(crate::specs::Pictures::body, crate::specs::Fleets::span_of))]
+#[tactic(auto, unfolding(crate::specs::Pictures::body, crate::specs::Fleets::picture_span))]
 fn put_body<W: Writer>(out: &mut W, flat: &Flat, plan: Option<&Plan>)
     requires { IfSome plan (λ p. IsPlan flat.now p.now) }
     ensures { Puts (body flat.now (option_map (λ p. p.now.table) plan.entry)) (W.state out.old) (W.state out.new) }

@@ -5,8 +5,8 @@ ghost use Rattle.hw_model.specs.Problem.{horizon, value_at};
 ghost use Rattle.hw_desk.specs.Writers.{Puts};
 ghost use Rattle.hw_chart.specs.Courses.{SailsBefore};
 ghost use Rattle.hw_chart.specs.declared.row.Sailings.{Sailings};
-ghost use Rattle.hw_flat_chart.specs.Rows.{row_begin, row_y, value_mark, value_steps, value_window, values_text};
-ghost use Rattle.hw_flat_chart.specs.Values.{most, tall_of};
+ghost use Rattle.hw_flat_chart.specs.Rows.{flat_row_begin, row_top, value_mark, value_steps, value_window, values_text};
+ghost use Rattle.hw_flat_chart.specs.Values.{most_carried, tall_of};
 
 use crate::labels::{put_row_label, put_row_title};
 use crate::values::{Mosts, Values, most, tall, value, value_level};
@@ -30,7 +30,7 @@ pub struct Row {
 /// Where a row stands.
 pub(crate) fn row_y(row: Row) -> u32
     requires { row.rank ≤ MOST_SHIPS }
-    ensures value { result ≡ row_y row }
+    ensures value { result ≡ row_top row }
     ensures small { result ≤ 2_000 }
 {
     146 + 42 * row.rank
@@ -95,12 +95,12 @@ fn put_values<W: Writer>(out: &mut W, flat: &Flat, row: Row)
 }
 
 /// Puts what every row begins with: its title, stripe and label, and the window of the ship's values.
-#[tactic(auto, unfolding(crate::specs::Rows::row_begin))]
+#[tactic(auto, unfolding(crate::specs::Rows::flat_row_begin))]
 pub(crate) fn put_row_begin<W: Writer>(out: &mut W, flat: &Flat, row: Row)
     requires ship_in { row.ship < flat.now.ships }
     requires few { row.rank ≤ MOST_SHIPS }
     requires before { SailsBefore (horizon flat.now) row.course }
-    ensures { Puts (row_begin flat.now row) (W.state out.old) (W.state out.new) }
+    ensures { Puts (flat_row_begin flat.now row) (W.state out.old) (W.state out.new) }
 {
     put_row_title(out, flat, row);
     put_stripe(out, row.rank, row_y(row));

@@ -5,9 +5,9 @@ ghost use Rattle.hw_model.specs.Problem.{IsTimetable, horizon};
 ghost use Rattle.hw_desk.specs.Writers.{Puts};
 ghost use Rattle.hw_chart.specs.Courses.{SailsBefore};
 ghost use Rattle.hw_chart.specs.Rows.{moves_window};
-ghost use Rattle.hw_flat_chart.specs.Fleets.{span_of};
-ghost use Rattle.hw_flat_chart.specs.Moves.{IsPlan, flag_place, is_open, open_level};
-ghost use Rattle.hw_flat_chart.specs.Rows.{course_parts, nowhere_text, planned_row, planned_row_text, planned_rows, row_y, unplanned_row, unplanned_row_text, unplanned_rows};
+ghost use Rattle.hw_flat_chart.specs.Fleets.{picture_span};
+ghost use Rattle.hw_flat_chart.specs.Moves.{IsPlan, flag_place, move_is_open, flat_open_level};
+ghost use Rattle.hw_flat_chart.specs.Rows.{course_parts, nowhere_text, planned_row, planned_row_text, planned_rows, row_top, unplanned_row, unplanned_row_text, unplanned_rows};
 
 use crate::bars::put_bars;
 use crate::labels::put_figures;
@@ -27,12 +27,12 @@ struct Openings<'o> {
     plan: &'o Plan,
     ship: ShipId,
     ghost each_flag: { length plan.now.flags ≡ 20_480 },
-    ghost flagged: { (slot : ℕ) → slot < horizon flat.now → slice_index_or plan.now.flags (flag_place ship slot) false ≡ is_open flat.now plan.now.table ship slot },
+    ghost flagged: { (slot : ℕ) → slot < horizon flat.now → slice_index_or plan.now.flags (flag_place ship slot) false ≡ move_is_open flat.now plan.now.table ship slot },
     ghost ship_in: { ship < flat.now.ships },
 }
 
 impl Levels for Openings<'_> {
-    ghost level = { λ o slot. open_level o.flat.now o.plan.now.table o.ship slot };
+    ghost level = { λ o slot. flat_open_level o.flat.now o.plan.now.table o.ship slot };
 
     ghost end = { λ o. horizon o.flat.now };
 
@@ -72,7 +72,7 @@ fn put_moves<W: Writer>(out: &mut W, flat: &Flat, plan: &Plan, row: Row)
     requires planned { IsPlan flat.now plan.now }
     requires ship_in { row.ship < flat.now.ships }
     requires few { row.rank ≤ MOST_SHIPS }
-    ensures { Puts (moves_window (row_y row) row.span (open_level flat.now plan.now.table row.ship) (horizon flat.now)) (W.state out.old) (W.state out.new) }
+    ensures { Puts (moves_window (row_top row) row.span (flat_open_level flat.now plan.now.table row.ship) (horizon flat.now)) (W.state out.old) (W.state out.new) }
 {
     let ship = row.ship;
     let openings = Openings { flat, plan, ship };
@@ -99,7 +99,7 @@ fn put_planned_row<W: Writer>(out: &mut W, flat: &Flat, plan: &Plan, row: Row)
 fn planned_row(flat: &Flat, table: &Timetable, span: u32, ship: ShipId) -> Row
     requires listed { IsTimetable flat.now table.now }
     requires ship_in { ship < flat.now.ships }
-    requires span { span ≡ span_of flat.now (Some table.now) }
+    requires span { span ≡ picture_span flat.now (Some table.now) }
     ensures value { result ≡ planned_row flat.now table.now ship }
     ensures few { result.rank ≤ MOST_SHIPS }
     ensures before { SailsBefore (horizon flat.now) result.course }
@@ -116,7 +116,7 @@ fn planned_row(flat: &Flat, table: &Timetable, span: u32, ship: ShipId) -> Row
 /// Puts the rows of a timetable, in the order of the ships.
 pub(crate) fn put_planned_rows<W: Writer>(out: &mut W, flat: &Flat, plan: &Plan, span: u32)
     requires planned { IsPlan flat.now plan.now }
-    requires span { span ≡ span_of flat.now (Some plan.now.table) }
+    requires span { span ≡ picture_span flat.now (Some plan.now.table) }
     requires some { 0 < span }
     ensures { Puts (planned_rows flat.now plan.now.table 0 flat.now.ships) (W.state out.old) (W.state out.new) }
 {

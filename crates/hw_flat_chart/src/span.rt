@@ -3,7 +3,7 @@
 ghost use Rattle.std.specs.Prelude.{◌≡◌, ◌≤◌, ◌<◌, All, Some, length};
 ghost use Rattle.hw_model.specs.Problem.{IsTimetable, horizon};
 ghost use Rattle.hw_model.specs.Limits.{JobFits, RuleFits};
-ghost use Rattle.hw_flat_chart.specs.Fleets.{fleets_end, fleets_in, job_end, jobs_end, span_of};
+ghost use Rattle.hw_flat_chart.specs.Fleets.{fleets_end, fleets_in, job_end, jobs_end, picture_span};
 
 use crate::fleets::{Fleets, fleets_of, jobs, next};
 use hw_flat::{Flat, Timetable};
@@ -51,10 +51,10 @@ fn fleets_end(slots: u32, table: &Timetable, fleets: Fleets) -> u32
 }
 
 /// How many slots the picture of a timetable shows.
-#[tactic(auto, unfolding(crate::specs::Fleets::span_of))]
+#[tactic(auto, unfolding(crate::specs::Fleets::picture_span))]
 pub(crate) fn span(flat: &Flat, table: &Timetable) -> u32
     requires { IsTimetable flat.now table.now }
-    ensures value { result ≡ span_of flat.now (Some table.now) }
+    ensures value { result ≡ picture_span flat.now (Some table.now) }
     ensures least { horizon flat.now ≤ result }
     ensures some { 0 < result }
     ensures small { result ≤ 1_535 }

@@ -2,7 +2,7 @@
 
 ghost use Rattle.std.specs.Prelude.{◌≡◌, ◌<◌, ◌≤◌, unwrap_or};
 ghost use Rattle.hw_model.specs.Problem.{horizon, value_at};
-ghost use Rattle.hw_flat_chart.specs.Values.{carried, most, most_level, sails_nowhere, tall_of, unit_of, value_level};
+ghost use Rattle.hw_flat_chart.specs.Values.{cargo_in_slot, most_carried, most_level, sails_nowhere, tall_of, unit_of, value_level};
 
 use hw_chart::greatest;
 use hw_flat::Flat;
@@ -18,7 +18,7 @@ struct Carried<'f> {
 }
 
 impl Levels for Carried<'_> {
-    ghost level = { λ c slot. carried c.flat.now c.ship slot };
+    ghost level = { λ c slot. cargo_in_slot c.flat.now c.ship slot };
 
     ghost end = { λ c. horizon c.flat.now };
 
@@ -40,10 +40,10 @@ pub(crate) fn value(flat: &Flat, ship: ShipId, slot: Slot) -> Option<u64>
 }
 
 /// The most that a ship may carry.
-#[tactic(auto, unfolding(crate::specs::Values::most))]
+#[tactic(auto, unfolding(crate::specs::Values::most_carried))]
 pub(crate) fn most(flat: &Flat, ship: ShipId) -> u64
     requires { ship < flat.now.ships }
-    ensures { result ≡ most flat.now ship }
+    ensures { result ≡ most_carried flat.now ship }
 {
     greatest(&Carried { flat, ship }, flat.horizon())
 }

@@ -2,16 +2,17 @@
 use Rattle.std.proofs.Common.{◌≡◌, ◌≢◌, ◌⊎◌, inl, inr, ℕ, zero, suc, ◌+◌, ◌-◌, ◌≤◌, Bool, true, false, List, [], ◌∷◌, ◌++◌, length, drop, Some, Result, Ok, Err, refl, sym, ap, ◌∙◌, subst, arith, codes, append_assoc}
 use Rattle.std.specs.Prelude.{if◌then◌else◌}
 use Rattle.std.proofs.lemmas.List.{length-append}
+use Rattle.hw_lemmas.specs.Operators.{◌>>=◌}
 use Rattle.hw_model.specs.declared.rule.Rule.{Rule}
 use Rattle.hw_model.specs.Limits.{IsFlat}
 use Rattle.hw_model.specs.Problem.{Problem}
 use Rattle.hw_text.specs.Parts.{at_end}
 use Rattle.hw_flat.specs.declared.fault.FlatWord.{FlatWord}
 use Rattle.hw_flat.specs.declared.fault.FlatWord.TheVariants as words
-use Rattle.hw_flat.specs.Text.{Fault, fault, ◌>>=◌, rows_at, rules_at, problem_of, text_of}
+use Rattle.hw_flat.specs.Text.{Fault, fault, rows_at, rules_at, problem_of, problem_of_lines}
 use Rattle.hw_flat.specs.TextForms.{header_form, size_form, row_form, rule_form}
 use Rattle.hw_flat.proofs.TextRows.{text_read}
-use Rattle.hw_flat_laws.specs.FirstLines.{line_behind, line_of}
+use Rattle.hw_flat_laws.specs.FirstLines.{line_behind, numbered_line}
 use Rattle.hw_flat_laws.specs.Wanted.{SaysSize, IsWanted}
 use Rattle.hw_flat_laws.proofs.Same.{Parts, Full, Same, full_after, full_is, full_some, has, behind_next, behind_front, drop_front}
 use Rattle.hw_flat_laws.proofs.Refusals.{Refused, followed, behind_lines}
@@ -38,8 +39,8 @@ pub split : {A B : Type 0} (r : Result A Fault) (f : A → Result B Fault) (e : 
 split (Ok x) f e h = inr (x, refl, h)
 split (Err d) f e h = let same : d ≡ e = cc in inl (ap (λ c. Err c) same)
 
-pub text_body : (header size_line : List ℕ) (body : Parts) (stay : Bool) (size : ℕ × ℕ) → header_form header ≡ Some stay → size_form size_line ≡ Some size → Full body → text_of (header ∷ size_line ∷ body) ≡ body_at stay size body
-unfolding text_of
+pub text_body : (header size_line : List ℕ) (body : Parts) (stay : Bool) (size : ℕ × ℕ) → header_form header ≡ Some stay → size_form size_line ≡ Some size → Full body → problem_of_lines (header ∷ size_line ∷ body) ≡ body_at stay size body
+unfolding problem_of_lines
 text_body header size_line body stay size a b full = rw (full.2, a, b) refl
 
 closed_here : (stay : Bool) (size : ℕ × ℕ) (values : Row) → closing stay size values (codes "end" ∷ [] ∷ []) ≡ Ok (problem_of stay size values [])
@@ -61,7 +62,7 @@ body_mended stay size =
 pub limits_of : (header size_line : List ℕ) (stay : Bool) (size : ℕ × ℕ) → header_form header ≡ Some stay → size_form size_line ≡ Some size → IsFlat (problem_of stay size (body_mended stay size).values [])
 limits_of header size_line stay size a b =
     let m = body_mended stay size in
-    let whole : text_of (header ∷ size_line ∷ m.first ∷ m.more) ≡ Ok (problem_of stay size m.values []) = text_body header size_line (m.first ∷ m.more) stay size a b (m.first, m.more, refl) ∙ m.reads in
+    let whole : problem_of_lines (header ∷ size_line ∷ m.first ∷ m.more) ≡ Ok (problem_of stay size m.values []) = text_body header size_line (m.first ∷ m.more) stay size a b (m.first, m.more, refl) ∙ m.reads in
     (text_read (header ∷ size_line ∷ m.first ∷ m.more) (problem_of stay size m.values []) whole).limits
 
 -- ---- the end
@@ -117,7 +118,7 @@ pub record BodyRefused (header size_line : List ℕ) (stay : Bool) (size : ℕ �
 begun : (header size_line : List ℕ) (body : Parts) (stay : Bool) (size : ℕ × ℕ) → header_form header ≡ Some stay → size_form size_line ≡ Some size → Full body → SaysSize (header ∷ size_line ∷ body) stay size.0 size.1
 begun header size_line body stay size a b full = record { header = a; size = rw full.2 b }
 
-pub numbered : (header size_line : List ℕ) (body : Parts) (number count : ℕ) → number ≡ 3 + count → Full body → line_of (header ∷ size_line ∷ body) number ≡ line_behind count body
+pub numbered : (header size_line : List ℕ) (body : Parts) (number count : ℕ) → number ≡ 3 + count → Full body → numbered_line (header ∷ size_line ∷ body) number ≡ line_behind count body
 numbered header size_line body number count place full =
     let n : number - 1 ≡ suc (suc count) = omega (arith, place) in
     ap (λ i. line_behind i (header ∷ size_line ∷ body)) n ∙ behind_next count size_line body full
@@ -150,7 +151,7 @@ before_rule stay size front rest body x (suc j) i lines full each h earlier n =
     let place : length front + j ≡ i = omega (arith, n) in
     λ s. earlier j refl (sym (behind_front j front rest full) ∙ ap (λ k. line_behind k (front ++ rest)) place ∙ ap (line_behind i) (sym lines) ∙ s)
 
-says_wanted : (parts rest : Parts) (stay : Bool) (ships slots number count : ℕ) (word : FlatWord) → SaysSize parts stay ships slots → number ≡ 3 + ships + count → count ≤ 4_000 → line_of parts (number - 1) ≢ Some (codes "end") → line_of parts number ≡ line_behind count rest → SaysOfRule ships 4_000 count rest word
+says_wanted : (parts rest : Parts) (stay : Bool) (ships slots number count : ℕ) (word : FlatWord) → SaysSize parts stay ships slots → number ≡ 3 + ships + count → count ≤ 4_000 → numbered_line parts (number - 1) ≢ Some (codes "end") → numbered_line parts number ≡ line_behind count rest → SaysOfRule ships 4_000 count rest word
     → IsWanted parts number word
 says_wanted parts rest stay ships slots number count words.Rule begins place few before line s = record {
   stay = stay;
@@ -188,8 +189,8 @@ rules_bad header size_line stay size body x e a b full h k =
     let place : e.number ≡ 3 + (length f.front + r.count) = omega (arith, r.place, f.each) in
     let i : ℕ = length f.front + r.count - 1 in
     let some : suc i ≡ length f.front + r.count = omega (arith, f.each, limits.some_ship) in
-    let before : line_of (header ∷ size_line ∷ body) (e.number - 1) ≡ line_behind i body = numbered header size_line body (e.number - 1) i (omega (arith, place, some)) full in
-    let line : line_of (header ∷ size_line ∷ body) e.number ≡ line_behind r.count x.1 = numbered header size_line body e.number (length f.front + r.count) place full ∙ ap (line_behind (length f.front + r.count)) f.lines ∙ behind_front r.count f.front x.1 left in
+    let before : numbered_line (header ∷ size_line ∷ body) (e.number - 1) ≡ line_behind i body = numbered header size_line body (e.number - 1) i (omega (arith, place, some)) full in
+    let line : numbered_line (header ∷ size_line ∷ body) e.number ≡ line_behind r.count x.1 = numbered header size_line body e.number (length f.front + r.count) place full ∙ ap (line_behind (length f.front + r.count)) f.lines ∙ behind_front r.count f.front x.1 left in
     let rules : Refused AnyProblem (closing stay size x.0) x.1 e r.count =
     followed Closed AnyProblem (rules_at size.0 (3 + size.0) 4_000) (λ rules. tail_at stay size x.0 rules.0 rules.1) x.1 e r.count (λ value done. (problem_of stay size x.0 value.0, tt, ap (tail_at stay size x.0 value.0) done)) r.refused in
     record {
@@ -215,7 +216,7 @@ tail_bad header size_line stay size body x y e a b full h k t =
     let place : e.number ≡ 3 + (length (f.front ++ closed) + 0) = omega (arith, r.place, total) in
     let whole : (others : Parts) → Full others → body_at stay size ((f.front ++ closed) ++ others) ≡ tail_at stay size x.0 y.0 others = λ others more.
     ap (body_at stay size) (append_assoc f.front closed others) ∙ (rw (f.reads (closed ++ others) (full_after closed others more), g.reads others more) refl) in
-    let ends : line_of (header ∷ size_line ∷ body) (e.number - 1) ≡ Some (codes "end") =
+    let ends : numbered_line (header ∷ size_line ∷ body) (e.number - 1) ≡ Some (codes "end") =
     numbered header size_line body (e.number - 1) (length f.front + (length g.front + 0)) (omega (arith, place, total, f.each, g.each)) full
     ∙ ap (line_behind (length f.front + (length g.front + 0))) f.lines ∙ behind_front (length g.front + 0) f.front x.1 (full_is _ _ (sym g.lines) (full_after closed y.1 left))
     ∙ ap (line_behind (length g.front + 0)) (g.lines ∙ append_assoc g.front (codes "end" ∷ []) y.1) ∙ behind_front 0 g.front (codes "end" ∷ y.1) (codes "end", y.1, refl) ∙ (rw left.2 refl) in

@@ -6,13 +6,13 @@ use Rattle.hw_model.specs.Problem.{Problem}
 use Rattle.hw_text.specs.Parts.{parts_of}
 use Rattle.hw_flat.specs.declared.fault.FlatWord.{FlatWord}
 use Rattle.hw_flat.specs.declared.fault.FlatWord.TheVariants as words
-use Rattle.hw_flat.specs.Text.{Fault, fault, text_of}
+use Rattle.hw_flat.specs.Text.{Fault, fault, problem_of_lines}
 use Rattle.hw_flat.specs.TextForms.{header_form, size_form, row_form, rule_form}
 use Rattle.hw_flat.specs.TextWritten.{problem_text}
 use Rattle.hw_flat.proofs.TextBack.{text_reads_back}
-use Rattle.hw_flat_laws.specs.FirstLines.{line_behind, line_of}
+use Rattle.hw_flat_laws.specs.FirstLines.{line_behind, numbered_line}
 use Rattle.hw_flat_laws.specs.Wanted.{SaysSize, IsWanted}
-use Rattle.hw_flat_laws.specs.Laws.{GoesOn, IsRefused, WantedRefuses}
+use Rattle.hw_flat_laws.specs.Laws.{TextGoesOn, IsRefused, WantedRefuses}
 use Rattle.hw_flat_laws.proofs.Same.{Parts, Same, same_from, same_takes, has}
 use Rattle.hw_flat_laws.proofs.ShipLines.{not_both}
 use Rattle.hw_flat_laws.proofs.Texts.{first_bad_line_law}
@@ -36,7 +36,7 @@ line_same i (suc count) (x ∷ p ∷ xs) (y ∷ []) lt s = absurd s.1
 line_same zero (suc count) (x ∷ p ∷ xs) (y ∷ q ∷ ys) lt s = ap (λ l. Some l) s.0
 line_same (suc i) (suc count) (x ∷ p ∷ xs) (y ∷ q ∷ ys) lt s = line_same i count (p ∷ xs) (q ∷ ys) (omega (arith, lt)) s.1
 
-line_of_same : (i number : ℕ) (xs ys : Parts) → 1 ≤ number → i ≤ number → Same number xs ys → line_of ys i ≡ line_of xs i
+line_of_same : (i number : ℕ) (xs ys : Parts) → 1 ≤ number → i ≤ number → Same number xs ys → numbered_line ys i ≡ numbered_line xs i
 line_of_same i number xs ys some le s = line_same (i - 1) number xs ys (omega (arith, some, le)) s
 
 begins_same : (number : ℕ) (xs ys : Parts) (stay : Bool) (ships slots : ℕ) → 2 ≤ number → Same number xs ys → SaysSize xs stay ships slots → SaysSize ys stay ships slots
@@ -99,18 +99,18 @@ wanted_same number xs ys words.Tail s w =
     }
 
 pub wanted_refuses_law : WantedRefuses
-wanted_refuses_law bytes number word g w = by_reading (text_of parts) refl
+wanted_refuses_law bytes number word g w = by_reading (problem_of_lines parts) refl
   where
     parts : Parts
     parts = parts_of 10 bytes
 
-    back : (count : ℕ) (k : GoesOn count bytes) → text_of (parts_of 10 (problem_text k.problem)) ≡ Ok k.problem
+    back : (count : ℕ) (k : TextGoesOn count bytes) → problem_of_lines (parts_of 10 (problem_text k.problem)) ≡ Ok k.problem
     back count k = text_reads_back k.problem k.limits k.writable
 
-    alike : (count i : ℕ) (k : GoesOn count bytes) → i ≤ count → Same i (parts_of 10 bytes) (parts_of 10 (problem_text k.problem))
+    alike : (count i : ℕ) (k : TextGoesOn count bytes) → i ≤ count → Same i (parts_of 10 bytes) (parts_of 10 (problem_text k.problem))
     alike count i k le = same_less i count (parts_of 10 bytes) (parts_of 10 (problem_text k.problem)) le (same_from count (parts_of 10 bytes) (parts_of 10 (problem_text k.problem)) k.begins.ended k.begins.others_ended k.begins.same)
 
-    by_reading : (r : Result Problem Fault) → text_of (parts_of 10 bytes) ≡ r → IsRefused bytes number word
+    by_reading : (r : Result Problem Fault) → problem_of_lines (parts_of 10 bytes) ≡ r → IsRefused bytes number word
     by_reading (Ok f) h = absurd (reads_wants_nothing (parts_of 10 bytes) f number word h (omega (arith, g.begins.ended)) w)
     by_reading (Err e) h =
         let bad = first_bad_line_law bytes e.number e.word h in
@@ -120,7 +120,7 @@ wanted_refuses_law bytes number word g w = by_reading (text_of parts) refl
               h ∙ ap (λ n. fault {A = Problem} n e.word) same ∙ ap (λ v. fault {A = Problem} number v) one
           | inr (inl below) ↦
               let s = same_takes e.number (parts_of 10 bytes) (parts_of 10 (problem_text g.problem)) (alike (number - 1) e.number g (omega (arith, below))) in
-              absurd (not_both (text_of (parts_of 10 (problem_text g.problem))) g.problem e (back (number - 1) g) (bad.dead_end (problem_text g.problem) (record { ended = s.0; others_ended = s.1; same = s.2 })))
+              absurd (not_both (problem_of_lines (parts_of 10 (problem_text g.problem))) g.problem e (back (number - 1) g) (bad.dead_end (problem_text g.problem) (record { ended = s.0; others_ended = s.1; same = s.2 })))
           | inr (inr above) ↦
               let s : Same number (parts_of 10 bytes) (parts_of 10 (problem_text bad.begins.problem)) = alike (e.number - 1) number bad.begins (omega (arith, above)) in
               let within = (same_takes number (parts_of 10 bytes) (parts_of 10 (problem_text bad.begins.problem)) s).1 in

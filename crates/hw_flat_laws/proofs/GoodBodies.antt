@@ -1,24 +1,20 @@
 -- A text that reads wants nothing at any of its lines.
-use Rattle.std.proofs.Common.{◌≡◌, ◌≢◌, ℕ, suc, ◌+◌, ◌-◌, ◌<◌, ◌≤◌, Bool, List, [], ◌∷◌, ◌++◌, length, drop, Some, None, Result, Ok, Err, refl, sym, ap, ◌∙◌, subst, arith, codes, append_assoc, inl, inr}
+use Rattle.std.proofs.Common.{◌≡◌, ◌≢◌, ℕ, suc, ◌+◌, ◌-◌, ◌<◌, ◌≤◌, Bool, List, [], ◌∷◌, ◌++◌, length, drop, Some, None, Ok, Err, refl, sym, ap, ◌∙◌, subst, arith, codes, append_assoc, inl, inr}
 use Rattle.std.proofs.lemmas.Bool.{cases_order}
 use Rattle.std.proofs.lemmas.List.{length-append}
 use Rattle.hw_model.specs.declared.rule.Rule.{Rule}
 use Rattle.hw_model.specs.Problem.{Problem}
 use Rattle.hw_flat.specs.declared.fault.FlatWord.{FlatWord}
 use Rattle.hw_flat.specs.declared.fault.FlatWord.TheVariants as words
-use Rattle.hw_flat.specs.Text.{Fault, ◌>>=◌, rows_at, rules_at, text_of}
+use Rattle.hw_flat.specs.Text.{rows_at, rules_at, problem_of_lines}
 use Rattle.hw_flat.specs.TextForms.{header_form, size_form, row_form, rule_form}
-use Rattle.hw_flat.proofs.TextRows.{text_read}
-use Rattle.hw_flat_laws.specs.FirstLines.{line_behind, line_of}
+use Rattle.hw_flat.proofs.TextRows.{text_read, step}
+use Rattle.hw_flat_laws.specs.FirstLines.{line_behind, numbered_line}
 use Rattle.hw_flat_laws.specs.Wanted.{SaysSize, IsWanted}
 use Rattle.hw_flat_laws.proofs.Same.{Parts, Full, full_after, has, behind_front, drop_front}
 use Rattle.hw_flat_laws.proofs.ShipLines.{Row, not_both, ships_read, ships_leave, each_ship}
 use Rattle.hw_flat_laws.proofs.RuleLines.{rules_were_read, rules_leave, each_rule}
 use Rattle.hw_flat_laws.proofs.Bodies.{tail_at, closing, body_at, text_body, limits_of, numbered}
-
-did : {A B : Type 0} (r : Result A Fault) (f : A → Result B Fault) (y : B) → (r >>= f) ≡ Ok y → (x : A) × (r ≡ Ok x) × (f x ≡ Ok y)
-did (Err e) f y h = absurd cc
-did (Ok x) f y h = (x, refl, h)
 
 nothing_more : (stay : Bool) (size : ℕ × ℕ) (values : Row) (rules : List Rule) (parts : Parts) (f : Problem) → tail_at stay size values rules parts ≡ Ok f → parts ≡ [] ∷ []
 nothing_more stay size values rules [] f h = absurd cc
@@ -40,8 +36,8 @@ record BodyReads (ships slots : ℕ) (stay : Bool) (body : Parts) : Type 0 where
 
 body_reads : (stay : Bool) (size : ℕ × ℕ) (body : Parts) (f : Problem) → size.0 ≤ 40 → Full body → body_at stay size body ≡ Ok f → BodyReads size.0 size.1 stay body
 body_reads stay size body f small full h =
-    let s = did (rows_at stay size.1 3 size.0 body) (λ rows. closing stay size rows.0 rows.1) f h in
-    let t = did (rules_at size.0 (3 + size.0) 4_000 s.0.1) (λ rules. tail_at stay size s.0.0 rules.0 rules.1) f s.2 in
+    let s = step (rows_at stay size.1 3 size.0 body) (λ rows. closing stay size rows.0 rows.1) f h in
+    let t = step (rules_at size.0 (3 + size.0) 4_000 s.0.1) (λ rules. tail_at stay size s.0.0 rules.0 rules.1) f s.2 in
     let rest : Parts = s.0.1 in
     let rules : List Rule = t.0.0 in
     let a = ships_read stay size.1 3 size.0 body s.0 s.1 in
@@ -81,34 +77,34 @@ record TextReads (parts : Parts) : Type 0 where
 of_lines : (parts : Parts) (header size_line : List ℕ) (front : Parts) → parts ≡ header ∷ size_line ∷ (front ++ [] ∷ []) → TextReads parts
 of_lines parts header size_line front h = record { header = header; size_line = size_line; body = front ++ [] ∷ []; lines = h; full = full_after front ([] ∷ []) ([], [], refl) }
 
-text_lines : (parts : Parts) (f : Problem) → text_of parts ≡ Ok f → TextReads parts
+text_lines : (parts : Parts) (f : Problem) → problem_of_lines parts ≡ Ok f → TextReads parts
 text_lines parts f h = of_lines parts _ _ _ (text_read parts f h).lines
 
-header_reads : (header next : List ℕ) (parts : Parts) (f : Problem) → text_of (header ∷ next ∷ parts) ≡ Ok f → header_form header ≢ None
-unfolding text_of
-header_reads header next parts f h none = let bad : text_of (header ∷ next ∷ parts) ≡ Err (record { number = 1; word = words.Header }) = rw none refl in not_both (text_of (header ∷ next ∷ parts)) f _ h bad
+header_reads : (header next : List ℕ) (parts : Parts) (f : Problem) → problem_of_lines (header ∷ next ∷ parts) ≡ Ok f → header_form header ≢ None
+unfolding problem_of_lines
+header_reads header next parts f h none = let bad : problem_of_lines (header ∷ next ∷ parts) ≡ Err (record { number = 1; word = words.Header }) = rw none refl in not_both (problem_of_lines (header ∷ next ∷ parts)) f _ h bad
 
-size_reads : (header size_line : List ℕ) (body : Parts) (f : Problem) → Full body → text_of (header ∷ size_line ∷ body) ≡ Ok f → size_form size_line ≢ None
-unfolding text_of
+size_reads : (header size_line : List ℕ) (body : Parts) (f : Problem) → Full body → problem_of_lines (header ∷ size_line ∷ body) ≡ Ok f → size_form size_line ≢ None
+unfolding problem_of_lines
 size_reads header size_line body f full h none =
     elim (header_form header) as (λ o. header_form header ≡ o → ⊥) [
       | None ↦ λ form. header_reads header size_line body f h form
-      | Some stay ↦ λ form. let bad : text_of (header ∷ size_line ∷ body) ≡ Err (record { number = 2; word = words.Size }) = rw (full.2, form, none) refl in not_both (text_of (header ∷ size_line ∷ body)) f _ h bad
+      | Some stay ↦ λ form. let bad : problem_of_lines (header ∷ size_line ∷ body) ≡ Err (record { number = 2; word = words.Size }) = rw (full.2, form, none) refl in not_both (problem_of_lines (header ∷ size_line ∷ body)) f _ h bad
     ] refl
 
-second_line : (header size_line : List ℕ) (body : Parts) → Full body → line_of (header ∷ size_line ∷ body) 2 ≡ Some size_line
+second_line : (header size_line : List ℕ) (body : Parts) → Full body → numbered_line (header ∷ size_line ∷ body) 2 ≡ Some size_line
 second_line header size_line body full = rw full.2 refl
 
-reads_begun : (header size_line : List ℕ) (body : Parts) (stay : Bool) (ships slots : ℕ) (f : Problem) → Full body → text_of (header ∷ size_line ∷ body) ≡ Ok f → SaysSize (header ∷ size_line ∷ body) stay ships slots → BodyReads ships slots stay body
+reads_begun : (header size_line : List ℕ) (body : Parts) (stay : Bool) (ships slots : ℕ) (f : Problem) → Full body → problem_of_lines (header ∷ size_line ∷ body) ≡ Ok f → SaysSize (header ∷ size_line ∷ body) stay ships slots → BodyReads ships slots stay body
 reads_begun header size_line body stay ships slots f full h b =
     let size : size_form size_line ≡ Some (ships, slots) = sym (ap (has size_form) (second_line header size_line body full)) ∙ b.size in
     let limits = limits_of header size_line stay (ships, slots) b.header size in
     body_reads stay (ships, slots) body f limits.few_ships full (sym (text_body header size_line body stay (ships, slots) b.header size full) ∙ h)
 
-wants_nothing : (header size_line : List ℕ) (body : Parts) (f : Problem) (number : ℕ) (word : FlatWord) → Full body → text_of (header ∷ size_line ∷ body) ≡ Ok f → number ≤ 2 + length body → IsWanted (header ∷ size_line ∷ body) number word → ⊥
-wants_nothing header size_line body f number words.Header full h within w = header_reads header size_line body f h (ap (λ n. has header_form (line_of (header ∷ size_line ∷ body) n)) (sym w.place) ∙ w.wrong)
+wants_nothing : (header size_line : List ℕ) (body : Parts) (f : Problem) (number : ℕ) (word : FlatWord) → Full body → problem_of_lines (header ∷ size_line ∷ body) ≡ Ok f → number ≤ 2 + length body → IsWanted (header ∷ size_line ∷ body) number word → ⊥
+wants_nothing header size_line body f number words.Header full h within w = header_reads header size_line body f h (ap (λ n. has header_form (numbered_line (header ∷ size_line ∷ body) n)) (sym w.place) ∙ w.wrong)
 wants_nothing header size_line body f number words.Size full h within w =
-    size_reads header size_line body f full h (sym (ap (has size_form) (second_line header size_line body full)) ∙ ap (λ n. has size_form (line_of (header ∷ size_line ∷ body) n)) (sym w.place) ∙ w.wrong)
+    size_reads header size_line body f full h (sym (ap (has size_form) (second_line header size_line body full)) ∙ ap (λ n. has size_form (numbered_line (header ∷ size_line ∷ body) n)) (sym w.place) ∙ w.wrong)
 wants_nothing header size_line body f number words.Values full h within w =
     let r = reads_begun header size_line body w.stay w.ships w.slots f full h w.said in
     let line = numbered header size_line body number (number - 3) (omega (arith, w.behind_size)) full in
@@ -117,7 +113,7 @@ wants_nothing header size_line body f number words.Rule full h within w =
     let r = reads_begun header size_line body w.stay w.ships w.slots f full h w.said in
     let i : ℕ = number - (3 + w.ships) in
     let place : number ≡ 3 + (w.ships + i) = omega (arith, w.behind_ships) in
-    let line : line_of (header ∷ size_line ∷ body) number ≡ line_behind i r.rest = numbered header size_line body number (w.ships + i) place full ∙ r.behind_ships i in
+    let line : numbered_line (header ∷ size_line ∷ body) number ≡ line_behind i r.rest = numbered header size_line body number (w.ships + i) place full ∙ r.behind_ships i in
     elim (cases_order i (length r.rules)) [
       | inl same ↦ w.no_end (line ∙ ap (λ n. line_behind n r.rest) same ∙ r.end)
       | inr (inl below) ↦ r.rule_lines i below (sym (ap (has (rule_form w.ships)) line) ∙ w.wrong)
@@ -128,11 +124,11 @@ wants_nothing header size_line body f number words.Rule full h within w =
 wants_nothing header size_line body f number words.Many full h within w =
     let r = reads_begun header size_line body w.stay w.ships w.slots f full h w.said in
     let place : number ≡ 3 + (w.ships + 4_000) = omega (arith, w.behind_rules) in
-    let line : line_of (header ∷ size_line ∷ body) number ≡ line_behind 4_000 r.rest = numbered header size_line body number (w.ships + 4_000) place full ∙ r.behind_ships 4_000 in
+    let line : numbered_line (header ∷ size_line ∷ body) number ≡ line_behind 4_000 r.rest = numbered header size_line body number (w.ships + 4_000) place full ∙ r.behind_ships 4_000 in
     elim (cases_order 4_000 (length r.rules)) [
       | inl same ↦
-          let ends : line_of (header ∷ size_line ∷ body) number ≡ Some (codes "end") = line ∙ ap (λ n. line_behind n r.rest) same ∙ r.end in
-          let none : has (rule_form w.ships) (line_of (header ∷ size_line ∷ body) number) ≡ None = ap (has (rule_form w.ships)) ends in
+          let ends : numbered_line (header ∷ size_line ∷ body) number ≡ Some (codes "end") = line ∙ ap (λ n. line_behind n r.rest) same ∙ r.end in
+          let none : has (rule_form w.ships) (numbered_line (header ∷ size_line ∷ body) number) ≡ None = ap (has (rule_form w.ships)) ends in
           apart w.rule (sym none ∙ w.one_more)
       | inr (inl below) ↦ absurd (omega (arith, below, r.few))
       | inr (inr above) ↦
@@ -146,7 +142,7 @@ wants_nothing header size_line body f number words.Tail full h within w =
     let r = reads_begun header size_line body w.stay w.ships w.slots f full h w.said in
     let i : ℕ = number - 1 - (3 + w.ships) in
     let place : number - 1 ≡ 3 + (w.ships + i) = omega (arith, w.behind_ships) in
-    let line : line_of (header ∷ size_line ∷ body) (number - 1) ≡ line_behind i r.rest = numbered header size_line body (number - 1) (w.ships + i) place full ∙ r.behind_ships i in
+    let line : numbered_line (header ∷ size_line ∷ body) (number - 1) ≡ line_behind i r.rest = numbered header size_line body (number - 1) (w.ships + i) place full ∙ r.behind_ships i in
     elim (cases_order i (length r.rules)) [
       | inl same ↦
           let n : number - 1 ≡ suc (suc (w.ships + length r.rules + 1)) = omega (arith, same, place) in
@@ -157,11 +153,11 @@ wants_nothing header size_line body f number words.Tail full h within w =
       | inr (inr above) ↦ absurd (omega (arith, above, place, within, r.total))
     ]
 
-pub reads_wants_nothing : (parts : Parts) (f : Problem) (number : ℕ) (word : FlatWord) → text_of parts ≡ Ok f → number ≤ length parts → IsWanted parts number word → ⊥
+pub reads_wants_nothing : (parts : Parts) (f : Problem) (number : ℕ) (word : FlatWord) → problem_of_lines parts ≡ Ok f → number ≤ length parts → IsWanted parts number word → ⊥
 reads_wants_nothing parts f number word h within w =
     let t = text_lines parts f h in
     let body_count : length parts ≡ 2 + length t.body = ap length t.lines ∙ two t.header t.size_line t.body in
-    wants_nothing t.header t.size_line t.body f number word t.full (ap text_of (sym t.lines) ∙ h) (omega (arith, body_count, within)) (subst (λ (ps : Parts). IsWanted ps number word) t.lines w)
+    wants_nothing t.header t.size_line t.body f number word t.full (ap problem_of_lines (sym t.lines) ∙ h) (omega (arith, body_count, within)) (subst (λ (ps : Parts). IsWanted ps number word) t.lines w)
   where
     two : (x y : List ℕ) (ps : Parts) → length (x ∷ y ∷ ps) ≡ 2 + length ps
     two x y ps = omega arith

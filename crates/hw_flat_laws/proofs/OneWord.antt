@@ -3,7 +3,7 @@ use Rattle.std.proofs.Common.{◌≡◌, ℕ, Bool, Some, None, refl, sym, ap, �
 use Rattle.hw_flat.specs.declared.fault.FlatWord.{FlatWord}
 use Rattle.hw_flat.specs.declared.fault.FlatWord.TheVariants as words
 use Rattle.hw_flat.specs.TextForms.{rule_form}
-use Rattle.hw_flat_laws.specs.FirstLines.{line_of}
+use Rattle.hw_flat_laws.specs.FirstLines.{numbered_line}
 use Rattle.hw_flat_laws.specs.Wanted.{SaysSize, WantsValues, WantsRule, WantsEnd, WantsNoMore, IsWanted}
 use Rattle.hw_flat_laws.proofs.Same.{Parts, has}
 
@@ -22,7 +22,7 @@ values_more parts number a b = let same = same_ships parts a.stay b.stay a.ships
 rule_end : (parts : Parts) (number : ℕ) → WantsRule parts number → WantsEnd parts number → ⊥
 rule_end parts number a b =
     let same = same_ships parts a.stay b.stay a.ships b.ships a.slots b.slots a.said b.said in
-    let both : None ≡ Some b.rule = sym a.wrong ∙ ap (λ n. has (rule_form n) (line_of parts number)) same ∙ b.one_more in
+    let both : None ≡ Some b.rule = sym a.wrong ∙ ap (λ n. has (rule_form n) (numbered_line parts number)) same ∙ b.one_more in
     cc
 
 pub one_word : (parts : Parts) (number : ℕ) (word other : FlatWord) → IsWanted parts number word → IsWanted parts number other → word ≡ other

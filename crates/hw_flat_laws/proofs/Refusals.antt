@@ -1,7 +1,8 @@
 -- A reading of parts that is refused after some number of them, and how that depends on the parts.
 use Rattle.std.proofs.Common.{◌≡◌, ◌≢◌, ℕ, suc, ◌+◌, List, [], ◌∷◌, ◌++◌, length, Result, Ok, Err, refl, ap, ◌∙◌, subst, arith}
+use Rattle.hw_lemmas.specs.Operators.{◌>>=◌}
 use Rattle.hw_flat.specs.declared.fault.FlatWord.TheVariants as words
-use Rattle.hw_flat.specs.Text.{Fault, ◌>>=◌}
+use Rattle.hw_flat.specs.Text.{Fault}
 use Rattle.hw_flat_laws.proofs.Same.{Parts, Full, Same, full_same}
 
 -- the reading ends well where it goes on as it should, and never where it goes on as it did

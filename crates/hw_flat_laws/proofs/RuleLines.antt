@@ -1,10 +1,11 @@
 -- The lines of the rules, where one is bad and where none is.
 use Rattle.std.proofs.Common.{◌≡◌, ◌≢◌, ℕ, zero, suc, ◌+◌, ◌-◌, ◌<◌, ◌≤◌, true, false, List, [], ◌∷◌, ◌++◌, map, length, Some, None, Result, Ok, Err, refl, sym, ap, ◌∙◌, subst, arith, codes, bytes_eq, append_assoc}
 use Rattle.std.proofs.lemmas.List.{length-map}
+use Rattle.hw_lemmas.specs.Operators.{◌>>=◌}
 use Rattle.hw_model.specs.declared.rule.Rule.{Rule}
 use Rattle.hw_flat.specs.declared.fault.FlatWord.{FlatWord}
 use Rattle.hw_flat.specs.declared.fault.FlatWord.TheVariants as words
-use Rattle.hw_flat.specs.Text.{Fault, ◌>>=◌, rules_at}
+use Rattle.hw_flat.specs.Text.{Fault, rules_at}
 use Rattle.hw_flat.specs.TextForms.{rule_form}
 use Rattle.hw_flat.specs.TextWritten.{rule_text}
 use Rattle.hw_flat.proofs.TextRows.{rules_read}

@@ -1,7 +1,7 @@
 -- Lists of parts that begin with the same lines.
 use Rattle.std.proofs.Common.{◌≡◌, ℕ, zero, suc, ◌+◌, ◌<◌, ◌≤◌, List, [], ◌∷◌, ◌++◌, Option, length, take, drop, refl, sym, ap, ◌∙◌, arith}
 use Rattle.std.proofs.Math.Path.{ap₂}
-use Rattle.hw_flat.specs.TextForms.{◌>>=◌}
+use Rattle.hw_flat.specs.TextForms.{◌and_then◌}
 use Rattle.hw_flat_laws.specs.FirstLines.{line_behind}
 
 abbrev pub Parts : Type 0
@@ -9,7 +9,7 @@ Parts = List (List ℕ)
 
 -- what a line that may not be there has by a form
 abbrev pub has : {A : Type 0} → (List ℕ → Option A) → Option (List ℕ) → Option A
-has form line = line >>= form
+has form line = line and_then form
 
 -- a list of parts that is not empty
 abbrev pub Full : Parts → Type 0

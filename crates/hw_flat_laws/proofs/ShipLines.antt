@@ -1,8 +1,9 @@
 -- The lines of the ships' values, where one is bad and where none is.
 use Rattle.std.proofs.Common.{◌≡◌, ◌≢◌, ℕ, zero, suc, ◌+◌, ◌*◌, ◌<◌, ◌≤◌, Bool, List, [], ◌∷◌, ◌++◌, map, length, Option, Some, None, Result, Ok, Err, All, refl, sym, ap, ◌∙◌, subst, arith, codes, unwrap_or}
 use Rattle.std.proofs.lemmas.List.Elements.{All-nil, All-cons}
+use Rattle.hw_lemmas.specs.Operators.{◌>>=◌}
 use Rattle.hw_flat.specs.declared.fault.FlatWord.TheVariants as words
-use Rattle.hw_flat.specs.Text.{Fault, ◌>>=◌, row_at, rows_at}
+use Rattle.hw_flat.specs.Text.{Fault, row_at, rows_at}
 use Rattle.hw_flat.specs.TextForms.{row_form}
 use Rattle.hw_flat.specs.TextWritten.{row_text, rows_in}
 use Rattle.hw_flat.proofs.TextRows.{width, last_in, RowsFit, rows_read}

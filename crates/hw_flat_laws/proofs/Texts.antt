@@ -1,17 +1,18 @@
 -- A text that is refused.
 use Rattle.std.proofs.Common.{◌≡◌, ℕ, suc, ◌+◌, ◌-◌, ◌≤◌, Bool, List, [], ◌∷◌, length, Result, false, ◌==◌, Some, None, Ok, Err, refl, sym, ◌∙◌, subst, arith, codes}
+use Rattle.hw_lemmas.specs.Operators.{◌>>=◌}
 use Rattle.hw_model.specs.Problem.{Problem}
 use Rattle.hw_text.specs.Parts.{parts_of}
 use Rattle.hw_text.proofs.Splits.{has_part}
 use Rattle.hw_flat.specs.declared.fault.FlatWord.TheVariants as words
-use Rattle.hw_flat.specs.Text.{Fault, ◌>>=◌, formed, line_at, problem_of, text_of}
+use Rattle.hw_flat.specs.Text.{Fault, formed, line_at, problem_of, problem_of_lines}
 use Rattle.hw_flat.specs.TextForms.{header_form, size_form}
 use Rattle.hw_flat.specs.TextWritten.{problem_text}
 use Rattle.hw_flat.proofs.TextRows.{text_read}
 use Rattle.hw_flat.proofs.TextBack.{text_reads_back}
 use Rattle.hw_flat_laws.specs.FirstLines.{SameLines}
 use Rattle.hw_flat_laws.specs.Wanted.{IsWanted}
-use Rattle.hw_flat_laws.specs.Laws.{GoesOn, FirstBadLine}
+use Rattle.hw_flat_laws.specs.Laws.{TextGoesOn, FirstBadLine}
 use Rattle.hw_flat_laws.proofs.Same.{Parts, Full, Same, same_from, same_takes, full_some}
 use Rattle.hw_flat_laws.proofs.Refusals.{Refused, behind_line, refused_line, refused_short}
 use Rattle.hw_flat_laws.proofs.ShipLines.{is_err}
@@ -69,58 +70,58 @@ record TextRefused (parts : Parts) (e : Fault) : Type 0 where
   count : ℕ
   place : e.number ≡ suc count
   wanted : IsWanted parts e.number e.word
-  refused : Refused AnyProblem text_of parts e count
+  refused : Refused AnyProblem problem_of_lines parts e count
 
 -- the first line of a text and a problem of it
-flat_reads : text_of (codes "flat 1" ∷ codes "size 1 1" ∷ (body_mended false (1, 1)).first ∷ (body_mended false (1, 1)).more) ≡ Ok (problem_of false (1, 1) (body_mended false (1, 1)).values [])
+flat_reads : problem_of_lines (codes "flat 1" ∷ codes "size 1 1" ∷ (body_mended false (1, 1)).first ∷ (body_mended false (1, 1)).more) ≡ Ok (problem_of false (1, 1) (body_mended false (1, 1)).values [])
 flat_reads =
     let m = body_mended false (1, 1) in
     text_body (codes "flat 1") (codes "size 1 1") (m.first ∷ m.more) false (1, 1) refl refl (m.first, m.more, refl) ∙ m.reads
 
-text_refused : (parts : Parts) (e : Fault) → 1 ≤ length parts → text_of parts ≡ Err e → TextRefused parts e
-unfolding text_of
+text_refused : (parts : Parts) (e : Fault) → 1 ≤ length parts → problem_of_lines parts ≡ Err e → TextRefused parts e
+unfolding problem_of_lines
 text_refused [] e some h = absurd (omega (arith, some))
 text_refused (line ∷ []) e some h =
     let m = body_mended false (1, 1) in
     let d : Fault = record { number = 1; word = words.Header } in
-    subst (TextRefused (line ∷ [])) (is_err (text_of (line ∷ [])) d e refl h) (record {
+    subst (TextRefused (line ∷ [])) (is_err (problem_of_lines (line ∷ [])) d e refl h) (record {
       count = 0;
       place = omega arith;
       wanted = record { place = refl; wrong = refl };
-      refused = refused_short AnyProblem text_of line d (codes "flat 1") (codes "size 1 1" ∷ m.first ∷ m.more) (problem_of false (1, 1) m.values []) tt flat_reads (λ y. refl);
+      refused = refused_short AnyProblem problem_of_lines line d (codes "flat 1") (codes "size 1 1" ∷ m.first ∷ m.more) (problem_of false (1, 1) m.values []) tt flat_reads (λ y. refl);
     })
 text_refused (line ∷ next ∷ parts) e some h =
     elim (header_form line) as (λ o. header_form line ≡ o → TextRefused (line ∷ next ∷ parts) e) [
       | None ↦ λ form.
           let m = body_mended false (1, 1) in
           let d : Fault = record { number = 1; word = words.Header } in
-          let bad : (y : List ℕ) (ys : Parts) → text_of (line ∷ y ∷ ys) ≡ Err d = λ y ys. rw form refl in
-          subst (TextRefused (line ∷ next ∷ parts)) (is_err (text_of (line ∷ next ∷ parts)) d e (bad next parts) h) (record {
+          let bad : (y : List ℕ) (ys : Parts) → problem_of_lines (line ∷ y ∷ ys) ≡ Err d = λ y ys. rw form refl in
+          subst (TextRefused (line ∷ next ∷ parts)) (is_err (problem_of_lines (line ∷ next ∷ parts)) d e (bad next parts) h) (record {
             count = 0;
             place = omega arith;
             wanted = record { place = refl; wrong = form };
-            refused = refused_line AnyProblem text_of line next parts d (codes "flat 1") (codes "size 1 1" ∷ m.first ∷ m.more) (problem_of false (1, 1) m.values []) tt flat_reads bad;
+            refused = refused_line AnyProblem problem_of_lines line next parts d (codes "flat 1") (codes "size 1 1" ∷ m.first ∷ m.more) (problem_of false (1, 1) m.values []) tt flat_reads bad;
           })
       | Some stay ↦ λ form.
-          let step : (others : Parts) → Full others → text_of (line ∷ others) ≡ second_at stay others = λ others full. rw (full.2, form) refl in
+          let step : (others : Parts) → Full others → problem_of_lines (line ∷ others) ≡ second_at stay others = λ others full. rw (full.2, form) refl in
           let r = second_refused line stay (next ∷ parts) e form (omega arith) (sym (step (next ∷ parts) (next, parts, refl)) ∙ h) in
           record {
             count = suc r.count;
             place = omega (arith, r.place);
             wanted = r.wanted;
-            refused = behind_line AnyProblem (second_at stay) text_of line (next ∷ parts) e r.count step r.refused;
+            refused = behind_line AnyProblem (second_at stay) problem_of_lines line (next ∷ parts) e r.count step r.refused;
           }
     ] refl
 
 -- ---- the law
 
 -- the parts of a text that reads are those of its problem's text
-parts_written : (parts : Parts) (f : Problem) → text_of parts ≡ Ok f → parts ≡ parts_of 10 (problem_text f)
+parts_written : (parts : Parts) (f : Problem) → problem_of_lines parts ≡ Ok f → parts ≡ parts_of 10 (problem_text f)
 parts_written parts f h =
     let r = text_read parts f h in
     r.lines ∙ sym (text_read (parts_of 10 (problem_text f)) f (text_reads_back f r.limits r.writable)).lines
 
-goes_on : (bytes : List ℕ) (count : ℕ) (mended : Parts) (f : Problem) → text_of mended ≡ Ok f → Same count (parts_of 10 bytes) mended → GoesOn count bytes
+goes_on : (bytes : List ℕ) (count : ℕ) (mended : Parts) (f : Problem) → problem_of_lines mended ≡ Ok f → Same count (parts_of 10 bytes) mended → TextGoesOn count bytes
 goes_on bytes count mended f h same =
     let r = text_read mended f h in
     let s = same_takes count (parts_of 10 bytes) (parts_of 10 (problem_text f)) (subst (Same count (parts_of 10 bytes)) (parts_written mended f h) same) in

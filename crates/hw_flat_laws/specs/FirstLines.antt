@@ -14,8 +14,8 @@ line_behind zero (line ∷ next ∷ parts) = Some line
 line_behind (suc count) (line ∷ next ∷ parts) = line_behind count (next ∷ parts)
 
 -- the line of this number
-abbrev pub line_of : List (List ℕ) → ℕ → Option (List ℕ)
-line_of parts number = line_behind (number - 1) parts
+abbrev pub numbered_line : List (List ℕ) → ℕ → Option (List ℕ)
+numbered_line parts number = line_behind (number - 1) parts
 
 -- both texts have at least `count` lines and more after them, and these lines are the same
 pub record SameLines (count : ℕ) (bytes others : List ℕ) : Type 0 where

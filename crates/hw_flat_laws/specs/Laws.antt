@@ -11,7 +11,7 @@ use Rattle.hw_flat_laws.specs.FirstLines.{part_count, SameLines}
 use Rattle.hw_flat_laws.specs.Wanted.{IsWanted}
 
 -- a problem whose text has these first lines
-pub record GoesOn (count : ℕ) (bytes : List ℕ) : Type 0 where
+pub record TextGoesOn (count : ℕ) (bytes : List ℕ) : Type 0 where
   pub problem : Problem
   pub limits : IsFlat problem
   pub writable : IsWritable problem
@@ -25,7 +25,7 @@ IsRefused bytes number word = flat_text bytes ≡ fault number word
 -- tells the word
 pub record BadFlatLine (bytes : List ℕ) (number : ℕ) (word : FlatWord) : Type 0 where
   pub counted : 1 ≤ number
-  pub begins : GoesOn (number - 1) bytes
+  pub begins : TextGoesOn (number - 1) bytes
   pub dead_end : (others : List ℕ) → SameLines number bytes others → IsRefused others number word
   pub cut_off : word ≢ words.Tail → part_count bytes ≡ number → (others : List ℕ) → SameLines (number - 1) bytes others → part_count others ≡ number → IsRefused others number word
   pub told : IsWanted (parts_of 10 bytes) number word
@@ -37,4 +37,4 @@ FirstBadLine = (bytes : List ℕ) (number : ℕ) (word : FlatWord) → IsRefused
 -- where the lines before begin a text that reads and the line isn't what is wanted, the text is refused there, since that is
 -- missing
 abbrev pub WantedRefuses : Type 0
-WantedRefuses = (bytes : List ℕ) (number : ℕ) (word : FlatWord) → GoesOn (number - 1) bytes → IsWanted (parts_of 10 bytes) number word → IsRefused bytes number word
+WantedRefuses = (bytes : List ℕ) (number : ℕ) (word : FlatWord) → TextGoesOn (number - 1) bytes → IsWanted (parts_of 10 bytes) number word → IsRefused bytes number word

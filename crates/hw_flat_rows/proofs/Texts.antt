@@ -2,11 +2,11 @@
 use Rattle.std.proofs.Common.{refl}
 use Rattle.std.specs.Fmt.{digits}
 use Rattle.hw_flat.specs.Demonstration.{generator, draw}
-use Rattle.hw_flat.specs.Text.{row_at, rows_at, rules_at, text_of}
+use Rattle.hw_flat.specs.Text.{row_at, rows_at, rules_at, problem_of_lines}
 use Rattle.hw_flat_rows.specs.Texts.{ProblemRows}
 
 pub rows : ProblemRows
-unfolding digits generator draw row_at rows_at rules_at text_of
+unfolding digits generator draw row_at rows_at rules_at problem_of_lines
 rows = record {
   one_ship_read = refl;
   one_ship_written = refl;

@@ -7,16 +7,16 @@ use Rattle.hw_model.specs.Rooms.{RoomModel, whole_room, low_of, high_of, order_o
 use Rattle.hw_flat.specs.Opened.{opened}
 
 -- two ships and three slots
-abbrev pub shape : Shape
-shape = record { ships = 2; slots = 3; rules = 0 }
+abbrev pub shape_of_two_ships : Shape
+shape_of_two_ships = record { ships = 2; slots = 3; rules = 0 }
 
 -- the whole room
-abbrev pub whole : RoomModel
-whole = whole_room shape
+abbrev pub whole_of_two_ships : RoomModel
+whole_of_two_ships = whole_room shape_of_two_ships
 
 -- each ship has another range
 abbrev pub ranged : RoomModel
-ranged = with_range (with_range whole 0 1 2) 1 2 2
+ranged = with_range (with_range whole_of_two_ships 0 1 2) 1 2 2
 
 -- each ship has one slot
 abbrev pub point : RoomModel
@@ -28,15 +28,15 @@ ordered = with_order point 0 1 First
 
 -- ship 0 has slot 1 alone
 abbrev pub at_one : RoomModel
-at_one = with_range whole 0 1 1
+at_one = with_range whole_of_two_ships 0 1 1
 
 -- the range of each ship and their order after each step; ranges and orders that slots agree with
 pub record SettingRows : Type 0 where
-  pub opened_first_low : low_of whole 0 ≡ 0
-  pub opened_first_high : high_of whole 0 ≡ 2
-  pub opened_second_low : low_of whole 1 ≡ 0
-  pub opened_second_high : high_of whole 1 ≡ 2
-  pub opened_order : order_of whole 0 1 ≡ Unset
+  pub opened_first_low : low_of whole_of_two_ships 0 ≡ 0
+  pub opened_first_high : high_of whole_of_two_ships 0 ≡ 2
+  pub opened_second_low : low_of whole_of_two_ships 1 ≡ 0
+  pub opened_second_high : high_of whole_of_two_ships 1 ≡ 2
+  pub opened_order : order_of whole_of_two_ships 0 1 ≡ Unset
   pub ranged_first_low : low_of ranged 0 ≡ 1
   pub ranged_first_high : high_of ranged 0 ≡ 2
   pub ranged_second_low : low_of ranged 1 ≡ 2

@@ -1,20 +1,14 @@
 -- The greatest value of a range: what bounds it, and a slot that has it.
-use Rattle.std.proofs.Common.{◌≡◌, ℕ, zero, suc, ◌+◌, ◌-◌, ◌<◌, ◌≤◌, max, fold, zero-le, sym, ◌∙◌, arith, inl, inr}
+use Rattle.std.proofs.Common.{◌≡◌, ℕ, ◌+◌, ◌-◌, ◌<◌, ◌≤◌, zero-le, sym, ◌∙◌, arith, inl, inr}
 use Rattle.std.proofs.lemmas.Bool.{cases_lt}
-use Rattle.std.specs.List.{range_with_len}
 use Rattle.hw_model.specs.Problem.{Problem}
 use Rattle.hw_model.specs.Refuting.{greatest_value}
 use Rattle.hw_laws.proofs.Alikes.{values_alike}
 use Rattle.hw_laws.proofs.Sound.{value_le}
+use Rattle.hw_laws.proofs.Within.{range_le}
 use Rattle.hw_goal.specs.declared.tops.Peak.{Peak}
 use Rattle.hw_goal.specs.declared.tops.Top.{Top}
 use Rattle.hw_goal.specs.Kept.{worth, IsPeak, IsTop}
-
-range_le : (h : ℕ → ℕ) (a n m most : ℕ) → m ≤ most → ((k : ℕ) → a ≤ k → k < a + n → h k ≤ most) → fold (λ best k. max best (h k)) m (range_with_len a n) ≤ most
-range_le h a zero m most le each = le
-range_le h a (suc n) m most le each =
-    let here : h a ≤ most = each a (omega arith) (omega arith) in
-    range_le h (a + 1) n (max m (h a)) most (omega (arith, le, here)) (λ k from upto. each k (omega (arith, from)) (omega (arith, upto)))
 
 -- what bounds each value of a range bounds the greatest
 pub greatest_le : (f : Problem) (ship low high most : ℕ) → ((slot : ℕ) → low ≤ slot → slot ≤ high → worth f ship slot ≤ most) → greatest_value f ship low high ≤ most

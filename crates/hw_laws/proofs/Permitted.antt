@@ -22,7 +22,7 @@ has_cargo f table permits =
     (subst (λ i. IsSome (value_at f i (get_or table k 0))) same (permits.sails k lt'), omega arith) in
     some_of (cargo f table) (sum_by (λ s. 0) (range_with_len 0 (length table))) (cargo_above f (λ s. 0) table 0 each)
 
-at_most : (best o : Option ℕ) → IsSome o → ((c : ℕ) → o ≡ Some c → IsSomeAnd best (λ b. c ≤ b)) → IsSomeAnd best (λ b. IsSomeAnd o (λ c. c ≤ b))
+pub at_most : (best o : Option ℕ) → IsSome o → ((c : ℕ) → o ≡ Some c → IsSomeAnd best (λ b. c ≤ b)) → IsSomeAnd best (λ b. IsSomeAnd o (λ c. c ≤ b))
 at_most best None some h = absurd cc
 at_most best (Some c) some h = h c refl
 

@@ -1,7 +1,6 @@
 -- Sources are quiet alike in rooms that are alike to them.
 use Rattle.std.proofs.Common.{◌≡◌, ◌↔◌, ℕ, ◌+◌, ◌*◌, ◌<◌, min, max, Bool, true, false, ◌&&◌, nat_eq, List, Option, Some, None, length, get_or, set, slice_get, IfSome, IsTrue, refl, sym, ◌∙◌, ap, subst, arith, inl, inr, get_or-set_same, get_or-set_other}
 use Rattle.std.proofs.lemmas.Bool.{cases_eq, both_ways, and_parts, or_cases, eqb-true}
-use Rattle.std.proofs.lemmas.Nat.{rows}
 use Rattle.hw_model.specs.declared.lit.Lit.{Lit}
 use Rattle.hw_model.specs.declared.lit.Lit.TheVariants as lits
 use Rattle.hw_model.specs.declared.lit.LitTruth.TheVariants.{Free}
@@ -18,6 +17,7 @@ use Rattle.hw_model.specs.Narrowing.{with_range, with_order, cut, truth}
 use Rattle.hw_model.specs.Refuting.{Refutes, IsSourceOf}
 use Rattle.hw_model.specs.Quiet.{QuietSource, names_ship, names_order, names_lit, rule_names_order}
 use Rattle.hw_model.specs.Lits.{IsLitOf}
+use Rattle.hw_model.proofs.Kept.{placed}
 use Rattle.hw_laws.proofs.Bounds.{low_new, high_new, low_other, high_other, cut_room_is}
 use Rattle.hw_laws.proofs.Counting.{at_place}
 use Rattle.hw_laws.proofs.Cuts.{same_ships}
@@ -46,9 +46,6 @@ alike_range f source a b ship low high low' high' la lb p q same = record {
   ];
   orders = same.orders;
 }
-
-placed : (n v w : ℕ) → v < n → w < n → v * n + w < n * n
-placed n v w p q = grind (arith, rows)
 
 set_order : (n : ℕ) (os os' : List Order) (v w x y : ℕ) (o : Order) → length os ≡ n * n → length os' ≡ n * n → v < n → w < n
     → get_or os' (x * n + y) Unset ≡ get_or os (x * n + y) Unset → get_or (set os' (v * n + w) o) (x * n + y) Unset ≡ get_or (set os (v * n + w) o) (x * n + y) Unset
@@ -96,7 +93,7 @@ alike_quiets f source best a b flat fa fb same quiet =
 two_same : (a b v w : ℕ) → (nat_eq a v && nat_eq b w) ≡ true → (a ≡ v) × (b ≡ w)
 two_same a b v w e = let p = and_parts (nat_eq a v) (nat_eq b w) e in (eqb-true a v p.0, eqb-true b w p.1)
 
-least_in : (v w n : ℕ) → v < n → w < n → max v w < n
+pub least_in : (v w n : ℕ) → v < n → w < n → max v w < n
 least_in v w n p q = omega (arith, p, q)
 
 rule_order_in : (ships : ℕ) (o : Option Rule) (x y : ℕ) → IfSome o (RuleFits ships) → IsTrue (rule_names_order o x y) → y < ships
@@ -142,7 +139,7 @@ cut_alike f source room (lits.Before ship slot) flat of fits is none = cut_range
 cut_alike f source room (lits.First v w) flat of fits is none = cut_order f source room v w First flat of fits is.1 none
 cut_alike f source room (lits.NotFirst v w) flat of fits is none = cut_order f source room v w NotFirst flat of fits is.1 none
 
-same_slots : (room : RoomModel) (lit : Lit) → (cut lit room).slots ≡ room.slots
+pub same_slots : (room : RoomModel) (lit : Lit) → (cut lit room).slots ≡ room.slots
 same_slots room (lits.AtOrAfter ship slot) = refl
 same_slots room (lits.Before ship slot) = refl
 same_slots room (lits.First v w) = refl

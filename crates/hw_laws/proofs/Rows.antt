@@ -8,7 +8,7 @@ use Rattle.hw_model.specs.Problem.{Problem}
 use Rattle.hw_model.specs.Rooms.{RoomModel}
 use Rattle.hw_model.specs.Quiet.{QuietSource}
 use Rattle.hw_laws.specs.Computed.{quiet}
-use Rattle.hw_laws.specs.Rows.{QuietRows, RoomCounts, one_ship, two_apart, precedence, tug_pair, one_stays, three_ships, from_to, two_ranges, tug_room, staying_room, three_orders}
+use Rattle.hw_laws.specs.Rows.{QuietRows, RoomCounts, one_ship, two_apart, precedence, tug_pair, one_stays, three_ships, room_from_to, two_ranges, tug_room, staying_room, three_orders}
 use Rattle.hw_laws.proofs.QuietTests.{quiet_from, from_quiet}
 
 is_quiet : (f : Problem) (source : Source) (best : Option ℕ) (room : RoomModel) → quiet f source best room ≡ true → QuietSource f source best room
@@ -19,9 +19,9 @@ not_quiet f source best room e h = both_ways _ e (from_quiet f source best room 
 
 pub quiet_rows : QuietRows
 quiet_rows = record {
-  window_hole_inside = is_quiet one_ship (sources.Window 0) None (from_to 1 3) refl;
-  window_low_without_value = not_quiet one_ship (sources.Window 0) None (from_to 0 3) refl;
-  window_high_without_value = not_quiet one_ship (sources.Window 0) None (from_to 1 2) refl;
+  window_hole_inside = is_quiet one_ship (sources.Window 0) None (room_from_to 1 3) refl;
+  window_low_without_value = not_quiet one_ship (sources.Window 0) None (room_from_to 0 3) refl;
+  window_high_without_value = not_quiet one_ship (sources.Window 0) None (room_from_to 1 2) refl;
   pair_in_the_whole_room = is_quiet two_apart (sources.Rule 0) None (two_ranges (0, 2) (0, 2) Unset) refl;
   pair_low_meets_none = not_quiet two_apart (sources.Rule 0) None (two_ranges (1, 2) (0, 2) Unset) refl;
   pair_high_against_the_order = not_quiet two_apart (sources.Rule 0) None (two_ranges (0, 2) (0, 2) First) refl;

@@ -13,8 +13,8 @@ abbrev pub one_ship : Problem
 one_ship = record { ships = 1; slots = 4; stay = false; values = None ∷ Some 5 ∷ None ∷ Some 9 ∷ []; rules = [] }
 
 -- a room of that ship
-abbrev pub from_to : ℕ → ℕ → RoomModel
-from_to low high = record { ships = 1; slots = 4; ranges = (low, high) ∷ []; orders = Unset ∷ [] }
+abbrev pub room_from_to : ℕ → ℕ → RoomModel
+room_from_to low high = record { ships = 1; slots = 4; ranges = (low, high) ∷ []; orders = Unset ∷ [] }
 
 -- two ships that sail two slots apart: in the first and the last slot
 abbrev pub two_apart : Problem
@@ -54,9 +54,9 @@ three_orders a b c = record { ships = 3; slots = 2; ranges = (0, 1) ∷ (0, 1) �
 
 -- small problems and rooms in which sources are quiet or not
 pub record QuietRows : Type 0 where
-  pub window_hole_inside : QuietSource one_ship (sources.Window 0) None (from_to 1 3)
-  pub window_low_without_value : QuietSource one_ship (sources.Window 0) None (from_to 0 3) → ⊥
-  pub window_high_without_value : QuietSource one_ship (sources.Window 0) None (from_to 1 2) → ⊥
+  pub window_hole_inside : QuietSource one_ship (sources.Window 0) None (room_from_to 1 3)
+  pub window_low_without_value : QuietSource one_ship (sources.Window 0) None (room_from_to 0 3) → ⊥
+  pub window_high_without_value : QuietSource one_ship (sources.Window 0) None (room_from_to 1 2) → ⊥
   pub pair_in_the_whole_room : QuietSource two_apart (sources.Rule 0) None (two_ranges (0, 2) (0, 2) Unset)
   pub pair_low_meets_none : QuietSource two_apart (sources.Rule 0) None (two_ranges (1, 2) (0, 2) Unset) → ⊥
   pub pair_high_against_the_order : QuietSource two_apart (sources.Rule 0) None (two_ranges (0, 2) (0, 2) First) → ⊥

@@ -32,9 +32,7 @@ use Rattle.hw_story.specs.Knowing.{knows, always}
 use Rattle.hw_story.specs.Passes.{NothingOf, NoHit}
 use Rattle.std.proofs.Common.{MatchBool}
 use Rattle.std.specs.Prelude.{slice_get}
-
-clash : (b : Bool) → b ≡ true → b ≡ false → ⊥
-clash b y n = cc
+use Rattle.hw_lemmas.proofs.Truths.{clash}
 
 fits_not : (shape : Shape) (x : Lit) → lit_fits shape x ≡ true → lit_fits shape (negation x) ≡ true
 fits_not shape (AtOrAfter v k) f = f

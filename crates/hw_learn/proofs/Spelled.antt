@@ -9,7 +9,7 @@ use Rattle.hw_model.specs.Narrowing.{denied}
 use Rattle.hw_flat.specs.Opened.{shape_in}
 use Rattle.hw_story.specs.Sides.{same_side, implies}
 use Rattle.hw_story.specs.Knowing.{knows, always}
-use Rattle.hw_story.specs.Walks.{In, Covered, Spells}
+use Rattle.hw_story.specs.Walks.{InClause, CoveredByLemma, SpellsLemma}
 use Rattle.hw_story.proofs.Sides.{SameSide, Implied, same_parts, implied_parts, same_from, same_trans, same_sym, same_when_implied, implies_self, implies_either}
 use Rattle.hw_story.proofs.Ends.{denied_parts, denied_from}
 use Rattle.hw_story.proofs.Denials.{denied_knows, knows_denied, in_fits}
@@ -36,7 +36,7 @@ always_closed ships slots (First v w) m p h = absurd cc
 always_closed ships slots (NotFirst v w) m p h = absurd cc
 always_closed ships slots _ _ p h = absurd (omega (arith, p.kinds))
 
-pub spelled : (room : RoomModel) (clause : List Lit) → 1 ≤ room.slots → IsClause (shape_in room) clause → denied (shape_in room) clause ≡ room → Spells (always room.ships room.slots) (knows room) clause
+pub spelled : (room : RoomModel) (clause : List Lit) → 1 ≤ room.slots → IsClause (shape_in room) clause → denied (shape_in room) clause ≡ room → SpellsLemma (always room.ships room.slots) (knows room) clause
 spelled room clause some normal e = record {
   known = λ l i. subst (λ (r : RoomModel). knows r (negation l) ≡ true) e (knows_denied (shape_in room) clause some normal (negation l) (denied_from (always room.ships room.slots) clause l (negation l) i (implies_self (negation l))));
   greatest = greatest;
@@ -44,13 +44,13 @@ spelled room clause some normal e = record {
   proper = λ l i. fits_fresh (shape_in room) l (in_fits (shape_in room) clause 0 None normal l i);
 }
   where
-    parts : (m : Lit) → knows room m ≡ true → (always room.ships room.slots m ≡ true) ⊎ Covered (knows room) clause m
+    parts : (m : Lit) → knows room m ≡ true → (always room.ships room.slots m ≡ true) ⊎ CoveredByLemma (knows room) clause m
     parts m y = elim (denied_parts (always room.ships room.slots) clause m (denied_knows (shape_in room) clause some normal m (subst (λ (r : RoomModel). knows r m ≡ true) (sym e) y))) [
       | inl o ↦ inl o
       | inr c ↦ inr (record { by = c.by; within = c.within; implied = c.implied })
     ]
 
-    greatest : (l : Lit) → In l clause → (m : Lit) → knows room m ≡ true → same_side (negation l) m ≡ true → implies (negation l) m ≡ true
+    greatest : (l : Lit) → InClause l clause → (m : Lit) → knows room m ≡ true → same_side (negation l) m ≡ true → implies (negation l) m ≡ true
     greatest l i m y side = elim (parts m y) [
       | inl o ↦ elim (implies_either (negation l) m side) [
         | inl h ↦ h

@@ -9,7 +9,7 @@ use Rattle.hw_model.specs.Lits.{negation, lit_fits}
 use Rattle.hw_model.specs.Narrowing.{truth}
 use Rattle.hw_story.specs.declared.event.Event.{Event}
 use Rattle.hw_story.specs.Stories.{Story, room_at, IsStory}
-use Rattle.hw_story.specs.Walks.{In, Bounds, IsTop, story_level}
+use Rattle.hw_story.specs.Walks.{InClause, EventBounds, IsTopLevel, story_level}
 use Rattle.hw_story.specs.Trails.{TrailModel, trail_shape, room_of, IsTrail}
 use Rattle.hw_story.specs.Learning.{event_of, level_by, level_made, level_of}
 use Rattle.hw_story.specs.Bridge.{event_at, story_of, GoesBack}
@@ -19,7 +19,7 @@ use Rattle.hw_story.proofs.Trails.{trail_story}
 use Rattle.hw_story.proofs.Levels.{made_false, false_end, fits_fresh, level_is, level_stays}
 use Rattle.hw_story.proofs.Decisions.{event_is}
 use Rattle.hw_story.proofs.Passes.{in_append, in_front, in_last}
-use Rattle.hw_learn.specs.Starts.{IsLast, IsLevelOf, IsFirst, IsBack}
+use Rattle.hw_learn.specs.Starts.{IsLastFalsified, IsLevelOf, IsFirst, IsBack}
 
 -- ---- one past the last event
 
@@ -33,7 +33,7 @@ never_none t is lit f h none =
     cc
 
 pub past_up : (t : TrailModel) → IsTrail t → (lit : Lit) → lit_fits (trail_shape t) lit ≡ true → truth (room_of t) lit ≡ False → (last place : ℕ) → event_of t lit ≡ Some place → last ≤ place
-    → (clause : List Lit) → IsLast t clause last → IsLast t (clause ++ lit ∷ []) (place + 1)
+    → (clause : List Lit) → IsLastFalsified t clause last → IsLastFalsified t (clause ++ lit ∷ []) (place + 1)
 past_up t is lit f h last place eq le clause s =
     let m = made_false t is lit f (false_end t is lit f h) in
     let e : m.place ≡ place = same_Some m.place place (sym m.event ∙ eq) in
@@ -50,7 +50,7 @@ past_up t is lit f h last place eq le clause s =
     }
 
 pub past_same : (t : TrailModel) → IsTrail t → (lit : Lit) → lit_fits (trail_shape t) lit ≡ true → truth (room_of t) lit ≡ False → (last place : ℕ) → event_of t lit ≡ Some place → place < last
-    → (clause : List Lit) → IsLast t clause last → IsLast t (clause ++ lit ∷ []) last
+    → (clause : List Lit) → IsLastFalsified t clause last → IsLastFalsified t (clause ++ lit ∷ []) last
 past_same t is lit f h last place eq lt clause s =
     let m = made_false t is lit f (false_end t is lit f h) in
     let e : m.place ≡ place = same_Some m.place place (sym m.event ∙ eq) in
@@ -91,10 +91,10 @@ back_more t top back level lit lemma e low high s = record {
 }
 
 -- the level by the events is the level by the story
-pub goes_back : (t : TrailModel) → IsTrail t → (n : ℕ) → n ≤ length t.events → (top back : ℕ) (lemma : List Lit) → ((l : Lit) → In l lemma → lit_fits (trail_shape t) l ≡ true) → ((l : Lit) → In l lemma → room_at (story_of t) n (negation l) ≡ true)
+pub goes_back : (t : TrailModel) → IsTrail t → (n : ℕ) → n ≤ length t.events → (top back : ℕ) (lemma : List Lit) → ((l : Lit) → InClause l lemma → lit_fits (trail_shape t) l ≡ true) → ((l : Lit) → InClause l lemma → room_at (story_of t) n (negation l) ≡ true)
     → IsBack t top lemma back → GoesBack (story_of t) n top lemma back
 goes_back t is n le top back lemma fits known s =
-    let same : (l : Lit) → In l lemma → level_of t l ≡ story_level (story_of t) n l = λ l i.
+    let same : (l : Lit) → InClause l lemma → level_of t l ≡ story_level (story_of t) n l = λ l i.
     level_is t is l (fits l i) (room_grows (story_of t) n (length t.events) le (negation l) (known l i)) ∙ level_stays (story_of t) l n (length t.events) le (known l i) in
     record {
       most = λ l i lt. omega (arith, same l i, s.most l i (omega (arith, same l i, lt)));
@@ -144,7 +144,7 @@ ground_of t n s (suc k) le =
 pub story_upto : (t : Story) (n k : ℕ) → IsStory t n → k ≤ n → IsStory t k
 story_upto t n k s le = record { start_world = s.start_world; told = λ p lt. s.told p (omega (arith, lt, le)) }
 
-pub bounds_of : (t : TrailModel) → IsTrail t → (last top first : ℕ) → last ≤ length t.events → IsLevelOf t last top → IsFirst t last top first → (base : ℕ) × Bounds (story_of t) last top first base
+pub bounds_of : (t : TrailModel) → IsTrail t → (last top first : ℕ) → last ≤ length t.events → IsLevelOf t last top → IsFirst t last top first → (base : ℕ) × EventBounds (story_of t) last top first base
 bounds_of t is last top first le level f =
     let s : IsStory (story_of t) last = story_upto (story_of t) (length t.events) last (trail_story t is) le in
     let g = ground_of (story_of t) last s last (omega arith) in (
@@ -170,8 +170,8 @@ bounds_of t is last top first le level f =
 
 -- ---- the greatest level
 
-pub top_from : (t : TrailModel) → IsTrail t → (last top first base : ℕ) (clause : List Lit) → ((d : Lit) → In d clause → lit_fits (trail_shape t) d ≡ true) → IsLast t clause last → IsLevelOf t last top
-    → Bounds (story_of t) last top first base → IsTop (story_of t) last clause top
+pub top_from : (t : TrailModel) → IsTrail t → (last top first base : ℕ) (clause : List Lit) → ((d : Lit) → InClause d clause → lit_fits (trail_shape t) d ≡ true) → IsLastFalsified t clause last → IsLevelOf t last top
+    → EventBounds (story_of t) last top first base → IsTopLevel (story_of t) last clause top
 top_from t is last top first base clause fits s level bs = record {
   most = λ d i.
       let b = became (story_of t) last d (fits_fresh (trail_shape t) d (fits d i)) (s.known d i) in

@@ -11,7 +11,7 @@ ghost use Rattle.hw_story.specs.Knowing.{knows};
 ghost use Rattle.hw_story.specs.Trails.{trail_shape, room_of};
 ghost use Rattle.hw_story.specs.Passes.{DeniesAll};
 ghost use Rattle.hw_learn.specs.Sames.{OfTrail};
-ghost use Rattle.hw_learn.specs.Starts.{IsLast, IsLevelOf, IsFirst, IsBack};
+ghost use Rattle.hw_learn.specs.Starts.{IsLastFalsified, IsLevelOf, IsFirst, IsBack};
 
 use crate::walking::deny_all;
 use hw_flat::Room;
@@ -22,7 +22,7 @@ use std::alloc::Global;
 fn past(trail: &Trail, last: u32, lit: Lit) -> u32
     requires fits { lit_fits (trail_shape trail.now) lit ≡ true }
     requires all_false { truth (room_of trail.now) lit ≡ False }
-    ensures last { (clause : List LitOf) → IsLast trail.now clause last → IsLast trail.now (clause ++ lit ∷ []) result }
+    ensures last { (clause : List LitOf) → IsLastFalsified trail.now clause last → IsLastFalsified trail.now (clause ++ lit ∷ []) result }
 {
     let _ = trail.len();
     match trail.event_of(lit) {
@@ -35,7 +35,7 @@ fn past(trail: &Trail, last: u32, lit: Lit) -> u32
 pub fn last_of(trail: &Trail, clause: &[Lit]) -> u32
     requires fits { All (λ lit. lit_fits (trail_shape trail.now) lit ≡ true) clause.now }
     requires all_false { All (λ lit. truth (room_of trail.now) lit ≡ False) clause.now }
-    ensures last { IsLast trail.now clause.now result }
+    ensures last { IsLastFalsified trail.now clause.now result }
 {
     let mut last = 0;
     for lit in clause {

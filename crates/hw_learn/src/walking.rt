@@ -7,7 +7,7 @@ ghost use Rattle.hw_model.specs.Lits.{IsLitOf};
 ghost use Rattle.hw_story.specs.Knowing.{knows, widened};
 ghost use Rattle.hw_story.specs.Walks.{Hit, Miss};
 ghost use Rattle.hw_story.specs.Bridge.{story_of};
-ghost use Rattle.hw_story.specs.Trails.{clause_of};
+ghost use Rattle.hw_story.specs.Trails.{reason_clause};
 ghost use Rattle.hw_story.specs.Passes.{HitBefore, NoHit, DeniesOthers, DeniesAll, StepKeeps, When, Walks};
 ghost use Rattle.hw_learn.specs.Sames.{SameShape, OfTrail};
 ghost use Rattle.hw_learn.specs.Steps.{DeniesOneMore, IsDue, IsPassed};
@@ -121,7 +121,7 @@ pub fn replace(held: &mut Room, lit: Lit, clause: &[Lit])
 }
 
 fn clause_of(why: &Why) -> &Clause
-    ensures value { result.now ≡ clause_of why.now }
+    ensures value { result.now ≡ reason_clause why.now }
 {
     match why {
         Why::Lemma { clause, .. } => clause,

@@ -3,10 +3,8 @@ use Rattle.std.proofs.Common.{◌≡◌, ℕ, zero, suc, ◌+◌, true, false, n
 use Rattle.std.specs.List.{slice_get}
 use Rattle.std.proofs.lemmas.Bool.{and_parts}
 use Rattle.std.proofs.lemmas.Slice.Eq.{bytes_eq-Decides}
+use Rattle.hw_lemmas.proofs.Truths.{same_some}
 use Rattle.hw_lexicon.specs.Words.{find_from, all_differ}
-
-some_is : (a b : ℕ) → Some a ≡ Some b → a ≡ b
-some_is a b h = cc
 
 word_is : (x w : List ℕ) → Some x ≡ Some w → x ≡ w
 word_is x w h = cc
@@ -15,7 +13,7 @@ pub at_place : (n : ℕ) (ws : List (List ℕ)) (i : ℕ) (w : List ℕ) → fin
 at_place n [] i w h = absurd cc
 at_place n (x ∷ ws) i w h =
     elim (bytes_eq x w) as (λ b. (b ≡ true → x ≡ w) → cond b (Some n) (find_from (n + 1) w ws) ≡ Some i → (j : ℕ) × (i ≡ n + j) × (slice_get (x ∷ ws) j ≡ Some w)) [
-      | true ↦ λ e k. (0, omega (arith, some_is n i k), ap Some (e refl))
+      | true ↦ λ e k. (0, omega (arith, same_some n i k), ap Some (e refl))
       | false ↦ λ e k. let r = at_place (n + 1) ws i w k in (suc r.0, omega (arith, r.1), r.2)
     ] (bytes_eq-Decides x w).0 h
 

@@ -6,13 +6,13 @@ use Rattle.hw_model.specs.declared.rule.Hole.{Hole}
 use Rattle.hw_model.specs.declared.rule.Rule.{Rule}
 use Rattle.hw_model.specs.declared.rule.Rule.TheVariants.{Pair, After, Tugs}
 use Rattle.hw_model.specs.Limits.{HoleFits, RuleFits}
-use Rattle.hw_linear.specs.Rows.{turned, turned_of, hole_in, or_else, hole_between}
+use Rattle.hw_linear.specs.Rows.{mirrored_hole, turned_of, hole_in, or_else, hole_between}
 
 first_fits : (holes : List Hole) → All HoleFits holes → IfSome (slice_get holes 0) HoleFits
 first_fits [] fit = tt
 first_fits (hole ∷ holes) fit = All-head HoleFits hole holes fit
 
-turned_fits : (hole : Hole) → HoleFits hole → HoleFits (turned hole)
+turned_fits : (hole : Hole) → HoleFits hole → HoleFits (mirrored_hole hole)
 turned_fits hole fits = record { from_least = omega (arith, ints, fits.to_most); ordered = omega (arith, ints, fits.ordered); to_most = omega (arith, ints, fits.from_least) }
 
 turned_of_fits : (o : Option Hole) → IfSome o HoleFits → IfSome (turned_of o) HoleFits

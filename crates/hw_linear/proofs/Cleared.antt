@@ -10,12 +10,12 @@ use Rattle.hw_model.specs.declared.rule.Rule.{Rule}
 use Rattle.hw_model.specs.declared.rule.Rule.TheVariants.{Pair, After, Tugs}
 use Rattle.hw_model.specs.Problem.{Problem, horizon}
 use Rattle.hw_model.specs.Rules.{misses, rule_holds}
-use Rattle.hw_linear.specs.Rows.{turned, turned_of, hole_in, or_else, hole_between}
+use Rattle.hw_linear.specs.Rows.{mirrored_hole, turned_of, hole_in, or_else, hole_between}
 use Rattle.hw_linear.proofs.Grouped.{Clear}
 use Rattle.hw_linear.proofs.Kept.{cleared}
 
 -- the difference of two slots misses a hole that is seen from the other ship
-turned_missed : (x y : ℕ) (hole : Hole) → misses (pos y -ℤ pos x) hole ≡ true → misses (pos x -ℤ pos y) (turned hole) ≡ true
+turned_missed : (x y : ℕ) (hole : Hole) → misses (pos y -ℤ pos x) hole ≡ true → misses (pos x -ℤ pos y) (mirrored_hole hole) ≡ true
 turned_missed x y hole e = grind (arith, ints)
 
 first_missed : (d : ℤ) (holes : List Hole) (hole : Hole) → list_all (misses d) holes ≡ true → slice_get holes 0 ≡ Some hole → misses d hole ≡ true
@@ -24,7 +24,7 @@ first_missed d (first ∷ holes) hole all e = subst (λ (h : Hole). misses d h �
 
 turned_first : (x y : ℕ) (o : Option Hole) (hole : Hole) → ((h : Hole) → o ≡ Some h → misses (pos y -ℤ pos x) h ≡ true) → turned_of o ≡ Some hole → misses (pos x -ℤ pos y) hole ≡ true
 turned_first x y None hole missed e = absurd (cc)
-turned_first x y (Some h) hole missed e = subst (λ (k : Hole). misses (pos x -ℤ pos y) k ≡ true) (same_Some (turned h) hole e) (turned_missed x y h (missed h refl))
+turned_first x y (Some h) hole missed e = subst (λ (k : Hole). misses (pos x -ℤ pos y) k ≡ true) (same_Some (mirrored_hole h) hole e) (turned_missed x y h (missed h refl))
 
 clear_in : (f : Problem) (table : List ℕ) (rule : Rule) → rule_holds f table rule ≡ true → (v w : ℕ) (hole : Hole) → hole_in rule v w ≡ Some hole → slice_index table v < horizon f → slice_index table w < horizon f
     → misses (pos (slice_index table w) -ℤ pos (slice_index table v)) hole ≡ true

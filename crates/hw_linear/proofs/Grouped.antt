@@ -9,7 +9,7 @@ use Rattle.hw_model.specs.Rules.{misses}
 use Rattle.hw_laws.proofs.Horizon.{horizon_le}
 use Rattle.hw_linear.specs.declared.span.Span.{Span}
 use Rattle.hw_linear.specs.Programmes.{Point, total, weight_of}
-use Rattle.hw_linear.specs.Rows.{IsWindow, SpanFits, span_terms, terms_of, hole_between, sailing, apart_by, apart_from, meet, joint_from, joint, with_ship, grown_from}
+use Rattle.hw_linear.specs.Rows.{IsWindow, SpanFits, span_terms, terms_of, hole_between, sailing_span, apart_by, apart_from, meet, joint_from, joint, with_ship, grown_from}
 use Rattle.hw_linear.proofs.Sums.{total-append}
 use Rattle.hw_linear.proofs.Sits.{Sits, IsIn, in_span, not_in_span, in_or_not}
 use Rattle.hw_linear.proofs.Holes.{partner_in_hole}
@@ -109,26 +109,26 @@ either_way P f spans ship as_is more = by (nat_eq (weight_of (span_terms f (join
     by true = as_is
     by false = more
 
-all_sailing : (f : Problem) (ship : ℕ) → ship < f.ships → Sails f (sailing f ship)
+all_sailing : (f : Problem) (ship : ℕ) → ship < f.ships → Sails f (sailing_span f ship)
 all_sailing f ship lt = record { ship_in = lt; slots_in = omega arith; one = refl }
 
 with_ship_sails : (f : Problem) (spans : List Span) (ship : ℕ) → ship < f.ships → All (Sails f) spans → All (Sails f) (with_ship f spans ship)
 with_ship_sails f spans ship lt each =
-    either_way (All (Sails f)) f spans ship each (All-push (Sails f) spans (joint f ship spans) each (joint_sails f ship (sailing f ship) spans (all_sailing f ship lt)))
+    either_way (All (Sails f)) f spans ship each (All-push (Sails f) spans (joint f ship spans) each (joint_sails f ship (sailing_span f ship) spans (all_sailing f ship lt)))
 
 with_ship_holds : (f : Problem) (p : Point) (table : List ℕ) (spans : List Span) (ship : ℕ) → Seated f p table → Clear f table → ship < f.ships → All (Sails f) spans → total p (terms_of f spans) ≤ 1 → total p (terms_of f (with_ship f spans ship)) ≤ 1
 with_ship_holds f p table spans ship seated clear lt each le =
     either_way (λ (xs : List Span). total p (terms_of f xs) ≤ 1) f spans ship le (added (in_or_not (slice_index table ship) (joint f ship spans)))
   where
     sails : Sails f (joint f ship spans)
-    sails = joint_sails f ship (sailing f ship) spans (all_sailing f ship lt)
+    sails = joint_sails f ship (sailing_span f ship) spans (all_sailing f ship lt)
 
     sits : Sits f p (joint f ship spans).ship (slice_index table ship)
-    sits = rw (joint_ship f ship (sailing f ship) spans refl) (seated ship lt)
+    sits = rw (joint_ship f ship (sailing_span f ship) spans refl) (seated ship lt)
 
     added : IsIn (slice_index table ship) (joint f ship spans) ⊎ (IsIn (slice_index table ship) (joint f ship spans) → ⊥) → total p (terms_of f (spans ++ joint f ship spans ∷ [])) ≤ 1
     added (inl i) =
-        let none = none_taken f p table ship (sailing f ship) spans seated clear each i in
+        let none = none_taken f p table ship (sailing_span f ship) spans seated clear each i in
         let one = in_span f p (slice_index table ship) (joint f ship spans) (sails_fit f (joint f ship spans) sails) sits i in
         omega (arith, terms_of-push f p spans (joint f ship spans), none, one, sails.one)
     added (inr n) =

@@ -1,6 +1,7 @@
 -- Sums of terms at a point, and rows that bound them.
 use Rattle.std.proofs.Common.{◌≡◌, ℕ, zero, suc, ◌+◌, ◌<◌, ◌≤◌, Bool, true, false, cond, nat_lt, List, [], ◌∷◌, ◌++◌, refl, subst, arith, inl, inr}
 use Rattle.std.proofs.lemmas.Bool.{ltb-false, cases_eq}
+use Rattle.hw_lemmas.proofs.Truths.{cond_most}
 use Rattle.hw_model.specs.Problem.{Problem}
 use Rattle.hw_linear.specs.declared.format.Sense.TheVariants.{AtMost}
 use Rattle.hw_linear.specs.declared.span.Span.{Span}
@@ -15,14 +16,10 @@ pub weight_of-append : (a b : List Term) → weight_of (a ++ b) ≡ weight_of a 
 weight_of-append [] b = omega arith
 weight_of-append (t ∷ ts) b = omega (arith, weight_of-append ts b)
 
-one_le : (b : Bool) (weight : ℕ) → cond b weight 0 ≤ weight
-one_le true weight = omega arith
-one_le false weight = omega arith
-
 -- a sum is at most its weights
 pub total_le : (p : Point) (ts : List Term) → total p ts ≤ weight_of ts
 total_le p [] = omega arith
-total_le p (t ∷ ts) = omega (arith, one_le (p t.ship t.slot) t.weight, total_le p ts)
+total_le p (t ∷ ts) = omega (arith, cond_most (p t.ship t.slot) t.weight, total_le p ts)
 
 pub satisfies-append : (p : Point) (a b : List Row) → SatisfiesRows p a → SatisfiesRows p b → SatisfiesRows p (a ++ b)
 satisfies-append p [] b h k = k

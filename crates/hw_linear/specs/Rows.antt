@@ -117,12 +117,12 @@ window_spans f v w hole last = first_window f v hole last ∷ partner f w hole (
 -- ---- groups of ships
 
 -- a hole of a pair, seen from its second ship
-abbrev pub turned : Hole → Hole
-turned hole = record { lo = neg_ℤ hole.hi; hi = neg_ℤ hole.lo }
+abbrev pub mirrored_hole : Hole → Hole
+mirrored_hole hole = record { lo = neg_ℤ hole.hi; hi = neg_ℤ hole.lo }
 
 abbrev pub turned_of : Option Hole → Option Hole
 turned_of None = None
-turned_of (Some hole) = Some (turned hole)
+turned_of (Some hole) = Some (mirrored_hole hole)
 
 -- the first hole of a pair, seen from the first of these two ships; none in a rule on others
 abbrev pub hole_in : Rule → ℕ → ℕ → Option Hole
@@ -140,12 +140,12 @@ hole_between [] v w = None
 hole_between (rule ∷ rules) v w = or_else (hole_in rule v w) (hole_between rules v w)
 
 -- a table has it for each two ships
-abbrev pub IsTable : Problem → List (List (Option Hole)) → Type 0
-IsTable f table = (v w : ℕ) → v < MOST_SHIPS → w < MOST_SHIPS → slice_index_or (slice_index_or table v []) w None ≡ hole_between f.rules v w
+abbrev pub IsHoleTable : Problem → List (List (Option Hole)) → Type 0
+IsHoleTable f table = (v w : ℕ) → v < MOST_SHIPS → w < MOST_SHIPS → slice_index_or (slice_index_or table v []) w None ≡ hole_between f.rules v w
 
 -- all slots in which a ship may sail
-abbrev pub sailing : Problem → ℕ → Span
-sailing f ship = record { ship = ship; from = 0; to = horizon f; weight = 1 }
+abbrev pub sailing_span : Problem → ℕ → Span
+sailing_span f ship = record { ship = ship; from = 0; to = horizon f; weight = 1 }
 
 -- the sailing slots of a ship that a hole keeps apart from each slot of a span; none where the two ships have no hole
 abbrev pub apart_by : Problem → ℕ → Span → Option Hole → Span
@@ -165,7 +165,7 @@ joint_from f ship joint [] = joint
 joint_from f ship joint (span ∷ spans) = joint_from f ship (meet joint (apart_from f ship span)) spans
 
 abbrev pub joint : Problem → ℕ → List Span → Span
-joint f ship spans = joint_from f ship (sailing f ship) spans
+joint f ship spans = joint_from f ship (sailing_span f ship) spans
 
 -- spans of which at most one is sailed in, and with them the span of a ship that is kept apart from all of them, where it has a value there
 abbrev pub with_ship : Problem → List Span → ℕ → List Span

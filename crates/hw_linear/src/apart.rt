@@ -3,7 +3,7 @@
 ghost use Rattle.std.specs.Prelude.{◌≡◌, ◌<◌, ℕ, [], All, IfSome, slice_get, slice_index_or, None};
 ghost use Rattle.hw_model.specs.Limits.{HoleFits, RuleFits};
 ghost use Rattle.hw_model.specs.declared.limits.TheConstants.{MOST_SHIPS};
-ghost use Rattle.hw_linear.specs.Rows.{IsTable, hole_between, hole_in, turned, turned_of};
+ghost use Rattle.hw_linear.specs.Rows.{IsHoleTable, hole_between, hole_in, mirrored_hole, turned_of};
 
 use crate::limits::MOST_GROUP;
 use hw_flat::Flat;
@@ -22,7 +22,7 @@ fn first_hole(holes: &[Hole]) -> Option<Hole>
 /// A hole, seen from the second ship.
 fn turned(hole: Hole) -> Hole
     requires fits { HoleFits hole }
-    ensures { result ≡ turned hole }
+    ensures { result ≡ mirrored_hole hole }
 {
     Hole {
         lo: -hole.hi,
@@ -107,7 +107,7 @@ impl Model for HoleTable {
 impl HoleTable {
     /// Those of a problem. It goes through the rules once for each two ships.
     pub fn new(flat: &Flat) -> HoleTable
-        ensures { IsTable flat.now result }
+        ensures { IsHoleTable flat.now result }
     {
         let mut rows = [[None; MOST_GROUP]; MOST_GROUP];
         for v in 0..MOST_GROUP {
@@ -135,19 +135,19 @@ pub struct Apart<'f> {
 
 impl<'f> Model for Apart<'f> {
     ghost use Rattle.hw_model.specs.Problem.{Problem};
-    ghost use Rattle.hw_linear.specs.Rows.{IsTable};
+    ghost use Rattle.hw_linear.specs.Rows.{IsHoleTable};
 
     ghost Value = { Problem };
 
     ghost view = { λ a. a.flat.now };
 
-    ghost invariant = { λ a. IsTable a.flat.now a.table.now };
+    ghost invariant = { λ a. IsHoleTable a.flat.now a.table.now };
 }
 
 impl<'f> Apart<'f> {
     /// A problem and its holes.
     pub fn new(flat: &'f Flat, table: &'f HoleTable) -> Apart<'f>
-        requires own { IsTable flat.now table.now }
+        requires own { IsHoleTable flat.now table.now }
         ensures { result ≡ flat.now }
     {
         Apart { flat, table }

@@ -1,14 +1,10 @@
 -- What one more line changes in the clauses and their numbers.
-use Rattle.std.proofs.Common.{◌≡◌, ℕ, zero, suc, ◌+◌, ◌<◌, ◌≤◌, List, [], ◌∷◌, ◌++◌, Option, Some, None, length, slice_get, IfSome, refl, ap, ◌∙◌, arith, length-append, append-nil}
+use Rattle.std.proofs.Common.{◌≡◌, ℕ, zero, suc, ◌+◌, ◌≤◌, List, [], ◌∷◌, ◌++◌, Option, Some, None, length, slice_get, IfSome, refl, ap, ◌∙◌, arith, length-append, append-nil}
 use Rattle.std.specs.List.{cons_option}
+use Rattle.hw_lemmas.proofs.Lists.{get_left}
 use Rattle.hw_model.specs.declared.lit.Lit.{Lit}
 use Rattle.hw_lines.specs.declared.line.Line.{Line}
 use Rattle.hw_lines.specs.Lines.{clauses_of, clause_count, clause_at}
-
-within : {X : Type 0} (xs ys : List X) (i : ℕ) → i < length xs → slice_get (xs ++ ys) i ≡ slice_get xs i
-within [] ys i lt = absurd (omega (arith, lt))
-within (x ∷ xs) ys zero lt = refl
-within (x ∷ xs) ys (suc i) lt = within xs ys i (omega (arith, lt))
 
 at_end : {X : Type 0} (xs : List X) (y : X) (i : ℕ) → i ≡ length xs → slice_get (xs ++ y ∷ []) i ≡ Some y
 at_end [] y zero e = refl
@@ -18,7 +14,7 @@ at_end (x ∷ xs) y (suc i) e = at_end xs y i (omega (arith, e))
 
 pub same_earlier : (before after : List Line) (more : List (List Lit)) (id : ℕ) → clauses_of after ≡ clauses_of before ++ more → id ≤ clause_count before → clause_at after id ≡ clause_at before id
 same_earlier before after more zero e le = refl
-same_earlier before after more (suc n) e le = ap (λ clauses. slice_get clauses n) e ∙ within (clauses_of before) more n (omega (arith, le))
+same_earlier before after more (suc n) e le = ap (λ clauses. slice_get clauses n) e ∙ get_left (clauses_of before) more n (omega (arith, le))
 
 pub last_one : (before after : List Line) (clause : List Lit) (id : ℕ) → clauses_of after ≡ clauses_of before ++ clause ∷ [] → id ≡ clause_count before + 1 → clause_at after id ≡ Some clause
 last_one before after clause zero e at = absurd (omega (arith, at))

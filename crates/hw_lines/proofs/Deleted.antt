@@ -27,7 +27,7 @@ both_false : (a b : Bool) → a ≡ false → b ≡ false → (a || (b || false)
 both_false true b x y = absurd cc
 both_false false b x y = ap (λ b. b || false) y
 
-count_more : (before : List Line) (line : Line) → clause_count before ≤ clause_count (before ++ line ∷ [])
+pub count_more : (before : List Line) (line : Line) → clause_count before ≤ clause_count (before ++ line ∷ [])
 count_more before line = omega (arith, ap length (clauses_push before line), length-append (clauses_of before) (cons_option (clause_of line) []))
 
 none_of : (ids : List ℕ) (most id : ℕ) → most < id → All (λ k. k ≤ most) ids → list_any (λ other. other == id) ids ≡ false

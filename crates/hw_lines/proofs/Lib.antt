@@ -9,3 +9,4 @@ pub mod Rows
 pub mod Added
 pub mod Priced
 pub mod PriceRows
+pub mod Live

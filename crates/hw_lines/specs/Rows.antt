@@ -9,8 +9,8 @@ use Rattle.hw_lines.specs.declared.line.Line.TheVariants as lines
 use Rattle.hw_lines.specs.Refusals.{refusal, refused, refused_at}
 
 -- two ships that sail two slots apart: in the first and the last slot
-abbrev pub two_apart : Problem
-two_apart = record { ships = 2; slots = 3; stay = false; values = Some 10 ∷ Some 20 ∷ Some 30 ∷ Some 10 ∷ Some 20 ∷ Some 30 ∷ []; rules = Pair 0 1 (record { lo = neg_ℤ (pos 1); hi = pos 1 } ∷ []) ∷ [] }
+abbrev pub explained_ships_apart : Problem
+explained_ships_apart = record { ships = 2; slots = 3; stay = false; values = Some 10 ∷ Some 20 ∷ Some 30 ∷ Some 10 ∷ Some 20 ∷ Some 30 ∷ []; rules = Pair 0 1 (record { lo = neg_ℤ (pos 1); hi = pos 1 } ∷ []) ∷ [] }
 
 -- the table of slots 2 and 0
 abbrev pub best_table : Line
@@ -25,8 +25,8 @@ abbrev pub first_late : Line
 first_late = lines.Goal (AtOrAfter 0 1 ∷ [])
 
 -- the explanation by the rule: one of the ships sails in slot 0
-abbrev pub apart : Line
-apart = lines.Explain 2 (Before 0 1 ∷ Before 1 1 ∷ [])
+abbrev pub apart_explained : Line
+apart_explained = lines.Explain 2 (Before 0 1 ∷ Before 1 1 ∷ [])
 
 -- the lemma without literals, by all three clauses
 abbrev pub last_line : Line
@@ -34,21 +34,21 @@ last_line = lines.Lemma [] (1 ∷ 2 ∷ 3 ∷ [])
 
 -- all lines but the last
 abbrev pub open_lines : List Line
-open_lines = best_table ∷ second_late ∷ first_late ∷ apart ∷ []
+open_lines = best_table ∷ second_late ∷ first_late ∷ apart_explained ∷ []
 
 -- the whole certificate, after which both timetables of 40 are best ones
 abbrev pub whole_lines : List Line
-whole_lines = best_table ∷ second_late ∷ first_late ∷ apart ∷ last_line ∷ []
+whole_lines = best_table ∷ second_late ∷ first_late ∷ apart_explained ∷ last_line ∷ []
 
 -- which lines are refused after these, and why
 pub record RefusalRows : Type 0 where
-  pub the_last_line : refusal two_apart open_lines last_line ≡ None
-  pub a_line_behind_it : refusal two_apart whole_lines first_late ≡ refused words.Ended
-  pub sailing_too_near : refusal two_apart open_lines (lines.Table (1 ∷ 1 ∷ [])) ≡ refused words.Table
-  pub no_more_cargo : refusal two_apart open_lines (lines.Table (0 ∷ 2 ∷ [])) ≡ refused words.Worse
-  pub a_goal_without_a_best : refusal two_apart [] first_late ≡ refused words.Refute
-  pub a_later_hint : refusal two_apart open_lines (lines.Lemma [] (3 ∷ 9 ∷ [])) ≡ refused_at words.Hint 9
-  pub two_open_at_the_first_hint : refusal two_apart open_lines (lines.Lemma [] (3 ∷ 1 ∷ 2 ∷ [])) ≡ refused_at words.Loose 3
-  pub hints_that_end_early : refusal two_apart open_lines (lines.Lemma [] (1 ∷ 2 ∷ [])) ≡ refused words.Conflict
-  pub a_dead_hint : refusal two_apart (best_table ∷ second_late ∷ lines.Delete (1 ∷ []) ∷ []) (lines.Lemma [] (1 ∷ [])) ≡ refused_at words.Hint 1
-  pub deleted_twice : refusal two_apart (best_table ∷ second_late ∷ lines.Delete (1 ∷ []) ∷ []) (lines.Delete (1 ∷ [])) ≡ refused_at words.Dead 1
+  pub the_last_line : refusal explained_ships_apart open_lines last_line ≡ None
+  pub a_line_behind_it : refusal explained_ships_apart whole_lines first_late ≡ refused words.Ended
+  pub sailing_too_near : refusal explained_ships_apart open_lines (lines.Table (1 ∷ 1 ∷ [])) ≡ refused words.Table
+  pub no_more_cargo : refusal explained_ships_apart open_lines (lines.Table (0 ∷ 2 ∷ [])) ≡ refused words.Worse
+  pub a_goal_without_a_best : refusal explained_ships_apart [] first_late ≡ refused words.Refute
+  pub a_later_hint : refusal explained_ships_apart open_lines (lines.Lemma [] (3 ∷ 9 ∷ [])) ≡ refused_at words.Hint 9
+  pub two_open_at_the_first_hint : refusal explained_ships_apart open_lines (lines.Lemma [] (3 ∷ 1 ∷ 2 ∷ [])) ≡ refused_at words.Loose 3
+  pub hints_that_end_early : refusal explained_ships_apart open_lines (lines.Lemma [] (1 ∷ 2 ∷ [])) ≡ refused words.Conflict
+  pub a_dead_hint : refusal explained_ships_apart (best_table ∷ second_late ∷ lines.Delete (1 ∷ []) ∷ []) (lines.Lemma [] (1 ∷ [])) ≡ refused_at words.Hint 1
+  pub deleted_twice : refusal explained_ships_apart (best_table ∷ second_late ∷ lines.Delete (1 ∷ []) ∷ []) (lines.Delete (1 ∷ [])) ≡ refused_at words.Dead 1

@@ -9,7 +9,7 @@ use Rattle.hw_port.specs.Rules.{is_name}
 use Rattle.hw_port.specs.declared.fault.PortFault.{PortFault}
 use Rattle.hw_read.specs.Instance.{IsJson}
 use Rattle.hw_lint.specs.Encodings.{encoding_of, instance_line}
-use Rattle.hw_lint.specs.Lines.{break_line, name_line}
+use Rattle.hw_lint.specs.Lines.{break_line, item_name_line}
 use Rattle.hw_lint.specs.declared.instance.Items.{Items}
 use Rattle.hw_lint.specs.declared.instance.Items.TheVariants.{Ships, Waypoints}
 
@@ -27,15 +27,15 @@ abbrev pub begins : List ℕ → List ℕ → Bool
 begins text with = starts_with nat_eq text with
 
 -- the list in whose items a place is
-abbrev pub items_of : ℕ → Option Items
-items_of place =
+abbrev pub items_at_place : ℕ → Option Items
+items_at_place place =
     if begins (text_at place) (codes "ships.") then Some Ships
     else if begins (text_at place) (codes "waypoints.") then Some Waypoints
     else None
 
-abbrev pub list_of : Items → List ℕ
-list_of Ships = codes "ships"
-list_of Waypoints = codes "waypoints"
+abbrev pub list_word : Items → List ℕ
+list_word Ships = codes "ships"
+list_word Waypoints = codes "waypoints"
 
 abbrev pub kind_of : Items → List ℕ
 kind_of Ships = codes "ship"
@@ -46,18 +46,18 @@ abbrev pub item_at : Data → List ℕ → ℕ → Option Data
 item_at d list number = option_and_then (at number) (get list d)
 
 -- the text that is a member of a value
-abbrev pub text_in : Data → List ℕ → Option (List ℕ)
-text_in d member = option_and_then as_str (get member d)
+abbrev pub text_member : Data → List ℕ → Option (List ℕ)
+text_member d member = option_and_then as_str (get member d)
 
-abbrev pub name_at : Data → List ℕ → ℕ → Option (List ℕ)
-name_at d list number = option_and_then (λ item. text_in item (codes "name")) (item_at d list number)
+abbrev pub item_name_at : Data → List ℕ → ℕ → Option (List ℕ)
+item_name_at d list number = option_and_then (λ item. text_member item (codes "name")) (item_at d list number)
 
 -- the line of a text that is a name
 abbrev pub told_name : List ℕ → ℕ → List ℕ → List ℕ
-told_name kind number text = if is_name text then name_line kind number text else []
+told_name kind number text = if is_name text then item_name_line kind number text else []
 
 abbrev pub item_hint : Data → Items → ℕ → List ℕ
-item_hint d items number = option_map_or (told_name (kind_of items) number) (name_at d (list_of items) number) []
+item_hint d items number = option_map_or (told_name (kind_of items) number) (item_name_at d (list_word items) number) []
 
 abbrev pub item_told : Data → Option Items → Option ℕ → List ℕ
 item_told d (Some items) (Some number) = item_hint d items number
@@ -66,7 +66,7 @@ item_told d None number = []
 
 -- the name of the ship or of the waypoint in which the fault is, where it has one
 abbrev pub field_hint : Data → PortFault → List ℕ
-field_hint d fault = item_told d (items_of fault.path.field) fault.path.first
+field_hint d fault = item_told d (items_at_place fault.path.field) fault.path.first
 
 -- of the value whose text the bytes are
 abbrev pub IsFieldTold : List ℕ → PortFault → List ℕ → Type 0

@@ -10,21 +10,21 @@ joined [] = []
 joined (text ∷ texts) = text ++ joined texts
 
 -- a word or a number
-abbrev pub piece_text : Piece → List ℕ
-piece_text (Word word) = word.now
-piece_text (Number n) = decimal n
+abbrev pub hint_piece_text : Piece → List ℕ
+hint_piece_text (Word word) = word.now
+hint_piece_text (Number n) = decimal n
 
-abbrev pub pieces_text : List Piece → List ℕ
-pieces_text [] = []
-pieces_text (piece ∷ pieces) = piece_text piece ++ pieces_text pieces
+abbrev pub hint_pieces_text : List Piece → List ℕ
+hint_pieces_text [] = []
+hint_pieces_text (piece ∷ pieces) = hint_piece_text piece ++ hint_pieces_text pieces
 
 -- where the reader of JSON stopped
 unfoldable pub break_line : ℕ → ℕ → List ℕ
 break_line line column = joined (codes "hint instance line " ∷ decimal line ∷ codes " column " ∷ decimal column ∷ codes "\n" ∷ [])
 
 -- the name of an item in which the fault is
-unfoldable pub name_line : List ℕ → ℕ → List ℕ → List ℕ
-name_line kind number name = joined (codes "hint " ∷ kind ∷ codes " " ∷ decimal number ∷ codes " " ∷ name ∷ codes "\n" ∷ [])
+unfoldable pub item_name_line : List ℕ → ℕ → List ℕ → List ℕ
+item_name_line kind number name = joined (codes "hint " ∷ kind ∷ codes " " ∷ decimal number ∷ codes " " ∷ name ∷ codes "\n" ∷ [])
 
 -- a member of a list's item whose value looks like one of another unit: the list, the item's number, the member, the value, the unit, the name of the item
 unfoldable pub unit_line : List ℕ → ℕ → List ℕ → ℕ → List ℕ → List ℕ → List ℕ

@@ -4,8 +4,8 @@ use Rattle.hw_port.specs.Rules.{least_heights}
 use Rattle.hw_port.specs.Whole.{Parts}
 
 -- one that is never negative
-abbrev pub whole : ℤ → ℕ
-whole z = unsigned_abs z
+abbrev pub whole_amount : ℤ → ℕ
+whole_amount z = unsigned_abs z
 
 -- a pass is judged by the lesser of the heights at both ends of its slot
 abbrev pub is_least : Parts → Bool

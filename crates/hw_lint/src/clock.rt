@@ -1,7 +1,7 @@
 //! Two waters of one kind that look as if a clock was changed between them.
 
 ghost use Rattle.std.specs.Prelude.{◌≡◌, ◌++◌, IfOk, OnOk};
-ghost use Rattle.hw_lint.specs.Clocks.{apart, clock_hints, clock_text, is_odd, line_hint, pair_hint, seen_after, slot_of};
+ghost use Rattle.hw_lint.specs.Clocks.{minutes_apart, clock_hints, clock_line_hints, is_odd, line_hint, pair_hint, seen_after, line_slot};
 ghost use Rattle.hw_lint.specs.Lines.{clock_line};
 
 use crate::instance::begins;
@@ -18,7 +18,7 @@ pub struct Seen {
 
 /// The slot at the beginning of a line: the number before its first comma.
 fn slot_of(line: &[u8]) -> Option<u32>
-    ensures { result ≡ slot_of line.now }
+    ensures { result ≡ line_slot line.now }
 {
     let mut fields = Words::parted_by(b',', line);
     match fields.word() {
@@ -29,7 +29,7 @@ fn slot_of(line: &[u8]) -> Option<u32>
 
 /// How many minutes lie between two slots.
 fn apart(minutes: u32, first: u32, second: u32) -> u64
-    ensures { result ≡ apart minutes first second }
+    ensures { result ≡ minutes_apart minutes first second }
 {
     u64::from(second.saturating_sub(first)) * u64::from(minutes)
 }
@@ -98,7 +98,7 @@ fn put_line(out: &mut Vec<u8>, minutes: u32, seen: Seen, line: &[u8]) -> Result<
 
 /// Appends the lines of waters that are oddly far apart.
 fn put_lines(out: &mut Vec<u8>, minutes: u32, table: &[u8]) -> Result<(), AllocError>
-    ensures { OnOk result (out.new.items ≡ out.old.items ++ clock_text minutes table.now) }
+    ensures { OnOk result (out.new.items ≡ out.old.items ++ clock_line_hints minutes table.now) }
 {
     let mut lines = Words::parted_by(b'\n', table);
     let mut seen = Seen {

@@ -1,7 +1,7 @@
 //! A member whose value looks like one of another unit.
 
 ghost use Rattle.std.specs.Prelude.{◌≡◌, ◌++◌, ◌≤ℤ◌, OnOk, pos};
-ghost use Rattle.hw_lint.specs.Numbers.{whole};
+ghost use Rattle.hw_lint.specs.Numbers.{whole_amount};
 ghost use Rattle.hw_lint.specs.Lines.{doubt_line};
 
 use crate::pieces::{Piece, put_pieces};
@@ -11,7 +11,7 @@ use std::alloc::AllocError;
 pub fn natural(number: i64) -> u32
     requires least { pos 0 ≤ℤ number }
     requires most { number ≤ℤ pos 100_000 }
-    ensures { result ≡ whole number }
+    ensures { result ≡ whole_amount number }
 {
     number.unsigned_abs() as u32
 }

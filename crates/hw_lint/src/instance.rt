@@ -5,8 +5,8 @@ ghost use Rattle.std.specs.List.{list_all};
 ghost use Rattle.serde_json.specs.Errors.{IsMemory};
 ghost use Rattle.serde_json.specs.View.{view};
 ghost use Rattle.hw_port.specs.Rules.{is_name, is_printable};
-ghost use Rattle.hw_lint.specs.Instances.{IsBreak, IsFieldTold, begins, break_hints, field_hint, item_at, item_hint, items_of, kind_of, list_of, name_at, text_in, told_name};
-ghost use Rattle.hw_lint.specs.Lines.{break_line, name_line};
+ghost use Rattle.hw_lint.specs.Instances.{IsBreak, IsFieldTold, begins, break_hints, field_hint, item_at, item_hint, items_at_place, kind_of, list_word, item_name_at, text_member, told_name};
+ghost use Rattle.hw_lint.specs.Lines.{break_line, item_name_line};
 
 use crate::encoding::{encoding_of, instance_line};
 use crate::pieces::{Piece, put_pieces};
@@ -75,20 +75,20 @@ fn item_at<'v>(value: &'v Value, list: &str, number: u32) -> Option<&'v Value>
 
 /// The text that is a member of a value.
 fn text_in<'v>(value: &'v Value, member: &str) -> Option<&'v str>
-    ensures { option_map (λ s. s.now) result ≡ text_in (view value.now) member.now }
+    ensures { option_map (λ s. s.now) result ≡ text_member (view value.now) member.now }
 {
     value.get(member).and_then(Value::as_str)
 }
 
 /// Appends the line of a name.
-#[tactic(auto, unfolding(crate::specs::Lines::name_line))]
+#[tactic(auto, unfolding(crate::specs::Lines::item_name_line))]
 fn put_name<'w>(
     out: &mut Vec<u8>,
     kind: &'w [u8],
     number: u32,
     name: &'w [u8],
 ) -> Result<(), AllocError>
-    ensures { OnOk result (out.new.items ≡ out.old.items ++ name_line kind.now number name.now) }
+    ensures { OnOk result (out.new.items ≡ out.old.items ++ item_name_line kind.now number name.now) }
 {
     put_pieces(
         out,
@@ -133,7 +133,7 @@ fn put_told(out: &mut Vec<u8>, kind: &[u8], number: u32, text: &[u8]) -> Result<
 
 /// The name of an item of a list that is a member of a value.
 fn name_at<'v>(value: &'v Value, list: &str, number: u32) -> Option<&'v str>
-    ensures { option_map (λ s. s.now) result ≡ name_at (view value.now) list.now number }
+    ensures { option_map (λ s. s.now) result ≡ item_name_at (view value.now) list.now number }
 {
     let item = item_at(value, list, number)?;
     text_in(item, "name")
@@ -148,7 +148,7 @@ pub enum Items {
 
 /// The list in whose items a place is.
 pub fn items_of(place: u32) -> Option<Items>
-    ensures { result ≡ items_of place }
+    ensures { result ≡ items_at_place place }
 {
     let text = text_at_number(place);
     if begins(text, b"ships.") {
@@ -161,7 +161,7 @@ pub fn items_of(place: u32) -> Option<Items>
 }
 
 fn list_of(items: Items) -> &'static str
-    ensures { result.now ≡ list_of items }
+    ensures { result.now ≡ list_word items }
 {
     match items {
         Items::Ships => "ships",

@@ -1,7 +1,7 @@
 //! The pieces of a line: words and numbers.
 
 ghost use Rattle.std.specs.Prelude.{◌≡◌, ◌++◌, OnOk};
-ghost use Rattle.hw_lint.specs.Lines.{piece_text, pieces_text};
+ghost use Rattle.hw_lint.specs.Lines.{hint_piece_text, hint_pieces_text};
 
 use hw_text::put_number;
 use std::alloc::AllocError;
@@ -14,7 +14,7 @@ pub enum Piece<'a> {
 }
 
 fn put_piece(out: &mut Vec<u8>, piece: Piece) -> Result<(), AllocError>
-    ensures { OnOk result (out.new.items ≡ out.old.items ++ piece_text piece.entry) }
+    ensures { OnOk result (out.new.items ≡ out.old.items ++ hint_piece_text piece.entry) }
 {
     match piece {
         Piece::Word(word) => out.extend_from_slice(word),
@@ -24,7 +24,7 @@ fn put_piece(out: &mut Vec<u8>, piece: Piece) -> Result<(), AllocError>
 
 /// Appends the pieces one after another, at most a dozen.
 pub fn put_pieces(out: &mut Vec<u8>, pieces: &[Piece]) -> Result<(), AllocError>
-    ensures { OnOk result (out.new.items ≡ out.old.items ++ pieces_text pieces.now) }
+    ensures { OnOk result (out.new.items ≡ out.old.items ++ hint_pieces_text pieces.now) }
 {
     if let [piece, more @ ..] = pieces {
         put_piece(out, *piece)?;

@@ -53,7 +53,7 @@ fn put_hints(out: &mut Vec<u8>, port: &Port, rows: u32, table: &[u8]) -> Result<
     put_clock(out, natural(parts.slot_minutes), table)
 }
 
-/// The hints on a port and the table that was read as its tide, of so many rows, or `clean` where there is none.
+/// The hints on a port and the table that was read as its tide, with its number of rows, or `clean` where there is none.
 pub fn lint_text(alloc: Global, port: &Port, rows: u32, table: &[u8]) -> Result<Vec<u8>, NoMemory>
     ensures { IfOk result (λ text. text.items ≡ lint_text port.now rows table.now) }
 {

@@ -3,10 +3,11 @@
 ghost use Rattle.std.specs.Prelude.{◌≡◌, ◌+◌, ◌++◌, ◌≤◌, All, OnOk, length, pos};
 ghost use Rattle.hw_port.specs.Kept.{PassKept, PortKept, ShipKept, Within};
 ghost use Rattle.hw_lint.specs.Lines.{short_line};
-ghost use Rattle.hw_lint.specs.Ships.{draft_hint, is_long, job_hint, last_offset, late_by, late_hint, load_hint, needed, ship_hints, ship_member, ships_from, short_hint};
+ghost use Rattle.hw_lint.specs.Ships.{draft_hint, is_long, job_hint, last_offset, late_by, late_hint, load_hint, last_height_needed, ship_hints, ship_member, ship_hints_from, short_hint};
 
 use crate::doubt::{Doubt, natural, put_doubt};
 use crate::pieces::{Piece, put_pieces};
+use hw_model::MOST_SHIPS;
 use hw_port::{Pass, PortParts, Ship};
 use std::alloc::AllocError;
 
@@ -65,7 +66,7 @@ fn put_load(
     Ok(())
 }
 
-/// Whether so many slots take so many minutes or more.
+/// Whether these slots take at least this many minutes.
 fn is_long(parts: &PortParts, slots: u32, minutes: u64) -> bool
     requires { PortKept parts.now }
     ensures { result ≡ is_long parts.now slots minutes }
@@ -111,7 +112,7 @@ fn last_of(parts: &PortParts, ship: &Ship) -> u32
     last_offset(parts.waypoints.len(), &ship.route)
 }
 
-/// Appends the line of a ship whose last pass, so many slots after its own, looks as if it were in minutes.
+/// Appends the line of a ship whose last pass, counted in slots after its own, looks as if it were in minutes.
 #[tactic(auto, unfolding(crate::specs::Ships::late_by))]
 fn put_last(
     out: &mut Vec<u8>,
@@ -147,7 +148,7 @@ fn put_late(
 fn needed(parts: &PortParts, ship: &Ship) -> u32
     requires port { PortKept parts.now }
     requires ship { ShipKept parts.now ship.now }
-    ensures { result ≡ needed parts.now ship.now }
+    ensures { result ≡ last_height_needed parts.now ship.now }
 {
     let passed = natural(ship.latest) + last_of(parts, ship);
     if parts.is_least() { passed + 1 } else { passed }
@@ -213,9 +214,9 @@ pub fn put_ships(
     ships: &[Ship],
 ) -> Result<(), AllocError>
     requires port { PortKept parts.now }
-    requires few { first + length ships.now ≤ 40 }
+    requires few { first + length ships.now ≤ MOST_SHIPS }
     requires ships { All (ShipKept parts.now) ships.now }
-    ensures { OnOk result (out.new.items ≡ out.old.items ++ ships_from parts.now rows first ships.now) }
+    ensures { OnOk result (out.new.items ≡ out.old.items ++ ship_hints_from parts.now rows first ships.now) }
 {
     if let [ship, more @ ..] = ships {
         put_ship(out, parts, rows, first, ship)?;

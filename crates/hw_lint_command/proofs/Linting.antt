@@ -12,11 +12,11 @@ use Rattle.hw_desk.specs.declared.whole.ReadStop.{ReadStop}
 use Rattle.hw_desk.specs.declared.whole.ReadStop.TheVariants as stops
 use Rattle.hw_port.specs.Whole.{Parts}
 use Rattle.hw_port.specs.declared.fault.PortFault.{PortFault}
-use Rattle.hw_read.specs.Instance.{Reads as ReadsPort}
+use Rattle.hw_read.specs.Instance.{PortReads as ReadsPort}
 use Rattle.hw_read.specs.declared.fault.ReadFault.{ReadFault}
 use Rattle.hw_read.specs.declared.fault.ReadFault.TheVariants as read
 use Rattle.hw_tide.specs.Levels.{TideParts}
-use Rattle.hw_tide.specs.Whole.{Reads as ReadsHeights, tide_by_header, waypoint_names}
+use Rattle.hw_tide.specs.Whole.{TideReads as ReadsHeights, tide_by_header, waypoint_names}
 use Rattle.hw_tide.specs.declared.fault.TideFault.{TideFault}
 use Rattle.hw_tide.specs.declared.fault.TideFault.TheVariants as tide
 use Rattle.hw_lint.specs.Instances.{IsBreak, IsFieldTold}
@@ -28,9 +28,8 @@ use Rattle.hw_command.specs.Carries.{Carries}
 use Rattle.hw_command.specs.Ends.{Ends}
 use Rattle.hw_command.specs.Inputs.{ReadsInput, IsWholeOf, report_of_stop}
 use Rattle.hw_command.specs.PortInputs.{NoPort, ReadsInstance, ReadsTide, StopsAtPort}
-use Rattle.hw_command.specs.Scope.{Entered, named}
+use Rattle.hw_command.specs.Scope.{Entered, named_feed}
 use Rattle.hw_command.specs.Statuses.{status_of}
-use Rattle.hw_command.specs.Values.{IsPortOf, IsTable, GivesPort}
 use Rattle.hw_command.specs.Works.{is_common}
 use Rattle.hw_command.specs.declared.port_input.InstanceStop.TheVariants as instances
 use Rattle.hw_command.specs.declared.port_input.TideStop.TheVariants as tables
@@ -39,9 +38,9 @@ use Rattle.hw_command.specs.declared.status.Status.TheVariants.{WriteFault}
 use Rattle.hw_command.proofs.Begun.{answers, entered_none, entered_on}
 use Rattle.hw_command.proofs.Endings.{all_sent, cut_off, nothing_sent, sent_more}
 use Rattle.hw_command.proofs.FlatForms.{of_whole}
-use Rattle.hw_command.proofs.PortForms.{instance_stops, memory_stops, table_stops}
+use Rattle.hw_command.proofs.PortForms.{instance_stops, memory_stops, table_stops, gives_port, is_port}
 use Rattle.hw_command.proofs.Stops.{stops_carries}
-use Rattle.hw_lint_command.specs.Linted.{Refusal, RefusesInstance, RefusesTable, hinted, text_report}
+use Rattle.hw_lint_command.specs.Linted.{Refusal, RefusesInstance, RefusesTable, hinted_reports, text_report}
 use Rattle.hw_lint_command.specs.Lints.{HintsOf, LintsTexts, lint_task}
 
 -- ---- two reports
@@ -61,7 +60,7 @@ both_sent {x = x} a b e h k =
     all_sent a (b ∷ []) e two.0 two.1
 
 -- the hints that were made, and the refusal
-pub hinted_told : {x y : DeskState} {s : Status} {r : Report} (Hints : List ℕ → Type 0) (made : Result (Vec ℕ Global) NoMemory) → IfOk made (λ hints. Hints hints.items) → Ends (hinted made r) x y s → Refusal Hints r x y s
+pub hinted_told : {x y : DeskState} {s : Status} {r : Report} (Hints : List ℕ → Type 0) (made : Result (Vec ℕ Global) NoMemory) → IfOk made (λ hints. Hints hints.items) → Ends (hinted_reports made r) x y s → Refusal Hints r x y s
 hinted_told Hints (Ok hints) are ends = inl (record { hints = hints.items; are = are; ends = ends })
 hinted_told Hints (Err stop) are ends = inr ends
 
@@ -159,20 +158,8 @@ table_refused {p = p} tide.NoMemory h k bad ends = memory_sent (table_stops (tab
 
 -- ---- both are read
 
-both_entered : {name table : List ℕ} {x y z : DeskState} {p : Parts} {t : TideParts} → ReadsInstance name x y (Ok p) → ReadsTide p table y z (Ok t) → Entered (named Instance name ∷ named Tides table ∷ []) x z
-both_entered {name = name} {x = x} h k = entered_on (named Instance name ∷ []) (entered_on [] (entered_none x) h.enters refl) k.enters refl
-
-gives_port : {name : List ℕ} {x y : DeskState} {p : Parts} → ReadsInstance name x y (Ok p) → GivesPort (x.held name)
-gives_port {p = p} h = record { port = p; kept = h.answer.0; reads = h.answer.1 }
-
-is_port : {name table : List ℕ} {x y z : DeskState} {p : Parts} {t : TideParts} → ReadsInstance name x y (Ok p) → ReadsTide p table y z (Ok t) → IsPortOf (x.held name) (x.held table) p t
-is_port {p = p} {t = t} h k = record {
-  kept = h.answer.0;
-  limits = k.answer.0;
-  columns = k.answer.1;
-  instance_reads = h.answer.1;
-  table_reads = subst (λ (told : Option (List ℕ)). IfSome told (IsTable p (Ok t))) (table_held h) k.answer.2;
-}
+both_entered : {name table : List ℕ} {x y z : DeskState} {p : Parts} {t : TideParts} → ReadsInstance name x y (Ok p) → ReadsTide p table y z (Ok t) → Entered (named_feed Instance name ∷ named_feed Tides table ∷ []) x z
+both_entered {name = name} {x = x} h k = entered_on (named_feed Instance name ∷ []) (entered_on [] (entered_none x) h.enters refl) k.enters refl
 
 pub hints_sent : {name table : List ℕ} {x y z w : DeskState} {v : Vec ℕ Global} {s : Status} {p : Parts} {t : TideParts} (text : Result (Vec ℕ Global) NoMemory) → ReadsInstance name x y (Ok p) → ReadsInput Tides table y z (Ok v) → ReadsTide p table y z (Ok t) → IfOk text (λ made. made.items ≡ lint_text p t.rows v.items) → Ends (text_report text ∷ []) z w s → Carries (lint_task name table) x w s
 hints_sent {table = table} {y = y} {z = z} {v = v} {p = p} {t = t} (Ok made) h i k is ends = record {

@@ -14,9 +14,9 @@ use Rattle.hw_command.specs.Ends.{Ends}
 use Rattle.hw_command.specs.declared.status.Status.{Status}
 
 -- the refusal after the hints that were made, or only that memory ran out for them
-abbrev pub hinted : Result (Vec ℕ Global) NoMemory → Report → List Report
-hinted (Ok hints) r = whole_text hints.items ∷ r ∷ []
-hinted (Err stop) r = no_memory ∷ []
+abbrev pub hinted_reports : Result (Vec ℕ Global) NoMemory → Report → List Report
+hinted_reports (Ok hints) r = whole_text hints.items ∷ r ∷ []
+hinted_reports (Err stop) r = no_memory ∷ []
 
 -- the report of a text that is made in memory before it is sent
 abbrev pub text_report : Result (Vec ℕ Global) NoMemory → Report

@@ -10,7 +10,7 @@ use Rattle.hw_lint.specs.Tables.{table_hints}
 use Rattle.hw_report.specs.Reports.{Report, bad_json, bad_field, bad_tides, too_long, whole_text}
 use Rattle.hw_command.specs.Carries.{Task}
 use Rattle.hw_command.specs.PortInputs.{NoPort}
-use Rattle.hw_command.specs.Scope.{named}
+use Rattle.hw_command.specs.Scope.{named_feed}
 use Rattle.hw_command.specs.Values.{IsPortOf, PortGives}
 
 -- what stands before a refusal: of the input that is refused, where it is told
@@ -36,7 +36,7 @@ LintsTexts instance table reports = ⊥
 
 abbrev pub lint_task : List ℕ → List ℕ → Task
 lint_task instance table = record {
-  inputs = named Instance instance ∷ named Tides table ∷ [];
+  inputs = named_feed Instance instance ∷ named_feed Tides table ∷ [];
   Gives = PortGives instance table;
   proof = None;
   Says = λ old new. LintsTexts (old.held instance) (old.held table);

@@ -9,7 +9,7 @@ ghost use Rattle.hw_report.specs.Reports.{bad_field, bad_json, bad_tides, whole_
 ghost use Rattle.hw_report.specs.Seen.{report_seen};
 ghost use Rattle.hw_command.specs.Carries.{Carries};
 ghost use Rattle.hw_command.specs.Ends.{Ends};
-ghost use Rattle.hw_lint_command.specs.Linted.{Refusal, RefusesInstance, RefusesTable, hinted, text_report};
+ghost use Rattle.hw_lint_command.specs.Linted.{Refusal, RefusesInstance, RefusesTable, hinted_reports, text_report};
 ghost use Rattle.hw_lint_command.specs.Lints.{lint_task};
 
 use hw_command::{PortNames, Status, finish, read_input, status_of, stopped};
@@ -40,7 +40,7 @@ fn send_both<D: Desk>(desk: &mut D, hints: &[u8], refusal: &Report) -> Status
 /// Sends what was made of a refused input, and then its refusal; or reports that memory ran out.
 fn send_hinted<D: Desk>(desk: &mut D, hints: &Result<Vec<u8>, NoMemory>, refusal: &Report) -> Status
     requires { CanPrint (report_seen refusal.now) }
-    ensures { Ends (hinted hints.now (report_seen refusal.now)) (D.state desk.old) (D.state desk.new) result }
+    ensures { Ends (hinted_reports hints.now (report_seen refusal.now)) (D.state desk.old) (D.state desk.new) result }
 {
     match hints {
         Ok(hints) => send_both(desk, hints, refusal),

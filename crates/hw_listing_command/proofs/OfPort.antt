@@ -13,10 +13,10 @@ use Rattle.hw_explain.specs.Lines.{explained}
 use Rattle.hw_explain.proofs.Numbers.{each_is_named, named_by_rule, named_means}
 use Rattle.hw_report.specs.Reports.{Report, whole_text}
 use Rattle.hw_subject.specs.Subjects.{port_subject}
-use Rattle.hw_listing_command.specs.ExplainPort.{ExplainsTexts, IsExplanation}
+use Rattle.hw_listing_command.specs.ExplainPort.{ExplainsTexts, IsPortExplanation}
 use Rattle.hw_listing_command.specs.Flattening.{FlattensTexts, IsFlatTextOf}
 use Rattle.hw_listing_command.specs.Laws.{ExplainsAsListed, FlattensAsListed}
-use Rattle.hw_listing_command.specs.Listings.{Lists, flat_text_of, words_of}
+use Rattle.hw_listing_command.specs.Listings.{Lists, flat_text_of, restriction_words}
 
 text_is : (p : Parts) (t : TideParts) (text : List ℕ) → PortKept p → text ≡ problem_text (flattened p t) → IsFlatTextOf p t text
 text_is p t text kept written = record {
@@ -36,7 +36,7 @@ listed_flat instance table held r h = h
 pub flattens_as_listed_law : FlattensAsListed
 flattens_as_listed_law instance table held r = (flattens instance table held r, listed_flat instance table held r)
 
-explanation : (p : Parts) (t : TideParts) (text : List ℕ) → PortKept p → text ≡ explained p → IsExplanation p t text
+explanation : (p : Parts) (t : TideParts) (text : List ℕ) → PortKept p → text ≡ explained p → IsPortExplanation p t text
 explanation p t text kept written = record {
   written = written;
   each = each_is_named p t kept;
@@ -44,11 +44,11 @@ explanation p t text kept written = record {
   means = λ table number line listed e. named_means p t table number line kept listed e;
 }
 
-explains : (instance table : List ℕ) (held : List ℕ → Option (List ℕ)) (r : Report) → Lists (port_subject instance table) words_of held r → ExplainsTexts (held instance) (held table) r
+explains : (instance table : List ℕ) (held : List ℕ → Option (List ℕ)) (r : Report) → Lists (port_subject instance table) restriction_words held r → ExplainsTexts (held instance) (held table) r
 explains instance table held (whole_text text) h = record { port = h.value.port; tide = h.value.tide; reads = h.reads; explains = explanation h.value.port h.value.tide text h.reads.kept h.is_text }
 explains instance table held r h = h
 
-listed_words : (instance table : List ℕ) (held : List ℕ → Option (List ℕ)) (r : Report) → ExplainsTexts (held instance) (held table) r → Lists (port_subject instance table) words_of held r
+listed_words : (instance table : List ℕ) (held : List ℕ → Option (List ℕ)) (r : Report) → ExplainsTexts (held instance) (held table) r → Lists (port_subject instance table) restriction_words held r
 listed_words instance table held (whole_text text) h = record { value = record { port = h.port; tide = h.tide }; reads = h.reads; is_text = h.explains.written }
 listed_words instance table held r h = h
 

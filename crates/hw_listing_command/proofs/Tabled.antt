@@ -11,7 +11,7 @@ use Rattle.hw_command.specs.Carries.{Carries}
 use Rattle.hw_command.specs.Certificates.{report_of_check}
 use Rattle.hw_command.specs.Ends.{Ends}
 use Rattle.hw_command.specs.Readings.{KeepsTable, ReadsCert, outcome_in}
-use Rattle.hw_command.specs.Scope.{named}
+use Rattle.hw_command.specs.Scope.{named_feed}
 use Rattle.hw_command.specs.declared.cert.ReadCert.{ReadCert}
 use Rattle.hw_command.specs.declared.outcome.CertOutcome.TheVariants.{Shows}
 use Rattle.hw_command.specs.declared.outcome.CertStop.{CertStop}
@@ -28,7 +28,7 @@ use Rattle.hw_subject.proofs.Readings.{before_last}
 use Rattle.hw_subject.proofs.Certless.{certless, refuses_on}
 use Rattle.hw_subject.proofs.Certified.{ShowsNothing, all_entered, nothing_says, nothing_works, shown}
 use Rattle.hw_listing_command.specs.Listed.{HasTable}
-use Rattle.hw_listing_command.specs.Tables.{Tables, table_of, table_task}
+use Rattle.hw_listing_command.specs.Tables.{Tables, listing_table, table_task}
 
 pub has_table : (f : Problem) (names : Named) → AreNamesOf f (naming_of names) → HasTable names
 has_table f ByNumber are = tt
@@ -45,7 +45,7 @@ refused_says topic cert held r h = refuses_on (topic_subject topic) Three cert h
 
 -- the inputs give no value
 pub table_stops : {x y z : DeskState} {r : Report} {e : Status} (topic : Topic) (cert : List ℕ) → StopsAtSubject (topic_subject topic) x y r → Ends (r ∷ []) y z e → Carries (table_task (topic_subject topic) cert) x z e
-table_stops {x = x} {r = r} topic cert h ends = stops_carries (table_task (topic_subject topic) cert) (named Certificate cert ∷ []) h refl (λ feed given. given) (refused_says topic cert x.held r) ends
+table_stops {x = x} {r = r} topic cert h ends = stops_carries (table_task (topic_subject topic) cert) (named_feed Certificate cert ∷ []) h refl (λ feed given. given) (refused_says topic cert x.held r) ends
 
 -- the certificate shows nothing
 pub table_refuses : {cert : List ℕ} {x y z end : DeskState} {given : Given} {e : Status} (topic : Topic) (result : Result (ReadCert LastTable) CertStop) → ShowsNothing result → ReadsSubject (topic_subject topic) x y given → ReadsCert Three KeepsTable (searched_in given.flat given.repair) cert y z result → Ends (report_of_check by_number None None (outcome_in result) ∷ []) z end e → Carries (table_task (topic_subject topic) cert) x end e
@@ -58,21 +58,21 @@ table_refuses {cert = cert} {x = x} {z = z} topic result nothing h k ends = reco
 }
 
 -- the table is sent
-pub table_sent : {cert : List ℕ} {x y z end : DeskState} {given : Given} {read : ReadCert LastTable} {e : Status} (topic : Topic) (v : Verdict) → read.outcome ≡ Shows v → ReadsSubject (topic_subject topic) x y given → ReadsCert Three KeepsTable (searched_in given.flat given.repair) cert y z (Ok read) → Ends (picture v (table_of (naming_of given.named) read.kept.0) ∷ []) z end e → Carries (table_task (topic_subject topic) cert) x end e
+pub table_sent : {cert : List ℕ} {x y z end : DeskState} {given : Given} {read : ReadCert LastTable} {e : Status} (topic : Topic) (v : Verdict) → read.outcome ≡ Shows v → ReadsSubject (topic_subject topic) x y given → ReadsCert Three KeepsTable (searched_in given.flat given.repair) cert y z (Ok read) → Ends (picture v (listing_table (naming_of given.named) read.kept.0) ∷ []) z end e → Carries (table_task (topic_subject topic) cert) x end e
 table_sent {cert = cert} {x = x} {z = z} {given = given} {read = read} topic v e h k ends =
     let s = topic_subject topic in
     let table = read.kept.0 in
     record {
       mid = z;
-      reports = picture v (table_of (naming_of given.named) table) ∷ [];
-      works = answers None _ refl (all_entered topic h k) (before_last (s.Gives x.held) s.inputs (named Certificate cert) h.give) (k.reads.0 ∙ h.read_faults);
+      reports = picture v (listing_table (naming_of given.named) table) ∷ [];
+      works = answers None _ refl (all_entered topic h k) (before_last (s.Gives x.held) s.inputs (named_feed Certificate cert) h.give) (k.reads.0 ∙ h.read_faults);
       says = λ own. record {
         value = h.value;
         reads = h.reads;
         bound = read.bound;
         table = table;
         shown = shown topic v e h k;
-        is_table = ap (λ (names : Naming). table_of names table) h.naming;
+        is_table = ap (λ (names : Naming). listing_table names table) h.naming;
       };
       ends = ends;
     }

@@ -10,10 +10,10 @@ use Rattle.hw_cert.specs.declared.version.Version.TheVariants.{Three}
 use Rattle.hw_cert.specs.Stream.{CertLines, cert_stream_to}
 use Rattle.hw_report.specs.Reports.{Report, Naming, checked, picture, refused, too_long}
 use Rattle.hw_command.specs.Certificates.{cert_outcome_to, report_of}
-use Rattle.hw_command.specs.Keeping.{whole_lines}
+use Rattle.hw_command.specs.Keeping.{complete_lines}
 use Rattle.hw_command.specs.declared.outcome.CertOutcome.{CertOutcome}
 use Rattle.hw_command.specs.declared.outcome.CertOutcome.TheVariants.{Shows, Wrong, TooLong}
-use Rattle.hw_subject.specs.Meanings.{judged, ships_of}
+use Rattle.hw_subject.specs.Meanings.{judged, repair_ships}
 use Rattle.hw_subject.specs.Subjects.{Subject, Topic, topic_subject}
 use Rattle.hw_subject.specs.Decided.{IsDecided, IsReported, ReportedBy, certified}
 use Rattle.hw_subject.specs.Shown.{Refused, Shown}
@@ -22,7 +22,7 @@ use Rattle.hw_subject.proofs.Certless.{certless}
 use Rattle.hw_subject.proofs.Decided.{one_of, subjects_decided_law, told_bytes}
 use Rattle.hw_subject.proofs.Reports.{certificates_decide_law}
 use Rattle.hw_listing_command.specs.Laws.{IsTableAs, OneTable, TablesAsVerified}
-use Rattle.hw_listing_command.specs.Tables.{Tabled, Tables, table_of}
+use Rattle.hw_listing_command.specs.Tables.{Tabled, Tables, listing_table}
 
 -- ---- by what is read of the inputs
 
@@ -32,7 +32,7 @@ shown_in f bytes = last_table (cert_stream_to Three (shape_of f) bytes).lines
 
 -- the report that they give
 abbrev outcome_table : Naming → Problem → List ℕ → CertOutcome → Report
-outcome_table names f bytes (Shows v) = picture v (table_of names (shown_in f bytes))
+outcome_table names f bytes (Shows v) = picture v (listing_table names (shown_in f bytes))
 outcome_table names f bytes (Wrong number word hint) = refused number word hint
 outcome_table names f bytes TooLong = too_long Certificate
 
@@ -42,9 +42,9 @@ cert_table names f bytes = outcome_table names f bytes (cert_outcome_to Three f 
 abbrev tabled : (s : Subject) → List ℕ → s.Value → Report
 tabled s bytes v = cert_table (s.naming v) (judged s v) bytes
 
-table_told : (names : Naming) (f : Problem) (bytes : List ℕ) (lines : List Line) (w : Verdict) (table : Option (List ℕ)) → table ≡ last_table lines → cert_stream_to Three (shape_of f) bytes ≡ whole_lines lines → Shows w ≡ cert_outcome_to Three f bytes → picture w (table_of names table) ≡ cert_table names f bytes
+table_told : (names : Naming) (f : Problem) (bytes : List ℕ) (lines : List Line) (w : Verdict) (table : Option (List ℕ)) → table ≡ last_table lines → cert_stream_to Three (shape_of f) bytes ≡ complete_lines lines → Shows w ≡ cert_outcome_to Three f bytes → picture w (listing_table names table) ≡ cert_table names f bytes
 table_told names f bytes lines w table t read o =
-    ap (λ (t : Option (List ℕ)). picture w (table_of names t)) (t ∙ sym (ap (λ (all : CertLines). last_table all.lines) read))
+    ap (λ (t : Option (List ℕ)). picture w (listing_table names t)) (t ∙ sym (ap (λ (all : CertLines). last_table all.lines) read))
     ∙ ap (outcome_table names f bytes) o
 
 picture_by : {held : List ℕ → Option (List ℕ)} {cert bytes listed : List ℕ} {w : Verdict} (s : Subject) → held cert ≡ Some bytes → Tabled s cert held w listed → ReportedBy s held (tabled s bytes) (picture w listed)
@@ -98,7 +98,7 @@ alike topic held bytes c r d (inr a) (inr b) =
     let s = topic_subject topic in
     let v = a.value in
     let listed : cert_table (s.naming v) (judged s v) bytes ≡ r = ap (λ (v : s.Value). cert_table (s.naming v) (judged s v) bytes) (d.one_value v b.value a.reads b.reads) ∙ sym b.report in
-    subst (λ (x : Report). IsTableAs x r) (sym a.report) (subst (IsTableAs _) listed (outcome_alike (s.naming v) (cert_bound Three (judged s v) bytes) (ships_of (s.problem v) (s.plan v)) (judged s v) bytes (cert_outcome_to Three (judged s v) bytes)))
+    subst (λ (x : Report). IsTableAs x r) (sym a.report) (subst (IsTableAs _) listed (outcome_alike (s.naming v) (cert_bound Three (judged s v) bytes) (repair_ships (s.problem v) (s.plan v)) (judged s v) bytes (cert_outcome_to Three (judged s v) bytes)))
 
 pub tables_as_verified_law : TablesAsVerified
 tables_as_verified_law topic cert held c r all told h g =

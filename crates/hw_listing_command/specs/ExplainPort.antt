@@ -14,7 +14,7 @@ use Rattle.hw_command.specs.PortInputs.{NoPort}
 use Rattle.hw_command.specs.Values.{IsPortOf}
 
 -- the text that explains the port: a line for each restriction of its flat problem, which names the rule of its number there, and says of a timetable what that rule says
-pub record IsExplanation (p : Parts) (h : TideParts) (text : List ℕ) : Type 0 where
+pub record IsPortExplanation (p : Parts) (h : TideParts) (text : List ℕ) : Type 0 where
   pub written : text ≡ explained p
   pub each : length (named_restrictions p) ≡ restriction_count (flattened p h)
   pub rule : (number : ℕ) (line : Named) → slice_get (named_restrictions p) number ≡ Some line → IsNamed (flattened p h) number line
@@ -25,7 +25,7 @@ pub record ExplainsPort (instance table : Option (List ℕ)) (text : List ℕ) :
   pub port : Parts
   pub tide : TideParts
   pub reads : IsPortOf instance table port tide
-  pub explains : IsExplanation port tide text
+  pub explains : IsPortExplanation port tide text
 
 -- what a report says of the instance and of the table, each where it is told
 abbrev pub ExplainsTexts : Option (List ℕ) → Option (List ℕ) → Report → Type 0

@@ -7,8 +7,8 @@ use Rattle.hw_subject.specs.Checks.{Checks}
 use Rattle.hw_subject.specs.Decided.{AllTold}
 use Rattle.hw_listing_command.specs.ExplainPort.{ExplainsTexts}
 use Rattle.hw_listing_command.specs.Flattening.{FlattensTexts}
-use Rattle.hw_listing_command.specs.Listings.{Lists, flat_text_of, words_of}
-use Rattle.hw_listing_command.specs.Tables.{Tables, table_of}
+use Rattle.hw_listing_command.specs.Listings.{Lists, flat_text_of, restriction_words}
+use Rattle.hw_listing_command.specs.Tables.{Tables, listing_table}
 
 -- where all inputs are told, their bytes decide the report, whatever text is listed, unless a call fails or memory runs out
 abbrev pub OneListing : Type 0
@@ -20,7 +20,7 @@ OneTable = (topic : Topic) (cert : List ℕ) (held : List ℕ → Option (List �
 
 -- the report of `table`, by that of `verify`: a table with the verdict that is shown, and the same report where nothing is
 abbrev pub IsTableAs : Report → Report → Type 0
-IsTableAs (checked shows bound ships names) r = (table : Option (List ℕ)) × (r ≡ picture shows (table_of names table))
+IsTableAs (checked shows bound ships names) r = (table : Option (List ℕ)) × (r ≡ picture shows (listing_table names table))
 IsTableAs c r = r ≡ c
 
 -- of the same told bytes `table` shows what `verify` shows, and refuses what `verify` refuses, unless a call fails or memory runs out
@@ -33,4 +33,4 @@ FlattensAsListed = (instance table : List ℕ) (held : List ℕ → Option (List
 
 -- what `explain port` lists, both ways in the words of a port's restrictions
 abbrev pub ExplainsAsListed : Type 0
-ExplainsAsListed = (instance table : List ℕ) (held : List ℕ → Option (List ℕ)) (r : Report) → Lists (port_subject instance table) words_of held r ↔ ExplainsTexts (held instance) (held table) r
+ExplainsAsListed = (instance table : List ℕ) (held : List ℕ → Option (List ℕ)) (r : Report) → Lists (port_subject instance table) restriction_words held r ↔ ExplainsTexts (held instance) (held table) r

@@ -8,14 +8,14 @@ use Rattle.hw_subject.specs.Reading.{naming_of}
 use Rattle.hw_subject.specs.declared.source.Named.{Named}
 use Rattle.hw_subject.specs.declared.source.Named.TheVariants.{ByNumber, ByName}
 use Rattle.hw_listing_command.specs.Listings.{programme_text}
-use Rattle.hw_listing_command.specs.Tables.{table_of}
+use Rattle.hw_listing_command.specs.Tables.{listing_table}
 use Rattle.hw_listing_command.specs.declared.listing.Listing.{Listing}
 use Rattle.hw_listing_command.specs.declared.listing.Listing.TheVariants.{Windows, Model, Table}
 
 abbrev pub listing_text : Listing → List ℕ
 listing_text (Windows port tide) = windows_text port.now tide.now
 listing_text (Model flat format) = programme_text format flat.now
-listing_text (Table named table) = table_of (naming_of named.now) (option_map (λ t. t.now) table)
+listing_text (Table named table) = listing_table (naming_of named.now) (option_map (λ t. t.now) table)
 
 -- a tide has a column for each waypoint of its port
 abbrev pub HasTable : Named → Type 0

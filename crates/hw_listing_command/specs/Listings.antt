@@ -49,11 +49,11 @@ abbrev pub windows_task : List ℕ → List ℕ → Task
 windows_task instance table = port_task instance table windows_of
 
 -- its restrictions in its own words, by their numbers in its flat problem
-abbrev pub words_of : Harbour → List ℕ
-words_of v = explained v.port
+abbrev pub restriction_words : Harbour → List ℕ
+restriction_words v = explained v.port
 
 abbrev pub explain_port_task : List ℕ → List ℕ → Task
-explain_port_task instance table = port_task instance table words_of
+explain_port_task instance table = port_task instance table restriction_words
 
 -- its flat text
 abbrev pub flat_text_of : Harbour → List ℕ

@@ -4,18 +4,18 @@ use Rattle.hw_desk.specs.State.{DeskState}
 use Rattle.hw_desk.specs.declared.desk.Feed.TheVariants.{Certificate}
 use Rattle.hw_lines.specs.declared.check.Verdict.{Verdict}
 use Rattle.hw_cert.specs.declared.version.Version.TheVariants.{Three}
-use Rattle.hw_table.specs.Tables.{table_text}
+use Rattle.hw_table.specs.Tables.{whole_table_text}
 use Rattle.hw_report.specs.Reports.{Report, Naming, by_number, by_name, checked, picture}
 use Rattle.hw_command.specs.Carries.{Task, one_report}
-use Rattle.hw_command.specs.Scope.{named}
+use Rattle.hw_command.specs.Scope.{named_feed}
 use Rattle.hw_subject.specs.Subjects.{Subject}
 use Rattle.hw_subject.specs.Checks.{Checks}
 use Rattle.hw_subject.specs.Shown.{Shown}
 
 -- the table of the port by whose names ships are reported, with a timetable or none. A flat text, whose ships have neither names nor drafts, has no table
-abbrev pub table_of : Naming → Option (List ℕ) → List ℕ
-table_of by_number table = []
-table_of (by_name p h) table = table_text p h table
+abbrev pub listing_table : Naming → Option (List ℕ) → List ℕ
+listing_table by_number table = []
+listing_table (by_name p h) table = whole_table_text p h table
 
 -- what is read of the inputs, each where it is told, and the table of the last timetable of the certificate, which shows this verdict
 pub record Tabled (s : Subject) (cert : List ℕ) (held : List ℕ → Option (List ℕ)) (shows : Verdict) (listed : List ℕ) : Type 0 where
@@ -24,7 +24,7 @@ pub record Tabled (s : Subject) (cert : List ℕ) (held : List ℕ → Option (L
   pub bound : Option ℕ
   pub table : Option (List ℕ)
   pub shown : Shown s value Three (held cert) shows bound table
-  pub is_table : listed ≡ table_of (s.naming value) table
+  pub is_table : listed ≡ listing_table (s.naming value) table
 
 -- what a report says of the inputs and of the certificate, each as far as it is told: what `verify` says of them, unless something is shown, of which the table is sent
 abbrev pub Tables : Subject → List ℕ → (List ℕ → Option (List ℕ)) → Report → Type 0
@@ -38,7 +38,7 @@ TableSays s cert old (Some r) = Tables s cert old.held r
 
 abbrev pub table_task : Subject → List ℕ → Task
 table_task s cert = record {
-  inputs = s.inputs ++ (named Certificate cert ∷ []);
+  inputs = s.inputs ++ (named_feed Certificate cert ∷ []);
   Gives = s.Gives;
   proof = None;
   Says = one_report (λ old new. TableSays s cert old);

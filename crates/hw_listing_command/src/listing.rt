@@ -10,7 +10,7 @@ ghost use Rattle.hw_command.specs.Ends.{Ends};
 ghost use Rattle.hw_subject.specs.Reading.{naming_of};
 ghost use Rattle.hw_listing_command.specs.Listed.{CanList, HasTable, held_report, listing_text};
 ghost use Rattle.hw_listing_command.specs.Listings.{programme_text};
-ghost use Rattle.hw_listing_command.specs.Tables.{table_of};
+ghost use Rattle.hw_listing_command.specs.Tables.{listing_table};
 
 use hw_command::{Status, finish};
 use hw_desk::{Desk, DeskFailed, Tray, TrayWriter, Writer};
@@ -108,7 +108,7 @@ fn put_programme<W: Writer>(out: &mut W, flat: &Flat, format: Format)
 /// Puts the table of a port's plan; of a flat text nothing.
 fn put_plan<W: Writer>(out: &mut W, named: &Named, table: Option<&Timetable>)
     requires { HasTable named.now }
-    ensures { Puts (table_of (naming_of named.now) (option_map (λ table. table.now) table.entry)) (W.state out.old) (W.state out.new) }
+    ensures { Puts (listing_table (naming_of named.now) (option_map (λ table. table.now) table.entry)) (W.state out.old) (W.state out.new) }
 {
     match named {
         Named::ByNumber => out.put(b""),

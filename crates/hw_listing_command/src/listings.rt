@@ -4,7 +4,7 @@ ghost use Rattle.std.specs.Prelude.{◌≡◌, IfOk};
 ghost use Rattle.hw_desk.specs.State.{IsNewDesk};
 ghost use Rattle.hw_flat.specs.TextWritten.{IsWritable, problem_text};
 ghost use Rattle.hw_command.specs.Carries.{Carries};
-ghost use Rattle.hw_subject.specs.Subjects.{source_of};
+ghost use Rattle.hw_subject.specs.Subjects.{subject_of_source};
 ghost use Rattle.hw_listing_command.specs.Listings.{explain_port_task, flatten_task, model_task, windows_task};
 
 use crate::listing::{Listing, list, list_held};
@@ -76,7 +76,7 @@ fn flat_text(alloc: Global, flat: &Flat) -> Result<Vec<u8>, NoMemory>
 /// `list_windows`.
 pub fn list_model<D: Desk>(alloc: Global, desk: &mut D, source: Source, format: Format) -> Status
     requires fresh { IsNewDesk (D.state desk.old) }
-    ensures { Carries (model_task (source_of source.entry) format) (D.state desk.old) (D.state desk.new) result }
+    ensures { Carries (model_task (subject_of_source source.entry) format) (D.state desk.old) (D.state desk.new) result }
 {
     let subject = Subject {
         of: source,

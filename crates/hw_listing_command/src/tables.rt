@@ -8,7 +8,7 @@ ghost use Rattle.hw_command.specs.Ends.{Ends};
 ghost use Rattle.hw_subject.specs.Reading.{naming_of};
 ghost use Rattle.hw_subject.specs.Subjects.{subject_of};
 ghost use Rattle.hw_listing_command.specs.Listed.{HasTable};
-ghost use Rattle.hw_listing_command.specs.Tables.{table_of, table_task};
+ghost use Rattle.hw_listing_command.specs.Tables.{listing_table, table_task};
 
 use crate::listing::{Listing, send_listing};
 use hw_cert::{Verdict, Version};
@@ -59,7 +59,7 @@ fn send_table<D: Desk>(
     verdict: Verdict,
 ) -> Status
     requires { HasTable named.now }
-    ensures { Ends (picture verdict (table_of (naming_of named.now) (option_map (λ t. t.now) table.entry)) ∷ []) (D.state desk.old) (D.state desk.new) result }
+    ensures { Ends (picture verdict (listing_table (naming_of named.now) (option_map (λ t. t.now) table.entry)) ∷ []) (D.state desk.old) (D.state desk.new) result }
 {
     match send_listing(desk, Listing::Table { named, table }) {
         Ok(()) => status_of_verdict(verdict),

@@ -66,7 +66,7 @@ wider_from small wide (lit ∷ more) place before ships slots e =
 pub clause_wider : (small wide : Shape) (clause : List Lit) → small.ships ≤ wide.ships → small.slots ≤ wide.slots → IsClause small clause → IsClause wide clause
 clause_wider small wide clause ships slots e = wider_from small wide clause 0 None ships slots e
 
-lits_from : (shape : Shape) (clause : List Lit) (place : ℕ) (before : Option Lit) → first_bad_from shape place before clause ≡ None → All (IsLitOf shape.ships) clause
+pub lits_from : (shape : Shape) (clause : List Lit) (place : ℕ) (before : Option Lit) → first_bad_from shape place before clause ≡ None → All (IsLitOf shape.ships) clause
 lits_from shape [] place before e = All-nil (IsLitOf shape.ships)
 lits_from shape (lit ∷ more) place before e =
     let good = no_bad (lit_fits shape lit) (keeps_form before lit) _ _ _ e in

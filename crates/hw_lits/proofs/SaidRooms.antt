@@ -30,7 +30,7 @@ denied_more : (room : RoomModel) (clause : List Lit) (lit : Lit) → denied_from
 denied_more room [] lit = refl
 denied_more room (l ∷ clause) lit = denied_more (cut (negation l) room) clause lit
 
-good_from : (a b : Bool) (x y : BadLit) (z : Option BadLit) → a ≡ true → b ≡ true → z ≡ None → cond (not a) (Some x) (cond (not b) (Some y) z) ≡ None
+pub good_from : (a b : Bool) (x y : BadLit) (z : Option BadLit) → a ≡ true → b ≡ true → z ≡ None → cond (not a) (Some x) (cond (not b) (Some y) z) ≡ None
 good_from true true x y z e f h = h
 good_from true false x y z e f h = absurd cc
 good_from false b x y z e f h = absurd cc

@@ -1,5 +1,5 @@
 -- What a step tells of the literals, and what it means for one of them.
-use Rattle.std.proofs.Common.{◌≡◌, ◌≢◌, ℕ, zero, suc, ◌||◌, Bool, true, false, cond, List, [], ◌∷◌, refl, ap, arith, All, IfSome, slice_get}
+use Rattle.std.proofs.Common.{◌≡◌, ◌≢◌, ℕ, zero, suc, ◌||◌, Bool, true, false, cond, List, [], ◌∷◌, refl, ap, arith, IfSome, slice_get}
 use Rattle.std.proofs.lemmas.Bool.{or_left, or_right}
 use Rattle.std.proofs.lemmas.List.Elements.{All-nil, All-cons}
 use Rattle.hw_model.specs.declared.lit.Lit.{Lit}
@@ -10,16 +10,11 @@ use Rattle.hw_model.specs.declared.narrowing.Narrowed.TheVariants.{Same, Cut, Co
 use Rattle.hw_model.specs.Rooms.{RoomModel}
 use Rattle.hw_model.specs.Narrowing.{truth}
 use Rattle.hw_model.specs.Replay.{is_true, is_free, some_true, free_lits, step_by, narrowing}
-use Rattle.hw_lits.specs.Steps.{Tells}
-
--- a property of each element, read at a place
-pub at_place : {X : Type 0} (P : X → Type 0) (xs : List X) (place : ℕ) → All P xs → IfSome (slice_get xs place) P
-at_place P [] place all = tt
-at_place P (x ∷ xs) zero all = all 0 x (omega arith)
-at_place P (x ∷ xs) (suc place) all = at_place P xs place (λ i d lt. all (suc i) d (omega (arith, lt)))
+use Rattle.hw_laws.proofs.Counting.{at_place}
+use Rattle.hw_lits.specs.Steps.{NarrowingTells}
 
 -- one more literal before them that is False
-behind_false : (room : RoomModel) (lit : Lit) (more : List Lit) (step : Narrowed) → truth room lit ≡ False → Tells room more step → Tells room (lit ∷ more) step
+behind_false : (room : RoomModel) (lit : Lit) (more : List Lit) (step : Narrowed) → truth room lit ≡ False → NarrowingTells room more step → NarrowingTells room (lit ∷ more) step
 behind_false room lit more Same e h = or_right (is_true (truth room lit)) _ h
 behind_false room lit more (Cut l) e h = record { place = suc h.place; stands = h.stands; free = h.free; others = λ other n. others_of other n }
   where
@@ -30,7 +25,7 @@ behind_false room lit more Conflict e h = All-cons (λ l. truth room l ≡ False
 behind_false room lit more (Loose a b) e h = record { place = suc h.place; later = suc h.later; ascends = omega (arith, h.ascends); stands = h.stands; stands_later = h.stands_later; free = h.free; free_later = h.free_later }
 
 -- one more literal before them that is Free
-behind_free : (room : RoomModel) (lit : Lit) (more : List Lit) (some : Bool) (free : List Lit) → truth room lit ≡ Free → some_true room more ≡ some → Tells room more (step_by some free) → Tells room (lit ∷ more) (step_by some (lit ∷ free))
+behind_free : (room : RoomModel) (lit : Lit) (more : List Lit) (some : Bool) (free : List Lit) → truth room lit ≡ Free → some_true room more ≡ some → NarrowingTells room more (step_by some free) → NarrowingTells room (lit ∷ more) (step_by some (lit ∷ free))
 behind_free room lit more true free e s h = or_right (is_true (truth room lit)) _ s
 behind_free room lit more false [] e s h = record { place = 0; stands = refl; free = e; others = others_of }
   where
@@ -44,13 +39,13 @@ behind_free room lit more false (x ∷ y ∷ free) e s h = record { place = 0; l
 with_first : RoomModel → Lit → List Lit → LitTruth → Narrowed
 with_first room lit more t = step_by (is_true t || some_true room more) (cond (is_free t) (lit ∷ free_lits room more) (free_lits room more))
 
-behind : (room : RoomModel) (lit : Lit) (more : List Lit) (t : LitTruth) → truth room lit ≡ t → Tells room more (narrowing more room) → Tells room (lit ∷ more) (with_first room lit more t)
+behind : (room : RoomModel) (lit : Lit) (more : List Lit) (t : LitTruth) → truth room lit ≡ t → NarrowingTells room more (narrowing more room) → NarrowingTells room (lit ∷ more) (with_first room lit more t)
 unfolding with_first
 behind room lit more True e h = or_left (is_true (truth room lit)) _ (ap is_true e)
 behind room lit more False e h = behind_false room lit more (narrowing more room) e h
 behind room lit more Free e h = behind_free room lit more (some_true room more) (free_lits room more) e refl h
 
-pub told : (room : RoomModel) (clause : List Lit) → Tells room clause (narrowing clause room)
+pub told : (room : RoomModel) (clause : List Lit) → NarrowingTells room clause (narrowing clause room)
 unfolding with_first
 told room [] = All-nil (λ l. truth room l ≡ False)
 told room (lit ∷ more) = behind room lit more (truth room lit) refl (told room more)

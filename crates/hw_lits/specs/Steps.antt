@@ -30,15 +30,15 @@ pub record HasTwoFree (room : RoomModel) (clause : List Lit) (first second : Lit
   pub free_later : truth room second ≡ Free
 
 -- what a step tells: Same that a literal is True, Cut which one is the only one not False, Conflict that all are False, Loose two that are Free
-abbrev pub Tells : RoomModel → List Lit → Narrowed → Type 0
-Tells room clause Same = IsTrue (some_true room clause)
-Tells room clause (Cut lit) = IsUnit room clause lit
-Tells room clause Conflict = AllFalse room clause
-Tells room clause (Loose first second) = HasTwoFree room clause first second
+abbrev pub NarrowingTells : RoomModel → List Lit → Narrowed → Type 0
+NarrowingTells room clause Same = IsTrue (some_true room clause)
+NarrowingTells room clause (Cut lit) = IsUnit room clause lit
+NarrowingTells room clause Conflict = AllFalse room clause
+NarrowingTells room clause (Loose first second) = HasTwoFree room clause first second
 
 -- the law: each step tells what the definition says
 abbrev pub StepTells : Type 0
-StepTells = (room : RoomModel) (clause : List Lit) → Tells room clause (narrowing clause room)
+StepTells = (room : RoomModel) (clause : List Lit) → NarrowingTells room clause (narrowing clause room)
 
 -- the step of literals none of which is True, with one more that is open
 abbrev pub with_free : Narrowed → Lit → Narrowed

@@ -3,7 +3,7 @@
 ghost use Rattle.std.specs.Prelude.{◌≡◌, All};
 ghost use Rattle.hw_model.specs.Replay.{narrowing, room_after};
 ghost use Rattle.hw_model.specs.Lits.{IsLitOf};
-ghost use Rattle.hw_lits.specs.Steps.{Tells, with_free};
+ghost use Rattle.hw_lits.specs.Steps.{NarrowingTells, with_free};
 
 use crate::clause::Clause;
 use crate::cutting::{cut, truth};
@@ -15,7 +15,7 @@ use hw_model::{Lit, LitTruth, Narrowed};
 pub fn narrowing(clause: &Clause, room: &Room) -> Narrowed
     requires fits { All (IsLitOf room.now.ships) clause.now }
     ensures value { result ≡ narrowing clause.now room.now }
-    ensures tells { Tells room.now clause.now result }
+    ensures tells { NarrowingTells room.now clause.now result }
 {
     narrowing_lits(clause.as_slice(), room)
 }
@@ -24,7 +24,7 @@ pub fn narrowing(clause: &Clause, room: &Room) -> Narrowed
 pub fn narrowing_lits(lits: &[Lit], room: &Room) -> Narrowed
     requires fits { All (IsLitOf room.now.ships) lits.now }
     ensures value { result ≡ narrowing lits.now room.now }
-    ensures tells { Tells room.now lits.now result }
+    ensures tells { NarrowingTells room.now lits.now result }
 {
     let mut step = Narrowed::Conflict;
     for lit in lits {
@@ -42,7 +42,7 @@ pub fn narrowing_lits(lits: &[Lit], room: &Room) -> Narrowed
 pub fn narrow(clause: &Clause, room: &mut Room) -> Narrowed
     requires fits { All (IsLitOf room.old.ships) clause.now }
     ensures value { result ≡ narrowing clause.now room.old }
-    ensures tells { Tells room.old clause.now result }
+    ensures tells { NarrowingTells room.old clause.now result }
     ensures room { room.new ≡ room_after result room.old }
     ensures ships { room.new.ships ≡ room.old.ships }
     ensures slots { room.new.slots ≡ room.old.slots }
@@ -54,7 +54,7 @@ pub fn narrow(clause: &Clause, room: &mut Room) -> Narrowed
 pub fn narrow_lits(lits: &[Lit], room: &mut Room) -> Narrowed
     requires fits { All (IsLitOf room.old.ships) lits.now }
     ensures value { result ≡ narrowing lits.now room.old }
-    ensures tells { Tells room.old lits.now result }
+    ensures tells { NarrowingTells room.old lits.now result }
     ensures room { room.new ≡ room_after result room.old }
     ensures ships { room.new.ships ≡ room.old.ships }
     ensures slots { room.new.slots ≡ room.old.slots }

@@ -10,7 +10,7 @@ use Rattle.hw_model.specs.Limits.{ShapeFits}
 use Rattle.hw_model.specs.Rooms.{RoomModel, IsRoom, order_of, whole_room}
 use Rattle.hw_model.specs.Narrowing.{with_order}
 
-placed : (n v w : ℕ) → v < n → w < n → v * n + w < n * n
+pub placed : (n v w : ℕ) → v < n → w < n → v * n + w < n * n
 placed n v w p q = grind (arith, rows)
 
 -- in the room that leaves all open

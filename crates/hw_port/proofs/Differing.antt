@@ -3,6 +3,7 @@ use Rattle.std.proofs.Common.{◌≡◌, ◌≢◌, ℕ, zero, suc, ◌+◌, ◌
 use Rattle.std.specs.List.{list_any}
 use Rattle.std.proofs.lemmas.Bool.{cases_Bool}
 use Rattle.std.proofs.lemmas.Slice.Eq.{bytes_eq-Decides}
+use Rattle.hw_lemmas.proofs.Truths.{was_not, neither as first_false}
 use Rattle.hw_port.specs.declared.fault.Path.{Path}
 use Rattle.hw_port.specs.declared.fault.PortFault.{PortFault}
 use Rattle.hw_port.specs.declared.fault.PortWord.TheVariants.{Name, Repeat}
@@ -10,10 +11,6 @@ use Rattle.hw_port.specs.Faults.{unless, each}
 use Rattle.hw_port.specs.Rules.{is_name, among, new_name}
 use Rattle.hw_port.specs.Kept.{Differ}
 use Rattle.hw_port.proofs.Keeping.{neither, unless_none}
-
-was_not : (b : Bool) → not b ≡ true → b ≡ false
-was_not true e = absurd cc
-was_not false e = refl
 
 -- a name without a fault isn't that of an earlier item
 pub used_not : (path : Path) (used : Bool) (text : List ℕ) → new_name path used text ≡ None → used ≡ false
@@ -28,10 +25,6 @@ at_place rule from (y ∷ ys) zero place x at e get =
     let same : y ≡ x = cc in
     subst (λ n. rule n x ≡ None) (sym here) (subst (λ z. rule from z ≡ None) same (neither (rule from y) (each rule (from + 1) ys) e).0)
 at_place rule from (y ∷ ys) (suc k) place x at e get = at_place rule (from + 1) ys k place x (omega (arith, at)) (neither (rule from y) (each rule (from + 1) ys) e).1 get
-
-first_false : (a b : Bool) → (a || b) ≡ false → (a ≡ false) × (b ≡ false)
-first_false true b e = absurd cc
-first_false false b e = (refl, e)
 
 -- an earlier item hasn't the name
 other_name : {A : Type 0} (named : A → List ℕ) (name : List ℕ) (xs : List A) (j i : ℕ) (x : A) → list_any (λ z. bytes_eq (named z) name) (take j xs) ≡ false → i < j → slice_get xs i ≡ Some x → bytes_eq (named x) name ≡ false

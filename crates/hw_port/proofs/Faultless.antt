@@ -17,10 +17,11 @@ use Rattle.hw_port.specs.declared.parts.Closing.{Closing}
 use Rattle.hw_port.specs.declared.parts.AfterPair.{AfterPair}
 use Rattle.hw_port.specs.declared.places.Place.{Place}
 use Rattle.std.specs.Ordering.{int_eq}
+use Rattle.hw_lemmas.specs.Operators.{◌or_else◌}
 use Rattle.hw_port.specs.Parts.{ShipParts}
 use Rattle.hw_port.specs.Whole.{Parts}
-use Rattle.hw_port.specs.Faults.{◌or_else◌, unless, each, at, at_item}
-use Rattle.hw_port.specs.Rules.{in_range, is_place, is_name, is_direction, range, place, count, at_least, above, new_name, among, is_heights}
+use Rattle.hw_port.specs.Faults.{unless, each, at, at_item}
+use Rattle.hw_port.specs.Rules.{in_range, is_place, is_name, is_direction, range, place_in_list, count, at_least, above, new_name, among, is_heights}
 use Rattle.hw_port.specs.Ships.{sort_fault, window_fault, load_fault, pass_fault, route_fault, stretch_fault, stretches_fault, channel_fault, tugs_fault, ship_fault}
 use Rattle.hw_port.specs.Meaning.{start_fault, calendar_fault, waypoint_fault, waypoints_fault, section_fault, sections_fault, gap_fault, row_fault, separation_fault, tug_fault, ships_fault, has_direction, ship_at, side_fault, berth_fault, berths_fault, heights_fault, after_fault, afters_fault, port_fault}
 use Rattle.hw_port.specs.Starts.{is_start}
@@ -38,18 +39,18 @@ holds : (path : Path) (word : PortWord) (b : Bool) → b ≡ true → unless pat
 holds path word true e = refl
 holds path word false e = absurd cc
 
-le_test : (a b : ℤ) → a ≤ℤ b → int_le a b ≡ true
+pub le_test : (a b : ℤ) → a ≤ℤ b → int_le a b ≡ true
 le_test a b h = grind (arith, ints)
 
-lt_test : (a b : ℤ) → a <ℤ b → int_lt a b ≡ true
+pub lt_test : (a b : ℤ) → a <ℤ b → int_lt a b ≡ true
 lt_test a b h = grind (arith, ints)
 
 in_its_range : (path : Path) (low high value : ℤ) → Within low high value → range path low high value ≡ None
 unfolding range
 in_its_range path low high value w = holds path Range (in_range low high value) (and_from (int_le low value) (int_le value high) (le_test low value w.low) (le_test value high w.high))
 
-in_its_place : (path : Path) (many value : ℤ) → IsPlace many value → place path many value ≡ None
-unfolding place
+in_its_place : (path : Path) (many value : ℤ) → IsPlace many value → place_in_list path many value ≡ None
+unfolding place_in_list
 in_its_place path many value w = holds path Range (is_place many value) (and_from (int_le (pos 0) value) (int_lt value many) (le_test (pos 0) value w.low) (lt_test value many w.below))
 
 le_nat : (a b : ℕ) → a ≤ b → nat_le a b ≡ true
@@ -71,7 +72,7 @@ named : (path : Path) (used : Bool) (text : List ℕ) → IsName text → used �
 unfolding new_name
 named path used text good fresh = both (unless path Name (is_name text)) (unless path Repeat (not used)) (holds path Name (is_name text) (from_name text good)) (holds path Repeat (not used) (ap not fresh))
 
-no_fault : {A : Type 0} (rule : ℕ → A → Option PortFault) (from : ℕ) (xs : List A) → ((k place : ℕ) (x : A) → place ≡ from + k → slice_get xs k ≡ Some x → rule place x ≡ None) → each rule from xs ≡ None
+no_fault : {A : Type 0} (rule : ℕ → A → Option PortFault) (from : ℕ) (xs : List A) → ((k place_in_list : ℕ) (x : A) → place_in_list ≡ from + k → slice_get xs k ≡ Some x → rule place_in_list x ≡ None) → each rule from xs ≡ None
 no_fault rule from [] h = refl
 no_fault rule from (x ∷ xs) h = both (rule from x) (each rule (from + 1) xs) (h 0 from x (omega arith) refl) (no_fault rule (from + 1) xs (λ k at y e get. h (suc k) at y (omega (arith, e)) get))
 

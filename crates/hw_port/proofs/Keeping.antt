@@ -5,12 +5,13 @@ use Rattle.std.proofs.lemmas.Bool.Decides.{nat_tests}
 use Rattle.std.proofs.lemmas.Float.{T_from_true}
 use Rattle.std.proofs.lemmas.List.Elements.{All-cons}
 use Rattle.std.specs.Int.Signed.{le_z_yes, lt_z_yes}
+use Rattle.hw_lemmas.specs.Operators.{◌or_else◌}
 use Rattle.hw_port.specs.declared.fault.Path.{Path}
 use Rattle.hw_port.specs.declared.fault.PortFault.{PortFault}
 use Rattle.hw_port.specs.declared.fault.PortWord.{PortWord}
 use Rattle.hw_port.specs.declared.fault.PortWord.TheVariants.{Range, Count, Name, Repeat, Order}
-use Rattle.hw_port.specs.Faults.{◌or_else◌, unless, each}
-use Rattle.hw_port.specs.Rules.{in_range, is_place, is_name, range, place, count, at_least, above, new_name}
+use Rattle.hw_port.specs.Faults.{unless, each}
+use Rattle.hw_port.specs.Rules.{in_range, is_place, is_name, range, place_in_list, count, at_least, above, new_name}
 use Rattle.hw_port.specs.Kept.{Within, IsPlace, Counts, IsName}
 use Rattle.hw_port.proofs.Wording.{name_from}
 
@@ -35,8 +36,8 @@ range_kept path low high value e =
     let p = and_parts (int_le low value) (int_le value high) (unless_none path Range (in_range low high value) e) in
     record { low = le_from_test low value p.0; high = le_from_test value high p.1 }
 
-pub place_kept : (path : Path) (many value : ℤ) → place path many value ≡ None → IsPlace many value
-unfolding place
+pub place_kept : (path : Path) (many value : ℤ) → place_in_list path many value ≡ None → IsPlace many value
+unfolding place_in_list
 place_kept path many value e =
     let p = and_parts (int_le (pos 0) value) (int_lt value many) (unless_none path Range (is_place many value) e) in
     record { low = le_from_test (pos 0) value p.0; below = lt_from_test value many p.1 }

@@ -15,10 +15,11 @@ use Rattle.hw_port.specs.declared.parts.Closing.{Closing}
 use Rattle.hw_port.specs.declared.parts.AfterPair.{AfterPair}
 use Rattle.hw_port.specs.declared.places.Place.{Place}
 use Rattle.std.specs.Ordering.{int_eq}
+use Rattle.hw_lemmas.specs.Operators.{◌or_else◌}
 use Rattle.hw_port.specs.Parts.{ShipParts}
 use Rattle.hw_port.specs.Whole.{Parts}
-use Rattle.hw_port.specs.Faults.{◌or_else◌, unless, each, fault_of, at, at_item}
-use Rattle.hw_port.specs.Rules.{range, place, count, at_least, above, new_name, is_name, is_direction, in_range, is_place, is_heights}
+use Rattle.hw_port.specs.Faults.{unless, each, fault_of, at, at_item}
+use Rattle.hw_port.specs.Rules.{range, place_in_list, count, at_least, above, new_name, is_name, is_direction, in_range, is_place, is_heights}
 use Rattle.hw_port.specs.Starts.{is_start}
 use Rattle.hw_port.specs.Closings.{closing_fault, closed_fault}
 use Rattle.hw_port.specs.Ships.{sort_fault, window_fault, load_fault, pass_fault, route_fault, stretch_fault, stretches_fault, channel_fault, tugs_fault, ship_fault}
@@ -45,8 +46,8 @@ of_range : (path : Path) (low high value : ℤ) → Means (range path low high v
 unfolding range
 of_range path low high value = of_test path Range (in_range low high value) tt
 
-of_place : (path : Path) (many value : ℤ) → Means (place path many value)
-unfolding place
+of_place : (path : Path) (many value : ℤ) → Means (place_in_list path many value)
+unfolding place_in_list
 of_place path many value = of_test path Range (is_place many value) tt
 
 of_count : (path : Path) (low high many : ℕ) → Means (count path low high many)

@@ -1,16 +1,11 @@
 -- A fault of an instance, or none; the first of several.
 use Rattle.std.specs.Prelude.{ℕ, ◌+◌, List, [], ◌∷◌, Bool, true, false, Option, Some, None, Result, Ok, Err}
+use Rattle.hw_lemmas.specs.Operators.{◌or_else◌}
 use Rattle.hw_port.specs.declared.fault.Path.{Path}
 use Rattle.hw_port.specs.declared.fault.PortFault.{PortFault}
 use Rattle.hw_port.specs.declared.fault.PortWord.{PortWord}
 use Rattle.hw_port.specs.declared.places.Place.{Place}
-use Rattle.hw_port.specs.Places.{number_of}
-
--- the first of two faults
-infixr 10 ◌or_else◌
-abbrev pub ◌or_else◌ : Option PortFault → Option PortFault → Option PortFault
-None or_else b = b
-(Some f) or_else b = Some f
+use Rattle.hw_port.specs.Places.{number_of_place}
 
 -- no fault where the test holds
 abbrev pub unless : Path → PortWord → Bool → Option PortFault
@@ -29,12 +24,12 @@ fault_of (Err f) = Some f
 
 -- a place with no star, with one, with two
 abbrev pub at : Place → Path
-at place = record { field = number_of place; first = None; second = None }
+at place = record { field = number_of_place place; first = None; second = None }
 
 -- the path to a place with one star
 abbrev pub at_item : Place → ℕ → Path
-at_item place i = record { field = number_of place; first = Some i; second = None }
+at_item place i = record { field = number_of_place place; first = Some i; second = None }
 
 -- the path to a place with two stars
 abbrev pub at_part : Place → ℕ → ℕ → Path
-at_part place i j = record { field = number_of place; first = Some i; second = Some j }
+at_part place i j = record { field = number_of_place place; first = Some i; second = Some j }

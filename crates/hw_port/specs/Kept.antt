@@ -65,7 +65,7 @@ pub record ClosingKept (many : ℤ) (c : Closing) : Type 0 where
   pub to : IsPlace many c.to
   pub order : c.from ≤ℤ c.to
 
--- at most so many, each of slots below `many`
+-- at most `most` closings, each of slots below `many`
 pub record ClosedKept (most : ℕ) (many : ℤ) (closings : List Closing) : Type 0 where
   pub size : Counts 0 most (length closings)
   pub each : All (ClosingKept many) closings

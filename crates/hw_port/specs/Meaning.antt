@@ -2,6 +2,7 @@
 use Rattle.std.specs.Prelude.{ℕ, ℤ, pos, negsuc, List, length, take, Bool, false, not, Option, Some, None, Result, Ok, Err, bytes_eq}
 use Rattle.std.specs.List.{slice_get}
 use Rattle.std.specs.Ordering.{int_eq}
+use Rattle.hw_lemmas.specs.Operators.{◌or_else◌}
 use Rattle.hw_port.specs.declared.fault.Path.{Path}
 use Rattle.hw_port.specs.declared.fault.PortFault.{PortFault}
 use Rattle.hw_port.specs.declared.places.Place.TheVariants as places
@@ -14,8 +15,8 @@ use Rattle.hw_port.specs.declared.parts.BerthPair.{BerthPair}
 use Rattle.hw_port.specs.declared.parts.AfterPair.{AfterPair}
 use Rattle.hw_port.specs.Parts.{ShipParts}
 use Rattle.hw_port.specs.Whole.{Parts}
-use Rattle.hw_port.specs.Faults.{◌or_else◌, unless, each, at, at_item, at_part}
-use Rattle.hw_port.specs.Rules.{range, place, count, new_name, among, outgoing, incoming, is_heights}
+use Rattle.hw_port.specs.Faults.{unless, each, at, at_item, at_part}
+use Rattle.hw_port.specs.Rules.{range, place_in_list, count, new_name, among, outgoing, incoming, is_heights}
 use Rattle.hw_port.specs.Starts.{is_start}
 use Rattle.hw_port.specs.Closings.{closed_fault}
 use Rattle.hw_port.specs.Ships.{ship_fault}
@@ -92,7 +93,7 @@ has_direction direction (Some s) = bytes_eq s.direction direction
 -- the place of a ship of this direction
 unfoldable pub side_fault : Path → List ℕ → List ShipParts → ℤ → Option PortFault
 side_fault path direction ships ship =
-    place path (pos (length ships)) ship
+    place_in_list path (pos (length ships)) ship
     or_else unless path Side (has_direction direction (ship_at ships ship))
 
 unfoldable pub berth_fault : List ShipParts → ℕ → BerthPair → Option PortFault
@@ -109,8 +110,8 @@ berths_fault ships berths =
 -- the places of two different ships, and how many slots later the second sails at least
 unfoldable pub after_fault : ℤ → ℕ → AfterPair → Option PortFault
 after_fault ships i a =
-    place (at_item places.AfterFirst i) ships a.first
-    or_else place (at_item places.AfterSecond i) ships a.second
+    place_in_list (at_item places.AfterFirst i) ships a.first
+    or_else place_in_list (at_item places.AfterSecond i) ships a.second
     or_else unless (at_item places.AfterSecond i) Order (not (int_eq a.first a.second))
     or_else range (at_item places.AfterGap i) (pos 0) (pos 512) a.gap
 

@@ -75,8 +75,8 @@ line_of places.AfterGap = (62, codes "after.*.gap")
 line_of places.Start = (63, codes "start")
 
 -- the number of a place
-abbrev pub number_of : Place → ℕ
-number_of place = (line_of place).0
+abbrev pub number_of_place : Place → ℕ
+number_of_place place = (line_of place).0
 
 -- the text of a place
 abbrev pub text_of : Place → List ℕ

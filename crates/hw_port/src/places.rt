@@ -1,7 +1,7 @@
 //! The places of an instance, with the numbers and the texts by which they are told.
 
 ghost use Rattle.std.specs.Prelude.{◌≡◌, ◌≤◌, length, slice_get};
-ghost use Rattle.hw_port.specs.Places.{number_of, text_of, place_at, text_at};
+ghost use Rattle.hw_port.specs.Places.{number_of_place, text_of, place_at, text_at};
 
 /// A place of an instance, in the order of the table. The items of a list have one place.
 #[derive(Clone, Copy)]
@@ -143,7 +143,7 @@ const PLACES: [Place; 64] = [
 impl Place {
     /// The number by which a path tells the place.
     pub fn number(self) -> u32
-        ensures { result ≡ number_of self }
+        ensures { result ≡ number_of_place self }
     {
         self as u32
     }

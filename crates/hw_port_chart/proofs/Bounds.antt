@@ -4,15 +4,16 @@ use Rattle.std.proofs.lemmas.Int.{ints}
 use Rattle.std.proofs.lemmas.Option.{slice_get-get_or}
 use Rattle.std.specs.Int.{int_min}
 use Rattle.std.specs.Option.{option_map_or}
+use Rattle.hw_lemmas.proofs.Truths.{if_some}
 use Rattle.hw_port.specs.Kept.{PortKept, Within}
 use Rattle.hw_port.specs.declared.parts.Waypoint.{Waypoint}
 use Rattle.hw_port.specs.Parts.{ShipParts}
 use Rattle.hw_port.specs.Whole.{Parts}
 use Rattle.hw_tide.specs.Levels.{TideParts}
-use Rattle.hw_port_laws.proofs.Eachs.{if_some}
 use Rattle.hw_port_laws.proofs.Ships.{ship_kept}
 use Rattle.hw_port_rules.specs.Numbers.{is_outgoing}
 use Rattle.hw_port_rules.specs.Drafts.{allowed_draft, floating, loaded, may_sail, sailing, sailing_draft}
+use Rattle.hw_port_laws.proofs.Drafts.{le_trans_z}
 use Rattle.hw_port_chart.specs.Charts.{full_of}
 
 abbrev Between : ShipParts → ℤ → Type 0
@@ -39,9 +40,6 @@ full_by : (b : Bool) (light deep : ℤ) → Within (pos 0) (pos 10_000) light �
 full_by true light deep l d = d.high
 full_by false light deep l d = l.high
 
-at_most : (a b c : ℤ) → a ≤ℤ b → b ≤ℤ c → a ≤ℤ c
-at_most a b c p q = grind (arith, ints)
-
 small_by : (p : Parts) (h : TideParts) (ship slot : ℕ) (draft : ℤ) → PortKept p → (o : Option ShipParts) → slice_get p.ships ship ≡ o → option_and_then (λ s. sailing_draft p h s slot) o ≡ Some draft → (pos 0 ≤ℤ draft) × (draft ≤ℤ pos 10_000)
 small_by p h ship slot draft kept None at is = absurd cc
 small_by p h ship slot draft kept (Some s) at is =
@@ -51,7 +49,7 @@ small_by p h ship slot draft kept (Some s) at is =
     let high = full_by (is_outgoing s) s.light s.deep k.light k.deep in
     let least : s.light ≤ℤ draft = b.0 in
     let most : draft ≤ℤ full_of s = b.1 in
-    (at_most (pos 0) s.light draft low least, at_most draft (full_of s) (pos 10_000) most high)
+    (le_trans_z (pos 0) s.light draft low least, le_trans_z draft (full_of s) (pos 10_000) most high)
 
 pub draft_least : (p : Parts) (h : TideParts) (ship slot : ℕ) → PortKept p → (o : Option ℤ) → o ≡ sailing p h ship slot → IfSome o (λ d. pos 0 ≤ℤ d)
 draft_least p h ship slot kept None is = search rules

@@ -9,11 +9,11 @@ use Rattle.hw_port_laws.proofs.Permits.{same_permitted_law}
 use Rattle.hw_port_laws.proofs.Rows.{horizon_is, slots_above, slots_are}
 use Rattle.hw_port_chart.specs.Laws.{MovesArePermitted}
 use Rattle.hw_port_chart.specs.Moves.{HasMoves, could_move}
-use Rattle.hw_flat_chart.specs.Moves.{IsPlan, PlanModel, is_open}
+use Rattle.hw_flat_chart.specs.Moves.{IsPlan, PlanModel, move_is_open}
 use Rattle.hw_flat_chart.proofs.Tested.{open_permits, same_open}
 
 -- a flag is whether the slot is open by the port's flat problem
-pub flag_is : (p : Parts) (h : TideParts) (plan : PlanModel) (ship slot : ℕ) → IsPlan (flattened p h) plan → ship < length p.ships → slot < horizon_of p → slice_index_or plan.flags (ship * 512 + slot) false ≡ is_open (flattened p h) plan.table ship slot
+pub flag_is : (p : Parts) (h : TideParts) (plan : PlanModel) (ship slot : ℕ) → IsPlan (flattened p h) plan → ship < length p.ships → slot < horizon_of p → slice_index_or plan.flags (ship * 512 + slot) false ≡ move_is_open (flattened p h) plan.table ship slot
 flag_is p h plan ship slot is ship_in slot_in =
     let inside : slot < horizon (flattened p h) = rw (horizon_is p h) slot_in in
     let count = slots_are p h in

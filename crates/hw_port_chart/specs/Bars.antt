@@ -7,13 +7,13 @@ use Rattle.hw_port.specs.declared.parts.BerthPair.{BerthPair}
 use Rattle.hw_port.specs.Parts.{ShipParts}
 use Rattle.hw_port_rules.specs.Numbers.{whole, hold_of}
 use Rattle.hw_chart.specs.Rows.{bar, bars_begin}
-use Rattle.hw_port_chart.specs.Charts.{ChartParts, slot_at, way}
-use Rattle.hw_port_chart.specs.Spans.{last_pass}
+use Rattle.hw_port_chart.specs.Charts.{ChartParts, slot_in_chart, way}
+use Rattle.hw_port_chart.specs.Spans.{last_pass_offset}
 use Rattle.hw_port_chart.specs.Stays.{stays_of}
 
 -- from the sailing of the outgoing ship until the berth is clear
 abbrev pub clearing : ChartParts → BerthPair → List ℕ
-clearing chart b = bar (codes "be") (slot_at chart (whole b.outgoing)) (slot_at chart (whole b.outgoing) + whole b.clear) 0
+clearing chart b = bar (codes "be") (slot_in_chart chart (whole b.outgoing)) (slot_in_chart chart (whole b.outgoing) + whole b.clear) 0
 
 abbrev pub clearing_for : ChartParts → ℕ → BerthPair → List ℕ
 clearing_for chart v b = if nat_eq (whole b.incoming) v then clearing chart b else []
@@ -25,7 +25,7 @@ clearings chart v (b ∷ more) = clearing_for chart v b ++ clearings chart v mor
 
 -- from sailing to the last pass
 abbrev pub voyage : ShipParts → ℕ → List ℕ
-voyage s slot = bar (way s) slot (slot + last_pass s.route + 1) 0
+voyage s slot = bar (way s) slot (slot + last_pass_offset s.route + 1) 0
 
 -- the job of the tugs, and then their turnaround
 abbrev pub tug_bars : ChartParts → ShipParts → ℕ → List ℕ

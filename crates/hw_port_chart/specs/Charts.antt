@@ -31,8 +31,8 @@ abbrev pub course : ChartParts → ℕ → Course
 course chart ship = course_in chart.port chart.table ship
 
 -- the slot of a ship, 0 where there is none
-abbrev pub slot_at : ChartParts → ℕ → ℕ
-slot_at chart ship = unwrap_or (slot_in chart.table ship) 0
+abbrev pub slot_in_chart : ChartParts → ℕ → ℕ
+slot_in_chart chart ship = unwrap_or (slot_in chart.table ship) 0
 
 -- the minutes from midnight to the beginning of slot 0, where that has a date
 abbrev pub midnight_of : Option (List ℕ) → ℕ
@@ -72,16 +72,16 @@ abbrev pub shown : ChartParts → ℕ
 shown chart = min chart.span chart.tide.rows
 
 -- the name of a waypoint
-abbrev pub waypoint_name : ChartParts → ℕ → List ℕ
-waypoint_name chart place = option_map_or (λ w. w.name) (slice_get chart.port.waypoints place) []
+abbrev pub charted_waypoint_name : ChartParts → ℕ → List ℕ
+charted_waypoint_name chart place = option_map_or (λ w. w.name) (slice_get chart.port.waypoints place) []
 
 -- the charted depth at a waypoint
 abbrev pub depth_in : ChartParts → ℕ → ℤ
 depth_in chart place = option_map_or (λ w. w.depth) (slice_get chart.port.waypoints place) (pos 0)
 
 -- the height that judges a pass in a slot at a waypoint: that at the beginning of the slot, or the lesser of those at both ends
-abbrev pub judged : ChartParts → ℕ → ℕ → ℤ
-judged chart slot place = if is_least chart.port then int_min (height_at chart.tide slot place) (height_at chart.tide (slot + 1) place) else height_at chart.tide slot place
+abbrev pub judging_height : ChartParts → ℕ → ℕ → ℤ
+judging_height chart slot place = if is_least chart.port then int_min (height_at chart.tide slot place) (height_at chart.tide (slot + 1) place) else height_at chart.tide slot place
 
 -- the class of a ship's shapes, by its direction
 abbrev pub way : ShipParts → List ℕ

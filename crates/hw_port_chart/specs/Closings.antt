@@ -5,7 +5,7 @@ use Rattle.hw_svg.specs.Numbers.{clock}
 use Rattle.hw_svg.specs.Shapes.{titled}
 use Rattle.hw_windows.specs.Closings.{closed_in}
 use Rattle.hw_chart.specs.declared.row.Sailings.{Sailings}
-use Rattle.hw_chart.specs.Layout.{place_of}
+use Rattle.hw_chart.specs.Layout.{plot_place}
 use Rattle.hw_port_chart.specs.Charts.{ChartParts, minutes_to}
 
 -- where the closed slots end that follow one another from this one on, among this many
@@ -22,7 +22,7 @@ closing_title chart from end = joined (codes "closed in slots " ∷ decimal from
 
 -- slots up to the end, hatched; on the picture itself, since a window would stretch the hatch
 abbrev pub hatched : ChartParts → ℕ → ℕ → ℕ → List ℕ
-hatched chart y from end = titled (codes "ha") (record { left = place_of from chart.span; right = place_of end chart.span; top = y + 3; bottom = y + 24 }) (closing_title chart from end)
+hatched chart y from end = titled (codes "ha") (record { left = plot_place from chart.span; right = plot_place end chart.span; top = y + 3; bottom = y + 24 }) (closing_title chart from end)
 
 -- the closed slots that begin with this one
 abbrev pub closing_at : ChartParts → ℕ → Sailings → ℕ → List ℕ

@@ -2,11 +2,11 @@
 use Rattle.std.specs.Prelude.{ℕ, ◌+◌, ◌-◌, ◌*◌, ◌-ℤ◌, List, [], ◌∷◌, ◌++◌, codes, decimal, nat_eq, if◌then◌else◌}
 use Rattle.hw_svg.specs.Joined.{joined}
 use Rattle.hw_svg.specs.Lettering.{line, name_line}
-use Rattle.hw_svg.specs.Numbers.{clock, metres, tenths}
+use Rattle.hw_svg.specs.Numbers.{clock, metres, tonnes_label}
 use Rattle.hw_port.specs.Parts.{ShipParts}
 use Rattle.hw_port_rules.specs.Numbers.{whole, is_outgoing}
 use Rattle.hw_port_chart.specs.declared.sailing.Sailing.{Sailing}
-use Rattle.hw_port_chart.specs.Charts.{ChartParts, full_of, waypoint_name}
+use Rattle.hw_port_chart.specs.Charts.{ChartParts, full_of, charted_waypoint_name}
 
 -- when the ship sails, and in which slot
 abbrev pub time_figures : Sailing → ℕ → List ℕ
@@ -29,23 +29,23 @@ tight g = if nat_eq g.draft g.allowed then codes "r q" else codes "r"
 
 -- the allowed draft, and the waypoint that decides it
 abbrev pub allowed_figures : ChartParts → Sailing → ℕ → List ℕ
-allowed_figures chart g y = line (tight g) 1094 (y + 17) (metres g.allowed) ++ name_line (codes "r m") 1094 (y + 33) (waypoint_name chart g.by) 64
+allowed_figures chart g y = line (tight g) 1094 (y + 17) (metres g.allowed) ++ name_line (codes "r m") 1094 (y + 33) (charted_waypoint_name chart g.by) 64
 
 -- the water under the keel where the draft is decided
-abbrev pub keel_of : Sailing → ℕ
-keel_of g = g.allowed - g.draft + g.clearance
+abbrev pub keel_of_sailing : Sailing → ℕ
+keel_of_sailing g = g.allowed - g.draft + g.clearance
 
 -- the same, and how much there must be
 abbrev pub keel_figures : Sailing → ℕ → List ℕ
-keel_figures g y = line (tight g) 1176 (y + 17) (metres (keel_of g)) ++ line (codes "r m") 1176 (y + 33) (joined (codes "min " ∷ metres g.clearance ∷ []))
+keel_figures g y = line (tight g) 1176 (y + 17) (metres (keel_of_sailing g)) ++ line (codes "r m") 1176 (y + 33) (joined (codes "min " ∷ metres g.clearance ∷ []))
 
 -- what an outgoing ship carries at its deepest draft, in tenths of a tonne
-abbrev pub capacity : ShipParts → ℕ
-capacity s = whole s.tpc * whole (s.deep -ℤ s.light)
+abbrev pub deepest_cargo : ShipParts → ℕ
+deepest_cargo s = whole s.tpc * whole (s.deep -ℤ s.light)
 
 -- its cargo, and what it would carry with its full draft
 abbrev pub cargo_lines : ShipParts → Sailing → ℕ → List ℕ
-cargo_lines s g y = line (codes "r b") 1268 (y + 17) (tenths g.cargo) ++ line (codes "r m") 1268 (y + 33) (joined (codes "of " ∷ tenths (capacity s) ∷ []))
+cargo_lines s g y = line (codes "r b") 1268 (y + 17) (tonnes_label g.cargo) ++ line (codes "r m") 1268 (y + 33) (joined (codes "of " ∷ tonnes_label (deepest_cargo s) ∷ []))
 
 abbrev pub cargo_figures : ShipParts → Sailing → ℕ → List ℕ
 cargo_figures s g y = if is_outgoing s then cargo_lines s g y else []

@@ -9,12 +9,12 @@ use Rattle.hw_port_chart.specs.Charts.{ChartParts}
 use Rattle.hw_port_chart.specs.Heads.{places}
 
 -- the tugs that all ships hold in a slot
-abbrev pub held_in : Parts → List ℕ → ℕ → ℕ
-held_in p table slot = sum_by (tugs_held p slot) (zip p.ships table)
+abbrev pub tugs_held_in : Parts → List ℕ → ℕ → ℕ
+tugs_held_in p table slot = sum_by (tugs_held p slot) (zip p.ships table)
 
 abbrev pub panel_of : ChartParts → Panel
 panel_of chart = record { y = (places chart.port).tugs; fleet = whole chart.port.fleet; slots = horizon_of chart.port; span = chart.span }
 
 abbrev pub fleet_panel : ChartParts → Option (List ℕ) → List ℕ
 fleet_panel chart None = unplanned_panel (panel_of chart)
-fleet_panel chart (Some table) = planned_panel (panel_of chart) (held_in chart.port table)
+fleet_panel chart (Some table) = planned_panel (panel_of chart) (tugs_held_in chart.port table)

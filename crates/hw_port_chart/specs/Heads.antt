@@ -1,8 +1,8 @@
 -- Where the parts of a picture stand, its sizes, and the heads of its columns.
-use Rattle.std.specs.Prelude.{ℕ, ◌+◌, ◌-◌, ◌*◌, List, [], ◌∷◌, ◌++◌, codes, decimal, length, Option, is_some, if◌then◌else◌}
+use Rattle.std.specs.Prelude.{ℕ, ◌+◌, ◌-◌, ◌*◌, List, [], ◌∷◌, codes, decimal, length, Option, is_some, if◌then◌else◌}
 use Rattle.hw_svg.specs.Joined.{joined}
 use Rattle.hw_svg.specs.Lettering.{line}
-use Rattle.hw_svg.specs.Shapes.{block}
+use Rattle.hw_flat_chart.specs.Pictures.{entry}
 use Rattle.hw_port.specs.Whole.{Parts}
 use Rattle.hw_port_rules.specs.Numbers.{whole}
 use Rattle.hw_port_chart.specs.declared.places.Places.{Places}
@@ -24,10 +24,6 @@ sizes_text ships slots minutes fleet = joined (codes "ships " ∷ decimal ships 
 
 abbrev pub sizes : Parts → List ℕ
 sizes p = sizes_text (length p.ships) (whole p.slots) (whole p.slot_minutes) (whole p.fleet)
-
--- an entry of the legend: a patch of a class, and what it says
-abbrev pub entry : List ℕ → ℕ → List ℕ → List ℕ
-entry class x says = block class (record { left = x; right = x + 10; top = 77; bottom = 87 }) ++ line (codes "m") (x + 14) 86 says
 
 unfoldable pub sailing_entries : List ℕ
 sailing_entries = joined (entry (codes "wa") 16 (codes "tide") ∷ entry (codes "dr") 70 (codes "may sail: the higher, the deeper") ∷ entry (codes "fl") 258 (codes "with full draft") ∷ entry (codes "pl") 358 (codes "could move there alone") ∷ [])

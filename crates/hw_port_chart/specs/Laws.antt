@@ -10,7 +10,7 @@ use Rattle.hw_port_rules.specs.Drafts.{sailing_draft}
 use Rattle.hw_port_rules.specs.Permitted.{PortPermits}
 use Rattle.hw_port_rules.specs.Flattened.{flattened}
 use Rattle.hw_port_chart.specs.Charts.{full_of}
-use Rattle.hw_port_chart.specs.Fleets.{held_in}
+use Rattle.hw_port_chart.specs.Fleets.{tugs_held_in}
 use Rattle.hw_port_chart.specs.Moves.{could_move}
 
 -- a sailing draft lies between the light and the full one, so that a level lies in its window
@@ -22,5 +22,5 @@ abbrev pub MovesArePermitted : Type 0
 MovesArePermitted = (p : Parts) (h : TideParts) (table : List ℕ) (ship slot : ℕ) → PortKept p → IsTimetable (flattened p h) table → slot < horizon_of p → (could_move p h (Some table) ship slot ≡ true) ↔ PortPermits p h (slice_set table ship slot)
 
 -- where the port permits the timetable, its ships never hold more tugs than there are
-abbrev pub FleetSuffices : Type 0
-FleetSuffices = (p : Parts) (h : TideParts) (table : List ℕ) (slot : ℕ) → PortPermits p h table → slot < horizon_of p → held_in p table slot ≤ whole p.fleet
+abbrev pub FleetAlwaysSuffices : Type 0
+FleetAlwaysSuffices = (p : Parts) (h : TideParts) (table : List ℕ) (slot : ℕ) → PortPermits p h table → slot < horizon_of p → tugs_held_in p table slot ≤ whole p.fleet

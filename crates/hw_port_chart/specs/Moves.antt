@@ -3,12 +3,12 @@ use Rattle.std.specs.Prelude.{ℕ, Bool, false, List, Option, Some, None, IfSome
 use Rattle.hw_port.specs.Whole.{Parts}
 use Rattle.hw_tide.specs.Levels.{TideParts}
 use Rattle.hw_port_rules.specs.Flattened.{flattened}
-use Rattle.hw_flat_chart.specs.Moves.{PlanModel, IsPlan, is_open}
+use Rattle.hw_flat_chart.specs.Moves.{PlanModel, IsPlan, move_is_open}
 
 -- no restriction of the port's flat problem is broken with this slot for the ship; never so where there is no timetable
 abbrev pub could_move : Parts → TideParts → Option (List ℕ) → ℕ → ℕ → Bool
 could_move p h None ship slot = false
-could_move p h (Some table) ship slot = is_open (flattened p h) table ship slot
+could_move p h (Some table) ship slot = move_is_open (flattened p h) table ship slot
 
 -- a timetable of the flat problem, with the moves that it leaves; or none
 abbrev pub HasMoves : Parts → TideParts → Option PlanModel → Type 0

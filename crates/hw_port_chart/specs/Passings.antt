@@ -15,7 +15,7 @@ use Rattle.hw_chart.specs.declared.course.Course.TheVariants.{Unplanned, Stays, 
 use Rattle.hw_port_chart.specs.declared.passing.Strip.{Strip}
 use Rattle.hw_port_chart.specs.declared.passing.Underway.{Underway}
 use Rattle.hw_port_chart.specs.declared.passing.Passing.{Passing}
-use Rattle.hw_port_chart.specs.Charts.{ChartParts, course, draft_in, judged, mark_class, minutes_to, tall_between, waypoint_name}
+use Rattle.hw_port_chart.specs.Charts.{ChartParts, course, draft_in, judging_height, mark_class, minutes_to, tall_between, charted_waypoint_name}
 
 -- the tide without which a ship of this draft would not keep its clearance, or the lowest tide where that is higher
 abbrev pub need : Strip → ℕ → ℕ → ℤ
@@ -23,7 +23,7 @@ need strip draft clearance = int_max strip.low (pos draft +ℤ pos clearance -�
 
 -- the depth of the water at a waypoint in a slot, by the height that judges passes there
 abbrev pub water : ChartParts → Strip → ℕ → ℤ
-water chart strip slot = pos strip.depth +ℤ judged chart slot strip.place
+water chart strip slot = pos strip.depth +ℤ judging_height chart slot strip.place
 
 -- how a ship that is under way makes a pass: when, with how much water and how much of it under the keel
 abbrev pub passing : ChartParts → Strip → Underway → Pass → Passing
@@ -51,7 +51,7 @@ passing_mark strip s waypoint p = titled (mark_class s) (passing_area strip p) (
 
 -- the mark of a pass at this waypoint
 abbrev pub mark_here : ChartParts → Strip → Underway → ShipParts → Pass → List ℕ
-mark_here chart strip ship s pass = passing_mark strip s (waypoint_name chart strip.place) (passing chart strip ship pass)
+mark_here chart strip ship s pass = passing_mark strip s (charted_waypoint_name chart strip.place) (passing chart strip ship pass)
 
 -- a pass, where it is one of this waypoint
 abbrev pub pass_mark : ChartParts → Strip → Underway → ShipParts → Pass → List ℕ

@@ -12,7 +12,7 @@ use Rattle.hw_calendar.specs.Calendars.{dated_grid}
 use Rattle.hw_chart.specs.Grids.{grid, span_end}
 use Rattle.hw_chart.specs.Headings.{heading}
 use Rattle.hw_port_chart.specs.Charts.{ChartParts}
-use Rattle.hw_port_chart.specs.Spans.{span_of}
+use Rattle.hw_port_chart.specs.Spans.{port_picture_span}
 use Rattle.hw_port_chart.specs.Heads.{columns_where, legend, places, sizes}
 use Rattle.hw_port_chart.specs.Signs.{signs}
 use Rattle.hw_port_chart.specs.Strips.{strips}
@@ -52,12 +52,12 @@ horizon_line chart = span_end (horizon_of chart.port) chart.span (bottom chart)
 abbrev pub foot : ChartParts → List ℕ
 foot chart = joined (times chart ∷ horizon_line chart ∷ svg_end ∷ [])
 
-unfoldable pub picture_of : ChartParts → Outcome → List ℕ
-picture_of chart outcome = joined (head chart outcome ∷ panels chart ∷ foot chart ∷ [])
+unfoldable pub picture_of_chart : ChartParts → Outcome → List ℕ
+picture_of_chart chart outcome = joined (head chart outcome ∷ panels chart ∷ foot chart ∷ [])
 
 abbrev pub chart_of : Parts → TideParts → Option (List ℕ) → ChartParts
-chart_of p h table = record { port = p; tide = h; table = table; span = span_of p table }
+chart_of p h table = record { port = p; tide = h; table = table; span = port_picture_span p table }
 
 -- the picture of a port with its tide, a timetable or none, and what a certificate proves
 unfoldable pub port_picture : Parts → TideParts → Option (List ℕ) → Outcome → List ℕ
-port_picture p h table outcome = picture_of (chart_of p h table) outcome
+port_picture p h table outcome = picture_of_chart (chart_of p h table) outcome

@@ -7,8 +7,8 @@ use Rattle.hw_port_chart.specs.Charts.{ChartParts}
 use Rattle.hw_port_chart.specs.Pictures.{chart_of, horizon_line, legend_of, panels, times}
 
 -- what the colours say, the panels, and the grid over them
-unfoldable pub rest_of : ChartParts → List ℕ
-rest_of chart = joined (legend_of chart.port ∷ panels chart ∷ times chart ∷ horizon_line chart ∷ [])
+unfoldable pub rest_of_picture : ChartParts → List ℕ
+rest_of_picture chart = joined (legend_of chart.port ∷ panels chart ∷ times chart ∷ horizon_line chart ∷ [])
 
 unfoldable pub port_rest : Parts → TideParts → Option (List ℕ) → List ℕ
-port_rest p h table = rest_of (chart_of p h table)
+port_rest p h table = rest_of_picture (chart_of p h table)

@@ -12,7 +12,7 @@ use Rattle.hw_port_rules.specs.Drafts.{sailing}
 use Rattle.hw_chart.specs.declared.course.Course.{Course}
 use Rattle.hw_chart.specs.declared.course.Course.TheVariants.{Unplanned, Stays, Sails}
 use Rattle.hw_chart.specs.Layout.{pin, rank_of, stripe}
-use Rattle.hw_chart.specs.Rows.{no_slot, stays}
+use Rattle.hw_chart.specs.Rows.{no_slot, stays_label}
 use Rattle.hw_port_chart.specs.Charts.{ChartParts, course, full_of, way}
 use Rattle.hw_port_chart.specs.Heads.{places}
 use Rattle.hw_port_chart.specs.Titles.{row_title}
@@ -43,8 +43,8 @@ arrow_path s y = if is_outgoing s then arrow_out y else arrow_in y
 abbrev pub arrow : ShipParts → ℕ → List ℕ
 arrow s y = shape (way s) (arrow_path s y)
 
-abbrev pub full_word : ShipParts → List ℕ
-full_word s = if is_outgoing s then codes ", full " else codes ", draft "
+abbrev pub full_draft_word : ShipParts → List ℕ
+full_draft_word s = if is_outgoing s then codes ", full " else codes ", draft "
 
 abbrev pub row_name : ShipParts → ℕ → List ℕ
 row_name s y = name_line (codes "b") 16 (y + 17) s.name 148
@@ -54,7 +54,7 @@ row_number v word full y = line (codes "m") 16 (y + 33) (joined (codes "ship " �
 
 -- the ship's name, its number and its full draft
 abbrev pub row_label : ℕ → ShipParts → ℕ → List ℕ
-row_label v s y = row_name s y ++ row_number v (full_word s) (whole (full_of s)) y
+row_label v s y = row_name s y ++ row_number v (full_draft_word s) (whole (full_of s)) y
 
 abbrev pub row_begin : ChartParts → ℕ → ShipParts → ℕ → List ℕ
 row_begin chart v s rank = joined (item_begin ∷ row_title chart v s (course chart v) ∷ title_end ∷ stripe rank (row_y chart rank) ∷ [])
@@ -72,7 +72,7 @@ sailing_parts chart v s slot y = joined (pin (way s) slot chart.span y ∷ bars 
 -- what the timetable says of the ship
 abbrev pub row_right : ChartParts → ℕ → ShipParts → ℕ → Course → List ℕ
 row_right chart v s y Unplanned = no_slot_where chart v y
-row_right chart v s y Stays = stays y
+row_right chart v s y Stays = stays_label y
 row_right chart v s y (Sails slot) = sailing_parts chart v s slot y
 
 -- drafts and moves, and over the drafts what is closed
@@ -83,11 +83,11 @@ row_windows chart v s y = joined (drafts_text chart v s (window_of chart s y) (c
 abbrev pub row_rest : ChartParts → ℕ → ShipParts → ℕ → List ℕ
 row_rest chart v s y = joined (row_left v s y ∷ row_windows chart v s y ∷ row_right chart v s y (course chart v) ∷ group_end ∷ [])
 
-abbrev pub row_at : ChartParts → ℕ → ShipParts → ℕ → List ℕ
-row_at chart v s rank = row_begin chart v s rank ++ row_rest chart v s (row_y chart rank)
+abbrev pub ship_row_at : ChartParts → ℕ → ShipParts → ℕ → List ℕ
+ship_row_at chart v s rank = row_begin chart v s rank ++ row_rest chart v s (row_y chart rank)
 
 unfoldable pub ranked_row : ChartParts → ℕ → ShipParts → List ℕ
-ranked_row chart v s = row_at chart v s (rank_in chart.table v)
+ranked_row chart v s = ship_row_at chart v s (rank_in chart.table v)
 
 -- the rows of the ships from this number on
 abbrev pub rows_from : ChartParts → ℕ → List ShipParts → List ℕ

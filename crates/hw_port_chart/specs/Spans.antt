@@ -10,9 +10,9 @@ use Rattle.hw_chart.specs.declared.course.Course.TheVariants.{Unplanned, Stays, 
 use Rattle.hw_port_chart.specs.Charts.{course_in}
 
 -- how many slots after sailing the last pass comes
-abbrev pub last_pass : List Pass → ℕ
-last_pass [] = 0
-last_pass (pass ∷ more) = max (whole pass.offset) (last_pass more)
+abbrev pub last_pass_offset : List Pass → ℕ
+last_pass_offset [] = 0
+last_pass_offset (pass ∷ more) = max (whole pass.offset) (last_pass_offset more)
 
 -- how many slots after sailing the last section is left
 abbrev pub last_leave : List Stretch → ℕ
@@ -20,12 +20,12 @@ last_leave [] = 0
 last_leave (stretch ∷ more) = max (whole stretch.leave) (last_leave more)
 
 -- for how many slots tugs are held, where the ship has some
-abbrev pub held_for : Parts → ShipParts → ℕ
-held_for p s = if nat_lt 0 (whole s.tugs) then hold_of p s else 0
+abbrev pub slots_with_tugs : Parts → ShipParts → ℕ
+slots_with_tugs p s = if nat_lt 0 (whole s.tugs) then hold_of p s else 0
 
 -- how many slots a sailing takes, until the ship has passed its route, left its sections and freed its tugs
 abbrev pub reach : Parts → ShipParts → ℕ
-reach p s = max (last_pass s.route + 1) (max (last_leave s.channel) (held_for p s))
+reach p s = max (last_pass_offset s.route + 1) (max (last_leave s.channel) (slots_with_tugs p s))
 
 -- the slot up to which a course reaches, 0 where the ship doesn't sail
 abbrev pub course_end : Course → ℕ → ℕ
@@ -38,5 +38,5 @@ abbrev pub ends_from : Parts → Option (List ℕ) → ℕ → List ShipParts �
 ends_from p table v [] = 0
 ends_from p table v (s ∷ more) = max (course_end (course_in p table v) (reach p s)) (ends_from p table (v + 1) more)
 
-abbrev pub span_of : Parts → Option (List ℕ) → ℕ
-span_of p table = max (horizon_of p) (ends_from p table 0 p.ships)
+abbrev pub port_picture_span : Parts → Option (List ℕ) → ℕ
+port_picture_span p table = max (horizon_of p) (ends_from p table 0 p.ships)

@@ -9,19 +9,19 @@ use Rattle.hw_port.specs.declared.parts.AfterPair.{AfterPair}
 use Rattle.hw_port_rules.specs.Numbers.{whole}
 use Rattle.hw_chart.specs.Rows.{bar}
 use Rattle.hw_port_chart.specs.declared.stays.Wait.{Wait}
-use Rattle.hw_port_chart.specs.Charts.{ChartParts, slot_at}
+use Rattle.hw_port_chart.specs.Charts.{ChartParts, slot_in_chart}
 
 -- the name of a ship
-abbrev pub ship_name : ChartParts → ℕ → List ℕ
-ship_name chart place = option_map_or (λ s. s.name) (slice_get chart.port.ships place) []
+abbrev pub chart_ship_name : ChartParts → ℕ → List ℕ
+chart_ship_name chart place = option_map_or (λ s. s.name) (slice_get chart.port.ships place) []
 
 -- from the slot of the first ship to that of the second, which may sail once the gap is over; and both times in minutes
 abbrev pub wait_of : ChartParts → AfterPair → Wait
 wait_of chart a = record {
-  from = slot_at chart (whole a.first);
-  until = slot_at chart (whole a.second);
-  free = slot_at chart (whole a.first) + whole a.gap;
-  waited = (slot_at chart (whole a.second) - slot_at chart (whole a.first)) * whole chart.port.slot_minutes;
+  from = slot_in_chart chart (whole a.first);
+  until = slot_in_chart chart (whole a.second);
+  free = slot_in_chart chart (whole a.first) + whole a.gap;
+  waited = (slot_in_chart chart (whole a.second) - slot_in_chart chart (whole a.first)) * whole chart.port.slot_minutes;
   least = whole a.gap * whole chart.port.slot_minutes;
 }
 
@@ -33,7 +33,7 @@ abbrev pub wait_bars : List ℕ → List ℕ → Wait → List ℕ
 wait_bars second first wait = titled (codes "wi") (record { left = wait.from; right = wait.until; top = 0; bottom = 1 }) (wait_title second first wait) ++ bar (codes "be") wait.from wait.free 0
 
 abbrev pub stay : ChartParts → AfterPair → List ℕ
-stay chart a = wait_bars (ship_name chart (whole a.second)) (ship_name chart (whole a.first)) (wait_of chart a)
+stay chart a = wait_bars (chart_ship_name chart (whole a.second)) (chart_ship_name chart (whole a.first)) (wait_of chart a)
 
 abbrev pub stay_for : ChartParts → ℕ → AfterPair → List ℕ
 stay_for chart v a = if nat_eq (whole a.second) v then stay chart a else []

@@ -16,9 +16,9 @@ use Rattle.hw_port_chart.specs.Charts.{ChartParts, shown, tall_between}
 use Rattle.hw_port_chart.specs.Passings.{marks_from}
 
 -- the least of the first few heights, and of the first one
-abbrev pub least_of : (ℕ → ℤ) → ℕ → ℤ
-least_of height zero = height 0
-least_of height (suc more) = int_min (least_of height more) (height more)
+abbrev pub least_height : (ℕ → ℤ) → ℕ → ℤ
+least_height height zero = height 0
+least_height height (suc more) = int_min (least_height height more) (height more)
 
 abbrev pub greatest_of : (ℕ → ℤ) → ℕ → ℤ
 greatest_of height zero = height 0
@@ -29,7 +29,7 @@ abbrev pub listed_height : TideParts → ℕ → ℤ
 listed_height h i = slice_index_or h.heights i (pos 0)
 
 abbrev pub heights_of : TideParts → Heights
-heights_of h = record { low = least_of (listed_height h) (length h.heights); high = greatest_of (listed_height h) (length h.heights) }
+heights_of h = record { low = least_height (listed_height h) (length h.heights); high = greatest_of (listed_height h) (length h.heights) }
 
 -- the heights at a waypoint
 abbrev pub height_in : TideParts → ℕ → ℕ → ℤ
@@ -64,7 +64,7 @@ water_steps chart strip = tide_steps chart.tide strip (shown chart)
 
 -- the least and the greatest of the heights that are shown
 abbrev pub strip_heights : ChartParts → Strip → List ℕ
-strip_heights chart strip = line (codes "m") 900 (strip_y strip + 16) (joined (codes "tide " ∷ height_text (least_of (height_in chart.tide strip.place) (shown chart)) ∷ codes " to " ∷ height_text (greatest_of (height_in chart.tide strip.place) (shown chart)) ∷ codes " m" ∷ []))
+strip_heights chart strip = line (codes "m") 900 (strip_y strip + 16) (joined (codes "tide " ∷ height_text (least_height (height_in chart.tide strip.place) (shown chart)) ∷ codes " to " ∷ height_text (greatest_of (height_in chart.tide strip.place) (shown chart)) ∷ codes " m" ∷ []))
 
 abbrev pub strip_text : ChartParts → Strip → List ℕ → List ℕ
 strip_text chart strip name = joined (strip_label strip name ∷ strip_window chart strip ∷ water_steps chart strip ∷ marks_from chart strip 0 chart.port.ships ∷ svg_end ∷ strip_heights chart strip ∷ [])

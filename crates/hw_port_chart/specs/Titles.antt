@@ -2,13 +2,13 @@
 use Rattle.std.specs.Prelude.{ℕ, List, [], ◌∷◌, ◌++◌, codes, decimal, if◌then◌else◌}
 use Rattle.hw_svg.specs.Joined.{joined}
 use Rattle.hw_svg.specs.Names.{escaped}
-use Rattle.hw_svg.specs.Numbers.{clock, metres, tenths}
+use Rattle.hw_svg.specs.Numbers.{clock, metres, tonnes_label}
 use Rattle.hw_port.specs.Parts.{ShipParts}
 use Rattle.hw_port_rules.specs.Numbers.{is_outgoing}
 use Rattle.hw_chart.specs.declared.course.Course.{Course}
 use Rattle.hw_chart.specs.declared.course.Course.TheVariants.{Unplanned, Stays, Sails}
 use Rattle.hw_port_chart.specs.declared.sailing.Sailing.{Sailing}
-use Rattle.hw_port_chart.specs.Charts.{ChartParts, waypoint_name}
+use Rattle.hw_port_chart.specs.Charts.{ChartParts, charted_waypoint_name}
 use Rattle.hw_port_chart.specs.Sailings.{sailing_of}
 
 unfoldable pub ship_title : List ℕ → ℕ → List ℕ
@@ -21,10 +21,10 @@ unfoldable pub time_title : Sailing → List ℕ
 time_title g = joined (codes " in slot " ∷ decimal g.slot ∷ codes ", " ∷ clock g.time ∷ [])
 
 unfoldable pub load_title : List ℕ → Sailing → List ℕ
-load_title by g = joined (codes ", draft " ∷ metres g.draft ∷ codes " m, allowed " ∷ metres g.allowed ∷ codes " m by " ∷ escaped by ∷ codes ", cargo " ∷ tenths g.cargo ∷ codes " t" ∷ [])
+load_title by g = joined (codes ", draft " ∷ metres g.draft ∷ codes " m, allowed " ∷ metres g.allowed ∷ codes " m by " ∷ escaped by ∷ codes ", cargo " ∷ tonnes_label g.cargo ∷ codes " t" ∷ [])
 
 abbrev pub sailing_title : ChartParts → ShipParts → Sailing → List ℕ
-sailing_title chart s g = joined (way_title s ∷ time_title g ∷ load_title (waypoint_name chart g.by) g ∷ [])
+sailing_title chart s g = joined (way_title s ∷ time_title g ∷ load_title (charted_waypoint_name chart g.by) g ∷ [])
 
 -- what the timetable says of the ship
 abbrev pub course_title : ChartParts → ℕ → ShipParts → Course → List ℕ

@@ -13,7 +13,7 @@ use crate::span::{hold, last_pass};
 use crate::stays::put_stays;
 use hw_chart::{put_bar, put_bars_begin};
 use hw_desk::Writer;
-use hw_model::{ShipId, Slot};
+use hw_model::{MOST_SLOTS, ShipId, Slot};
 use hw_port::{BerthPair, Ship};
 use hw_svg::put_svg_end;
 
@@ -39,7 +39,7 @@ fn incoming_of(chart: &Chart, pair: &BerthPair) -> ShipId
 fn clear_of(chart: &Chart, pair: &BerthPair) -> u64
     requires { BerthKept chart.now.port.ships pair.now }
     ensures value { result ≡ whole pair.now.clear }
-    ensures few { result ≤ 512 }
+    ensures few { result ≤ MOST_SLOTS }
 {
     u64::from(natural(pair.clear))
 }
@@ -91,7 +91,7 @@ fn put_voyage<W: Writer>(out: &mut W, chart: &Chart, ship: &Ship, slot: Slot)
 fn job_of(chart: &Chart, ship: &Ship) -> u64
     requires { ShipKept chart.now.port ship.now }
     ensures value { result ≡ whole ship.now.job }
-    ensures few { result ≤ 512 }
+    ensures few { result ≤ MOST_SLOTS }
 {
     u64::from(natural(ship.job))
 }

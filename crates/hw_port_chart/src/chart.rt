@@ -7,14 +7,14 @@ ghost use Rattle.hw_port_rules.specs.Numbers.{horizon_of, whole};
 ghost use Rattle.hw_port_rules.specs.Drafts.{sailing as sailing_draft};
 ghost use Rattle.hw_chart.specs.Courses.{SailsBefore};
 ghost use Rattle.hw_tide.specs.Levels.{height_at};
-ghost use Rattle.hw_port_chart.specs.Charts.{allowed_in, cargo_in, course as course_of_ship, depth_in, draft_in, judged as judged_height, midnight_of, minutes_to, slot_at as slot_or_0, shown, slot_in, waypoint_name};
+ghost use Rattle.hw_port_chart.specs.Charts.{allowed_in, cargo_in, course as course_of_ship, depth_in, draft_in, judging_height as judged_height, midnight_of, minutes_to, slot_in_chart as slot_or_0, shown, slot_in, charted_waypoint_name};
 ghost use Rattle.hw_port_chart.specs.Moves.{could_move, HasMoves};
 
 use crate::numbers::{natural, product};
 use crate::span::slot_of;
 use hw_chart::{Course, course_at};
 use hw_flat_chart::Plan;
-use hw_model::{MOST_SHIPS, ShipId, Slot};
+use hw_model::{MOST_SHIPS, MOST_SLOTS, ShipId, Slot};
 use hw_port::{Port, PortParts, Ship, Waypoint};
 use hw_tide::Tide;
 use std::marker::Model;
@@ -97,7 +97,7 @@ impl Chart<'_> {
     /// The number of slots in which ships sail.
     pub fn horizon(&self) -> u32
         ensures value { result ≡ horizon_of self.now.port }
-        ensures few { result ≤ 512 }
+        ensures few { result ≤ MOST_SLOTS }
     {
         natural(self.parts().slots)
     }
@@ -225,7 +225,7 @@ impl Chart<'_> {
 
     /// The name of a waypoint.
     pub fn waypoint(&self, place: u32) -> &[u8]
-        ensures { result.now ≡ waypoint_name self.now place }
+        ensures { result.now ≡ charted_waypoint_name self.now place }
     {
         match self.parts().waypoints.get(place as usize) {
             Some(waypoint) => &waypoint.name.items,

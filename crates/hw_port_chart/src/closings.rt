@@ -4,7 +4,7 @@ ghost use Rattle.std.specs.Prelude.{◌≡◌, ◌≤◌, ◌<◌, ◌-◌, leng
 ghost use Rattle.hw_desk.specs.Writers.{Puts};
 ghost use Rattle.hw_port_rules.specs.Numbers.{horizon_of};
 ghost use Rattle.hw_windows.specs.Closings.{closed_in};
-ghost use Rattle.hw_chart.specs.Layout.{place_of};
+ghost use Rattle.hw_chart.specs.Layout.{plot_place};
 ghost use Rattle.hw_port_chart.specs.Closings.{closing_at, closing_title, closings, closings_from, hatched, run_begins, run_end};
 
 use crate::chart::Chart;

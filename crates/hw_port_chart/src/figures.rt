@@ -2,10 +2,10 @@
 
 ghost use Rattle.std.specs.Prelude.{◌≡◌, ◌≤◌, ◌≤ℤ◌, ◌-ℤ◌, pos};
 ghost use Rattle.hw_desk.specs.Writers.{Puts};
-ghost use Rattle.hw_svg.specs.Pieces.{pieces_text};
+ghost use Rattle.hw_svg.specs.Pieces.{picture_pieces_text};
 ghost use Rattle.hw_port.specs.Kept.{ShipKept, Within};
 ghost use Rattle.hw_port_rules.specs.Numbers.{whole};
-ghost use Rattle.hw_port_chart.specs.Figures.{allowed_figures, capacity as capacity_of, cargo_figures, cargo_lines, draft_figures, figures, keel_figures, keel_of, short_figure, shortness, tight as tight_class, time_figures};
+ghost use Rattle.hw_port_chart.specs.Figures.{allowed_figures, deepest_cargo as capacity_of, cargo_figures, cargo_lines, draft_figures, figures, keel_figures, keel_of_sailing, short_figure, shortness, tight as tight_class, time_figures};
 
 use crate::chart::Chart;
 use crate::numbers::{natural, natural_full, product};
@@ -34,7 +34,7 @@ fn put_time<W: Writer>(out: &mut W, sailing: Sailing, y: u32)
 
 /// How much a draft is short of the full one, in two pieces.
 fn shortness(full: u32, draft: u32) -> [Piece<'static>; 2]
-    ensures { pieces_text result ≡ shortness full draft }
+    ensures { picture_pieces_text result ≡ shortness full draft }
 {
     if draft == full {
         [Piece::Word(b"full"), Piece::Word(b"")]
@@ -91,7 +91,7 @@ fn put_allowed<W: Writer>(out: &mut W, chart: &Chart, sailing: Sailing, y: u32)
 /// The water under the keel where the draft is decided.
 fn keel(sailing: Sailing) -> u64
     requires { sailing.allowed ≤ 9_223_372_036_854_775_808 }
-    ensures { result ≡ keel_of sailing }
+    ensures { result ≡ keel_of_sailing sailing }
 {
     sailing.allowed.saturating_sub(u64::from(sailing.draft)) + u64::from(sailing.clearance)
 }

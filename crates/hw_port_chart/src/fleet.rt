@@ -6,7 +6,7 @@ ghost use Rattle.hw_port.specs.Kept.{PortKept, ShipKept};
 ghost use Rattle.hw_port_rules.specs.Numbers.{horizon_of};
 ghost use Rattle.hw_port_rules.specs.Permitted.{tugs_held};
 ghost use Rattle.hw_chart.specs.Panels.{planned_panel, unplanned_panel};
-ghost use Rattle.hw_port_chart.specs.Fleets.{fleet_panel, held_in, panel_of};
+ghost use Rattle.hw_port_chart.specs.Fleets.{fleet_panel, tugs_held_in, panel_of};
 
 use crate::chart::Chart;
 use crate::numbers::natural;
@@ -14,7 +14,7 @@ use crate::places::places_of;
 use crate::span::hold;
 use hw_chart::{Panel, put_planned_panel, put_unplanned_panel};
 use hw_desk::Writer;
-use hw_model::{MOST_SHIPS, Slot};
+use hw_model::{MOST_SHIPS, MOST_TUGS, Slot};
 use hw_port::{PortParts, Ship};
 use hw_svg::Levels;
 
@@ -23,7 +23,7 @@ fn tugs_in(parts: &PortParts, ship: &Ship, at: Slot, slot: Slot) -> u64
     requires kept { PortKept parts.now }
     requires ship { ShipKept parts.now ship.now }
     ensures value { result ≡ tugs_held parts.now slot (ship.now, at) }
-    ensures few { result ≤ 64 }
+    ensures few { result ≤ MOST_TUGS }
 {
     let free = u64::from(at) + u64::from(hold(parts, ship));
     if at < natural(parts.slots) && at <= slot && u64::from(slot) < free {
@@ -39,7 +39,7 @@ fn held_by_all(parts: &PortParts, ships: &[Ship], table: &[Slot], slot: Slot) ->
     requires ships { All (ShipKept parts.now) ships.now }
     requires few { length ships.now ≤ MOST_SHIPS }
     ensures value { result ≡ sum_by (tugs_held parts.now slot) (zip ships.now table.now) }
-    ensures few { result ≤ 64 * length ships.now }
+    ensures few { result ≤ MOST_TUGS * length ships.now }
 {
     match ships {
         [] => 0,
@@ -59,7 +59,7 @@ struct Held<'c, 'p> {
 }
 
 impl Levels for Held<'_, '_> {
-    ghost level = { λ h slot. held_in h.chart.now.port h.table.now slot };
+    ghost level = { λ h slot. tugs_held_in h.chart.now.port h.table.now slot };
 
     ghost end = { λ h. horizon_of h.chart.now.port };
 
@@ -84,7 +84,7 @@ fn panel(chart: &Chart) -> Panel
 
 /// Puts the panel with the tugs that these slots hold.
 fn put_planned<W: Writer>(out: &mut W, chart: &Chart, table: &[Slot])
-    ensures { Puts (planned_panel (panel_of chart.now) (held_in chart.now.port table.now)) (W.state out.old) (W.state out.new) }
+    ensures { Puts (planned_panel (panel_of chart.now) (tugs_held_in chart.now.port table.now)) (W.state out.old) (W.state out.new) }
 {
     let held = Held { chart, table };
     put_planned_panel(out, panel(chart), &held);

@@ -2,7 +2,7 @@
 
 ghost use Rattle.std.specs.Prelude.{◌≡◌};
 ghost use Rattle.hw_desk.specs.Writers.{Puts};
-ghost use Rattle.hw_svg.specs.Pieces.{pieces_text};
+ghost use Rattle.hw_svg.specs.Pieces.{picture_pieces_text};
 ghost use Rattle.hw_port.specs.Kept.{PortKept};
 ghost use Rattle.hw_port_chart.specs.Heads.{columns, columns_where, legend, other_entries, sailing_entries, way_entries, sizes as sizes_of, sizes_text};
 ghost use Rattle.hw_port_chart.specs.Pictures.{head, legend_of};
@@ -115,7 +115,7 @@ fn put_all_entries<W: Writer>(out: &mut W)
 #[tactic(auto, unfolding(crate::specs::Heads::sizes_text))]
 pub fn sizes(parts: &PortParts) -> [Piece<'static>; 8]
     requires { PortKept parts.now }
-    ensures { pieces_text result ≡ sizes_of parts.now }
+    ensures { picture_pieces_text result ≡ sizes_of parts.now }
 {
     [
         Piece::Word(b"ships "),

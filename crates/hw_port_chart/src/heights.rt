@@ -1,7 +1,7 @@
 //! The least and the greatest height of a tide.
 
 ghost use Rattle.std.specs.Prelude.{◌≡◌, ◌≤◌, ◌<◌};
-ghost use Rattle.hw_port_chart.specs.Strips.{greatest_of, height_in, heights_of, least_of, listed_height};
+ghost use Rattle.hw_port_chart.specs.Strips.{greatest_of, height_in, heights_of, least_height, listed_height};
 
 use hw_tide::Tide;
 
@@ -32,7 +32,7 @@ pub fn heights_of(tide: &Tide) -> Heights
 pub fn heights_at(tide: &Tide, place: u32, slots: u32) -> Heights
     requires place { place < tide.now.columns }
     requires slots { slots ≤ tide.now.rows }
-    ensures low { result.low ≡ least_of (height_in tide.now place) slots }
+    ensures low { result.low ≡ least_height (height_in tide.now place) slots }
     ensures high { result.high ≡ greatest_of (height_in tide.now place) slots }
 {
     let _rows = tide.rows;

@@ -1,6 +1,6 @@
 //! What a port's picture says.
 
-ghost use Rattle.hw_port_chart.specs.Laws.{FleetSuffices, MovesArePermitted, SailsBetween};
+ghost use Rattle.hw_port_chart.specs.Laws.{FleetAlwaysSuffices, MovesArePermitted, SailsBetween};
 
 /// A sailing draft lies between the light and the full one, so that a level lies in its window.
 pub fn sails_between()
@@ -14,5 +14,5 @@ pub fn moves_are_permitted()
 
 /// Where the port permits the timetable, its ships never hold more tugs than there are.
 pub fn fleet_suffices()
-    ensures { FleetSuffices }
+    ensures { FleetAlwaysSuffices }
 {}

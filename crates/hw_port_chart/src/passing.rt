@@ -2,12 +2,12 @@
 
 ghost use Rattle.std.specs.Prelude.{◌≡◌, ◌≤◌, ◌<◌, ◌≤ℤ◌, ◌-ℤ◌, neg_ℤ, pos, ◌+◌, length, All, unsigned_abs};
 ghost use Rattle.hw_desk.specs.Writers.{Puts};
-ghost use Rattle.hw_svg.specs.Pieces.{pieces_text};
+ghost use Rattle.hw_svg.specs.Pieces.{picture_pieces_text};
 ghost use Rattle.hw_port.specs.Kept.{PassKept, ShipKept};
 ghost use Rattle.hw_port_rules.specs.Numbers.{horizon_of, whole};
 ghost use Rattle.hw_port_rules.specs.Drafts.{passing_slot};
 ghost use Rattle.hw_chart.specs.Courses.{SailsBefore};
-ghost use Rattle.hw_port_chart.specs.Charts.{tall_between as tall_of, waypoint_name};
+ghost use Rattle.hw_port_chart.specs.Charts.{tall_between as tall_of, charted_waypoint_name};
 ghost use Rattle.hw_port_chart.specs.Passings.{course_marks, mark_here, marks_from, need as need_of, pass_mark, pass_marks, passing, passing_area, passing_mark, passing_title, water as water_of};
 
 use crate::chart::Chart;
@@ -142,7 +142,7 @@ fn passing_of(chart: &Chart, strip: Strip, ship: Underway, pass: &Pass) -> Passi
 /// When a ship makes a pass, and in how much water, in pieces.
 #[tactic(auto, unfolding(crate::specs::Passings::passing_title))]
 fn title_of<'t>(ship: &'t Ship, waypoint: &'t [u8], passing: Passing) -> [Piece<'t>; 15]
-    ensures { pieces_text result ≡ passing_title ship.now.name waypoint.now passing }
+    ensures { picture_pieces_text result ≡ passing_title ship.now.name waypoint.now passing }
 {
     [
         Piece::Name(&ship.name.items),

@@ -5,7 +5,7 @@ ghost use Rattle.hw_desk.specs.Writers.{Puts};
 ghost use Rattle.hw_port.specs.Kept.{IsStart};
 ghost use Rattle.hw_port_chart.specs.Heads.{columns_where, places};
 ghost use Rattle.hw_port_chart.specs.Moves.{HasMoves};
-ghost use Rattle.hw_port_chart.specs.Pictures.{bottom, foot, horizon_line, panels, picture_of, port_picture, times, times_from};
+ghost use Rattle.hw_port_chart.specs.Pictures.{bottom, foot, horizon_line, panels, picture_of_chart, port_picture, times, times_from};
 
 use crate::chart::Chart;
 use crate::fleet::put_fleet;
@@ -105,7 +105,7 @@ fn put_foot<W: Writer>(out: &mut W, chart: &Chart)
 
 /// Puts a picture.
 fn put_picture<W: Writer>(out: &mut W, chart: &Chart, outcome: Outcome)
-    ensures { Puts (picture_of chart.now outcome) (W.state out.old) (W.state out.new) }
+    ensures { Puts (picture_of_chart chart.now outcome) (W.state out.old) (W.state out.new) }
 {
     put_head(out, chart, outcome);
     put_panels(out, chart);

@@ -3,8 +3,8 @@
 ghost use Rattle.std.specs.Prelude.{◌≡◌, ◌≤◌, ◌<◌, length, option_map};
 ghost use Rattle.hw_desk.specs.Writers.{Puts};
 ghost use Rattle.hw_port_chart.specs.Moves.{HasMoves};
-ghost use Rattle.hw_port_chart.specs.Rests.{port_rest, rest_of};
-ghost use Rattle.hw_port_chart.specs.Spans.{span_of};
+ghost use Rattle.hw_port_chart.specs.Rests.{port_rest, rest_of_picture};
+ghost use Rattle.hw_port_chart.specs.Spans.{port_picture_span};
 
 use crate::chart::Chart;
 use crate::head::put_chart_legend;
@@ -17,7 +17,7 @@ use hw_tide::Tide;
 
 /// How many slots the picture of a port shows.
 pub fn slots_shown(port: &Port, plan: Option<&Plan>) -> u32
-    ensures value { result ≡ span_of port.now (option_map (λ plan. plan.now.table) plan.entry) }
+    ensures value { result ≡ port_picture_span port.now (option_map (λ plan. plan.now.table) plan.entry) }
     ensures some { 0 < result }
 {
     span(port, plan)
@@ -25,7 +25,7 @@ pub fn slots_shown(port: &Port, plan: Option<&Plan>) -> u32
 
 /// Puts what the colours say, the panels, and the grid over them.
 fn put_rest<W: Writer>(out: &mut W, chart: &Chart)
-    ensures { Puts (rest_of chart.now) (W.state out.old) (W.state out.new) }
+    ensures { Puts (rest_of_picture chart.now) (W.state out.old) (W.state out.new) }
 {
     put_chart_legend(out, chart);
     put_panels(out, chart);

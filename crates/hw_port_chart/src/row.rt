@@ -14,7 +14,7 @@ ghost use Rattle.hw_port_chart.specs.Drafts.{drafts_text, window_of};
 ghost use Rattle.hw_port_chart.specs.Figures.{figures};
 ghost use Rattle.hw_port_chart.specs.Sailings.{sailing_of as sailing_numbers};
 ghost use Rattle.hw_port_chart.specs.Titles.{row_title};
-ghost use Rattle.hw_port_chart.specs.Rows.{arrow, arrow_in, arrow_out, arrow_path, full_word, no_slot_where, rank_in, ranked_row, row_at, row_begin, row_label, row_left, row_name, row_number, row_rest, row_right, row_windows, row_y, rows_from, sailing_parts, ship_list};
+ghost use Rattle.hw_port_chart.specs.Rows.{arrow, arrow_in, arrow_out, arrow_path, full_draft_word, no_slot_where, rank_in, ranked_row, ship_row_at, row_begin, row_label, row_left, row_name, row_number, row_rest, row_right, row_windows, row_y, rows_from, sailing_parts, ship_list};
 
 use crate::bars::put_bars;
 use crate::chart::Chart;
@@ -39,7 +39,7 @@ use hw_svg::{
 fn rank_of(chart: &Chart, number: ShipId) -> u32
     requires { number < length chart.now.port.ships }
     ensures value { result ≡ rank_in chart.now.table number }
-    ensures few { result ≤ 40 }
+    ensures few { result ≤ MOST_SHIPS }
 {
     match chart.plan {
         Some(plan) => {
@@ -124,7 +124,7 @@ fn put_arrow<W: Writer>(out: &mut W, ship: &Ship, y: u32)
 
 /// What a ship's full draft is called.
 fn full_word(ship: &Ship) -> &'static [u8]
-    ensures { result.now ≡ full_word ship.now }
+    ensures { result.now ≡ full_draft_word ship.now }
 {
     if ship.is_outgoing() {
         b", full "
@@ -360,7 +360,7 @@ fn put_row<W: Writer>(out: &mut W, chart: &Chart, number: ShipId, ship: &Ship, r
     requires ship_in { number < length chart.now.port.ships }
     requires ship { ShipKept chart.now.port ship.now }
     requires rank { rank ≤ MOST_SHIPS }
-    ensures { Puts (row_at chart.now number ship.now rank) (W.state out.old) (W.state out.new) }
+    ensures { Puts (ship_row_at chart.now number ship.now rank) (W.state out.old) (W.state out.new) }
 {
     put_begin(out, chart, number, ship, rank);
     put_rest_of(out, chart, number, ship, rank);

@@ -5,7 +5,7 @@ ghost use Rattle.hw_port.specs.Kept.{PassKept, PortKept, ShipKept, StretchKept};
 ghost use Rattle.hw_port_rules.specs.Numbers.{hold_of, horizon_of, turnaround_of};
 ghost use Rattle.hw_chart.specs.Courses.{SailsBefore};
 ghost use Rattle.hw_port_chart.specs.Charts.{course_in, slot_in};
-ghost use Rattle.hw_port_chart.specs.Spans.{course_end, ends_from, held_for, last_leave, last_pass, reach as reach_of, span_of};
+ghost use Rattle.hw_port_chart.specs.Spans.{course_end, ends_from, slots_with_tugs, last_leave, last_pass_offset, reach as reach_of, port_picture_span};
 
 use crate::numbers::natural;
 use hw_chart::{Course, course_at};
@@ -16,7 +16,7 @@ use hw_port::{Pass, Port, PortParts, Ship, Stretch};
 /// How many slots after sailing a ship makes the last pass of a route.
 pub fn last_pass(waypoints: usize, route: &[Pass]) -> u32
     requires { All (PassKept (pos waypoints)) route.now }
-    ensures value { result ≡ last_pass route.now }
+    ensures value { result ≡ last_pass_offset route.now }
     ensures few { result ≤ 1_023 }
 {
     match route {
@@ -64,7 +64,7 @@ pub fn hold(parts: &PortParts, ship: &Ship) -> u32
 fn held_for(parts: &PortParts, ship: &Ship) -> u32
     requires kept { PortKept parts.now }
     requires ship { ShipKept parts.now ship.now }
-    ensures value { result ≡ held_for parts.now ship.now }
+    ensures value { result ≡ slots_with_tugs parts.now ship.now }
     ensures few { result ≤ 1_024 }
 {
     if natural(ship.tugs) > 0 {
@@ -129,7 +129,7 @@ fn ends(parts: &PortParts, plan: Option<&Plan>, first: ShipId, ships: &[Ship]) -
 
 /// How many slots a picture of a port shows.
 pub fn span(port: &Port, plan: Option<&Plan>) -> u32
-    ensures value { result ≡ span_of port.now (option_map (λ plan. plan.now.table) plan.entry) }
+    ensures value { result ≡ port_picture_span port.now (option_map (λ plan. plan.now.table) plan.entry) }
     ensures some { 0 < result }
     ensures small { result ≤ 1_535 }
 {

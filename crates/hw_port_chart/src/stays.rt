@@ -4,8 +4,8 @@ ghost use Rattle.std.specs.Prelude.{◌≡◌, ◌≤◌, ◌<◌, pos, length, 
 ghost use Rattle.hw_desk.specs.Writers.{Puts};
 ghost use Rattle.hw_port.specs.Kept.{AfterKept};
 ghost use Rattle.hw_port_rules.specs.Numbers.{whole};
-ghost use Rattle.hw_port_chart.specs.Charts.{slot_at};
-ghost use Rattle.hw_port_chart.specs.Stays.{ship_name as name_of_ship, stay, stay_for, stays_of, wait_bars, wait_of, wait_title};
+ghost use Rattle.hw_port_chart.specs.Charts.{slot_in_chart};
+ghost use Rattle.hw_port_chart.specs.Stays.{chart_ship_name as name_of_ship, stay, stay_for, stays_of, wait_bars, wait_of, wait_title};
 
 use crate::chart::Chart;
 use crate::numbers::{natural, product};

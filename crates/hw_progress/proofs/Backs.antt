@@ -18,6 +18,7 @@ use Rattle.hw_lines.specs.Lines.{clause_count, clause_at, live, deletes, is_clos
 use Rattle.hw_lines.specs.Valid.{LineFits, ValidAfter}
 use Rattle.hw_lines.proofs.Pushed.{one_more, last_push, numbers_deleted}
 use Rattle.hw_lines.proofs.Deleted.{live_in as live_inside}
+use Rattle.hw_lines.proofs.Live.{live_above}
 use Rattle.hw_story.specs.declared.event.Event.{Event}
 use Rattle.hw_story.specs.Trails.{TrailModel, reason, IsTrail, back_to}
 use Rattle.hw_story.specs.Learning.{reason_at}
@@ -108,7 +109,7 @@ back_open before s u level is e c b p r t w fit =
 
 -- ---- one deletion
 
-any_contains : (xs : List ℕ) (n : ℕ) → list_any (λ x. x == n) xs ≡ true → Contains xs n
+pub any_contains : (xs : List ℕ) (n : ℕ) → list_any (λ x. x == n) xs ≡ true → Contains xs n
 any_contains [] n e = absurd cc
 any_contains (x ∷ xs) n e = elim (or_cases (x == n) (list_any (λ y. y == n) xs) e) [
   | inl y ↦ contains_here x xs n (eqb-true x n y)
@@ -162,21 +163,13 @@ of_range n c e =
     let same : r.0 ≡ n = eqb-true r.0 n r.3 in
     omega (arith, r.2, same)
 
-pub some_live : (before : List Line) (n : ℕ) → IsSome (live before n) → 1 ≤ n
-some_live before zero h = absurd (no_zero (list_any (deletes 0) before) h)
-  where
-    no_zero : (b : Bool) → IsSome (cond b None (clause_at before 0)) → ⊥
-    no_zero true h = cc
-    no_zero false h = cc
-some_live before (suc n) h = omega arith
-
 -- what is live and not kept is to be deleted
 pub unkept_has : (before : List Line) (s : SearchModel) (n : ℕ) → IsSome (live before n) → list_any (λ x. x == n) (unkept before s) ≡ false → Contains (kept_numbers s) n
 unkept_has before s n h e = elim (cases_Bool (list_any (λ kept. kept == n) (kept_numbers s))) [
   | inl y ↦ any_contains (kept_numbers s) n y
   | inr no' ↦
       let t : doomed before s n ≡ true = and_from (is_some (live before n)) (not (list_any (λ kept. kept == n) (kept_numbers s))) h (ap not no') in
-      let f : list_any (λ x. x == n) (unkept before s) ≡ true = in_filter (doomed before s) (range_with_len 1 (clause_count before)) n t (in_range n (clause_count before) (some_live before n h) (live_inside before n h)) in
+      let f : list_any (λ x. x == n) (unkept before s) ≡ true = in_filter (doomed before s) (range_with_len 1 (clause_count before)) n t (in_range n (clause_count before) (live_above before n h) (live_inside before n h)) in
       absurd (let z : true ≡ false = sym f ∙ e in cc)
 ]
 

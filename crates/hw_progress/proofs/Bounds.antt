@@ -6,7 +6,7 @@ use Rattle.std.specs.List.{list_any, cons_option, range_with_len}
 use Rattle.std.proofs.lemmas.Bool.{or_cases, or_left, or_right, eqb-true, eq-eqb}
 use Rattle.std.proofs.lemmas.List.{length-map}
 use Rattle.std.proofs.lemmas.List.Elements.{All-nil, All-cons, All-head, All-tail}
-use Rattle.std.proofs.Math.Nat.{mul-le-mul_right}
+use Rattle.hw_lemmas.proofs.Numbers.{product}
 use Rattle.hw_model.specs.Problem.{Problem, shape_of}
 use Rattle.hw_model.specs.Limits.{IsFlat}
 use Rattle.hw_model.specs.Lits.{IsClause}
@@ -143,12 +143,6 @@ pub few_stored : (s : SearchModel) → IsSearch s → length s.stored ≤ room_c
 few_stored s is = omega (arith, clauses_few (shape_of s.problem) (lemmas_in s) (shape_fits s.problem is.flat) is.clauses is.new, length-map s.stored (λ (one : Stored). one.clause))
 
 -- ---- the numbers of lines
-
-product : (a b c d : ℕ) → a ≤ b → c ≤ d → a * c ≤ b * d
-product a b c d p q =
-    let one : a * c ≤ b * c = mul-le-mul_right c p in
-    let two : c * b ≤ d * b = mul-le-mul_right b q in
-    omega (arith, one, two)
 
 pub most_is : (f : Problem) → IsFlat f → most_events f.ships f.slots ≤ 21260
 most_is f flat =

@@ -5,6 +5,7 @@ use Rattle.std.specs.List.{cons_option}
 use Rattle.std.proofs.lemmas.Bool.{cases_lt}
 use Rattle.std.proofs.lemmas.List.Elements.{All-head, All-tail, All-nil, All-push, All-weaker, All-contains, filter_map-append}
 use Rattle.std.proofs.lemmas.Option.{slice_get_past}
+use Rattle.hw_lemmas.proofs.Truths.{is_there}
 use Rattle.hw_model.specs.declared.lit.Lit.{Lit}
 use Rattle.hw_model.specs.declared.narrowing.Narrowed.TheVariants as step
 use Rattle.hw_model.specs.declared.source.Source.{Source}
@@ -24,7 +25,7 @@ use Rattle.hw_lines.proofs.Deleted.{live_in as live_inside}
 use Rattle.hw_story.specs.declared.event.Event.{Event}
 use Rattle.hw_story.specs.declared.event.Why.{Why}
 use Rattle.hw_story.specs.declared.event.Why.TheVariants as whys
-use Rattle.hw_story.specs.Trails.{TrailModel, clause_of, reason, room_before, level_after, Because, IsTrail}
+use Rattle.hw_story.specs.Trails.{TrailModel, reason_clause, reason, room_before, level_after, Because, IsTrail}
 use Rattle.hw_story.specs.Learning.{reason_at, chain_of}
 use Rattle.hw_story.specs.Bridge.{event_at}
 use Rattle.hw_story.proofs.Trails.{told_at}
@@ -40,12 +41,12 @@ use Rattle.hw_progress.proofs.Holds.{Writes, source_writes, plain_tariff, priced
 
 -- ---- why an event came, and its reason's clause
 
-pub why_reason : (t : TrailModel) (q : ℕ) (why : Why) → why_at t q ≡ Some why → reason_at t q ≡ Some (clause_of why)
+pub why_reason : (t : TrailModel) (q : ℕ) (why : Why) → why_at t q ≡ Some why → reason_at t q ≡ Some (reason_clause why)
 why_reason t q why e = by (slice_get t.events q) e
   where
-    by : (o : Option Event) → option_and_then (λ (event : Event). event.why) o ≡ Some why → option_and_then reason o ≡ Some (clause_of why)
+    by : (o : Option Event) → option_and_then (λ (event : Event). event.why) o ≡ Some why → option_and_then reason o ≡ Some (reason_clause why)
     by None e = absurd cc
-    by (Some event) e = ap (option_map clause_of) e
+    by (Some event) e = ap (option_map reason_clause) e
 
 pub why_inside : (t : TrailModel) (q : ℕ) (why : Why) → why_at t q ≡ Some why → q < length t.events
 why_inside t q why e = elim (cases_lt q (length t.events)) [
@@ -56,7 +57,7 @@ why_inside t q why e = elim (cases_lt q (length t.events)) [
 pub reason_why : (t : TrailModel) (q : ℕ) → IsSome (reason_at t q) → (why : Why) × (why_at t q ≡ Some why)
 reason_why t q h = by (slice_get t.events q) h
   where
-    of : (o : Option Why) → IsSome (option_map clause_of o) → (why : Why) × (o ≡ Some why)
+    of : (o : Option Why) → IsSome (option_map reason_clause o) → (why : Why) × (o ≡ Some why)
     of None h = absurd cc
     of (Some why) h = (why, refl)
 
@@ -91,9 +92,6 @@ hint_push before hints n clause cs e h = filter_map-append (live before) hints (
 
 reasons_push : (t : TrailModel) (done : List ℕ) (q : ℕ) (clause : List Lit) → reason_at t q ≡ Some clause → filter_map (reason_at t) (done ++ q ∷ []) ≡ filter_map (reason_at t) done ++ clause ∷ []
 reasons_push t done q clause e = filter_map-append (reason_at t) done (q ∷ []) ∙ ap (λ o. filter_map (reason_at t) done ++ cons_option o []) e
-
-some_is : {A : Type 0} (o : Option A) (x : A) → o ≡ Some x → IsSome o
-some_is o x e = subst IsSome (sym e) refl
 
 -- ---- what is kept while reasons are named
 
@@ -139,7 +137,7 @@ named s before done c q n clause h r e = record {
   long = h.long;
   stay = h.stay;
   hints = hint_push (before ++ c.lines) c.hints n clause (filter_map (reason_at s.trail) done) e h.hints ∙ sym (reasons_push s.trail done q clause r);
-  alive = All-push (λ id. IsSome (live (before ++ c.lines) id)) c.hints n h.alive (some_is _ clause e);
+  alive = All-push (λ id. IsSome (live (before ++ c.lines) id)) c.hints n h.alive (is_there _ clause e);
   plain = h.plain;
   shaped = h.shaped;
   valid = h.valid;
@@ -226,7 +224,7 @@ written_one s before done c q source clause is h w none few =
       hints = hint_push (before ++ (c.lines ++ line ∷ [])) c.hints (c.search.clause_lines + 1) clause (filter_map (reason_at s.trail) done) new old ∙ sym (reasons_push s.trail done q clause r);
       alive = All-push (λ id. IsSome (live (before ++ (c.lines ++ line ∷ [])) id)) c.hints (c.search.clause_lines + 1)
           (subst (λ xs. All (λ id. IsSome (live xs id)) c.hints) e (All-weaker (λ id. IsSome (live (before ++ c.lines) id)) (λ id. IsSome (live ((before ++ c.lines) ++ line ∷ []) id)) (λ id k. live_stays c.search.problem (before ++ c.lines) line id (ls.no_delete id) k) c.hints h.alive))
-          (some_is _ clause new);
+          (is_there _ clause new);
       plain = all.plain;
       shaped = all.shaped;
       valid = all.valid;
@@ -301,10 +299,10 @@ pub record Prepared (s : SearchModel) (before : List Line) (places : List ℕ) (
   pub few : c.search.clause_lines ≤ s.clause_lines + length places + 1
 
 -- with a line of its own
-prepared_line : (s : SearchModel) (before : List Line) (places : List ℕ) (c : Cited) (why : Why) (line : Line) → Citing s before places c → IsConflict s why → why_lines s.problem why ≡ line ∷ [] → 1 ≤ length (clause_of why) → s.clause_lines + length places + 1 < 2 ^ 32
-    → Prepared s before places (clause_of why) (record { search = record c.search { clause_lines = c.search.clause_lines + 1 }; lines = c.lines ++ line ∷ []; hints = c.hints ++ (c.search.clause_lines + 1) ∷ [] })
+prepared_line : (s : SearchModel) (before : List Line) (places : List ℕ) (c : Cited) (why : Why) (line : Line) → Citing s before places c → IsConflict s why → why_lines s.problem why ≡ line ∷ [] → 1 ≤ length (reason_clause why) → s.clause_lines + length places + 1 < 2 ^ 32
+    → Prepared s before places (reason_clause why) (record { search = record c.search { clause_lines = c.search.clause_lines + 1 }; lines = c.lines ++ line ∷ []; hints = c.hints ++ (c.search.clause_lines + 1) ∷ [] })
 prepared_line s before places c why line h k own some few =
-    let clause = clause_of why in
+    let clause = reason_clause why in
     let e : (before ++ c.lines) ++ line ∷ [] ≡ before ++ (c.lines ++ line ∷ []) = append_assoc before c.lines (line ∷ []) in
     let ls = why_is s.problem why line own in
     let writes : Writes s.problem (before ++ c.lines) line = why_wrote s c.search (before ++ c.lines) why line c.search.written c.search.clause_lines h.same h.fit k own (omega (arith, few, h.few)) in
@@ -320,7 +318,7 @@ prepared_line s before places c why line h k own some few =
       hints = hint_push (before ++ (c.lines ++ line ∷ [])) c.hints (c.search.clause_lines + 1) clause (filter_map (reason_at s.trail) places) new old;
       alive = All-push (λ id. IsSome (live (before ++ (c.lines ++ line ∷ [])) id)) c.hints (c.search.clause_lines + 1)
           (subst (λ xs. All (λ id. IsSome (live xs id)) c.hints) e (All-weaker (λ id. IsSome (live (before ++ c.lines) id)) (λ id. IsSome (live ((before ++ c.lines) ++ line ∷ []) id)) (λ id m. live_stays c.search.problem (before ++ c.lines) line id (ls.no_delete id) m) c.hints h.alive))
-          (some_is _ clause new);
+          (is_there _ clause new);
       plain = all.plain;
       shaped = all.shaped;
       valid = all.valid;
@@ -328,7 +326,7 @@ prepared_line s before places c why line h k own some few =
       few = omega (arith, h.few);
     }
 
-pub prepared : (s : SearchModel) (before : List Line) (places : List ℕ) (c : Cited) (why : Why) → Citing s before places c → IsConflict s why → 1 ≤ length (clause_of why) → s.clause_lines + length places + 1 < 2 ^ 32 → Prepared s before places (clause_of why) (cite_conflict c why)
+pub prepared : (s : SearchModel) (before : List Line) (places : List ℕ) (c : Cited) (why : Why) → Citing s before places c → IsConflict s why → 1 ≤ length (reason_clause why) → s.clause_lines + length places + 1 < 2 ^ 32 → Prepared s before places (reason_clause why) (cite_conflict c why)
 prepared s before places c (whys.Lemma number clause) h k some few =
     let e = stored_live c.search (before ++ c.lines) number clause h.fit (subst (λ xs. Contains xs (record { number = number; clause = clause })) (sym (same_stored s before places c h)) k.holds) in
     record {
@@ -337,7 +335,7 @@ prepared s before places c (whys.Lemma number clause) h k some few =
       long = h.long;
       stay = h.stay;
       hints = hint_push (before ++ c.lines) c.hints number clause (filter_map (reason_at s.trail) places) e h.hints;
-      alive = All-push (λ id. IsSome (live (before ++ c.lines) id)) c.hints number h.alive (some_is _ clause e);
+      alive = All-push (λ id. IsSome (live (before ++ c.lines) id)) c.hints number h.alive (is_there _ clause e);
       plain = h.plain;
       shaped = h.shaped;
       valid = h.valid;

@@ -54,7 +54,7 @@ good_append f before a b v w = record {
 abbrev with_more : TrailModel → List Event → TrailModel
 with_more t more = record { ships = t.ships; slots = t.slots; events = t.events ++ more; level = t.level }
 
-heeds_none : (s : SearchModel) (log : LogModel) → IsSearch s → WhereTold log (λ told. LogFits told s) → Heeds s s log log
+pub heeds_none : (s : SearchModel) (log : LogModel) → IsSearch s → WhereTold log (λ told. LogFits told s) → Heeds s s log log
 heeds_none s log is fits = record {
   more = [];
   implied = All-nil (λ (event : Event). IsSome event.why);
@@ -89,7 +89,7 @@ writes_both s mid after was here now e a b =
       fits = b.fits;
     }
 
-heeds_both : (s mid after : SearchModel) (old here new : LogModel) → Heeds s mid old here → Heeds mid after here new → Heeds s after old new
+pub heeds_both : (s mid after : SearchModel) (old here new : LogModel) → Heeds s mid old here → Heeds mid after here new → Heeds s after old new
 heeds_both s mid after old here new a b =
     let e : mid.problem ≡ s.problem = ap (λ (x : SearchModel). x.problem) a.same in
     record {

@@ -37,9 +37,10 @@ use Rattle.hw_story.proofs.Levels.{top_reached}
 use Rattle.hw_story.proofs.Decisions.{level_here}
 use Rattle.std.proofs.lemmas.Option.{slice_get_past}
 use Rattle.hw_model.specs.Rooms.{IsRoomOf}
+use Rattle.hw_rules.proofs.Numbers.{window_at}
 use Rattle.hw_story.proofs.Trails.{room_known, room_end}
 use Rattle.hw_story.proofs.Quiets.{not_within, none_within}
-use Rattle.hw_story.specs.Walks.{In}
+use Rattle.hw_story.specs.Walks.{InClause}
 use Rattle.hw_verdict.proofs.Naming.{some_live as live_is}
 use Rattle.hw_progress.specs.Searches.{SearchModel, IsReason, OfBetter, PricesShow, FitsOpen, room_in, lemmas_in, best_cargo}
 use Rattle.hw_progress.specs.Settling.{AllQuiet}
@@ -61,9 +62,6 @@ lean_push f before (x ∷ more) line v h = (v.0, lean_push f (before ++ x ∷ []
 pub best_same : (s : SearchModel) (before : List Line) → FitsOpen before s → best_of s.problem before ≡ best_cargo s
 best_same s before fit = ap (option_and_then (cargo s.problem)) fit.best
 
-window_is : (f : Problem) (ship : ℕ) → ship < f.ships → source_of f ship ≡ sources.Window ship
-window_is f ship lt = ap (λ b. cond b (sources.Window ship) (sources.Rule (ship - f.ships))) (lt-ltb _ _ lt)
-
 rule_is : (f : Problem) (place : ℕ) → source_of f (f.ships + place) ≡ sources.Rule place
 rule_is f place =
     let past : nat_lt (f.ships + place) f.ships ≡ false = le-ltb _ _ (omega arith) in
@@ -81,8 +79,8 @@ pub source_writes : (f : Problem) (before : List Line) (source : Source) (clause
 source_writes f before (sources.Window ship) clause of is refutes speaks goes few = record {
   plain = λ none. refl;
   fits = (omega (arith, of), is);
-  valid = record { goes_on = goes; numbered = few; claim = subst (λ x. Refutes f x (best_of f before) (denied_room f clause)) (sym (window_is f ship of)) refutes };
-  lean = subst (λ x. SpeaksOnlyOf f x clause) (sym (window_is f ship of)) speaks;
+  valid = record { goes_on = goes; numbered = few; claim = subst (λ x. Refutes f x (best_of f before) (denied_room f clause)) (sym (window_at f ship of)) refutes };
+  lean = subst (λ x. SpeaksOnlyOf f x clause) (sym (window_at f ship of)) speaks;
 }
 source_writes f before (sources.Rule place) clause of is refutes speaks goes few = record {
   plain = λ none. refl;
@@ -110,7 +108,7 @@ some_tariff None P h e = h
 some_tariff (Some x) P h e = cc
 
 -- plain lines change no prices in force
-plain_stays : (last : Option Tariff) (line : Line) → is_plain line ≡ true → tariff_after last line ≡ last
+pub plain_stays : (last : Option Tariff) (line : Line) → is_plain line ≡ true → tariff_after last line ≡ last
 plain_stays last (lines.Table table) e = refl
 plain_stays last (lines.Explain n clause) e = refl
 plain_stays last (lines.Order v w x clause) e = refl
@@ -257,7 +255,7 @@ top_low t is clause = elim (top_reached t clause) [
   | inr r ↦ omega (arith, r.2, level_low t is (event_of t r.0))
 ]
 
-first_in : (c : List Lit) → 1 ≤ length c → (l : Lit) × In l c
+first_in : (c : List Lit) → 1 ≤ length c → (l : Lit) × InClause l c
 first_in [] h = absurd (omega (arith, h))
 first_in (l ∷ c) h = (l, inl refl)
 

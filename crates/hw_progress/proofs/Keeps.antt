@@ -22,7 +22,7 @@ use Rattle.hw_lines.specs.Valid.{denied_room}
 use Rattle.hw_story.specs.declared.event.Event.{Event}
 use Rattle.hw_story.specs.declared.event.Why.{Why}
 use Rattle.hw_story.specs.declared.event.Why.TheVariants as whys
-use Rattle.hw_story.specs.Trails.{trail_shape, clause_of, decided, back_to, most_events}
+use Rattle.hw_story.specs.Trails.{trail_shape, reason_clause, decided, back_to, most_events}
 use Rattle.hw_story.specs.Learning.{top_level, Learns, QuietBelow}
 use Rattle.hw_story.proofs.Kept.{front_of, none_kept, decided_kept, implied_kept, back_kept, quiet_decided, quiet_implied, quiet_back}
 use Rattle.hw_story.proofs.Quiets.{back_below, quiet_learnt}
@@ -33,6 +33,7 @@ use Rattle.hw_tolls.specs.Tolls.{IsToll}
 use Rattle.hw_progress.specs.Searches.{SearchModel, new_search, IsReason, HasLine, NumbersStay, IsSearch, OfBetter, why_at, lemmas_in, room_in, best_cargo}
 use Rattle.hw_progress.specs.Settling.{AllQuiet, with_events}
 use Rattle.hw_progress.specs.Turns.{with_lemma, to_level, gone_back}
+use Rattle.hw_progress.proofs.Numbers.{numbers_push}
 use Rattle.hw_progress.proofs.Backs.{front_length}
 use Rattle.hw_progress.proofs.Trues.{pushed_true}
 use Rattle.hw_progress.proofs.Holds.{better_true, reason_rises, lemmas_new, top_low, trail_clause}
@@ -146,7 +147,7 @@ events_reason s more (whys.Lemma number clause) h = h
 events_reason s more (whys.Source source clause) h = h
 events_reason s more (whys.Priced clause) h = h
 
-pub implied_search : (s : SearchModel) (lit : Lit) (why : Why) → IsSearch s → lit_fits (trail_shape s.trail) lit ≡ true → IsClause (trail_shape s.trail) (clause_of why) → truth (room_in s) lit ≡ Free → narrowing (clause_of why) (room_in s) ≡ Cut lit → IsReason s why → HasLine None why → IsSearch (with_events s (record { lit = lit; level = s.trail.level; why = Some why } ∷ []))
+pub implied_search : (s : SearchModel) (lit : Lit) (why : Why) → IsSearch s → lit_fits (trail_shape s.trail) lit ≡ true → IsClause (trail_shape s.trail) (reason_clause why) → truth (room_in s) lit ≡ Free → narrowing (reason_clause why) (room_in s) ≡ Cut lit → IsReason s why → HasLine None why → IsSearch (with_events s (record { lit = lit; level = s.trail.level; why = Some why } ∷ []))
 implied_search s lit why is fits clause free cuts holds line =
     let e : Event = record { lit = lit; level = s.trail.level; why = Some why } in
     record {
@@ -253,10 +254,6 @@ rises_push xs y rises below k lt = elim (cases_lt (k + 1) (length xs)) [
       omega (arith, a, b, c)
 ]
 
-numbers_push : (xs : List Stored) (x : Stored) → map (λ (one : Stored). one.number) (xs ++ x ∷ []) ≡ map (λ (one : Stored). one.number) xs ++ x.number ∷ []
-numbers_push [] x = refl
-numbers_push (y ∷ xs) x = ap (λ ys. y.number ∷ ys) (numbers_push xs x)
-
 clauses_push : (xs : List Stored) (x : Stored) → map (λ (one : Stored). one.clause) (xs ++ x ∷ []) ≡ map (λ (one : Stored). one.clause) xs ++ x.clause ∷ []
 clauses_push [] x = refl
 clauses_push (y ∷ xs) x = ap (λ ys. y.clause ∷ ys) (clauses_push xs x)
@@ -338,7 +335,7 @@ lemma_search s ws n clause lemma back places is over long stay low high learns s
 
 -- ---- a search that is over
 
-never : true ≡ false → ⊥
+pub never : true ≡ false → ⊥
 never e = cc
 
 stopped_reason : (s : SearchModel) (ws : List (Option ℕ)) (n lemmas : ℕ) (why : Why) → IsReason s why → IsReason (record s { written = ws; clause_lines = n; lemmas = lemmas; over = true }) why

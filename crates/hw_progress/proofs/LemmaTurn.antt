@@ -1,25 +1,27 @@
 -- A lemma with its reasons, its conflict and the deletion after it: valid, lean, new, and fitting.
-use Rattle.std.proofs.Common.{◌≡◌, ℕ, ◌+◌, ◌^◌, ◌<◌, ◌≤◌, Bool, true, false, cond, List, [], ◌∷◌, ◌++◌, None, length, All, IsSome, refl, sym, ap, ◌∙◌, subst, arith, append-nil, append_assoc, length-append}
+use Rattle.std.proofs.Common.{◌≡◌, ℕ, ◌+◌, ◌^◌, ◌<◌, ◌≤◌, Bool, true, false, cond, List, [], ◌∷◌, ◌++◌, None, length, All, IsSome, refl, sym, ap, ◌∙◌, subst, arith, append-nil, append_assoc}
 use Rattle.std.specs.Prelude.{AllPairs}
 use Rattle.std.specs.List.Sorted.{IsStrictlyIncreasing}
 use Rattle.std.proofs.lemmas.Map.Keys.{sorted_from_strictly_increasing}
 use Rattle.std.proofs.lemmas.Map.Views.{length-le_from_below}
-use Rattle.std.proofs.lemmas.List.Elements.{All-push, All-weaker, filter_map-append}
+use Rattle.std.proofs.lemmas.List.Elements.{All-push, All-weaker}
 use Rattle.hw_model.specs.declared.lit.Lit.{Lit}
 use Rattle.hw_model.specs.Rooms.{RoomWithin}
 use Rattle.hw_lines.specs.declared.line.Line.{Line}
 use Rattle.hw_lines.specs.declared.line.Line.TheVariants as lines
 use Rattle.hw_lines.specs.Tolled.{is_plain, tariff_of}
-use Rattle.hw_lines.specs.Lines.{clause_of as clause_in, clauses_of, clause_count}
+use Rattle.hw_lines.specs.Lines.{clause_count}
 use Rattle.hw_lines.specs.Valid.{LineFits, ValidFrom, denied_room}
 use Rattle.hw_lines.specs.Lemmas.{lemmas_of, IsNew, LeanFrom}
+use Rattle.hw_lines.proofs.Live.{lemmas_push}
+use Rattle.hw_verdict.proofs.Numbered.{count_append}
 use Rattle.hw_story.specs.declared.event.Why.{Why}
-use Rattle.hw_story.specs.Trails.{TrailModel, clause_of, IsTrail, most_events}
+use Rattle.hw_story.specs.Trails.{TrailModel, reason_clause, IsTrail, most_events}
 use Rattle.hw_story.specs.Learning.{reason_at, Learns}
 use Rattle.hw_story.proofs.Many.{few_events}
 use Rattle.hw_progress.specs.Searches.{SearchModel, IsSearch, FitsOpen, LiveKept, lemmas_in}
-use Rattle.hw_progress.specs.Turns.{Cited, with_lemma, to_level, is_due, gone_back, unkept, deletion, WritesWell}
-use Rattle.hw_progress.proofs.Lines.{lemma_open, same_lemmas, lemmas_push}
+use Rattle.hw_progress.specs.Turns.{Cited, with_lemma, to_level, restart_is_due, gone_back, unkept, deletion, WritesWell}
+use Rattle.hw_progress.proofs.Lines.{lemma_open, same_lemmas}
 use Rattle.hw_progress.proofs.Backs.{back_open, deleted_open, deleted_kept, nothing_kept, deletion_valid}
 use Rattle.hw_progress.proofs.Holds.{Writes, lemma_writes, valid_push, lean_push, lemmas_new, top_low}
 use Rattle.hw_progress.proofs.Citing.{Prepared, Wrote, wrote, reason_why, why_inside}
@@ -36,9 +38,6 @@ few_places t is places rises some =
 
 -- ---- counting clause lines
 
-pub count_append : (a b : List Line) → clause_count (a ++ b) ≡ clause_count a + clause_count b
-count_append a b = ap length (filter_map-append clause_in a b) ∙ length-append (clauses_of a) (clauses_of b)
-
 -- ---- what is written up to the lemma
 
 abbrev lemma_lines : Cited → List Lit → List Line
@@ -54,10 +53,10 @@ pub record LemmaWritten (s : SearchModel) (before : List Line) (lemma : List Lit
   pub few : clause_count (lemma_lines c lemma) ≤ length places + 2
   pub search_lines : c.search.clause_lines + 1 ≤ s.clause_lines + length places + 2
 
-pub lemma_written : (s : SearchModel) (before : List Line) (why : Why) (lemma : List Lit) (back : ℕ) (places : List ℕ) (c : Cited) → IsSearch s → FitsOpen before s → Prepared s before places (clause_of why) c → Learns s.trail (clause_of why) lemma back places → s.clause_lines + length places + 2 < 2 ^ 32 → LemmaWritten s before lemma places c
+pub lemma_written : (s : SearchModel) (before : List Line) (why : Why) (lemma : List Lit) (back : ℕ) (places : List ℕ) (c : Cited) → IsSearch s → FitsOpen before s → Prepared s before places (reason_clause why) c → Learns s.trail (reason_clause why) lemma back places → s.clause_lines + length places + 2 < 2 ^ 32 → LemmaWritten s before lemma places c
 lemma_written s before why lemma back places c is fit p learns few =
     let line = lines.Lemma lemma c.hints in
-    let w : Writes s.problem (before ++ c.lines) line = lemma_writes s (before ++ c.lines) (clause_of why) lemma back places c.hints is.same_ships is.same_slots learns p.hints p.alive p.fit.none_empty (omega (arith, few, p.few, p.fit.count)) in
+    let w : Writes s.problem (before ++ c.lines) line = lemma_writes s (before ++ c.lines) (reason_clause why) lemma back places c.hints is.same_ships is.same_slots learns p.hints p.alive p.fit.none_empty (omega (arith, few, p.few, p.fit.count)) in
     let all : Wrote s.problem before c.lines line = wrote s.problem before c.lines line p.plain p.shaped p.valid p.lean w in
     let e : (before ++ c.lines) ++ line ∷ [] ≡ before ++ lemma_lines c lemma = append_assoc before c.lines (line ∷ []) in
     let same : lemmas_in c.search ≡ lemmas_in s = ap lemmas_in p.same in
@@ -68,7 +67,7 @@ lemma_written s before why lemma back places c is fit p learns few =
       valid = all.valid;
       lean = all.lean;
       lemmas = ls;
-      new = subst (AllPairs (λ earlier later. RoomWithin (denied_room s.problem later) (denied_room s.problem earlier) → ⊥)) (sym ls) (lemmas_new s is.trail is.same_ships is.same_slots is.quiet_below is.clauses is.some_literal is.new (clause_of why) lemma back places learns (top_low s.trail is.trail (clause_of why)));
+      new = subst (AllPairs (λ earlier later. RoomWithin (denied_room s.problem later) (denied_room s.problem earlier) → ⊥)) (sym ls) (lemmas_new s is.trail is.same_ships is.same_slots is.quiet_below is.clauses is.some_literal is.new (reason_clause why) lemma back places learns (top_low s.trail is.trail (reason_clause why)));
       few =
           let a = count_append before c.lines in
           let b = count_append c.lines (line ∷ []) in
@@ -80,7 +79,7 @@ lemma_written s before why lemma back places c is fit p learns few =
 -- ---- going back
 
 gone_open : (before : List Line) (u : SearchModel) (back : ℕ) → IsTrail u.trail → FitsOpen before u → FitsOpen before (gone_back u back)
-gone_open before u back is fit = by (is_due u)
+gone_open before u back is fit = by (restart_is_due u)
   where
     by : (b : Bool) → FitsOpen before (cond b (record (to_level u 0) { restarts = u.restarts + 1; since = 0 }) (record (to_level u back) { since = u.since + 1 }))
     by true = back_open before u (record (to_level u 0) { restarts = u.restarts + 1; since = 0 }) 0 is refl refl refl refl refl refl refl fit
@@ -94,7 +93,7 @@ pub record LemmaDone (s : SearchModel) (before all : List Line) (after : SearchM
   pub kept : LiveKept (before ++ all) after
 
 pub gone_problem : (u : SearchModel) (back : ℕ) → (gone_back u back).problem ≡ u.problem
-gone_problem u back = by (is_due u)
+gone_problem u back = by (restart_is_due u)
   where
     by : (b : Bool) → (cond b (record (to_level u 0) { restarts = u.restarts + 1; since = 0 }) (record (to_level u back) { since = u.since + 1 })).problem ≡ u.problem
     by true = refl
@@ -125,7 +124,7 @@ deleted s before written after (id ∷ ids) e p a v l n fit =
     }
 
 -- the whole of a turn that answers Lemma
-pub lemma_done : (s : SearchModel) (before : List Line) (why : Why) (lemma : List Lit) (back : ℕ) (places : List ℕ) (c : Cited) → IsSearch s → FitsOpen before s → Prepared s before places (clause_of why) c → Learns s.trail (clause_of why) lemma back places → 1 ≤ length lemma → s.clause_lines + length places + 2 < 2 ^ 32
+pub lemma_done : (s : SearchModel) (before : List Line) (why : Why) (lemma : List Lit) (back : ℕ) (places : List ℕ) (c : Cited) → IsSearch s → FitsOpen before s → Prepared s before places (reason_clause why) c → Learns s.trail (reason_clause why) lemma back places → 1 ≤ length lemma → s.clause_lines + length places + 2 < 2 ^ 32
     → LemmaDone s before (lemma_lines c lemma ++ deletion (unkept (before ++ lemma_lines c lemma) (gone_back (with_lemma c.search lemma) back))) (gone_back (with_lemma c.search lemma) back)
 lemma_done s before why lemma back places c is fit p learns some few =
     let w = lemma_written s before why lemma back places c is fit p learns few in

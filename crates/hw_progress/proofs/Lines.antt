@@ -4,8 +4,9 @@ use Rattle.std.specs.Prelude.{Contains, slice_set}
 use Rattle.std.specs.List.{cons_option, list_any}
 use Rattle.std.specs.Option.{option_flatten}
 use Rattle.std.proofs.lemmas.Bool.{cases_eq, cases_lt}
-use Rattle.std.proofs.lemmas.List.Elements.{All-push, All-weaker, Contains-append_left, Contains-append_right, Contains-append_cases, Contains-push_cases, filter_map-append}
+use Rattle.std.proofs.lemmas.List.Elements.{All-push, All-weaker, Contains-append_left, Contains-append_right, Contains-append_cases, Contains-push_cases}
 use Rattle.std.proofs.lemmas.List.Folds.{list_any-append}
+use Rattle.hw_lemmas.proofs.Truths.{is_there}
 use Rattle.hw_model.specs.declared.lit.Lit.{Lit}
 use Rattle.hw_model.specs.declared.source.Source.{Source}
 use Rattle.hw_model.specs.declared.source.Source.TheVariants as sources
@@ -17,15 +18,16 @@ use Rattle.hw_lines.specs.Lemmas.{lemma_of, lemmas_of}
 use Rattle.hw_lines.specs.Laws.{PricesStay}
 use Rattle.hw_lines.proofs.Pushed.{one_more, last_push, clauses_push, clause_prices, table_added}
 use Rattle.hw_lines.proofs.Deleted.{live_in as live_inside}
+use Rattle.hw_lines.proofs.Live.{lemmas_push}
 use Rattle.hw_story.specs.declared.event.Why.{Why}
 use Rattle.hw_story.specs.declared.event.Why.TheVariants as whys
-use Rattle.hw_story.specs.Trails.{clause_of as why_clause}
+use Rattle.hw_story.specs.Trails.{reason_clause as why_clause}
 use Rattle.hw_story.specs.Learning.{reason_at}
 use Rattle.hw_store.specs.declared.store.Stored.{Stored}
 use Rattle.hw_progress.specs.Prices.{PriceModel, PricesTold}
 use Rattle.hw_progress.specs.Searches.{SearchModel, FitsOpen, LiveKept, written_at, kept_numbers}
 use Rattle.hw_progress.specs.Turns.{source_line, why_lines, with_written, with_lemma}
-use Rattle.hw_progress.proofs.Numbers.{WrittenAt, written_found, found_written, set_here, set_other, get_within}
+use Rattle.hw_progress.proofs.Numbers.{WrittenAt, written_found, found_written, set_here, set_other, get_within, numbers_push}
 
 -- ---- a clause line
 
@@ -64,9 +66,6 @@ pub lemma_is : (clause : List Lit) (hints : List ℕ) → IsClauseLine (lines.Le
 lemma_is clause hints = record { has = refl; no_table = λ last. refl; no_delete = λ id. refl }
 
 -- ---- what stands and what is live
-
-some_is : {A : Type 0} (o : Option A) (x : A) → o ≡ Some x → IsSome o
-some_is o x e = subst IsSome (sym e) refl
 
 pub at_stays : (before : List Line) (line : Line) (n : ℕ) (clause : List Lit) → clause_at before n ≡ Some clause → clause_at (before ++ line ∷ []) n ≡ Some clause
 at_stays before line zero clause e = absurd cc
@@ -116,9 +115,6 @@ earlier_push : (f : Problem) (before : List Line) (line : Line) → ((id : ℕ) 
 earlier_push f before line none le d = λ n lt. any_push n before line (d n (omega (arith, lt, le))) (none n)
 
 -- ---- the lists of a log with one more line
-
-pub lemmas_push : (before : List Line) (line : Line) → lemmas_of (before ++ line ∷ []) ≡ lemmas_of before ++ cons_option (lemma_of line) []
-lemmas_push before line = filter_map-append lemma_of before (line ∷ [])
 
 pub same_lemmas : (before : List Line) (line : Line) → lemma_of line ≡ None → lemmas_of (before ++ line ∷ []) ≡ lemmas_of before
 same_lemmas before line e = lemmas_push before line ∙ ap (λ o. lemmas_of before ++ cons_option o []) e ∙ append-nil (lemmas_of before)
@@ -223,7 +219,7 @@ written_open s before place line clause fit c no_lemma why none some =
       kept_live = λ m h. elim (stored_cases (with_written s place) m h) [
         | inl a ↦ live_stays s.problem before line m (c.no_delete m) (fit.kept_live m (kept_stored s m a))
         | inr b ↦ elim (written_cases s place b.0 m b.1) [
-          | inl new ↦ subst (λ k. IsSome (live (before ++ line ∷ []) k)) (sym (new.1 ∙ n)) (some_is _ clause (new_live s.problem before line clause fit.deletes_earlier c))
+          | inl new ↦ subst (λ k. IsSome (live (before ++ line ∷ []) k)) (sym (new.1 ∙ n)) (is_there _ clause (new_live s.problem before line clause fit.deletes_earlier c))
           | inr old ↦ live_stays s.problem before line m (c.no_delete m) (fit.kept_live m (kept_written s b.0 m old))
         ]
       ];
@@ -274,13 +270,9 @@ map_push : (xs : List Stored) (x : Stored) → map (λ (one : Stored). one.claus
 map_push [] x = refl
 map_push (y ∷ xs) x = ap (λ ys. y.clause ∷ ys) (map_push xs x)
 
-number_push : (xs : List Stored) (x : Stored) → map (λ (one : Stored). one.number) (xs ++ x ∷ []) ≡ map (λ (one : Stored). one.number) xs ++ x.number ∷ []
-number_push [] x = refl
-number_push (y ∷ xs) x = ap (λ ys. y.number ∷ ys) (number_push xs x)
-
 lemma_cases : (s : SearchModel) (lemma : List Lit) (m : ℕ) → Contains (kept_numbers (with_lemma s lemma)) m → Contains (kept_numbers s) m ⊎ (m ≡ s.clause_lines + 1)
 lemma_cases s lemma m h = elim (stored_cases (with_lemma s lemma) m h) [
-  | inl a ↦ elim (Contains-push_cases (map (λ (one : Stored). one.number) s.stored) (s.clause_lines + 1) m (subst (λ xs. Contains xs m) (number_push s.stored (record { number = s.clause_lines + 1; clause = lemma })) a)) [
+  | inl a ↦ elim (Contains-push_cases (map (λ (one : Stored). one.number) s.stored) (s.clause_lines + 1) m (subst (λ xs. Contains xs m) (numbers_push s.stored (record { number = s.clause_lines + 1; clause = lemma })) a)) [
     | inl old ↦ inl (kept_stored s m old)
     | inr new ↦ inr (sym new)
   ]
@@ -303,7 +295,7 @@ lemma_open s before lemma hints fit some =
       reason_stands = λ q. if_some (written_at s q) (λ number. clause_at (before ++ line ∷ []) number ≡ reason_at s.trail q) (λ m e. let r = some_reason s before fit q m e in reason_stays s before line fit q m e r.0 r.1 ∙ sym r.1);
       kept_live = λ m h. elim (lemma_cases s lemma m h) [
         | inl old ↦ live_stays s.problem before line m refl (fit.kept_live m old)
-        | inr new ↦ subst (λ k. IsSome (live (before ++ line ∷ []) k)) (sym (new ∙ n)) (some_is _ lemma (new_live s.problem before line lemma fit.deletes_earlier c))
+        | inr new ↦ subst (λ k. IsSome (live (before ++ line ∷ []) k)) (sym (new ∙ n)) (is_there _ lemma (new_live s.problem before line lemma fit.deletes_earlier c))
       ];
       deletes_earlier = earlier_push s.problem before line c.no_delete (omega (arith, counted s.problem before line lemma c)) fit.deletes_earlier;
       prices = clause_told s.problem before line lemma s.prices c fit.prices;

@@ -14,7 +14,7 @@ use Rattle.hw_lines.specs.Lines.{clause_count, live, live_numbers}
 use Rattle.hw_lines.specs.Lemmas.{lemma_of, lemmas_of}
 use Rattle.hw_story.specs.declared.event.Why.{Why}
 use Rattle.hw_story.specs.declared.event.Why.TheVariants as whys
-use Rattle.hw_story.specs.Trails.{clause_of, most_events}
+use Rattle.hw_story.specs.Trails.{reason_clause, most_events}
 use Rattle.hw_story.specs.Learning.{Learns, reason_at}
 use Rattle.hw_store.specs.declared.store.Stored.{Stored}
 use Rattle.hw_progress.specs.Searches.{SearchModel, IsSearch, FitsOpen, LiveKept, kept_numbers, why_at, written_at}
@@ -22,20 +22,21 @@ use Rattle.hw_progress.specs.Settling.{IsConflict}
 use Rattle.hw_progress.specs.Turns.{source_line, why_lines, Cited, cite_by, cite, cited, cite_conflict, with_lemma, gone_back, unkept, deletion}
 use Rattle.hw_progress.specs.Living.{FewLive, FewLiveFrom, FewLiveThroughout}
 use Rattle.hw_progress.specs.Laws.{lemma_lines, LemmaMeets, LiveTurn}
-use Rattle.hw_progress.proofs.Lines.{IsClauseLine, source_is, priced_is, lemma_is, source_no_lemma, same_lemmas, lemmas_push, live_back}
-use Rattle.hw_progress.proofs.Backs.{contains_any, in_filter, from_filter, in_range, some_live}
+use Rattle.hw_progress.proofs.Lines.{IsClauseLine, source_is, priced_is, lemma_is, source_no_lemma, same_lemmas, live_back}
+use Rattle.hw_progress.proofs.Backs.{contains_any, in_filter, from_filter, in_range}
 use Rattle.hw_progress.proofs.Bounds.{rises_filter, few_members, written_few, few_reasons, few_numbers, live_few}
 use Rattle.hw_progress.proofs.Citing.{Citing, cite_one, cites, same_problem}
 use Rattle.hw_progress.proofs.LemmaTurn.{gone_problem}
 use Rattle.hw_lines.proofs.Pushed.{one_more}
 use Rattle.hw_lines.specs.Lines.{clause_of as clause_in, clauses_of}
 use Rattle.hw_lines.proofs.Deleted.{live_in as live_inside}
+use Rattle.hw_lines.proofs.Live.{lemmas_push, live_above}
 use Rattle.hw_progress.proofs.Turned.{lemma_meets, few_for}
 
 -- ---- one line
 
 live_member : (before : List Line) (n : ℕ) → IsSome (live before n) → list_any (λ x. x == n) (live_numbers before) ≡ true
-live_member before n h = in_filter (λ id. is_some (live before id)) (range_with_len 1 (clause_count before)) n h (in_range n (clause_count before) (some_live before n h) (live_inside before n h))
+live_member before n h = in_filter (λ id. is_some (live before id)) (range_with_len 1 (clause_count before)) n h (in_range n (clause_count before) (live_above before n h) (live_inside before n h))
 
 pub one_more_live : (f : Problem) (before : List Line) (line : Line) (clause : List Lit) → IsClauseLine line clause → length (live_numbers (before ++ line ∷ [])) ≤ length (live_numbers before) + 1
 one_more_live f before line clause c =
@@ -118,7 +119,7 @@ conflict_live s before done c (whys.Priced clause) is k h =
     let g = grow s.problem (before ++ c.lines) (lines.Priced clause) clause (priced_is clause) refl (tight_citing s before done c is k) in
     (few_push s.problem before c.lines (lines.Priced clause) h g, subst (λ xs. FewLive s.problem xs) (append_assoc before c.lines (lines.Priced clause ∷ [])) g)
 
-pub lemma_live : (s : SearchModel) (before : List Line) (why : Why) (lemma : List Lit) (back : ℕ) (places : List ℕ) → IsSearch s → s.over ≡ false → s.lemmas < 100000 → FitsOpen before s → LiveKept before s → Learns s.trail (clause_of why) lemma back places
+pub lemma_live : (s : SearchModel) (before : List Line) (why : Why) (lemma : List Lit) (back : ℕ) (places : List ℕ) → IsSearch s → s.over ≡ false → s.lemmas < 100000 → FitsOpen before s → LiveKept before s → Learns s.trail (reason_clause why) lemma back places
     → FewLiveFrom s.problem before (lemma_lines (cite_conflict (cited s places) why) lemma)
 lemma_live s before why lemma back places is over few fit kept learns =
     let n = few_numbers s is over few in
@@ -136,7 +137,7 @@ delete_live : (f : Problem) (before written : List Line) (ids : List ℕ) → Fe
 delete_live f before written [] h k = subst (FewLiveFrom f before) (sym (append-nil written)) h
 delete_live f before written (id ∷ ids) h k = few_push f before written (lines.Delete (id ∷ ids)) h k
 
-pub turn_live : (s : SearchModel) (before : List Line) (why : Why) (lemma : List Lit) (back : ℕ) (places : List ℕ) → IsSearch s → s.over ≡ false → s.lemmas < 100000 → FitsOpen before s → LiveKept before s → IsConflict s why → 1 ≤ length (clause_of why) → Learns s.trail (clause_of why) lemma back places → 1 ≤ length lemma → (after : SearchModel) → after ≡ gone_back (with_lemma (cite_conflict (cited s places) why).search lemma) back → after.problem ≡ s.problem
+pub turn_live : (s : SearchModel) (before : List Line) (why : Why) (lemma : List Lit) (back : ℕ) (places : List ℕ) → IsSearch s → s.over ≡ false → s.lemmas < 100000 → FitsOpen before s → LiveKept before s → IsConflict s why → 1 ≤ length (reason_clause why) → Learns s.trail (reason_clause why) lemma back places → 1 ≤ length lemma → (after : SearchModel) → after ≡ gone_back (with_lemma (cite_conflict (cited s places) why).search lemma) back → after.problem ≡ s.problem
     → FewLiveFrom s.problem before (lemma_lines (cite_conflict (cited s places) why) lemma ++ deletion (unkept (before ++ lemma_lines (cite_conflict (cited s places) why) lemma) after))
 turn_live s before why lemma back places is over few fit kept k some learns literal after e p =
     let c = cite_conflict (cited s places) why in
@@ -182,7 +183,7 @@ from_take f before [] now h n le = let z : n ≡ 0 = omega (arith, le) in subst 
 from_take f before (x ∷ xs) now h zero le = subst (FewLive f) (sym (append-nil before)) now
 from_take f before (x ∷ xs) now h (suc n) le = subst (FewLive f) (append_assoc before (x ∷ []) (take n xs)) (from_take f (before ++ x ∷ []) xs h.0 h.1 n (omega (arith, le)))
 
-all_taken : (xs : List Line) → take (length xs) xs ≡ xs
+pub all_taken : (xs : List Line) → take (length xs) xs ≡ xs
 all_taken [] = refl
 all_taken (x ∷ xs) = ap (λ ys. x ∷ ys) (all_taken xs)
 

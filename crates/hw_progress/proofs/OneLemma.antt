@@ -9,19 +9,19 @@ use Rattle.hw_progress.specs.declared.outcome.Turn.TheVariants as turns
 use Rattle.hw_progress.specs.Branches.{branch_literal}
 use Rattle.hw_progress.specs.Searches.{SearchModel, room_in}
 use Rattle.hw_progress.specs.Settling.{Implies}
-use Rattle.hw_progress.specs.Turns.{cited, cite_conflict, with_lemma, to_level, is_due, gone_back, Stops, DoesDecide, TurnDoes}
-use Rattle.hw_progress.specs.Turns.Stops.{before_lemma, past_lemma}
+use Rattle.hw_progress.specs.Turns.{cited, cite_conflict, with_lemma, to_level, restart_is_due, gone_back, TurnStops, DoesDecide, TurnDoes}
+use Rattle.hw_progress.specs.Turns.TurnStops.{before_lemma, past_lemma}
 use Rattle.hw_progress.specs.Turns.DoesEnd.{at_conflict, at_lemma}
 use Rattle.hw_progress.proofs.Stops.{numbers_kept}
 
-gone_lemmas : (u : SearchModel) (back : ℕ) → (gone_back u back).lemmas ≡ u.lemmas
-gone_lemmas u back = by (is_due u)
+pub gone_lemmas : (u : SearchModel) (back : ℕ) → (gone_back u back).lemmas ≡ u.lemmas
+gone_lemmas u back = by (restart_is_due u)
   where
     by : (b : Bool) → (cond b (record (to_level u 0) { restarts = u.restarts + 1; since = 0 }) (record (to_level u back) { since = u.since + 1 })).lemmas ≡ u.lemmas
     by true = refl
     by false = refl
 
-implied_lemmas : (s mid : SearchModel) → Implies s mid → mid.lemmas ≡ s.lemmas
+pub implied_lemmas : (s mid : SearchModel) → Implies s mid → mid.lemmas ≡ s.lemmas
 implied_lemmas s mid h = ap (λ (x : SearchModel). x.lemmas) h.only
 
 -- the lemma of a conflict is one more
@@ -30,14 +30,14 @@ learnt_lemmas s mid why lemma back places h =
     let c = cite_conflict (cited mid places) why in
     gone_lemmas (with_lemma c.search lemma) back ∙ ap (λ n. n + 1) (ap (λ (x : SearchModel). x.lemmas) (numbers_kept mid why places).same ∙ implied_lemmas s mid h)
 
-decide_lemmas : (s u : SearchModel) (old new : LogModel) → DoesDecide s u old new → u.lemmas ≡ s.lemmas
+pub decide_lemmas : (s u : SearchModel) (old new : LogModel) → DoesDecide s u old new → u.lemmas ≡ s.lemmas
 decide_lemmas s u old new h = by (branch_literal h.mid.branching h.mid.problem (room_in h.mid)) h.decides
   where
     by : (o : Option Lit) → IsSomeAnd o (λ lit. u ≡ record h.mid { trail = decided h.mid.trail lit; written = h.mid.written ++ None ∷ [] }) → u.lemmas ≡ s.lemmas
     by None d = absurd d
     by (Some lit) d = ap (λ (x : SearchModel). x.lemmas) d ∙ implied_lemmas s h.mid h.settles.implies
 
-stop_lemmas : (turn : Turn) (s u : SearchModel) (old new : LogModel) → Stops turn s u old new → u.lemmas ≤ s.lemmas + 1
+stop_lemmas : (turn : Turn) (s u : SearchModel) (old new : LogModel) → TurnStops turn s u old new → u.lemmas ≤ s.lemmas + 1
 stop_lemmas turn s u old new (before_lemma h) = omega (arith, h.lemmas)
 stop_lemmas turn s u old new (past_lemma h) = omega (arith, ap (λ (x : SearchModel). x.lemmas) h.search, learnt_lemmas s h.mid h.why h.lemma h.back h.places h.analysed.settles.implies)
 

@@ -1,8 +1,9 @@
 -- The first lines of what is written well are written well.
-use Rattle.std.proofs.Common.{◌≡◌, ℕ, zero, suc, ◌+◌, ◌<◌, true, List, [], ◌∷◌, ◌++◌, length, get_or, take, drop, refl, sym, ap, ◌∙◌, subst, arith, append_assoc, length-append}
+use Rattle.std.proofs.Common.{◌≡◌, ℕ, zero, suc, ◌+◌, true, List, [], ◌∷◌, ◌++◌, get_or, take, drop, sym, ap, ◌∙◌, subst, arith, append_assoc, length-append}
 use Rattle.std.specs.Prelude.{AllPairs}
 use Rattle.std.proofs.lemmas.List.{take-append-drop}
 use Rattle.std.proofs.lemmas.List.Elements.{All-take, filter_map-append}
+use Rattle.hw_lemmas.proofs.Lists.{front_at}
 use Rattle.hw_model.specs.Problem.{Problem}
 use Rattle.hw_model.specs.Rooms.{RoomWithin}
 use Rattle.hw_lines.specs.declared.line.Line.{Line}
@@ -10,10 +11,10 @@ use Rattle.hw_lines.specs.Tolled.{is_plain}
 use Rattle.hw_lines.specs.Lines.{clause_count}
 use Rattle.hw_lines.specs.Valid.{LineFits, ValidFrom, denied_room}
 use Rattle.hw_lines.specs.Lemmas.{lemma_of, lemmas_of, LeanFrom}
+use Rattle.hw_verdict.proofs.Numbered.{count_append}
 use Rattle.hw_progress.specs.Living.{FewLiveFrom}
 use Rattle.hw_progress.specs.Turns.{WritesWell}
 use Rattle.hw_progress.specs.Laws.{PartMeets}
-use Rattle.hw_progress.proofs.LemmaTurn.{count_append}
 
 valid_part : (f : Problem) (before more : List Line) (n : ℕ) → ValidFrom f before more → ValidFrom f before (take n more)
 valid_part f before [] zero h = tt
@@ -32,11 +33,6 @@ live_part f before [] zero h = tt
 live_part f before [] (suc n) h = tt
 live_part f before (x ∷ xs) zero h = tt
 live_part f before (x ∷ xs) (suc n) h = (h.0, live_part f (before ++ x ∷ []) xs n h.1)
-
-front_at : {A : Type 0} (xs ys : List A) (i : ℕ) (d : A) → i < length xs → get_or (xs ++ ys) i d ≡ get_or xs i d
-front_at [] ys i d lt = absurd (omega (arith, lt))
-front_at (x ∷ xs) ys zero d lt = refl
-front_at (x ∷ xs) ys (suc i) d lt = front_at xs ys i d (omega (arith, lt))
 
 pairs_front : {A : Type 0} (R : A → A → Type 0) (xs ys : List A) → AllPairs R (xs ++ ys) → AllPairs R xs
 pairs_front R xs ys h = λ i j d lt in_xs.

@@ -24,7 +24,7 @@ use Rattle.hw_progress.specs.Prices.{PriceModel, NoneAbove}
 use Rattle.hw_progress.specs.Searches.{SearchModel, IsSearch, LogFits, new_search, best_cargo}
 use Rattle.hw_progress.specs.Turns.{TurnMeets, TurnWrites, FitsAfter, FailsNext, is_last}
 use Rattle.hw_progress.specs.Solving.{AnswerTells, AnswerMeans, is_proved, may_be_spent}
-use Rattle.hw_progress.specs.Advised.{WritesGood, HeedWrites, Heeds, Lowers, Prefers, IsCutOff, StopsBy, Stopped, StopsBound, FollowsAdvice, AdvisedMeets}
+use Rattle.hw_progress.specs.Advised.{WritesGood, HeedWrites, Heeds, Lowers, Prefers, IsCutOff, StopsBy, AdviceStopped, StopsBound, FollowsAdvice, AdvisedMeets}
 use Rattle.hw_progress.specs.Advised.FollowsAdvice.{by_turn, by_preference, by_stop}
 use Rattle.hw_progress.specs.Closing.{IsReached, last_priced, WritesLast, Closes}
 use Rattle.hw_progress.specs.Proposing.{TakesProposal}
@@ -158,7 +158,7 @@ preferred f budget s u turn old here now g p =
     }
 
 -- advice does not stop a turn that goes on
-no_stop : (f : Problem) (turn : Turn) (old new : LogModel) → is_last turn ≡ false → StopsBy f turn old new → ⊥
+pub no_stop : (f : Problem) (turn : Turn) (old new : LogModel) → is_last turn ≡ false → StopsBy f turn old new → ⊥
 no_stop f turns.Decided old new e h = h
 no_stop f turns.Better old new e h = h
 no_stop f turns.Lemma old new e h = h
@@ -250,15 +250,15 @@ rests f budget s old now is g = record {
 
 -- ---- advice stopped
 
-rose_on : (a b c : ℕ) → a ≤ b → Rose b c → Rose a c
+pub rose_on : (a b c : ℕ) → a ≤ b → Rose b c → Rose a c
 rose_on a b c le h = omega (arith, le, h)
 
-advice_stopped : (f : Problem) (budget : ℕ) (s u : SearchModel) (old here now : LogModel) → IsSearch s → Proving f budget s old here → Stopped s here turns.NoMemory u now → ProveMeets f budget old (answers.NoMemory u.best) u.prices.bound now
+advice_stopped : (f : Problem) (budget : ℕ) (s u : SearchModel) (old here now : LogModel) → IsSearch s → Proving f budget s old here → AdviceStopped s here turns.NoMemory u now → ProveMeets f budget old (answers.NoMemory u.best) u.prices.bound now
 advice_stopped f budget s u old here now is g x =
     subst (λ (log : LogModel). ProveMeets f budget old (answers.NoMemory u.best) u.prices.bound log) (sym x.cause)
     (subst (λ (y : SearchModel). ProveMeets f budget old (answers.NoMemory y.best) y.prices.bound here) (sym x.over) (rests f budget s old here is g))
 
-advice_failed : (f : Problem) (budget : ℕ) (s u : SearchModel) (old here now : LogModel) → IsSearch s → Proving f budget s old here → Stopped s here turns.LogFailed u now → ProveMeets f budget old answers.LogFailed u.prices.bound now
+advice_failed : (f : Problem) (budget : ℕ) (s u : SearchModel) (old here now : LogModel) → IsSearch s → Proving f budget s old here → AdviceStopped s here turns.LogFailed u now → ProveMeets f budget old answers.LogFailed u.prices.bound now
 advice_failed f budget s u old here now is g x =
     let rose : Rose old.faults now.faults = rose_on old.faults here.faults now.faults g.later x.cause.0 in
     let prices : u.prices ≡ s.prices = ap (λ (y : SearchModel). y.prices) x.over in

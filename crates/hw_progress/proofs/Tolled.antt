@@ -35,7 +35,7 @@ use Rattle.hw_story.specs.declared.event.Why.TheVariants as whys
 use Rattle.hw_story.specs.Learning.{reason_at}
 use Rattle.hw_store.specs.declared.store.Stored.{Stored}
 use Rattle.hw_progress.specs.Living.{FewLive}
-use Rattle.hw_progress.specs.Prices.{PriceModel, NoneAbove, HoldsBound, ArePrices, PricesTold, older_or, bound_tariff, with_toll, with_tariff, with_bound, toll_line, price_of, tariff_line, DuesAscend}
+use Rattle.hw_progress.specs.Prices.{PriceModel, NoneAbove, HoldsBound, ArePrices, PricesTold, older_or, bound_tariff, prices_with_toll, with_tariff, with_bound, toll_line, price_of, tariff_line, DuesAscend}
 use Rattle.hw_progress.specs.Searches.{SearchModel, IsReason, IsSearch, FitsOpen, LiveKept, written_at, why_at}
 use Rattle.hw_progress.specs.Laws.{PriceLine, PriceTaken}
 use Rattle.hw_progress.proofs.Lines.{same_lemmas}
@@ -204,7 +204,7 @@ holds_more f ts new bound tariff h = record {
   bounds = (more_tolls f ts (new ∷ []) tariff (Some bound) (whole_room (shape_of f)) h.fits).1 h.bounds;
 }
 
-pub toll_prices : (f : Problem) (p : PriceModel) (new : Toll) → ArePrices f p → IsToll f new → length p.tolls < 10_000 → ArePrices f (with_toll p new)
+pub toll_prices : (f : Problem) (p : PriceModel) (new : Toll) → ArePrices f p → IsToll f new → length p.tolls < 10_000 → ArePrices f (prices_with_toll p new)
 toll_prices f p new are of few = record {
   few = omega (arith, few, length-append p.tolls (new ∷ []));
   tolls = All-push (IsToll f) p.tolls new are.tolls of;
@@ -215,12 +215,12 @@ toll_prices f p new are of few = record {
 }
 
 pub toll : (s : SearchModel) (toll : Toll) → IsSearch s → IsToll s.problem toll → length s.prices.tolls < 10_000
-    → PriceTaken s (toll_line s.problem toll) (record s { prices = with_toll s.prices toll })
+    → PriceTaken s (toll_line s.problem toll) (record s { prices = prices_with_toll s.prices toll })
 toll s new is of few =
     let f = s.problem in
     let line = toll_line f new in
     let q = toll_is f new in
-    price_taken s line (with_toll s.prices new) is q
+    price_taken s line (prices_with_toll s.prices new) is q
     (toll_prices f s.prices new is.prices of few)
     (λ before fit.
     let added = toll_added f before line new (toll_back f new) in

@@ -1,6 +1,5 @@
 -- What a search holds is true of each permitted timetable that beats its best.
 use Rattle.std.proofs.Common.{◌≡◌, ℕ, true, List, [], ◌∷◌, ◌++◌, Option, Some, None, map, filter_map, option_and_then, All, IfSome, IsSome, IsTrue, refl, sym, ap, ◌∙◌, subst, inl, inr}
-use Rattle.std.specs.List.{cons_option}
 use Rattle.std.proofs.lemmas.Bool.{lt-ltb, cases_Bool, cases_lt}
 use Rattle.std.proofs.lemmas.List.Elements.{All-nil, All-cons, All-append, All-weaker, All-head, All-tail, All-contains}
 use Rattle.hw_model.specs.declared.lit.Lit.{Lit}
@@ -11,12 +10,14 @@ use Rattle.hw_model.specs.Replay.{replay, conflict}
 use Rattle.hw_model.specs.Lits.{IsLitOf}
 use Rattle.hw_laws.proofs.Denials.{denied_law}
 use Rattle.hw_laws.proofs.Replayed.{no_conflict_inside}
+use Rattle.hw_laws.proofs.Cargoes.{has_cargo}
+use Rattle.hw_lits.proofs.Forms.{lits_from}
 use Rattle.hw_lines.specs.Valid.{denied_room}
-use Rattle.hw_verdict.proofs.Denied.{denied_full, denied_ships, lits_of, has_cargo}
-use Rattle.hw_verdict.proofs.Steps.{by_source}
+use Rattle.hw_verdict.proofs.Denied.{denied_full, denied_ships}
+use Rattle.hw_verdict.proofs.Steps.{by_source, add_some}
 use Rattle.hw_story.specs.declared.event.Why.{Why}
 use Rattle.hw_story.specs.declared.event.Why.TheVariants as whys
-use Rattle.hw_story.specs.Trails.{clause_of}
+use Rattle.hw_story.specs.Trails.{reason_clause}
 use Rattle.hw_story.specs.Learning.{reason_at, chain_of, Learns}
 use Rattle.hw_story.proofs.Learnt.{reason_is, reason_fits}
 use Rattle.hw_progress.specs.declared.outcome.Settled.{Settled}
@@ -40,48 +41,44 @@ stored_all P (x ∷ xs) all =
     All-cons (λ (one : Stored). P one.clause) x xs (All-head P x.clause more all) (stored_all P xs (All-tail P x.clause more all))
 
 -- a clause that may be a reason or a conflict is true
-pub why_true : (s : SearchModel) → IsSearch s → (why : Why) → IsClause (shape_of s.problem) (clause_of why) → IsReason s why → OfBetter s (λ table. IsTrue (clause_holds table (clause_of why)))
+pub why_true : (s : SearchModel) → IsSearch s → (why : Why) → IsClause (shape_of s.problem) (reason_clause why) → IsReason s why → OfBetter s (λ table. IsTrue (clause_holds table (reason_clause why)))
 why_true s is (whys.Lemma number clause) fits holds table c permits worth above = All-contains (λ (one : Stored). IsTrue (clause_holds table one.clause)) s.stored (record { number = number; clause = clause }) (stored_all (λ clause. IsTrue (clause_holds table clause)) s.stored (is.sound table c permits worth above)) holds
 why_true s is (whys.Source source clause) fits holds table c permits worth above = by_source s.problem source (best_cargo s) clause table c is.flat holds.0 fits holds.1 permits worth above
 why_true s is (whys.Priced clause) fits holds table c permits worth above = holds table c permits worth above
 
 -- what holds of each clause that may be a reason holds of the reason of each event
-each_reason : (s : SearchModel) → IsSearch s → (P : List Lit → Type 0) → ((why : Why) → IsClause (shape_of s.problem) (clause_of why) → IsReason s why → P (clause_of why)) → (place : ℕ) → IfSome (reason_at s.trail place) P
+each_reason : (s : SearchModel) → IsSearch s → (P : List Lit → Type 0) → ((why : Why) → IsClause (shape_of s.problem) (reason_clause why) → IsReason s why → P (reason_clause why)) → (place : ℕ) → IfSome (reason_at s.trail place) P
 each_reason s is P h place = if_some (reason_at s.trail place) P (λ clause e.
     let w = reason_why s.trail place (subst IsSome (sym e) refl) in
     let lt = why_inside s.trail place w.0 w.1 in
-    let r : reason_at s.trail place ≡ Some (clause_of w.0) = why_reason s.trail place w.0 w.1 in
-    let fits : IsClause (shape_of s.problem) (clause_of w.0) = trail_clause s is.same_ships is.same_slots (clause_of w.0) (reason_fits s.trail is.trail place lt (clause_of w.0) (sym (reason_is s.trail place lt) ∙ r)) in
-    subst P (same (clause_of w.0) clause (sym r ∙ e)) (h w.0 fits (of_some (why_at s.trail place) (IsReason s) w.0 w.1 (is.reasons place))))
+    let r : reason_at s.trail place ≡ Some (reason_clause w.0) = why_reason s.trail place w.0 w.1 in
+    let fits : IsClause (shape_of s.problem) (reason_clause w.0) = trail_clause s is.same_ships is.same_slots (reason_clause w.0) (reason_fits s.trail is.trail place lt (reason_clause w.0) (sym (reason_is s.trail place lt) ∙ r)) in
+    subst P (same (reason_clause w.0) clause (sym r ∙ e)) (h w.0 fits (of_some (why_at s.trail place) (IsReason s) w.0 w.1 (is.reasons place))))
   where
     same : (a b : List Lit) → Some a ≡ Some b → a ≡ b
     same a b e = cc
-
-add_some : (P : List Lit → Type 0) (o : Option (List Lit)) (more : List (List Lit)) → IfSome o P → All P more → All P (cons_option o more)
-add_some P None more h all = all
-add_some P (Some x) more h all = All-cons P x more h all
 
 all_filtered : (P : List Lit → Type 0) (g : ℕ → Option (List Lit)) (places : List ℕ) → ((place : ℕ) → IfSome (g place) P) → All P (filter_map g places)
 all_filtered P g [] h = All-nil P
 all_filtered P g (place ∷ places) h = add_some P (g place) (filter_map g places) (h place) (all_filtered P g places h)
 
 -- and of the reasons at places with a conflict after them
-all_chain : (s : SearchModel) → IsSearch s → (P : List Lit → Type 0) → ((why : Why) → IsClause (shape_of s.problem) (clause_of why) → IsReason s why → P (clause_of why)) → (places : List ℕ) (clause : List Lit) → P clause → All P (chain_of s.trail places clause)
+all_chain : (s : SearchModel) → IsSearch s → (P : List Lit → Type 0) → ((why : Why) → IsClause (shape_of s.problem) (reason_clause why) → IsReason s why → P (reason_clause why)) → (places : List ℕ) (clause : List Lit) → P clause → All P (chain_of s.trail places clause)
 all_chain s is P h places clause p = All-append P (filter_map (reason_at s.trail) places) (clause ∷ []) (all_filtered P (reason_at s.trail) places (each_reason s is P h)) (All-cons P clause [] p (All-nil P))
 
 -- ---- what is learnt from a conflict is true
 
-pub lemma_true : (s : SearchModel) → IsSearch s → (why : Why) (lemma : List Lit) (back : ℕ) (places : List ℕ) → IsConflict s why → Learns s.trail (clause_of why) lemma back places → OfBetter s (λ table. IsTrue (clause_holds table lemma))
+pub lemma_true : (s : SearchModel) → IsSearch s → (why : Why) (lemma : List Lit) (back : ℕ) (places : List ℕ) → IsConflict s why → Learns s.trail (reason_clause why) lemma back places → OfBetter s (λ table. IsTrue (clause_holds table lemma))
 lemma_true s is why lemma back places k learns table c permits worth above = elim (cases_Bool (clause_holds table lemma)) [
   | inl holds ↦ holds
   | inr fails ↦
       let f = s.problem in
-      let chain = chain_of s.trail places (clause_of why) in
+      let chain = chain_of s.trail places (reason_clause why) in
       let fits : IsClause (shape_of f) lemma = trail_clause s is.same_ships is.same_slots lemma learns.fits in
       let inside = (denied_law f lemma table fits permits.listed).1 fails in
-      let lits : All (All (IsLitOf f.ships)) chain = All-weaker (IsClause (shape_of f)) (All (IsLitOf f.ships)) (λ clause e. lits_of (shape_of f) clause 0 None e) chain (all_chain s is (IsClause (shape_of f)) (λ why fits holds. fits) places (clause_of why) k.fits) in
+      let lits : All (All (IsLitOf f.ships)) chain = All-weaker (IsClause (shape_of f)) (All (IsLitOf f.ships)) (λ clause e. lits_from (shape_of f) clause 0 None e) chain (all_chain s is (IsClause (shape_of f)) (λ why fits holds. fits) places (reason_clause why) k.fits) in
       let lits' : All (All (IsLitOf (denied_room f lemma).ships)) chain = subst (λ n. All (All (IsLitOf n)) chain) (sym (denied_ships (shape_of f) lemma)) lits in
-      let trues : All (λ clause. IsTrue (clause_holds table clause)) chain = all_chain s is (λ clause. IsTrue (clause_holds table clause)) (λ why fits holds. why_true s is why fits holds table c permits worth above) places (clause_of why) (why_true s is why k.fits k.holds table c permits worth above) in
+      let trues : All (λ clause. IsTrue (clause_holds table clause)) chain = all_chain s is (λ clause. IsTrue (clause_holds table clause)) (λ why fits holds. why_true s is why fits holds table c permits worth above) places (reason_clause why) (why_true s is why k.fits k.holds table c permits worth above) in
       let ends : replay (denied_room f lemma) chain ≡ conflict = subst (λ r. replay r chain ≡ conflict) (trail_denied s is.same_ships is.same_slots lemma) learns.replays in
       absurd (no_conflict_inside table chain (denied_room f lemma) 0 (denied_full (shape_of f) lemma) lits' inside trues ends)
 ]

@@ -13,9 +13,10 @@ use Rattle.hw_lines.specs.declared.line.Line.{Line}
 use Rattle.hw_lines.specs.declared.line.Line.TheVariants as lines
 use Rattle.hw_lines.specs.Lines.{clause_at, live, is_end, is_closed}
 use Rattle.hw_lines.proofs.Pushed.{one_more}
+use Rattle.hw_verdict.proofs.Numbered.{count_append}
 use Rattle.hw_story.specs.declared.event.Why.{Why}
 use Rattle.hw_story.specs.declared.event.Why.TheVariants as whys
-use Rattle.hw_story.specs.Trails.{clause_of, most_events}
+use Rattle.hw_story.specs.Trails.{reason_clause, most_events}
 use Rattle.hw_story.specs.Learning.{reason_at, Learns}
 use Rattle.hw_story.proofs.Learnt.{reason_is, reason_fits}
 use Rattle.hw_progress.specs.declared.outcome.Branching.{Branching}
@@ -29,7 +30,7 @@ use Rattle.hw_progress.proofs.Lines.{IsClauseLine, why_is, why_no_lemma, of_some
 use Rattle.hw_progress.proofs.Backs.{events_open, events_kept, decided_open, decided_live, back_open, deleted_open, deleted_kept, nothing_kept, deletion_valid}
 use Rattle.hw_progress.proofs.Holds.{Writes, table_writes, room_fits, nothing_refutes, trail_clause}
 use Rattle.hw_progress.proofs.Citing.{Prepared, cites, prepared, source_wrote, why_wrote, why_inside, why_reason, reason_some}
-use Rattle.hw_progress.proofs.LemmaTurn.{lemma_written, lemma_done, few_places, count_append}
+use Rattle.hw_progress.proofs.LemmaTurn.{lemma_written, lemma_done, few_places}
 use Rattle.hw_progress.proofs.Keeps.{new_kept, better_search, lemma_search}
 use Rattle.hw_progress.proofs.Bounds.{few_numbers}
 use Rattle.hw_progress.proofs.Trues.{lemma_true}
@@ -87,8 +88,8 @@ conflict s before why line is fit k own few =
     let c = why_is s.problem why line own in
     record {
       good = good s.problem before line (why_wrote s s before why line s.written s.clause_lines refl fit k own few);
-      fits = λ some. line_open s before line (clause_of why) fit c (why_no_lemma s.problem why line own) some;
-      closes = λ none. closes s.problem before line (clause_of why) c none;
+      fits = λ some. line_open s before line (reason_clause why) fit c (why_no_lemma s.problem why line own) some;
+      closes = λ none. closes s.problem before line (reason_clause why) c none;
     }
 
 worth : (o : Option ℕ) (P : ℕ → Type 0) → IsSomeAnd o P → (c : ℕ) × (o ≡ Some c) × P c
@@ -135,17 +136,17 @@ fit_changes s before is fit = record {
 
 -- ---- a turn with a lemma
 
-pub few_for : (s : SearchModel) (why : Why) (lemma : List Lit) (back : ℕ) (places : List ℕ) → IsSearch s → Learns s.trail (clause_of why) lemma back places → length places ≤ most_events s.problem.ships s.problem.slots
+pub few_for : (s : SearchModel) (why : Why) (lemma : List Lit) (back : ℕ) (places : List ℕ) → IsSearch s → Learns s.trail (reason_clause why) lemma back places → length places ≤ most_events s.problem.ships s.problem.slots
 few_for s why lemma back places is learns =
     subst (λ n. length places ≤ most_events n s.problem.slots) is.same_ships (subst (λ n. length places ≤ most_events s.trail.ships n) is.same_slots (few_places s.trail is.trail places learns.ascends learns.reasons))
 
-prepare : (s : SearchModel) (before : List Line) (why : Why) (lemma : List Lit) (back : ℕ) (places : List ℕ) → IsSearch s → s.over ≡ false → s.lemmas < 100000 → FitsOpen before s → LiveKept before s → IsConflict s why → 1 ≤ length (clause_of why) → Learns s.trail (clause_of why) lemma back places → Prepared s before places (clause_of why) (cite_conflict (cited s places) why)
+prepare : (s : SearchModel) (before : List Line) (why : Why) (lemma : List Lit) (back : ℕ) (places : List ℕ) → IsSearch s → s.over ≡ false → s.lemmas < 100000 → FitsOpen before s → LiveKept before s → IsConflict s why → 1 ≤ length (reason_clause why) → Learns s.trail (reason_clause why) lemma back places → Prepared s before places (reason_clause why) (cite_conflict (cited s places) why)
 prepare s before why lemma back places is over few fit kept k some learns =
     let n = few_numbers s is over few in
     let p = few_for s why lemma back places is learns in
     prepared s before places (cited s places) why (cites s before places is fit kept learns.reasons (omega (arith, n, p))) k some (omega (arith, n, p))
 
-pub lemma_meets : (s : SearchModel) (before : List Line) (why : Why) (lemma : List Lit) (back : ℕ) (places : List ℕ) → IsSearch s → s.over ≡ false → s.lemmas < 100000 → FitsOpen before s → LiveKept before s → IsConflict s why → 1 ≤ length (clause_of why) → Learns s.trail (clause_of why) lemma back places → 1 ≤ length lemma
+pub lemma_meets : (s : SearchModel) (before : List Line) (why : Why) (lemma : List Lit) (back : ℕ) (places : List ℕ) → IsSearch s → s.over ≡ false → s.lemmas < 100000 → FitsOpen before s → LiveKept before s → IsConflict s why → 1 ≤ length (reason_clause why) → Learns s.trail (reason_clause why) lemma back places → 1 ≤ length lemma
     → LemmaMeets s before why lemma back places (cite_conflict (cited s places) why) (gone_back (with_lemma (cite_conflict (cited s places) why).search lemma) back)
 lemma_meets s before why lemma back places is over few fit kept k some learns literal =
     let c = cite_conflict (cited s places) why in
@@ -164,10 +165,10 @@ lemma_meets s before why lemma back places is over few fit kept k some learns li
       fits = subst (λ xs. FitsOpen xs after) e d.fits;
       kept = subst (λ xs. LiveKept xs after) e d.kept;
       few = omega (arith, w.few, m);
-      search = subst (λ (x : SearchModel). IsSearch (gone_back (with_lemma x lemma) back)) (sym p.same) (lemma_search s c.search.written c.search.clause_lines (clause_of why) lemma back places is over p.long p.stay low high learns literal (lemma_true s is why lemma back places k learns));
+      search = subst (λ (x : SearchModel). IsSearch (gone_back (with_lemma x lemma) back)) (sym p.same) (lemma_search s c.search.written c.search.clause_lines (reason_clause why) lemma back places is over p.long p.stay low high learns literal (lemma_true s is why lemma back places k learns));
     }
 
-pub last : (s : SearchModel) (before : List Line) (why : Why) (back : ℕ) (places : List ℕ) → IsSearch s → s.over ≡ false → s.lemmas < 100000 → FitsOpen before s → LiveKept before s → IsConflict s why → 1 ≤ length (clause_of why) → Learns s.trail (clause_of why) [] back places
+pub last : (s : SearchModel) (before : List Line) (why : Why) (back : ℕ) (places : List ℕ) → IsSearch s → s.over ≡ false → s.lemmas < 100000 → FitsOpen before s → LiveKept before s → IsConflict s why → 1 ≤ length (reason_clause why) → Learns s.trail (reason_clause why) [] back places
     → EndMeets s before why places (cite_conflict (cited s places) why)
 last s before why back places is over few fit kept k some learns =
     let c = cite_conflict (cited s places) why in

@@ -107,7 +107,7 @@ StopsBy f turns.NoMemory old new = new ≡ old
 StopsBy f turns.LogFailed old new = Rose old.faults new.faults × WhereTold new (IsCutOff f) × Grows old new (λ was now. now.lines ≡ was.lines)
 
 -- advice stopped: the search is over, and all else of it is as it was
-pub record Stopped (s : SearchModel) (old : LogModel) (turn : Turn) (after : SearchModel) (new : LogModel) : Type 0 where
+pub record AdviceStopped (s : SearchModel) (old : LogModel) (turn : Turn) (after : SearchModel) (new : LogModel) : Type 0 where
   pub over : after ≡ record s { over = true }
   pub later : old.faults ≤ new.faults
   pub cause : StopsBy s.problem turn old new
@@ -116,7 +116,7 @@ pub record Stopped (s : SearchModel) (old : LogModel) (turn : Turn) (after : Sea
 pub data FollowsAdvice (s : SearchModel) (old : LogModel) (turn : Turn) (after : SearchModel) (new : LogModel) : Type 0 where
   by_turn : TurnMeets s old turn after new → FollowsAdvice s old turn after new
   by_preference : Prefers s old turn after new → FollowsAdvice s old turn after new
-  by_stop : Stopped s old turn after new → FollowsAdvice s old turn after new
+  by_stop : AdviceStopped s old turn after new → FollowsAdvice s old turn after new
 
 -- what a turn with advice meets. It needs what a turn needs
 pub record AdvisedMeets (s : SearchModel) (old : LogModel) (turn : Turn) (after : SearchModel) (new : LogModel) : Type 0 where
@@ -132,7 +132,7 @@ pub record StopsBound (s : SearchModel) (old : LogModel) (turn : Turn) (after : 
   pub mid : SearchModel
   pub then : LogModel
   pub heeds : Heeds s mid old then
-  pub stopped : Stopped mid then turn after new
+  pub stopped : AdviceStopped mid then turn after new
 
 -- what the call for a bound meets, by its answer. It needs what a turn needs
 abbrev pub BoundMeets : SearchModel → LogModel → Bounded → SearchModel → LogModel → Type 0

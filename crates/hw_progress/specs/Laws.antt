@@ -22,7 +22,7 @@ use Rattle.hw_lines.specs.Lemmas.{LeanAfter, lemma_of, lemmas_of, IsNew}
 use Rattle.hw_story.specs.declared.event.Event.{Event}
 use Rattle.hw_story.specs.declared.event.Why.{Why}
 use Rattle.hw_story.specs.declared.event.Why.TheVariants as whys
-use Rattle.hw_story.specs.Trails.{trail_shape, clause_of, decided, most_events}
+use Rattle.hw_story.specs.Trails.{trail_shape, reason_clause, decided, most_events}
 use Rattle.hw_story.specs.Learning.{Learns, chain_of}
 use Rattle.hw_progress.specs.declared.limits.TheConstants.{MOST_BUDGET, MOST_PRICED}
 use Rattle.hw_progress.specs.declared.outcome.Branching.{Branching}
@@ -42,7 +42,7 @@ use Rattle.hw_tolls.specs.declared.tariff.Tariff.{Tariff}
 use Rattle.hw_tolls.specs.declared.toll.Toll.{Toll}
 use Rattle.hw_tolls.specs.Tolls.{IsToll}
 use Rattle.hw_tolls.specs.Prices.{TariffFits, PricesBound}
-use Rattle.hw_progress.specs.Prices.{toll_line, tariff_line, bound_tariff, with_toll, with_tariff, with_bound, DuesAscend}
+use Rattle.hw_progress.specs.Prices.{toll_line, tariff_line, bound_tariff, prices_with_toll, with_tariff, with_bound, DuesAscend}
 use Rattle.hw_progress.specs.Advised.{Heeds, HeedsLine, AdvisedMeets, BoundMeets, with_priced}
 use Rattle.hw_progress.specs.Living.{FewLive, FewLiveThroughout, FewLiveFrom}
 use Rattle.hw_progress.specs.Closing.{IsReached, last_priced, Closes}
@@ -78,8 +78,8 @@ ReasonLine = (s : SearchModel) (before : List Line) (place : ℕ) (source : Sour
 -- the line of a conflict that is no stored lemma stands, and nobody keeps its number
 pub record ConflictMeets (s : SearchModel) (before : List Line) (why : Why) (line : Line) : Type 0 where
   pub good : GoodLine s.problem before line
-  pub fits : 1 ≤ length (clause_of why) → FitsOpen (before ++ line ∷ []) (record s { clause_lines = s.clause_lines + 1 })
-  pub closes : clause_of why ≡ [] → is_closed (before ++ line ∷ []) ≡ true
+  pub fits : 1 ≤ length (reason_clause why) → FitsOpen (before ++ line ∷ []) (record s { clause_lines = s.clause_lines + 1 })
+  pub closes : reason_clause why ≡ [] → is_closed (before ++ line ∷ []) ≡ true
 
 -- a conflict that a source or prices gave
 abbrev pub ConflictLine : Type 0
@@ -108,7 +108,7 @@ pub record PriceTaken (s : SearchModel) (line : Line) (after : SearchModel) : Ty
 -- a toll of the problem is declared
 abbrev pub TollLine : Type 0
 TollLine = (s : SearchModel) (toll : Toll) → IsSearch s → IsToll s.problem toll → length s.prices.tolls < MOST_TOLLS
-    → PriceTaken s (toll_line s.problem toll) (record s { prices = with_toll s.prices toll })
+    → PriceTaken s (toll_line s.problem toll) (record s { prices = prices_with_toll s.prices toll })
 
 -- a tariff on the declared tolls comes into force
 abbrev pub TariffLine : Type 0
@@ -202,7 +202,7 @@ FitKept = (s : SearchModel) (before : List Line) → IsSearch s → FitsOpen bef
 
 -- an implied literal, a decision and a better timetable each leave a search. Where prices implied the literal, its line comes with it
 pub record SearchChanges (s : SearchModel) : Type 0 where
-  pub implied : (lit : Lit) (why : Why) → lit_fits (trail_shape s.trail) lit ≡ true → IsClause (trail_shape s.trail) (clause_of why) → truth (room_in s) lit ≡ Free → narrowing (clause_of why) (room_in s) ≡ Cut lit → IsReason s why → HasLine None why → IsSearch (with_events s (record { lit = lit; level = s.trail.level; why = Some why } ∷ []))
+  pub implied : (lit : Lit) (why : Why) → lit_fits (trail_shape s.trail) lit ≡ true → IsClause (trail_shape s.trail) (reason_clause why) → truth (room_in s) lit ≡ Free → narrowing (reason_clause why) (room_in s) ≡ Cut lit → IsReason s why → HasLine None why → IsSearch (with_events s (record { lit = lit; level = s.trail.level; why = Some why } ∷ []))
   pub decision : (lit : Lit) → AllQuiet s → lit_fits (trail_shape s.trail) lit ≡ true → truth (room_in s) lit ≡ Free → IsSearch (record s { trail = decided s.trail lit; written = s.written ++ None ∷ [] })
   pub better : (table : List ℕ) (c : ℕ) → Permits s.problem table → cargo s.problem table ≡ Some c → IsTrue (beats c (best_cargo s)) → IsSearch (record s { best = Some table })
 
@@ -221,7 +221,7 @@ lemma_lines c lemma = c.lines ++ lines.Lemma lemma c.hints ∷ []
 
 -- the lines of a lemma are written well and fit the search after it, and few are written
 pub record LemmaMeets (s : SearchModel) (before : List Line) (why : Why) (lemma : List Lit) (back : ℕ) (places : List ℕ) (c : Cited) (after : SearchModel) : Type 0 where
-  pub hints : hinted (before ++ c.lines) c.hints ≡ chain_of s.trail places (clause_of why)
+  pub hints : hinted (before ++ c.lines) c.hints ≡ chain_of s.trail places (reason_clause why)
   pub well : WritesWell s.problem before (lemma_lines c lemma ++ deletion (unkept (before ++ lemma_lines c lemma) after))
   pub fits : FitsOpen ((before ++ lemma_lines c lemma) ++ deletion (unkept (before ++ lemma_lines c lemma) after)) after
   pub kept : LiveKept ((before ++ lemma_lines c lemma) ++ deletion (unkept (before ++ lemma_lines c lemma) after)) after
@@ -229,19 +229,19 @@ pub record LemmaMeets (s : SearchModel) (before : List Line) (why : Why) (lemma 
   pub search : IsSearch after
 
 abbrev pub LemmaTurn : Type 0
-LemmaTurn = (s : SearchModel) (before : List Line) (why : Why) (lemma : List Lit) (back : ℕ) (places : List ℕ) → IsSearch s → s.over ≡ false → s.lemmas < MOST_BUDGET → FitsOpen before s → LiveKept before s → IsConflict s why → 1 ≤ length (clause_of why) → Learns s.trail (clause_of why) lemma back places → 1 ≤ length lemma
+LemmaTurn = (s : SearchModel) (before : List Line) (why : Why) (lemma : List Lit) (back : ℕ) (places : List ℕ) → IsSearch s → s.over ≡ false → s.lemmas < MOST_BUDGET → FitsOpen before s → LiveKept before s → IsConflict s why → 1 ≤ length (reason_clause why) → Learns s.trail (reason_clause why) lemma back places → 1 ≤ length lemma
     → LemmaMeets s before why lemma back places (cite_conflict (cited s places) why) (gone_back (with_lemma (cite_conflict (cited s places) why).search lemma) back)
 
 -- a lemma without literals ends the certificate, and has such hints
 pub record EndMeets (s : SearchModel) (before : List Line) (why : Why) (places : List ℕ) (c : Cited) : Type 0 where
-  pub hints : hinted (before ++ c.lines) c.hints ≡ chain_of s.trail places (clause_of why)
+  pub hints : hinted (before ++ c.lines) c.hints ≡ chain_of s.trail places (reason_clause why)
   pub well : WritesWell s.problem before (lemma_lines c [])
   pub closed : is_closed (before ++ lemma_lines c []) ≡ true
   pub few : clause_count (lemma_lines c []) ≤ most_events s.problem.ships s.problem.slots + 2
 
 -- a lemma without literals ends the certificate, and its lines are written well
 abbrev pub LastTurn : Type 0
-LastTurn = (s : SearchModel) (before : List Line) (why : Why) (back : ℕ) (places : List ℕ) → IsSearch s → s.over ≡ false → s.lemmas < MOST_BUDGET → FitsOpen before s → LiveKept before s → IsConflict s why → 1 ≤ length (clause_of why) → Learns s.trail (clause_of why) [] back places
+LastTurn = (s : SearchModel) (before : List Line) (why : Why) (back : ℕ) (places : List ℕ) → IsSearch s → s.over ≡ false → s.lemmas < MOST_BUDGET → FitsOpen before s → LiveKept before s → IsConflict s why → 1 ≤ length (reason_clause why) → Learns s.trail (reason_clause why) [] back places
     → EndMeets s before why places (cite_conflict (cited s places) why)
 
 -- ---- a turn that ended
@@ -280,7 +280,7 @@ pub record BackKeeps (s gone : SearchModel) : Type 0 where
 pub record StopKeeps (s : SearchModel) : Type 0 where
   pub numbers : (why : Why) (places : List ℕ) → NumbersKept s (cite_conflict (cited s places) why) (length places + 1)
   pub before : (written : List (Option ℕ)) (lines lemmas : ℕ) → length written ≡ length s.written → NumbersStay s.written written → s.clause_lines ≤ lines → IsSearch (record s { written = written; clause_lines = lines; lemmas = lemmas; over = true })
-  pub past : (why : Why) (lemma : List Lit) (back : ℕ) (places : List ℕ) → s.over ≡ false → IsConflict s why → Learns s.trail (clause_of why) lemma back places → 1 ≤ length lemma → BackKeeps s (gone_back (with_lemma (cite_conflict (cited s places) why).search lemma) back)
+  pub past : (why : Why) (lemma : List Lit) (back : ℕ) (places : List ℕ) → s.over ≡ false → IsConflict s why → Learns s.trail (reason_clause why) lemma back places → 1 ≤ length lemma → BackKeeps s (gone_back (with_lemma (cite_conflict (cited s places) why).search lemma) back)
 
 abbrev pub StopKept : Type 0
 StopKept = (s : SearchModel) → IsSearch s → StopKeeps s
@@ -293,9 +293,9 @@ LiveBound = (s : SearchModel) (before : List Line) (extra : ℕ) → length s.wr
 
 -- after each line of a turn from a fitting log few clauses are live: of one that found a lemma, of one that ended, and of a conflict without literals
 pub record LiveTurn (s : SearchModel) (before : List Line) : Type 0 where
-  pub lemma : (why : Why) (lemma : List Lit) (back : ℕ) (places : List ℕ) → IsConflict s why → 1 ≤ length (clause_of why) → Learns s.trail (clause_of why) lemma back places → 1 ≤ length lemma → (after : SearchModel) → after ≡ gone_back (with_lemma (cite_conflict (cited s places) why).search lemma) back
+  pub lemma : (why : Why) (lemma : List Lit) (back : ℕ) (places : List ℕ) → IsConflict s why → 1 ≤ length (reason_clause why) → Learns s.trail (reason_clause why) lemma back places → 1 ≤ length lemma → (after : SearchModel) → after ≡ gone_back (with_lemma (cite_conflict (cited s places) why).search lemma) back
       → FewLiveFrom s.problem before (lemma_lines (cite_conflict (cited s places) why) lemma ++ deletion (unkept (before ++ lemma_lines (cite_conflict (cited s places) why) lemma) after))
-  pub last : (why : Why) (back : ℕ) (places : List ℕ) → Learns s.trail (clause_of why) [] back places → FewLiveFrom s.problem before (lemma_lines (cite_conflict (cited s places) why) [])
+  pub last : (why : Why) (back : ℕ) (places : List ℕ) → Learns s.trail (reason_clause why) [] back places → FewLiveFrom s.problem before (lemma_lines (cite_conflict (cited s places) why) [])
   pub conflict : (why : Why) → FewLiveFrom s.problem before (why_lines s.problem why)
   pub table : (table : List ℕ) → FitsOpen (before ++ lines.Table table ∷ []) (record s { best = Some table }) → FewLiveFrom s.problem before (lines.Table table ∷ [])
 

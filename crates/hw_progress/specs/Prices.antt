@@ -23,8 +23,8 @@ pub record PriceModel : Type 0 where
   pub older : Option Tariff
 
 -- no tolls, no tariff and no bound
-abbrev pub no_prices : PriceModel
-no_prices = record { tolls = []; tariff = None; bound = None; older = None }
+abbrev pub unpriced_model : PriceModel
+unpriced_model = record { tolls = []; tariff = None; bound = None; older = None }
 
 -- the older tariff, and where there is none the one in force
 abbrev pub older_or : Option Tariff → Option Tariff → Option Tariff
@@ -68,8 +68,8 @@ pub record PricesTold (f : Problem) (all : List Line) (p : PriceModel) : Type 0 
 -- ---- what one line changes
 
 -- one more toll
-abbrev pub with_toll : PriceModel → Toll → PriceModel
-with_toll p toll = record p { tolls = p.tolls ++ toll ∷ [] }
+abbrev pub prices_with_toll : PriceModel → Toll → PriceModel
+prices_with_toll p toll = record p { tolls = p.tolls ++ toll ∷ [] }
 
 -- another tariff in force; the one that shows the last bound is kept
 abbrev pub with_tariff : PriceModel → Tariff → PriceModel

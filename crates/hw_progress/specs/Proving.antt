@@ -14,7 +14,7 @@ use Rattle.hw_progress.specs.declared.outcome.Solved.TheVariants.{Optimal, Infea
 use Rattle.hw_progress.specs.Living.{FewLiveThroughout}
 use Rattle.hw_progress.specs.Prices.{NoneAbove}
 use Rattle.hw_progress.specs.Searches.{SearchModel, LogFits}
-use Rattle.hw_progress.specs.Solving.{is_proved, AnswerTells, may_be_spent, table_of, IsWorth, AnswerMeans}
+use Rattle.hw_progress.specs.Solving.{is_proved, AnswerTells, may_be_spent, solved_timetable, IsWorth, AnswerMeans}
 use Rattle.hw_progress.specs.Advised.{IsCutOff}
 
 -- ---- the lines
@@ -56,7 +56,7 @@ IsAbove f LogFailed bound = ⊤
 pub record ProveMeets (f : Problem) (budget : ℕ) (old : LogModel) (answer : Solved) (bound : Option ℕ) (new : LogModel) : Type 0 where
   pub later : old.faults ≤ new.faults
   pub writes : Grows old new (λ was now. ProveWrites f budget answer bound old.faults new.faults now.lines)
-  pub permitted : IfSome (table_of answer) (Permits f)
+  pub permitted : IfSome (solved_timetable answer) (Permits f)
   pub worth : IsWorth f answer
   pub means : AnswerMeans f budget answer
   pub bounded : IfSome bound (NoneAbove f)

@@ -25,7 +25,7 @@ use Rattle.hw_progress.specs.declared.outcome.Branching.{Branching}
 use Rattle.hw_store.specs.declared.store.Stored.{Stored}
 use Rattle.hw_tolls.specs.Prices.{PricesRefute}
 use Rattle.hw_progress.specs.Luby.{luby}
-use Rattle.hw_progress.specs.Prices.{PriceModel, no_prices, ArePrices, PricesTold}
+use Rattle.hw_progress.specs.Prices.{PriceModel, unpriced_model, ArePrices, PricesTold}
 use Rattle.hw_cert.specs.Logs.{LogTold}
 
 -- `written` has for each event of the trail the number of the line that was written for its reason, if one was; `since` counts the lemmas since the last restart, `priced` the clauses by which prices implied a literal
@@ -46,7 +46,7 @@ pub record SearchModel : Type 0 where
 
 -- a search that has done nothing
 abbrev pub new_search : Problem → Branching → SearchModel
-new_search f branching = record { problem = f; branching = branching; trail = no_events (shape_of f); stored = []; written = []; best = None; prices = no_prices; clause_lines = 0; lemmas = 0; restarts = 0; since = 0; priced = 0; over = false }
+new_search f branching = record { problem = f; branching = branching; trail = no_events (shape_of f); stored = []; written = []; best = None; prices = unpriced_model; clause_lines = 0; lemmas = 0; restarts = 0; since = 0; priced = 0; over = false }
 
 -- the search's room
 abbrev pub room_in : SearchModel → RoomModel

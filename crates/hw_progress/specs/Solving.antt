@@ -53,12 +53,12 @@ pub record SolveWrites (f : Problem) (budget : ℕ) (answer : Solved) (before no
   pub spent : (Rose before now → ⊥) → length (lemmas_of all) ≡ budget → is_closed all ≡ false → may_be_spent answer ≡ true
 
 -- the timetable of an answer
-abbrev pub table_of : Solved → Option (List ℕ)
-table_of (Optimal table c) = Some table
-table_of Infeasible = None
-table_of (Unfinished table) = table
-table_of (NoMemory table) = table
-table_of LogFailed = None
+abbrev pub solved_timetable : Solved → Option (List ℕ)
+solved_timetable (Optimal table c) = Some table
+solved_timetable Infeasible = None
+solved_timetable (Unfinished table) = table
+solved_timetable (NoMemory table) = table
+solved_timetable LogFailed = None
 
 -- the cargo of an answer is that of its timetable, also where the lines are untold
 abbrev pub IsWorth : Problem → Solved → Type 0
@@ -88,7 +88,7 @@ AnswerMeans f budget LogFailed = ⊤
 pub record SolveMeets (f : Problem) (budget : ℕ) (old : LogModel) (answer : Solved) (new : LogModel) : Type 0 where
   pub later : old.faults ≤ new.faults
   pub writes : Grows old new (λ was now. SolveWrites f budget answer old.faults new.faults now.lines)
-  pub permitted : IfSome (table_of answer) (Permits f)
+  pub permitted : IfSome (solved_timetable answer) (Permits f)
   pub worth : IsWorth f answer
   pub means : AnswerMeans f budget answer
   pub ends : SolveFails f old new answer

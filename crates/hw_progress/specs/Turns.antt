@@ -15,7 +15,7 @@ use Rattle.hw_lines.specs.Valid.{LineFits, ValidAfter, ValidFrom}
 use Rattle.hw_lines.specs.Lemmas.{lemmas_of, IsNew, LeanAfter, LeanFrom}
 use Rattle.hw_story.specs.declared.event.Why.{Why}
 use Rattle.hw_story.specs.declared.event.Why.TheVariants as whys
-use Rattle.hw_story.specs.Trails.{clause_of, decided, back_to, most_events}
+use Rattle.hw_story.specs.Trails.{reason_clause, decided, back_to, most_events}
 use Rattle.hw_story.specs.Learning.{Learns}
 use Rattle.hw_progress.specs.declared.outcome.Settled.TheVariants.{Quiet, Conflict}
 use Rattle.hw_progress.specs.declared.outcome.Turn.{Turn}
@@ -87,12 +87,12 @@ abbrev pub to_level : SearchModel → ℕ → SearchModel
 to_level s level = record s { trail = back_to s.trail level; written = take (length (back_to s.trail level).events) s.written }
 
 -- one more lemma is the 32 * luby(i)-th since the restart before it, where i counts the restarts from 1
-abbrev pub is_due : SearchModel → Bool
-is_due s = s.since + 1 == 32 * luby (s.restarts + 1)
+abbrev pub restart_is_due : SearchModel → Bool
+restart_is_due s = s.since + 1 == 32 * luby (s.restarts + 1)
 
 -- after a lemma: to level 0 where a restart is due, else to the level that was learnt
 abbrev pub gone_back : SearchModel → ℕ → SearchModel
-gone_back s back = if is_due s then record (to_level s 0) { restarts = s.restarts + 1; since = 0 } else record (to_level s back) { since = s.since + 1 }
+gone_back s back = if restart_is_due s then record (to_level s 0) { restarts = s.restarts + 1; since = 0 } else record (to_level s back) { since = s.since + 1 }
 
 -- the live clause lines that are neither lemmas nor reasons of events on the trail, ascending
 abbrev pub unkept : List Line → SearchModel → List ℕ
@@ -108,7 +108,7 @@ deletion (id ∷ ids) = lines.Delete (id ∷ ids) ∷ []
 -- a turn that settled at this conflict and learnt this from it
 pub record Analysed (s mid : SearchModel) (why : Why) (lemma : List Lit) (back : ℕ) (places : List ℕ) : Type 0 where
   pub settles : Settles s mid (Conflict why)
-  pub learns : Learns mid.trail (clause_of why) lemma back places
+  pub learns : Learns mid.trail (reason_clause why) lemma back places
 
 -- all was quiet, the room was no point, and the search decided by the branching rule; no line was written
 pub record DoesDecide (s after : SearchModel) (old new : LogModel) : Type 0 where
@@ -150,7 +150,7 @@ pub record StaysAt (s mid after : SearchModel) : Type 0 where
 pub record EndsAtConflict (s after : SearchModel) (old new : LogModel) : Type 0 where
   pub mid : SearchModel
   pub why : Why
-  pub none : clause_of why ≡ []
+  pub none : reason_clause why ≡ []
   pub settles : Settles s mid (Conflict why)
   pub stays : StaysAt s mid after
   pub lemmas : after.lemmas ≡ s.lemmas
@@ -165,7 +165,7 @@ pub record EndsAtLemma (s after : SearchModel) (old new : LogModel) : Type 0 whe
   pub back : ℕ
   pub places : List ℕ
   pub analysed : Analysed s mid why [] back places
-  pub some_literal : 1 ≤ length (clause_of why)
+  pub some_literal : 1 ≤ length (reason_clause why)
   pub stays : StaysAt s mid after
   pub lemmas : after.lemmas ≡ s.lemmas + 1
   pub written : Grows old new (λ was now.
@@ -214,16 +214,16 @@ pub record StopsPast (turn : Turn) (s after : SearchModel) (old new : LogModel) 
       now.lines ≡ was.lines ++ c.lines ++ lines.Lemma lemma c.hints ∷ [])
 
 -- where lines are told, their number of Lemma lines says which it is
-pub data Stops (turn : Turn) (s after : SearchModel) (old new : LogModel) : Type 0 where
-  before_lemma : StopsBefore s after → Stops turn s after old new
-  past_lemma : StopsPast turn s after old new → Stops turn s after old new
+pub data TurnStops (turn : Turn) (s after : SearchModel) (old new : LogModel) : Type 0 where
+  before_lemma : StopsBefore s after → TurnStops turn s after old new
+  past_lemma : StopsPast turn s after old new → TurnStops turn s after old new
 
 -- what a turn may be about to write after these lines: nothing, a table, a conflict without literals, or a lemma with its reasons and the deletion
 pub data Plans (s : SearchModel) (before more : List Line) : Type 0 where
   no_line : more ≡ [] → Plans s before more
   a_table : (mid : SearchModel) → Settles s mid Quiet → IsPoint (room_in mid) → more ≡ lines.Table (point_of (room_in mid)) ∷ [] → Plans s before more
-  an_end : (mid : SearchModel) (why : Why) → Settles s mid (Conflict why) → clause_of why ≡ [] → more ≡ why_lines s.problem why → Plans s before more
-  a_lemma : (mid : SearchModel) (why : Why) (lemma : List Lit) (back : ℕ) (places : List ℕ) → Analysed s mid why lemma back places → 1 ≤ length (clause_of why) → (behind : List Line) → (1 ≤ length lemma → behind ≡ deletion (unkept (before ++ (cite_conflict (cited mid places) why).lines ++ lines.Lemma lemma (cite_conflict (cited mid places) why).hints ∷ []) (gone_back (with_lemma (cite_conflict (cited mid places) why).search lemma) back))) → (lemma ≡ [] → behind ≡ []) → more ≡ (cite_conflict (cited mid places) why).lines ++ lines.Lemma lemma (cite_conflict (cited mid places) why).hints ∷ behind → Plans s before more
+  an_end : (mid : SearchModel) (why : Why) → Settles s mid (Conflict why) → reason_clause why ≡ [] → more ≡ why_lines s.problem why → Plans s before more
+  a_lemma : (mid : SearchModel) (why : Why) (lemma : List Lit) (back : ℕ) (places : List ℕ) → Analysed s mid why lemma back places → 1 ≤ length (reason_clause why) → (behind : List Line) → (1 ≤ length lemma → behind ≡ deletion (unkept (before ++ (cite_conflict (cited mid places) why).lines ++ lines.Lemma lemma (cite_conflict (cited mid places) why).hints ∷ []) (gone_back (with_lemma (cite_conflict (cited mid places) why).search lemma) back))) → (lemma ≡ [] → behind ≡ []) → more ≡ (cite_conflict (cited mid places) why).lines ++ lines.Lemma lemma (cite_conflict (cited mid places) why).hints ∷ behind → Plans s before more
 
 -- a turn that was cut short wrote the first lines of what it was about to write
 pub record WritesPart (s : SearchModel) (was now : LogTold) : Type 0 where
@@ -250,12 +250,12 @@ pub record DoesFail (s after : SearchModel) (old new : LogModel) : Type 0 where
   pub cause : Rose old.faults new.faults
   pub failed : WhereTold new (FailsNext s.problem)
   pub part : Grows old new (FailsPart s)
-  pub stops : Stops turns.LogFailed s after old new
+  pub stops : TurnStops turns.LogFailed s after old new
 
 -- memory ran out: some first lines of the turn were written
 pub record WantsMemory (s after : SearchModel) (old new : LogModel) : Type 0 where
   pub part : Grows old new (WritesPart s)
-  pub stops : Stops turns.NoMemory s after old new
+  pub stops : TurnStops turns.NoMemory s after old new
 
 -- what a turn does, by its answer
 abbrev pub TurnDoes : SearchModel → LogModel → Turn → SearchModel → LogModel → Type 0

@@ -1,5 +1,5 @@
 -- The plain explanation of a reduced room.
-use Rattle.std.proofs.Common.{◌≡◌, ℕ, ◌<◌, ◌≤◌, ◌+◌, ◌-◌, ◌*◌, Bool, true, false, cond, ◌&&◌, ◌||◌, not, nat_le, count_by, Option, Some, None, IsTrue, List, [], ◌∷◌, ◌++◌, length, refl, sym, ap, subst, ◌∙◌, arith, inl, inr}
+use Rattle.std.proofs.Common.{◌≡◌, ℕ, ◌<◌, ◌≤◌, ◌+◌, ◌-◌, ◌*◌, Bool, true, false, cond, ◌&&◌, ◌||◌, nat_le, count_by, Option, Some, None, IsTrue, List, [], ◌∷◌, ◌++◌, length, refl, sym, ap, subst, ◌∙◌, arith, inl, inr}
 use Rattle.std.specs.Prelude.{replicate, if◌then◌else◌, nat_lt, ◌^◌}
 use Rattle.std.specs.List.{flat_map, AllByRecursion, list_any}
 use Rattle.std.proofs.lemmas.Bool.{ltb-true, lt-ltb, le-leb, and_from, and_parts}
@@ -28,7 +28,7 @@ use Rattle.hw_model.specs.declared.lit.Lit.{Lit}
 use Rattle.hw_model.specs.declared.source.Source.{Source}
 use Rattle.hw_model.specs.Problem.{Problem, shape_of}
 use Rattle.hw_model.specs.Limits.{IsFlat}
-use Rattle.hw_model.specs.Lits.{lit_fits, keeps_form, BadLit, out_of_range, not_normal, first_bad_from}
+use Rattle.hw_model.specs.Lits.{lit_fits, keeps_form, out_of_range, not_normal, first_bad_from}
 use Rattle.hw_model.specs.Refuting.{Refutes}
 use Rattle.hw_model.specs.Quiet.{QuietSource, SpeaksOnlyOf, names_order, names_lit}
 use Rattle.hw_laws.proofs.Alikes.{alike_refutes}
@@ -39,6 +39,7 @@ use Rattle.hw_model.specs.Narrowing.{cut}
 use Rattle.hw_prop.specs.Finds.{Explanation, Finds}
 use Rattle.hw_lits.specs.declared.found.Found.{Found}
 use Rattle.hw_lits.specs.declared.found.Found.TheVariants as founds
+use Rattle.hw_lits.proofs.SaidRooms.{good_from}
 use Rattle.hw_prop.specs.Speaks.{SpokenOf, FindsBy}
 use Rattle.hw_prop.specs.Reductions.{IsQuiet}
 use Rattle.hw_prop.specs.declared.reduction.Reduction.TheVariants as reductions
@@ -152,14 +153,11 @@ fits_all d m ships a b ps c q low =
     (all_of_each (Fits d.ships d.slots m) (pair_lits d) ps (λ p i.
     let k = pair_in a b d.ships ps p.0 p.1 q i in fits_order d.ships d.slots m p.0 p.1 (order_of d p.0 p.1) k.0 k.1))
 
-no_bad : (a b : Bool) (x y : BadLit) (z : Option BadLit) → a ≡ true → b ≡ true → z ≡ None → cond (not a) (Some x) (cond (not b) (Some y) z) ≡ None
-no_bad a b x y z p q e = rw (p, q) e
-
 is_clause : (shape : Shape) (place : ℕ) (before : Option Lit) (lits : List Lit) → AllByRecursion (λ lit. lit_fits shape lit ≡ true) lits → normal_after before lits ≡ true → first_bad_from shape place before lits ≡ None
 is_clause shape place before [] fits normal = refl
 is_clause shape place before (lit ∷ lits) fits normal =
     let parts = and_parts (keeps_form before lit) (normal_after (Some lit) lits) normal in
-    no_bad (lit_fits shape lit) (keeps_form before lit) (out_of_range place) (not_normal place) (first_bad_from shape (place + 1) (Some lit) lits) fits.0 parts.0
+    good_from (lit_fits shape lit) (keeps_form before lit) (out_of_range place) (not_normal place) (first_bad_from shape (place + 1) (Some lit) lits) fits.0 parts.0
     (is_clause shape (place + 1) (Some lit) lits fits.1 parts.1)
 
 -- the plain explanation of a room is a normal clause

@@ -21,11 +21,11 @@ unfoldable pub instance_of : Data → Result Parts PortFault
 instance_of d = after_form (first_of (instance_faults d)) (port_parts d)
 
 -- the port, or the fault; memory may run out at any time
-abbrev pub Gives : Result Parts ReadFault → Result Parts PortFault → Type 0
-Gives (Ok p) read = read ≡ Ok p
-Gives (Err (Field f)) read = read ≡ Err f
-Gives (Err NotJson) read = ⊥
-Gives (Err NoMemory) read = Unit {0}
+abbrev pub PortReadGives : Result Parts ReadFault → Result Parts PortFault → Type 0
+PortReadGives (Ok p) read = read ≡ Ok p
+PortReadGives (Err (Field f)) read = read ≡ Err f
+PortReadGives (Err NotJson) read = ⊥
+PortReadGives (Err NoMemory) read = Unit {0}
 
 -- the bytes are the text of this value
 abbrev pub IsJson : List ℕ → Data → Type 0
@@ -33,8 +33,8 @@ IsJson bytes d = Text.IsUtf8 bytes × (read bytes ≡ Some d)
 
 -- what `read_port` answers: a port exactly where the bytes are a value that is one, a fault exactly where they are a value
 -- with that first fault, no JSON exactly where they are no value; memory may run out at any time
-abbrev pub Reads : List ℕ → Result Parts ReadFault → Type 0
-Reads bytes (Ok p) = (d : Data) × IsJson bytes d × (instance_of d ≡ Ok p)
-Reads bytes (Err (Field f)) = (d : Data) × IsJson bytes d × (instance_of d ≡ Err f)
-Reads bytes (Err NotJson) = (d : Data) → IsJson bytes d → ⊥
-Reads bytes (Err NoMemory) = Unit {0}
+abbrev pub PortReads : List ℕ → Result Parts ReadFault → Type 0
+PortReads bytes (Ok p) = (d : Data) × IsJson bytes d × (instance_of d ≡ Ok p)
+PortReads bytes (Err (Field f)) = (d : Data) × IsJson bytes d × (instance_of d ≡ Err f)
+PortReads bytes (Err NotJson) = (d : Data) → IsJson bytes d → ⊥
+PortReads bytes (Err NoMemory) = Unit {0}

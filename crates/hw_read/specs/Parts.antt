@@ -16,14 +16,14 @@ use Rattle.serde_json.specs.Find.{get, as_str, as_bool, as_array}
 use Rattle.hw_read.specs.Form.{whole_number}
 
 -- the number that a value is; 0 of another value
-abbrev pub number_of : Data → ℤ
-number_of d = unwrap_or (whole_number d) (pos 0)
+abbrev pub number_in_data : Data → ℤ
+number_in_data d = unwrap_or (whole_number d) (pos 0)
 
-abbrev pub text_of : Data → List ℕ
-text_of d = unwrap_or (as_str d) []
+abbrev pub text_in_data : Data → List ℕ
+text_in_data d = unwrap_or (as_str d) []
 
-abbrev pub items_of : Data → Items
-items_of d = unwrap_or (as_array d) no_items
+abbrev pub items_in_data : Data → Items
+items_in_data d = unwrap_or (as_array d) no_items
 
 abbrev pub number_in : List ℕ → Data → ℤ
 number_in name d = unwrap_or (option_and_then whole_number (get name d)) (pos 0)
@@ -49,20 +49,20 @@ some_text_in name d = option_and_then as_str (get name d)
 abbrev pub closing_part : Data → Closing
 closing_part d = record { from = number_in (codes "from") d; to = number_in (codes "to") d }
 
-abbrev pub closed_in : Data → List Closing
-closed_in d = each_part closing_part (items_in (codes "closed") d)
+abbrev pub closings_in : Data → List Closing
+closings_in d = each_part closing_part (items_in (codes "closed") d)
 
 -- a waypoint of a value
 abbrev pub waypoint_part : Data → Waypoint
-waypoint_part d = record { name = text_in (codes "name") d; depth = number_in (codes "depth") d; closed = closed_in d }
+waypoint_part d = record { name = text_in (codes "name") d; depth = number_in (codes "depth") d; closed = closings_in d }
 
 -- a section of a value
 abbrev pub section_part : Data → Section
-section_part d = record { name = text_of d }
+section_part d = record { name = text_in_data d }
 
 -- a row of separations of a value
 abbrev pub row_part : Data → List ℤ
-row_part d = each_part number_of (items_of d)
+row_part d = each_part number_in_data (items_in_data d)
 
 abbrev pub times_part : Option Data → Turnaround
 times_part None = record { outgoing = pos 0; incoming = pos 0 }
@@ -94,7 +94,7 @@ ship_part d = record {
   tugs = number_in (codes "tugs") d;
   job = number_in (codes "job") d;
   may_stay = truth_in (codes "may_stay") d;
-  closed = closed_in d;
+  closed = closings_in d;
 }
 
 -- a berth pair of a value
@@ -116,7 +116,7 @@ port_parts d = record {
   slots = number_in (codes "slots") d;
   slot_minutes = number_in (codes "slot_minutes") d;
   heights = heights_in d;
-  closed = closed_in d;
+  closed = closings_in d;
   waypoints = each_part waypoint_part (items_in (codes "waypoints") d);
   sections = each_part section_part (items_in (codes "sections") d);
   separation = each_part row_part (items_in (codes "separation") d);

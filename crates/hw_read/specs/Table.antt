@@ -146,12 +146,12 @@ version_by (Some z) = if int_eq z (pos 3) then Third else if int_eq z (pos 2) th
 abbrev pub version_of : Data → Version
 version_of d = version_by (option_and_then whole_number (get (codes "version") d))
 
-abbrev pub place_of : Entry → Place
-place_of (number n) = n
-place_of (text n) = n
-place_of (truth n) = n
-place_of (list n p) = n
-place_of (object n ms) = n
+abbrev pub entry_place : Entry → Place
+entry_place (number n) = n
+entry_place (text n) = n
+entry_place (truth n) = n
+entry_place (list n p) = n
+entry_place (object n ms) = n
 
 abbrev pub names_in : Members → List (List ℕ)
 names_in no_more = []
@@ -199,7 +199,7 @@ abbrev mutual
 
   pub members_faults : Members → Stars → Data → List PortFault
   members_faults no_more s d = []
-  members_faults (member name p ms) s d = member_faults (entry_faults p) (path (place_of p) s) s (get name d) ++ members_faults ms s d
+  members_faults (member name p ms) s d = member_faults (entry_faults p) (path (entry_place p) s) s (get name d) ++ members_faults ms s d
 
 -- all faults of form of an instance, by the table of its version
 abbrev pub instance_faults : Data → List PortFault

@@ -1,8 +1,9 @@
 -- The first fault of form as a walk finds it: over the table, and over the code's copy of it.
 -- It is the first of all faults of the table, which is what the reader promises.
 use Rattle.std.specs.Prelude.{◌≡◌, ℕ, ◌+◌, Option, Some, None, Result, Ok, Err, Bool, true, false, ◌||◌, nat_le}
+use Rattle.hw_lemmas.specs.Operators.{◌or_else◌}
 use Rattle.hw_port.specs.declared.fault.PortFault.{PortFault}
-use Rattle.hw_port.specs.Faults.{◌or_else◌, fault_of}
+use Rattle.hw_port.specs.Faults.{fault_of}
 use Rattle.serde_json.specs.Data.{Data, Items, no_items, item}
 use Rattle.serde_json.specs.Find.{get, as_array}
 use Rattle.hw_read.specs.declared.fault.ReadFault.{ReadFault}
@@ -14,7 +15,7 @@ use Rattle.hw_read.specs.declared.table.Form.{Form}
 use Rattle.hw_read.specs.declared.table.Form.TheVariants.{Number, Text, Truth, List', Object', Member', Stays', Later', End}
 use Rattle.hw_read.specs.Places.{path, deeper}
 use Rattle.hw_read.specs.Form.{number_form, text_form, truth_form, items_form, object_form, member_form}
-use Rattle.hw_read.specs.Table.{Entry, Members, number, text, truth, list, object, no_more, member, place_of, names_in, port, version_of}
+use Rattle.hw_read.specs.Table.{Entry, Members, number, text, truth, list, object, no_more, member, entry_place, names_in, port, version_of}
 use Rattle.hw_read.specs.Names.{names_of}
 
 -- what a value at a place is tested by
@@ -43,7 +44,7 @@ abbrev mutual
 
   pub members_fault : Members → Test
   members_fault no_more s d = None
-  members_fault (member name p ms) s d = member_fault (entry_fault p) s (member_form (path (place_of p) s) name d) or_else members_fault ms s d
+  members_fault (member name p ms) s d = member_fault (entry_fault p) s (member_form (path (entry_place p) s) name d) or_else members_fault ms s d
 
 -- what is said of the second and the third version
 abbrev pub where_second : {A : Type 0} → A → Version → A → A
@@ -112,8 +113,8 @@ form_long version (Later' p more q before) d = where_third (form_long version be
 form_long version End d = false
 
 -- what a walk tells: no fault, where no list is too long; the first fault; or that a list is too long
-abbrev pub Tells : {A : Type 0} → Bool → Result A ReadFault → Option PortFault → Type 0
-Tells long (Ok x) fault = (fault ≡ None) × (long ≡ false)
-Tells long (Err (faults.Field f)) fault = fault ≡ Some f
-Tells long (Err faults.NotJson) fault = ⊥
-Tells long (Err faults.NoMemory) fault = long ≡ true
+abbrev pub WalkTells : {A : Type 0} → Bool → Result A ReadFault → Option PortFault → Type 0
+WalkTells long (Ok x) fault = (fault ≡ None) × (long ≡ false)
+WalkTells long (Err (faults.Field f)) fault = fault ≡ Some f
+WalkTells long (Err faults.NotJson) fault = ⊥
+WalkTells long (Err faults.NoMemory) fault = long ≡ true

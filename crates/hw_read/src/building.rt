@@ -3,8 +3,8 @@
 ghost use Rattle.std.specs.Prelude.{◌≡◌, IfOk, codes};
 ghost use Rattle.serde_json.specs.Data.{Data};
 ghost use Rattle.serde_json.specs.View.{view, items_view};
-ghost use Rattle.hw_read.specs.Parts.{number_in, text_in, truth_in, items_in, each_part, closing_part, closed_in, waypoint_part, section_part, row_part, turnaround_part, pass_part, stretch_part, ship_part, berth_part, after_part, some_text_in, heights_in, port_parts};
-ghost use Rattle.hw_read.specs.Parts.{number_of as number_value, text_of as text_value, items_of as items_value};
+ghost use Rattle.hw_read.specs.Parts.{number_in, text_in, truth_in, items_in, each_part, closing_part, closings_in, waypoint_part, section_part, row_part, turnaround_part, pass_part, stretch_part, ship_part, berth_part, after_part, some_text_in, heights_in, port_parts};
+ghost use Rattle.hw_read.specs.Parts.{number_in_data as number_value, text_in_data as text_value, items_in_data as items_value};
 
 use hw_port::{
     AfterPair, BerthPair, Closing, Closings, Pass, PortParts, Row, Section, Ship, Stretch, Text,
@@ -98,7 +98,7 @@ impl Part for Closing {
 
 /// The closed slots of a port, a ship or a waypoint.
 fn closed(alloc: Global, value: &Value) -> Result<Closings, AllocError>
-    ensures { IfOk result (λ c. c ≡ closed_in (view value.now)) }
+    ensures { IfOk result (λ c. c ≡ closings_in (view value.now)) }
 {
     let items = build_each(alloc, items("closed", value))?;
     Ok(Closings { items })

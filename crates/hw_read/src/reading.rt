@@ -3,7 +3,7 @@
 ghost use Rattle.std.specs.Prelude.{◌≡◌};
 ghost use Rattle.serde_json.specs.Errors.{IsMemory};
 ghost use Rattle.serde_json.specs.View.{view};
-ghost use Rattle.hw_read.specs.Instance.{Gives, instance_of, Reads};
+ghost use Rattle.hw_read.specs.Instance.{PortReadGives, instance_of, PortReads};
 
 use crate::building::build_parts;
 use crate::fault::ReadFault;
@@ -15,7 +15,7 @@ use std::alloc::Global;
 /// The port that a value stands for.
 #[tactic(auto, unfolding(crate::specs::Instance::instance_of))]
 fn port_of_value(alloc: Global, value: &Value) -> Result<Port, ReadFault>
-    ensures { Gives result (instance_of (view value.now)) }
+    ensures { PortReadGives result (instance_of (view value.now)) }
 {
     test_form(value)?;
     let parts = build_parts(alloc, value)?;
@@ -28,7 +28,7 @@ fn port_of_value(alloc: Global, value: &Value) -> Result<Port, ReadFault>
 /// order of the table, and `NoMemory` only where memory ran out. Numbers are whole numbers of 64
 /// bits with a sign. The time grows with the number of bytes.
 pub fn read_port(alloc: Global, bytes: &[u8]) -> Result<Port, ReadFault>
-    ensures { Reads bytes.now result }
+    ensures { PortReads bytes.now result }
 {
     match Value::from_slice(alloc, bytes) {
         Ok(value) => port_of_value(alloc, &value),

@@ -5,7 +5,7 @@ ghost use Rattle.serde_json.specs.View.{view};
 ghost use Rattle.hw_read.specs.declared.table.Version.TheVariants.{First, Second, Third};
 ghost use Rattle.hw_read.specs.Places.{no_stars};
 ghost use Rattle.hw_read.specs.Table.{port, version_of as told_version, first_of, instance_faults};
-ghost use Rattle.hw_read.specs.Walk.{Tells, form_fault, form_long, entry_fault, entry_long, instance_long};
+ghost use Rattle.hw_read.specs.Walk.{WalkTells, form_fault, form_long, entry_fault, entry_long, instance_long};
 
 use crate::fault::ReadFault;
 use crate::members::{items, member, number, object, text, truth};
@@ -22,7 +22,7 @@ const NO_STARS: Stars = Stars {
 /// Tests a value by a form, and returns the first fault. An object's members are tested in the
 /// order of the table, each by one look-up. `NoMemory` says that a list has more than 2^32 items.
 fn walk(form: &Form<'_>, version: Version, stars: Stars, value: &Value) -> Result<(), ReadFault>
-    ensures { Tells (form_long version form.now (view value.now)) result (form_fault version form.now stars (view value.now)) }
+    ensures { WalkTells (form_long version form.now (view value.now)) result (form_fault version form.now stars (view value.now)) }
 {
     match form {
         Form::Number(field) => {
@@ -86,27 +86,27 @@ fn version_of(value: &Value) -> Version
 
 #[tactic(auto, unfolding(crate::specs::Table::port))]
 fn test_first(value: &Value) -> Result<(), ReadFault>
-    ensures { Tells (entry_long (port First) (view value.now)) result (entry_fault (port First) no_stars (view value.now)) }
+    ensures { WalkTells (entry_long (port First) (view value.now)) result (entry_fault (port First) no_stars (view value.now)) }
 {
     walk(&PORT, Version::First, NO_STARS, value)
 }
 
 #[tactic(auto, unfolding(crate::specs::Table::port))]
 fn test_second(value: &Value) -> Result<(), ReadFault>
-    ensures { Tells (entry_long (port Second) (view value.now)) result (entry_fault (port Second) no_stars (view value.now)) }
+    ensures { WalkTells (entry_long (port Second) (view value.now)) result (entry_fault (port Second) no_stars (view value.now)) }
 {
     walk(&PORT, Version::Second, NO_STARS, value)
 }
 
 #[tactic(auto, unfolding(crate::specs::Table::port))]
 fn test_third(value: &Value) -> Result<(), ReadFault>
-    ensures { Tells (entry_long (port Third) (view value.now)) result (entry_fault (port Third) no_stars (view value.now)) }
+    ensures { WalkTells (entry_long (port Third) (view value.now)) result (entry_fault (port Third) no_stars (view value.now)) }
 {
     walk(&PORT, Version::Third, NO_STARS, value)
 }
 
 fn test_by(version: Version, value: &Value) -> Result<(), ReadFault>
-    ensures { Tells (entry_long (port version) (view value.now)) result (entry_fault (port version) no_stars (view value.now)) }
+    ensures { WalkTells (entry_long (port version) (view value.now)) result (entry_fault (port version) no_stars (view value.now)) }
 {
     match version {
         Version::First => test_first(value),
@@ -117,7 +117,7 @@ fn test_by(version: Version, value: &Value) -> Result<(), ReadFault>
 
 /// The first fault of form of an instance, by the table of its version.
 pub fn test_form(value: &Value) -> Result<(), ReadFault>
-    ensures { Tells (instance_long (view value.now)) result (first_of (instance_faults (view value.now))) }
+    ensures { WalkTells (instance_long (view value.now)) result (first_of (instance_faults (view value.now))) }
 {
     test_by(version_of(value), value)
 }

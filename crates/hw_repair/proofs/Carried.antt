@@ -6,29 +6,29 @@ use Rattle.std.proofs.lemmas.List.Recursion.{is_count_by}
 use Rattle.hw_model.specs.Problem.{Problem, value_at}
 use Rattle.hw_model.specs.Timetables.{plus, cargo_from}
 use Rattle.hw_repair.specs.declared.plan.Wish.{Wish}
-use Rattle.hw_repair.specs.Wishes.{wished, moves}
+use Rattle.hw_repair.specs.Wishes.{wished, moves_from_wish}
 use Rattle.hw_repair.specs.Repaired.{repaired_worth}
 
 -- ---- moved ships, one after the other
 
 count : List (Wish × ℕ) → ℕ
 count [] = 0
-count (given ∷ more) = cond (moves given) (1 + count more) (count more)
+count (given ∷ more) = cond (moves_from_wish given) (1 + count more) (count more)
 
-count_is : (givens : List (Wish × ℕ)) → count givens ≡ count_by moves givens
+count_is : (givens : List (Wish × ℕ)) → count givens ≡ count_by moves_from_wish givens
 unfolding count
-count_is givens = is_count_by count moves refl (λ x xs. refl) givens
+count_is givens = is_count_by count moves_from_wish refl (λ x xs. refl) givens
 
-count_cons : (given : Wish × ℕ) (more : List (Wish × ℕ)) → count_by moves (given ∷ more) ≡ cond (moves given) (1 + count_by moves more) (count_by moves more)
+count_cons : (given : Wish × ℕ) (more : List (Wish × ℕ)) → count_by moves_from_wish (given ∷ more) ≡ cond (moves_from_wish given) (1 + count_by moves_from_wish more) (count_by moves_from_wish more)
 unfolding count
-count_cons given more = sym (count_is (given ∷ more)) ∙ ap (λ n. cond (moves given) (1 + n) n) (count_is more)
+count_cons given more = sym (count_is (given ∷ more)) ∙ ap (λ n. cond (moves_from_wish given) (1 + n) n) (count_is more)
 
 -- how many ships are moved by a list of wishes
 abbrev pub moving : List Wish → List ℕ → ℕ
-moving plan table = count_by moves (zip plan table)
+moving plan table = count_by moves_from_wish (zip plan table)
 
 pub few_moved : (plan : List Wish) (table : List ℕ) → length plan ≡ length table → moving plan table ≤ length table
-few_moved plan table same = omega (arith, count_by-le-length moves (zip plan table), zipped plan table same)
+few_moved plan table same = omega (arith, count_by-le-length moves_from_wish (zip plan table), zipped plan table same)
   where
     zipped : (plan : List Wish) (table : List ℕ) → length plan ≡ length table → length (zip plan table) ≡ length table
     zipped [] [] e = refl

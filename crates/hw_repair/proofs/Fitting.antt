@@ -5,6 +5,7 @@ use Rattle.std.proofs.lemmas.Option.{same_Some, slice_get-get_or}
 use Rattle.std.proofs.lemmas.Nat.{div-add-mod', div_below, mod_below}
 use Rattle.std.proofs.lemmas.List.Elements.{All-nil, All-cons, All-from_get_or}
 use Rattle.std.specs.List.{list_any, range_with_len}
+use Rattle.hw_lemmas.specs.Operators.{◌>>=◌}
 use Rattle.hw_derived.specs.Slots.{slot_form}
 use Rattle.hw_text.specs.Parts.{words_of}
 use Rattle.hw_model.specs.Problem.{Problem, value_at}
@@ -15,7 +16,7 @@ use Rattle.hw_repair.specs.declared.plan.Wish.{Wish}
 use Rattle.hw_repair.specs.declared.plan.Wish.TheVariants.{Kept, Planned}
 use Rattle.hw_repair.specs.Wishes.{PlanParts, WishFits, IsRepairable, PlanFits}
 use Rattle.hw_derived.proofs.Reading.{bind_ok, formed_ok, slot_below}
-use Rattle.hw_derived.specs.Reading.{Fault, ◌>>=◌, fault, formed, line_at}
+use Rattle.hw_derived.specs.Reading.{MalformedLine, malformed_line, formed_line, formed_line_at}
 use Rattle.hw_repair.specs.Text.{kept_by, planned_by, kept_words, planned_words, wish_words, wish_form, is_large, wish_at, wishes_at}
 
 -- ---- a wish
@@ -51,7 +52,7 @@ words_fit slots (key ∷ words) wish some e = by_key (bytes_eq key (codes "k")) 
 
 -- ---- reading
 
-not_faulty : {A : Type 0} (b : Bool) (number : ℕ) (word : PlanWord) (x y : A) → cond b (fault number word) (Ok x) ≡ Ok y → (b ≡ false) × (x ≡ y)
+not_faulty : {A : Type 0} (b : Bool) (number : ℕ) (word : PlanWord) (x y : A) → cond b (malformed_line number word) (Ok x) ≡ Ok y → (b ≡ false) × (x ≡ y)
 not_faulty true number word x y e = absurd cc
 not_faulty false number word x y e = (refl, cc)
 
@@ -62,17 +63,17 @@ pub record WishRead (f : Problem) (ship : ℕ) (wish : Wish) : Type 0 where
 first_of : (a b : Wish × List (List ℕ)) → a ≡ b → a.0 ≡ b.0
 first_of a b e = ap (λ (x : Wish × List (List ℕ)). x.0) e
 
-abbrev after_wish : Problem → ℕ → ℕ → List (List ℕ) → Wish → Result (Wish × List (List ℕ)) (Fault PlanWord)
-after_wish f first ship rest wish = cond (is_large f ship) (fault (first + ship) words.Large) (Ok (wish, rest))
+abbrev after_wish : Problem → ℕ → ℕ → List (List ℕ) → Wish → Result (Wish × List (List ℕ)) (MalformedLine PlanWord)
+after_wish f first ship rest wish = cond (is_large f ship) (malformed_line (first + ship) words.Large) (Ok (wish, rest))
 
-abbrev after_line : Problem → ℕ → ℕ → List ℕ × List (List ℕ) → Result (Wish × List (List ℕ)) (Fault PlanWord)
-after_line f first ship line = formed (first + ship) words.Ship (wish_form f.slots line.0) >>= after_wish f first ship line.1
+abbrev after_line : Problem → ℕ → ℕ → List ℕ × List (List ℕ) → Result (Wish × List (List ℕ)) (MalformedLine PlanWord)
+after_line f first ship line = formed_line (first + ship) words.Ship (wish_form f.slots line.0) >>= after_wish f first ship line.1
 
 wish_read : (f : Problem) (first ship : ℕ) (parts : List (List ℕ)) (read : Wish × List (List ℕ)) → 0 < f.slots → wish_at f first ship parts ≡ Ok read → WishRead f ship read.0
 unfolding wish_at
 wish_read f first ship parts read some e =
-    let line = bind_ok (line_at (first + ship) words.Ship parts) (after_line f first ship) read e in
-    let wish = bind_ok (formed (first + ship) words.Ship (wish_form f.slots line.value.0)) (after_wish f first ship line.value.1) read line.then' in
+    let line = bind_ok (formed_line_at (first + ship) words.Ship parts) (after_line f first ship) read e in
+    let wish = bind_ok (formed_line (first + ship) words.Ship (wish_form f.slots line.value.0)) (after_wish f first ship line.value.1) read line.then' in
     let last = not_faulty (is_large f ship) (first + ship) words.Large (wish.value, line.value.1) read wish.then' in
     let form = formed_ok (first + ship) words.Ship (wish_form f.slots line.value.0) wish.value wish.is in
     record {
@@ -85,7 +86,7 @@ pub record WishesRead (f : Problem) (ship many : ℕ) (wishes : List Wish) : Typ
   pub each_wish : All (WishFits f.slots) wishes
   pub small : (s : ℕ) → ship ≤ s → s < ship + many → is_large f s ≡ false
 
-parts_equal : (a b : List Wish × List (List ℕ)) → ◌≡◌ {A = Result (List Wish × List (List ℕ)) (Fault PlanWord)} (Ok a) (Ok b) → a.0 ≡ b.0
+parts_equal : (a b : List Wish × List (List ℕ)) → ◌≡◌ {A = Result (List Wish × List (List ℕ)) (MalformedLine PlanWord)} (Ok a) (Ok b) → a.0 ≡ b.0
 parts_equal a b e = let p : a ≡ b = cc in ap (λ (x : List Wish × List (List ℕ)). x.0) p
 
 small_more : (f : Problem) (ship many : ℕ) → is_large f ship ≡ false → ((s : ℕ) → ship + 1 ≤ s → s < ship + 1 + many → is_large f s ≡ false) → (s : ℕ) → ship ≤ s → s < ship + suc many → is_large f s ≡ false
@@ -94,10 +95,10 @@ small_more f ship many here more s low high = elim (cases_eq ship s) [
   | inr ne ↦ more s (omega (arith, low, ne)) (omega (arith, high))
 ]
 
-abbrev after_more : Wish → List Wish × List (List ℕ) → Result (List Wish × List (List ℕ)) (Fault PlanWord)
+abbrev after_more : Wish → List Wish × List (List ℕ) → Result (List Wish × List (List ℕ)) (MalformedLine PlanWord)
 after_more wish more = Ok (wish ∷ more.0, more.1)
 
-abbrev after_first : Problem → ℕ → ℕ → ℕ → Wish × List (List ℕ) → Result (List Wish × List (List ℕ)) (Fault PlanWord)
+abbrev after_first : Problem → ℕ → ℕ → ℕ → Wish × List (List ℕ) → Result (List Wish × List (List ℕ)) (MalformedLine PlanWord)
 after_first f first ship many wish = wishes_at f first (ship + 1) many wish.1 >>= after_more wish.0
 
 pub wishes_read : (f : Problem) (first ship many : ℕ) (parts : List (List ℕ)) (read : List Wish × List (List ℕ)) → 0 < f.slots → wishes_at f first ship many parts ≡ Ok read → WishesRead f ship many read.0

@@ -5,11 +5,12 @@ use Rattle.std.proofs.lemmas.Bool.{cases_lt}
 use Rattle.std.proofs.lemmas.Nat.{div-mul-add, mod-mul-add}
 use Rattle.std.proofs.lemmas.Option.{same_Some, get_or_from_slice_get}
 use Rattle.std.proofs.lemmas.List.Elements.{All-get_or}
+use Rattle.hw_lemmas.proofs.Truths.{if_some, if_some_from}
+use Rattle.hw_lemmas.proofs.Lists.{get_within, has_get}
 use Rattle.hw_derived.specs.Fleets.{lessened}
 use Rattle.hw_derived.proofs.Alike.{rules_alike}
 use Rattle.hw_derived.proofs.Fleets.{lessened_fits, lessened_cargo}
 use Rattle.hw_derived.proofs.Grids.{grid_length, grid_all, grid_value}
-use Rattle.hw_derived.proofs.Places.{get_within, has_get}
 use Rattle.hw_laws.proofs.Permitted.{has_cargo}
 use Rattle.hw_model.specs.Problem.{Problem, IsTimetable, value_at, horizon}
 use Rattle.hw_model.specs.Limits.{IsFlat}
@@ -57,16 +58,9 @@ slot_in f table ship listed lt = All-get_or (λ slot. slot < f.slots) table ship
 wish_of : (f : Problem) (plan : PlanParts) (ship : ℕ) → PlanFits f plan → ship < f.ships → (w : Wish) × (slice_get plan.wishes ship ≡ Some w)
 wish_of f plan ship fits lt = has_get plan.wishes ship (omega (arith, lt, fits.each_ship))
 
-if_some_from : {A : Type 0} (P : A → Type 0) (o : Option A) → ((x : A) → o ≡ Some x → P x) → IfSome o P
-if_some_from P None h = tt
-if_some_from P (Some x) h = h x refl
-
-some_of_if : {A : Type 0} (P : A → Type 0) (o : Option A) (x : A) → o ≡ Some x → IfSome o P → P x
-some_of_if P o x e h = subst (λ o. IfSome o P) e h
-
 keeps_from : (f r : Problem) (table : List ℕ) (place : ℕ) → r.slots ≡ f.slots → r.stay ≡ f.stay → IfSome (slice_get f.rules place) (λ rule. IsTrue (rule_holds f table rule)) → IfSome (slice_get f.rules place) (λ rule. IsTrue (rule_holds r table rule))
 keeps_from f r table place slots stay h =
-    if_some_from _ (slice_get f.rules place) (λ rule e. subst (λ b. IsTrue b) (sym (rules_alike f r table rule slots stay)) (some_of_if (λ rule. IsTrue (rule_holds f table rule)) (slice_get f.rules place) rule e h))
+    if_some_from _ (slice_get f.rules place) (λ rule e. subst (λ b. IsTrue b) (sym (rules_alike f r table rule slots stay)) (if_some (λ rule. IsTrue (rule_holds f table rule)) (slice_get f.rules place) rule e h))
 
 to_plan : (f : Problem) (plan : PlanParts) (table : List ℕ) → PlanFits f plan → Permits (repaired f plan) table → PermitsPlan f plan table
 to_plan f plan table fits permits =
@@ -92,7 +86,7 @@ from_plan f plan table fits meets =
       listed = record { each_ship = listed.each_ship; each_slot = listed.each_slot };
       sails = λ ship lt.
           let w = wish_of f plan ship fits lt in
-          there_value f plan ship (get_or table ship 0) w.0 fits.each_ship w.1 (slot_in f table ship listed lt) (some_of_if (λ wish. Grants wish (get_or table ship 0)) (slice_get plan.wishes ship) w.0 w.1 (meets.granted ship)) (permits.sails ship lt);
+          there_value f plan ship (get_or table ship 0) w.0 fits.each_ship w.1 (slot_in f table ship listed lt) (if_some (λ wish. Grants wish (get_or table ship 0)) (slice_get plan.wishes ship) w.0 w.1 (meets.granted ship)) (permits.sails ship lt);
       keeps = λ place. keeps_from (lessened plan.withdrawn f) (repaired f plan) table place refl refl (permits.keeps place);
     }
 
@@ -111,7 +105,7 @@ repaired_cargo f plan table c fits meets e =
     let lt : i < f.ships = omega (arith, get_within table i slot q, permits.listed.each_ship) in
     let is_slot : get_or table i 0 ≡ slot = get_or_from_slice_get table i slot 0 q in
     let in' : slot < f.slots = subst (λ n. n < f.slots) is_slot (slot_in f table i listed lt) in
-    let g : Grants wish slot = subst (Grants wish) is_slot (some_of_if (λ wish. Grants wish (get_or table i 0)) (slice_get plan.wishes i) wish p (meets.granted i)) in
+    let g : Grants wish slot = subst (Grants wish) is_slot (if_some (λ wish. Grants wish (get_or table i 0)) (slice_get plan.wishes i) wish p (meets.granted i)) in
     subst (λ n. value_at (repaired f plan) n slot ≡ option_map (repaired_worth f.ships wish slot) (value_at f n slot)) (sym there) (granted_value f plan i slot wish fits.each_ship p in' g) in
     let sum = carries f (repaired f plan) 0 plan.wishes table c same at e in
     let few : moved plan table ≤ f.ships = omega (arith, few_moved plan.wishes table same, permits.listed.each_ship) in

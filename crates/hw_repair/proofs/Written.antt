@@ -12,10 +12,11 @@ use Rattle.hw_text.proofs.Spelled.{reads_back}
 use Rattle.hw_flat.proofs.TextLacks.{number_lacks, joined_lacks}
 use Rattle.hw_model.specs.Limits.{IsFlat}
 use Rattle.hw_model.specs.Problem.{Problem, value_at}
+use Rattle.hw_laws.proofs.Horizon.{few_slots}
 use Rattle.hw_repair.specs.declared.plan.Wish.{Wish}
 use Rattle.hw_repair.specs.declared.plan.Wish.TheVariants.{Kept, Planned}
 use Rattle.hw_repair.specs.Wishes.{PlanParts, PlanFits, WishFits}
-use Rattle.hw_repair.specs.Text.{wish_words, wish_form, has_tugs, withdrawn_words, withdrawn_form, is_large, wish_at, wishes_at, opening_at, withdrawn_at, plan_of}
+use Rattle.hw_repair.specs.Text.{wish_words, wish_form, rule_has_tugs, withdrawn_words, withdrawn_form, is_large, wish_at, wishes_at, opening_at, withdrawn_at, plan_of}
 use Rattle.hw_repair.specs.Written.{wish_text, wishes_text, opening_text, written_plan}
 use Rattle.hw_repair.specs.Laws.{WrittenReads}
 use Rattle.hw_repair.proofs.Values.{value_repairable}
@@ -85,7 +86,7 @@ wish_back slots (Planned slot from) few fits =
     let read : wish_words slots (codes "o" ∷ decimal slot ∷ decimal from ∷ []) ≡ Some (Planned slot from) = rw (reads_back (slots - 1) slot (omega (arith, few)) (omega (arith, low)), reads_back (slots - 1) from (omega (arith, few)) (omega (arith, low'))) refl in
     ap (wish_words slots) words ∙ read
 
-withdrawn_back : (f : Problem) (withdrawn : ℕ) → 1 ≤ withdrawn → withdrawn ≤ 1_000 → list_all (has_tugs withdrawn) f.rules ≡ true → withdrawn_form f.rules (withdrawn_line withdrawn) ≡ Some withdrawn
+withdrawn_back : (f : Problem) (withdrawn : ℕ) → 1 ≤ withdrawn → withdrawn ≤ 1_000 → list_all (rule_has_tugs withdrawn) f.rules ≡ true → withdrawn_form f.rules (withdrawn_line withdrawn) ≡ Some withdrawn
 unfolding withdrawn_line
 withdrawn_back f withdrawn some few has =
     let words : words_of (withdrawn_line withdrawn) ≡ codes "w" ∷ decimal withdrawn ∷ [] = cut_joined 32 (codes "w" ∷ decimal withdrawn ∷ []) (omega arith) (one_word_lacks 32 (codes "w") withdrawn refl refl (omega (arith, few))) in
@@ -126,14 +127,7 @@ wishes_back f first ship (suc many) (wish ∷ wishes) rest full few size fit non
       wishes_back f first (ship + 1) many wishes rest full few (omega (arith, size)) (All-tail (WishFits f.slots) wish wishes fit) none,
     ) refl
 
-few_slots : (f : Problem) → IsFlat f → f.slots ≤ 513
-few_slots f flat = by f.stay f.slots flat.few_slots
-  where
-    by : (b : Bool) (slots : ℕ) → cond b (slots - 1) slots ≤ 512 → slots ≤ 513
-    by true slots le = omega (arith, le)
-    by false slots le = omega (arith, le)
-
-lines_back : (f : Problem) (withdrawn : ℕ) (wishes : List Wish) → f.slots ≤ 513 → length wishes ≡ f.ships → All (WishFits f.slots) wishes → ((ship : ℕ) → is_large f ship ≡ false) → withdrawn ≤ 1_000 → list_all (has_tugs withdrawn) f.rules ≡ true
+lines_back : (f : Problem) (withdrawn : ℕ) (wishes : List Wish) → f.slots ≤ 513 → length wishes ≡ f.ships → All (WishFits f.slots) wishes → ((ship : ℕ) → is_large f ship ≡ false) → withdrawn ≤ 1_000 → list_all (rule_has_tugs withdrawn) f.rules ≡ true
     → plan_of f (head_lines withdrawn ++ (map wish_line wishes ++ codes "end" ∷ [] ∷ [])) ≡ Ok (record { withdrawn = withdrawn; wishes = wishes })
 unfolding plan_of opening_at withdrawn_at head_lines
 lines_back f zero wishes few size fit none tugs has =

@@ -1,15 +1,16 @@
 -- The laws of a plan's repair.
 use Rattle.std.specs.Prelude.{◌≡◌, ◌↔◌, ℕ, ◌+◌, ◌-◌, ◌*◌, ◌<◌, ◌≤◌, List, length, true, Some, Ok, slice_get}
 use Rattle.std.specs.List.{list_all}
+use Rattle.hw_model.specs.declared.limits.TheConstants.{MOST_FLEET}
 use Rattle.hw_model.specs.Problem.{Problem, value_at}
 use Rattle.hw_model.specs.Limits.{IsFlat}
 use Rattle.hw_model.specs.Timetables.{Permits, cargo, IsBest, NonePermitted}
 use Rattle.hw_flat.specs.TextWritten.{IsWritable}
 use Rattle.hw_repair.specs.declared.plan.Wish.{Wish}
 use Rattle.hw_repair.specs.Wishes.{PlanParts, PlanFits, PermitsPlan, moved}
-use Rattle.hw_repair.specs.Text.{has_tugs, plan_text}
+use Rattle.hw_repair.specs.Text.{rule_has_tugs, plan_text}
 use Rattle.hw_repair.specs.Written.{written_plan}
-use Rattle.hw_repair.specs.Repaired.{repaired_value, repaired, own_cargo, own_moved, MeetsPlan, IsBestRepair, NoRepair}
+use Rattle.hw_repair.specs.Repaired.{repaired_value, repaired, own_cargo, own_moved, MeetsPlanWith, IsBestRepair, NoRepair}
 
 -- the value of a ship in a slot, by the ship's wish and the problem's value there
 abbrev pub RepairedValue : Type 0
@@ -34,7 +35,7 @@ RepairedCargo = (f : Problem) (plan : PlanParts) (table : List ℕ) (c : ℕ) �
 -- a timetable that the repair's problem permits meets the plan, with the cargo and the moved ships for which its cargo there stands
 abbrev pub RepairedMeets : Type 0
 RepairedMeets = (f : Problem) (plan : PlanParts) (table : List ℕ) (d : ℕ) → PlanFits f plan → Permits (repaired f plan) table → cargo (repaired f plan) table ≡ Some d
-    → MeetsPlan f plan table (own_cargo f.ships d) (own_moved f.ships d)
+    → MeetsPlanWith f plan table (own_cargo f.ships d) (own_moved f.ships d)
 
 -- a best timetable of the repair's problem is a best repair, with the cargo and the moved ships for which its cargo there stands; and the other way round
 pub record BestBoth (f : Problem) (plan : PlanParts) (table : List ℕ) : Type 0 where
@@ -46,7 +47,7 @@ BestRepair = (f : Problem) (plan : PlanParts) (table : List ℕ) → PlanFits f 
 
 -- a plan that fits, with no more tugs withdrawn than each rule on tugs has, and no more than 1000, is what its written text says
 abbrev pub WrittenReads : Type 0
-WrittenReads = (f : Problem) (plan : PlanParts) → IsFlat f → PlanFits f plan → plan.withdrawn ≤ 1_000 → list_all (has_tugs plan.withdrawn) f.rules ≡ true → plan_text f (written_plan plan) ≡ Ok plan
+WrittenReads = (f : Problem) (plan : PlanParts) → IsFlat f → PlanFits f plan → plan.withdrawn ≤ MOST_FLEET → list_all (rule_has_tugs plan.withdrawn) f.rules ≡ true → plan_text f (written_plan plan) ≡ Ok plan
 
 -- none is permitted by the repair's problem exactly where none meets the plan
 abbrev pub NoneRepair : Type 0

@@ -1,7 +1,7 @@
 -- The problem of a plan's repair, and its best repairs.
 use Rattle.std.specs.Prelude.{◌≡◌, ◌==◌, ℕ, ◌+◌, ◌-◌, ◌*◌, ◌/◌, ◌%◌, ◌≤◌, if◌then◌else◌, List, map, Option, Some, None, option_map, option_and_then, slice_get}
 use Rattle.hw_derived.specs.Fleets.{lessened_rule}
-use Rattle.hw_derived.specs.Grids.{grid}
+use Rattle.hw_derived.specs.Grids.{grid_of_values}
 use Rattle.hw_model.specs.Problem.{Problem, value_at}
 use Rattle.hw_model.specs.Timetables.{cargo}
 use Rattle.hw_repair.specs.declared.plan.Wish.{Wish}
@@ -21,7 +21,7 @@ value_by f plan ship slot = option_and_then (λ wish. repaired_value f.ships wis
 
 -- the sizes and the staying of the problem, its rules with the tugs that are left, and the values by the plan
 abbrev pub repaired : Problem → PlanParts → Problem
-repaired f plan = record { ships = f.ships; slots = f.slots; stay = f.stay; values = grid (value_by f plan) f.ships f.slots; rules = map (lessened_rule plan.withdrawn) f.rules }
+repaired f plan = record { ships = f.ships; slots = f.slots; stay = f.stay; values = grid_of_values (value_by f plan) f.ships f.slots; rules = map (lessened_rule plan.withdrawn) f.rules }
 
 -- the cargo, by the problem's own values, for which a cargo of the repair's problem stands
 abbrev pub own_cargo : ℕ → ℕ → ℕ
@@ -32,7 +32,7 @@ abbrev pub own_moved : ℕ → ℕ → ℕ
 own_moved ships d = ships - d % (ships + 1)
 
 -- meets the plan, with this cargo and this number of moved ships
-pub record MeetsPlan (f : Problem) (plan : PlanParts) (table : List ℕ) (c n : ℕ) : Type 0 where
+pub record MeetsPlanWith (f : Problem) (plan : PlanParts) (table : List ℕ) (c n : ℕ) : Type 0 where
   pub meets : PermitsPlan f plan table
   pub worth : cargo f table ≡ Some c
   pub moves : moved plan table ≡ n

@@ -48,9 +48,9 @@ pub record PermitsPlan (f : Problem) (plan : PlanParts) (table : List ℕ) : Typ
   pub granted : (ship : ℕ) → IfSome (slice_get plan.wishes ship) (λ wish. Grants wish (slice_index table ship))
 
 -- the ship has another slot than its wish's
-abbrev pub moves : Wish × ℕ → Bool
-moves given = not (given.1 == wished given.0)
+abbrev pub moves_from_wish : Wish × ℕ → Bool
+moves_from_wish given = not (given.1 == wished given.0)
 
 -- how many ships have another slot than their wish's
 abbrev pub moved : PlanParts → List ℕ → ℕ
-moved plan table = count_by moves (zip plan.wishes table)
+moved plan table = count_by moves_from_wish (zip plan.wishes table)

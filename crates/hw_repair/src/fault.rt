@@ -1,7 +1,7 @@
 //! Why a text isn't a plan.
 
 ghost use Rattle.std.specs.Prelude.{◌≡◌, codes};
-ghost use Rattle.hw_repair.specs.Words.{word_text};
+ghost use Rattle.hw_repair.specs.Words.{plan_word_text};
 
 use hw_derived::LineFault;
 
@@ -24,7 +24,7 @@ pub enum PlanWord {
 impl PlanWord {
     /// The word as it is printed. It takes no memory.
     pub fn text(self) -> &'static [u8]
-        ensures { result.now ≡ word_text self }
+        ensures { result.now ≡ plan_word_text self }
     {
         match self {
             PlanWord::Header => b"header",

@@ -2,12 +2,12 @@
 
 ghost use Rattle.std.specs.Prelude.{◌≡◌, ◌<◌};
 ghost use Rattle.std.specs.List.{list_all};
-ghost use Rattle.hw_repair.specs.Text.{kept_words, planned_words, wish_form, has_tugs, withdrawn_form, is_large};
+ghost use Rattle.hw_repair.specs.Text.{kept_words, planned_words, wish_form, rule_has_tugs, withdrawn_form, is_large};
 
 use crate::plan::Wish;
 use hw_derived::slot_of;
 use hw_flat::Flat;
-use hw_model::{MOST_VALUE, Rule, ShipId};
+use hw_model::{MOST_FLEET, MOST_VALUE, Rule, ShipId};
 use hw_text::{Words, is_text, read_small};
 
 /// `SLOT`, of a ship that has sailed.
@@ -49,7 +49,7 @@ pub fn wish_of(line: &[u8], slots: u32) -> Option<Wish>
 
 /// Whether each rule on tugs has this many.
 fn have_tugs(rules: &[Rule], withdrawn: u32) -> bool
-    ensures { result ≡ list_all (has_tugs withdrawn) rules.now }
+    ensures { result ≡ list_all (rule_has_tugs withdrawn) rules.now }
 {
     rules.iter().all(|rule| match rule {
         Rule::Tugs { fleet, .. } => withdrawn <= *fleet,
@@ -68,7 +68,7 @@ pub fn withdrawn_of(line: &[u8], rules: &[Rule]) -> Option<u32>
     if !is_text(key, b"w") {
         return None;
     }
-    let withdrawn = read_small(count, 1, 1000)?;
+    let withdrawn = read_small(count, 1, MOST_FLEET)?;
     if have_tugs(rules, withdrawn) {
         Some(withdrawn)
     } else {

@@ -2,7 +2,7 @@
 
 ghost use Rattle.std.specs.Prelude.{◌≡◌, ◌≤◌, ◌<◌, ◌+◌, IfOk};
 ghost use Rattle.hw_text.specs.Parts.{parts_of};
-ghost use Rattle.hw_derived.specs.Reading.{Gives};
+ghost use Rattle.hw_derived.specs.Reading.{TextReadGives};
 ghost use Rattle.hw_repair.specs.Text.{withdrawn_at, opening_at, wish_at, wishes_at, plan_of, plan_text};
 ghost use Rattle.hw_repair.specs.Wishes.{PlanFits};
 
@@ -26,7 +26,7 @@ struct Opening<'b> {
 /// The tugs withdrawn, in the second line.
 #[tactic(auto, unfolding(crate::specs::Text::withdrawn_at))]
 fn withdrawn_line<'b>(bytes: &'b [u8], rules: &[Rule]) -> Result<Opening<'b>, PlanFault>
-    ensures { Gives (λ x. (x.withdrawn, x.first, parts_of 10 x.rest.now)) result (withdrawn_at rules.now (parts_of 10 bytes.now)) }
+    ensures { TextReadGives (λ x. (x.withdrawn, x.first, parts_of 10 x.rest.now)) result (withdrawn_at rules.now (parts_of 10 bytes.now)) }
 {
     let (line, rest) = line_of(bytes, 2, PlanWord::Fleet)?;
     let Some(withdrawn) = withdrawn_of(line, rules) else {
@@ -45,7 +45,7 @@ fn withdrawn_line<'b>(bytes: &'b [u8], rules: &[Rule]) -> Result<Opening<'b>, Pl
 /// The lines of either version before those of the ships.
 #[tactic(auto, unfolding(crate::specs::Text::opening_at))]
 fn opening_of<'b>(bytes: &'b [u8], rules: &[Rule]) -> Result<Opening<'b>, PlanFault>
-    ensures { Gives (λ x. (x.withdrawn, x.first, parts_of 10 x.rest.now)) result (opening_at rules.now (parts_of 10 bytes.now)) }
+    ensures { TextReadGives (λ x. (x.withdrawn, x.first, parts_of 10 x.rest.now)) result (opening_at rules.now (parts_of 10 bytes.now)) }
 {
     let (line, rest) = line_of(bytes, 1, PlanWord::Header)?;
     if is_text(line, b"plan 1") {
@@ -73,7 +73,7 @@ fn wish_line<'b>(
     ship: ShipId,
 ) -> Result<(Wish, &'b [u8]), PlanFault>
     requires ship_in { ship < flat.now.ships }
-    ensures { Gives (λ x. (x.0, parts_of 10 x.1.now)) result (wish_at flat.now first ship (parts_of 10 bytes.now)) }
+    ensures { TextReadGives (λ x. (x.0, parts_of 10 x.1.now)) result (wish_at flat.now first ship (parts_of 10 bytes.now)) }
 {
     let number = u64::from(first) + u64::from(ship);
     let (line, rest) = line_of(bytes, number, PlanWord::Ship)?;
@@ -99,7 +99,7 @@ fn wishes_of<'b>(
     flat: &Flat,
     first: u32,
 ) -> Result<(Vec<Wish>, &'b [u8]), PlanFault>
-    ensures { Gives (λ x. (x.0.items, parts_of 10 x.1.now)) result (wishes_at flat.now first 0 flat.now.ships (parts_of 10 bytes.now)) }
+    ensures { TextReadGives (λ x. (x.0.items, parts_of 10 x.1.now)) result (wishes_at flat.now first 0 flat.now.ships (parts_of 10 bytes.now)) }
 {
     let mut wishes = Vec::new(alloc);
     let mut rest = bytes;
@@ -119,7 +119,7 @@ fn wishes_of<'b>(
 /// A plan that was read fits the problem, so that `repaired` takes it.
 #[tactic(auto, unfolding(crate::specs::Text::plan_of))]
 pub fn read_plan(alloc: Global, bytes: &[u8], flat: &Flat) -> Result<Plan, PlanFault>
-    ensures reads { Gives (λ plan. plan) result (plan_text flat.now bytes.now) }
+    ensures reads { TextReadGives (λ plan. plan) result (plan_text flat.now bytes.now) }
     ensures fits { IfOk result (PlanFits flat.now) }
 {
     let Opening {

@@ -2,7 +2,7 @@
 
 ghost use Rattle.std.specs.Prelude.{◌≡◌, ◌==◌, ◌<◌, ◌≤◌, ◌++◌, IfOk, OnOk, map, unwrap_or};
 ghost use Rattle.hw_derived.specs.Fleets.{lessened_rule};
-ghost use Rattle.hw_derived.specs.Grids.{row_of, grid};
+ghost use Rattle.hw_derived.specs.Grids.{row_of, grid_of_values};
 ghost use Rattle.hw_flat.specs.TextWritten.{IsWritable};
 ghost use Rattle.hw_repair.specs.Wishes.{grants, wished, PlanFits, IsRepairable};
 ghost use Rattle.hw_repair.specs.Repaired.{repaired_value, value_by, repaired};
@@ -71,7 +71,7 @@ fn put_row(
 /// The values of all ships.
 fn repaired_rows(alloc: Global, flat: &Flat, plan: &Plan) -> Result<Vec<Option<u64>>, NoMemory>
     requires fits { PlanFits flat.now plan.now }
-    ensures { IfOk result (λ values. values.items ≡ grid (value_by flat.now plan.now) flat.now.ships flat.now.slots) }
+    ensures { IfOk result (λ values. values.items ≡ grid_of_values (value_by flat.now plan.now) flat.now.ships flat.now.slots) }
 {
     let shape = flat.shape();
     let mut values = Vec::new(alloc);
@@ -85,7 +85,7 @@ fn repaired_rows(alloc: Global, flat: &Flat, plan: &Plan) -> Result<Vec<Option<u
 fn assembled(flat: &Flat, plan: &Plan, values: Vec<Option<u64>>, rules: Vec<Rule>) -> Flat
     requires fits { PlanFits flat.now plan.now }
     requires writable { IsWritable flat.now }
-    requires values { values.items ≡ grid (value_by flat.now plan.now) flat.now.ships flat.now.slots }
+    requires values { values.items ≡ grid_of_values (value_by flat.now plan.now) flat.now.ships flat.now.slots }
     requires rules { rules.items ≡ map (lessened_rule plan.now.withdrawn) flat.now.rules }
     ensures { result ≡ repaired flat.now plan.now }
 {

@@ -1,3 +1,2 @@
-mod Ranks
 mod Titles
 mod Told

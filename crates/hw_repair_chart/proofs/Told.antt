@@ -3,11 +3,12 @@ use Rattle.std.proofs.Common.{◌≡◌, ◌==◌, ◌<◌, ◌∙◌, ℕ, Bool
 use Rattle.std.proofs.lemmas.Bool.{eq-eqb, eqb-true, ne_eqb, leb-false, lt-leb}
 use Rattle.std.proofs.lemmas.Option.{same_Some}
 use Rattle.std.proofs.Math.Nat.{lt_of_not-le}
+use Rattle.hw_lemmas.proofs.Truths.{absurd_false}
 use Rattle.hw_model.specs.Problem.{Problem, horizon, stays}
 use Rattle.hw_repair.specs.Wishes.{wished}
 use Rattle.hw_repair.specs.declared.plan.Wish.{Wish}
 use Rattle.hw_repair.specs.declared.plan.Wish.TheVariants.{Kept, Planned}
-use Rattle.hw_explain_repair.specs.Fates.{fate, has_sailed}
+use Rattle.hw_explain_repair.specs.Fates.{fate, wish_has_sailed}
 use Rattle.hw_explain_repair.specs.declared.fate.Fate.{Fate}
 use Rattle.hw_explain_repair.specs.declared.fate.Fate.TheVariants as fates
 use Rattle.hw_repair_chart.specs.Laws.{GhostsAreMoved, HatchedIsNotGranted, HasSailed, MarkedHaveSailed}
@@ -17,9 +18,6 @@ use Rattle.hw_repair_chart.specs.Marks.{ghost_by, ghost_slot, if_sailing, sailed
 
 abbrev by_tests : Bool → Bool → Fate
 by_tests same sailed = cond (not same) fates.Moved (cond sailed fates.Sailed fates.Kept)
-
-apart_from : (same : Bool) → same ≡ false → same ≡ true → ⊥
-apart_from same e is = absurd cc
 
 -- ---- old slots
 
@@ -46,8 +44,8 @@ ghost_tells false sailed true planned old e = absurd cc
 ghost_tells false sailed false planned old e = record { other = refl; early = refl; is = same_Some planned old e }
 
 ghost_told : (same sailed late : Bool) (planned old : ℕ) → Tested same late planned old → old_by (by_tests same sailed) (cond late None (Some planned)) ≡ Some old
-ghost_told true sailed late planned old t = absurd (apart_from true t.other refl)
-ghost_told false sailed true planned old t = absurd (apart_from true t.early refl)
+ghost_told true sailed late planned old t = absurd (absurd_false true t.other refl)
+ghost_told false sailed true planned old t = absurd (absurd_false true t.early refl)
 ghost_told false sailed false planned old t = ap Some t.is
 
 pub ghosts_are_moved_law : GhostsAreMoved
@@ -57,12 +55,12 @@ ghosts_are_moved_law f wish slot old =
     let late = stays f planned in
     let is = ghost_is f wish (fate f wish slot) in (
       λ e.
-          let t = ghost_tells same (has_sailed f wish) late planned old (sym is ∙ e) in
+          let t = ghost_tells same (wish_has_sailed f wish) late planned old (sym is ∙ e) in
           let sails = leb-false (horizon f) planned t.early in
-          record { moved = λ own. apart_from same t.other (eq-eqb slot planned own); planned = sym t.is; sails = omega (arith, sails, t.is) },
+          record { moved = λ own. absurd_false same t.other (eq-eqb slot planned own); planned = sym t.is; sails = omega (arith, sails, t.is) },
       λ h.
           let before : planned < horizon f = omega (arith, h.sails, h.planned) in
-          is ∙ ghost_told same (has_sailed f wish) late planned old (record { other = ne_eqb slot planned h.moved; early = lt-leb (horizon f) planned before; is = sym h.planned }),
+          is ∙ ghost_told same (wish_has_sailed f wish) late planned old (record { other = ne_eqb slot planned h.moved; early = lt-leb (horizon f) planned before; is = sym h.planned }),
     )
 
 -- ---- ships that have sailed
@@ -88,8 +86,8 @@ sailed_tells true true slot marked e = absurd cc
 sailed_tells true false slot marked e = record { own = refl; early = refl; is = same_Some slot marked e }
 
 sailed_told : (same late : Bool) (slot marked : ℕ) → Kept_early same late slot marked → own_by (by_tests same (not late)) slot ≡ Some marked
-sailed_told false late slot marked t = absurd (apart_from false refl t.own)
-sailed_told true true slot marked t = absurd (apart_from true t.early refl)
+sailed_told false late slot marked t = absurd (absurd_false false refl t.own)
+sailed_told true true slot marked t = absurd (absurd_false true t.early refl)
 sailed_told true false slot marked t = ap Some t.is
 
 never : (same : Bool) (slot marked : ℕ) → own_by (by_tests same false) slot ≡ Some marked → ⊥

@@ -12,7 +12,7 @@ use Rattle.hw_repair.specs.declared.plan.Wish.TheVariants as wishes
 use Rattle.hw_explain_repair.specs.Fates.{fate}
 use Rattle.hw_explain_repair.specs.declared.fate.Fate.{Fate}
 use Rattle.hw_explain_repair.specs.declared.fate.Fate.TheVariants.{Moved, Kept, Sailed}
-use Rattle.hw_repair_chart.specs.Times.{slot_title, stay_title, time_text}
+use Rattle.hw_repair_chart.specs.Times.{slot_title, planned_stay_title, slot_time_text}
 use Rattle.hw_repair_chart.specs.declared.mark.Spot.{Spot}
 
 -- ---- what is marked
@@ -46,8 +46,8 @@ sailed_slot f wish slot = sailed_by slot (fate f wish slot)
 
 -- ---- in a window over the slots, a unit down for each unit of the picture
 
-abbrev pub hatched : ℕ → List ℕ
-hatched end = if nat_lt 0 end then block (codes "ht") (record { left = 0; right = end; top = 0; bottom = 21 }) else []
+abbrev pub hatched_until : ℕ → List ℕ
+hatched_until end = if nat_lt 0 end then block (codes "ht") (record { left = 0; right = end; top = 0; bottom = 21 }) else []
 
 -- the line from the old slot to the new one, where the ship sails
 abbrev pub link : Problem → ℕ → ℕ → List ℕ
@@ -61,23 +61,23 @@ ghost_marks f None new = []
 ghost_marks f (Some old) new = ghost_block old ++ link f old new
 
 unfoldable pub mark_window : Problem → Spot → Wish → ℕ → List ℕ
-mark_window f s wish slot = joined (window_begin (plot (s.y + 3) 23 s.span 23) ∷ hatched (hatch_end wish) ∷ ghost_marks f (ghost_slot f wish slot) slot ∷ svg_end ∷ [])
+mark_window f s wish slot = joined (window_begin (plot (s.y + 3) 23 s.span 23) ∷ hatched_until (hatch_end wish) ∷ ghost_marks f (ghost_slot f wish slot) slot ∷ svg_end ∷ [])
 
 -- ---- beside the ship's name, and a pin over the slot
 
 abbrev pub sign_area : ℕ → Area
 sign_area y = record { left = 4; right = 12; top = y + 21; bottom = y + 33 }
 
-abbrev pub sign : List ℕ → Spot → List ℕ → List ℕ
-sign class s title = titled class (sign_area s.y) title
+abbrev pub titled_sign : List ℕ → Spot → List ℕ → List ℕ
+titled_sign class s title = titled class (sign_area s.y) title
 
 -- a ship that was planned for a slot, or to stay
 abbrev pub moved_sign : Spot → Option ℕ → List ℕ
-moved_sign s None = sign (codes "gh") s (stay_title s.ship)
-moved_sign s (Some old) = sign (codes "gh") s (slot_title (time_text s.scale s.midnight old) s.ship (codes " was planned for slot ") old) ++ pin (codes "gh") old s.span s.y
+moved_sign s None = titled_sign (codes "gh") s (planned_stay_title s.ship)
+moved_sign s (Some old) = titled_sign (codes "gh") s (slot_title (slot_time_text s.scale s.midnight old) s.ship (codes " was planned for slot ") old) ++ pin (codes "gh") old s.span s.y
 
 abbrev pub sailed_sign : Spot → ℕ → List ℕ
-sailed_sign s slot = sign (codes "sd") s (slot_title (time_text s.scale s.midnight slot) s.ship (codes " has sailed in slot ") slot) ++ pin (codes "sd") slot s.span s.y
+sailed_sign s slot = titled_sign (codes "sd") s (slot_title (slot_time_text s.scale s.midnight slot) s.ship (codes " has sailed in slot ") slot) ++ pin (codes "sd") slot s.span s.y
 
 abbrev pub sign_by : Problem → Spot → Wish → ℕ → Fate → List ℕ
 sign_by f s wish slot Moved = moved_sign s (if_sailing f (wished wish))
@@ -89,5 +89,5 @@ mark_sign f s wish slot = sign_by f s wish slot (fate f wish slot)
 
 -- ---- both
 
-abbrev pub mark : Problem → Spot → Wish → ℕ → List ℕ
-mark f s wish slot = mark_window f s wish slot ++ mark_sign f s wish slot
+abbrev pub mark_of_wish : Problem → Spot → Wish → ℕ → List ℕ
+mark_of_wish f s wish slot = mark_window f s wish slot ++ mark_sign f s wish slot

@@ -7,18 +7,18 @@ use Rattle.hw_chart.specs.Layout.{rank_of}
 use Rattle.hw_repair.specs.Wishes.{wished}
 use Rattle.hw_repair.specs.declared.plan.Wish.{Wish}
 use Rattle.hw_repair_chart.specs.Legends.{marks_legend}
-use Rattle.hw_repair_chart.specs.Marks.{mark}
+use Rattle.hw_repair_chart.specs.Marks.{mark_of_wish}
 use Rattle.hw_repair_chart.specs.declared.mark.Spot.{Spot}
 use Rattle.hw_repair_chart.specs.declared.marks.Sheet.{Sheet}
 
 -- rows stand in the order of the timetable, or of the ships where there is none
-abbrev pub rank_in : Option (List ℕ) → ℕ → ℕ
-rank_in None ship = ship
-rank_in (Some table) ship = rank_of table ship
+abbrev pub sheet_rank_in : Option (List ℕ) → ℕ → ℕ
+sheet_rank_in None ship = ship
+sheet_rank_in (Some table) ship = rank_of table ship
 
 -- where a ship's marks stand, by a timetable or none
 abbrev pub spot_of : Sheet → Option (List ℕ) → ℕ → Spot
-spot_of sheet table ship = record { ship = ship; y = sheet.rows + 42 * rank_in table ship; span = sheet.span; scale = sheet.scale; midnight = sheet.midnight }
+spot_of sheet table ship = record { ship = ship; y = sheet.rows + 42 * sheet_rank_in table ship; span = sheet.span; scale = sheet.scale; midnight = sheet.midnight }
 
 abbrev pub slot_in : Option (List ℕ) → ℕ → Option ℕ
 slot_in table ship = option_and_then (λ slots. slice_get slots ship) table
@@ -27,14 +27,14 @@ slot_in table ship = option_and_then (λ slots. slice_get slots ship) table
 abbrev pub slot_by : Option (List ℕ) → ℕ → Wish → ℕ
 slot_by table ship wish = unwrap_or (slot_in table ship) (wished wish)
 
-unfoldable pub mark_of : Problem → Sheet → Option (List ℕ) → ℕ → Wish → List ℕ
-mark_of f sheet table ship wish = mark f (spot_of sheet table ship) wish (slot_by table ship wish)
+unfoldable pub mark_for_wish : Problem → Sheet → Option (List ℕ) → ℕ → Wish → List ℕ
+mark_for_wish f sheet table ship wish = mark_of_wish f (spot_of sheet table ship) wish (slot_by table ship wish)
 
 -- the marks of the ships from this number on
-abbrev pub marks_from : Problem → Sheet → Option (List ℕ) → ℕ → List Wish → List ℕ
-marks_from f sheet table ship [] = []
-marks_from f sheet table ship (wish ∷ more) = mark_of f sheet table ship wish ++ marks_from f sheet table (ship + 1) more
+abbrev pub wish_marks_from : Problem → Sheet → Option (List ℕ) → ℕ → List Wish → List ℕ
+wish_marks_from f sheet table ship [] = []
+wish_marks_from f sheet table ship (wish ∷ more) = mark_for_wish f sheet table ship wish ++ wish_marks_from f sheet table (ship + 1) more
 
 -- what the marks say, the marks, and the end of the picture
 unfoldable pub marked_end : Problem → Sheet → Option (List ℕ) → List Wish → List ℕ
-marked_end f sheet table wishes = joined (marks_legend ∷ marks_from f sheet table 0 wishes ∷ svg_end ∷ [])
+marked_end f sheet table wishes = joined (marks_legend ∷ wish_marks_from f sheet table 0 wishes ∷ svg_end ∷ [])

@@ -2,10 +2,10 @@
 
 ghost use Rattle.std.specs.Prelude.{◌≡◌, ◌≤◌, ◌++◌, option_map};
 ghost use Rattle.hw_desk.specs.Writers.{Puts};
-ghost use Rattle.hw_svg.specs.Pieces.{pieces_text};
+ghost use Rattle.hw_svg.specs.Pieces.{picture_pieces_text};
 ghost use Rattle.hw_chart.specs.Headings.{ground};
 ghost use Rattle.hw_repair.specs.Repaired.{own_cargo};
-ghost use Rattle.hw_repair_chart.specs.Heads.{head_lines, meaning_text, moved_text, own_outcome, own_verdict, repair_head, repair_title};
+ghost use Rattle.hw_repair_chart.specs.Heads.{head_lines, repair_meaning_text, moved_count_text, own_outcome, own_verdict, repair_picture_head, repair_title};
 
 use crate::sheet::put_marks_style;
 use hw_chart::{CargoUnit, Outcome, put_badge, put_style, title};
@@ -58,7 +58,7 @@ pub fn own_outcome(ships: u32, outcome: Outcome) -> Outcome
 
 /// How many ships are moved, in two pieces that are empty where there is no timetable.
 fn moved_pieces(count: Option<u32>) -> [Piece<'static>; 2]
-    ensures { pieces_text result ≡ moved_text count }
+    ensures { picture_pieces_text result ≡ moved_count_text count }
 {
     match count {
         None => [Piece::Word(b""), Piece::Word(b"")],
@@ -68,7 +68,7 @@ fn moved_pieces(count: Option<u32>) -> [Piece<'static>; 2]
 
 /// The title of a repair's picture, in eight pieces.
 fn repair_title(unit: CargoUnit, outcome: Outcome, count: Option<u32>) -> [Piece<'static>; 8]
-    ensures { pieces_text result ≡ repair_title unit outcome count }
+    ensures { picture_pieces_text result ≡ repair_title unit outcome count }
 {
     let [says, cargo, sign, words, bound, bound_sign] = title(unit, outcome);
     let [moved, number] = moved_pieces(count);
@@ -77,7 +77,7 @@ fn repair_title(unit: CargoUnit, outcome: Outcome, count: Option<u32>) -> [Piece
 
 /// What the title means.
 fn meaning(outcome: Outcome) -> &'static [u8]
-    ensures { result.now ≡ meaning_text outcome }
+    ensures { result.now ≡ repair_meaning_text outcome }
 {
     match (outcome.verdict, outcome.bound) {
         (Verdict::Optimal(_), _) => {
@@ -114,7 +114,7 @@ fn put_ground<W: Writer>(out: &mut W, height: u64)
 
 /// Puts the title, what it means, and the sizes of the problem.
 fn put_head_lines<W: Writer>(out: &mut W, title: &[Piece], outcome: Outcome, sizes: &[Piece])
-    ensures { Puts (head_lines (pieces_text title.now) outcome (pieces_text sizes.now)) (W.state out.old) (W.state out.new) }
+    ensures { Puts (head_lines (picture_pieces_text title.now) outcome (picture_pieces_text sizes.now)) (W.state out.old) (W.state out.new) }
 {
     put_line(out, b"h", 48, 36, title);
     put_line(out, b"m", 48, 56, &[Piece::Word(meaning(outcome))]);
@@ -123,7 +123,7 @@ fn put_head_lines<W: Writer>(out: &mut W, title: &[Piece], outcome: Outcome, siz
 
 /// Puts the head of a picture of this height: its beginning, title, ground and sheets, and the sizes of the problem. The
 /// outcome is that by the problem's own cargo.
-#[tactic(auto, unfolding(crate::specs::Heads::repair_head))]
+#[tactic(auto, unfolding(crate::specs::Heads::repair_picture_head))]
 pub fn put_repair_head<W: Writer>(
     out: &mut W,
     unit: CargoUnit,
@@ -132,7 +132,7 @@ pub fn put_repair_head<W: Writer>(
     height: u64,
     sizes: &[Piece],
 )
-    ensures { Puts (repair_head unit outcome count height (pieces_text sizes.now)) (W.state out.old) (W.state out.new) }
+    ensures { Puts (repair_picture_head unit outcome count height (picture_pieces_text sizes.now)) (W.state out.old) (W.state out.new) }
 {
     let title = repair_title(unit, outcome, count);
     put_picture_begin(out, 1280, height, &title);

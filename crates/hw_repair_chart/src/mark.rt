@@ -2,8 +2,8 @@
 
 ghost use Rattle.std.specs.Prelude.{◌≡◌, ◌≤◌, ◌<◌, ◌+◌};
 ghost use Rattle.hw_desk.specs.Writers.{Puts};
-ghost use Rattle.hw_svg.specs.Pieces.{pieces_text};
-ghost use Rattle.hw_repair_chart.specs.Marks.{ghost_block, ghost_marks, ghost_slot, hatch_end, hatched, if_sailing, link, mark, mark_sign, mark_window, moved_sign, sailed_sign, sign};
+ghost use Rattle.hw_svg.specs.Pieces.{picture_pieces_text};
+ghost use Rattle.hw_repair_chart.specs.Marks.{ghost_block, ghost_marks, ghost_slot, hatch_end, hatched_until, if_sailing, link, mark_of_wish, mark_sign, mark_window, moved_sign, sailed_sign, titled_sign};
 
 use crate::time::{slot_title, stay_title};
 use hw_chart::{Scale, plot, put_pin};
@@ -58,7 +58,7 @@ fn ghost_slot(flat: &Flat, wish: Wish, slot: Slot) -> Option<Slot>
 
 /// Puts the stripes over the slots before an end.
 fn put_hatched<W: Writer>(out: &mut W, end: Slot)
-    ensures { Puts (hatched end) (W.state out.old) (W.state out.new) }
+    ensures { Puts (hatched_until end) (W.state out.old) (W.state out.new) }
 {
     let area = Area {
         left: 0,
@@ -129,7 +129,7 @@ fn put_mark_window<W: Writer>(out: &mut W, flat: &Flat, spot: Spot, wish: Wish, 
 
 /// Puts a sign beside the ship's name.
 fn put_sign<W: Writer>(out: &mut W, class: &[u8], spot: Spot, title: &[Piece])
-    ensures { Puts (sign class.now spot (pieces_text title.now)) (W.state out.old) (W.state out.new) }
+    ensures { Puts (titled_sign class.now spot (picture_pieces_text title.now)) (W.state out.old) (W.state out.new) }
 {
     let y = u64::from(spot.y);
     let area = Area {
@@ -182,7 +182,7 @@ fn put_mark_sign<W: Writer>(out: &mut W, flat: &Flat, spot: Spot, wish: Wish, sl
 /// Puts the marks of a ship whose slot is now this one.
 pub fn put_mark<W: Writer>(out: &mut W, flat: &Flat, spot: Spot, wish: Wish, slot: Slot)
     requires { 0 < spot.span }
-    ensures { Puts (mark flat.now spot wish slot) (W.state out.old) (W.state out.new) }
+    ensures { Puts (mark_of_wish flat.now spot wish slot) (W.state out.old) (W.state out.new) }
 {
     put_mark_window(out, flat, spot, wish, slot);
     put_mark_sign(out, flat, spot, wish, slot);

@@ -3,7 +3,7 @@
 ghost use Rattle.std.specs.Prelude.{◌≡◌, ◌≤◌, ◌<◌, ◌+◌, IfSome, length, option_map};
 ghost use Rattle.hw_desk.specs.Writers.{Puts};
 ghost use Rattle.hw_model.specs.Problem.{IsTimetable};
-ghost use Rattle.hw_repair_chart.specs.Sheets.{mark_of, marked_end, marks_from, rank_in, slot_by, slot_in, spot_of};
+ghost use Rattle.hw_repair_chart.specs.Sheets.{mark_for_wish, marked_end, wish_marks_from, sheet_rank_in, slot_by, slot_in, spot_of};
 
 use crate::legend::put_marks_legend;
 use crate::mark::{Spot, put_mark};
@@ -30,7 +30,7 @@ pub struct Sheet {
 fn rank_of(table: Option<&Timetable>, ship: ShipId) -> u32
     requires listed { IfSome table (λ t. ship < length t.now) }
     requires ship_in { ship < MOST_SHIPS }
-    ensures value { result ≡ rank_in (option_map (λ t. t.now) table.entry) ship }
+    ensures value { result ≡ sheet_rank_in (option_map (λ t. t.now) table.entry) ship }
     ensures few { result ≤ MOST_SHIPS }
 {
     match table {
@@ -74,7 +74,7 @@ fn slot_by(table: Option<&Timetable>, ship: ShipId, wish: Wish) -> Slot
 }
 
 /// Puts the marks of a ship.
-#[tactic(auto, unfolding(crate::specs::Sheets::mark_of))]
+#[tactic(auto, unfolding(crate::specs::Sheets::mark_for_wish))]
 fn put_mark_of<W: Writer>(
     out: &mut W,
     flat: &Flat,
@@ -87,7 +87,7 @@ fn put_mark_of<W: Writer>(
     requires ship_in { ship < MOST_SHIPS }
     requires rows { sheet.rows ≤ 1_000 }
     requires some { 0 < sheet.span }
-    ensures { Puts (mark_of flat.now sheet (option_map (λ t. t.now) table.entry) ship wish) (W.state out.old) (W.state out.new) }
+    ensures { Puts (mark_for_wish flat.now sheet (option_map (λ t. t.now) table.entry) ship wish) (W.state out.old) (W.state out.new) }
 {
     let spot = spot_of(sheet, table, ship);
     let slot = slot_by(table, ship, wish);
@@ -107,7 +107,7 @@ fn put_marks<W: Writer>(
     requires ships { ship + length wishes.now ≤ MOST_SHIPS }
     requires rows { sheet.rows ≤ 1_000 }
     requires some { 0 < sheet.span }
-    ensures { Puts (marks_from flat.now sheet (option_map (λ t. t.now) table.entry) ship wishes.now) (W.state out.old) (W.state out.new) }
+    ensures { Puts (wish_marks_from flat.now sheet (option_map (λ t. t.now) table.entry) ship wishes.now) (W.state out.old) (W.state out.new) }
 {
     if let [wish, more @ ..] = wishes {
         put_mark_of(out, flat, sheet, table, ship, *wish);

@@ -1,8 +1,8 @@
 //! What is said of a ship and a slot.
 
 ghost use Rattle.std.specs.Prelude.{◌≡◌};
-ghost use Rattle.hw_svg.specs.Pieces.{pieces_text};
-ghost use Rattle.hw_repair_chart.specs.Times.{slot_title, stay_title, time_text};
+ghost use Rattle.hw_svg.specs.Pieces.{picture_pieces_text};
+ghost use Rattle.hw_repair_chart.specs.Times.{slot_title, planned_stay_title, slot_time_text};
 
 use crate::mark::Spot;
 use hw_chart::Scale;
@@ -11,7 +11,7 @@ use hw_svg::Piece;
 
 /// The time at which a slot begins, in two pieces that are empty where slots have no minutes.
 fn time_pieces(scale: Scale, midnight: u32, slot: Slot) -> [Piece<'static>; 2]
-    ensures { pieces_text result ≡ time_text scale midnight slot }
+    ensures { picture_pieces_text result ≡ slot_time_text scale midnight slot }
 {
     match scale {
         Scale::Minutes(minutes) => {
@@ -24,7 +24,7 @@ fn time_pieces(scale: Scale, midnight: u32, slot: Slot) -> [Piece<'static>; 2]
 
 /// A ship, some words, and a slot with its time.
 pub fn slot_title(spot: Spot, words: &'static [u8], slot: Slot) -> [Piece<'static>; 6]
-    ensures { pieces_text result ≡ slot_title (time_text spot.scale spot.midnight slot) spot.ship words.now slot }
+    ensures { picture_pieces_text result ≡ slot_title (slot_time_text spot.scale spot.midnight slot) spot.ship words.now slot }
 {
     let [comma, time] = time_pieces(spot.scale, spot.midnight, slot);
     let ship = Piece::Number(u64::from(spot.ship));
@@ -35,7 +35,7 @@ pub fn slot_title(spot: Spot, words: &'static [u8], slot: Slot) -> [Piece<'stati
 
 /// A ship that was planned to stay.
 pub fn stay_title(ship: ShipId) -> [Piece<'static>; 3]
-    ensures { pieces_text result ≡ stay_title ship }
+    ensures { picture_pieces_text result ≡ planned_stay_title ship }
 {
     let ship = Piece::Number(u64::from(ship));
     [

@@ -15,17 +15,17 @@ use Rattle.hw_repair.specs.Wishes.{PlanParts}
 use Rattle.hw_explain_repair.specs.Texts.{repair_text}
 use Rattle.hw_report.specs.Reports.{Report, Naming, checked, refused, too_long, whole_text}
 use Rattle.hw_command.specs.Certificates.{cert_outcome_to, report_of}
-use Rattle.hw_command.specs.Keeping.{whole_lines}
+use Rattle.hw_command.specs.Keeping.{complete_lines}
 use Rattle.hw_command.specs.declared.outcome.CertOutcome.{CertOutcome}
 use Rattle.hw_command.specs.declared.outcome.CertOutcome.TheVariants.{Shows, Wrong, TooLong}
-use Rattle.hw_subject.specs.Meanings.{judged, ships_of}
+use Rattle.hw_subject.specs.Meanings.{judged, repair_ships}
 use Rattle.hw_subject.specs.Subjects.{Subject, Origin}
 use Rattle.hw_subject.specs.Decided.{IsDecided, IsReported, ReportedBy, certified}
 use Rattle.hw_subject.specs.Shown.{Refused, Shown}
 use Rattle.hw_subject.specs.Texts.{cert_bound, cert_report}
 use Rattle.hw_subject.proofs.Decided.{one_of, subjects_decided_law, told_bytes}
 use Rattle.hw_subject.proofs.Reports.{certificates_decide_law, told_as}
-use Rattle.hw_repair_command.specs.Explains.{Explained, Explains, ShowsNone}
+use Rattle.hw_repair_command.specs.Explains.{Explained, ExplainsRepair, ShowsNone}
 use Rattle.hw_repair_command.specs.Laws.{ExplainedAsVerified, IsTextFor, OneExplanation}
 use Rattle.hw_repair_command.specs.Texts.{cert_table, cert_told, outcome_told, told_report}
 use Rattle.hw_repair_command.proofs.Explained.{subject_by, topic_of}
@@ -37,7 +37,7 @@ abbrev pub told_by : (origin : Origin) (plan : List ℕ) → List ℕ → (subje
 told_by origin plan bytes v = cert_told ((subject_by origin plan).naming v) ((subject_by origin plan).problem v) v.plan bytes
 
 -- valid lines that are all of the certificate's
-lines_told : (names : Naming) (f : Problem) (plan : PlanParts) (bytes : List ℕ) (lines : List Line) (w : Verdict) (bound : Option ℕ) (table : Option (List ℕ)) → bound ≡ bound_of lines → table ≡ last_table lines → cert_stream_to Three (shape_of (repaired f plan)) bytes ≡ whole_lines lines → Shows w ≡ cert_outcome_to Three (repaired f plan) bytes → told_report names f (Some plan) w bound table ≡ cert_told names f plan bytes
+lines_told : (names : Naming) (f : Problem) (plan : PlanParts) (bytes : List ℕ) (lines : List Line) (w : Verdict) (bound : Option ℕ) (table : Option (List ℕ)) → bound ≡ bound_of lines → table ≡ last_table lines → cert_stream_to Three (shape_of (repaired f plan)) bytes ≡ complete_lines lines → Shows w ≡ cert_outcome_to Three (repaired f plan) bytes → told_report names f (Some plan) w bound table ≡ cert_told names f plan bytes
 lines_told names f plan bytes lines w bound table b t read o =
     ap (λ (t : Option (List ℕ)). told_report names f (Some plan) w bound t) (t ∙ sym (ap (λ (all : CertLines). last_table all.lines) read))
     ∙ ap (λ (b : Option ℕ). told_report names f (Some plan) w b (cert_table (repaired f plan) bytes)) (b ∙ sym (ap (λ (all : CertLines). bound_of all.lines) read))
@@ -48,7 +48,7 @@ shown_told origin plan held cert bytes w bound table v told is =
     let s = subject_by origin plan in
     let g = judged s v in
     lines_told (s.naming v) (s.problem v) v.plan bytes is.lines w bound table is.last_bound is.last_table
-    (told_as (λ bs. cert_stream_to Three (shape_of g) bs ≡ whole_lines is.lines) bytes told is.reads)
+    (told_as (λ bs. cert_stream_to Three (shape_of g) bs ≡ complete_lines is.lines) bytes told is.reads)
     (told_as (λ bs. Shows w ≡ cert_outcome_to Three g bs) bytes told is.outcome)
 
 by_text : (origin : Origin) (plan : List ℕ) {held : List ℕ → Option (List ℕ)} {cert bytes told : List ℕ} → held cert ≡ Some bytes → Explained (subject_by origin plan) cert held told → ReportedBy (subject_by origin plan) held (told_by origin plan bytes) (whole_text told)
@@ -77,7 +77,7 @@ by_outcome origin plan {bytes = bytes} {o = o} told says is =
     let v = says.value in
     record { value = v; reads = says.reads; report = is ∙ ap (outcome_told (s.naming v) (s.problem v) v.plan bytes) (told_as (λ bs. o ≡ cert_outcome_to Three (judged s v) bs) bytes told says.outcome) }
 
-pub decided : (origin : Origin) (plan cert bytes : List ℕ) (held : List ℕ → Option (List ℕ)) (r : Report) → held cert ≡ Some bytes → Explains (subject_by origin plan) cert held r → IsReported (subject_by origin plan) held (told_by origin plan bytes) r
+pub decided : (origin : Origin) (plan cert bytes : List ℕ) (held : List ℕ → Option (List ℕ)) (r : Report) → held cert ≡ Some bytes → ExplainsRepair (subject_by origin plan) cert held r → IsReported (subject_by origin plan) held (told_by origin plan bytes) r
 decided origin plan cert bytes held (whole_text told) is says = inr (by_text origin plan is says)
 decided origin plan cert bytes held (checked w bound ships names) is says = inr (by_none origin plan is says)
 decided origin plan cert bytes held (refused number word hint) is says = inr (by_outcome origin plan is says refl)
@@ -94,11 +94,11 @@ one_explanation_law origin plan cert held r t all told h g =
 -- ---- as it is verified
 
 -- of one outcome
-table_alike : (names : Naming) (f : Problem) (plan : PlanParts) (w : Verdict) (bound : Option ℕ) (table : Option (List ℕ)) → IsTextFor (checked w bound (ships_of f (Some plan)) names) (told_report names f (Some plan) w bound table)
+table_alike : (names : Naming) (f : Problem) (plan : PlanParts) (w : Verdict) (bound : Option ℕ) (table : Option (List ℕ)) → IsTextFor (checked w bound (repair_ships f (Some plan)) names) (told_report names f (Some plan) w bound table)
 table_alike names f plan w bound None = inl refl
 table_alike names f plan w bound (Some table) = inr (repair_text f names plan table, refl)
 
-outcome_alike : (names : Naming) (f : Problem) (plan : PlanParts) (bytes : List ℕ) (o : CertOutcome) → IsTextFor (report_of names (cert_bound Three (repaired f plan) bytes) (ships_of f (Some plan)) o) (outcome_told names f plan bytes o)
+outcome_alike : (names : Naming) (f : Problem) (plan : PlanParts) (bytes : List ℕ) (o : CertOutcome) → IsTextFor (report_of names (cert_bound Three (repaired f plan) bytes) (repair_ships f (Some plan)) o) (outcome_told names f plan bytes o)
 outcome_alike names f plan bytes (Shows w) = table_alike names f plan w (cert_bound Three (repaired f plan) bytes) (cert_table (repaired f plan) bytes)
 outcome_alike names f plan bytes (Wrong number word hint) = refl
 outcome_alike names f plan bytes TooLong = refl

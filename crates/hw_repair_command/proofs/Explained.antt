@@ -7,6 +7,7 @@ use Rattle.hw_desk.specs.State.{DeskState}
 use Rattle.hw_desk.specs.declared.desk.Feed.TheVariants.{Certificate}
 use Rattle.hw_lines.specs.declared.check.Verdict.{Verdict}
 use Rattle.hw_cert.specs.declared.version.Version.TheVariants.{Three}
+use Rattle.hw_cert.proofs.Answered.{told_map}
 use Rattle.hw_repair.specs.Repaired.{repaired}
 use Rattle.hw_repair.specs.Wishes.{PlanParts, PlanFits}
 use Rattle.hw_report.specs.Reports.{Report, Naming, by_number, checked, refused, too_long, whole_text}
@@ -14,7 +15,7 @@ use Rattle.hw_command.specs.Carries.{Carries}
 use Rattle.hw_command.specs.Certificates.{report_of_check}
 use Rattle.hw_command.specs.Ends.{Ends}
 use Rattle.hw_command.specs.Readings.{KeepsTable, ReadsCert, outcome_in}
-use Rattle.hw_command.specs.Scope.{named}
+use Rattle.hw_command.specs.Scope.{named_feed}
 use Rattle.hw_command.specs.Works.{ReadCauseOf, speaks, of_answer}
 use Rattle.hw_command.specs.declared.cert.ReadCert.{ReadCert}
 use Rattle.hw_command.specs.declared.outcome.CertOutcome.TheVariants.{Shows}
@@ -23,7 +24,6 @@ use Rattle.hw_command.specs.declared.status.Status.{Status}
 use Rattle.hw_command.specs.declared.taking.LastTable.{LastTable}
 use Rattle.hw_command.proofs.Begun.{answers}
 use Rattle.hw_command.proofs.Stops.{stops_carries}
-use Rattle.hw_command.proofs.Told.{told_map}
 use Rattle.hw_subject.specs.Meanings.{judged}
 use Rattle.hw_subject.specs.Reading.{ReadsSubject, StopsAtSubject, naming_of, plan_in, searched_in}
 use Rattle.hw_subject.specs.Subjects.{Subject, Origin, origin_subject, repair_of, Topic}
@@ -33,7 +33,7 @@ use Rattle.hw_subject.proofs.Shown.{last_permitted}
 use Rattle.hw_subject.specs.Shown.{Shown}
 use Rattle.hw_subject.proofs.Certless.{certless, refuses_on}
 use Rattle.hw_subject.proofs.Certified.{ShowsNothing, all_entered, modelled, nothing_says, nothing_works, shown}
-use Rattle.hw_repair_command.specs.Explains.{Explains, explain_repair_task}
+use Rattle.hw_repair_command.specs.Explains.{ExplainsRepair, explain_repair_task}
 use Rattle.hw_repair_command.specs.Texts.{told_report}
 
 -- ---- the repair of a flat text or a port
@@ -46,7 +46,7 @@ abbrev pub subject_by : Origin → List ℕ → Subject
 subject_by origin plan = repair_of (origin_subject origin) plan
 
 -- why it is refused is what is said
-pub refused_says : (origin : Origin) (plan cert : List ℕ) (held : List ℕ → Option (List ℕ)) (r : Report) → (subject_by origin plan).Refuses held r → Explains (subject_by origin plan) cert held r
+pub refused_says : (origin : Origin) (plan cert : List ℕ) (held : List ℕ → Option (List ℕ)) (r : Report) → (subject_by origin plan).Refuses held r → ExplainsRepair (subject_by origin plan) cert held r
 refused_says origin plan cert held (whole_text told) h = absurd ((certless (topic_of origin plan)).silent held (whole_text told) h refl)
 refused_says origin plan cert held (checked w bound ships names) h = absurd ((certless (topic_of origin plan)).silent held (checked w bound ships names) h refl)
 refused_says origin plan cert held r h = refuses_on (subject_by origin plan) Three cert held r (certless (topic_of origin plan)) h
@@ -55,7 +55,7 @@ refused_says origin plan cert held r h = refuses_on (subject_by origin plan) Thr
 
 -- the inputs give no value
 pub explain_stops : {x y z : DeskState} {r : Report} {s : Status} (origin : Origin) (plan cert : List ℕ) → StopsAtSubject (subject_by origin plan) x y r → Ends (r ∷ []) y z s → Carries (explain_repair_task (subject_by origin plan) cert) x z s
-explain_stops {x = x} {r = r} origin plan cert h ends = stops_carries (explain_repair_task (subject_by origin plan) cert) (named Certificate cert ∷ []) h refl (λ feed given. given) (refused_says origin plan cert x.held r) ends
+explain_stops {x = x} {r = r} origin plan cert h ends = stops_carries (explain_repair_task (subject_by origin plan) cert) (named_feed Certificate cert ∷ []) h refl (λ feed given. given) (refused_says origin plan cert x.held r) ends
 
 -- the certificate shows nothing
 pub explain_refuses : {cert : List ℕ} {x y z end : DeskState} {given : Given} {s : Status} (origin : Origin) (plan : List ℕ) (result : Result (ReadCert LastTable) CertStop) → ShowsNothing result → ReadsSubject (subject_by origin plan) x y given → ReadsCert Three KeepsTable (searched_in given.flat given.repair) cert y z result → Ends (report_of_check by_number None None (outcome_in result) ∷ []) z end s → Carries (explain_repair_task (subject_by origin plan) cert) x end s
@@ -63,7 +63,7 @@ explain_refuses {cert = cert} {x = x} {z = z} origin plan result nothing h k end
   mid = z;
   reports = report_of_check by_number None None (outcome_in result) ∷ [];
   works = nothing_works (topic_of origin plan) result h k;
-  says = nothing_says (topic_of origin plan) (Explains (subject_by origin plan) cert x.held) result nothing h k (λ number word hint refused. refused) (λ refused. refused);
+  says = nothing_says (topic_of origin plan) (ExplainsRepair (subject_by origin plan) cert x.held) result nothing h k (λ number word hint refused. refused) (λ refused. refused);
   ends = ends;
 }
 
@@ -84,7 +84,7 @@ no_cause : (x z : DeskState) (names : Naming) (f : Problem) (plan : PlanParts) (
 no_cause x z names f plan w bound None kept = kept
 no_cause x z names f plan w bound (Some table) kept = kept
 
-tells : (held : List ℕ → Option (List ℕ)) (cert : List ℕ) (origin : Origin) (plan : List ℕ) (v : (subject_by origin plan).Value) (w : Verdict) (bound : Option ℕ) (table : Option (List ℕ)) → let s = subject_by origin plan in s.Reads held v → Shown s v Three (held cert) w bound table → Explains s cert held (told_report (s.naming v) (s.problem v) (s.plan v) w bound table)
+tells : (held : List ℕ → Option (List ℕ)) (cert : List ℕ) (origin : Origin) (plan : List ℕ) (v : (subject_by origin plan).Value) (w : Verdict) (bound : Option ℕ) (table : Option (List ℕ)) → let s = subject_by origin plan in s.Reads held v → Shown s v Three (held cert) w bound table → ExplainsRepair s cert held (told_report (s.naming v) (s.problem v) (s.plan v) w bound table)
 tells held cert origin plan v w bound None reads is = record { value = v; reads = reads; naming = refl; counted = refl; shown = is }
 tells held cert origin plan v w bound (Some table) reads is = record { value = v; reads = reads; plan = v.plan; planned = refl; shows = w; bound = bound; table = table; shown = is; is_text = refl }
 
@@ -95,7 +95,7 @@ explain_tells {cert = cert} {x = x} {z = z} {end = end} {given = given} {read = 
     record {
       mid = z;
       reports = report ∷ [];
-      works = answers None report (answered (s.naming h.value) (s.problem h.value) h.value.plan v read.bound read.kept.0) (all_entered (topic_of origin plan) h k) (before_last (s.Gives x.held) s.inputs (named Certificate cert) h.give) (no_cause x z (s.naming h.value) (s.problem h.value) h.value.plan v read.bound read.kept.0 (k.reads.0 ∙ h.read_faults));
+      works = answers None report (answered (s.naming h.value) (s.problem h.value) h.value.plan v read.bound read.kept.0) (all_entered (topic_of origin plan) h k) (before_last (s.Gives x.held) s.inputs (named_feed Certificate cert) h.give) (no_cause x z (s.naming h.value) (s.problem h.value) h.value.plan v read.bound read.kept.0 (k.reads.0 ∙ h.read_faults));
       says = λ own. tells x.held cert origin plan h.value v read.bound read.kept.0 h.reads (shown (topic_of origin plan) v is h k);
       ends = subst (λ (r : Report). Ends (r ∷ []) z end e) (same_report v read.bound read.kept.0 h) ends;
     }

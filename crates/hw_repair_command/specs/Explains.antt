@@ -8,8 +8,8 @@ use Rattle.hw_repair.specs.Wishes.{PlanParts}
 use Rattle.hw_explain_repair.specs.Texts.{repair_text}
 use Rattle.hw_report.specs.Reports.{Report, Naming, checked, whole_text}
 use Rattle.hw_command.specs.Carries.{Task, one_report}
-use Rattle.hw_command.specs.Scope.{named}
-use Rattle.hw_subject.specs.Meanings.{ships_of}
+use Rattle.hw_command.specs.Scope.{named_feed}
+use Rattle.hw_subject.specs.Meanings.{repair_ships}
 use Rattle.hw_subject.specs.Subjects.{Subject}
 use Rattle.hw_subject.specs.Checks.{Checks}
 use Rattle.hw_subject.specs.Shown.{Shown}
@@ -31,22 +31,22 @@ pub record ShowsNone (s : Subject) (cert : List ℕ) (held : List ℕ → Option
   pub value : s.Value
   pub reads : s.Reads held value
   pub naming : names ≡ s.naming value
-  pub counted : ships ≡ ships_of (s.problem value) (s.plan value)
+  pub counted : ships ≡ repair_ships (s.problem value) (s.plan value)
   pub shown : Shown s value Three (held cert) shows bound None
 
 -- what a report says of the inputs and of the certificate, each as far as it is told: what `verify` says of them, unless the certificate has a timetable, which is told against the plan
-abbrev pub Explains : Subject → List ℕ → (List ℕ → Option (List ℕ)) → Report → Type 0
-Explains s cert held (whole_text told) = Explained s cert held told
-Explains s cert held (checked shows bound ships names) = ShowsNone s cert held shows bound ships names
-Explains s cert held r = Checks s Three cert held r
+abbrev pub ExplainsRepair : Subject → List ℕ → (List ℕ → Option (List ℕ)) → Report → Type 0
+ExplainsRepair s cert held (whole_text told) = Explained s cert held told
+ExplainsRepair s cert held (checked shows bound ships names) = ShowsNone s cert held shows bound ships names
+ExplainsRepair s cert held r = Checks s Three cert held r
 
 abbrev pub ExplainSays : Subject → List ℕ → DeskState → Option Report → Type 0
 ExplainSays s cert old None = ⊥
-ExplainSays s cert old (Some r) = Explains s cert old.held r
+ExplainSays s cert old (Some r) = ExplainsRepair s cert old.held r
 
 abbrev pub explain_repair_task : Subject → List ℕ → Task
 explain_repair_task s cert = record {
-  inputs = s.inputs ++ (named Certificate cert ∷ []);
+  inputs = s.inputs ++ (named_feed Certificate cert ∷ []);
   Gives = s.Gives;
   proof = None;
   Says = one_report (λ old new. ExplainSays s cert old);

@@ -5,11 +5,11 @@ use Rattle.hw_report.specs.Reports.{Report, checked, whole_text}
 use Rattle.hw_subject.specs.Subjects.{Origin, origin_subject, repair_of}
 use Rattle.hw_subject.specs.Checks.{Checks}
 use Rattle.hw_subject.specs.Decided.{AllTold}
-use Rattle.hw_repair_command.specs.Explains.{Explains}
+use Rattle.hw_repair_command.specs.Explains.{ExplainsRepair}
 
 -- where all inputs and the certificate are told, their bytes decide the report, unless a call fails or memory runs out
 abbrev pub OneExplanation : Type 0
-OneExplanation = (origin : Origin) (plan cert : List ℕ) (held : List ℕ → Option (List ℕ)) (r t : Report) → let s = repair_of (origin_subject origin) plan in AllTold held s.inputs → IsSome (held cert) → Explains s cert held r → Explains s cert held t → r ≡ t
+OneExplanation = (origin : Origin) (plan cert : List ℕ) (held : List ℕ → Option (List ℕ)) (r t : Report) → let s = repair_of (origin_subject origin) plan in AllTold held s.inputs → IsSome (held cert) → ExplainsRepair s cert held r → ExplainsRepair s cert held t → r ≡ t
 
 -- the report of `explain repair`, by that of `verify repair`: the same, or a text where something is shown
 abbrev pub IsTextFor : Report → Report → Type 0
@@ -18,4 +18,4 @@ IsTextFor c r = r ≡ c
 
 -- of the same told bytes `explain repair` explains what `verify repair` shows, and refuses what it refuses, unless a call fails or memory runs out
 abbrev pub ExplainedAsVerified : Type 0
-ExplainedAsVerified = (origin : Origin) (plan cert : List ℕ) (held : List ℕ → Option (List ℕ)) (c r : Report) → let s = repair_of (origin_subject origin) plan in AllTold held s.inputs → IsSome (held cert) → Checks s Three cert held c → Explains s cert held r → IsTextFor c r
+ExplainedAsVerified = (origin : Origin) (plan cert : List ℕ) (held : List ℕ → Option (List ℕ)) (c r : Report) → let s = repair_of (origin_subject origin) plan in AllTold held s.inputs → IsSome (held cert) → Checks s Three cert held c → ExplainsRepair s cert held r → IsTextFor c r

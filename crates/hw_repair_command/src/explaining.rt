@@ -2,7 +2,7 @@
 
 ghost use Rattle.hw_desk.specs.State.{IsNewDesk};
 ghost use Rattle.hw_command.specs.Carries.{Carries};
-ghost use Rattle.hw_subject.specs.Subjects.{repair_of, source_of};
+ghost use Rattle.hw_subject.specs.Subjects.{repair_of, subject_of_source};
 ghost use Rattle.hw_repair_command.specs.Explains.{explain_repair_task};
 
 use crate::telling::tell;
@@ -26,7 +26,7 @@ pub fn explain_repair<D: Desk>(
     cert: &str,
 ) -> Status
     requires fresh { IsNewDesk (D.state desk.old) }
-    ensures { Carries (explain_repair_task (repair_of (source_of source.entry) plan.now) cert.now) (D.state desk.old) (D.state desk.new) result }
+    ensures { Carries (explain_repair_task (repair_of (subject_of_source source.entry) plan.now) cert.now) (D.state desk.old) (D.state desk.new) result }
 {
     let subject = Subject {
         of: source,

@@ -3,7 +3,7 @@ use Rattle.std.proofs.Common.{◌≡◌, ◌≤◌, ◌<◌, ◌+◌, ◌∙◌,
 use Rattle.std.proofs.Math.ListN.{drop_of_length-le}
 use Rattle.std.proofs.Math.Seq.{drop-cons}
 use Rattle.hw_model.specs.Problem.{Problem}
-use Rattle.hw_report.specs.Lines.{numbers_text, ship_line, ship_lines, drop_line, drop_lines}
+use Rattle.hw_report.specs.Lines.{numbers_text, ship_line, ship_lines, reported_drop_line, reported_drop_lines}
 use Rattle.hw_report.specs.Pieces.{joined}
 use Rattle.hw_report.specs.Reports.{Naming}
 
@@ -21,17 +21,17 @@ ship_next f names table i d lt =
 pub ships_end : (f : Problem) (names : Naming) (table : List ℕ) (i : ℕ) → length table ≤ i → ship_lines f names i (drop i table) ≡ []
 ships_end f names table i le = ap (ship_lines f names i) (drop_of_length-le table le)
 
-pub drop_next : (ids : List ℕ) (tables : List (List ℕ)) (i d : ℕ) (table : List ℕ) → i < min (length ids) (length tables) → table ≡ get_or tables i table → drop_lines (drop i ids) (drop i tables) ≡ drop_line (get_or ids i d) table ++ drop_lines (drop (i + 1) ids) (drop (i + 1) tables)
+pub drop_next : (ids : List ℕ) (tables : List (List ℕ)) (i d : ℕ) (table : List ℕ) → i < min (length ids) (length tables) → table ≡ get_or tables i table → reported_drop_lines (drop i ids) (drop i tables) ≡ reported_drop_line (get_or ids i d) table ++ reported_drop_lines (drop (i + 1) ids) (drop (i + 1) tables)
 drop_next ids tables i d table lt at =
     let p : i < length ids = omega (arith, lt) in
     let q : i < length tables = omega (arith, lt) in
-    rw (add-one, drop-cons ids i d p, drop-cons tables i table q) (ap (λ (t : List ℕ). drop_line (get_or ids i d) t ++ drop_lines (drop (suc i) ids) (drop (suc i) tables)) (sym at))
+    rw (add-one, drop-cons ids i d p, drop-cons tables i table q) (ap (λ (t : List ℕ). reported_drop_line (get_or ids i d) t ++ reported_drop_lines (drop (suc i) ids) (drop (suc i) tables)) (sym at))
 
-no_tables : (ids : List ℕ) → drop_lines ids [] ≡ []
+no_tables : (ids : List ℕ) → reported_drop_lines ids [] ≡ []
 no_tables [] = refl
 no_tables (id ∷ ids) = refl
 
-pub drops_end : (ids : List ℕ) (tables : List (List ℕ)) (i : ℕ) → min (length ids) (length tables) ≤ i → drop_lines (drop i ids) (drop i tables) ≡ []
+pub drops_end : (ids : List ℕ) (tables : List (List ℕ)) (i : ℕ) → min (length ids) (length tables) ≤ i → reported_drop_lines (drop i ids) (drop i tables) ≡ []
 drops_end [] tables zero le = refl
 drops_end [] tables (suc i) le = refl
 drops_end (id ∷ ids) [] zero le = refl

@@ -24,13 +24,13 @@ cargo_text by_number c = decimal c
 cargo_text (by_name p h) c = tenths c
 
 -- a word and a cargo
-abbrev pub carried : List ℕ → Naming → ℕ → List ℕ
-carried label names c = joined (label ∷ cargo_text names c ∷ codes "\n" ∷ [])
+abbrev pub cargo_line : List ℕ → Naming → ℕ → List ℕ
+cargo_line label names c = joined (label ∷ cargo_text names c ∷ codes "\n" ∷ [])
 
 -- the problem's own cargo for a cargo that a certificate speaks of: of a plan's repair for this many ships a part of it
-abbrev pub own_cargo : Option ℕ → ℕ → ℕ
-own_cargo None c = c
-own_cargo (Some ships) c = c / (ships + 1)
+abbrev pub certificate_own_cargo : Option ℕ → ℕ → ℕ
+certificate_own_cargo None c = c
+certificate_own_cargo (Some ships) c = c / (ships + 1)
 
 -- how many ships a plan's repair moves, for which the rest of its cargo stands
 abbrev pub moved_text : Option ℕ → ℕ → List ℕ
@@ -40,12 +40,12 @@ moved_text (Some ships) c = joined (codes " moved " ∷ decimal (ships - c % (sh
 -- the cargo of the best timetable so far, if there is one, and of a repair how many ships that moves
 abbrev pub best_text : Naming → Option ℕ → Option ℕ → List ℕ
 best_text names ships None = codes "none"
-best_text names ships (Some c) = joined (cargo_text names (own_cargo ships c) ∷ moved_text ships c ∷ [])
+best_text names ships (Some c) = joined (cargo_text names (certificate_own_cargo ships c) ∷ moved_text ships c ∷ [])
 
 -- a bound on the cargo of every permitted timetable, if there is one
 abbrev pub most_text : Naming → Option ℕ → Option ℕ → List ℕ
 most_text names ships None = []
-most_text names ships (Some bound) = joined (codes " bound " ∷ cargo_text names (own_cargo ships bound) ∷ [])
+most_text names ships (Some bound) = joined (codes " bound " ∷ cargo_text names (certificate_own_cargo ships bound) ∷ [])
 
 -- a label, the best cargo, and a bound
 abbrev pub shown_line : List ℕ → Naming → Option ℕ → Option ℕ → Option ℕ → List ℕ
@@ -60,7 +60,7 @@ checked_text names (verdicts.Unfinished best) bound ships = shown_line (codes "u
 -- the cargo of the best timetable so far, if there is one
 abbrev pub so_far : Naming → Option ℕ → List ℕ
 so_far names None = codes "none\n"
-so_far names (Some c) = carried (codes "best ") names c
+so_far names (Some c) = cargo_line (codes "best ") names c
 
 -- the budget is spent, and the timetable, if there is one, isn't known to be best
 abbrev pub unfinished_text : Naming → ℕ → Option ℕ → List ℕ
@@ -68,14 +68,14 @@ unfinished_text names budget best = joined (codes "unfinished " ∷ decimal budg
 
 -- the head line, with the cargo of the timetable, if there is one
 abbrev pub head_text : Naming → Head → Option ℕ → List ℕ
-head_text names (Optimal c) best = carried (codes "optimal ") names c
+head_text names (Optimal c) best = cargo_line (codes "optimal ") names c
 head_text names Infeasible best = codes "infeasible\n"
 head_text names (Unfinished budget) best = unfinished_text names budget best
 head_text names Memory best = joined (codes "memory " ∷ so_far names best ∷ [])
 
 -- after an unfinished head the bound on the cargo of every permitted timetable, if there is one
 abbrev pub bound_text : Naming → Head → Option ℕ → List ℕ
-bound_text names (Unfinished budget) (Some bound) = carried (codes "bound ") names bound
+bound_text names (Unfinished budget) (Some bound) = cargo_line (codes "bound ") names bound
 bound_text names head bound = []
 
 -- a ship's slot with its value there, or that it stays
@@ -97,15 +97,15 @@ abbrev pub sailing_line : Parts → TideParts → ℕ → ℕ → List ℕ
 sailing_line p h ship slot = sail_line slot (slot * whole p.slot_minutes) (whole (unwrap_or (sailing p h ship slot) (pos 0))) (unwrap_or (value p h ship slot) 0) (name_in p.ships ship)
 
 -- a ship's line by a port's names: how it sails, or that it stays
-abbrev pub name_line : Parts → TideParts → ℕ → ℕ → List ℕ
-name_line p h ship slot =
+abbrev pub named_ship_line : Parts → TideParts → ℕ → ℕ → List ℕ
+named_ship_line p h ship slot =
     if nat_le (horizon_of p) slot then joined (codes "stay " ∷ name_in p.ships ship ∷ codes "\n" ∷ [])
     else sailing_line p h ship slot
 
 -- a ship's line, by number or by a port's names
 abbrev pub ship_line : Problem → Naming → ℕ → ℕ → List ℕ
 ship_line f by_number ship slot = number_line f ship slot
-ship_line f (by_name p h) ship slot = name_line p h ship slot
+ship_line f (by_name p h) ship slot = named_ship_line p h ship slot
 
 -- the lines of the ships from this one on
 abbrev pub ship_lines : Problem → Naming → ℕ → List ℕ → List ℕ
@@ -128,14 +128,14 @@ numbers_text [] = []
 numbers_text (n ∷ ns) = joined (codes " " ∷ decimal n ∷ []) ++ numbers_text ns
 
 -- a restriction of a clash, and a timetable that meets the others
-abbrev pub drop_line : ℕ → List ℕ → List ℕ
-drop_line id table = joined (codes "drop " ∷ decimal id ∷ numbers_text table ∷ codes "\n" ∷ [])
+abbrev pub reported_drop_line : ℕ → List ℕ → List ℕ
+reported_drop_line id table = joined (codes "drop " ∷ decimal id ∷ numbers_text table ∷ codes "\n" ∷ [])
 
 -- for each restriction the timetable that meets the others
-abbrev pub drop_lines : List ℕ → List (List ℕ) → List ℕ
-drop_lines [] drops = []
-drop_lines (id ∷ ids) [] = []
-drop_lines (id ∷ ids) (table ∷ drops) = drop_line id table ++ drop_lines ids drops
+abbrev pub reported_drop_lines : List ℕ → List (List ℕ) → List ℕ
+reported_drop_lines [] drops = []
+reported_drop_lines (id ∷ ids) [] = []
+reported_drop_lines (id ∷ ids) (table ∷ drops) = reported_drop_line id table ++ reported_drop_lines ids drops
 
 -- the numbers of broken restrictions, or `none`
 abbrev pub broken_text : List ℕ → List ℕ

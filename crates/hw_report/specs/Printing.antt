@@ -5,9 +5,9 @@ use Rattle.hw_port_rules.specs.Flattened.{flattened}
 use Rattle.hw_report.specs.Reports.{Naming, by_number, by_name, Report, solved}
 
 -- the timetable, if there is one, is one of the problem
-abbrev pub IsTableOf : Problem → Option (List ℕ) → Type 0
-IsTableOf f None = ⊤
-IsTableOf f (Some table) = IsTimetable f table
+abbrev pub IsTableOfProblem : Problem → Option (List ℕ) → Type 0
+IsTableOfProblem f None = ⊤
+IsTableOfProblem f (Some table) = IsTimetable f table
 
 -- the names are of the port whose flat problem this is
 abbrev pub AreNamesOf : Problem → Naming → Type 0
@@ -16,5 +16,5 @@ AreNamesOf f (by_name p h) = (f ≡ flattened p h) × (h.columns ≡ length p.wa
 
 -- a report's timetable is one of its problem, and the names are of the port whose problem that is
 abbrev pub CanPrint : Report → Type 0
-CanPrint (solved head f names table moved bound) = IsTableOf f table × AreNamesOf f names
+CanPrint (solved head f names table moved bound) = IsTableOfProblem f table × AreNamesOf f names
 CanPrint _ = ⊤

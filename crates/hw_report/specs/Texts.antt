@@ -14,7 +14,7 @@ use Rattle.hw_report.specs.Reports.{Naming, Report, by_number, solved, checked, 
 use Rattle.hw_report.specs.Words.{feed_text, flat_word_text, refused_word_text}
 use Rattle.hw_report.specs.Pieces.{joined}
 use Rattle.hw_port.specs.Places.{path_text, word_text}
-use Rattle.hw_report.specs.Lines.{numbered, checked_text, head_text, bound_text, table_text, numbers_text, drop_lines, broken_text}
+use Rattle.hw_report.specs.Lines.{numbered, checked_text, head_text, bound_text, table_text, numbers_text, reported_drop_lines, broken_text}
 
 -- the first fault of a tide table; out of memory isn't one
 abbrev pub tide_fault_text : TideFault → List ℕ
@@ -65,7 +65,7 @@ report_text (read_fault feed) = joined (codes "fault read " ∷ feed_text feed �
 report_text (too_long feed) = joined (codes "long " ∷ feed_text feed ∷ codes "\n" ∷ [])
 report_text no_memory = codes "memory\n"
 report_text (bad_text feed number word) = joined (codes "bad " ∷ feed_text feed ∷ codes " " ∷ decimal number ∷ codes " " ∷ word ∷ codes "\n" ∷ [])
-report_text (clashed kept drops) = joined (codes "clash 1\nkeep" ∷ numbers_text kept ∷ codes "\n" ∷ drop_lines kept drops ∷ codes "end\n" ∷ [])
+report_text (clashed kept drops) = joined (codes "clash 1\nkeep" ∷ numbers_text kept ∷ codes "\n" ∷ reported_drop_lines kept drops ∷ codes "end\n" ∷ [])
 report_text (met table) = joined (codes "met" ∷ numbers_text table ∷ codes "\n" ∷ [])
 report_text (spent_step budget step) = joined (codes "unfinished " ∷ decimal budget ∷ codes " step " ∷ decimal step ∷ codes "\n" ∷ [])
 report_text clash_holds = codes "clash holds\n"

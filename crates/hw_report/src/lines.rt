@@ -5,9 +5,9 @@ ghost use Rattle.hw_model.specs.Problem.{IsTimetable};
 ghost use Rattle.hw_port.specs.Kept.{Within};
 ghost use Rattle.hw_port_rules.specs.Drafts.{sailing as sailing_draft};
 ghost use Rattle.hw_port_rules.specs.Numbers.{whole, horizon_of};
-ghost use Rattle.hw_report.specs.Lines.{numbered, carried, cargo_text, so_far, unfinished_text, head_text, bound_text, moved_line, number_line, name_in, sail_line, sailing_line, name_line, ship_line, ship_lines, table_text};
+ghost use Rattle.hw_report.specs.Lines.{numbered, cargo_line, cargo_text, so_far, unfinished_text, head_text, bound_text, moved_line, number_line, name_in, sail_line, sailing_line, named_ship_line, ship_line, ship_lines, table_text};
 ghost use Rattle.hw_report.specs.Pieces.{piece_text, joined};
-ghost use Rattle.hw_report.specs.Printing.{AreNamesOf, IsTableOf};
+ghost use Rattle.hw_report.specs.Printing.{AreNamesOf, IsTableOfProblem};
 ghost use Rattle.hw_desk.specs.Writers.{Puts};
 ghost use Rattle.hw_report.specs.Seen.{names_seen, table_seen};
 
@@ -46,7 +46,7 @@ pub fn cargo_piece(names: Names, cargo: u64) -> Piece<'static>
 
 /// Puts a word and a cargo on a line.
 fn put_carried<W: Writer>(out: &mut W, label: &[u8], names: Names, cargo: u64)
-    ensures { Puts (carried label.now (names_seen names.entry) cargo) (W.state out.old) (W.state out.new) }
+    ensures { Puts (cargo_line label.now (names_seen names.entry) cargo) (W.state out.old) (W.state out.new) }
 {
     let cargo = cargo_piece(names, cargo);
     put_pieces(out, &[Piece::Word(label), cargo, Piece::Word(b"\n")]);
@@ -218,7 +218,7 @@ fn put_stay<W: Writer>(out: &mut W, ships: &[Ship], ship: ShipId)
 fn put_name_line<W: Writer>(out: &mut W, port: &Port, tide: &Tide, ship: ShipId, slot: Slot)
     requires ship_in { ship < length port.now.ships }
     requires columns { tide.now.columns ≡ length port.now.waypoints }
-    ensures { Puts (name_line port.now tide.now ship slot) (W.state out.old) (W.state out.new) }
+    ensures { Puts (named_ship_line port.now tide.now ship slot) (W.state out.old) (W.state out.new) }
 {
     if stays(port, slot) {
         put_stay(out, &port.parts().ships, ship);
@@ -268,7 +268,7 @@ pub fn put_table<W: Writer>(
     table: Option<&Timetable>,
     moved: Option<u32>,
 )
-    requires table { IsTableOf flat.now (table_seen table) }
+    requires table { IsTableOfProblem flat.now (table_seen table) }
     requires names { AreNamesOf flat.now (names_seen names) }
     ensures { Puts (table_text flat.now (names_seen names.entry) (table_seen table.entry) moved) (W.state out.old) (W.state out.new) }
 {

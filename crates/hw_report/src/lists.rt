@@ -2,7 +2,7 @@
 
 ghost use Rattle.std.specs.Prelude.{◌∷◌, [], codes, decimal};
 ghost use Rattle.hw_report.specs.Pieces.{joined};
-ghost use Rattle.hw_report.specs.Lines.{broken_text, drop_line, drop_lines, numbers_text};
+ghost use Rattle.hw_report.specs.Lines.{broken_text, reported_drop_line, reported_drop_lines, numbers_text};
 ghost use Rattle.hw_desk.specs.Writers.{Puts};
 ghost use Rattle.hw_report.specs.Reports.{after, clashed, met};
 ghost use Rattle.hw_report.specs.Texts.{report_text};
@@ -29,7 +29,7 @@ fn put_numbers<W: Writer>(out: &mut W, numbers: &[u32])
 
 /// Puts the line of a restriction and a timetable that meets the others.
 fn put_drop<W: Writer>(out: &mut W, id: u32, table: &Timetable)
-    ensures { Puts (drop_line id table.now) (W.state out.old) (W.state out.new) }
+    ensures { Puts (reported_drop_line id table.now) (W.state out.old) (W.state out.new) }
 {
     out.put(b"drop ");
     out.put_number(u64::from(id));
@@ -39,7 +39,7 @@ fn put_drop<W: Writer>(out: &mut W, id: u32, table: &Timetable)
 
 /// Puts the lines of restrictions, as many as both lists have.
 fn put_drops<W: Writer>(out: &mut W, kept: &[u32], drops: &[Timetable])
-    ensures { Puts (drop_lines kept.now drops.now) (W.state out.old) (W.state out.new) }
+    ensures { Puts (reported_drop_lines kept.now drops.now) (W.state out.old) (W.state out.new) }
 {
     for i in 0..kept.len().min(drops.len()) {
         put_drop(out, kept[i], &drops[i]);

@@ -5,7 +5,7 @@ ghost use Rattle.std.specs.Option.{option_and_then};
 ghost use Rattle.hw_model.specs.Timetables.{cargo as cargo_of};
 ghost use Rattle.hw_desk.specs.Writers.{Puts};
 ghost use Rattle.hw_report.specs.Lines.{head_text};
-ghost use Rattle.hw_report.specs.Printing.{IsTableOf};
+ghost use Rattle.hw_report.specs.Printing.{IsTableOfProblem};
 ghost use Rattle.hw_report.specs.Reports.{spent_step};
 ghost use Rattle.hw_report.specs.Seen.{names_seen, table_seen};
 ghost use Rattle.hw_report.specs.Texts.{report_text, summary_text, demo_text};
@@ -21,7 +21,7 @@ use hw_rules::cargo;
 
 /// The cargo of a timetable, if there is one, in tenths of a tonne.
 fn best(flat: &Flat, table: Option<&Timetable>) -> Option<u64>
-    requires { IsTableOf flat.now (table_seen table) }
+    requires { IsTableOfProblem flat.now (table_seen table) }
     ensures { result ≡ option_and_then (cargo_of flat.now) (table_seen table.entry) }
 {
     match table {
@@ -38,7 +38,7 @@ pub fn put_outcome<W: Writer>(
     head: Head,
     table: Option<&Timetable>,
 )
-    requires { IsTableOf flat.now (table_seen table) }
+    requires { IsTableOfProblem flat.now (table_seen table) }
     ensures { Puts (head_text (names_seen names.entry) head (option_and_then (cargo_of flat.now) (table_seen table.entry))) (W.state out.old) (W.state out.new) }
 {
     put_head(out, names, head, best(flat, table));

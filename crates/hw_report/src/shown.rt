@@ -2,7 +2,7 @@
 
 ghost use Rattle.std.specs.Prelude.{◌≡◌};
 ghost use Rattle.hw_desk.specs.Writers.{Puts};
-ghost use Rattle.hw_report.specs.Lines.{best_text, checked_text, most_text, moved_text, own_cargo, shown_line};
+ghost use Rattle.hw_report.specs.Lines.{best_text, checked_text, most_text, moved_text, certificate_own_cargo, shown_line};
 ghost use Rattle.hw_report.specs.Seen.{names_seen};
 
 use crate::lines::cargo_piece;
@@ -13,7 +13,7 @@ use hw_desk::Writer;
 
 /// The problem's own cargo for a cargo that a certificate speaks of, both in tenths of a tonne.
 fn own_cargo(ships: Option<u32>, cargo: u64) -> u64
-    ensures { result ≡ own_cargo ships cargo }
+    ensures { result ≡ certificate_own_cargo ships cargo }
 {
     match ships {
         None => cargo,

@@ -12,8 +12,8 @@ use Rattle.hw_cert.specs.Logs.{memory_log}
 use Rattle.hw_progress.specs.declared.outcome.Solved.{Solved}
 use Rattle.hw_progress.specs.declared.outcome.Solved.TheVariants as answers
 use Rattle.hw_progress.specs.Proving.{ProveMeets}
-use Rattle.hw_resume.specs.Courses.{Adds, Hands, IsSearched, Stands, TellsOf}
-use Rattle.hw_resume.specs.Going.{GoesOn, IsSpent, Resumes}
+use Rattle.hw_resume.specs.Courses.{AddsLines, HandsToCourse, IsSearched, CourseStands, TellsOf}
+use Rattle.hw_resume.specs.Going.{LinesGoOn, IsBudgetSpent, Resumes}
 use Rattle.hw_resume.specs.declared.going_on.Course.{Course}
 use Rattle.hw_resume.specs.declared.resumed.Resumed.{Resumed}
 use Rattle.hw_resume.proofs.Handed.{longer, whole_course}
@@ -23,7 +23,7 @@ use Rattle.hw_resume.proofs.Handed.{longer, whole_course}
 -- ---- what is told
 
 -- what holds of the lines of a course holds of those that are told
-pub told_resumes : {f : Problem} {budget : ℕ} {start : List Line} {course : Course} {r : Resumed} {is_spent : Bool} (more : List Line) → Stands f course → course.lines.items ≡ start ++ more → length (lemmas_of more) ≤ budget → (is_spent ≡ true → (length (lemmas_of more) ≡ budget) × (budget ≤ room_count f)) → TellsOf course is_spent r → Resumes f budget start r
+pub told_resumes : {f : Problem} {budget : ℕ} {start : List Line} {course : Course} {r : Resumed} {is_spent : Bool} (more : List Line) → CourseStands f course → course.lines.items ≡ start ++ more → length (lemmas_of more) ≤ budget → (is_spent ≡ true → (length (lemmas_of more) ≡ budget) × (budget ≤ room_count f)) → TellsOf course is_spent r → Resumes f budget start r
 told_resumes {f = f} {budget = budget} {start = start} {course = course} {r = r} more h parts few spent t =
     let whole = whole_course h in
     record {
@@ -44,11 +44,11 @@ told_resumes {f = f} {budget = budget} {start = start} {course = course} {r = r}
     }
 
 -- the start leaves nothing open
-pub nothing_open : {f : Problem} {budget : ℕ} {start : List Line} {course : Course} {r : Resumed} → Stands f course → course.lines.items ≡ start → TellsOf course false r → Resumes f budget start r
+pub nothing_open : {f : Problem} {budget : ℕ} {start : List Line} {course : Course} {r : Resumed} → CourseStands f course → course.lines.items ≡ start → TellsOf course false r → Resumes f budget start r
 nothing_open {start = start} h same t = told_resumes [] h (same ∙ sym (append-nil start)) (omega arith) (λ e. absurd (cc)) t
 
 -- the search has ended
-pub went_on : {f : Problem} {budget : ℕ} {start found : List Line} {course after : Course} {r : Resumed} {is_spent : Bool} → Stands f course → course.lines.items ≡ start → IsSearched f budget is_spent found → Hands course after found → TellsOf after is_spent r → Resumes f budget start r
+pub went_on : {f : Problem} {budget : ℕ} {start found : List Line} {course after : Course} {r : Resumed} {is_spent : Bool} → CourseStands f course → course.lines.items ≡ start → IsSearched f budget is_spent found → HandsToCourse course after found → TellsOf after is_spent r → Resumes f budget start r
 went_on {f = f} {budget = budget} {start = start} {found = found} {after = after} {is_spent = is_spent} h same s k t =
     let few : length (lemmas_of k.more) ≤ budget = omega (arith, k.lemmas, s.few) in
-    told_resumes k.more (subst (λ (g : Problem). Stands g after) h.problem k.adds.stands) (k.adds.parts ∙ ap (λ (ls : List Line). ls ++ k.more) same) few (λ e. (k.lemmas ∙ (s.spent e).0, (s.spent e).1)) t
+    told_resumes k.more (subst (λ (g : Problem). CourseStands g after) h.problem k.adds.stands) (k.adds.parts ∙ ap (λ (ls : List Line). ls ++ k.more) same) few (λ e. (k.lemmas ∙ (s.spent e).0, (s.spent e).1)) t

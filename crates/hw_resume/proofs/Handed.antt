@@ -12,11 +12,11 @@ use Rattle.hw_lines.specs.Lemmas.{lemma_of, lemmas_of}
 use Rattle.hw_lines.specs.Refusals.{kept_refusal, refusal}
 use Rattle.hw_lines.specs.Valid.{LineFits, Valid}
 use Rattle.hw_lines.specs.Kept.{Kept}
-use Rattle.hw_check.specs.Follows.{Follows, Stops}
+use Rattle.hw_check.specs.Follows.{CheckerFollows, Stops}
 use Rattle.hw_check.specs.declared.stop.CheckStop.{CheckStop}
 use Rattle.hw_check.specs.declared.stop.CheckStop.TheVariants as check_stops
-use Rattle.hw_resume.specs.Courses.{Adds, Hands, Stands, stop_as}
-use Rattle.hw_resume.specs.Going.{GoesOn, IsRefused, StopsFor}
+use Rattle.hw_resume.specs.Courses.{AddsLines, HandsToCourse, CourseStands, stop_as}
+use Rattle.hw_resume.specs.Going.{LinesGoOn, LineIsRefused, ResumingStopsFor}
 use Rattle.hw_resume.specs.declared.going_on.Course.{Course}
 use Rattle.hw_resume.specs.declared.resumed.ResumeStop.{ResumeStop}
 use Rattle.hw_resume.specs.declared.resumed.ResumeStop.TheVariants as stops
@@ -31,7 +31,7 @@ no_lemma line e = ap (λ (o : Option (List Lit)). length (cons_option o [])) (sy
 
 -- ---- the lines that go on
 
-pub whole_course : {f : Problem} {course : Course} → Stands f course → GoesOn f course.lines.items course.lines.items
+pub whole_course : {f : Problem} {course : Course} → CourseStands f course → LinesGoOn f course.lines.items course.lines.items
 whole_course {f = f} {course = course} h = record {
   more = [];
   parts = sym (append-nil course.lines.items);
@@ -39,7 +39,7 @@ whole_course {f = f} {course = course} h = record {
   valid = subst (λ (g : Problem). Valid g course.lines.items) h.checked h.follows.valid;
 }
 
-pub longer : {f : Problem} {start middle all : List Line} (more : List Line) → middle ≡ start ++ more → GoesOn f middle all → GoesOn f start all
+pub longer : {f : Problem} {start middle all : List Line} (more : List Line) → middle ≡ start ++ more → LinesGoOn f middle all → LinesGoOn f start all
 longer {start = start} more parts h = record {
   more = more ++ h.more;
   parts = h.parts ∙ ap (λ (ls : List Line). ls ++ h.more) parts ∙ append_assoc start more h.more;
@@ -47,9 +47,9 @@ longer {start = start} more parts h = record {
   valid = h.valid;
 }
 
-pub stops_on : (f g : Problem) (start middle : List Line) (more : List Line) (stop : ResumeStop) → g ≡ f → middle ≡ start ++ more → StopsFor g middle stop → StopsFor f start stop
+pub stops_on : (f g : Problem) (start middle : List Line) (more : List Line) (stop : ResumeStop) → g ≡ f → middle ≡ start ++ more → ResumingStopsFor g middle stop → ResumingStopsFor f start stop
 stops_on f g start middle more (stops.Refused number cause) same parts h =
-    let there = subst (λ (p : Problem). IsRefused p middle number cause) same h in
+    let there = subst (λ (p : Problem). LineIsRefused p middle number cause) same h in
     record { before = there.before; line = there.line; goes_on = longer more parts there.goes_on; fits = there.fits; counted = there.counted; refused = there.refused }
 stops_on f g start middle more stops.NoMemory same parts h = tt
 
@@ -57,17 +57,17 @@ stops_on f g start middle more stops.NoMemory same parts h = tt
 
 pub record Along (entry now : Course) (all left : List Line) : Type 0 where
   pub more : List Line
-  pub adds : Adds entry now more
+  pub adds : AddsLines entry now more
   pub lemmas : length (lemmas_of more) + length (lemmas_of left) ≡ length (lemmas_of all)
 
-pub along_start : {course : Course} (all : List Line) → Stands course.flat.now course → Along course course all all
+pub along_start : {course : Course} (all : List Line) → CourseStands course.flat.now course → Along course course all all
 along_start {course = course} all h = record {
   more = [];
   adds = record { stands = h; parts = sym (append-nil course.lines.items) };
   lemmas = omega arith;
 }
 
-pub along_next : {entry now after : Course} {all left next : List Line} {line : Line} → (h : Along entry now all left) → left ≡ line ∷ next → Hands now after (line ∷ []) → Along entry after all next
+pub along_next : {entry now after : Course} {all left next : List Line} {line : Line} → (h : Along entry now all left) → left ≡ line ∷ next → HandsToCourse now after (line ∷ []) → Along entry after all next
 along_next {entry = entry} {after = after} {all = all} {left = left} {next = next} {line = line} h cut k =
     let here = lemmas_on h.more k.more in
     let there : length (lemmas_of left) ≡ length (lemmas_of (line ∷ [])) + length (lemmas_of next) = ap (λ (ls : List Line). length (lemmas_of ls)) cut ∙ lemmas_on (line ∷ []) next in
@@ -75,22 +75,22 @@ along_next {entry = entry} {after = after} {all = all} {left = left} {next = nex
     record {
       more = h.more ++ k.more;
       adds = record {
-        stands = subst (λ (f : Problem). Stands f after) h.adds.stands.problem k.adds.stands;
+        stands = subst (λ (f : Problem). CourseStands f after) h.adds.stands.problem k.adds.stands;
         parts = k.adds.parts ∙ ap (λ (ls : List Line). ls ++ k.more) h.adds.parts ∙ append_assoc entry.lines.items h.more k.more;
       };
       lemmas = counted;
     }
 
-pub along_stops : {entry now : Course} {all left : List Line} (stop : ResumeStop) → Along entry now all left → StopsFor now.flat.now now.lines.items stop → StopsFor entry.flat.now entry.lines.items stop
+pub along_stops : {entry now : Course} {all left : List Line} (stop : ResumeStop) → Along entry now all left → ResumingStopsFor now.flat.now now.lines.items stop → ResumingStopsFor entry.flat.now entry.lines.items stop
 along_stops {entry = entry} {now = now} stop h k = stops_on entry.flat.now now.flat.now entry.lines.items now.lines.items h.more stop h.adds.stands.problem h.adds.parts k
 
 -- ---- one line
 
-pub left_out : {course : Course} (line : Line) → Stands course.flat.now course → lemma_of line ≡ None → Hands course course (line ∷ [])
+pub left_out : {course : Course} (line : Line) → CourseStands course.flat.now course → lemma_of line ≡ None → HandsToCourse course course (line ∷ [])
 left_out {course = course} line h e = record { more = []; adds = record { stands = h; parts = sym (append-nil course.lines.items) }; lemmas = no_lemma line e }
 
 -- the checker refused a line, or memory ran out
-pub not_taken : {course : Course} (line : Line) (number : ℕ) (stop : CheckStop) → Stands course.flat.now course → LineFits course.flat.now line → number ≡ length course.lines.items + 2 → Stops stop (kept_refusal course.checker.problem course.checker.kept line) → StopsFor course.flat.now course.lines.items (stop_as number stop)
+pub not_taken : {course : Course} (line : Line) (number : ℕ) (stop : CheckStop) → CourseStands course.flat.now course → LineFits course.flat.now line → number ≡ length course.lines.items + 2 → Stops stop (kept_refusal course.checker.problem course.checker.kept line) → ResumingStopsFor course.flat.now course.lines.items (stop_as number stop)
 not_taken {course = course} line number (check_stops.Refused cause) h fits counted found =
     let kept = subst (λ (k : Kept). kept_refusal course.checker.problem k line ≡ Some cause) h.follows.kept found in
     record {

@@ -1,4 +1,4 @@
 mod Numbers
-mod Starting
+pub mod Starting
 mod Handed
 mod Answered

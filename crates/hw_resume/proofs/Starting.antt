@@ -8,13 +8,13 @@ use Rattle.hw_lines.specs.Kept.{Kept}
 use Rattle.hw_lines.specs.Refusals.{kept_refusal}
 use Rattle.hw_lines.specs.Valid.{LineFits, ValidAfter, ValidFrom, Valid}
 use Rattle.hw_verdict.proofs.Refused.{valid_judge, from_valid}
-use Rattle.hw_check.specs.Follows.{Follows}
+use Rattle.hw_check.specs.Follows.{CheckerFollows}
 use Rattle.hw_check.specs.States.{CheckState}
 
 -- lines that were taken, and valid ones after them
 pub record Checked (f : Problem) (all left : List Line) (c : CheckState) : Type 0 where
   pub before : List Line
-  pub follows : Follows c before
+  pub follows : CheckerFollows c before
   pub problem : c.problem ≡ f
   pub valid : ValidFrom f before left
   pub whole : before ++ left ≡ all
@@ -36,7 +36,7 @@ can_take {f = f} {c = c} {line = line} flat h cut fits =
     let flat_there = subst IsFlat (sym h.problem) flat in
     subst (λ (k : Kept). kept_refusal c.problem k line ≡ None) (sym h.follows.kept) (from_valid c.problem h.before line fits_there (valid_judge c.problem h.before line flat_there h.follows.valid) valid_there)
 
-pub one_taken : {f : Problem} {all left more : List Line} {c d : CheckState} {line : Line} → (h : Checked f all left c) → left ≡ line ∷ more → d.problem ≡ c.problem → Follows d (h.before ++ line ∷ []) → Checked f all more d
+pub one_taken : {f : Problem} {all left more : List Line} {c d : CheckState} {line : Line} → (h : Checked f all left c) → left ≡ line ∷ more → d.problem ≡ c.problem → CheckerFollows d (h.before ++ line ∷ []) → Checked f all more d
 one_taken {f = f} {all = all} {more = more} {line = line} h cut same follows = record {
   before = h.before ++ line ∷ [];
   follows = follows;
@@ -45,5 +45,5 @@ one_taken {f = f} {all = all} {more = more} {line = line} h cut same follows = r
   whole = append_assoc h.before (line ∷ []) more ∙ (ap (λ (ls : List Line). h.before ++ ls) (sym cut) ∙ h.whole);
 }
 
-pub all_taken : {f : Problem} {all left : List Line} {c : CheckState} → Checked f all left c → left ≡ [] → Follows c all
-all_taken {c = c} h none = subst (Follows c) (sym (append-nil h.before) ∙ ap (λ (ls : List Line). h.before ++ ls) (sym none) ∙ h.whole) h.follows
+pub all_taken : {f : Problem} {all left : List Line} {c : CheckState} → Checked f all left c → left ≡ [] → CheckerFollows c all
+all_taken {c = c} h none = subst (CheckerFollows c) (sym (append-nil h.before) ∙ ap (λ (ls : List Line). h.before ++ ls) (sym none) ∙ h.whole) h.follows

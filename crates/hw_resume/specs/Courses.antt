@@ -8,24 +8,24 @@ use Rattle.hw_lines.specs.Lines.{is_closed, last_table}
 use Rattle.hw_lines.specs.Refusals.{refusal}
 use Rattle.hw_lines.specs.Tolled.{bound_of}
 use Rattle.hw_lines.specs.Valid.{LineFits, verdict}
-use Rattle.hw_check.specs.Follows.{Follows}
+use Rattle.hw_check.specs.Follows.{CheckerFollows}
 use Rattle.hw_check.specs.declared.stop.CheckStop.{CheckStop}
 use Rattle.hw_check.specs.declared.stop.CheckStop.TheVariants as check_stops
 use Rattle.hw_resume.specs.declared.going_on.Course.{Course}
 use Rattle.hw_resume.specs.declared.resumed.Resumed.{Resumed}
 use Rattle.hw_resume.specs.declared.resumed.ResumeStop.{ResumeStop}
 use Rattle.hw_resume.specs.declared.resumed.ResumeStop.TheVariants as stops
-use Rattle.hw_resume.specs.Going.{StopsFor}
+use Rattle.hw_resume.specs.Going.{ResumingStopsFor}
 
 -- the checker follows the lines, and all is of this problem
-pub record Stands (f : Problem) (course : Course) : Type 0 where
+pub record CourseStands (f : Problem) (course : Course) : Type 0 where
   pub problem : course.flat.now ≡ f
   pub checked : course.checker.problem ≡ f
-  pub follows : Follows course.checker course.lines.items
+  pub follows : CheckerFollows course.checker course.lines.items
 
 -- these lines were added
-pub record Adds (before after : Course) (more : List Line) : Type 0 where
-  pub stands : Stands before.flat.now after
+pub record AddsLines (before after : Course) (more : List Line) : Type 0 where
+  pub stands : CourseStands before.flat.now after
   pub parts : after.lines.items ≡ before.lines.items ++ more
 
 -- why the line of this number isn't taken
@@ -35,21 +35,21 @@ stop_as number check_stops.NoMemory = stops.NoMemory
 
 -- one more line was taken, or the checker refused it
 abbrev pub TakeMeets : Course → Line → Result Course ResumeStop → Type 0
-TakeMeets course line (Ok after) = Adds course after (line ∷ [])
-TakeMeets course line (Err stop) = StopsFor course.flat.now course.lines.items stop
+TakeMeets course line (Ok after) = AddsLines course after (line ∷ [])
+TakeMeets course line (Err stop) = ResumingStopsFor course.flat.now course.lines.items stop
 
 -- what stands for lines of a search has as many lemmas
-pub record Hands (before after : Course) (found : List Line) : Type 0 where
+pub record HandsToCourse (before after : Course) (found : List Line) : Type 0 where
   pub more : List Line
-  pub adds : Adds before after more
+  pub adds : AddsLines before after more
   pub lemmas : length (lemmas_of more) ≡ length (lemmas_of found)
 
-abbrev pub HandsAll : Course → List Line → Result Course ResumeStop → Type 0
-HandsAll course found (Ok after) = Hands course after found
-HandsAll course found (Err stop) = StopsFor course.flat.now course.lines.items stop
+abbrev pub HandsAllToCourse : Course → List Line → Result Course ResumeStop → Type 0
+HandsAllToCourse course found (Ok after) = HandsToCourse course after found
+HandsAllToCourse course found (Err stop) = ResumingStopsFor course.flat.now course.lines.items stop
 
 abbrev pub HandMeets : Course → Line → Result Course ResumeStop → Type 0
-HandMeets course line result = HandsAll course (line ∷ []) result
+HandMeets course line result = HandsAllToCourse course (line ∷ []) result
 
 -- what the lines of a course show
 pub record TellsOf (course : Course) (is_spent : Bool) (r : Resumed) : Type 0 where

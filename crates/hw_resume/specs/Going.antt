@@ -15,42 +15,42 @@ use Rattle.hw_resume.specs.declared.resumed.ResumeStop.{ResumeStop}
 use Rattle.hw_resume.specs.declared.resumed.ResumeStop.TheVariants as stops
 
 -- lines of the problem that begin with those of the start, each valid after those before it
-pub record GoesOn (f : Problem) (start all : List Line) : Type 0 where
+pub record LinesGoOn (f : Problem) (start all : List Line) : Type 0 where
   pub more : List Line
   pub parts : all ≡ start ++ more
   pub fit : All (LineFits f) all
   pub valid : Valid f all
 
 -- the budget is spent: there are as many new lemmas, no more than rooms, and no line without literals
-pub record IsSpent (f : Problem) (budget : ℕ) (more all : List Line) : Type 0 where
+pub record IsBudgetSpent (f : Problem) (budget : ℕ) (more all : List Line) : Type 0 where
   pub lemmas : length (lemmas_of more) ≡ budget
   pub unclosed : is_closed all ≡ false
   pub rooms : budget ≤ room_count f
 
 -- lines that go on from the start, with no more new lemmas than the budget, and what they show
 pub record Resumes (f : Problem) (budget : ℕ) (start : List Line) (r : Resumed) : Type 0 where
-  pub goes_on : GoesOn f start r.lines.items
+  pub goes_on : LinesGoOn f start r.lines.items
   pub few : length (lemmas_of goes_on.more) ≤ budget
   pub verdict : r.verdict ≡ verdict f r.lines.items
   pub bound : r.bound ≡ bound_of r.lines.items
   pub table : r.table ≡ last_table r.lines.items
-  pub spent : r.is_spent ≡ true → IsSpent f budget goes_on.more r.lines.items
+  pub spent : r.is_spent ≡ true → IsBudgetSpent f budget goes_on.more r.lines.items
 
 -- a line of the problem that isn't valid after some that go on from the start, for this cause; it would have been the one of this number, counted from 1 with the header
-pub record IsRefused (f : Problem) (start : List Line) (number : ℕ) (cause : Refusal) : Type 0 where
+pub record LineIsRefused (f : Problem) (start : List Line) (number : ℕ) (cause : Refusal) : Type 0 where
   pub before : List Line
   pub line : Line
-  pub goes_on : GoesOn f start before
+  pub goes_on : LinesGoOn f start before
   pub fits : LineFits f line
   pub counted : number ≡ length before + 2
   pub refused : refusal f before line ≡ Some cause
 
 -- why there is no answer; memory may run out at any time
-abbrev pub StopsFor : Problem → List Line → ResumeStop → Type 0
-StopsFor f start (stops.Refused number cause) = IsRefused f start number cause
-StopsFor f start stops.NoMemory = ⊤
+abbrev pub ResumingStopsFor : Problem → List Line → ResumeStop → Type 0
+ResumingStopsFor f start (stops.Refused number cause) = LineIsRefused f start number cause
+ResumingStopsFor f start stops.NoMemory = ⊤
 
 -- what going on from a start meets. It needs a budget in its limit, and valid lines of the problem
 abbrev pub ResumeMeets : Problem → ℕ → List Line → Result Resumed ResumeStop → Type 0
 ResumeMeets f budget start (Ok r) = Resumes f budget start r
-ResumeMeets f budget start (Err stop) = StopsFor f start stop
+ResumeMeets f budget start (Err stop) = ResumingStopsFor f start stop

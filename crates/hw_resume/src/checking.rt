@@ -1,7 +1,7 @@
 //! The lines of a start, checked.
 
 ghost use Rattle.std.specs.Prelude.{◌≡◌, ◌∷◌, ◌++◌, [], All, IfOk, List, None};
-ghost use Rattle.hw_check.specs.Follows.{Follows};
+ghost use Rattle.hw_check.specs.Follows.{CheckerFollows};
 ghost use Rattle.hw_lines.specs.Refusals.{kept_refusal};
 ghost use Rattle.hw_lines.specs.Valid.{LineFits, Valid};
 ghost use Rattle.hw_lines.specs.declared.line.Line.{Line as CertLine};
@@ -19,7 +19,7 @@ pub(crate) fn check_all<'f>(
 ) -> Result<Checker<'f>, NoMemory>
     requires fit { All (LineFits flat.now) lines.now }
     requires valid { Valid flat.now lines.now }
-    ensures follows { IfOk result (λ c. Follows c lines.now) }
+    ensures follows { IfOk result (λ c. CheckerFollows c lines.now) }
     ensures problem { IfOk result (λ c. c.problem ≡ flat.now) }
 {
     let _shape = flat.shape();
@@ -35,7 +35,7 @@ fn check_one<'f>(checker: Checker<'f>, line: &Line) -> Result<Checker<'f>, NoMem
     requires fits { LineFits checker.problem line.now }
     requires valid { kept_refusal checker.problem checker.kept line.now ≡ None }
     ensures problem { IfOk result (λ c. c.problem ≡ checker.entry.problem) }
-    ensures followed { (before : List CertLine) → Follows checker.entry before → IfOk result (λ c. Follows c (before ++ line.now ∷ [])) }
+    ensures followed { (before : List CertLine) → CheckerFollows checker.entry before → IfOk result (λ c. CheckerFollows c (before ++ line.now ∷ [])) }
 {
     match checker.borrowed_line(line) {
         Ok(followed) => Ok(followed),

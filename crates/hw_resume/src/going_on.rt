@@ -4,7 +4,7 @@ ghost use Rattle.std.specs.Prelude.{◌≡◌, ◌↔◌, All, IfOk, IsTrue, Non
 ghost use Rattle.hw_lines.specs.Lemmas.{lemma_of};
 ghost use Rattle.hw_lines.specs.Lines.{is_closed, last_table};
 ghost use Rattle.hw_lines.specs.Valid.{LineFits, Valid};
-ghost use Rattle.hw_resume.specs.Courses.{Stands, TakeMeets, TellsOf, stop_as};
+ghost use Rattle.hw_resume.specs.Courses.{CourseStands, TakeMeets, TellsOf, stop_as};
 
 use crate::checking::check_all;
 use crate::resumed::{ResumeStop, Resumed};
@@ -26,7 +26,7 @@ pub struct Course<'f> {
 pub(crate) fn begun(alloc: Global, flat: &Flat, lines: Vec<Line>) -> Result<Course<'_>, NoMemory>
     requires fit { All (LineFits flat.now) lines.items }
     requires valid { Valid flat.now lines.items }
-    ensures stands { IfOk result (λ course. Stands flat.now course) }
+    ensures stands { IfOk result (λ course. CourseStands flat.now course) }
     ensures same { IfOk result (λ course. course.lines.items ≡ lines.items) }
 {
     let checker = check_all(alloc, flat, &lines)?;
@@ -40,7 +40,7 @@ pub(crate) fn begun(alloc: Global, flat: &Flat, lines: Vec<Line>) -> Result<Cour
 impl<'f> Course<'f> {
     /// Takes one more line, unless the checker refuses it.
     pub(crate) fn take(self, line: Line) -> Result<Course<'f>, ResumeStop>
-        requires stands { Stands self.flat.now self }
+        requires stands { CourseStands self.flat.now self }
         requires fits { LineFits self.flat.now line }
         ensures { TakeMeets self.entry line result }
     {
@@ -93,7 +93,7 @@ impl<'f> Course<'f> {
 
     /// Whether the lines leave the question open.
     pub(crate) fn is_open(&self) -> bool
-        requires stands { Stands self.now.flat.now self.now }
+        requires stands { CourseStands self.now.flat.now self.now }
         ensures { IsTrue result ↔ is_closed self.now.lines.items ≡ false }
     {
         matches!(self.checker.verdict(), Verdict::Unfinished(_))
@@ -101,7 +101,7 @@ impl<'f> Course<'f> {
 
     /// What the lines show.
     pub(crate) fn told(self, alloc: Global, is_spent: bool) -> Result<Resumed, NoMemory>
-        requires stands { Stands self.flat.now self }
+        requires stands { CourseStands self.flat.now self }
         ensures { IfOk result (λ resumed. TellsOf self.entry is_spent resumed) }
     {
         let is_open = self.is_open();

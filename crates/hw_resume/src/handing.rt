@@ -2,7 +2,7 @@
 
 ghost use Rattle.std.specs.Prelude.{All};
 ghost use Rattle.hw_lines.specs.Valid.{LineFits};
-ghost use Rattle.hw_resume.specs.Courses.{HandMeets, HandsAll, Stands};
+ghost use Rattle.hw_resume.specs.Courses.{HandMeets, HandsAllToCourse, CourseStands};
 
 use crate::going_on::Course;
 use crate::raising::{Raise, raised};
@@ -18,9 +18,9 @@ pub(crate) fn hand_all<'f>(
     by: Raise,
     found: &[Line],
 ) -> Result<Course<'f>, ResumeStop>
-    requires stands { Stands course.flat.now course }
+    requires stands { CourseStands course.flat.now course }
     requires fit { All (LineFits course.flat.now) found.now }
-    ensures { HandsAll course.entry found.now result }
+    ensures { HandsAllToCourse course.entry found.now result }
 {
     for line in found {
         match hand(alloc, course, by, line) {
@@ -38,7 +38,7 @@ fn hand<'f>(
     by: Raise,
     line: &Line,
 ) -> Result<Course<'f>, ResumeStop>
-    requires stands { Stands course.flat.now course }
+    requires stands { CourseStands course.flat.now course }
     requires fits { LineFits course.flat.now line.now }
     ensures { HandMeets course.entry line.now result }
 {

@@ -5,6 +5,7 @@ use Rattle.std.specs.List.{list_all, Contains}
 use Rattle.std.proofs.lemmas.Int.{ints, by_lt_z}
 use Rattle.std.proofs.lemmas.Bool.{and_left, and_right}
 use Rattle.std.proofs.lemmas.List.Sums.{sum_by-cons, sum_by-le-sum_by}
+use Rattle.hw_lemmas.proofs.Truths.{one_le}
 use Rattle.hw_model.specs.declared.rule.Hole.{Hole}
 use Rattle.hw_model.specs.Rules.{misses}
 use Rattle.hw_rules.specs.Differences.{Covered, HoleAt}
@@ -27,10 +28,6 @@ held_through holes h e c p q = some_fails (misses e) holes c.0 h c.1 c.2 (not_mi
 -- the holes that end at a difference or after it
 abbrev pub ahead : ℤ → Hole → Bool
 ahead d h = not (int_lt h.hi d)
-
-one_le : (b c : Bool) → (b ≡ true → c ≡ true) → cond b 1 0 ≤ cond c 1 0
-one_le true c i = rw (i refl) (omega arith)
-one_le false c i = omega arith
 
 pub count_less : {X : Type 0} (p q : X → Bool) → ((x : X) → p x ≡ true → q x ≡ true) → (xs : List X) (k : ℕ) (x : X) → k < length xs → get_or xs k x ≡ x → p x ≡ false → q x ≡ true → count_by p xs < count_by q xs
 count_less p q i [] k x l e f g = absurd (omega arith)

@@ -8,7 +8,7 @@ use Rattle.hw_model.specs.Timetables.{restriction_count}
 use Rattle.hw_model.specs.Refuting.{IsSourceOf, source_of}
 use Rattle.hw_rules.specs.Sources.{number_of}
 
-window_at : (f : Problem) (n : ℕ) → n < f.ships → source_of f n ≡ sources.Window n
+pub window_at : (f : Problem) (n : ℕ) → n < f.ships → source_of f n ≡ sources.Window n
 window_at f n lt = let t : nat_lt n f.ships ≡ true = lt-ltb n f.ships lt in rw t refl
 
 rule_at : (f : Problem) (n : ℕ) → f.ships ≤ n → source_of f n ≡ sources.Rule (n - f.ships)

@@ -1,10 +1,11 @@
 -- The best so far, after one more list of slots, and what a walk answers.
-use Rattle.std.proofs.Common.{◌≡◌, ◌↔◌, Result, Ok, Err, IfOk, slice_index, IsSome, IsSomeAnd, subst, ℕ, ◌+◌, ◌<◌, ◌≤◌, ◌⊎◌, Bool, true, false, List, Option, Some, None, MatchBool, IsTrue, refl, sym, ap, ◌∙◌, arith, inl, inr, zero, suc, replicate}
+use Rattle.std.proofs.Common.{◌≡◌, ◌↔◌, Result, Ok, Err, IfOk, IsSomeAnd, subst, ℕ, ◌+◌, ◌<◌, ◌≤◌, ◌⊎◌, Bool, true, false, List, Option, Some, None, MatchBool, IsTrue, refl, sym, ap, ◌∙◌, arith, inl, inr, zero, suc, replicate}
 use Rattle.std.proofs.lemmas.Bool.{cases_lt, ltb-true, ltb-false}
-use Rattle.hw_model.specs.Problem.{Problem, IsTimetable, value_at}
+use Rattle.hw_lemmas.proofs.Truths.{same_some}
+use Rattle.hw_model.specs.Problem.{Problem, IsTimetable}
 use Rattle.hw_model.specs.Timetables.{Permits, NonePermitted, cargo, beats}
 use Rattle.hw_model.specs.Walk.{rank, table_count, FirstBest}
-use Rattle.hw_laws.proofs.Cargoes.{cargo_above}
+use Rattle.hw_laws.proofs.Cargoes.{has_cargo}
 use Rattle.hw_laws.proofs.Rank.{rank_lt, same_rank, first_is_best, none_of_all}
 use Rattle.hw_rules.specs.declared.outcome.Walked.{Walked}
 use Rattle.hw_rules.specs.declared.outcome.Walked.TheVariants.{Best, NoneLeft, Spent}
@@ -18,11 +19,8 @@ now_or_before f cur u h g lt =
       | inr ge ↦ inl (same_rank f.slots u cur g.listed.each_slot h.each_slot (g.listed.each_ship ∙ sym h.each_ship) (omega (arith, ge, lt)))
     ]
 
-some_is : (a b : ℕ) → Some a ≡ Some b → a ≡ b
-some_is a b e = cc
-
 worth_is : (f : Problem) (cur u : List ℕ) (new c : ℕ) → u ≡ cur → cargo f cur ≡ Some new → cargo f u ≡ Some c → c ≡ new
-worth_is f cur u new c same w e = some_is c new (sym e ∙ ap (cargo f) same ∙ w)
+worth_is f cur u new c same w e = same_some c new (sym e ∙ ap (cargo f) same ∙ w)
 
 -- a permitted list that beats the best so far is the first best now
 pub better : (f : Problem) (cur best : List ℕ) (most : Option ℕ) (new : ℕ) → Permits f cur → cargo f cur ≡ Some new → IsTrue (beats new most) → BestSoFar f (rank f.slots cur) (kept best most) → FirstBest f (rank f.slots cur + 1) cur new
@@ -49,16 +47,6 @@ better f cur best (Some m) new t w a h =
       first = λ u c g before e. omega (arith, h.greatest u c g before e, lt);
     }
 
-some_from : (P : ℕ → Type 0) (o : Option ℕ) → IsSomeAnd o P → (c : ℕ) × (o ≡ Some c)
-some_from P None h = absurd h
-some_from P (Some c) h = (c, refl)
-
--- a permitted list has a cargo
-permitted_worth : (f : Problem) (u : List ℕ) → Permits f u → (c : ℕ) × (cargo f u ≡ Some c)
-permitted_worth f u g = some_from _ (cargo f u) (cargo_above f (λ ship. 0) u 0 (λ s k at lt.
-    let same : k ≡ s = omega (arith, at) in
-    (subst (λ i. IsSome (value_at f i (slice_index u k))) same (g.sails k (omega (arith, lt, g.listed.each_ship))), omega arith)))
-
 -- a list that is permitted has at most the greatest cargo so far
 abbrev pub NotBetter : Problem → List ℕ → Option ℕ → Type 0
 NotBetter f cur most = (c : ℕ) → Permits f cur → cargo f cur ≡ Some c → beats c most ≡ false
@@ -66,7 +54,7 @@ NotBetter f cur most = (c : ℕ) → Permits f cur → cargo f cur ≡ Some c �
 never : (f : Problem) (cur u : List ℕ) → NotBetter f cur None → u ≡ cur → Permits f u → ⊥
 never f cur u under same g =
     let h : Permits f cur = subst (Permits f) same g in
-    let w = permitted_worth f cur h in
+    let w = has_cargo f cur h in
     absurd (clash (under w.0 h w.1))
   where
     clash : true ≡ false → ⊥

@@ -7,10 +7,10 @@ use Rattle.std.proofs.lemmas.Bool.Decides.{nat_tests}
 use Rattle.std.proofs.lemmas.List.{get_or-set_same, get_or-set_other, get_or_default, get_or-take, length-take}
 use Rattle.std.proofs.lemmas.List.Folds.{list_any_more, Any-from_list_any}
 use Rattle.std.proofs.lemmas.List.FromFn.{length-range_with_len, get_or-range_with_len}
-use Rattle.hw_search.proofs.Ranges.{filter_range}
 use Rattle.std.proofs.lemmas.Option.{slice_get_within}
-use Rattle.hw_progress.proofs.Backs.{contains_any, in_filter}
+use Rattle.hw_progress.proofs.Backs.{contains_any, in_filter, any_contains}
 use Rattle.std.proofs.lemmas.Nat.{mul-add-lt, same_from_place}
+use Rattle.hw_lemmas.proofs.Lists.{filter_range}
 use Rattle.hw_model.specs.declared.rule.Job.{Job}
 use Rattle.hw_model.specs.declared.lit.Lit.{Lit}
 use Rattle.hw_model.specs.declared.lit.Lit.TheVariants as lits
@@ -18,7 +18,7 @@ use Rattle.hw_model.specs.declared.source.Source.{Source}
 use Rattle.hw_model.specs.Problem.{Problem}
 use Rattle.hw_model.specs.Lits.{IsLitOf}
 use Rattle.hw_model.specs.Quiet.{names_ship, names_order, names_lit}
-use Rattle.hw_search.specs.Speaking.{SpeakersModel, ship_places, pair_places, speakers_of, names_at, added, Adds, TellsSpeakers}
+use Rattle.hw_search.specs.Speaking.{SpeakersModel, ship_places, pair_places, speakers_of, source_names_literal, added, AddsPlace, TellsSpeakers}
 
 -- a list that was added to has one more place
 one_set : (lists : List (List ℕ)) (at i place : ℕ) (before after : List ℕ) (b : Bool) → at < length lists → before ≡ get_or lists at before → after ≡ before ++ place ∷ [] → ((b ≡ true) → i ≡ at) → ((b ≡ false) → i ≢ at) → get_or (slice_set lists at after) i [] ≡ get_or lists i [] ++ added b place
@@ -31,7 +31,7 @@ one_set lists at i place before after true lt was e same other =
 one_set lists at i place before after false lt was e same other = get_or-set_other lists at i after [] (other refl) ∙ sym (append-nil (get_or lists i []))
 
 pub pair_added : (old : SpeakersModel) (v w place : ℕ) (before after : List ℕ) → length old.by_pair ≡ old.ships * old.ships → v < w → w < old.ships → before ≡ get_or old.by_pair (v * old.ships + w) before → after ≡ before ++ place ∷ []
-    → Adds place (λ u. false) (λ a b. a == v && b == w) old (record old { by_pair = slice_set old.by_pair (v * old.ships + w) after })
+    → AddsPlace place (λ u. false) (λ a b. a == v && b == w) old (record old { by_pair = slice_set old.by_pair (v * old.ships + w) after })
 pair_added old v w place before after long up inside was e =
     let lt : v * old.ships + w < length old.by_pair = omega (arith, long, mul-add-lt v old.ships w old.ships (omega (arith, up, inside)) inside) in
     record {
@@ -56,7 +56,7 @@ added_both true false place xs apart = append-nil (xs ++ place ∷ [])
 added_both false true place xs apart = ap (λ ys. ys ++ place ∷ []) (append-nil xs)
 added_both false false place xs apart = append-nil (xs ++ [])
 
-pub then_added : (place : ℕ) (n m : ℕ → Bool) (o q : ℕ → ℕ → Bool) (a b c : SpeakersModel) → Adds place n o a b → Adds place m q b c → ((u : ℕ) → n u ≡ true → m u ≡ true → ⊥) → ((v w : ℕ) → o v w ≡ true → q v w ≡ true → ⊥) → Adds place (λ u. n u || m u) (λ v w. o v w || q v w) a c
+pub then_added : (place : ℕ) (n m : ℕ → Bool) (o q : ℕ → ℕ → Bool) (a b c : SpeakersModel) → AddsPlace place n o a b → AddsPlace place m q b c → ((u : ℕ) → n u ≡ true → m u ≡ true → ⊥) → ((v w : ℕ) → o v w ≡ true → q v w ≡ true → ⊥) → AddsPlace place (λ u. n u || m u) (λ v w. o v w || q v w) a c
 then_added place n m o q a b c first second ships pairs = record {
   same_ships = second.same_ships ∙ first.same_ships;
   ships = λ u h. second.ships u (omega (arith, h, first.same_ships)) ∙ ap (λ xs. xs ++ added (m u) place) (first.ships u h) ∙ added_both (n u) (m u) place (ship_places a u) (ships u);
@@ -64,7 +64,7 @@ then_added place n m o q a b c first second ships pairs = record {
 }
 
 -- the same tests, spelled otherwise
-pub same_added : (place : ℕ) (n m : ℕ → Bool) (o q : ℕ → ℕ → Bool) (a b : SpeakersModel) → Adds place n o a b → ((u : ℕ) → u < a.ships → n u ≡ m u) → ((v w : ℕ) → o v w ≡ q v w) → Adds place m q a b
+pub same_added : (place : ℕ) (n m : ℕ → Bool) (o q : ℕ → ℕ → Bool) (a b : SpeakersModel) → AddsPlace place n o a b → ((u : ℕ) → u < a.ships → n u ≡ m u) → ((v w : ℕ) → o v w ≡ q v w) → AddsPlace place m q a b
 same_added place n m o q a b h e f = record {
   same_ships = h.same_ships;
   ships = λ u lt. h.ships u lt ∙ ap (λ t. ship_places a u ++ added t place) (e u lt);
@@ -73,9 +73,9 @@ same_added place n m o q a b h e f = record {
 
 -- the same where a value's fields are known by its view
 pub pair_pushed : (inside old : SpeakersModel) (v w place : ℕ) (before after : List ℕ) → inside ≡ old → length inside.by_pair ≡ inside.ships * inside.ships → v < w → w < old.ships → before ≡ get_or inside.by_pair (v * inside.ships + w) before → after ≡ before ++ place ∷ []
-    → Adds place (λ u. false) (λ a b. a == v && b == w) old (record inside { by_pair = slice_set inside.by_pair (v * inside.ships + w) after })
+    → AddsPlace place (λ u. false) (λ a b. a == v && b == w) old (record inside { by_pair = slice_set inside.by_pair (v * inside.ships + w) after })
 pair_pushed inside old v w place before after same long up lt was e =
-    let P : SpeakersModel → Type 0 = λ m. w < m.ships → Adds place (λ u. false) (λ a b. a == v && b == w) m (record inside { by_pair = slice_set inside.by_pair (v * inside.ships + w) after }) in
+    let P : SpeakersModel → Type 0 = λ m. w < m.ships → AddsPlace place (λ u. false) (λ a b. a == v && b == w) m (record inside { by_pair = slice_set inside.by_pair (v * inside.ships + w) after }) in
     subst P same (λ k. pair_added inside v w place before after long up k was e) lt
 
 -- ---- job after job
@@ -96,7 +96,7 @@ apart_jobs jobs u i d lt up e f =
     let three : a.1.ship ≡ (get_or jobs k d).ship = ap (λ (j : Job). j.ship) same in
     omega (arith, one, two, less, three)
 
-pub next_job : (place i : ℕ) (jobs : List Job) (d : Job) (a b c : SpeakersModel) → i < length jobs → AllPairs (λ (x y : Job). x.ship < y.ship) jobs → Adds place (λ u. list_any (of_job u) (take i jobs)) (λ v w. false) a b → Adds place (λ u. u == (get_or jobs i d).ship) (λ v w. false) b c → Adds place (λ u. list_any (of_job u) (take (i + 1) jobs)) (λ v w. false) a c
+pub next_job : (place i : ℕ) (jobs : List Job) (d : Job) (a b c : SpeakersModel) → i < length jobs → AllPairs (λ (x y : Job). x.ship < y.ship) jobs → AddsPlace place (λ u. list_any (of_job u) (take i jobs)) (λ v w. false) a b → AddsPlace place (λ u. u == (get_or jobs i d).ship) (λ v w. false) b c → AddsPlace place (λ u. list_any (of_job u) (take (i + 1) jobs)) (λ v w. false) a c
 next_job place i jobs d a b c lt up first second =
     same_added place (λ u. list_any (of_job u) (take i jobs) || u == (get_or jobs i d).ship) (λ u. list_any (of_job u) (take (i + 1) jobs)) (λ v w. false) (λ v w. false) a c
     (then_added place (λ u. list_any (of_job u) (take i jobs)) (λ u. u == (get_or jobs i d).ship) (λ v w. false) (λ v w. false) a b c first second
@@ -111,26 +111,21 @@ next_job place i jobs d a b c lt up first second =
 
 -- what was listed of the first n sources
 abbrev pub ListedUpto : Problem → List Source → ℕ → SpeakersModel → Type 0
-ListedUpto f sources n s = (lit : Lit) → IsLitOf f.ships lit → speakers_of s lit ≡ filter (λ place. names_at f lit (slice_get sources place)) (range_with_len 0 n)
+ListedUpto f sources n s = (lit : Lit) → IsLitOf f.ships lit → speakers_of s lit ≡ filter (λ place. source_names_literal f lit (slice_get sources place)) (range_with_len 0 n)
 
-one_listed : (f : Problem) (source : Source) (place : ℕ) (old new : SpeakersModel) → old.ships ≡ f.ships → Adds place (names_ship f source) (names_order f source) old new → (lit : Lit) → IsLitOf f.ships lit → speakers_of new lit ≡ speakers_of old lit ++ added (names_lit f source lit) place
+one_listed : (f : Problem) (source : Source) (place : ℕ) (old new : SpeakersModel) → old.ships ≡ f.ships → AddsPlace place (names_ship f source) (names_order f source) old new → (lit : Lit) → IsLitOf f.ships lit → speakers_of new lit ≡ speakers_of old lit ++ added (names_lit f source lit) place
 one_listed f source place old new same h (lits.AtOrAfter ship slot) fits = h.ships ship (omega (arith, same, fits.0))
 one_listed f source place old new same h (lits.Before ship slot) fits = h.ships ship (omega (arith, same, fits.0))
 one_listed f source place old new same h (lits.First v w) fits = h.pairs v w fits.0 (omega (arith, same, fits.1))
 one_listed f source place old new same h (lits.NotFirst v w) fits = h.pairs v w fits.0 (omega (arith, same, fits.1))
 
-pub next_listed : (f : Problem) (sources : List Source) (n place : ℕ) (source : Source) (old new : SpeakersModel) → old.ships ≡ f.ships → place ≡ n → slice_get sources n ≡ Some source → ListedUpto f sources n old → Adds place (names_ship f source) (names_order f source) old new → ListedUpto f sources (n + 1) new
+pub next_listed : (f : Problem) (sources : List Source) (n place : ℕ) (source : Source) (old new : SpeakersModel) → old.ships ≡ f.ships → place ≡ n → slice_get sources n ≡ Some source → ListedUpto f sources n old → AddsPlace place (names_ship f source) (names_order f source) old new → ListedUpto f sources (n + 1) new
 next_listed f sources n place source old new same here at upto adds lit fits =
-    let h : Adds n (names_ship f source) (names_order f source) old new = subst (λ (k : ℕ). Adds k (names_ship f source) (names_order f source) old new) here adds in
-    let p : ℕ → Bool = λ place. names_at f lit (slice_get sources place) in
-    let now : p n ≡ names_lit f source lit = ap (names_at f lit) at in
+    let h : AddsPlace n (names_ship f source) (names_order f source) old new = subst (λ (k : ℕ). AddsPlace k (names_ship f source) (names_order f source) old new) here adds in
+    let p : ℕ → Bool = λ place. source_names_literal f lit (slice_get sources place) in
+    let now : p n ≡ names_lit f source lit = ap (source_names_literal f lit) at in
     let step : filter p (range_with_len 0 (n + 1)) ≡ filter p (range_with_len 0 n) ++ added (p n) n = filter_range p n in
     one_listed f source n old new same h lit fits ∙ ap (λ xs. xs ++ added (names_lit f source lit) n) (upto lit fits) ∙ ap (λ t. filter p (range_with_len 0 n) ++ added t n) (sym now) ∙ sym step
-
-any_contains : (xs : List ℕ) (n : ℕ) → list_any (λ x. x == n) xs ≡ true → Contains xs n
-any_contains xs n e =
-    let a = Any-from_list_any (λ x. x == n) xs e in
-    (a.0, a.2, get_or_default xs a.0 n a.1 a.2 ∙ a.3 ∙ eqb-true a.1 n a.4)
 
 contains_filter : (p : ℕ → Bool) (xs : List ℕ) (n : ℕ) → p n ≡ true → Contains xs n → Contains (filter p xs) n
 contains_filter p xs n e h = any_contains (filter p xs) n (in_filter p xs n e (contains_any xs n h))
@@ -140,8 +135,8 @@ pub all_told : (f : Problem) (sources : List Source) (s : SpeakersModel) → s.s
 all_told f sources s same listed = record {
   same_ships = same;
   each = λ lit place source fits at names.
-      let p : ℕ → Bool = λ place. names_at f lit (slice_get sources place) in
-      let says : p place ≡ true = ap (names_at f lit) at ∙ names in
+      let p : ℕ → Bool = λ place. source_names_literal f lit (slice_get sources place) in
+      let says : p place ≡ true = ap (source_names_literal f lit) at ∙ names in
       let inside : place < length sources = slice_get_within sources place source at in
       let here : Contains (range_with_len 0 (length sources)) place = (place, omega (arith, inside, length-range_with_len 0 (length sources)), get_or-range_with_len 0 (length sources) place place inside ∙ zero-add place) in
       subst (λ xs. Contains xs place) (sym (listed lit fits)) (contains_filter p (range_with_len 0 (length sources)) place says here);

@@ -21,7 +21,7 @@ use Rattle.hw_progress.specs.Searches.{SearchModel, IsSearch, FitsOpen, LiveKept
 use Rattle.hw_progress.specs.Settling.{with_events}
 use Rattle.hw_progress.specs.Laws.{PriceLine, PriceMeets}
 use Rattle.hw_progress.specs.Advised.{HeedWrites, Heeds, IsCutOff, StopsBy, with_priced}
-use Rattle.hw_progress.proofs.Heeded.{heeds_on}
+use Rattle.hw_progress.proofs.Heeded.{heeds_none, heeds_both}
 use Rattle.hw_progress.proofs.Lines.{same_lemmas}
 use Rattle.hw_progress.proofs.Told.{grown}
 use Rattle.hw_search.specs.declared.settling.Asked.{Asked}
@@ -32,12 +32,6 @@ use Rattle.hw_search.specs.Turning.{turn_of}
 use Rattle.hw_search.proofs.Handed.{grown_with, grown_to, grows_by}
 
 -- ---- what was heeded
-
-pub heeds_none : (s : SearchModel) (log : LogModel) → IsSearch s → WhereTold log (λ told. LogFits told s) → Heeds s s log log
-heeds_none s log is fits = heeds_on.0 s log is fits
-
-pub heeds_both : (s mid after : SearchModel) (old here new : LogModel) → Heeds s mid old here → Heeds mid after here new → Heeds s after old new
-heeds_both s mid after old here new a b = heeds_on.1 s mid after old here new a b
 
 -- the log fits afterwards
 pub heeds_fit : (s after : SearchModel) (old new : LogModel) → Heeds s after old new → WhereTold new (λ told. LogFits told after)

@@ -23,10 +23,11 @@ use Rattle.hw_progress.specs.Searches.{SearchModel, IsSearch, LogFits, room_in}
 use Rattle.hw_progress.specs.Settling.{AllQuiet, Implies, IsConflict, Settles}
 use Rattle.hw_progress.specs.Turns.{TurnMeets}
 use Rattle.hw_progress.specs.Advised.{HeedWrites, Heeds, FollowsAdvice}
+use Rattle.hw_progress.proofs.Heeded.{heeds_none, heeds_both}
 use Rattle.hw_search.specs.Faults.{TurnKeepsFaults}
 use Rattle.hw_search.specs.Heeding.{AdvisedTurn, HeedGains, HeedFails, RoundMeets}
-use Rattle.hw_search.specs.Turning.{Begins, Decides, TurnsFrom, decided_by}
-use Rattle.hw_search.proofs.Advice.{heeds_none, heeds_both, heeds_fit, gains_on, same_problem}
+use Rattle.hw_search.specs.Turning.{TurnBegins, Decides, TurnsFrom, decided_by}
+use Rattle.hw_search.proofs.Advice.{heeds_fit, gains_on, same_problem}
 use Rattle.hw_search.proofs.Answering.{mid_fits, decided_meets}
 use Rattle.hw_search.proofs.Ending.{turned}
 use Rattle.hw_search.proofs.Handed.{grows_none}
@@ -83,7 +84,7 @@ settled_heeds s mid log is i kept fits = record {
 pub turn_ends : (s : SearchModel) (old : LogModel) (turn : Turn) (after : SearchModel) (new : LogModel) → IsSearch s → WhereTold old (λ told. LogFits told s) → TurnMeets s old turn after new → TurnKeepsFaults turn old new → AdvisedTurn s old turn after new
 turn_ends s old turn after new is fits t k = record { meets = record { mid = s; then = old; heeds = heeds_none s old is fits; follows = FollowsAdvice.by_turn t }; kept = k }
 
-begins : (s : SearchModel) (old : LogModel) → IsSearch s → s.over ≡ false → s.lemmas < 100000 → WhereTold old (λ told. LogFits told s) → Begins s old
+begins : (s : SearchModel) (old : LogModel) → IsSearch s → s.over ≡ false → s.lemmas < 100000 → WhereTold old (λ told. LogFits told s) → TurnBegins s old
 begins s old is going few fits = record { kept = is; going = going; few = few; fits = fits }
 
 -- after a conflict

@@ -3,11 +3,11 @@ use Rattle.std.proofs.Common.{◌≡◌, ℕ, zero, suc, ◌+◌, ◌<◌, ◌�
 use Rattle.std.specs.List.{list_all, range_with_len}
 use Rattle.std.proofs.lemmas.Bool.{cases_lt, and_parts, and_from, leb-true, lt-ltb, le-leb}
 use Rattle.std.proofs.lemmas.List.Folds.{list_all-append}
+use Rattle.hw_lemmas.proofs.Lists.{filter_range}
 use Rattle.hw_model.specs.Problem.{Problem}
 use Rattle.hw_model.specs.Rooms.{RoomModel, low_of, high_of}
 use Rattle.hw_progress.specs.Branches.{greatest_in}
 use Rattle.hw_search.specs.Branching.{BestAmong}
-use Rattle.hw_search.proofs.Ranges.{filter_range}
 
 -- ---- the first of a range that passes
 

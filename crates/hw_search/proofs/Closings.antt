@@ -17,7 +17,7 @@ use Rattle.hw_progress.proofs.Lines.{same_lemmas}
 use Rattle.hw_search.specs.Closing.{LastMeets}
 use Rattle.hw_search.specs.Engines.{EngineModel, KeepsEngine}
 use Rattle.hw_search.specs.Handing.{TakesAll, StopsWithin, Hands}
-use Rattle.hw_search.specs.Heeding.{HeedStops, HeedMeets, priced_by}
+use Rattle.hw_search.specs.Heeding.{HeedStops, HeedMeets, with_other_prices}
 use Rattle.hw_search.specs.Speaking.{SpeakersModel}
 use Rattle.hw_search.proofs.Advice.{line_stops}
 use Rattle.hw_search.proofs.Handed.{grown_with}
@@ -25,7 +25,7 @@ use Rattle.hw_search.proofs.Handed.{grown_with}
 -- ---- other prices
 
 -- what the parts of an engine keep with other prices
-pub kept_prices : (e : EngineModel) (table : SpeakersModel) (goal : ℕ) (worth : Option ℕ) (reserved : ℕ) (p : PriceModel) → KeepsEngine e table goal worth reserved → IsSearch (priced_by e.search p) → KeepsEngine (record e { search = priced_by e.search p }) table goal worth reserved
+pub kept_prices : (e : EngineModel) (table : SpeakersModel) (goal : ℕ) (worth : Option ℕ) (reserved : ℕ) (p : PriceModel) → KeepsEngine e table goal worth reserved → IsSearch (with_other_prices e.search p) → KeepsEngine (record e { search = with_other_prices e.search p }) table goal worth reserved
 kept_prices e table goal worth reserved p k is = record {
   search = is;
   once = k.once;
@@ -46,13 +46,13 @@ pub none_older : (s : SearchModel) → IsSearch s → IsReached s → s.prices.o
 none_older s is reached none = reached_shown s is reached (sym (ap (λ o. older_or o s.prices.tariff) none))
 
 -- it comes into force
-now_older : (s u : SearchModel) (tariff : Tariff) → IsSearch u → IsReached s → s.prices.older ≡ Some tariff → u ≡ priced_by s (with_tariff s.prices tariff) → PricesShow u []
+now_older : (s u : SearchModel) (tariff : Tariff) → IsSearch u → IsReached s → s.prices.older ≡ Some tariff → u ≡ with_other_prices s (with_tariff s.prices tariff) → PricesShow u []
 now_older s u tariff is reached older e =
-    let v : SearchModel = priced_by s (with_tariff s.prices tariff) in
+    let v : SearchModel = with_other_prices s (with_tariff s.prices tariff) in
     let shown : Some tariff ≡ bound_tariff (with_tariff s.prices tariff) = sym (ap (λ o. older_or (older_or o s.prices.tariff) (Some tariff)) older) in
     subst (λ (x : SearchModel). PricesShow x []) (sym e) (reached_shown v (subst IsSearch e is) reached shown)
 
-pub older_meets : {A : Type 0} (s u : SearchModel) (tariff : Tariff) (old log : LogModel) (result : Result A LogStop) → IsReached s → s.prices.older ≡ Some tariff → OnOk result (u ≡ priced_by s (with_tariff s.prices tariff)) → HeedMeets s u old log result → OnOk result (PricesShow u [])
+pub older_meets : {A : Type 0} (s u : SearchModel) (tariff : Tariff) (old log : LogModel) (result : Result A LogStop) → IsReached s → s.prices.older ≡ Some tariff → OnOk result (u ≡ with_other_prices s (with_tariff s.prices tariff)) → HeedMeets s u old log result → OnOk result (PricesShow u [])
 older_meets s u tariff old log (Ok done) reached older e h = now_older s u tariff h.kept reached older e
 older_meets s u tariff old log (Err stop) reached older e h = tt
 

@@ -17,26 +17,20 @@ use Rattle.hw_progress.specs.declared.outcome.Turn.TheVariants as turns
 use Rattle.hw_progress.specs.Branches.{branch_literal}
 use Rattle.hw_progress.specs.Searches.{SearchModel, IsSearch, best_cargo, room_in}
 use Rattle.hw_progress.specs.Settling.{Implies}
-use Rattle.hw_progress.specs.Turns.{cited, cite_conflict, with_lemma, to_level, is_due, gone_back, is_last, DoesDecide, DoesBetter, DoesLemma, TurnDoes}
+use Rattle.hw_progress.specs.Turns.{cited, cite_conflict, with_lemma, to_level, restart_is_due, gone_back, is_last, DoesDecide, DoesBetter, DoesLemma, TurnDoes}
 use Rattle.hw_progress.proofs.Bounds.{few_reasons}
 use Rattle.hw_progress.proofs.Choices.{branch_open, IsOpen}
 use Rattle.hw_progress.proofs.Holds.{room_fits}
 use Rattle.hw_progress.proofs.Keeps.{decided_search}
 use Rattle.hw_progress.proofs.Stops.{numbers_kept}
 use Rattle.hw_progress.proofs.Turned.{point_table}
-use Rattle.hw_search.specs.Going.{rank, most_cargo, turns_left}
+use Rattle.hw_progress.proofs.OneLemma.{gone_lemmas, implied_lemmas, decide_lemmas}
+use Rattle.hw_search.specs.Going.{cargo_rank, most_cargo, turns_left}
 
 -- ---- counts of lemmas
 
-gone_lemmas : (u : SearchModel) (back : ℕ) → (gone_back u back).lemmas ≡ u.lemmas
-gone_lemmas u back = by (is_due u)
-  where
-    by : (b : Bool) → (cond b (record (to_level u 0) { restarts = u.restarts + 1; since = 0 }) (record (to_level u back) { since = u.since + 1 })).lemmas ≡ u.lemmas
-    by true = refl
-    by false = refl
-
 gone_best : (u : SearchModel) (back : ℕ) → (gone_back u back).best ≡ u.best
-gone_best u back = by (is_due u)
+gone_best u back = by (restart_is_due u)
   where
     by : (b : Bool) → (cond b (record (to_level u 0) { restarts = u.restarts + 1; since = 0 }) (record (to_level u back) { since = u.since + 1 })).best ≡ u.best
     by true = refl
@@ -47,9 +41,6 @@ cited_lemmas mid why places = ap (λ (x : SearchModel). x.lemmas) (numbers_kept 
 
 cited_best : (mid : SearchModel) (why : Why) (places : List ℕ) → (cite_conflict (cited mid places) why).search.best ≡ mid.best
 cited_best mid why places = ap (λ (x : SearchModel). x.best) (numbers_kept mid why places).same
-
-implied_lemmas : (s mid : SearchModel) → Implies s mid → mid.lemmas ≡ s.lemmas
-implied_lemmas s mid h = ap (λ (x : SearchModel). x.lemmas) h.only
 
 implied_best : (s mid : SearchModel) → Implies s mid → mid.best ≡ s.best
 implied_best s mid h = ap (λ (x : SearchModel). x.best) h.only
@@ -64,16 +55,11 @@ of_some : {A : Type 0} (o : Option A) (P Q : A → Type 0) → IsSomeAnd o P →
 of_some None P Q a b = absurd a
 of_some (Some x) P Q a b = (x, a, b)
 
-decide_lemmas : (s u : SearchModel) (old new : LogModel) → DoesDecide s u old new → u.lemmas ≡ s.lemmas
-decide_lemmas s u old new h =
-    let d = of_some (branch_literal h.mid.branching h.mid.problem (room_in h.mid)) (λ lit. u ≡ record h.mid { trail = decided h.mid.trail lit; written = h.mid.written ++ None ∷ [] }) (λ lit. u ≡ record h.mid { trail = decided h.mid.trail lit; written = h.mid.written ++ None ∷ [] }) h.decides h.decides in
-    ap (λ (x : SearchModel). x.lemmas) d.1 ∙ implied_lemmas s h.mid h.settles.implies
-
 -- ---- what is left
 
 -- what is left of a search, by its numbers
 abbrev left_by : Problem → ℕ → Option ℕ → ℕ → ℕ → ℕ
-left_by f budget best lemmas events = (most_cargo f + 1 - rank best) + ((budget - lemmas) * (most_events f.ships f.slots + 1) + (most_events f.ships f.slots - events))
+left_by f budget best lemmas events = (most_cargo f + 1 - cargo_rank best) + ((budget - lemmas) * (most_events f.ships f.slots + 1) + (most_events f.ships f.slots - events))
 
 fits_trail : (s : SearchModel) (lit : Lit) → s.trail.ships ≡ s.problem.ships → s.trail.slots ≡ s.problem.slots → lit_fits (shape_of s.problem) lit ≡ true → lit_fits (trail_shape s.trail) lit ≡ true
 fits_trail s (AtOrAfter ship slot) a b e = ap (λ n. nat_lt ship n && (nat_le 1 slot && nat_lt slot s.trail.slots)) a ∙ ap (λ n. nat_lt ship s.problem.ships && (nat_le 1 slot && nat_lt slot n)) b ∙ e
@@ -97,12 +83,12 @@ decide_more s u old new h =
       omega (arith, few.0, after.each_event),
     )
 
-pub rank_rises : (c : ℕ) (best : Option ℕ) → IsTrue (beats c best) → rank best < c + 1
+pub rank_rises : (c : ℕ) (best : Option ℕ) → IsTrue (beats c best) → cargo_rank best < c + 1
 rank_rises c None h = omega arith
 rank_rises c (Some b) h = let lt = ltb-true b c h in omega (arith, lt)
 
 -- a better timetable has more cargo, and no more than there is
-better_more : (s u : SearchModel) (old new : LogModel) → DoesBetter s u old new → (u.problem ≡ s.problem) × (rank (best_cargo s) < rank (best_cargo u)) × (rank (best_cargo u) ≤ most_cargo s.problem + 1) × (length s.trail.events ≤ length u.trail.events)
+better_more : (s u : SearchModel) (old new : LogModel) → DoesBetter s u old new → (u.problem ≡ s.problem) × (cargo_rank (best_cargo s) < cargo_rank (best_cargo u)) × (cargo_rank (best_cargo u) ≤ most_cargo s.problem + 1) × (length s.trail.events ≤ length u.trail.events)
 better_more s u old new h =
     let m = h.mid in
     let is : IsSearch m = h.settles.kept in
@@ -112,9 +98,9 @@ better_more s u old new h =
     let new_best : best_cargo u ≡ Some p.1 = ap best_cargo h.better ∙ p.2 in
     let le : p.1 ≤ most_cargo m.problem = cargo_le m.problem (whole_room (shape_of m.problem)) (point_of (room_in m)) p.1 refl (inside_whole m.problem (point_of (room_in m)) p.0.listed) p.2 in
     let most : most_cargo m.problem ≡ most_cargo s.problem = ap most_cargo same in
-    let up : rank (best_cargo m) < p.1 + 1 = rank_rises p.1 (best_cargo m) p.3 in
-    let a : rank (best_cargo m) ≡ rank (best_cargo s) = ap rank old_best in
-    let b : rank (best_cargo u) ≡ p.1 + 1 = ap rank new_best in (
+    let up : cargo_rank (best_cargo m) < p.1 + 1 = rank_rises p.1 (best_cargo m) p.3 in
+    let a : cargo_rank (best_cargo m) ≡ cargo_rank (best_cargo s) = ap cargo_rank old_best in
+    let b : cargo_rank (best_cargo u) ≡ p.1 + 1 = ap cargo_rank new_best in (
       ap (λ (x : SearchModel). x.problem) h.better ∙ same,
       omega (arith, up, a, b),
       omega (arith, le, most, b),
@@ -156,22 +142,22 @@ nearer turns.Decided budget s u old new last lt p h =
     let m = most_events s.problem.ships s.problem.slots in
     let d = decide_more s u old new h in
     let few : length u.trail.events ≤ m = subst (λ (f : Problem). length u.trail.events ≤ most_events f.ships f.slots) p d.3 in
-    let g : rank (best_cargo u) ≡ rank (best_cargo s) = ap rank (same_cargo s u p d.1) in
+    let g : cargo_rank (best_cargo u) ≡ cargo_rank (best_cargo s) = ap cargo_rank (same_cargo s u p d.1) in
     let x : (budget - u.lemmas) * (m + 1) ≡ (budget - s.lemmas) * (m + 1) = ap (λ n. (budget - n) * (m + 1)) (decide_lemmas s u old new h) in
-    let r = less_decided (most_cargo s.problem + 1 - rank (best_cargo s)) ((budget - s.lemmas) * (m + 1)) m (length s.trail.events) (length u.trail.events) d.2 few in
+    let r = less_decided (most_cargo s.problem + 1 - cargo_rank (best_cargo s)) ((budget - s.lemmas) * (m + 1)) m (length s.trail.events) (length u.trail.events) d.2 few in
     omega (arith, r, g, x, same_left budget s u p)
 nearer turns.Better budget s u old new last lt p h =
     let m = most_events s.problem.ships s.problem.slots in
     let d = better_more s u old new h in
     let e : u.lemmas ≡ s.lemmas = ap (λ (x : SearchModel). x.lemmas) h.better ∙ implied_lemmas s h.mid h.settles.implies in
     let x : (budget - u.lemmas) * (m + 1) ≡ (budget - s.lemmas) * (m + 1) = ap (λ n. (budget - n) * (m + 1)) e in
-    let r = less_better (most_cargo s.problem) (rank (best_cargo s)) (rank (best_cargo u)) ((budget - s.lemmas) * (m + 1)) m (length s.trail.events) (length u.trail.events) d.1 d.2 d.3 in
+    let r = less_better (most_cargo s.problem) (cargo_rank (best_cargo s)) (cargo_rank (best_cargo u)) ((budget - s.lemmas) * (m + 1)) m (length s.trail.events) (length u.trail.events) d.1 d.2 d.3 in
     omega (arith, r, x, same_left budget s u p)
 nearer turns.Lemma budget s u old new last lt p h =
     let m = most_events s.problem.ships s.problem.slots in
     let d = lemma_more s u old new h in
-    let g : rank (best_cargo u) ≡ rank (best_cargo s) = ap rank (same_cargo s u p d.0) in
-    let r = less_lemma (most_cargo s.problem + 1 - rank (best_cargo s)) budget s.lemmas u.lemmas m (length s.trail.events) (length u.trail.events) d.1 lt in
+    let g : cargo_rank (best_cargo u) ≡ cargo_rank (best_cargo s) = ap cargo_rank (same_cargo s u p d.0) in
+    let r = less_lemma (most_cargo s.problem + 1 - cargo_rank (best_cargo s)) budget s.lemmas u.lemmas m (length s.trail.events) (length u.trail.events) d.1 lt in
     omega (arith, r, g, same_left budget s u p)
 nearer turns.Ended budget s u old new last lt p h = absurd cc
 nearer turns.NoMemory budget s u old new last lt p h = absurd cc

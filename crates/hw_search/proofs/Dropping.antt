@@ -12,22 +12,17 @@ use Rattle.std.proofs.lemmas.List.Sorted.{searched}
 use Rattle.std.proofs.lemmas.Bool.{cases_Bool, cases_lt, eqb-true, eq-eqb}
 use Rattle.std.proofs.lemmas.List.{get_or_default, take_more, length-map, get_or-map}
 use Rattle.std.proofs.lemmas.List.Elements.{All-map, All-weaker, Contains-push_cases, All-contains, filter_passes}
-use Rattle.std.proofs.lemmas.List.Folds.{list_any_none, list_any_at, Any-from_list_any}
+use Rattle.std.proofs.lemmas.List.Folds.{list_any_none, list_any_at}
 use Rattle.hw_model.specs.declared.lit.Lit.{Lit}
 use Rattle.hw_store.specs.declared.store.Stored.{Stored}
 use Rattle.hw_store.specs.Stores.{IsNotHeld}
-use Rattle.hw_progress.proofs.Backs.{contains_any, in_filter, from_filter}
+use Rattle.hw_progress.proofs.Backs.{contains_any, in_filter, from_filter, any_contains}
 
 differs : (x y : ℕ) → x ≢ y → (x == y) ≡ false
 differs x y ne = elim (cases_Bool (x == y)) [
   | inl t ↦ absurd (ne (eqb-true x y t))
   | inr f ↦ f
 ]
-
-pub any_contains : (xs : List ℕ) (n : ℕ) → list_any (λ x. x == n) xs ≡ true → Contains xs n
-any_contains xs n e =
-    let a = Any-from_list_any (λ x. x == n) xs e in
-    (a.0, a.2, get_or_default xs a.0 n a.1 a.2 ∙ a.3 ∙ eqb-true a.1 n a.4)
 
 pub any_not : (xs : List ℕ) (n : ℕ) → (Contains xs n → ⊥) → list_any (λ x. x == n) xs ≡ false
 any_not xs n h = elim (cases_Bool (list_any (λ x. x == n) xs)) [

@@ -3,7 +3,7 @@ use Rattle.std.proofs.Common.{◌≡◌, ℕ, zero, suc, ◌+◌, ◌≤◌, Lis
 use Rattle.std.specs.Prelude.{slice_set}
 use Rattle.std.proofs.lemmas.List.Elements.{All-cons, All-head, All-tail, All-take, All-weaker}
 use Rattle.hw_progress.proofs.Numbers.{set_stay as stay_set}
-use Rattle.hw_search.specs.Ledgers.{LedgerModel, with_line, with_reason, GivesAtMost}
+use Rattle.hw_search.specs.Ledgers.{LedgerModel, with_clause_line, with_reason, GivesAtMost}
 
 pub gives_none : (l : LedgerModel) (most : ℕ) → GivesAtMost most l l
 gives_none l most = record { long = refl; stay = λ q h. h; reserved = refl; low = omega arith; high = omega arith }
@@ -11,7 +11,7 @@ gives_none l most = record { long = refl; stay = λ q h. h; reserved = refl; low
 pub gives_reason : (l l' : LedgerModel) (place : ℕ) → l' ≡ with_reason l place → GivesAtMost 1 l l'
 gives_reason l l' place e = subst (GivesAtMost 1 l) (sym e) (record { long = length-set l.written place (Some (l.clause_lines + 1)); stay = stay_set l.written place (l.clause_lines + 1); reserved = refl; low = omega arith; high = omega arith })
 
-pub gives_line : (l l' : LedgerModel) → l' ≡ with_line l → GivesAtMost 1 l l'
+pub gives_line : (l l' : LedgerModel) → l' ≡ with_clause_line l → GivesAtMost 1 l l'
 gives_line l l' e = subst (GivesAtMost 1 l) (sym e) (record { long = refl; stay = λ q h. h; reserved = refl; low = omega arith; high = omega arith })
 
 pub gives_then : (a b c : LedgerModel) (m n most : ℕ) → m + n ≤ most → GivesAtMost m a b → GivesAtMost n b c → GivesAtMost most a c

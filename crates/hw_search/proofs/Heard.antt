@@ -16,23 +16,24 @@ use Rattle.hw_story.specs.declared.event.Why.TheVariants as whys
 use Rattle.hw_story.specs.Trails.{TrailModel, trail_shape, implied}
 use Rattle.hw_cert.specs.declared.log.LogStop.{LogStop}
 use Rattle.hw_cert.specs.Logs.{LogModel, WhereTold}
-use Rattle.hw_progress.specs.Prices.{PriceModel, toll_line, tariff_line, with_toll, with_tariff, DuesAscend}
+use Rattle.hw_progress.specs.Prices.{PriceModel, toll_line, tariff_line, prices_with_toll, with_tariff, DuesAscend}
 use Rattle.hw_progress.specs.Searches.{SearchModel, IsSearch, LogFits, PricesShow, room_in}
 use Rattle.hw_progress.specs.Advised.{Heeds, with_priced}
 use Rattle.hw_progress.proofs.Bounds.{few_numbers}
 use Rattle.hw_progress.proofs.Priced.{true_reason, priced, priced_good, priced_search}
 use Rattle.hw_progress.proofs.Tolled.{toll, tariff, toll_prices, tariff_prices, price_search}
 use Rattle.hw_store.specs.declared.store.Stored.{Stored}
+use Rattle.hw_progress.proofs.Heeded.{heeds_none}
 use Rattle.hw_search.specs.Engines.{EngineModel}
 use Rattle.hw_search.specs.Handing.{TakesAll, StopsWithin}
-use Rattle.hw_search.specs.Heeding.{priced_by, with_tolls, HeedStops, HeedFails}
+use Rattle.hw_search.specs.Heeding.{with_other_prices, with_tolls, HeedStops, HeedFails}
 use Rattle.hw_search.specs.Ledgers.{LedgerModel}
-use Rattle.hw_search.proofs.Advice.{heeds_none, prices_heeded, priced_heeded, line_stops}
+use Rattle.hw_search.proofs.Advice.{prices_heeded, priced_heeded, line_stops}
 
 -- ---- a toll
 
-toll_search : (s : SearchModel) (new : Toll) → IsSearch s → IsToll s.problem new → length s.prices.tolls < 10_000 → IsSearch (priced_by s (with_toll s.prices new))
-toll_search s new is of few = price_search s (with_toll s.prices new) is (toll_prices s.problem s.prices new is.prices of few)
+toll_search : (s : SearchModel) (new : Toll) → IsSearch s → IsToll s.problem new → length s.prices.tolls < 10_000 → IsSearch (with_other_prices s (prices_with_toll s.prices new))
+toll_search s new is of few = price_search s (prices_with_toll s.prices new) is (toll_prices s.problem s.prices new is.prices of few)
 
 -- what a toll must be
 pub record IsNewToll (s : SearchModel) (new : Toll) : Type 0 where
@@ -40,19 +41,19 @@ pub record IsNewToll (s : SearchModel) (new : Toll) : Type 0 where
   pub few : length s.prices.tolls < 10_000
 
 -- the same tolls, as they are held
-pub held_is : (e u : EngineModel) (held : List Toll) → e ≡ u → held ≡ e.search.prices.tolls → priced_by e.search (record e.search.prices { tolls = held }) ≡ u.search
-held_is e u held same h = ap (λ ts. priced_by e.search (record e.search.prices { tolls = ts })) h ∙ ap (λ (x : EngineModel). x.search) same
+pub held_is : (e u : EngineModel) (held : List Toll) → e ≡ u → held ≡ e.search.prices.tolls → with_other_prices e.search (record e.search.prices { tolls = held }) ≡ u.search
+held_is e u held same h = ap (λ ts. with_other_prices e.search (record e.search.prices { tolls = ts })) h ∙ ap (λ (x : EngineModel). x.search) same
 
-pub declared_is : (e u : EngineModel) (new : Toll) (held tolls : List Toll) → e ≡ u → held ≡ e.search.prices.tolls → tolls ≡ held ++ new ∷ [] → priced_by e.search (record e.search.prices { tolls = tolls }) ≡ priced_by u.search (with_toll u.search.prices new)
+pub declared_is : (e u : EngineModel) (new : Toll) (held tolls : List Toll) → e ≡ u → held ≡ e.search.prices.tolls → tolls ≡ held ++ new ∷ [] → with_other_prices e.search (record e.search.prices { tolls = tolls }) ≡ with_other_prices u.search (prices_with_toll u.search.prices new)
 declared_is e u new held tolls same h t =
-    ap (λ ts. priced_by e.search (record e.search.prices { tolls = ts })) (t ∙ ap (λ ts. ts ++ new ∷ []) h) ∙ ap (λ (x : EngineModel). priced_by x.search (with_toll x.search.prices new)) same
+    ap (λ ts. with_other_prices e.search (record e.search.prices { tolls = ts })) (t ∙ ap (λ ts. ts ++ new ∷ []) h) ∙ ap (λ (x : EngineModel). with_other_prices x.search (prices_with_toll x.search.prices new)) same
 
 -- what the search is then, as its tolls are held
-pub declared_kept : (s : SearchModel) (new : Toll) (held tolls : List Toll) → IsSearch s → IsNewToll s new → held ≡ s.prices.tolls → tolls ≡ held ++ new ∷ [] → IsSearch (priced_by s (record s.prices { tolls = tolls }))
-declared_kept s new held tolls is of h t = subst (λ ts. IsSearch (priced_by s (record s.prices { tolls = ts }))) (sym (t ∙ ap (λ ts. ts ++ new ∷ []) h)) (toll_search s new is of.toll of.few)
+pub declared_kept : (s : SearchModel) (new : Toll) (held tolls : List Toll) → IsSearch s → IsNewToll s new → held ≡ s.prices.tolls → tolls ≡ held ++ new ∷ [] → IsSearch (with_other_prices s (record s.prices { tolls = tolls }))
+declared_kept s new held tolls is of h t = subst (λ ts. IsSearch (with_other_prices s (record s.prices { tolls = ts }))) (sym (t ∙ ap (λ ts. ts ++ new ∷ []) h)) (toll_search s new is of.toll of.few)
 
-pub declared_heeds : (s : SearchModel) (new : Toll) (old log : LogModel) → IsSearch s → IsNewToll s new → WhereTold old (λ told. LogFits told s) → TakesAll (toll_line s.problem new ∷ []) old log → Heeds s (priced_by s (with_toll s.prices new)) old log
-declared_heeds s new old log is of fits t = prices_heeded s (with_toll s.prices new) (new ∷ []) (toll_line s.problem new) old log (toll_search s new is of.toll of.few) refl refl (toll s new is of.toll of.few).meets fits t
+pub declared_heeds : (s : SearchModel) (new : Toll) (old log : LogModel) → IsSearch s → IsNewToll s new → WhereTold old (λ told. LogFits told s) → TakesAll (toll_line s.problem new ∷ []) old log → Heeds s (with_other_prices s (prices_with_toll s.prices new)) old log
+declared_heeds s new old log is of fits t = prices_heeded s (prices_with_toll s.prices new) (new ∷ []) (toll_line s.problem new) old log (toll_search s new is of.toll of.few) refl refl (toll s new is of.toll of.few).meets fits t
 
 pub declared_stops : (s : SearchModel) (new : Toll) (stop : LogStop) (old log : LogModel) → IsSearch s → IsNewToll s new → WhereTold old (λ told. LogFits told s) → StopsWithin stop (toll_line s.problem new ∷ []) 0 old log → HeedStops s s old stop log
 declared_stops s new stop old log is of fits t = line_stops s (toll_line s.problem new) stop old log is fits (λ before fit. ((toll s new is of.toll of.few).meets before fit).good) t
@@ -61,7 +62,7 @@ declared_stops s new stop old log is of fits t = line_stops s (toll_line s.probl
 
 -- the search after some of the tolls
 abbrev After : SearchModel → List Toll → SearchModel
-After s tolls = priced_by s (with_tolls s.prices tolls)
+After s tolls = with_other_prices s (with_tolls s.prices tolls)
 
 pub next_toll : (s mid : SearchModel) (all done : List Toll) (new : Toll) → mid ≡ After s done → All (IsToll s.problem) all → (length done < length all) × (new ≡ get_or all (length done) new) → IsToll mid.problem new
 next_toll s mid all done new e of at = subst (λ f. IsToll f new) (sym (ap (λ (x : SearchModel). x.problem) e)) (subst (IsToll s.problem) (sym at.1) (of (length done) new at.0))
@@ -69,8 +70,8 @@ next_toll s mid all done new e of at = subst (λ f. IsToll f new) (sym (ap (λ (
 pub next_few : (s mid : SearchModel) (all done : List Toll) → mid ≡ After s done → length (s.prices.tolls ++ all) ≤ 10_000 → length done < length all → length mid.prices.tolls < 10_000
 next_few s mid all done e few lt = omega (arith, few, lt, ap (λ (x : SearchModel). length x.prices.tolls) e, length-append s.prices.tolls all, length-append s.prices.tolls done)
 
-pub tolls_then : (s mid after : SearchModel) (done : List Toll) (new : Toll) → mid ≡ After s done → after ≡ priced_by mid (with_toll mid.prices new) → after ≡ After s (done ++ new ∷ [])
-tolls_then s mid after done new e f = f ∙ ap (λ (x : SearchModel). priced_by x (with_toll x.prices new)) e ∙ ap (λ ts. priced_by s (record s.prices { tolls = ts })) (append_assoc s.prices.tolls done (new ∷ []))
+pub tolls_then : (s mid after : SearchModel) (done : List Toll) (new : Toll) → mid ≡ After s done → after ≡ with_other_prices mid (prices_with_toll mid.prices new) → after ≡ After s (done ++ new ∷ [])
+tolls_then s mid after done new e f = f ∙ ap (λ (x : SearchModel). with_other_prices x (prices_with_toll x.prices new)) e ∙ ap (λ ts. with_other_prices s (record s.prices { tolls = ts })) (append_assoc s.prices.tolls done (new ∷ []))
 
 -- ---- a tariff
 
@@ -79,17 +80,17 @@ pub record IsNewTariff (s : SearchModel) (new : Tariff) : Type 0 where
   pub fits : TariffFits (length s.prices.tolls) new
   pub ascend : DuesAscend new
 
-tariff_search : (s : SearchModel) (new : Tariff) → IsSearch s → IsNewTariff s new → IsSearch (priced_by s (with_tariff s.prices new))
+tariff_search : (s : SearchModel) (new : Tariff) → IsSearch s → IsNewTariff s new → IsSearch (with_other_prices s (with_tariff s.prices new))
 tariff_search s new is of = price_search s (with_tariff s.prices new) is (tariff_prices s.problem s.prices new is.prices of.fits of.ascend)
 
-pub forced_is : (e u : EngineModel) (p : PriceModel) (new : Tariff) → e ≡ u → p ≡ with_tariff e.search.prices new → priced_by e.search p ≡ priced_by u.search (with_tariff u.search.prices new)
-forced_is e u p new same is = ap (λ x. priced_by e.search x) is ∙ ap (λ (x : EngineModel). priced_by x.search (with_tariff x.search.prices new)) same
+pub forced_is : (e u : EngineModel) (p : PriceModel) (new : Tariff) → e ≡ u → p ≡ with_tariff e.search.prices new → with_other_prices e.search p ≡ with_other_prices u.search (with_tariff u.search.prices new)
+forced_is e u p new same is = ap (λ x. with_other_prices e.search x) is ∙ ap (λ (x : EngineModel). with_other_prices x.search (with_tariff x.search.prices new)) same
 
 -- what the parts of an engine keep then
-pub forced_kept : (s : SearchModel) (p : PriceModel) (new : Tariff) → IsSearch s → IsNewTariff s new → p ≡ with_tariff s.prices new → IsSearch (priced_by s p)
-forced_kept s p new is of same = subst (λ x. IsSearch (priced_by s x)) (sym same) (tariff_search s new is of)
+pub forced_kept : (s : SearchModel) (p : PriceModel) (new : Tariff) → IsSearch s → IsNewTariff s new → p ≡ with_tariff s.prices new → IsSearch (with_other_prices s p)
+forced_kept s p new is of same = subst (λ x. IsSearch (with_other_prices s x)) (sym same) (tariff_search s new is of)
 
-pub forced_heeds : (s : SearchModel) (new : Tariff) (old log : LogModel) → IsSearch s → IsNewTariff s new → WhereTold old (λ told. LogFits told s) → TakesAll (tariff_line new ∷ []) old log → Heeds s (priced_by s (with_tariff s.prices new)) old log
+pub forced_heeds : (s : SearchModel) (new : Tariff) (old log : LogModel) → IsSearch s → IsNewTariff s new → WhereTold old (λ told. LogFits told s) → TakesAll (tariff_line new ∷ []) old log → Heeds s (with_other_prices s (with_tariff s.prices new)) old log
 forced_heeds s new old log is of fits t = prices_heeded s (with_tariff s.prices new) [] (tariff_line new) old log (tariff_search s new is of) (sym (append-nil s.prices.tolls)) refl (tariff s new is of.fits of.ascend).meets fits t
 
 pub forced_stops : (s : SearchModel) (new : Tariff) (stop : LogStop) (old log : LogModel) → IsSearch s → IsNewTariff s new → WhereTold old (λ told. LogFits told s) → StopsWithin stop (tariff_line new ∷ []) 0 old log → HeedStops s s old stop log

@@ -19,10 +19,10 @@ use Rattle.hw_store.specs.declared.store.Stored.{Stored}
 use Rattle.hw_story.specs.declared.event.Event.{Event}
 use Rattle.hw_story.specs.declared.event.Why.{Why}
 use Rattle.hw_story.specs.declared.event.Why.TheVariants as whys
-use Rattle.hw_story.specs.Trails.{TrailModel, trail_shape, clause_of, no_events, implied, most_events}
+use Rattle.hw_story.specs.Trails.{TrailModel, trail_shape, reason_clause, no_events, implied, most_events}
 use Rattle.hw_story.proofs.Kept.{more_room}
 use Rattle.hw_story.proofs.Many.{few_events}
-use Rattle.hw_progress.specs.Prices.{PriceModel, no_prices}
+use Rattle.hw_progress.specs.Prices.{PriceModel, unpriced_model}
 use Rattle.hw_progress.specs.Searches.{SearchModel, new_search, IsSearch, IsReason, HasLine, room_in, best_cargo}
 use Rattle.hw_progress.specs.declared.outcome.Branching.{Branching}
 use Rattle.hw_progress.specs.Starting.{EachSourceOnce}
@@ -32,7 +32,7 @@ use Rattle.hw_progress.proofs.Holds.{room_fits}
 use Rattle.hw_progress.proofs.Keeps.{new_kept, implied_search}
 use Rattle.hw_search.specs.Engines.{EngineModel, KeepsEngine, QuietUnmarked}
 use Rattle.hw_search.specs.Ledgers.{LedgerModel}
-use Rattle.hw_search.specs.Marks.{is_marked, MarksPlaces}
+use Rattle.hw_search.specs.Marks.{is_place_marked, MarksPlaces}
 use Rattle.hw_search.specs.Speaking.{SpeakersModel, speakers_of, TellsSpeakers}
 use Rattle.hw_search.proofs.Levels.{levels_implied}
 use Rattle.hw_search.proofs.Markings.{quiet_cut, quiet_all}
@@ -54,7 +54,7 @@ pub few_in : (s : SearchModel) → IsSearch s → length s.trail.events ≤ most
 few_in s is = subst (λ n. length s.trail.events ≤ most_events n s.problem.slots) is.same_ships (subst (λ n. length s.trail.events ≤ most_events s.trail.ships n) is.same_slots (few_events s.trail is.trail))
 
 -- there is room for the number of one more event
-pub one_more : (e : EngineModel) (table : SpeakersModel) (goal : ℕ) (worth : Option ℕ) (capacity : ℕ) (lit : Lit) (why : Why) → KeepsEngine e table goal worth capacity → lit_fits (trail_shape e.search.trail) lit ≡ true → IsClause (trail_shape e.search.trail) (clause_of why) → truth (room_in e.search) lit ≡ Free → narrowing (clause_of why) (room_in e.search) ≡ Cut lit → IsReason e.search why → HasLine None why
+pub one_more : (e : EngineModel) (table : SpeakersModel) (goal : ℕ) (worth : Option ℕ) (capacity : ℕ) (lit : Lit) (why : Why) → KeepsEngine e table goal worth capacity → lit_fits (trail_shape e.search.trail) lit ≡ true → IsClause (trail_shape e.search.trail) (reason_clause why) → truth (room_in e.search) lit ≡ Free → narrowing (reason_clause why) (room_in e.search) ≡ Cut lit → IsReason e.search why → HasLine None why
     → length e.search.written < capacity
 one_more e table goal worth capacity lit why k fits clause free only reason line =
     let event : Event = record { lit = lit; level = e.search.trail.level; why = Some why } in
@@ -93,7 +93,7 @@ kept_parts e table goal worth capacity lit why ws lines priced trail stored l ma
     (subst (λ (x : LedgerModel). KeepsEngine (record { search = record s { trail = implied s.trail lit why; stored = s.stored; written = x.written; clause_lines = x.clause_lines; priced = priced }; sources = e.sources; marks = marks }) table goal worth x.reserved) (sym w) kept))
 
 -- one more event that needs no line of its own
-pub kept_implied : (e : EngineModel) (table : SpeakersModel) (goal : ℕ) (worth : Option ℕ) (capacity : ℕ) (lit : Lit) (why : Why) (trail : TrailModel) (stored : List Stored) (l : LedgerModel) (marks : List Bool) → KeepsEngine e table goal worth capacity → lit_fits (trail_shape e.search.trail) lit ≡ true → IsClause (trail_shape e.search.trail) (clause_of why) → truth (room_in e.search) lit ≡ Free → narrowing (clause_of why) (room_in e.search) ≡ Cut lit → IsReason e.search why → HasLine None why
+pub kept_implied : (e : EngineModel) (table : SpeakersModel) (goal : ℕ) (worth : Option ℕ) (capacity : ℕ) (lit : Lit) (why : Why) (trail : TrailModel) (stored : List Stored) (l : LedgerModel) (marks : List Bool) → KeepsEngine e table goal worth capacity → lit_fits (trail_shape e.search.trail) lit ≡ true → IsClause (trail_shape e.search.trail) (reason_clause why) → truth (room_in e.search) lit ≡ Free → narrowing (reason_clause why) (room_in e.search) ≡ Cut lit → IsReason e.search why → HasLine None why
     → trail ≡ implied e.search.trail lit why → stored ≡ e.search.stored → l ≡ record { written = e.search.written ++ None ∷ []; clause_lines = e.search.clause_lines; reserved = capacity } → MarksPlaces (speakers_of table lit) e.marks marks → KeepsEngine (record { search = record e.search { trail = trail; stored = stored; written = l.written; clause_lines = l.clause_lines }; sources = e.sources; marks = marks }) table goal worth l.reserved
 kept_implied e table goal worth capacity lit why trail stored l marks k fits clause free only reason line t st w m =
     let s = e.search in
@@ -118,15 +118,15 @@ one_priced e table goal worth capacity lit clause k is =
 
 -- ---- a new search
 
-pub all_marked : (marks : List Bool) (n : ℕ) → marks ≡ replicate n true → (place : ℕ) → is_marked marks place ≡ true
-all_marked marks n e place = subst (λ xs. is_marked xs place ≡ true) (sym e) (each n place)
+pub all_marked : (marks : List Bool) (n : ℕ) → marks ≡ replicate n true → (place : ℕ) → is_place_marked marks place ≡ true
+all_marked marks n e place = subst (λ xs. is_place_marked xs place ≡ true) (sym e) (each n place)
   where
     each : (n place : ℕ) → get_or (replicate n true) place true ≡ true
     each zero place = refl
     each (suc n) zero = refl
     each (suc n) (suc place) = each n place
 
-pub kept_new : (f : Problem) (branching : Branching) (sources : List Source) (table : SpeakersModel) (goal : ℕ) (trail : TrailModel) (stored : List Stored) (l : LedgerModel) (prices : PriceModel) (marks : List Bool) → IsFlat f → EachSourceOnce f sources → All (IsSourceOf f) sources → TellsSpeakers f sources table → slice_get sources goal ≡ Some Goal → most_events f.ships f.slots ≤ l.reserved → trail ≡ no_events (shape_of f) → stored ≡ [] → l.written ≡ [] → l.clause_lines ≡ 0 → prices ≡ no_prices → marks ≡ replicate (length sources) true
+pub kept_new : (f : Problem) (branching : Branching) (sources : List Source) (table : SpeakersModel) (goal : ℕ) (trail : TrailModel) (stored : List Stored) (l : LedgerModel) (prices : PriceModel) (marks : List Bool) → IsFlat f → EachSourceOnce f sources → All (IsSourceOf f) sources → TellsSpeakers f sources table → slice_get sources goal ≡ Some Goal → most_events f.ships f.slots ≤ l.reserved → trail ≡ no_events (shape_of f) → stored ≡ [] → l.written ≡ [] → l.clause_lines ≡ 0 → prices ≡ unpriced_model → marks ≡ replicate (length sources) true
     → KeepsEngine (record { search = record (new_search f branching) { trail = trail; stored = stored; written = l.written; prices = prices; clause_lines = l.clause_lines }; sources = sources; marks = marks }) table goal None l.reserved
 kept_new f branching sources table goal trail stored l prices marks flat once of tells at room t st w n p m =
     let s = new_search f branching in

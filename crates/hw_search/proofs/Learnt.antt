@@ -20,7 +20,7 @@ use Rattle.hw_progress.specs.Turns.{TurnMeets}
 use Rattle.hw_search.specs.Engines.{EngineModel}
 use Rattle.hw_search.specs.GoingBack.{NextLevel, Tidies, TidiesBy}
 use Rattle.hw_search.specs.Handing.{TakesAll}
-use Rattle.hw_search.specs.Ledgers.{LedgerModel, with_events}
+use Rattle.hw_search.specs.Ledgers.{LedgerModel, with_events_left}
 use Rattle.hw_search.specs.Naming.{EachOfProblem, HandsLearnt, IsOfProblem, WritesLearnt, own_after, taught, Taught}
 use Rattle.hw_search.specs.Turning.{Teaches, TurnsFrom, turn_of, halted}
 use Rattle.hw_search.specs.declared.writing.WrittenLemma.{WrittenLemma}
@@ -130,7 +130,7 @@ pub record Gone (s : SearchModel) (learnt : Learnt) (written : WrittenLemma) (l 
   pub some : 1 ≤ length written.lemma
   pub next : NextLevel s.restarts s.since learnt.back restarts since level
   pub at : trail ≡ back_to s.trail level
-  pub left : l' ≡ with_events l (length trail.events)
+  pub left : l' ≡ with_events_left l (length trail.events)
 
 went_of : (s : SearchModel) (why : Why) (learnt : Learnt) (l l' : LedgerModel) (written : WrittenLemma) (old new : LogModel) (trail : TrailModel) (restarts since level : ℕ) → Wrote s why learnt l written old new → Gone s learnt written l l' trail restarts since level → WentBack s why learnt.lemma learnt.back learnt.places.items trail l'.written l.written l.clause_lines restarts since level
 went_of s why learnt l l' written old new trail restarts since level w g = record {
@@ -144,7 +144,7 @@ went_of s why learnt l l' written old new trail restarts since level w g = recor
 abbrev pub back_in : SearchModel → TrailModel → List Stored → LedgerModel → ℕ → ℕ → SearchModel
 back_in s trail stored l restarts since = went s trail stored l.written l.clause_lines restarts since
 
-lines_same : (s : SearchModel) (trail : TrailModel) (stored : List Stored) (l l' : LedgerModel) (restarts since count : ℕ) → l' ≡ with_events l count → went s trail stored l'.written l.clause_lines restarts since ≡ back_in s trail stored l' restarts since
+lines_same : (s : SearchModel) (trail : TrailModel) (stored : List Stored) (l l' : LedgerModel) (restarts since count : ℕ) → l' ≡ with_events_left l count → went s trail stored l'.written l.clause_lines restarts since ≡ back_in s trail stored l' restarts since
 lines_same s trail stored l l' restarts since count left = ap (λ n. went s trail stored l'.written n restarts since) (sym (ap (λ (x : LedgerModel). x.clause_lines) left))
 
 -- what was tidied, by the lemma that was learnt

@@ -12,7 +12,7 @@ use Rattle.hw_model.specs.Refuting.{IsSourceOf}
 use Rattle.hw_model.specs.Timetables.{cargo}
 use Rattle.hw_lits.proofs.Forms.{clause_lits}
 use Rattle.hw_story.specs.declared.event.Why.{Why}
-use Rattle.hw_story.specs.Trails.{trail_shape, clause_of, most_events, back_to, room_of}
+use Rattle.hw_story.specs.Trails.{trail_shape, reason_clause, most_events, back_to, room_of}
 use Rattle.hw_story.specs.Learning.{reason_at, top_level, Learns}
 use Rattle.hw_story.proofs.Quiets.{back_below}
 use Rattle.hw_store.specs.declared.store.Stored.{Stored}
@@ -24,7 +24,7 @@ use Rattle.hw_progress.proofs.Citing.{reason_why, why_inside}
 use Rattle.hw_progress.proofs.Stops.{numbers_kept}
 use Rattle.hw_progress.proofs.Turned.{few_for}
 use Rattle.hw_search.specs.Engines.{EngineModel, KeepsEngine, QuietLevels, QuietUnmarked}
-use Rattle.hw_search.specs.Marks.{is_marked}
+use Rattle.hw_search.specs.Marks.{is_place_marked}
 use Rattle.hw_search.specs.Speaking.{SpeakersModel, TellsSpeakers}
 use Rattle.hw_search.specs.Naming.{taught, Taught}
 use Rattle.hw_search.specs.GoingBack.{due, NextLevel}
@@ -33,13 +33,13 @@ use Rattle.hw_search.specs.Turning.{Teaches}
 
 -- ---- what was learnt
 
-pub teaches : (e u : EngineModel) (why : Why) (conflict lemma : List Lit) (back : ℕ) (given places : List ℕ) → e ≡ u → IsSearch e.search → u.search.over ≡ false → IsConflict u.search why → 1 ≤ length (clause_of why) → conflict ≡ clause_of why → given ≡ places → Learns e.search.trail conflict lemma back places → Teaches e.search why lemma back given
+pub teaches : (e u : EngineModel) (why : Why) (conflict lemma : List Lit) (back : ℕ) (given places : List ℕ) → e ≡ u → IsSearch e.search → u.search.over ≡ false → IsConflict u.search why → 1 ≤ length (reason_clause why) → conflict ≡ reason_clause why → given ≡ places → Learns e.search.trail conflict lemma back places → Teaches e.search why lemma back given
 teaches e u why conflict lemma back given places same is going k some c p learns = record {
   kept = is;
   going = ap (λ (x : EngineModel). x.search.over) same ∙ going;
   conflict = subst (λ (x : EngineModel). IsConflict x.search why) (sym same) k;
   some = some;
-  learns = subst (λ ps. Learns e.search.trail (clause_of why) lemma back ps) (sym p) (subst (λ xs. Learns e.search.trail xs lemma back places) c learns);
+  learns = subst (λ ps. Learns e.search.trail (reason_clause why) lemma back ps) (sym p) (subst (λ xs. Learns e.search.trail xs lemma back places) c learns);
 }
 
 pub places_inside : (mid : SearchModel) (why : Why) (lemma : List Lit) (back : ℕ) (places : List ℕ) → Teaches mid why lemma back places → All (λ place. place < length mid.trail.events) places
@@ -59,9 +59,9 @@ level_by false level back most e lt = omega (arith, e, lt)
 
 pub level_below : (mid : SearchModel) (why : Why) (lemma : List Lit) (back : ℕ) (places : List ℕ) (restarts since level : ℕ) → Teaches mid why lemma back places → 1 ≤ length lemma → NextLevel mid.restarts mid.since back restarts since level → level < mid.trail.level
 level_below mid why lemma back places restarts since level t literal n =
-    let below : back < mid.trail.level = elim (cases_lt 0 (top_level mid.trail (clause_of why))) [
-      | inl some ↦ back_below mid.trail t.kept.trail (clause_of why) lemma back places t.learns (omega (arith, some))
-      | inr none ↦ absurd (let z : top_level mid.trail (clause_of why) ≡ 0 = omega (arith, none) in omega (arith, literal, ap length (t.learns.ground z).0))
+    let below : back < mid.trail.level = elim (cases_lt 0 (top_level mid.trail (reason_clause why))) [
+      | inl some ↦ back_below mid.trail t.kept.trail (reason_clause why) lemma back places t.learns (omega (arith, some))
+      | inr none ↦ absurd (let z : top_level mid.trail (reason_clause why) ≡ 0 = omega (arith, none) in omega (arith, literal, ap length (t.learns.ground z).0))
     ] in
     level_by (due mid.restarts mid.since) level back mid.trail.level n.to below
 
@@ -76,10 +76,10 @@ numbers_below mid why lemma back places ws lines t n =
 -- ---- what is kept
 
 -- the goal is marked
-pub goal_marked : (goal : ℕ) (sources : List Source) (new old : List Bool) → length old ≡ length sources → slice_get sources goal ≡ Some Goal → ((other : ℕ) → other < length old → is_marked new other ≡ (other == goal)) → is_marked new goal ≡ true
+pub goal_marked : (goal : ℕ) (sources : List Source) (new old : List Bool) → length old ≡ length sources → slice_get sources goal ≡ Some Goal → ((other : ℕ) → other < length old → is_place_marked new other ≡ (other == goal)) → is_place_marked new goal ≡ true
 goal_marked goal sources new old long at h = h goal (omega (arith, (at_get sources goal Goal at).0, long)) ∙ eq-eqb goal goal refl
 
-pub kept_back : (e : EngineModel) (table : SpeakersModel) (goal : ℕ) (worth : Option ℕ) (capacity capacity' level : ℕ) (u : SearchModel) (marks : List Bool) → KeepsEngine e table goal worth capacity → IsSearch u → u.problem ≡ e.search.problem → u.best ≡ e.search.best → u.trail ≡ back_to e.search.trail level → level < e.search.trail.level → length marks ≡ length e.marks → is_marked marks goal ≡ true → capacity' ≡ capacity
+pub kept_back : (e : EngineModel) (table : SpeakersModel) (goal : ℕ) (worth : Option ℕ) (capacity capacity' level : ℕ) (u : SearchModel) (marks : List Bool) → KeepsEngine e table goal worth capacity → IsSearch u → u.problem ≡ e.search.problem → u.best ≡ e.search.best → u.trail ≡ back_to e.search.trail level → level < e.search.trail.level → length marks ≡ length e.marks → is_place_marked marks goal ≡ true → capacity' ≡ capacity
     → KeepsEngine (record { search = u; sources = e.sources; marks = marks }) table goal worth capacity'
 kept_back e table goal worth capacity capacity' level u marks k is p b t lt m marked c =
     let s = e.search in

@@ -12,9 +12,10 @@ use Rattle.hw_laws.proofs.Quiets.{best_quiet}
 use Rattle.hw_story.specs.declared.event.Why.{Why}
 use Rattle.hw_story.specs.Trails.{TrailModel, IsTrail, room_of, back_to, implied, decided}
 use Rattle.hw_story.proofs.Kept.{back_back, back_more, back_same}
+use Rattle.hw_progress.proofs.Keeps.{never}
 use Rattle.hw_search.specs.Engines.{QuietLevels, QuietUnmarked}
-use Rattle.hw_search.specs.Marks.{is_marked}
-use Rattle.hw_search.proofs.Markings.{never, of_all}
+use Rattle.hw_search.specs.Marks.{is_place_marked}
+use Rattle.hw_search.proofs.Markings.{of_all}
 
 pub levels_implied : (f : Problem) (best : Option ℕ) (t : TrailModel) (lit : Lit) (why : Why) → QuietLevels f best t → QuietLevels f best (implied t lit why)
 levels_implied f best t lit why h = λ level lt source of ne.
@@ -57,9 +58,9 @@ one_place xs j k x once e f =
     ]
 
 -- at the end of a level below all are quiet but the goal, which is marked
-pub quiet_gone : (f : Problem) (best : Option ℕ) (t : TrailModel) (level : ℕ) (sources : List Source) (marks : List Bool) (goal : ℕ) → AllPairs (λ earlier later. earlier ≡ later → ⊥) sources → All (IsSourceOf f) sources → slice_get sources goal ≡ Some Goal → is_marked marks goal ≡ true → level < t.level → QuietLevels f best t
+pub quiet_gone : (f : Problem) (best : Option ℕ) (t : TrailModel) (level : ℕ) (sources : List Source) (marks : List Bool) (goal : ℕ) → AllPairs (λ earlier later. earlier ≡ later → ⊥) sources → All (IsSourceOf f) sources → slice_get sources goal ≡ Some Goal → is_place_marked marks goal ≡ true → level < t.level → QuietLevels f best t
     → QuietUnmarked f best (room_of (back_to t level)) sources marks
 quiet_gone f best t level sources marks goal once of there marked lt h = λ place source at clear.
     h level lt source (of_all (IsSourceOf f) sources place source of at) (λ e.
     let same : place ≡ goal = one_place sources place goal Goal once (subst (λ x. slice_get sources place ≡ Some x) e at) there in
-    never (sym marked ∙ ap (is_marked marks) (sym same) ∙ clear))
+    never (sym marked ∙ ap (is_place_marked marks) (sym same) ∙ clear))

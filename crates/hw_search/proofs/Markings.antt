@@ -16,16 +16,14 @@ use Rattle.hw_model.specs.Quiet.{names_lit}
 use Rattle.hw_model.specs.Refuting.{IsSourceOf}
 use Rattle.hw_model.specs.Rooms.{RoomModel, RoomFits}
 use Rattle.hw_laws.proofs.Quiets.{unspoken}
+use Rattle.hw_progress.proofs.Keeps.{never}
 use Rattle.hw_search.specs.Engines.{QuietUnmarked}
-use Rattle.hw_search.specs.Marks.{is_marked, MarksPlaces}
+use Rattle.hw_search.specs.Marks.{is_place_marked, MarksPlaces}
 use Rattle.hw_search.specs.Speaking.{SpeakersModel, speakers_of, TellsSpeakers}
 
 -- a whole slice written through its vector is what the vector holds
 pub written_whole : {A : Type 0} (n : ℕ) (new old : List A) → n ≡ length new → take n (new ++ drop (length new) old) ≡ new
 written_whole n new old e = ap (λ k. take k (new ++ drop (length new) old)) e ∙ take-append_seam new (drop (length new) old)
-
-pub never : true ≡ false → ⊥
-never e = cc
 
 -- what holds of all holds of the one at a place
 pub of_all : {A : Type 0} (P : A → Type 0) (xs : List A) (place : ℕ) (x : A) → All P xs → slice_get xs place ≡ Some x → P x
@@ -35,7 +33,7 @@ of_all P xs place x all e = subst P (get_or_from_slice_get xs place x x e) (All-
 pub quiet_cut : (f : Problem) (best : Option ℕ) (room : RoomModel) (sources : List Source) (table : SpeakersModel) (old new : List Bool) (lit : Lit) → IsFlat f → All (IsSourceOf f) sources → RoomFits f room → IsLitOf f.ships lit → truth room lit ≡ Free → TellsSpeakers f sources table → MarksPlaces (speakers_of table lit) old new
     → QuietUnmarked f best room sources old → QuietUnmarked f best (cut lit room) sources new
 quiet_cut f best room sources table old new lit flat of fits is free tells marks quiet place source at clear =
-    let was : is_marked old place ≡ false = elim (cases_Bool (is_marked old place)) [
+    let was : is_place_marked old place ≡ false = elim (cases_Bool (is_place_marked old place)) [
       | inl e ↦ absurd (never (sym (marks.stays place e) ∙ clear))
       | inr e ↦ e
     ] in
@@ -46,10 +44,10 @@ quiet_cut f best room sources table old new lit flat of fits is free tells marks
     unspoken f source best room lit flat (of_all (IsSourceOf f) sources place source of at) fits (subst (λ n. IsLitOf n lit) (sym fits.same_ships) is) free silent (quiet place source at was)
 
 -- where all are marked nothing is to be shown
-pub quiet_all : (f : Problem) (best : Option ℕ) (room : RoomModel) (sources : List Source) (marks : List Bool) → ((place : ℕ) → is_marked marks place ≡ true) → QuietUnmarked f best room sources marks
+pub quiet_all : (f : Problem) (best : Option ℕ) (room : RoomModel) (sources : List Source) (marks : List Bool) → ((place : ℕ) → is_place_marked marks place ≡ true) → QuietUnmarked f best room sources marks
 quiet_all f best room sources marks all place source at clear = absurd (never (sym (all place) ∙ clear))
 
-some_same : {A : Type 0} (x y : A) → Some x ≡ Some y → x ≡ y
+pub some_same : {A : Type 0} (x y : A) → Some x ≡ Some y → x ≡ y
 some_same x y e = cc
 
 -- what a list of values has at a place is the value there

@@ -13,13 +13,14 @@ use Rattle.hw_progress.specs.declared.outcome.Turn.{Turn}
 use Rattle.hw_progress.specs.declared.outcome.Turn.TheVariants as turns
 use Rattle.hw_progress.specs.Searches.{SearchModel, IsSearch, room_in, best_cargo}
 use Rattle.hw_progress.specs.Turns.{DoesDecide, DoesBetter, DoesLemma, TurnDoes, is_last}
-use Rattle.hw_progress.specs.Advised.{Heeds, Lowers, Prefers, StopsBy, FollowsAdvice, AdvisedMeets}
+use Rattle.hw_progress.specs.Advised.{Heeds, Lowers, Prefers, FollowsAdvice, AdvisedMeets}
 use Rattle.hw_progress.specs.Advised.FollowsAdvice.{by_turn, by_preference, by_stop}
 use Rattle.hw_progress.proofs.Choices.{branch_open}
 use Rattle.hw_progress.proofs.Keeps.{decided_search, better_search}
 use Rattle.hw_progress.proofs.Stops.{past}
 use Rattle.hw_progress.proofs.Turned.{point_table}
-use Rattle.hw_search.specs.Going.{rank, most_cargo, turns_left}
+use Rattle.hw_progress.proofs.Provings.{no_stop}
+use Rattle.hw_search.specs.Going.{cargo_rank, most_cargo, turns_left}
 use Rattle.hw_search.proofs.Advice.{same_problem, no_fewer}
 use Rattle.hw_search.proofs.Counting.{nearer, less_decided, same_cargo, same_left}
 use Rattle.hw_search.proofs.Kept.{few_in, room_here}
@@ -37,9 +38,9 @@ heeded_left budget s u old new h =
     let p : u.problem ≡ s.problem = same_problem s u old new h in
     let b : u.best ≡ s.best = ap (λ (x : SearchModel). x.best) h.same in
     let l : u.lemmas ≡ s.lemmas = ap (λ (x : SearchModel). x.lemmas) h.same in
-    let g : rank (best_cargo u) ≡ rank (best_cargo s) = ap rank (same_cargo s u p b) in
+    let g : cargo_rank (best_cargo u) ≡ cargo_rank (best_cargo s) = ap cargo_rank (same_cargo s u p b) in
     let x : (budget - u.lemmas) * (m + 1) ≡ (budget - s.lemmas) * (m + 1) = ap (λ n. (budget - n) * (m + 1)) l in
-    let r = no_more (most_cargo s.problem + 1 - rank (best_cargo s)) ((budget - s.lemmas) * (m + 1)) m (length s.trail.events) (length u.trail.events) (no_fewer s u old new h) in
+    let r = no_more (most_cargo s.problem + 1 - cargo_rank (best_cargo s)) ((budget - s.lemmas) * (m + 1)) m (length s.trail.events) (length u.trail.events) (no_fewer s u old new h) in
     omega (arith, r, g, x, same_left budget s u p)
 
 -- a decision that was preferred is one more event, for which there is room
@@ -51,18 +52,10 @@ preferred_left budget s u turn old new d =
     let l : u.lemmas ≡ s.lemmas = ap (λ (x : SearchModel). x.lemmas) d.decides in
     let e : length u.trail.events ≡ length s.trail.events + 1 = ap (λ (x : SearchModel). length x.trail.events) d.decides ∙ length-append s.trail.events _ in
     let few : length u.trail.events ≤ m = subst (λ (f : Problem). length u.trail.events ≤ most_events f.ships f.slots) p (few_in u d.kept) in
-    let g : rank (best_cargo u) ≡ rank (best_cargo s) = ap rank (same_cargo s u p b) in
+    let g : cargo_rank (best_cargo u) ≡ cargo_rank (best_cargo s) = ap cargo_rank (same_cargo s u p b) in
     let x : (budget - u.lemmas) * (m + 1) ≡ (budget - s.lemmas) * (m + 1) = ap (λ n. (budget - n) * (m + 1)) l in
-    let r = less_decided (most_cargo s.problem + 1 - rank (best_cargo s)) ((budget - s.lemmas) * (m + 1)) m (length s.trail.events) (length u.trail.events) (omega (arith, e)) few in
+    let r = less_decided (most_cargo s.problem + 1 - cargo_rank (best_cargo s)) ((budget - s.lemmas) * (m + 1)) m (length s.trail.events) (length u.trail.events) (omega (arith, e)) few in
     omega (arith, r, g, x, same_left budget s u p)
-
-no_stop : (f : Problem) (turn : Turn) (old new : LogModel) → is_last turn ≡ false → StopsBy f turn old new → ⊥
-no_stop f turns.Decided old new e h = h
-no_stop f turns.Better old new e h = h
-no_stop f turns.Lemma old new e h = h
-no_stop f turns.Ended old new e h = h
-no_stop f turns.NoMemory old new e h = absurd cc
-no_stop f turns.LogFailed old new e h = absurd cc
 
 pub advised_nearer : (turn : Turn) (budget : ℕ) (s u : SearchModel) (old new : LogModel) → is_last turn ≡ false → s.lemmas < budget → AdvisedMeets s old turn u new → turns_left budget u < turns_left budget s
 advised_nearer turn budget s u old new last lt a = omega (arith, heeded_left budget s a.mid old a.then a.heeds, by a.follows)

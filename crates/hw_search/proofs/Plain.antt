@@ -6,6 +6,7 @@ use Rattle.hw_lines.specs.declared.line.Line.{Line}
 use Rattle.hw_lines.specs.declared.line.Line.TheVariants as lines
 use Rattle.hw_lines.specs.Tolled.{is_plain, tariff_after, tariff_of}
 use Rattle.hw_tolls.specs.declared.tariff.Tariff.{Tariff}
+use Rattle.hw_progress.proofs.Holds.{plain_stays}
 
 -- a line that leaves no tariff in force found none
 one_before : (last : Option Tariff) (line : Line) → tariff_after last line ≡ None → last ≡ None
@@ -29,26 +30,12 @@ all_before last (line ∷ xs) e = one_before last line (all_before (tariff_after
 pub tariff_before : (before xs : List Line) → tariff_of (before ++ xs) ≡ None → tariff_of before ≡ None
 tariff_before before xs e = all_before (tariff_of before) xs (sym (fold-append tariff_after None before xs) ∙ e)
 
--- a line that says nothing of tolls or prices changes no tariff
-one_plain : (last : Option Tariff) (line : Line) → is_plain line ≡ true → tariff_after last line ≡ last
-one_plain last (lines.Table table) e = refl
-one_plain last (lines.Explain n clause) e = refl
-one_plain last (lines.Order v w x clause) e = refl
-one_plain last (lines.Goal clause) e = refl
-one_plain last (lines.Lemma clause hints) e = refl
-one_plain last (lines.Delete ids) e = refl
-one_plain last (lines.Narrows blocks) e = absurd cc
-one_plain last (lines.Tugs n slot most weights) e = absurd cc
-one_plain last (lines.Tariff scale prices) e = absurd cc
-one_plain last (lines.Priced clause) e = absurd cc
-one_plain last (lines.Bound bound) e = absurd cc
-
 abbrev IsPlain : Line → Type 0
 IsPlain line = is_plain line ≡ true
 
 fold_plain : (last : Option Tariff) (xs : List Line) → All IsPlain xs → fold tariff_after last xs ≡ last
 fold_plain last [] h = refl
-fold_plain last (line ∷ xs) h = fold_plain (tariff_after last line) xs (All-tail IsPlain line xs h) ∙ one_plain last line (All-head IsPlain line xs h)
+fold_plain last (line ∷ xs) h = fold_plain (tariff_after last line) xs (All-tail IsPlain line xs h) ∙ plain_stays last line (All-head IsPlain line xs h)
 
 -- lines that say nothing of tolls or prices leave no tariff in force
 pub plain_tariff : (all : List Line) → All (λ line. is_plain line ≡ true) all → tariff_of all ≡ None

@@ -17,9 +17,10 @@ use Rattle.hw_progress.proofs.Goods.{well_good}
 use Rattle.hw_progress.proofs.Keeps.{better_search}
 use Rattle.hw_progress.proofs.Told.{told_and, where_so}
 use Rattle.hw_progress.proofs.Tolled.{few_fitting}
+use Rattle.hw_progress.proofs.Heeded.{heeds_none}
 use Rattle.hw_search.specs.Faults.{TurnKeepsFaults}
 use Rattle.hw_search.specs.Proposing.{ProposeKeepsFaults, proposed_by}
-use Rattle.hw_search.proofs.Advice.{heeds_none, same_heeds, no_more}
+use Rattle.hw_search.proofs.Advice.{same_heeds, no_more}
 use Rattle.hw_search.proofs.Handed.{grown_with, grows_by}
 
 -- ---- it was taken

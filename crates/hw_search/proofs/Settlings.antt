@@ -4,18 +4,18 @@ use Rattle.hw_story.specs.declared.event.Why.{Why}
 use Rattle.hw_progress.specs.declared.outcome.Settled.TheVariants.{Quiet, Conflict}
 use Rattle.hw_progress.specs.Searches.{SearchModel, IsSearch}
 use Rattle.hw_progress.specs.Settling.{Implies, Settles}
-use Rattle.hw_search.specs.Askings.{Goes, Fails, LemmasQuiet, SourcesQuiet, StoreMeets}
+use Rattle.hw_search.specs.Askings.{Goes, AskingFails, LemmasQuiet, SourcesQuiet, StoreMeets}
 use Rattle.hw_search.proofs.Steps.{implies_more}
 
 -- what the store's round tells
-pub store_fails : (s after : SearchModel) (o : Option Why) (why : Why) → o ≡ Some why → StoreMeets s after (Ok o) → Fails s after why
+pub store_fails : (s after : SearchModel) (o : Option Why) (why : Why) → o ≡ Some why → StoreMeets s after (Ok o) → AskingFails s after why
 store_fails s after o why e m = subst (λ x. StoreMeets s after (Ok x)) e m
 
 pub store_quiet : (s after : SearchModel) (o : Option Why) → o ≡ None → StoreMeets s after (Ok o) → Goes s after × LemmasQuiet after
 store_quiet s after o e m = subst (λ x. StoreMeets s after (Ok x)) e m
 
 -- a conflict
-pub settles_conflict : (s mid after : SearchModel) (why : Why) → Implies s mid → Fails mid after why → Settles s after (Conflict why)
+pub settles_conflict : (s mid after : SearchModel) (why : Why) → Implies s mid → AskingFails mid after why → Settles s after (Conflict why)
 settles_conflict s mid after why a f = record { implies = implies_more s mid after a f.goes.implies; kept = f.goes.kept; ends = f.conflict }
 
 -- quiet

@@ -30,6 +30,7 @@ use Rattle.hw_progress.proofs.OneLemma.{few_lemmas}
 use Rattle.hw_progress.proofs.Told.{told_same, told_on, told_and, where_and, where_so, where_grown}
 use Rattle.hw_progress.proofs.Trues.{ended as ended_means}
 use Rattle.hw_progress.proofs.Turned.{starts}
+use Rattle.hw_progress.proofs.Provings.{rose_on}
 use Rattle.hw_search.specs.Going.{WellWritten, SoFar, Going, Closing}
 use Rattle.hw_search.proofs.Plain.{plain_tariff}
 
@@ -131,9 +132,6 @@ stopped f budget s u old here now is g lt t =
       means = tt;
       ends = where_so now (λ told. (told.behind ≡ []) × (is_closed told.lines ≡ false)) (λ told. told.behind ≡ []) t.fits (λ told a. a.0);
     }
-
-rose_on : (a b c : ℕ) → a ≤ b → Rose b c → Rose a c
-rose_on a b c le h = omega (arith, le, h)
 
 -- a failed log
 pub failed : (f : Problem) (budget : ℕ) (s u : SearchModel) (old here now : LogModel) → Going f budget s old here → s.lemmas < budget → TurnMeets s here turns.LogFailed u now → SolveMeets f budget old answers.LogFailed now

@@ -20,7 +20,7 @@ use Rattle.hw_progress.proofs.Told.{told_same, where_grown}
 use Rattle.hw_search.specs.declared.stepping.Step.{Step}
 use Rattle.hw_search.specs.declared.stepping.Step.TheVariants as steps
 use Rattle.hw_search.specs.Bounding.{BoundKeepsFaults}
-use Rattle.hw_search.specs.Going.{rank, most_cargo, turns_left}
+use Rattle.hw_search.specs.Going.{cargo_rank, most_cargo, turns_left}
 use Rattle.hw_search.specs.Stepping.{CanGoOn, StepsOn, StepLeaves, StepMeets, StepLooked, StepKeepsFaults}
 use Rattle.hw_search.proofs.Advice.{same_problem}
 use Rattle.hw_search.proofs.Counting.{rank_rises}
@@ -119,11 +119,11 @@ proposed_on s u here now t f budget old g few = record {
     best_is : best_cargo (record s { best = Some t.table }) ≡ Some t.better.0
     best_is = t.better.1
 
-    rises : rank (best_cargo s) ≤ rank (best_cargo (record s { best = Some t.table }))
-    rises = omega (arith, rank_rises t.better.0 (best_cargo s) t.better.2, ap rank best_is)
+    rises : cargo_rank (best_cargo s) ≤ cargo_rank (best_cargo (record s { best = Some t.table }))
+    rises = omega (arith, rank_rises t.better.0 (best_cargo s) t.better.2, ap cargo_rank best_is)
 
     less : turns_left budget (record s { best = Some t.table }) ≤ turns_left budget s
-    less = fewer (most_cargo s.problem + 1) _ (rank (best_cargo s)) (rank (best_cargo (record s { best = Some t.table }))) rises
+    less = fewer (most_cargo s.problem + 1) _ (cargo_rank (best_cargo s)) (cargo_rank (best_cargo (record s { best = Some t.table }))) rises
 
 -- a turn that isn't the last
 advised_few : (turn : Turn) (s u : SearchModel) (here now : LogModel) → is_last turn ≡ false → AdvisedMeets s here turn u now → u.lemmas ≤ s.lemmas + 1

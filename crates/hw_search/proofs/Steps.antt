@@ -14,19 +14,19 @@ use Rattle.hw_model.specs.Problem.{Problem, shape_of}
 use Rattle.hw_model.specs.Replay.{narrowing}
 use Rattle.hw_story.specs.declared.event.Event.{Event}
 use Rattle.hw_story.specs.declared.event.Why.{Why}
-use Rattle.hw_story.specs.Trails.{trail_shape, clause_of, most_events}
-use Rattle.hw_story.specs.Walks.{In}
+use Rattle.hw_story.specs.Trails.{trail_shape, reason_clause, most_events}
+use Rattle.hw_story.specs.Walks.{InClause}
 use Rattle.hw_story.proofs.Denials.{in_fits}
 use Rattle.hw_progress.specs.Searches.{SearchModel, IsSearch, IsReason, HasLine, room_in}
 use Rattle.hw_progress.specs.Settling.{Implies, with_events}
 use Rattle.hw_progress.proofs.Holds.{problem_clause}
 use Rattle.hw_progress.proofs.Keeps.{implied_search}
 use Rattle.hw_search.proofs.Kept.{few_in}
-use Rattle.hw_search.specs.Askings.{Goes, Gains, Fails, AskMeets}
+use Rattle.hw_search.specs.Askings.{Goes, Gains, AskingFails, AskMeets}
 
 -- ---- a literal of a clause fits
 
-in_at : (clause : List Lit) (place : ℕ) (lit : Lit) → slice_get clause place ≡ Some lit → In lit clause
+in_at : (clause : List Lit) (place : ℕ) (lit : Lit) → slice_get clause place ≡ Some lit → InClause lit clause
 in_at [] place lit e = absurd cc
 in_at (l ∷ more) zero lit e = let same : l ≡ lit = cc in inl same
 in_at (l ∷ more) (suc place) lit e = inr (in_at more place lit e)
@@ -71,11 +71,11 @@ goes_more s mid after a b = record { implies = implies_more s mid after a b.impl
 pub gains_more : (s mid after : SearchModel) → Implies s mid → Gains mid after → Gains s after
 gains_more s mid after a b = record { goes = goes_more s mid after a b.goes; more = omega (arith, no_fewer s mid a, b.more) }
 
-pub fails_more : (s mid after : SearchModel) (why : Why) → Implies s mid → Fails mid after why → Fails s after why
+pub fails_more : (s mid after : SearchModel) (why : Why) → Implies s mid → AskingFails mid after why → AskingFails s after why
 fails_more s mid after why a b = record { goes = goes_more s mid after a b.goes; conflict = b.conflict }
 
 -- one implied literal
-pub gains_one : (s after : SearchModel) (lit : Lit) (why : Why) → IsSearch s → lit_fits (trail_shape s.trail) lit ≡ true → IsClause (trail_shape s.trail) (clause_of why) → truth (room_in s) lit ≡ Free → narrowing (clause_of why) (room_in s) ≡ CutBy lit → IsReason s why → HasLine None why → after ≡ with_events s (record { lit = lit; level = s.trail.level; why = Some why } ∷ []) → Gains s after
+pub gains_one : (s after : SearchModel) (lit : Lit) (why : Why) → IsSearch s → lit_fits (trail_shape s.trail) lit ≡ true → IsClause (trail_shape s.trail) (reason_clause why) → truth (room_in s) lit ≡ Free → narrowing (reason_clause why) (room_in s) ≡ CutBy lit → IsReason s why → HasLine None why → after ≡ with_events s (record { lit = lit; level = s.trail.level; why = Some why } ∷ []) → Gains s after
 gains_one s after lit why is fits clause free only reason line e =
     let event : Event = record { lit = lit; level = s.trail.level; why = Some why } in
     record {
@@ -103,5 +103,5 @@ as_quiet quiet s after asked e m = subst (λ a. AskMeets quiet s after (Ok a)) e
 pub as_cut : (quiet : Type 0) (s after : SearchModel) (asked : Asked) → asked ≡ Cut → AskMeets quiet s after (Ok asked) → Gains s after
 as_cut quiet s after asked e m = subst (λ a. AskMeets quiet s after (Ok a)) e m
 
-pub as_conflict : (quiet : Type 0) (s after : SearchModel) (asked : Asked) (why : Why) → asked ≡ Conflict why → AskMeets quiet s after (Ok asked) → Fails s after why
+pub as_conflict : (quiet : Type 0) (s after : SearchModel) (asked : Asked) (why : Why) → asked ≡ Conflict why → AskMeets quiet s after (Ok asked) → AskingFails s after why
 as_conflict quiet s after asked why e m = subst (λ a. AskMeets quiet s after (Ok a)) e m

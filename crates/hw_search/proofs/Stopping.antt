@@ -24,12 +24,12 @@ use Rattle.hw_progress.specs.declared.outcome.Turn.{Turn}
 use Rattle.hw_progress.specs.declared.outcome.Turn.TheVariants as turns
 use Rattle.hw_progress.specs.Searches.{SearchModel, IsSearch, LogFits, why_at, written_at}
 use Rattle.hw_progress.specs.Living.{FewLiveFrom}
-use Rattle.hw_progress.specs.Turns.{source_line, why_lines, Cited, cite_by, cite, cited, cite_conflict, lines_of_turn, Plans, WritesPart, FailsPart, FailsNext, Stops, WritesWell, TurnWrites, TurnMeets}
+use Rattle.hw_progress.specs.Turns.{source_line, why_lines, Cited, cite_by, cite, cited, cite_conflict, lines_of_turn, Plans, WritesPart, FailsPart, FailsNext, TurnStops, WritesWell, TurnWrites, TurnMeets}
 use Rattle.hw_progress.proofs.Lines.{source_is, source_no_lemma, same_lemmas}
 use Rattle.hw_progress.proofs.Parts.{part_well}
 use Rattle.hw_progress.proofs.Told.{grown}
 use Rattle.hw_search.specs.Handing.{StopCause, StopsAfter}
-use Rattle.hw_search.specs.Turning.{Begins, turn_of}
+use Rattle.hw_search.specs.Turning.{TurnBegins, turn_of}
 use Rattle.hw_search.proofs.Handed.{grown_with, take_front, get_front}
 use Rattle.hw_search.proofs.Plain.{tariff_before}
 
@@ -209,8 +209,8 @@ left_told : (stop : LogStop) (s after : SearchModel) (p : List Line) (P : ℕ �
 left_told stop s after p P was now h fit t = subst (Left after) (sym t.2.lines) (h was t.0 fit t.1)
 
 -- the whole of a turn that stopped
-pub stop_meets : (s after : SearchModel) (stop : LogStop) (p : List Line) (P : ℕ → Type 0) (old new : LogModel) → Begins s old → Stopped s after → ((count : ℕ) → P count → count ≤ length p) → old.faults ≤ new.faults → StopCause stop old new → Grows old new (Came stop p P) → ((was : LogTold) → LogFits was s → Planned s was.lines p)
-    → ((told : LogTold) (count : ℕ) → LogFits told s → P count → Left after (told.lines ++ take count p)) → Stops (turn_of stop) s after old new → TurnMeets s old (turn_of stop) after new
+pub stop_meets : (s after : SearchModel) (stop : LogStop) (p : List Line) (P : ℕ → Type 0) (old new : LogModel) → TurnBegins s old → Stopped s after → ((count : ℕ) → P count → count ≤ length p) → old.faults ≤ new.faults → StopCause stop old new → Grows old new (Came stop p P) → ((was : LogTold) → LogFits was s → Planned s was.lines p)
+    → ((told : LogTold) (count : ℕ) → LogFits told s → P count → Left after (told.lines ++ take count p)) → TurnStops (turn_of stop) s after old new → TurnMeets s old (turn_of stop) after new
 stop_meets s after stops.Failed p P old new b st inside later cause g plan left stops' = record {
   later = later;
   same_problem = st.same_problem;

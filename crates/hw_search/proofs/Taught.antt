@@ -4,7 +4,7 @@ use Rattle.std.specs.Prelude.{Contains}
 use Rattle.hw_model.specs.declared.lit.Lit.{Lit}
 use Rattle.hw_lines.specs.declared.line.Line.{Line}
 use Rattle.hw_story.specs.declared.event.Why.{Why}
-use Rattle.hw_story.specs.Trails.{TrailModel, clause_of, back_to}
+use Rattle.hw_story.specs.Trails.{TrailModel, reason_clause, back_to}
 use Rattle.hw_cert.specs.declared.log.LogStop.{LogStop}
 use Rattle.hw_cert.specs.declared.log.LogStop.TheVariants as stops
 use Rattle.hw_cert.specs.Logs.{LogTold, LogModel, Grows}
@@ -18,9 +18,9 @@ use Rattle.hw_progress.specs.Turns.{cited, with_lemma, to_level, gone_back, unke
 use Rattle.hw_progress.proofs.Stops.{numbers_kept, past as gone_keeps}
 use Rattle.hw_search.specs.Handing.{TakesAll, StopBehind, StopsAfter, StopsWithin}
 use Rattle.hw_search.specs.Naming.{own_number, taught, Taught}
-use Rattle.hw_search.specs.Dropped.{kept, IsLeftOver}
+use Rattle.hw_search.specs.Dropped.{line_numbers_kept, IsLeftOver}
 use Rattle.hw_search.specs.GoingBack.{due, NextLevel, Adds}
-use Rattle.hw_search.specs.Turning.{Begins, Teaches, turn_of}
+use Rattle.hw_search.specs.Turning.{TurnBegins, Teaches, turn_of}
 use Rattle.hw_search.proofs.Handed.{grows_on, all_on, take_past, get_past, cause_on}
 use Rattle.hw_search.proofs.Teaching.{gone, past, Known, known, lemma_turned, past_meets}
 use Rattle.hw_search.proofs.Unkept.{DropsRest, drops_unkept}
@@ -111,16 +111,16 @@ drops_left mid why lemma back places trail written ws lines restarts since level
     let d : DropsRest u ws keep own ids = record {
       ascends = left.ascends;
       holds = left.holds;
-      apart = λ n h m. left.apart n h (subst (λ xs. Contains (kept stored xs) n) w.taken m);
-      all = λ n h m. left.all n h (λ q. m (subst (λ xs. Contains (kept stored xs) n) (sym w.taken) q));
+      apart = λ n h m. left.apart n h (subst (λ xs. Contains (line_numbers_kept stored xs) n) w.taken m);
+      all = λ n h m. left.all n h (λ q. m (subst (λ xs. Contains (line_numbers_kept stored xs) n) (sym w.taken) q));
     } in
     let d' = subst (λ x. DropsRest u c.search.written keep x ids) o (subst (λ xs. DropsRest u xs keep own ids) w.numbers.same_written d) in
-    drops_unkept mid u was.lines places (cited mid places) why (clause_of why) lemma keep ids k.citing k.prepared st wr d' ∙ ap (unkept (was.lines ++ lemma_lines c lemma)) (sym g)
+    drops_unkept mid u was.lines places (cited mid places) why (reason_clause why) lemma keep ids k.citing k.prepared st wr d' ∙ ap (unkept (was.lines ++ lemma_lines c lemma)) (sym g)
 
 -- ---- the answer
 
 pub went_meets : (s mid : SearchModel) (why : Why) (lemma : List Lit) (back : ℕ) (places : List ℕ) (trail : TrailModel) (stored : List Stored) (written ws : List (Option ℕ)) (lines restarts since level : ℕ) (own : Option ℕ) (ids : List ℕ) (old then new : LogModel)
-    → Begins s old → Settles s mid (Conflict why) → Teaches mid why lemma back places → 1 ≤ length lemma → WentBack mid why lemma back places trail written ws lines restarts since level → own ≡ own_number why ((cited mid places).search.clause_lines + 1) → stored ≡ mid.stored ++ record { number = lines; clause = lemma } ∷ []
+    → TurnBegins s old → Settles s mid (Conflict why) → Teaches mid why lemma back places → 1 ≤ length lemma → WentBack mid why lemma back places trail written ws lines restarts since level → own ≡ own_number why ((cited mid places).search.clause_lines + 1) → stored ≡ mid.stored ++ record { number = lines; clause = lemma } ∷ []
     → TakesAll (lemma_lines (taught mid why places) lemma) old then → IsLeftOver (mid.stored ++ record { number = lines; clause = lemma } ∷ []) ws (length (back_to mid.trail level).events) own ids → TakesAll (deletion ids) then new
     → TurnMeets s old turns.Lemma (went mid trail stored written lines restarts since) new
 went_meets s mid why lemma back places trail stored written ws lines restarts since level own ids old then new b settles t literal w o e a left d =
@@ -149,7 +149,7 @@ is_added stops.Failed s mid why lemma back places lines stored e g h = h ∙ sym
 is_added stops.NoMemory s mid why lemma back places lines stored e g h = elim h [ inl a ↦ inl (a ∙ sym g) | inr b ↦ inr (b ∙ e) ]
 
 pub stop_meets_past : (s mid : SearchModel) (why : Why) (lemma : List Lit) (back : ℕ) (places : List ℕ) (trail : TrailModel) (stored : List Stored) (written ws : List (Option ℕ)) (lines restarts since level : ℕ) (own : Option ℕ) (stop : LogStop) (more : List Line) (old then new : LogModel)
-    → Begins s old → Settles s mid (Conflict why) → mid.stored ≡ s.stored → Teaches mid why lemma back places → 1 ≤ length lemma → WentBack mid why lemma back places trail written ws lines restarts since level → own ≡ own_number why ((cited mid places).search.clause_lines + 1)
+    → TurnBegins s old → Settles s mid (Conflict why) → mid.stored ≡ s.stored → Teaches mid why lemma back places → 1 ≤ length lemma → WentBack mid why lemma back places trail written ws lines restarts since level → own ≡ own_number why ((cited mid places).search.clause_lines + 1)
     → Adds stop mid.stored (record { number = lines; clause = lemma }) stored
     → TakesAll (lemma_lines (taught mid why places) lemma) old then → (more ≡ []) ⊎ ((ids : List ℕ) × IsLeftOver (mid.stored ++ record { number = lines; clause = lemma } ∷ []) ws (length (back_to mid.trail level).events) own ids × (more ≡ deletion ids)) → StopsWithin stop more 0 then new
     → TurnMeets s old (turn_of stop) (record (went mid trail stored written lines restarts since) { over = true }) new

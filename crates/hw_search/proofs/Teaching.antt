@@ -8,8 +8,10 @@ use Rattle.hw_lines.specs.declared.line.Line.TheVariants as lines
 use Rattle.hw_lines.specs.Lines.{clause_count, last_table, is_closed}
 use Rattle.hw_lines.specs.Lemmas.{lemmas_of}
 use Rattle.hw_lines.proofs.Pushed.{last_push}
+use Rattle.hw_lines.proofs.Live.{lemmas_push}
+use Rattle.hw_verdict.proofs.Numbered.{count_append}
 use Rattle.hw_story.specs.declared.event.Why.{Why}
-use Rattle.hw_story.specs.Trails.{clause_of, most_events}
+use Rattle.hw_story.specs.Trails.{reason_clause, most_events}
 use Rattle.hw_cert.specs.declared.log.LogStop.{LogStop}
 use Rattle.hw_cert.specs.Logs.{LogTold, LogModel, WhereTold, Grows}
 use Rattle.hw_store.specs.declared.store.Stored.{Stored}
@@ -17,17 +19,16 @@ use Rattle.hw_progress.specs.declared.outcome.Turn.TheVariants as turns
 use Rattle.hw_progress.specs.Searches.{SearchModel, IsSearch, FitsOpen, LiveKept, LogFits, lemmas_in}
 use Rattle.hw_progress.specs.Laws.{lemma_lines}
 use Rattle.hw_progress.specs.Living.{FewLiveFrom}
-use Rattle.hw_progress.specs.Turns.{Cited, cited, with_lemma, to_level, is_due, gone_back, unkept, deletion, Analysed, IsAdded, Plans, Stops, DoesEnd, WritesWell, TurnWrites, TurnMeets}
-use Rattle.hw_progress.proofs.Lines.{lemma_open, lemmas_push}
+use Rattle.hw_progress.specs.Turns.{Cited, cited, with_lemma, to_level, restart_is_due, gone_back, unkept, deletion, Analysed, IsAdded, Plans, TurnStops, DoesEnd, WritesWell, TurnWrites, TurnMeets}
+use Rattle.hw_progress.proofs.Lines.{lemma_open}
 use Rattle.hw_progress.proofs.Bounds.{few_numbers}
 use Rattle.hw_progress.proofs.Citing.{Citing, Prepared, cites, prepared}
-use Rattle.hw_progress.proofs.LemmaTurn.{count_append}
 use Rattle.hw_progress.proofs.Told.{grown}
 use Rattle.hw_progress.proofs.Turned.{few_for, lemma_meets, last}
 use Rattle.hw_progress.proofs.Living.{turn_lives}
 use Rattle.hw_search.specs.Handing.{TakesAll, StopCause, StopsAfter, StopsWithin}
 use Rattle.hw_search.specs.Naming.{taught}
-use Rattle.hw_search.specs.Turning.{Begins, turn_of, halted}
+use Rattle.hw_search.specs.Turning.{TurnBegins, turn_of, halted}
 use Rattle.hw_search.proofs.Handed.{grows_by, grown_with, told_by, take_front}
 use Rattle.hw_search.proofs.Stopping.{Left, Planned, Stopped, left_sourced, cited_sourced, stop_meets}
 use Rattle.hw_search.proofs.Answering.{Same, same_mid, mid_fits, before_stops, halts, tells}
@@ -41,11 +42,11 @@ gone mid why lemma back places = gone_back (with_lemma (taught mid why places).s
 pub record Known (s mid : SearchModel) (told : LogTold) (why : Why) (lemma : List Lit) (back : ℕ) (places : List ℕ) : Type 0 where
   pub fit : LogFits told mid
   pub citing : Citing mid told.lines places (cited mid places)
-  pub prepared : Prepared mid told.lines places (clause_of why) (taught mid why places)
+  pub prepared : Prepared mid told.lines places (reason_clause why) (taught mid why places)
   pub going : mid.over ≡ false
   pub few : mid.lemmas < 100000
 
-pub known : (s mid : SearchModel) (told : LogTold) (why : Why) (lemma : List Lit) (back : ℕ) (places : List ℕ) → IsSearch s → s.over ≡ false → s.lemmas < 100000 → LogFits told s → Analysed s mid why lemma back places → 1 ≤ length (clause_of why) → Known s mid told why lemma back places
+pub known : (s mid : SearchModel) (told : LogTold) (why : Why) (lemma : List Lit) (back : ℕ) (places : List ℕ) → IsSearch s → s.over ≡ false → s.lemmas < 100000 → LogFits told s → Analysed s mid why lemma back places → 1 ≤ length (reason_clause why) → Known s mid told why lemma back places
 known s mid told why lemma back places is going few fit a some =
     let e = same_mid s mid a.settles.implies in
     let k = a.settles.kept in
@@ -79,7 +80,7 @@ record Whole (s : SearchModel) (before all : List Line) : Type 0 where
 part_of : (s : SearchModel) (before p rest : List Line) → Whole s before (p ++ rest) → Planned s before p
 part_of s before p rest w = record { rest = rest; planned = w.planned; well = w.well; few_live = w.few_live; few = w.few }
 
-whole_lemma : (s mid : SearchModel) (told : LogTold) (why : Why) (lemma : List Lit) (back : ℕ) (places : List ℕ) → Same s mid → Known s mid told why lemma back places → Analysed s mid why lemma back places → 1 ≤ length (clause_of why) → 1 ≤ length lemma
+whole_lemma : (s mid : SearchModel) (told : LogTold) (why : Why) (lemma : List Lit) (back : ℕ) (places : List ℕ) → Same s mid → Known s mid told why lemma back places → Analysed s mid why lemma back places → 1 ≤ length (reason_clause why) → 1 ≤ length lemma
     → Whole s told.lines (lemma_lines (taught mid why places) lemma ++ deletion (unkept (told.lines ++ lemma_lines (taught mid why places) lemma) (gone mid why lemma back places)))
 whole_lemma s mid told why lemma back places e k a some literal =
     let c = taught mid why places in
@@ -95,7 +96,7 @@ whole_lemma s mid told why lemma back places e k a some literal =
       few = subst (λ (f : Problem). clause_count (lemma_lines c lemma ++ rest) ≤ most_events f.ships f.slots + 2) e.problem (omega (arith, m.few, count_append (lemma_lines c lemma) rest, no_clause (unkept (told.lines ++ lemma_lines c lemma) after)));
     }
 
-plan_end : (s mid : SearchModel) (told : LogTold) (why : Why) (back : ℕ) (places : List ℕ) → Same s mid → Known s mid told why [] back places → Analysed s mid why [] back places → 1 ≤ length (clause_of why) → Planned s told.lines (lemma_lines (taught mid why places) [])
+plan_end : (s mid : SearchModel) (told : LogTold) (why : Why) (back : ℕ) (places : List ℕ) → Same s mid → Known s mid told why [] back places → Analysed s mid why [] back places → 1 ≤ length (reason_clause why) → Planned s told.lines (lemma_lines (taught mid why places) [])
 plan_end s mid told why back places e k a some =
     let c = taught mid why places in
     let all = lemma_lines c [] in
@@ -109,13 +110,13 @@ plan_end s mid told why back places e k a some =
       few = subst (λ xs. clause_count xs ≤ most_events s.problem.ships s.problem.slots + 2) (sym (append-nil all)) (subst (λ (f : Problem). clause_count all ≤ most_events f.ships f.slots + 2) e.problem m.few);
     }
 
-plan : (s mid : SearchModel) (told : LogTold) (why : Why) (lemma : List Lit) (back : ℕ) (places : List ℕ) → Same s mid → Known s mid told why lemma back places → Analysed s mid why lemma back places → 1 ≤ length (clause_of why) → Planned s told.lines (lemma_lines (taught mid why places) lemma)
+plan : (s mid : SearchModel) (told : LogTold) (why : Why) (lemma : List Lit) (back : ℕ) (places : List ℕ) → Same s mid → Known s mid told why lemma back places → Analysed s mid why lemma back places → 1 ≤ length (reason_clause why) → Planned s told.lines (lemma_lines (taught mid why places) lemma)
 plan s mid told why [] back places e k a some = plan_end s mid told why back places e k a some
 plan s mid told why (l ∷ lemma) back places e k a some = part_of s told.lines (lemma_lines (taught mid why places) (l ∷ lemma)) (deletion (unkept (told.lines ++ lemma_lines (taught mid why places) (l ∷ lemma)) (gone mid why (l ∷ lemma) back places))) (whole_lemma s mid told why (l ∷ lemma) back places e k a some (omega arith))
 
 -- ---- a stop before the lemma is written
 
-pub lemma_stops : (s mid : SearchModel) (why : Why) (lemma : List Lit) (back : ℕ) (places : List ℕ) (ws : List (Option ℕ)) (n : ℕ) (stop : LogStop) (old new : LogModel) → Begins s old → Analysed s mid why lemma back places → 1 ≤ length (clause_of why) → StopsWithin stop (lemma_lines (taught mid why places) lemma) (length (taught mid why places).lines) old new → TurnMeets s old (turn_of stop) (halted mid ws n) new
+pub lemma_stops : (s mid : SearchModel) (why : Why) (lemma : List Lit) (back : ℕ) (places : List ℕ) (ws : List (Option ℕ)) (n : ℕ) (stop : LogStop) (old new : LogModel) → TurnBegins s old → Analysed s mid why lemma back places → 1 ≤ length (reason_clause why) → StopsWithin stop (lemma_lines (taught mid why places) lemma) (length (taught mid why places).lines) old new → TurnMeets s old (turn_of stop) (halted mid ws n) new
 lemma_stops s mid why lemma back places ws n stop old new b a some t =
     let e = same_mid s mid a.settles.implies in
     let c = taught mid why places in
@@ -132,7 +133,7 @@ lemma_stops s mid why lemma back places ws n stop old new b a some t =
 abbrev pub ended : SearchModel → List (Option ℕ) → ℕ → ℕ → SearchModel
 ended mid ws n lemmas = record mid { written = ws; clause_lines = n; lemmas = lemmas; over = true }
 
-pub last_meets : (s mid : SearchModel) (why : Why) (back : ℕ) (places : List ℕ) (ws : List (Option ℕ)) (n : ℕ) (old new : LogModel) → Begins s old → Analysed s mid why [] back places → 1 ≤ length (clause_of why) → TakesAll (lemma_lines (taught mid why places) []) old new → TurnMeets s old turns.Ended (ended mid ws n (mid.lemmas + 1)) new
+pub last_meets : (s mid : SearchModel) (why : Why) (back : ℕ) (places : List ℕ) (ws : List (Option ℕ)) (n : ℕ) (old new : LogModel) → TurnBegins s old → Analysed s mid why [] back places → 1 ≤ length (reason_clause why) → TakesAll (lemma_lines (taught mid why places) []) old new → TurnMeets s old turns.Ended (ended mid ws n (mid.lemmas + 1)) new
 last_meets s mid why back places ws n old new b a some t =
     let e = same_mid s mid a.settles.implies in
     let c = taught mid why places in
@@ -189,7 +190,7 @@ pub record SameGone (u g : SearchModel) : Type 0 where
   pub over : g.over ≡ u.over
 
 pub same_gone : (u : SearchModel) (back : ℕ) → SameGone u (gone_back u back)
-same_gone u back = by (is_due u)
+same_gone u back = by (restart_is_due u)
   where
     by : (b : Bool) → SameGone u (cond b (record (to_level u 0) { restarts = u.restarts + 1; since = 0 }) (record (to_level u back) { since = u.since + 1 }))
     by true = record { problem = refl; branching = refl; stored = refl; best = refl; prices = refl; clause_lines = refl; lemmas = refl; over = refl }
@@ -199,7 +200,7 @@ same_gone u back = by (is_due u)
 abbrev pub Deletes : SearchModel → SearchModel → Why → List Lit → ℕ → List ℕ → List ℕ → LogTold → Type 0
 Deletes s mid why lemma back places ids was = ids ≡ unkept (was.lines ++ lemma_lines (taught mid why places) lemma) (gone mid why lemma back places)
 
-pub lemma_turned : (s mid : SearchModel) (why : Why) (lemma : List Lit) (back : ℕ) (places ids : List ℕ) (old new : LogModel) → Begins s old → Analysed s mid why lemma back places → 1 ≤ length (clause_of why) → 1 ≤ length lemma → (taught mid why places).search ≡ record mid { written = (taught mid why places).search.written; clause_lines = (taught mid why places).search.clause_lines }
+pub lemma_turned : (s mid : SearchModel) (why : Why) (lemma : List Lit) (back : ℕ) (places ids : List ℕ) (old new : LogModel) → TurnBegins s old → Analysed s mid why lemma back places → 1 ≤ length (reason_clause why) → 1 ≤ length lemma → (taught mid why places).search ≡ record mid { written = (taught mid why places).search.written; clause_lines = (taught mid why places).search.clause_lines }
     → IsSearch (gone mid why lemma back places) → ((was : LogTold) → LogFits was s → Deletes s mid why lemma back places ids was) → TakesAll (lemma_lines (taught mid why places) lemma ++ deletion ids) old new → TurnMeets s old turns.Lemma (gone mid why lemma back places) new
 lemma_turned s mid why lemma back places ids old new b a some literal same is d t =
     let e = same_mid s mid a.settles.implies in
@@ -277,7 +278,7 @@ past_written : (c : Cited) (lemma : List Lit) (more : List Line) (stop : LogStop
 past_written c lemma more stop was now count e t = t.lines ∙ ap (λ xs. was.lines ++ xs) (ap (λ k. take k (lemma_lines c lemma ++ more)) e ∙ take_front (lemma_lines c lemma) more (length (lemma_lines c lemma)) (omega arith) ∙ take_all (length (lemma_lines c lemma)) (lemma_lines c lemma) (omega arith))
 
 -- where the lines after the lemma begin the deletion
-pub past_meets : (s mid : SearchModel) (why : Why) (lemma : List Lit) (back : ℕ) (places : List ℕ) (stored : List Stored) (more : List Line) (stop : LogStop) (old new : LogModel) → Begins s old → Analysed s mid why lemma back places → 1 ≤ length (clause_of why) → 1 ≤ length lemma
+pub past_meets : (s mid : SearchModel) (why : Why) (lemma : List Lit) (back : ℕ) (places : List ℕ) (stored : List Stored) (more : List Line) (stop : LogStop) (old new : LogModel) → TurnBegins s old → Analysed s mid why lemma back places → 1 ≤ length (reason_clause why) → 1 ≤ length lemma
     → (taught mid why places).search ≡ record mid { written = (taught mid why places).search.written; clause_lines = (taught mid why places).search.clause_lines }
     → IsAdded (turn_of stop) s (gone mid why lemma back places) (past (gone mid why lemma back places) stored)
     → ((was : LogTold) → LogFits was s → (rest : List Line) × (more ++ rest ≡ deletion (unkept (was.lines ++ lemma_lines (taught mid why places) lemma) (gone mid why lemma back places))))
@@ -303,7 +304,7 @@ past_meets s mid why lemma back places stored more stop old new b a some literal
     let r = behind was fit in
     part_of s was.lines (p ++ more) r.0 (subst (Whole s was.lines) (ap (λ xs. p ++ xs) (sym r.1) ∙ sym (append_assoc p more r.0)) w))
     (λ told count fit z. subst (λ xs. Left after (told.lines ++ xs)) (sym (ap (λ k. take k (p ++ more)) z ∙ take_front p more (length p) (omega arith) ∙ take_all (length p) p (omega arith))) (past_left s mid told why lemma back places stored b.kept b.going (K told fit) a literal))
-    (Stops.past_lemma (record {
+    (TurnStops.past_lemma (record {
       mid = mid;
       why = why;
       lemma = lemma;

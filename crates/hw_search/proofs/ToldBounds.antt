@@ -15,8 +15,8 @@ use Rattle.hw_progress.specs.Advised.{HeedWrites, Heeds}
 use Rattle.hw_progress.proofs.Tolled.{bound}
 use Rattle.hw_search.specs.Engines.{EngineModel}
 use Rattle.hw_search.specs.Handing.{TakesAll, StopsWithin}
-use Rattle.hw_search.specs.Heeding.{HeedStops, priced_by, with_tolls, with_given}
-use Rattle.hw_search.specs.Bounding.{IsBelow, ShowsBound, TellsBound, IsBounded}
+use Rattle.hw_search.specs.Heeding.{HeedStops, with_other_prices, with_tolls, with_given}
+use Rattle.hw_search.specs.Bounding.{IsBelow, ShowsBound, TellsBound, WritesLowerBound}
 use Rattle.hw_search.proofs.Advice.{one_writes, line_stops, same_problem}
 use Rattle.hw_search.proofs.Handed.{grown_with, grows_by}
 
@@ -26,12 +26,12 @@ pub record IsNewBound (s : SearchModel) (new : ℕ) : Type 0 where
   pub below : IsBelow s new
   pub shows : ShowsBound s new
 
-pub bound_is : (e u : EngineModel) (p : PriceModel) (new : ℕ) → e ≡ u → p ≡ with_bound e.search.prices new → priced_by e.search p ≡ priced_by u.search (with_bound u.search.prices new)
-bound_is e u p new same is = ap (λ x. priced_by e.search x) is ∙ ap (λ (x : EngineModel). priced_by x.search (with_bound x.search.prices new)) same
+pub bound_is : (e u : EngineModel) (p : PriceModel) (new : ℕ) → e ≡ u → p ≡ with_bound e.search.prices new → with_other_prices e.search p ≡ with_other_prices u.search (with_bound u.search.prices new)
+bound_is e u p new same is = ap (λ x. with_other_prices e.search x) is ∙ ap (λ (x : EngineModel). with_other_prices x.search (with_bound x.search.prices new)) same
 
-pub bound_told : (s : SearchModel) (new : ℕ) (old log : LogModel) → IsSearch s → IsNewBound s new → WhereTold old (λ told. LogFits told s) → TakesAll (lines.Bound new ∷ []) old log → TellsBound s new (priced_by s (with_bound s.prices new)) old log
+pub bound_told : (s : SearchModel) (new : ℕ) (old log : LogModel) → IsSearch s → IsNewBound s new → WhereTold old (λ told. LogFits told s) → TakesAll (lines.Bound new ∷ []) old log → TellsBound s new (with_other_prices s (with_bound s.prices new)) old log
 bound_told s new old log is of fits t =
-    let after = priced_by s (with_bound s.prices new) in
+    let after = with_other_prices s (with_bound s.prices new) in
     let R : LogTold → LogTold → Type 0 = λ was now. (now.lines ≡ was.lines ++ lines.Bound new ∷ []) × (now.behind ≡ []) in
     record {
       search = refl;
@@ -45,8 +45,8 @@ pub bound_stops : (s : SearchModel) (new : ℕ) (stop : LogStop) (old log : LogM
 bound_stops s new stop old log is of fits t = line_stops s (lines.Bound new) stop old log is fits (λ before fit. ((bound s new is of.small of.below of.shows).meets before fit).good) t
 
 -- what the search is then
-pub bound_kept : (s : SearchModel) (p : PriceModel) (new : ℕ) → IsSearch s → IsNewBound s new → p ≡ with_bound s.prices new → IsSearch (priced_by s p)
-bound_kept s p new is of same = subst (λ x. IsSearch (priced_by s x)) (sym same) (bound s new is of.small of.below of.shows).kept
+pub bound_kept : (s : SearchModel) (p : PriceModel) (new : ℕ) → IsSearch s → IsNewBound s new → p ≡ with_bound s.prices new → IsSearch (with_other_prices s p)
+bound_kept s p new is of same = subst (λ x. IsSearch (with_other_prices s x)) (sym same) (bound s new is of.small of.below of.shows).kept
 
 -- what prices show is a bound
 shown_bounds : (s : SearchModel) (new : ℕ) → IsSearch s → ShowsBound s new → NoneAbove s.problem new
@@ -57,10 +57,10 @@ shown_bounds s new is shown table c permits worth = by s.prices.tariff shown
     by (Some tariff) h = sound_bound s.problem s.prices.tolls tariff new table c is.flat is.prices.tolls h.1 permits worth
 
 -- what an adviser said of a bound holds after its tolls and its tariff
-pub advice_shows : (s held mid : SearchModel) (more : List Toll) (tariff : Option Tariff) (new : ℕ) → IsBoundAdvice s.problem s.prices.tolls s.prices.tariff more tariff new → held ≡ priced_by s (with_tolls s.prices more) → mid ≡ priced_by held (with_given held.prices tariff) → ShowsBound mid new
-advice_shows s held mid more tariff new a e f = subst (λ x. ShowsBound x new) (sym (f ∙ ap (λ (x : SearchModel). priced_by x (with_given x.prices tariff)) e)) a.bounded
+pub advice_shows : (s held mid : SearchModel) (more : List Toll) (tariff : Option Tariff) (new : ℕ) → IsBoundAdvice s.problem s.prices.tolls s.prices.tariff more tariff new → held ≡ with_other_prices s (with_tolls s.prices more) → mid ≡ with_other_prices held (with_given held.prices tariff) → ShowsBound mid new
+advice_shows s held mid more tariff new a e f = subst (λ x. ShowsBound x new) (sym (f ∙ ap (λ (x : SearchModel). with_other_prices x (with_given x.prices tariff)) e)) a.bounded
 
-pub bounded : (s mid after : SearchModel) (new : ℕ) (old here log : LogModel) → IsBelow s new → ShowsBound mid new → Heeds s mid old here → TellsBound mid new after here log → IsBounded s new after old log
+pub bounded : (s mid after : SearchModel) (new : ℕ) (old here log : LogModel) → IsBelow s new → ShowsBound mid new → Heeds s mid old here → TellsBound mid new after here log → WritesLowerBound s new after old log
 bounded s mid after new old here log below shown h t = record {
   below = below;
   bounds = λ table c permits worth.

@@ -26,7 +26,7 @@ use Rattle.hw_laws.proofs.Quiets.{best_quiet}
 use Rattle.hw_search.proofs.Levels.{levels_decided, levels_best, at_get, one_place}
 use Rattle.hw_search.specs.Engines.{EngineModel, KeepsEngine, QuietUnmarked}
 use Rattle.hw_search.specs.Ledgers.{LedgerModel}
-use Rattle.hw_search.specs.Marks.{is_marked, MarksPlaces}
+use Rattle.hw_search.specs.Marks.{is_place_marked, MarksPlaces}
 use Rattle.hw_search.specs.Speaking.{SpeakersModel, speakers_of}
 use Rattle.hw_search.proofs.Kept.{lit_here, room_here, few_in}
 use Rattle.hw_search.proofs.Markings.{quiet_cut}
@@ -98,20 +98,20 @@ kept_decided e table goal worth capacity lit trail stored l marks k quiet o t st
 -- ---- a better timetable
 
 -- one more mark
-marked_here : (marks : List Bool) (k : ℕ) → k < length marks → is_marked (slice_set marks k true) k ≡ true
+marked_here : (marks : List Bool) (k : ℕ) → k < length marks → is_place_marked (slice_set marks k true) k ≡ true
 marked_here [] k lt = absurd (omega (arith, lt))
 marked_here (m ∷ marks) zero lt = refl
 marked_here (m ∷ marks) (suc k) lt = marked_here marks k (omega (arith, lt))
 
-marked_else : (marks : List Bool) (k j : ℕ) → (j ≡ k → ⊥) → is_marked (slice_set marks k true) j ≡ is_marked marks j
+marked_else : (marks : List Bool) (k j : ℕ) → (j ≡ k → ⊥) → is_place_marked (slice_set marks k true) j ≡ is_place_marked marks j
 marked_else [] k j ne = refl
 marked_else (m ∷ marks) zero zero ne = absurd (ne refl)
 marked_else (m ∷ marks) zero (suc j) ne = refl
 marked_else (m ∷ marks) (suc k) zero ne = refl
 marked_else (m ∷ marks) (suc k) (suc j) ne = marked_else marks k j (λ e. ne (ap suc e))
 
-not_marked : (marks : List Bool) (k j : ℕ) → k < length marks → is_marked (slice_set marks k true) j ≡ false → j ≡ k → ⊥
-not_marked marks k j lt clear e = let two : true ≡ false = sym (marked_here marks k lt) ∙ ap (is_marked (slice_set marks k true)) (sym e) ∙ clear in cc
+not_marked : (marks : List Bool) (k j : ℕ) → k < length marks → is_place_marked (slice_set marks k true) j ≡ false → j ≡ k → ⊥
+not_marked marks k j lt clear e = let two : true ≡ false = sym (marked_here marks k lt) ∙ ap (is_place_marked (slice_set marks k true)) (sym e) ∙ clear in cc
 
 pub kept_better : (e : EngineModel) (table : SpeakersModel) (goal : ℕ) (worth : Option ℕ) (capacity : ℕ) (row : List ℕ) (worth' : Option ℕ) (marks : List Bool) → KeepsEngine e table goal worth capacity → Permits e.search.problem row → (c : ℕ) → cargo e.search.problem row ≡ Some c → IsTrue (beats c (best_cargo e.search)) → worth' ≡ cargo e.search.problem row → marks ≡ slice_set e.marks goal true
     → KeepsEngine (record { search = record e.search { best = Some row }; sources = e.sources; marks = marks }) table goal worth' capacity

@@ -3,7 +3,6 @@ use Rattle.std.proofs.Common.{◌≡◌, ◌⊎◌, ◌&&◌, not, cond, is_some
 use Rattle.std.specs.Prelude.{◌==◌, Contains, AllPairs}
 use Rattle.std.specs.List.{list_any, range_with_len}
 use Rattle.std.specs.List.Sorted.{IsStrictlyIncreasing}
-use Rattle.std.proofs.lemmas.Bool.{or_cases, eqb-true}
 use Rattle.std.proofs.lemmas.List.{take-append-drop}
 use Rattle.std.proofs.lemmas.List.Elements.{Contains-append_left, Contains-append_right, Contains-append_cases, filter_map-append}
 use Rattle.std.proofs.lemmas.List.Kept.{AllPairs-from_increasing}
@@ -20,8 +19,9 @@ use Rattle.hw_progress.specs.Laws.{lemma_lines}
 use Rattle.hw_progress.proofs.Numbers.{contains_here, contains_there, contains_cases, contains_none}
 use Rattle.hw_progress.proofs.Lines.{IsClauseLine, source_is, lemma_is, live_stays, live_back, new_live}
 use Rattle.hw_progress.proofs.Priced.{priced_is}
-use Rattle.hw_progress.proofs.Backs.{contains_any, from_filter, unkept_has, unkept_not}
+use Rattle.hw_progress.proofs.Backs.{contains_any, from_filter, unkept_has, unkept_not, any_contains}
 use Rattle.hw_progress.proofs.Citing.{Citing, Prepared}
+use Rattle.hw_progress.proofs.Numbers.{numbers_push}
 use Rattle.hw_search.specs.Dropped.{number_list, dropped}
 use Rattle.hw_search.specs.Naming.{own_number}
 
@@ -69,13 +69,6 @@ same_members low (x ∷ xs) (y ∷ ys) a b to back =
     ap (λ z. z ∷ xs) e ∙ ap (λ zs. y ∷ zs) (same_members (x + 1) xs ys a.1 (subst (λ z. Above (z + 1) ys) (sym e) b.1)
     (λ n c. elim (contains_cases y ys n (to n (contains_there x xs n c))) [ inl f ↦ absurd (omega (arith, f, e, least (x + 1) xs n a.1 c)) | inr more ↦ more ])
     (λ n c. elim (contains_cases x xs n (back n (contains_there y ys n c))) [ inl f ↦ absurd (omega (arith, f, e, least (y + 1) ys n b.1 c)) | inr more ↦ more ]))
-
-any_contains : (xs : List ℕ) (n : ℕ) → list_any (λ x. x == n) xs ≡ true → Contains xs n
-any_contains [] n e = absurd cc
-any_contains (x ∷ xs) n e = elim (or_cases (x == n) (list_any (λ z. z == n) xs) e) [
-  | inl same ↦ contains_here x xs n (eqb-true x n same)
-  | inr more ↦ contains_there x xs n (any_contains xs n more)
-]
 
 -- ---- what is left over
 
@@ -139,10 +132,6 @@ own_live s before places c (whys.Priced clause) h n k = new_own s before places 
 split : (ws : List (Option ℕ)) (keep : ℕ) → filter_map (λ (w : Option ℕ). w) ws ≡ filter_map (λ (w : Option ℕ). w) (take keep ws) ++ filter_map (λ (w : Option ℕ). w) (drop keep ws)
 split ws keep = ap (filter_map (λ (w : Option ℕ). w)) (sym (take-append-drop keep ws)) ∙ filter_map-append (λ (w : Option ℕ). w) (take keep ws) (drop keep ws)
 
-number_push : (xs : List Stored) (x : Stored) → map (λ (one : Stored). one.number) (xs ++ x ∷ []) ≡ map (λ (one : Stored). one.number) xs ++ x.number ∷ []
-number_push [] x = refl
-number_push (y ∷ xs) x = ap (λ ys. y.number ∷ ys) (number_push xs x)
-
 -- the numbers of dropped events and of the conflict, but for those that are kept
 pub record DropsRest (u : SearchModel) (ws : List (Option ℕ)) (keep : ℕ) (own : Option ℕ) (ids : List ℕ) : Type 0 where
   pub ascends : IsStrictlyIncreasing ids
@@ -161,7 +150,7 @@ drops_unkept s u before places c why clause lemma keep ids h p st wr d =
     let line = lines.Lemma lemma e.hints in
     let assoc : (before ++ e.lines) ++ line ∷ [] ≡ before ++ lemma_lines e lemma = append_assoc before e.lines (line ∷ []) in
     let nums : List ℕ = map (λ (one : Stored). one.number) e.search.stored in
-    let u_nums : map (λ (one : Stored). one.number) u.stored ≡ nums ++ (e.search.clause_lines + 1) ∷ [] = ap (map (λ (one : Stored). one.number)) st ∙ number_push e.search.stored (record { number = e.search.clause_lines + 1; clause = lemma }) in
+    let u_nums : map (λ (one : Stored). one.number) u.stored ≡ nums ++ (e.search.clause_lines + 1) ∷ [] = ap (map (λ (one : Stored). one.number)) st ∙ numbers_push e.search.stored (record { number = e.search.clause_lines + 1; clause = lemma }) in
     let from_stored = λ (n : ℕ) (k : Contains (nums ++ (e.search.clause_lines + 1) ∷ []) n). Contains-append_left (map (λ (one : Stored). one.number) u.stored) (filter_map (λ (w : Option ℕ). w) u.written) n (subst (λ xs. Contains xs n) (sym u_nums) k) in
     let from_written = λ (n : ℕ) (k : Contains (filter_map (λ (w : Option ℕ). w) (take keep ws)) n). Contains-append_right (map (λ (one : Stored). one.number) u.stored) (filter_map (λ (w : Option ℕ). w) u.written) n (subst (λ xs. Contains (filter_map (λ (w : Option ℕ). w) xs) n) (sym wr) k) in
     unkept_is (before ++ lemma_lines e lemma) u ids d.ascends

@@ -43,11 +43,11 @@ pub record Kinds : Type 1 where
   pub goal_bound : Kind GoalBound
 
 -- a propagator means what its kind does
-abbrev pub meaning_by : Kinds → AnyPropagator → Meaning
-meaning_by all (kinds.Shaver one) = meaning all.shaver one
-meaning_by all (kinds.Channel one) = meaning all.channel one
-meaning_by all (kinds.Separation one) = meaning all.separation one
-meaning_by all (kinds.Berth one) = meaning all.berth one
-meaning_by all (kinds.OrderTriple one) = meaning all.order_triple one
-meaning_by all (kinds.TugProfile one) = meaning all.tug_profile one
-meaning_by all (kinds.GoalBound one) = meaning all.goal_bound one
+abbrev pub propagator_meaning : Kinds → AnyPropagator → Meaning
+propagator_meaning all (kinds.Shaver one) = meaning all.shaver one
+propagator_meaning all (kinds.Channel one) = meaning all.channel one
+propagator_meaning all (kinds.Separation one) = meaning all.separation one
+propagator_meaning all (kinds.Berth one) = meaning all.berth one
+propagator_meaning all (kinds.OrderTriple one) = meaning all.order_triple one
+propagator_meaning all (kinds.TugProfile one) = meaning all.tug_profile one
+propagator_meaning all (kinds.GoalBound one) = meaning all.goal_bound one

@@ -33,7 +33,7 @@ pub record Gains (s after : SearchModel) : Type 0 where
   pub more : length s.trail.events < length after.trail.events
 
 -- implied events may have come, and then a clause had no literal left
-pub record Fails (s after : SearchModel) (why : Why) : Type 0 where
+pub record AskingFails (s after : SearchModel) (why : Why) : Type 0 where
   pub goes : Goes s after
   pub conflict : IsConflict after why
 
@@ -41,13 +41,13 @@ pub record Fails (s after : SearchModel) (why : Why) : Type 0 where
 abbrev pub AskMeets : Type 0 → SearchModel → SearchModel → Result Asked NoMemory → Type 0
 AskMeets quiet s after (Ok Quiet) = (after ≡ s) × IsSearch after × quiet
 AskMeets quiet s after (Ok Cut) = Gains s after
-AskMeets quiet s after (Ok (Conflict why)) = Fails s after why
+AskMeets quiet s after (Ok (Conflict why)) = AskingFails s after why
 AskMeets quiet s after (Err stop) = Implies s after
 
 -- the store was asked until each lemma is quiet, or there is a conflict
 abbrev pub StoreMeets : SearchModel → SearchModel → Result (Option Why) NoMemory → Type 0
 StoreMeets s after (Ok None) = Goes s after × LemmasQuiet after
-StoreMeets s after (Ok (Some why)) = Fails s after why
+StoreMeets s after (Ok (Some why)) = AskingFails s after why
 StoreMeets s after (Err stop) = Implies s after
 
 -- the reason is the clause that is held under this number

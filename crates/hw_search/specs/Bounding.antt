@@ -12,7 +12,7 @@ use Rattle.hw_progress.specs.declared.outcome.Bounded.TheVariants as bounds
 use Rattle.hw_progress.specs.Prices.{with_bound, NoneAbove}
 use Rattle.hw_progress.specs.Searches.{SearchModel, IsSearch}
 use Rattle.hw_progress.specs.Advised.{HeedWrites, Heeds}
-use Rattle.hw_search.specs.Heeding.{HeedStops, priced_by}
+use Rattle.hw_search.specs.Heeding.{HeedStops, with_other_prices}
 
 -- a bound for a search: it holds of the search's problem and prices
 abbrev pub IsBoundFor : SearchModel → Bounding → Type 0
@@ -28,14 +28,14 @@ ShowsBound s bound = IsSomeAnd s.prices.tariff (λ tariff. (1 ≤ tariff.scale) 
 
 -- the line of a bound was written, which is the last one from now on
 pub record TellsBound (s : SearchModel) (bound : ℕ) (after : SearchModel) (old new : LogModel) : Type 0 where
-  pub search : after ≡ priced_by s (with_bound s.prices bound)
+  pub search : after ≡ with_other_prices s (with_bound s.prices bound)
   pub kept : IsSearch after
   pub same_faults : new.faults ≡ old.faults
   pub line : Grows old new (λ was now. now.lines ≡ was.lines ++ lines.Bound bound ∷ [])
   pub writes : Grows old new (HeedWrites s after)
 
 -- a bound below the last one was written, after tolls and a tariff by which it holds
-pub record IsBounded (s : SearchModel) (bound : ℕ) (after : SearchModel) (old new : LogModel) : Type 0 where
+pub record WritesLowerBound (s : SearchModel) (bound : ℕ) (after : SearchModel) (old new : LogModel) : Type 0 where
   pub below : IsBelow s bound
   pub bounds : NoneAbove s.problem bound
   pub mid : SearchModel
@@ -51,7 +51,7 @@ TellMeets s bound after old new (Err stop) = HeedStops s after old stop new
 -- a bound was written after what it needs, there was none to write, or where that stopped
 abbrev pub BoundHeeds : SearchModel → SearchModel → LogModel → LogModel → Result (Option ℕ) LogStop → Type 0
 BoundHeeds s after old new (Ok None) = (after ≡ s) × (new ≡ old)
-BoundHeeds s after old new (Ok (Some bound)) = IsBounded s bound after old new
+BoundHeeds s after old new (Ok (Some bound)) = WritesLowerBound s bound after old new
 BoundHeeds s after old new (Err stop) = HeedStops s after old stop new
 
 -- the answer where a line wasn't taken

@@ -14,8 +14,8 @@ abbrev pub dropped : List (Option ℕ) → ℕ → Option ℕ → List ℕ
 dropped written keep conflict = filter_map (λ number. number) (drop keep written) ++ number_list conflict
 
 -- the numbers of stored lemmas, and those that were written for reasons
-abbrev pub kept : List Stored → List (Option ℕ) → List ℕ
-kept stored written = map (λ one. one.number) stored ++ filter_map (λ number. number) written
+abbrev pub line_numbers_kept : List Stored → List (Option ℕ) → List ℕ
+line_numbers_kept stored written = map (λ one. one.number) stored ++ filter_map (λ number. number) written
 
 -- the number is that of a stored lemma, or an earlier one
 abbrev pub is_kept : List Stored → List ℕ → ℕ → Bool
@@ -29,5 +29,5 @@ unkept_of stored earlier numbers = filter (λ number. not (is_kept stored earlie
 pub record IsLeftOver (stored : List Stored) (written : List (Option ℕ)) (keep : ℕ) (conflict : Option ℕ) (ids : List ℕ) : Type 0 where
   pub ascends : IsStrictlyIncreasing ids
   pub holds : (n : ℕ) → Contains ids n → Contains (dropped written keep conflict) n
-  pub apart : (n : ℕ) → Contains ids n → Contains (kept stored (take keep written)) n → ⊥
-  pub all : (n : ℕ) → Contains (dropped written keep conflict) n → (Contains (kept stored (take keep written)) n → ⊥) → Contains ids n
+  pub apart : (n : ℕ) → Contains ids n → Contains (line_numbers_kept stored (take keep written)) n → ⊥
+  pub all : (n : ℕ) → Contains (dropped written keep conflict) n → (Contains (line_numbers_kept stored (take keep written)) n → ⊥) → Contains ids n

@@ -10,7 +10,7 @@ use Rattle.hw_story.specs.Trails.{TrailModel, room_of, back_to, most_events}
 use Rattle.hw_progress.specs.Searches.{SearchModel, IsSearch, room_in, best_cargo}
 use Rattle.hw_progress.specs.Starting.{EachSourceOnce}
 use Rattle.hw_search.specs.Speaking.{SpeakersModel, TellsSpeakers}
-use Rattle.hw_search.specs.Marks.{is_marked}
+use Rattle.hw_search.specs.Marks.{is_place_marked}
 
 -- the search, its sources in order, and for each whether it is marked: one without a mark is known to be quiet
 pub record EngineModel : Type 0 where
@@ -20,7 +20,7 @@ pub record EngineModel : Type 0 where
 
 -- each source without a mark is quiet in the room
 abbrev pub QuietUnmarked : Problem → Option ℕ → RoomModel → List Source → List Bool → Type 0
-QuietUnmarked f best room sources marks = (place : ℕ) (source : Source) → slice_get sources place ≡ Some source → is_marked marks place ≡ false → QuietSource f source best room
+QuietUnmarked f best room sources marks = (place : ℕ) (source : Source) → slice_get sources place ≡ Some source → is_place_marked marks place ≡ false → QuietSource f source best room
 
 -- at the end of each level below the current one each source but the goal was quiet. To these the best doesn't matter
 abbrev pub QuietLevels : Problem → Option ℕ → TrailModel → Type 0

@@ -43,9 +43,9 @@ pub record Closing (f : Problem) (u : SearchModel) (now : LogTold) : Type 0 wher
   pub lemmas : length (lemmas_of now.lines) ≡ u.lemmas
 
 -- a cargo, counted from 1, and 0 for none
-abbrev pub rank : Option ℕ → ℕ
-rank None = 0
-rank (Some c) = c + 1
+abbrev pub cargo_rank : Option ℕ → ℕ
+cargo_rank None = 0
+cargo_rank (Some c) = c + 1
 
 -- no timetable has more cargo than this
 abbrev pub most_cargo : Problem → ℕ
@@ -53,4 +53,4 @@ most_cargo f = greatest_sum f (whole_room (shape_of f))
 
 -- at most this many turns are to come: each finds a better timetable, a lemma, or an event
 abbrev pub turns_left : ℕ → SearchModel → ℕ
-turns_left budget s = (most_cargo s.problem + 1 - rank (best_cargo s)) + ((budget - s.lemmas) * (most_events s.problem.ships s.problem.slots + 1) + (most_events s.problem.ships s.problem.slots - length s.trail.events))
+turns_left budget s = (most_cargo s.problem + 1 - cargo_rank (best_cargo s)) + ((budget - s.lemmas) * (most_events s.problem.ships s.problem.slots + 1) + (most_events s.problem.ships s.problem.slots - length s.trail.events))

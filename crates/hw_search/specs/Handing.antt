@@ -47,8 +47,8 @@ HandsLemma c lemma old new (Ok done) = TakesAll (lemma_lines c lemma) old new
 HandsLemma c lemma old new (Err stop) = StopsWithin stop (lemma_lines c lemma) (length c.lines) old new
 
 -- the line is a table's
-abbrev pub IsTable : Line → Type 0
-IsTable line = (table : List ℕ) × (line ≡ lines.Table table)
+abbrev pub IsTableLine : Line → Type 0
+IsTableLine line = (table : List ℕ) × (line ≡ lines.Table table)
 
 -- the line is a lemma's
 abbrev pub IsLemma : Line → Type 0

@@ -40,8 +40,8 @@ abbrev pub with_given : PriceModel → Option Tariff → PriceModel
 with_given p tariff = record p { tariff = in_force p.tariff tariff; older = older_given p tariff }
 
 -- the search with other prices
-abbrev pub priced_by : SearchModel → PriceModel → SearchModel
-priced_by s prices = record s { prices = prices }
+abbrev pub with_other_prices : SearchModel → PriceModel → SearchModel
+with_other_prices s prices = record s { prices = prices }
 
 -- what was heeded before a stop, and where the log stands after it
 pub record HeedStops (s after : SearchModel) (old : LogModel) (stop : LogStop) (new : LogModel) : Type 0 where

@@ -28,13 +28,13 @@ pub record TellsSpeakers (f : Problem) (sources : List Source) (table : Speakers
   pub each : (lit : Lit) (place : ℕ) (source : Source) → IsLitOf f.ships lit → slice_get sources place ≡ Some source → names_lit f source lit ≡ true → Contains (speakers_of table lit) place
 
 -- the source, where there is one, speaks of what the literal speaks of
-abbrev pub names_at : Problem → Lit → Option Source → Bool
-names_at f lit None = false
-names_at f lit (Some source) = names_lit f source lit
+abbrev pub source_names_literal : Problem → Lit → Option Source → Bool
+source_names_literal f lit None = false
+source_names_literal f lit (Some source) = names_lit f source lit
 
 -- the places, ascending, of the sources that speak of what the literal speaks of
 abbrev pub speaking : Problem → List Source → Lit → List ℕ
-speaking f sources lit = filter (λ place. names_at f lit (slice_get sources place)) (range_with_len 0 (length sources))
+speaking f sources lit = filter (λ place. source_names_literal f lit (slice_get sources place)) (range_with_len 0 (length sources))
 
 -- ---- how the lists are made
 
@@ -57,7 +57,7 @@ abbrev pub added : Bool → ℕ → List ℕ
 added named place = cond named (place ∷ []) []
 
 -- a place was added to the lists of these ships and these pairs, and to no other
-pub record Adds (place : ℕ) (named : ℕ → Bool) (ordered : ℕ → ℕ → Bool) (old new : SpeakersModel) : Type 0 where
+pub record AddsPlace (place : ℕ) (named : ℕ → Bool) (ordered : ℕ → ℕ → Bool) (old new : SpeakersModel) : Type 0 where
   pub same_ships : new.ships ≡ old.ships
   pub ships : (ship : ℕ) → ship < old.ships → ship_places new ship ≡ ship_places old ship ++ added (named ship) place
   pub pairs : (v w : ℕ) → v < w → w < old.ships → pair_places new v w ≡ pair_places old v w ++ added (ordered v w) place

@@ -3,7 +3,7 @@ use Rattle.std.specs.Prelude.{◌≡◌, ℕ, ◌<◌, ◌≤◌, ◌++◌, ◌�
 use Rattle.hw_model.specs.declared.lit.Lit.{Lit}
 use Rattle.hw_story.specs.declared.event.Why.{Why}
 use Rattle.hw_story.specs.Learning.{Learns}
-use Rattle.hw_story.specs.Trails.{clause_of, decided}
+use Rattle.hw_story.specs.Trails.{reason_clause, decided}
 use Rattle.hw_cert.specs.declared.log.LogStop.{LogStop}
 use Rattle.hw_cert.specs.declared.log.LogStop.TheVariants.{Failed, NoMemory}
 use Rattle.hw_cert.specs.Logs.{LogModel, WhereTold}
@@ -17,7 +17,7 @@ use Rattle.hw_progress.specs.Starting.{Branches}
 use Rattle.hw_progress.specs.Turns.{TurnMeets}
 
 -- a search that isn't over and has lemmas left, and a log that fits it
-pub record Begins (s : SearchModel) (old : LogModel) : Type 0 where
+pub record TurnBegins (s : SearchModel) (old : LogModel) : Type 0 where
   pub kept : IsSearch s
   pub going : s.over ≡ false
   pub few : s.lemmas < MOST_BUDGET
@@ -25,15 +25,15 @@ pub record Begins (s : SearchModel) (old : LogModel) : Type 0 where
 
 -- a turn that has settled at this answer, whatever search it began with
 abbrev pub TurnsFrom : Settled → SearchModel → LogModel → Turn → SearchModel → LogModel → Type 0
-TurnsFrom settled mid old turn after new = (s : SearchModel) → Begins s old → Settles s mid settled → TurnMeets s old turn after new
+TurnsFrom settled mid old turn after new = (s : SearchModel) → TurnBegins s old → Settles s mid settled → TurnMeets s old turn after new
 
 -- a search that isn't over learnt this from a conflict that has literals
 pub record Teaches (mid : SearchModel) (why : Why) (lemma : List Lit) (back : ℕ) (places : List ℕ) : Type 0 where
   pub kept : IsSearch mid
   pub going : mid.over ≡ false
   pub conflict : IsConflict mid why
-  pub some : 1 ≤ length (clause_of why)
-  pub learns : Learns mid.trail (clause_of why) lemma back places
+  pub some : 1 ≤ length (reason_clause why)
+  pub learns : Learns mid.trail (reason_clause why) lemma back places
 
 -- the answer where a line wasn't taken
 abbrev pub turn_of : LogStop → Turn

@@ -62,17 +62,17 @@ impl Meant for AnyPropagator {
 }
 
 impl Propagator for AnyPropagator {
-    ghost use Rattle.hw_search.specs.Any.{meaning_by};
+    ghost use Rattle.hw_search.specs.Any.{propagator_meaning};
 
-    ghost source = { λ one. (meaning_by ⟦<AnyPropagator as Meant>⟧.kinds one).source };
+    ghost source = { λ one. (propagator_meaning ⟦<AnyPropagator as Meant>⟧.kinds one).source };
 
-    ghost serves = { λ one. (meaning_by ⟦<AnyPropagator as Meant>⟧.kinds one).serves };
+    ghost serves = { λ one. (propagator_meaning ⟦<AnyPropagator as Meant>⟧.kinds one).serves };
 
-    ghost ready = { λ one. (meaning_by ⟦<AnyPropagator as Meant>⟧.kinds one).ready };
+    ghost ready = { λ one. (propagator_meaning ⟦<AnyPropagator as Meant>⟧.kinds one).ready };
 
-    ghost ready_serves = { λ one. (meaning_by ⟦<AnyPropagator as Meant>⟧.kinds one).ready_serves };
+    ghost ready_serves = { λ one. (propagator_meaning ⟦<AnyPropagator as Meant>⟧.kinds one).ready_serves };
 
-    ghost serves_source = { λ one. (meaning_by ⟦<AnyPropagator as Meant>⟧.kinds one).serves_source };
+    ghost serves_source = { λ one. (propagator_meaning ⟦<AnyPropagator as Meant>⟧.kinds one).serves_source };
 
     fn source(&self) -> Source {
         of_each!(self, one => one.source())

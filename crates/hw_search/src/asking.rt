@@ -6,7 +6,7 @@ ghost use Rattle.hw_model.specs.declared.source.Source.{Source as SourceOf};
 ghost use Rattle.hw_prop.specs.Finds.{Finds};
 ghost use Rattle.hw_store.specs.Stores.{IsNotHeld};
 ghost use Rattle.hw_search.specs.Askings.{IsHeldWhy};
-ghost use Rattle.hw_story.specs.Trails.{clause_of};
+ghost use Rattle.hw_story.specs.Trails.{reason_clause};
 
 use hw_flat::{Flat, Room};
 use hw_lits::{Clause, Found};
@@ -70,7 +70,7 @@ pub fn lemma_of<S: Store>(alloc: Global, store: &S, id: u32) -> Result<Why, NoMe
 
 /// The clause of a reason.
 pub fn clause_of(why: &Why) -> &Clause
-    ensures value { result.now ≡ clause_of why.now }
+    ensures value { result.now ≡ reason_clause why.now }
 {
     match why {
         Why::Lemma { clause, .. } | Why::Source { clause, .. } | Why::Priced { clause } => clause,

@@ -5,7 +5,7 @@ ghost use Rattle.hw_model.specs.Lits.{IsLitOf};
 ghost use Rattle.hw_story.specs.Trails.{back_to, room_of};
 ghost use Rattle.hw_cert.specs.Logs.{IsWhole};
 ghost use Rattle.hw_search.specs.GoingBack.{due, NextLevel, TidiesBy};
-ghost use Rattle.hw_search.specs.Ledgers.{with_events};
+ghost use Rattle.hw_search.specs.Ledgers.{with_events_left};
 
 use crate::dropped::dropped_numbers;
 use crate::ledger::Ledger;
@@ -92,7 +92,7 @@ impl Ledger {
         requires above { All (λ one. one.number < self.old.clause_lines) (S.clauses store.old) }
         requires whole { IsWhole (L.state log.old) }
         ensures trail { trail.new ≡ back_to trail.old level }
-        ensures numbers { self.new ≡ with_events self.old (length trail.new.events) }
+        ensures numbers { self.new ≡ with_events_left self.old (length trail.new.events) }
         ensures ready { S.ready store.new (room_of trail.new) }
         ensures ships { S.ships store.new ≡ S.ships store.old }
         ensures tidies { TidiesBy self.old (length trail.new.events) written (S.clauses store.old) result (S.clauses store.new) (L.state log.old) (L.state log.new) }

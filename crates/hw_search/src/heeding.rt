@@ -13,10 +13,10 @@ ghost use Rattle.hw_story.specs.Trails.{trail_shape};
 ghost use Rattle.hw_tolls.specs.Tolls.{IsToll};
 ghost use Rattle.hw_tolls.specs.Prices.{TariffFits};
 ghost use Rattle.hw_cert.specs.Logs.{WhereTold};
-ghost use Rattle.hw_progress.specs.Prices.{with_tariff, with_toll, DuesAscend};
+ghost use Rattle.hw_progress.specs.Prices.{with_tariff, prices_with_toll, DuesAscend};
 ghost use Rattle.hw_progress.specs.Searches.{room_in, LogFits, PricesShow};
 ghost use Rattle.hw_progress.specs.Advised.{with_priced};
-ghost use Rattle.hw_search.specs.Heeding.{priced_by, with_given, with_tolls, ConsultMeets, HeedMeets, IsAdviceFor};
+ghost use Rattle.hw_search.specs.Heeding.{with_other_prices, with_given, with_tolls, ConsultMeets, HeedMeets, IsAdviceFor};
 
 use crate::engine::Engine;
 use crate::handing::hand_priced;
@@ -38,7 +38,7 @@ impl<'f, S: Store + Drop, P: Propagator + Drop> Engine<'f, S, P> {
         requires toll { IsToll self.old.search.problem toll }
         requires few { length self.old.search.prices.tolls < MOST_TOLLS }
         requires fits { WhereTold (L.state log.old) (λ told. LogFits told self.old.search) }
-        ensures search { OnOk result (self.new.search ≡ priced_by self.old.search (with_toll self.old.search.prices toll)) }
+        ensures search { OnOk result (self.new.search ≡ with_other_prices self.old.search (prices_with_toll self.old.search.prices toll)) }
         ensures heeds { HeedMeets self.old.search self.new.search (L.state log.old) (L.state log.new) result }
         ensures same_reference { L.anchor log.new ≡ L.anchor log.old }
     {
@@ -55,7 +55,7 @@ impl<'f, S: Store + Drop, P: Propagator + Drop> Engine<'f, S, P> {
         requires tolls { All (IsToll self.old.search.problem) tolls.items }
         requires few { length (self.old.search.prices.tolls ++ tolls.items) ≤ MOST_TOLLS }
         requires fits { WhereTold (L.state log.old) (λ told. LogFits told self.old.search) }
-        ensures search { OnOk result (self.new.search ≡ priced_by self.old.search (with_tolls self.old.search.prices tolls.items)) }
+        ensures search { OnOk result (self.new.search ≡ with_other_prices self.old.search (with_tolls self.old.search.prices tolls.items)) }
         ensures heeds { HeedMeets self.old.search self.new.search (L.state log.old) (L.state log.new) result }
         ensures same_reference { L.anchor log.new ≡ L.anchor log.old }
     {
@@ -71,7 +71,7 @@ impl<'f, S: Store + Drop, P: Propagator + Drop> Engine<'f, S, P> {
         requires tariff { TariffFits (length self.old.search.prices.tolls) tariff }
         requires ascend { DuesAscend tariff }
         requires fits { WhereTold (L.state log.old) (λ told. LogFits told self.old.search) }
-        ensures search { OnOk result (self.new.search ≡ priced_by self.old.search (with_tariff self.old.search.prices tariff)) }
+        ensures search { OnOk result (self.new.search ≡ with_other_prices self.old.search (with_tariff self.old.search.prices tariff)) }
         ensures heeds { HeedMeets self.old.search self.new.search (L.state log.old) (L.state log.new) result }
         ensures same_reference { L.anchor log.new ≡ L.anchor log.old }
     {
@@ -89,7 +89,7 @@ impl<'f, S: Store + Drop, P: Propagator + Drop> Engine<'f, S, P> {
         requires tariff { IfSome tariff (TariffFits (length self.old.search.prices.tolls)) }
         requires ascend { IfSome tariff DuesAscend }
         requires fits { WhereTold (L.state log.old) (λ told. LogFits told self.old.search) }
-        ensures search { OnOk result (self.new.search ≡ priced_by self.old.search (with_given self.old.search.prices tariff)) }
+        ensures search { OnOk result (self.new.search ≡ with_other_prices self.old.search (with_given self.old.search.prices tariff)) }
         ensures heeds { HeedMeets self.old.search self.new.search (L.state log.old) (L.state log.new) result }
         ensures same_reference { L.anchor log.new ≡ L.anchor log.old }
     {

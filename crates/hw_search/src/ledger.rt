@@ -1,7 +1,7 @@
 //! The numbers of a search's clause lines.
 
 ghost use Rattle.std.specs.Prelude.{◌≡◌, ◌+◌, ◌++◌, ◌∷◌, ◌<◌, ◌≤◌, ◌^◌, [], IfOk, None, length, slice_index_or};
-ghost use Rattle.hw_search.specs.Ledgers.{with_events, with_line, with_number, with_reason};
+ghost use Rattle.hw_search.specs.Ledgers.{with_events_left, with_clause_line, with_written_number, with_reason};
 
 use hw_model::NoMemory;
 use std::alloc::Global;
@@ -60,7 +60,7 @@ impl Ledger {
     pub fn add_written(&mut self)
         requires room { length self.old.written < self.old.reserved }
         requires few { self.old.clause_lines + 1 < 2 ^ 32 }
-        ensures value { self.new ≡ with_number self.old }
+        ensures value { self.new ≡ with_written_number self.old }
     {
         self.clause_lines += 1;
         self.written.push_reserved(Some(self.clause_lines));
@@ -68,7 +68,7 @@ impl Ledger {
 
     /// Keeps only the first `count` events.
     pub fn keep_events(&mut self, count: usize)
-        ensures value { self.new ≡ with_events self.old count }
+        ensures value { self.new ≡ with_events_left self.old count }
     {
         self.written.truncate(count);
     }
@@ -84,7 +84,7 @@ impl Ledger {
     /// Gives the number of the next clause line.
     pub fn give(&mut self) -> u32
         requires few { self.old.clause_lines + 1 < 2 ^ 32 }
-        ensures value { self.new ≡ with_line self.old }
+        ensures value { self.new ≡ with_clause_line self.old }
         ensures number { result ≡ self.old.clause_lines + 1 }
     {
         self.clause_lines += 1;

@@ -1,7 +1,7 @@
 //! Marks of sources: set, cleared and found.
 
 ghost use Rattle.std.specs.Prelude.{◌≡◌, ◌<◌, ◌≤◌, ◌==◌, ℕ, true, false, IfOk, length, replicate, slice_set};
-ghost use Rattle.hw_search.specs.Marks.{is_marked, AllClear, MarksPlaces, NextMarked, NextWithin};
+ghost use Rattle.hw_search.specs.Marks.{is_place_marked, AllClear, MarksPlaces, NextMarked, NextWithin};
 
 use hw_model::NoMemory;
 use std::alloc::Global;
@@ -112,7 +112,7 @@ impl Marks {
     pub fn mark_only(&mut self, place: usize)
         requires inside { place < length self.old }
         ensures same_length { length self.new ≡ length self.old }
-        ensures marked { (other : ℕ) → other < length self.old → is_marked self.new other ≡ (other == place) }
+        ensures marked { (other : ℕ) → other < length self.old → is_place_marked self.new other ≡ (other == place) }
     {
         self.clear_all();
         self.set(place);

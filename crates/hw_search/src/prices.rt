@@ -1,7 +1,7 @@
 //! The tolls and prices that a search has told.
 
 ghost use Rattle.std.specs.Prelude.{◌≡◌};
-ghost use Rattle.hw_progress.specs.Prices.{no_prices, with_bound, with_tariff};
+ghost use Rattle.hw_progress.specs.Prices.{unpriced_model, with_bound, with_tariff};
 ghost use Rattle.hw_search.specs.Prices.{prices_of};
 
 use hw_tolls::{Tariff, Toll};
@@ -22,7 +22,7 @@ pub struct Declared {
 impl Declared {
     /// No tolls and no prices. It takes no memory.
     pub fn none(alloc: Global) -> Declared
-        ensures value { prices_of result ≡ no_prices }
+        ensures value { prices_of result ≡ unpriced_model }
     {
         Declared {
             tolls: Vec::new(alloc),

@@ -9,7 +9,7 @@ ghost use Rattle.hw_model.specs.Narrowing.{truth};
 ghost use Rattle.hw_model.specs.Problem.{shape_of};
 ghost use Rattle.hw_model.specs.Replay.{narrowing};
 ghost use Rattle.hw_lits.specs.Active.{IsActive};
-ghost use Rattle.hw_story.specs.Trails.{trail_shape, clause_of};
+ghost use Rattle.hw_story.specs.Trails.{trail_shape, reason_clause};
 ghost use Rattle.hw_progress.specs.Searches.{room_in, HasLine, IsReason, IsSearch};
 ghost use Rattle.hw_progress.specs.Settling.{SettleMeets, with_events};
 ghost use Rattle.hw_search.specs.Marks.{AllClear, NextMarked};
@@ -38,9 +38,9 @@ impl<'f, S: Store + Drop, P: Propagator + Drop> Engine<'f, S, P> {
     /// takes no memory.
     pub fn imply(&mut self, lit: Lit, why: Why)
         requires fits { lit_fits (trail_shape self.old.search.trail) lit ≡ true }
-        requires clause { IsClause (trail_shape self.old.search.trail) (clause_of why) }
+        requires clause { IsClause (trail_shape self.old.search.trail) (reason_clause why) }
         requires free { truth (room_in self.old.search) lit ≡ Free }
-        requires only { narrowing (clause_of why) (room_in self.old.search) ≡ CutBy lit }
+        requires only { narrowing (reason_clause why) (room_in self.old.search) ≡ CutBy lit }
         requires reason { IsReason self.old.search why }
         requires unpriced { HasLine None why }
         ensures search { self.new.search ≡ with_events self.old.search (record { lit = lit; level = self.old.search.trail.level; why = Some why } ∷ []) }
@@ -54,8 +54,8 @@ impl<'f, S: Store + Drop, P: Propagator + Drop> Engine<'f, S, P> {
 
     // Takes the literal that a clause has left, or tells that it has none. It takes no memory.
     fn take(&mut self, why: Why) -> Asked
-        requires fits { IsClause (shape_of self.old.search.problem) (clause_of why) }
-        requires active { IsActive (clause_of why) (room_in self.old.search) }
+        requires fits { IsClause (shape_of self.old.search.problem) (reason_clause why) }
+        requires active { IsActive (reason_clause why) (room_in self.old.search) }
         requires reason { IsReason self.old.search why }
         requires unpriced { HasLine None why }
         ensures meets { AskMeets ⊥ self.old.search self.new.search (Ok result) }

@@ -7,7 +7,7 @@ ghost use Rattle.hw_model.specs.Quiet.{names_ship, names_order, rule_names_ship,
 ghost use Rattle.hw_model.specs.Refuting.{IsSourceOf};
 ghost use Rattle.hw_model.specs.Limits.{RuleFits, JobFits};
 ghost use Rattle.hw_model.specs.declared.lit.Lit.{Lit as LitOf};
-ghost use Rattle.hw_search.specs.Speaking.{TellsSpeakers, Adds, speakers_of, speaking};
+ghost use Rattle.hw_search.specs.Speaking.{TellsSpeakers, AddsPlace, speakers_of, speaking};
 
 use hw_flat::{Flat, Job, Rule, ShipId, Source};
 use hw_model::{Lit, NoMemory};
@@ -78,7 +78,7 @@ impl Speakers {
     fn add(&mut self, flat: &Flat, source: Source, place: u32) -> Result<(), NoMemory>
         requires source_in { IsSourceOf flat.now source }
         requires same { self.old.ships ≡ flat.now.ships }
-        ensures adds { OnOk result (Adds place (names_ship flat.now source) (names_order flat.now source) self.old self.new) }
+        ensures adds { OnOk result (AddsPlace place (names_ship flat.now source) (names_order flat.now source) self.old self.new) }
     {
         match source {
             Source::Window { ship } => self.add_ship(ship, place),
@@ -90,7 +90,7 @@ impl Speakers {
 
     fn add_ship(&mut self, ship: ShipId, place: u32) -> Result<(), NoMemory>
         requires ship_in { ship < self.old.ships }
-        ensures adds { OnOk result (Adds place (λ u. u == ship) (λ a b. false) self.old self.new) }
+        ensures adds { OnOk result (AddsPlace place (λ u. u == ship) (λ a b. false) self.old self.new) }
     {
         self.by_ship[ship as usize].push(place)
     }
@@ -98,7 +98,7 @@ impl Speakers {
     fn add_pair(&mut self, v: ShipId, w: ShipId, place: u32) -> Result<(), NoMemory>
         requires ascends { v < w }
         requires ship_in { w < self.old.ships }
-        ensures adds { OnOk result (Adds place (λ u. false) (λ a b. a == v && b == w) self.old self.new) }
+        ensures adds { OnOk result (AddsPlace place (λ u. false) (λ a b. a == v && b == w) self.old self.new) }
     {
         self.by_pair[(v * self.ships + w) as usize].push(place)
     }
@@ -106,7 +106,7 @@ impl Speakers {
     fn add_two(&mut self, v: ShipId, w: ShipId, place: u32) -> Result<(), NoMemory>
         requires ascends { v < w }
         requires ship_in { w < self.old.ships }
-        ensures adds { OnOk result (Adds place (λ u. u == v || u == w) (λ a b. a == v && b == w) self.old self.new) }
+        ensures adds { OnOk result (AddsPlace place (λ u. u == v || u == w) (λ a b. a == v && b == w) self.old self.new) }
     {
         self.add_ship(v, place)?;
         self.add_ship(w, place)?;
@@ -117,7 +117,7 @@ impl Speakers {
         requires first { v < w }
         requires second { w < x }
         requires ship_in { x < self.old.ships }
-        ensures adds { OnOk result (Adds place (λ u. false) (λ a b. (a == v && b == w) || ((a == w && b == x) || (a == v && b == x))) self.old self.new) }
+        ensures adds { OnOk result (AddsPlace place (λ u. false) (λ a b. (a == v && b == w) || ((a == w && b == x) || (a == v && b == x))) self.old self.new) }
     {
         self.add_pair(v, w, place)?;
         self.add_pair(w, x, place)?;
@@ -126,7 +126,7 @@ impl Speakers {
 
     fn add_rule(&mut self, rule: &Rule, place: u32) -> Result<(), NoMemory>
         requires fits { RuleFits self.old.ships rule.now }
-        ensures adds { OnOk result (Adds place (rule_names_ship (Some rule.now)) (rule_names_order (Some rule.now)) self.old self.new) }
+        ensures adds { OnOk result (AddsPlace place (rule_names_ship (Some rule.now)) (rule_names_order (Some rule.now)) self.old self.new) }
     {
         match rule {
             Rule::Pair { v, w, .. } => self.add_two(*v, *w, place),
@@ -138,7 +138,7 @@ impl Speakers {
     fn add_jobs(&mut self, jobs: &[Job], place: u32) -> Result<(), NoMemory>
         requires each { All (JobFits self.old.ships) jobs.now }
         requires ascends { AllPairs (λ a b. a.ship < b.ship) jobs.now }
-        ensures adds { OnOk result (Adds place (λ u. list_any (λ job. job.ship == u) jobs.now) (λ a b. false) self.old self.new) }
+        ensures adds { OnOk result (AddsPlace place (λ u. list_any (λ job. job.ship == u) jobs.now) (λ a b. false) self.old self.new) }
     {
         for job in jobs {
             self.add_ship(job.ship, place)?;
@@ -147,7 +147,7 @@ impl Speakers {
     }
 
     fn add_all(&mut self, place: u32) -> Result<(), NoMemory>
-        ensures adds { OnOk result (Adds place (λ u. nat_lt u self.old.ships) (λ a b. false) self.old self.new) }
+        ensures adds { OnOk result (AddsPlace place (λ u. nat_lt u self.old.ships) (λ a b. false) self.old self.new) }
     {
         for ship in 0..self.ships {
             self.add_ship(ship, place)?;

@@ -3,7 +3,7 @@
 ghost use Rattle.std.specs.Prelude.{◌≡◌, ◌<◌, ◌≤◌, ℕ, [], true, false, IsTrue, Some, length};
 ghost use Rattle.hw_model.specs.Timetables.{Permits, cargo, beats};
 ghost use Rattle.hw_model.specs.Rooms.{IsPoint, point_of};
-ghost use Rattle.hw_story.specs.Trails.{clause_of, decided};
+ghost use Rattle.hw_story.specs.Trails.{reason_clause, decided};
 ghost use Rattle.hw_cert.specs.Logs.{WhereTold, IsWhole};
 ghost use Rattle.hw_progress.specs.declared.outcome.Settled.TheVariants.{Quiet, Conflict};
 ghost use Rattle.hw_progress.specs.Searches.{SearchModel, IsSearch, LogFits, room_in, best_cargo};
@@ -145,7 +145,7 @@ impl<'f, S: Store + Drop, P: Propagator + Drop> Engine<'f, S, P> {
     // Writes a conflict without literals.
     fn end<L: Log>(&mut self, why: &Why, log: &mut L) -> Turn
         requires conflict { IsConflict self.old.search why.now }
-        requires none { clause_of why.now ≡ [] }
+        requires none { reason_clause why.now ≡ [] }
         requires whole { IsWhole (L.state log.old) }
         ensures turns { TurnsFrom (Conflict why.now) self.old.search (L.state log.old) result self.new.search (L.state log.new) }
         ensures kept { TurnKeepsFaults result (L.state log.old) (L.state log.new) }
@@ -203,7 +203,7 @@ impl<'f, S: Store + Drop, P: Propagator + Drop> Engine<'f, S, P> {
     // Learns from a conflict that has literals, and goes back.
     fn teach<L: Log>(&mut self, why: &Why, log: &mut L) -> Turn
         requires conflict { IsConflict self.old.search why.now }
-        requires some { 1 ≤ length (clause_of why.now) }
+        requires some { 1 ≤ length (reason_clause why.now) }
         requires going { self.old.search.over ≡ false }
         requires few { self.old.search.lemmas < MOST_BUDGET }
         requires whole { IsWhole (L.state log.old) }

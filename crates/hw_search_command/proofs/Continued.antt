@@ -9,16 +9,17 @@ use Rattle.hw_lines.specs.declared.check.Verdict.{Verdict}
 use Rattle.hw_lines.specs.declared.check.Verdict.TheVariants as verdicts
 use Rattle.hw_lines.specs.declared.line.Line.{Line}
 use Rattle.hw_lines.specs.Lines.{best_of, ends, last_table}
-use Rattle.hw_lines.specs.Valid.{LineFits, Valid, verdict, verdict_by}
+use Rattle.hw_lines.specs.Valid.{LineFits, Valid, verdict}
 use Rattle.hw_verdict.specs.Laws.{IsBound}
 use Rattle.hw_verdict.proofs.Bounded.{bounds}
 use Rattle.hw_verdict.proofs.Proved.{infeasible, optimal, says_all}
 use Rattle.hw_report.specs.declared.report.Head.{Head}
 use Rattle.hw_report.specs.declared.report.Head.TheVariants as heads
 use Rattle.hw_repair.specs.Wishes.{PlanFits, PlanParts}
-use Rattle.hw_resume.specs.Going.{IsSpent, Resumes}
+use Rattle.hw_resume.specs.Going.{IsBudgetSpent, Resumes}
 use Rattle.hw_resume.specs.declared.resumed.Resumed.{Resumed}
 use Rattle.hw_subject.specs.Meanings.{repaired_problem}
+use Rattle.hw_subject.proofs.Shown.{unfinished_by}
 use Rattle.hw_search_command.specs.Certified.{HeadMeans, head_verdict, own_bound}
 use Rattle.hw_search_command.specs.Finding.{own_head}
 use Rattle.hw_search_command.specs.Resumes.{GoesOnTo, IsNewlySpent}
@@ -26,11 +27,6 @@ use Rattle.hw_search_command.specs.Resuming.{resumed_found, verdict_head}
 use Rattle.hw_search_command.proofs.Owned.{head_is}
 
 -- ---- the verdict
-
-unfinished_by : (b : Bool) (best other : Option ℕ) → verdicts.Unfinished best ≡ verdict_by b other → best ≡ other
-unfinished_by true best None e = absurd (cc)
-unfinished_by true best (Some c) e = absurd (cc)
-unfinished_by false best other e = cc
 
 no_table : (f : Problem) (table : Option (List ℕ)) → NonePermitted f → IfSome table (Permits f) → table ≡ None
 no_table f None none h = refl
@@ -72,7 +68,7 @@ is_bounded {f = f} {r = r} flat h = subst (λ (b : Option ℕ). IfSome b (IsBoun
 
 -- ---- of the subject
 
-spent_by : (f : Problem) (plan : Option PlanParts) (ships budget : ℕ) (spent : Bool) (v : Verdict) (more all : List Line) → (spent ≡ true → IsSpent f budget more all) → IsNewlySpent budget (own_head plan ships (verdict_head budget spent v)) more all
+spent_by : (f : Problem) (plan : Option PlanParts) (ships budget : ℕ) (spent : Bool) (v : Verdict) (more all : List Line) → (spent ≡ true → IsBudgetSpent f budget more all) → IsNewlySpent budget (own_head plan ships (verdict_head budget spent v)) more all
 spent_by f plan ships budget spent (verdicts.Optimal c) more all h = tt
 spent_by f plan ships budget spent verdicts.Infeasible more all h = tt
 spent_by f plan ships budget true (verdicts.Unfinished best) more all h = let s = h refl in (s.lemmas, s.unclosed)

@@ -1,5 +1,5 @@
 -- A demonstration that is solved, checked and sent.
-use Rattle.std.proofs.Common.{◌≡◌, ◌<◌, ◌+◌, ◌∙◌, ◌++◌, ◌∷◌, ℕ, List, [], Bool, true, false, Option, Some, None, Ok, Err, length, drop, get_or, drop-cons, add-one, refl, sym, ap, subst, append_assoc, arith}
+use Rattle.std.proofs.Common.{◌≡◌, ◌<◌, ◌+◌, ◌∙◌, ◌++◌, ◌∷◌, ℕ, List, [], Bool, true, false, Option, Some, None, Ok, Err, length, get_or, refl, sym, ap, subst, append_assoc, arith}
 use Rattle.std.specs.Prelude.{IfSome, All}
 use Rattle.hw_model.specs.Problem.{Problem}
 use Rattle.hw_model.specs.Rooms.{room_count}
@@ -14,7 +14,7 @@ use Rattle.hw_lines.specs.Refusals.{kept_refusal}
 use Rattle.hw_lines.specs.Valid.{LineFits, ValidAfter, ValidFrom, verdict, verdict_by}
 use Rattle.hw_lines.specs.Tolled.{is_plain}
 use Rattle.hw_verdict.proofs.Refused.{plain_judge, from_valid}
-use Rattle.hw_check.specs.Follows.{Follows}
+use Rattle.hw_check.specs.Follows.{CheckerFollows}
 use Rattle.hw_check.specs.States.{CheckState}
 use Rattle.hw_cert.specs.declared.version.Version.TheVariants.{Two}
 use Rattle.hw_cert.specs.Logs.{memory_log}
@@ -22,11 +22,12 @@ use Rattle.hw_cert.specs.Texts.{cert_text}
 use Rattle.hw_progress.specs.declared.outcome.Solved.{Solved}
 use Rattle.hw_progress.specs.declared.outcome.Solved.TheVariants.{Optimal, Infeasible, Unfinished, NoMemory, LogFailed}
 use Rattle.hw_progress.specs.Solving.{SolveMeets, SolveFails}
+use Rattle.hw_search.proofs.Markings.{some_same}
 use Rattle.hw_report.specs.Reports.{demo, no_memory}
 use Rattle.hw_report.specs.declared.report.Head.{Head}
 use Rattle.hw_report.specs.declared.report.Head.TheVariants as heads
 use Rattle.hw_command.specs.Carries.{Carries}
-use Rattle.hw_search_command.specs.Demo.{Demonstrates, IsFound, best_in, head_of, demo_task}
+use Rattle.hw_search_command.specs.Demo.{Demonstrates, HeadIsFound, best_in, head_of, demo_task}
 use Rattle.hw_command.specs.Ends.{Ends}
 use Rattle.hw_command.specs.Sending.{SendsTo}
 use Rattle.hw_command.specs.declared.status.Status.{Status}
@@ -57,7 +58,7 @@ best_shown : (f : Problem) (all : List Line) (v : Verdict) → v ≡ verdict f a
 best_shown f all v is = ap best_in is ∙ best_by _ (best_of f all)
 
 -- what was found, on a log in memory
-found : {f : Problem} {budget : ℕ} {all : List Line} (it : Found) (v : Verdict) (count : ℕ) → IsFound it.head → SearchMeets solving f budget (memory_log []) (Some it) (memory_log all) → v ≡ verdict f all → count ≡ length (lemmas_of all) → Demonstrates f budget it.head (best_in v) v count all
+found : {f : Problem} {budget : ℕ} {all : List Line} (it : Found) (v : Verdict) (count : ℕ) → HeadIsFound it.head → SearchMeets solving f budget (memory_log []) (Some it) (memory_log all) → v ≡ verdict f all → count ≡ length (lemmas_of all) → Demonstrates f budget it.head (best_in v) v count all
 found {f = f} {budget = budget} {all = all} it v count is_found m is counted =
     let true_of = m.leaves.1 in
     let told = m.leaves.2 in
@@ -74,21 +75,18 @@ found {f = f} {budget = budget} {all = all} it v count is_found m is counted =
       counted = counted;
     }
 
-some_is : {X : Type 0} (x y : X) → Some x ≡ Some y → x ≡ y
-some_is x y e = cc
-
 -- by its head
 demonstrates : {f : Problem} {budget : ℕ} {all : List Line} (answer : Solved) (head : Head) (v : Verdict) (count : ℕ)
     → SolveMeets f budget (memory_log []) answer (memory_log all) → Some head ≡ head_of budget answer → v ≡ verdict f all → count ≡ length (lemmas_of all)
     → Demonstrates f budget head (best_in v) v count all
 demonstrates {f = f} {budget = budget} {all = all} (Optimal table c) head v count h e is counted =
-    subst (λ (hd : Head). Demonstrates f budget hd (best_in v) v count all) (sym (some_is head (heads.Optimal c) e))
+    subst (λ (hd : Head). Demonstrates f budget hd (best_in v) v count all) (sym (some_same head (heads.Optimal c) e))
     (found _ v count tt (solve_meets (Optimal table c) h refl) is counted)
 demonstrates {f = f} {budget = budget} {all = all} Infeasible head v count h e is counted =
-    subst (λ (hd : Head). Demonstrates f budget hd (best_in v) v count all) (sym (some_is head heads.Infeasible e))
+    subst (λ (hd : Head). Demonstrates f budget hd (best_in v) v count all) (sym (some_same head heads.Infeasible e))
     (found _ v count tt (solve_meets Infeasible h refl) is counted)
 demonstrates {f = f} {budget = budget} {all = all} (Unfinished table) head v count h e is counted =
-    subst (λ (hd : Head). Demonstrates f budget hd (best_in v) v count all) (sym (some_is head (heads.Unfinished budget) e))
+    subst (λ (hd : Head). Demonstrates f budget hd (best_in v) v count all) (sym (some_same head (heads.Unfinished budget) e))
     (found _ v count tt (solve_meets (Unfinished table) h refl) is counted)
 demonstrates (NoMemory table) head v count h e is counted = absurd (cc)
 demonstrates LogFailed head v count h e is counted = absurd (cc)
@@ -106,18 +104,10 @@ demonstrates_of {f = f} {g = g} {budget = budget} {all = all} answer head best v
 -- lines that were taken, and valid ones after them
 pub record Checked (f : Problem) (all : List Line) (left : List Line) (c : CheckState) : Type 0 where
   pub before : List Line
-  pub follows : Follows c before
+  pub follows : CheckerFollows c before
   pub problem : c.problem ≡ f
   pub valid : ValidFrom f before left
   pub whole : before ++ left ≡ all
-
-pub next_line : (all : List Line) (i : ℕ) (line : Line) → i < length all → line ≡ get_or all i line → drop i all ≡ line ∷ drop (i + 1) all
-next_line all i line lt is =
-    let cut : drop i all ≡ get_or all i line ∷ drop (i + 1) all = rw add-one (drop-cons all i line lt) in
-    cut ∙ ap (λ (l : Line). l ∷ drop (i + 1) all) (sym is)
-
-pub next_fits : (f : Problem) (all : List Line) (i : ℕ) (line : Line) → All (LineFits f) all → i < length all → line ≡ get_or all i line → LineFits f line
-next_fits f all i line fit lt is = subst (LineFits f) (sym is) (fit i line lt)
 
 pub next_plain : (all : List Line) (i : ℕ) (line : Line) → All (λ l. is_plain l ≡ true) all → i < length all → line ≡ get_or all i line → is_plain line ≡ true
 next_plain all i line plain lt is = subst (λ (l : Line). is_plain l ≡ true) (sym is) (plain i line lt)
@@ -130,7 +120,7 @@ can_take {f = f} {c = c} {line = line} h cut fits plain =
     let valid_there = subst (λ (g : Problem). ValidAfter g h.before line) (sym h.problem) valid.0 in
     subst (λ (k : Kept). kept_refusal c.problem k line ≡ None) (sym h.follows.kept) (from_valid c.problem h.before line fits_there (plain_judge c.problem h.before line plain) valid_there)
 
-pub one_taken : {f : Problem} {all left more : List Line} {c d : CheckState} {line : Line} → (h : Checked f all left c) → left ≡ line ∷ more → d.problem ≡ c.problem → Follows d (h.before ++ line ∷ []) → Checked f all more d
+pub one_taken : {f : Problem} {all left more : List Line} {c d : CheckState} {line : Line} → (h : Checked f all left c) → left ≡ line ∷ more → d.problem ≡ c.problem → CheckerFollows d (h.before ++ line ∷ []) → Checked f all more d
 one_taken {f = f} {all = all} {more = more} {line = line} h cut same follows = record {
   before = h.before ++ line ∷ [];
   follows = follows;

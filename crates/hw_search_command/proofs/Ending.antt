@@ -11,7 +11,7 @@ use Rattle.hw_desk.proofs.Chain.{only_tray_on}
 use Rattle.hw_cert.specs.declared.version.Version.{Version}
 use Rattle.hw_cert.specs.Logs.{LogTold, outside_of, Outside}
 use Rattle.hw_cert.specs.Texts.{cert_text}
-use Rattle.hw_cert.specs.Told.{header_of, told_under, is_told_under, log_under, IsTextUnder}
+use Rattle.hw_cert.specs.Told.{header_line_of, told_under, is_told_under, log_under, IsTextUnder}
 use Rattle.hw_cert.proofs.Telling.{some_told}
 use Rattle.hw_cert.proofs.ToldText.{each_text_told}
 use Rattle.hw_search_command.specs.Searchers.{Searcher}
@@ -66,7 +66,7 @@ outside_only {y = y} {z = z} e later = record {
 
 -- ---- the search has run
 
-ends_well : {q : Searcher} {x y z w : DeskState} {name : List ℕ} {f : Problem} {budget : ℕ} {E F : Type 0} {u v : Unit {0}} (found : Option Found) → Makes {E = E} Proof name x y (Ok u) → SendsText {E = F} Proof (header_of q.version) y z (Ok v) → outside_of w ≡ outside_of z → is_told_under q.version (w.trays Proof).sent ≡ true → SearchMeets q f budget (log_under q.version z) found (log_under q.version w) → SearchesTo q f budget name x w found
+ends_well : {q : Searcher} {x y z w : DeskState} {name : List ℕ} {f : Problem} {budget : ℕ} {E F : Type 0} {u v : Unit {0}} (found : Option Found) → Makes {E = E} Proof name x y (Ok u) → SendsText {E = F} Proof (header_line_of q.version) y z (Ok v) → outside_of w ≡ outside_of z → is_told_under q.version (w.trays Proof).sent ≡ true → SearchMeets q f budget (log_under q.version z) found (log_under q.version w) → SearchesTo q f budget name x w found
 ends_well {q = q} {x = x} {z = z} {w = w} {name = name} {f = f} {budget = budget} found h k same told m = record {
   only = only_tray_on (only_tray_on h.only k.only) (outside_only same m.later);
   made = ap (λ (o : Outside). o.made) same ∙ k.ok.made ∙ h.made;
@@ -74,7 +74,7 @@ ends_well {q = q} {x = x} {z = z} {w = w} {name = name} {f = f} {budget = budget
   leaves = leaves q f budget found x z w (k.kept ∙ h.kept) told m;
 }
 
-pub search_ends : {q : Searcher} {x y z w : DeskState} {name : List ℕ} {f : Problem} {budget : ℕ} {E F : Type 0} (made : Result Unit E) (sent : Result Unit F) (found : Option Found) → is_err made ≡ false → is_err sent ≡ false → Makes Proof name x y made → SendsText Proof (header_of q.version) y z sent → outside_of w ≡ outside_of z → is_told_under q.version (w.trays Proof).sent ≡ true → SearchMeets q f budget (log_under q.version z) found (log_under q.version w) → SearchesTo q f budget name x w found
+pub search_ends : {q : Searcher} {x y z w : DeskState} {name : List ℕ} {f : Problem} {budget : ℕ} {E F : Type 0} (made : Result Unit E) (sent : Result Unit F) (found : Option Found) → is_err made ≡ false → is_err sent ≡ false → Makes Proof name x y made → SendsText Proof (header_line_of q.version) y z sent → outside_of w ≡ outside_of z → is_told_under q.version (w.trays Proof).sent ≡ true → SearchMeets q f budget (log_under q.version z) found (log_under q.version w) → SearchesTo q f budget name x w found
 search_ends (Err e) sent found a b h k same told m = absurd (cc)
 search_ends (Ok u) (Err e) found a b h k same told m = absurd (cc)
 search_ends {q = q} (Ok u) (Ok v) found a b h k same told m = ends_well {q = q} found h k same told m

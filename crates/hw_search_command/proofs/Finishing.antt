@@ -4,6 +4,7 @@ use Rattle.std.specs.Prelude.{◌≢◌}
 use Rattle.hw_model.specs.Problem.{Problem}
 use Rattle.hw_desk.specs.State.{DeskState}
 use Rattle.hw_desk.specs.declared.desk.Tray.TheVariants as tray
+use Rattle.hw_cert.proofs.Answered.{told_map}
 use Rattle.hw_report.specs.Reports.{Report, Naming, solved}
 use Rattle.hw_repair.specs.Wishes.{PlanParts}
 use Rattle.hw_command.specs.Carries.{Carries}
@@ -13,7 +14,6 @@ use Rattle.hw_command.specs.declared.status.Status.{Status}
 use Rattle.hw_command.specs.declared.status.Status.TheVariants.{WriteFault}
 use Rattle.hw_command.proofs.Made.{makes_past, made_works, breaks_off}
 use Rattle.hw_command.proofs.Stops.{stops_carries}
-use Rattle.hw_command.proofs.Told.{told_map}
 use Rattle.hw_subject.specs.Meanings.{HeadSays, judged}
 use Rattle.hw_subject.specs.Reading.{ReadsSubject, StopsAtSubject, naming_of, plan_in, searched_in}
 use Rattle.hw_subject.specs.Subjects.{Subject, Topic, topic_subject}
@@ -22,7 +22,7 @@ use Rattle.hw_subject.proofs.Meant.{printed_table}
 use Rattle.hw_subject.proofs.Certified.{modelled}
 use Rattle.hw_subject.proofs.Readings.{give_before}
 use Rattle.hw_search_command.specs.Certified.{own_bound}
-use Rattle.hw_search_command.specs.Finding.{HasSlots, found_report, moved_told, own_head, report_of}
+use Rattle.hw_search_command.specs.Finding.{PlanHasSlots, found_report, moved_told, own_head, report_of_finding}
 use Rattle.hw_search_command.specs.Searchers.{Searcher, searcher_of}
 use Rattle.hw_search_command.specs.Searches.{Searched, SearchSays, search_task}
 use Rattle.hw_search_command.specs.Searching.{SearchesTo}
@@ -37,7 +37,7 @@ of_judged : (s : Subject) {q : Searcher} {budget : ℕ} {proof : List ℕ} {x y 
 of_judged s {q = q} {budget = budget} {proof = proof} {y = y} {z = z} {found = found} h k = subst (λ (f : Problem). SearchesTo q f budget proof y z found) h.searched k
 
 -- its report is by the subject's problem, names and plan
-pub same_report : (s : Subject) {x y : DeskState} {given : Given} (found : Found) → (h : ReadsSubject s x y given) → report_of given found ≡ found_report (s.problem h.value) (s.naming h.value) (s.plan h.value) found
+pub same_report : (s : Subject) {x y : DeskState} {given : Given} (found : Found) → (h : ReadsSubject s x y given) → report_of_finding given found ≡ found_report (s.problem h.value) (s.naming h.value) (s.plan h.value) found
 same_report s {given = given} found h =
     ap (λ (f : Problem). found_report f (naming_of given.named) (plan_in given.repair) found) h.problem
     ∙ ap (λ (names : Naming). found_report (s.problem h.value) names (plan_in given.repair) found) h.naming
@@ -46,11 +46,11 @@ same_report s {given = given} found h =
 -- ---- the report
 
 -- a timetable that was found has a slot for each wish
-pub found_slots : (topic : Topic) {q : Searcher} {budget : ℕ} {proof : List ℕ} {x y z : DeskState} {given : Given} (found : Found) → ReadsSubject (topic_subject topic) x y given → SearchesTo q (searched_in given.flat given.repair) budget proof y z (Some found) → HasSlots (plan_in given.repair) found.table
+pub found_slots : (topic : Topic) {q : Searcher} {budget : ℕ} {proof : List ℕ} {x y z : DeskState} {given : Given} (found : Found) → ReadsSubject (topic_subject topic) x y given → SearchesTo q (searched_in given.flat given.repair) budget proof y z (Some found) → PlanHasSlots (plan_in given.repair) found.table
 found_slots topic found h k =
     let s = topic_subject topic in
     let is = (of_judged s h k).leaves.1 in
-    subst (λ (plan : Option PlanParts). HasSlots plan found.table) (sym h.plan) (has_slots (s.problem h.value) (s.plan h.value) found.table (modelled topic h).fits is.permitted)
+    subst (λ (plan : Option PlanParts). PlanHasSlots plan found.table) (sym h.plan) (has_slots (s.problem h.value) (s.plan h.value) found.table (modelled topic h).fits is.permitted)
 
 -- ---- the ends of a run
 
@@ -98,7 +98,7 @@ finds topic how {budget = budget} {z = z} found h k =
       certificate = told_map (z.trays tray.Proof).sent (λ bytes c. own_certificate q f (s.plan v) budget (q.most (judged s v)) found.head found.table found.bound bytes m.fits is.means c) k.leaves.2;
     }
 
-pub carries : (topic : Topic) (how : Search) {budget : ℕ} {proof : List ℕ} {x y z end : DeskState} {given : Given} {e : Status} (found : Found) → ReadsSubject (topic_subject topic) x y given → SearchesTo (searcher_of how) (searched_in given.flat given.repair) budget proof y z (Some found) → Ends (report_of given found ∷ []) z end e → Carries (search_task (topic_subject topic) (searcher_of how) budget proof) x end e
+pub carries : (topic : Topic) (how : Search) {budget : ℕ} {proof : List ℕ} {x y z end : DeskState} {given : Given} {e : Status} (found : Found) → ReadsSubject (topic_subject topic) x y given → SearchesTo (searcher_of how) (searched_in given.flat given.repair) budget proof y z (Some found) → Ends (report_of_finding given found ∷ []) z end e → Carries (search_task (topic_subject topic) (searcher_of how) budget proof) x end e
 carries topic how {x = x} {z = z} {end = end} {e = e} found h k ends =
     let s = topic_subject topic in
     let r = found_report (s.problem h.value) (s.naming h.value) (s.plan h.value) found in

@@ -4,7 +4,7 @@ use Rattle.std.proofs.lemmas.List.{drop-replicate, drop-set-lt, take_more_set}
 use Rattle.hw_flat.specs.TextForms.{put_first, with_front}
 use Rattle.hw_progress.specs.declared.outcome.Branching.{Branching}
 use Rattle.hw_progress.specs.declared.outcome.Branching.TheVariants.{Greatest}
-use Rattle.hw_search_command.specs.Orders.{rule_of, rules_read}
+use Rattle.hw_search_command.specs.Orders.{rule_of_letter, rules_read}
 
 -- ---- letters
 
@@ -17,7 +17,7 @@ pub some_letter : (letters : List ℕ) → (length letters == 0) ≡ false → 1
 some_letter letters e = grind arith
 
 -- one more letter has a rule
-pub letter_read : (rules : List Branching) (letters : List ℕ) (i : ℕ) (rule : Branching) (total : Option (List Branching)) → i < length letters → i < length rules → rule_of (get_or letters i 0) ≡ Some rule
+pub letter_read : (rules : List Branching) (letters : List ℕ) (i : ℕ) (rule : Branching) (total : Option (List Branching)) → i < length letters → i < length rules → rule_of_letter (get_or letters i 0) ≡ Some rule
     → with_front (take i rules) (rules_read (drop i letters)) ≡ total → with_front (take (i + 1) (set rules i rule)) (rules_read (drop (i + 1) letters)) ≡ total
 letter_read rules letters i rule total inside room is so_far =
     let cut : drop i letters ≡ get_or letters i 0 ∷ drop (i + 1) letters = rw (add-one, drop-cons letters i 0) refl in

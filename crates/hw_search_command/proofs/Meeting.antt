@@ -25,10 +25,10 @@ use Rattle.hw_turns.specs.Working.{CrewWrites, CrewMeets}
 use Rattle.hw_turns.specs.declared.outcome.Crewed.{Crewed}
 use Rattle.hw_turns.specs.declared.outcome.Crewed.TheVariants as crewed
 use Rattle.hw_report.specs.declared.report.Head.TheVariants as heads
-use Rattle.hw_search_command.specs.Certified.{IsWritten, Shows, IsCutLine}
+use Rattle.hw_search_command.specs.Certified.{IsWritten, ShowsHead, IsCutLine}
 use Rattle.hw_search_command.specs.Finding.{found_of, found_by_crew}
 use Rattle.hw_search_command.specs.Searchers.{Searcher, solving, proving, crewing, searcher_of}
-use Rattle.hw_search_command.specs.Searching.{IsTrueOf, TellsFound, TellsCut, SearchMeets}
+use Rattle.hw_search_command.specs.Searching.{FoundIsTrue, TellsFound, TellsCut, SearchMeets}
 use Rattle.hw_search_command.specs.declared.finding.Found.{Found}
 use Rattle.hw_search_command.specs.declared.searcher.Search.{Search}
 
@@ -51,20 +51,20 @@ plain_bound all h = plain_fold None all h
 verdict_of : (f : Problem) (all : List Line) (b : Bool) → b ≡ ends all → verdict f all ≡ verdict_by b (best_of f all)
 verdict_of f all b e = ap (λ t. verdict_by t (best_of f all)) (sym e)
 
-pub optimal_shows : {f : Problem} {budget : ℕ} {all : List Line} (table : List ℕ) (c : ℕ) (bound : Option ℕ) → last_table all ≡ Some table → cargo f table ≡ Some c → true ≡ ends all → bound_of all ≡ bound → Shows f None budget (heads.Optimal c) (Some table) bound all
+pub optimal_shows : {f : Problem} {budget : ℕ} {all : List Line} (table : List ℕ) (c : ℕ) (bound : Option ℕ) → last_table all ≡ Some table → cargo f table ≡ Some c → true ≡ ends all → bound_of all ≡ bound → ShowsHead f None budget (heads.Optimal c) (Some table) bound all
 optimal_shows {f = f} {all = all} table c bound last worth ended told =
     let best : best_of f all ≡ Some c = ap (option_and_then (cargo f)) last ∙ worth in
     record { last = last; last_bound = told; verdict = verdict_of f all true ended ∙ ap (verdict_by true) best; spent = tt }
 
-pub infeasible_shows : {f : Problem} {budget : ℕ} {all : List Line} (bound : Option ℕ) → last_table all ≡ None → true ≡ ends all → bound_of all ≡ bound → Shows f None budget heads.Infeasible None bound all
+pub infeasible_shows : {f : Problem} {budget : ℕ} {all : List Line} (bound : Option ℕ) → last_table all ≡ None → true ≡ ends all → bound_of all ≡ bound → ShowsHead f None budget heads.Infeasible None bound all
 infeasible_shows {f = f} {all = all} bound last ended told =
     let best : best_of f all ≡ None = ap (option_and_then (cargo f)) last in
     record { last = last; last_bound = told; verdict = verdict_of f all true ended ∙ ap (verdict_by true) best; spent = tt }
 
-pub unfinished_shows : {f : Problem} {budget : ℕ} {all : List Line} (table : Option (List ℕ)) (bound : Option ℕ) → (last_table all ≡ table) × (length (lemmas_of all) ≡ budget) × (is_closed all ≡ false) → false ≡ ends all → bound_of all ≡ bound → Shows f None budget (heads.Unfinished budget) table bound all
+pub unfinished_shows : {f : Problem} {budget : ℕ} {all : List Line} (table : Option (List ℕ)) (bound : Option ℕ) → (last_table all ≡ table) × (length (lemmas_of all) ≡ budget) × (is_closed all ≡ false) → false ≡ ends all → bound_of all ≡ bound → ShowsHead f None budget (heads.Unfinished budget) table bound all
 unfinished_shows {f = f} {all = all} table bound tells ended told = record { last = tells.0; last_bound = told; verdict = verdict_of f all false ended; spent = (tells.1, tells.2) }
 
-memory_shows : {f : Problem} {budget : ℕ} {all : List Line} (table : Option (List ℕ)) (bound : Option ℕ) → last_table all ≡ table → false ≡ ends all → bound_of all ≡ bound → Shows f None budget heads.Memory table bound all
+memory_shows : {f : Problem} {budget : ℕ} {all : List Line} (table : Option (List ℕ)) (bound : Option ℕ) → last_table all ≡ table → false ≡ ends all → bound_of all ≡ bound → ShowsHead f None budget heads.Memory table bound all
 memory_shows {f = f} {all = all} table bound last ended told = record { last = last; last_bound = told; verdict = verdict_of f all false ended; spent = tt }
 
 -- ---- what is told of the log
@@ -75,7 +75,7 @@ told_both A E B None (Some now) h e k = absurd h
 told_both A E B (Some was) (Some now) h e k = k now h e
 
 -- whole lines show what was found
-found_meets : (q : Searcher) (f : Problem) (budget : ℕ) (found : Found) (Wrote : List Line → Type 0) (old new : LogModel) → old.faults ≤ new.faults → new.faults ≡ old.faults → IsTrueOf q f budget found → Grows old new (λ was now. Wrote now.lines) → IsWhole new → ((all : List Line) → Wrote all → IsWritten q f budget all) → ((all : List Line) → Wrote all → Shows f None budget found.head found.table found.bound all) → SearchMeets q f budget old (Some found) new
+found_meets : (q : Searcher) (f : Problem) (budget : ℕ) (found : Found) (Wrote : List Line → Type 0) (old new : LogModel) → old.faults ≤ new.faults → new.faults ≡ old.faults → FoundIsTrue q f budget found → Grows old new (λ was now. Wrote now.lines) → IsWhole new → ((all : List Line) → Wrote all → IsWritten q f budget all) → ((all : List Line) → Wrote all → ShowsHead f None budget found.head found.table found.bound all) → SearchMeets q f budget old (Some found) new
 found_meets q f budget found Wrote old new later kept is grows whole written shows = record {
   later = later;
   leaves = (kept, is, told_both (λ told. Wrote told.lines) (λ told. told.behind ≡ []) (TellsFound q f budget found) old.told new.told grows whole (λ told wrote here. record { whole = here; written = written told.lines wrote; shows = shows told.lines wrote }));
@@ -99,7 +99,7 @@ any_cut f told h = record { line = h.0; may = tt; fits = h.1; valid = h.2; lean 
 pub solve_written : {f : Problem} {budget b n : ℕ} {all : List Line} (answer : Solved) → SolveWrites f budget answer b n all → IsWritten solving f budget all
 solve_written answer w = record { may = w.plain; fit = w.fit; valid = w.valid; lean = w.lean; promised = record { new = w.new; few_live = w.few_live }; few = w.lemmas }
 
-solved_with : {f : Problem} {budget : ℕ} {old new : LogModel} (answer : Solved) (found : Found) → SolveMeets f budget old answer new → new.faults ≡ old.faults → IsTrueOf solving f budget found → IsWhole new → ((all : List Line) → SolveWrites f budget answer old.faults new.faults all → Shows f None budget found.head found.table found.bound all) → SearchMeets solving f budget old (Some found) new
+solved_with : {f : Problem} {budget : ℕ} {old new : LogModel} (answer : Solved) (found : Found) → SolveMeets f budget old answer new → new.faults ≡ old.faults → FoundIsTrue solving f budget found → IsWhole new → ((all : List Line) → SolveWrites f budget answer old.faults new.faults all → ShowsHead f None budget found.head found.table found.bound all) → SearchMeets solving f budget old (Some found) new
 solved_with {f = f} {budget = budget} {old = old} {new = new} answer found m kept is whole shows = found_meets solving f budget found (SolveWrites f budget answer old.faults new.faults) old new m.later kept is m.writes whole (λ all w. solve_written answer w) shows
 
 pub solve_meets : {f : Problem} {budget : ℕ} {old new : LogModel} (answer : Solved) → SolveMeets f budget old answer new → SolvedKeepsFaults answer old new → SearchMeets solving f budget old (found_of budget answer None) new
@@ -114,7 +114,7 @@ solve_meets {f = f} {budget = budget} {old = old} {new = new} solved.LogFailed m
 prove_written : {f : Problem} {budget b n : ℕ} {bound : Option ℕ} {all : List Line} (answer : Solved) → ProveWrites f budget answer bound b n all → IsWritten proving f budget all
 prove_written answer w = record { may = λ k d lt. tt; fit = w.good.fit; valid = w.good.valid; lean = w.good.lean; promised = record { new = w.good.new; few_live = w.good.few_live }; few = w.lemmas }
 
-proved_with : {f : Problem} {budget : ℕ} {bound : Option ℕ} {old new : LogModel} (answer : Solved) (found : Found) → ProveMeets f budget old answer bound new → new.faults ≡ old.faults → IsTrueOf proving f budget found → IsWhole new → ((all : List Line) → ProveWrites f budget answer bound old.faults new.faults all → Shows f None budget found.head found.table found.bound all) → SearchMeets proving f budget old (Some found) new
+proved_with : {f : Problem} {budget : ℕ} {bound : Option ℕ} {old new : LogModel} (answer : Solved) (found : Found) → ProveMeets f budget old answer bound new → new.faults ≡ old.faults → FoundIsTrue proving f budget found → IsWhole new → ((all : List Line) → ProveWrites f budget answer bound old.faults new.faults all → ShowsHead f None budget found.head found.table found.bound all) → SearchMeets proving f budget old (Some found) new
 proved_with {f = f} {budget = budget} {bound = bound} {old = old} {new = new} answer found m kept is whole shows = found_meets proving f budget found (ProveWrites f budget answer bound old.faults new.faults) old new m.later kept is m.writes whole (λ all w. prove_written answer w) shows
 
 pub prove_meets : {f : Problem} {budget : ℕ} {old new : LogModel} (answer : Solved) (bound : Option ℕ) → ProveMeets f budget old answer bound new → SolvedKeepsFaults answer old new → SearchMeets proving f budget old (found_of budget answer bound) new
@@ -129,7 +129,7 @@ prove_meets {f = f} {budget = budget} {old = old} {new = new} solved.LogFailed b
 crew_written : {f : Problem} {order : List Branching} {budget b n : ℕ} {all : List Line} (answer : Crewed) → CrewWrites f order budget answer b n all → IsWritten (crewing order) f budget all
 crew_written answer w = record { may = w.plain; fit = w.fit; valid = w.valid; lean = w.lean; promised = w.new; few = w.lemmas }
 
-crewed_with : {f : Problem} {order : List Branching} {budget : ℕ} {old new : LogModel} (answer : Crewed) (found : Found) → CrewMeets f order budget old answer new → new.faults ≡ old.faults → IsTrueOf (crewing order) f budget found → IsWhole new → ((all : List Line) → CrewWrites f order budget answer old.faults new.faults all → Shows f None budget found.head found.table found.bound all) → SearchMeets (crewing order) f budget old (Some found) new
+crewed_with : {f : Problem} {order : List Branching} {budget : ℕ} {old new : LogModel} (answer : Crewed) (found : Found) → CrewMeets f order budget old answer new → new.faults ≡ old.faults → FoundIsTrue (crewing order) f budget found → IsWhole new → ((all : List Line) → CrewWrites f order budget answer old.faults new.faults all → ShowsHead f None budget found.head found.table found.bound all) → SearchMeets (crewing order) f budget old (Some found) new
 crewed_with {f = f} {order = order} {budget = budget} {old = old} {new = new} answer found m kept is whole shows = found_meets (crewing order) f budget found (CrewWrites f order budget answer old.faults new.faults) old new m.later kept is m.writes whole (λ all w. crew_written answer w) shows
 
 pub crew_meets : {f : Problem} {order : List Branching} {budget : ℕ} {old new : LogModel} (answer : Crewed) → CrewMeets f order budget old answer new → SearchMeets (crewing order) f budget old (found_by_crew budget answer) new

@@ -16,8 +16,8 @@ use Rattle.hw_repair.proofs.Repairs.{repaired_cargo, repaired_meets}
 use Rattle.hw_subject.specs.Meanings.{HeadSays, IsBoundOf, IsModelled, judged, own_worth, repaired_problem}
 use Rattle.hw_subject.specs.Subjects.{Subject}
 use Rattle.hw_subject.proofs.Meant.{best_of, bound_of, none_of}
-use Rattle.hw_search_command.specs.Certified.{HeadMeans, IsSpent, IsCertificate, head_verdict, own_bound, searched_head}
-use Rattle.hw_search_command.specs.Finding.{HasSlots, own_head}
+use Rattle.hw_search_command.specs.Certified.{HeadMeans, HeadSpendsBudget, IsCertificate, head_verdict, own_bound, searched_head}
+use Rattle.hw_search_command.specs.Finding.{PlanHasSlots, own_head}
 use Rattle.hw_search_command.specs.Searchers.{Searcher, searcher_of}
 use Rattle.hw_search_command.specs.declared.searcher.Search.{Search}
 use Rattle.hw_search_command.specs.declared.searcher.Search.TheVariants.{Solve, Prove, Crew}
@@ -25,7 +25,7 @@ use Rattle.hw_search_command.specs.declared.searcher.Search.TheVariants.{Solve, 
 -- ---- timetables
 
 -- a permitted timetable has a slot for each wish of the plan
-pub has_slots : (f : Problem) (plan : Option PlanParts) (table : Option (List ℕ)) → IfSome plan (PlanFits f) → IfSome table (Permits (repaired_problem f plan)) → HasSlots plan table
+pub has_slots : (f : Problem) (plan : Option PlanParts) (table : Option (List ℕ)) → IfSome plan (PlanFits f) → IfSome table (Permits (repaired_problem f plan)) → PlanHasSlots plan table
 has_slots f None table fits h = tt
 has_slots f (Some plan) None fits h = tt
 has_slots f (Some plan) (Some table) fits h = fits.each_ship ∙ sym h.listed.each_ship
@@ -64,7 +64,7 @@ head_is f (Some plan) budget most heads.Infeasible table fits h = refl
 head_is f (Some plan) budget most (heads.Unfinished spent) table fits h = refl
 head_is f (Some plan) budget most heads.Memory table fits h = refl
 
-still_spent : (plan : Option PlanParts) (ships budget : ℕ) (head : Head) (all : List Line) → IsSpent budget head all → IsSpent budget (own_head plan ships head) all
+still_spent : (plan : Option PlanParts) (ships budget : ℕ) (head : Head) (all : List Line) → HeadSpendsBudget budget head all → HeadSpendsBudget budget (own_head plan ships head) all
 still_spent plan ships budget (heads.Optimal d) all h = tt
 still_spent plan ships budget heads.Infeasible all h = tt
 still_spent plan ships budget (heads.Unfinished spent) all h = h

@@ -14,10 +14,10 @@ use Rattle.hw_cert.specs.declared.log.LogStop.TheVariants.{Failed}
 use Rattle.hw_cert.specs.declared.version.Version.TheVariants.{Three}
 use Rattle.hw_cert.specs.Logs.{Grows, LogModel, LogTold, Outside, TakesLine, WhereTold, ended_text, outside_of}
 use Rattle.hw_cert.specs.Texts.{cert_text, line_text}
-use Rattle.hw_cert.specs.Told.{header_of, is_told_under, log_under}
+use Rattle.hw_cert.specs.Told.{header_line_of, is_told_under, log_under}
+use Rattle.hw_cert.proofs.Answered.{told_map}
 use Rattle.hw_command.specs.Sending.{IsCutOf, SendsTo}
 use Rattle.hw_command.proofs.Sendings.{sends_to}
-use Rattle.hw_command.proofs.Told.{told_map}
 use Rattle.hw_search_command.specs.Third.{SendsLines, as_failed}
 use Rattle.hw_search_command.proofs.Ending.{by_lines, outside_only, whole_text}
 
@@ -28,7 +28,7 @@ ended_on [] b = refl
 ended_on (line ∷ more) b = ap (λ (rest : List ℕ). line ++ 10 ∷ rest) (ended_on more b) ∙ sym (append_assoc line (10 ∷ ended_lines more) (ended_lines b))
 
 text_on : (a b : List Line) → cert_text Three (a ++ b) ≡ cert_text Three a ++ ended_lines (map line_text b)
-text_on a b = ap (λ (ls : List (List ℕ)). header_of Three ++ ended_lines ls) (map-append line_text a b) ∙ ap (λ (rest : List ℕ). header_of Three ++ rest) (ended_on (map line_text a) (map line_text b)) ∙ sym (append_assoc (header_of Three) (ended_lines (map line_text a)) (ended_lines (map line_text b)))
+text_on a b = ap (λ (ls : List (List ℕ)). header_line_of Three ++ ended_lines ls) (map-append line_text a b) ∙ ap (λ (rest : List ℕ). header_line_of Three ++ rest) (ended_on (map line_text a) (map line_text b)) ∙ sym (append_assoc (header_line_of Three) (ended_lines (map line_text a)) (ended_lines (map line_text b)))
 
 first_line : (line : Line) (rest : List Line) → ended_lines (map line_text (line ∷ rest)) ≡ ended_text line ++ ended_lines (map line_text rest)
 first_line line rest = sym (append_assoc (line_text line) (10 ∷ []) (ended_lines (map line_text rest)))
@@ -51,13 +51,13 @@ cut_text all done rest line n bytes parts lt is =
     }
 
 -- a proper prefix of the header is one of the whole
-cut_header : (all : List Line) (n : ℕ) (bytes : List ℕ) → n < length (header_of Three) → bytes ≡ take n (header_of Three) → IsCutOf (cert_text Three all) bytes
+cut_header : (all : List Line) (n : ℕ) (bytes : List ℕ) → n < length (header_line_of Three) → bytes ≡ take n (header_line_of Three) → IsCutOf (cert_text Three all) bytes
 cut_header all n bytes lt is =
     let tail = ended_lines (map line_text all) in
-    let sizes = length-append (header_of Three) tail in
+    let sizes = length-append (header_line_of Three) tail in
     let proper : n < length (cert_text Three all) = omega (arith, sizes, lt) in
-    let few : n ≤ length (header_of Three) = omega (arith, lt) in
-    record { count = n; proper = proper; part = is ∙ sym (take-append-le n (header_of Three) tail few) }
+    let few : n ≤ length (header_line_of Three) = omega (arith, lt) in
+    record { count = n; proper = proper; part = is ∙ sym (take-append-le n (header_line_of Three) tail few) }
 
 -- ---- the lines
 
@@ -100,7 +100,7 @@ one_failed {lines = lines} {i = i} {x = x} {y = y} {z = z} {line = line} e h lt 
 -- ---- the certificate
 
 -- the lines were sent after the header
-pub sent_to : {E F G : Type 0} {x y w z : DeskState} {name : List ℕ} {lines : List Line} (made : Result Unit E) (header : Result Unit F) (sent : Result Unit G) → is_err made ≡ false → is_err header ≡ false → Makes Proof name x y made → SendsText Proof (header_of Three) y w header → SendsLines lines w z sent → SendsTo name (cert_text Three lines) x z sent
+pub sent_to : {E F G : Type 0} {x y w z : DeskState} {name : List ℕ} {lines : List Line} (made : Result Unit E) (header : Result Unit F) (sent : Result Unit G) → is_err made ≡ false → is_err header ≡ false → Makes Proof name x y made → SendsText Proof (header_line_of Three) y w header → SendsLines lines w z sent → SendsTo name (cert_text Three lines) x z sent
 sent_to (Err e) header sent a b h k m = absurd (cc)
 sent_to (Ok u) (Err e) sent a b h k m = absurd (cc)
 sent_to {x = x} {w = w} {z = z} {name = name} {lines = lines} (Ok u) (Ok v) (Ok done) a b h k m = record {
@@ -120,7 +120,7 @@ sent_to {x = x} {y = y} {w = w} {z = z} {name = name} {lines = lines} (Ok u) (Ok
     rose r same = omega arith
 
 -- the header was cut off
-pub header_cut : {E F G : Type 0} {x y z : DeskState} {name : List ℕ} (lines : List Line) (made : Result Unit E) (header : Result Unit F) (e : G) → is_err made ≡ false → is_err header ≡ true → Makes Proof name x y made → SendsText Proof (header_of Three) y z header → SendsTo name (cert_text Three lines) x z (Err e)
+pub header_cut : {E F G : Type 0} {x y z : DeskState} {name : List ℕ} (lines : List Line) (made : Result Unit E) (header : Result Unit F) (e : G) → is_err made ≡ false → is_err header ≡ true → Makes Proof name x y made → SendsText Proof (header_line_of Three) y z header → SendsTo name (cert_text Three lines) x z (Err e)
 header_cut lines (Err f) header e a b h k = absurd (cc)
 header_cut lines (Ok u) (Ok v) e a b h k = absurd (cc)
 header_cut {z = z} lines (Ok u) (Err f) e a b h k =

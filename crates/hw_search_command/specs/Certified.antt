@@ -13,7 +13,7 @@ use Rattle.hw_lines.specs.Tolled.{bound_of}
 use Rattle.hw_lines.specs.Valid.{verdict, LineFits, Valid, ValidAfter}
 use Rattle.hw_cert.specs.Logs.{LogTold, IsBegunLine}
 use Rattle.hw_cert.specs.Texts.{cert_text}
-use Rattle.hw_cert.specs.Told.{header_of, IsTextUnder}
+use Rattle.hw_cert.specs.Told.{header_line_of, IsTextUnder}
 use Rattle.hw_report.specs.declared.report.Head.{Head}
 use Rattle.hw_report.specs.declared.report.Head.TheVariants.{Optimal, Infeasible, Unfinished, Memory}
 use Rattle.hw_repair.specs.Repaired.{own_cargo}
@@ -48,18 +48,18 @@ head_verdict (Unfinished spent) best = verdicts.Unfinished best
 head_verdict Memory best = verdicts.Unfinished best
 
 -- unfinished: there are as many lemmas as the budget, and no line without literals
-abbrev pub IsSpent : ℕ → Head → List Line → Type 0
-IsSpent budget (Optimal c) all = ⊤
-IsSpent budget Infeasible all = ⊤
-IsSpent budget (Unfinished spent) all = (length (lemmas_of all) ≡ budget) × (is_closed all ≡ false)
-IsSpent budget Memory all = ⊤
+abbrev pub HeadSpendsBudget : ℕ → Head → List Line → Type 0
+HeadSpendsBudget budget (Optimal c) all = ⊤
+HeadSpendsBudget budget Infeasible all = ⊤
+HeadSpendsBudget budget (Unfinished spent) all = (length (lemmas_of all) ≡ budget) × (is_closed all ≡ false)
+HeadSpendsBudget budget Memory all = ⊤
 
 -- ---- what is printed of a repair
 
 -- how many ships a timetable moves, and 0 where there is none
-abbrev pub moved_in : Option PlanParts → Option (List ℕ) → ℕ
-moved_in plan None = 0
-moved_in plan (Some table) = moved_by plan table
+abbrev pub ships_moved_in : Option PlanParts → Option (List ℕ) → ℕ
+ships_moved_in plan None = 0
+ships_moved_in plan (Some table) = moved_by plan table
 
 -- the head of the repair's problem for which a printed head stands, where `count` ships are moved: any more cargo outweighs all ships that keep their slots
 abbrev pub repair_head : ℕ → ℕ → Head → Head
@@ -71,7 +71,7 @@ repair_head ships count Memory = Memory
 -- the head of the problem that was searched, for which a printed head stands with a timetable or none
 abbrev pub searched_head : Option PlanParts → ℕ → Option (List ℕ) → Head → Head
 searched_head None ships table head = head
-searched_head (Some plan) ships table head = repair_head ships (moved_in (Some plan) table) head
+searched_head (Some plan) ships table head = repair_head ships (ships_moved_in (Some plan) table) head
 
 -- the bound that is printed for one of the problem that was searched: of a repair the quotient, rounded down
 abbrev pub own_bound : Option PlanParts → ℕ → Option ℕ → Option ℕ
@@ -81,26 +81,26 @@ own_bound (Some plan) ships bound = option_map (own_cargo ships) bound
 -- ---- a certificate
 
 -- lines show a printed head with a timetable or none and a printed bound or none, of a problem or of its repair: their verdict is that of the head for which the printed one stands, the timetable is their last table, and the bound stands for their last one
-pub record Shows (f : Problem) (plan : Option PlanParts) (budget : ℕ) (head : Head) (table : Option (List ℕ)) (bound : Option ℕ) (all : List Line) : Type 0 where
+pub record ShowsHead (f : Problem) (plan : Option PlanParts) (budget : ℕ) (head : Head) (table : Option (List ℕ)) (bound : Option ℕ) (all : List Line) : Type 0 where
   pub last : last_table all ≡ table
   pub last_bound : own_bound plan f.ships (bound_of all) ≡ bound
   pub verdict : verdict (repaired_problem f plan) all ≡ head_verdict (searched_head plan f.ships table head) (best_of (repaired_problem f plan) all)
-  pub spent : IsSpent budget head all
+  pub spent : HeadSpendsBudget budget head all
 
 -- the bytes are the text of lines of the problem that was searched, which show these
 pub record IsCertificate (q : Searcher) (f : Problem) (plan : Option PlanParts) (budget : ℕ) (head : Head) (table : Option (List ℕ)) (bound : Option ℕ) (bytes : List ℕ) : Type 0 where
   pub lines : List Line
   pub text : bytes ≡ cert_text q.version lines
   pub written : IsWritten q (repaired_problem f plan) budget lines
-  pub shows : Shows f plan budget head table bound lines
+  pub shows : ShowsHead f plan budget head table bound lines
 
 -- ---- what is left after a failed make or write
 
 -- a proper prefix of the header's line
 pub record IsInHeader (q : Searcher) (bytes : List ℕ) : Type 0 where
   pub count : ℕ
-  pub proper : count < length (header_of q.version)
-  pub text : bytes ≡ take count (header_of q.version)
+  pub proper : count < length (header_line_of q.version)
+  pub text : bytes ≡ take count (header_line_of q.version)
 
 -- a line that the search may write, of the problem, valid and lean after the lines, of whose text a proper prefix follows them
 pub record IsCutLine (q : Searcher) (f : Problem) (told : LogTold) : Type 0 where

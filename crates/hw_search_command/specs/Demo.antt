@@ -22,7 +22,7 @@ use Rattle.hw_report.specs.declared.report.Head.TheVariants as heads
 use Rattle.hw_command.specs.Carries.{Task, one_report}
 use Rattle.hw_command.specs.Scope.{MakesProof}
 use Rattle.hw_command.specs.Sending.{IsCutOf}
-use Rattle.hw_search_command.specs.Certified.{HeadMeans, IsWritten, IsSpent, head_verdict}
+use Rattle.hw_search_command.specs.Certified.{HeadMeans, IsWritten, HeadSpendsBudget, head_verdict}
 use Rattle.hw_search_command.specs.Searchers.{solving}
 
 -- the limits of a demonstration
@@ -40,29 +40,29 @@ pub record CanDraw (ships slots : ℕ) : Type 0 where
   pub few_slots : slots ≤ most_slots
 
 -- the head of something that was found, which out of memory is not
-abbrev pub IsFound : Head → Type 0
-IsFound (heads.Optimal c) = ⊤
-IsFound heads.Infeasible = ⊤
-IsFound (heads.Unfinished budget) = ⊤
-IsFound heads.Memory = ⊥
+abbrev pub HeadIsFound : Head → Type 0
+HeadIsFound (heads.Optimal c) = ⊤
+HeadIsFound heads.Infeasible = ⊤
+HeadIsFound (heads.Unfinished budget) = ⊤
+HeadIsFound heads.Memory = ⊥
 
 -- lines of a problem that was solved, and what a summary says of them
 pub record Demonstrates (f : Problem) (budget : ℕ) (head : Head) (best : Option ℕ) (shown : Verdict) (lemmas : ℕ) (all : List Line) : Type 0 where
   pub written : IsWritten solving f budget all
   -- the last table is permitted, and what the head says of the problem is true
   pub permitted : IfSome (last_table all) (Permits f)
-  pub found : IsFound head
+  pub found : HeadIsFound head
   pub means : HeadMeans f budget (room_count f) head (last_table all)
   -- the cargo is that of the last table
   pub cargo : best ≡ best_of f all
   -- the check and the head tell the verdict of the lines
   pub checked : shown ≡ verdict f all
   pub tells : verdict f all ≡ head_verdict head best
-  pub spent : IsSpent budget head all
+  pub spent : HeadSpendsBudget budget head all
   pub counted : lemmas ≡ length (lemmas_of all)
 
 -- such lines; Proof was made, and holds their text where it is told
-pub record Shows (f : Problem) (budget : ℕ) (proof : List ℕ) (old new : DeskState) (head : Head) (best : Option ℕ) (shown : Verdict) (lemmas : ℕ) : Type 0 where
+pub record ShowsDemonstration (f : Problem) (budget : ℕ) (proof : List ℕ) (old new : DeskState) (head : Head) (best : Option ℕ) (shown : Verdict) (lemmas : ℕ) : Type 0 where
   pub lines : List Line
   pub demonstrates : Demonstrates f budget head best shown lemmas lines
   pub made : MakesProof proof old new
@@ -77,7 +77,7 @@ pub record ShowsPart (f : Problem) (budget : ℕ) (new : DeskState) : Type 0 whe
 -- what the report of a demonstration says; none is a write fault on Proof. Out of memory is common to all commands, and no other report is given
 abbrev pub DemoSays : Problem → ℕ → List ℕ → DeskState → DeskState → Option Report → Type 0
 DemoSays f budget proof old new None = ShowsPart f budget new
-DemoSays f budget proof old new (Some (demo head best shown lemmas)) = Shows f budget proof old new head best shown lemmas
+DemoSays f budget proof old new (Some (demo head best shown lemmas)) = ShowsDemonstration f budget proof old new head best shown lemmas
 DemoSays f budget proof old new (Some r) = ⊥
 
 -- no input is read, so none gives anything

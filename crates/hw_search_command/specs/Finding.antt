@@ -12,7 +12,7 @@ use Rattle.hw_repair.specs.Wishes.{PlanParts}
 use Rattle.hw_subject.specs.Meanings.{own_worth}
 use Rattle.hw_subject.specs.Reading.{naming_of, plan_in}
 use Rattle.hw_subject.specs.declared.subject.Given.{Given}
-use Rattle.hw_search_command.specs.Certified.{moved_in, own_bound}
+use Rattle.hw_search_command.specs.Certified.{ships_moved_in, own_bound}
 use Rattle.hw_search_command.specs.declared.finding.Found.{Found}
 
 -- ---- by how a search ended
@@ -48,15 +48,15 @@ own_head plan ships Memory = Memory
 -- how many ships a timetable moves, as it is reported of a repair
 abbrev pub moved_told : Option PlanParts → Option (List ℕ) → Option ℕ
 moved_told None table = None
-moved_told (Some plan) table = Some (moved_in (Some plan) table)
+moved_told (Some plan) table = Some (ships_moved_in (Some plan) table)
 
 -- the report of what was found, of a problem by its names, or of its repair
 abbrev pub found_report : Problem → Naming → Option PlanParts → Found → Report
 found_report f names plan found = solved_report (own_head plan f.ships found.head) f names found.table (moved_told plan found.table) (own_bound plan f.ships found.bound)
 
-abbrev pub report_of : Given → Found → Report
-report_of given found = found_report given.flat (naming_of given.named) (plan_in given.repair) found
+abbrev pub report_of_finding : Given → Found → Report
+report_of_finding given found = found_report given.flat (naming_of given.named) (plan_in given.repair) found
 
 -- the timetable has a slot for each wish of the plan
-abbrev pub HasSlots : Option PlanParts → Option (List ℕ) → Type 0
-HasSlots plan table = IfSome plan (λ plan. IfSome table (λ slots. length plan.wishes ≡ length slots))
+abbrev pub PlanHasSlots : Option PlanParts → Option (List ℕ) → Type 0
+PlanHasSlots plan table = IfSome plan (λ plan. IfSome table (λ slots. length plan.wishes ≡ length slots))

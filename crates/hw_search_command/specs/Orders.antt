@@ -8,13 +8,13 @@ use Rattle.hw_progress.specs.declared.outcome.Branching.TheVariants.{Greatest, E
 -- ---- the word
 
 -- the branching rule of a letter: `g`, `e` or `l`
-abbrev pub rule_of : ℕ → Option Branching
-rule_of letter = if letter == 103 then Some Greatest else if letter == 101 then Some Earliest else if letter == 108 then Some Latest else None
+abbrev pub rule_of_letter : ℕ → Option Branching
+rule_of_letter letter = if letter == 103 then Some Greatest else if letter == 101 then Some Earliest else if letter == 108 then Some Latest else None
 
 -- the rules of some letters, each of which has one
 abbrev pub rules_read : List ℕ → Option (List Branching)
 rules_read [] = Some []
-rules_read (letter ∷ letters) = put_first (rule_of letter) (rules_read letters)
+rules_read (letter ∷ letters) = put_first (rule_of_letter letter) (rules_read letters)
 
 -- 1 to 64 letters, each that of a rule
 abbrev pub order_read : List ℕ → Option (List Branching)
@@ -27,21 +27,21 @@ order_in word = unwrap_or (order_read word) (Greatest ∷ [])
 -- ---- how it is kept
 
 -- Greatest in all places that are left
-abbrev pub filled : List Branching → List Branching
-filled turns = turns ++ replicate (64 - length turns) Greatest
+abbrev pub filled_order : List Branching → List Branching
+filled_order turns = turns ++ replicate (64 - length turns) Greatest
 
 -- the first 1 to 64 of 64 rules are those of turns, and all later places hold Greatest
-pub record IsOrder (rules : List Branching) (count : ℕ) : Type 0 where
+pub record IsTurnOrder (rules : List Branching) (count : ℕ) : Type 0 where
   pub some : 1 ≤ count
   pub few : count ≤ 64
   pub whole : length rules ≡ 64
   pub rest : drop count rules ≡ replicate (64 - count) Greatest
 
 -- so an order gives its places back
-pub count_back : (rules : List Branching) (count : ℕ) → IsOrder rules count → length (take count rules) ≡ count
+pub count_back : (rules : List Branching) (count : ℕ) → IsTurnOrder rules count → length (take count rules) ≡ count
 count_back rules count h = length-take-le count rules (subst (λ n. count ≤ n) (sym h.whole) h.few)
 
-pub rules_back : (rules : List Branching) (count : ℕ) → IsOrder rules count → filled (take count rules) ≡ rules
+pub rules_back : (rules : List Branching) (count : ℕ) → IsTurnOrder rules count → filled_order (take count rules) ≡ rules
 rules_back rules count h =
     ap (λ n. take count rules ++ replicate (64 - n) Greatest) (count_back rules count h)
     ∙ ap (λ more. take count rules ++ more) (sym h.rest)

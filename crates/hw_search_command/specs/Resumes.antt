@@ -20,11 +20,11 @@ use Rattle.hw_report.specs.declared.report.Head.TheVariants.{Optimal, Infeasible
 use Rattle.hw_report.specs.declared.report.RefusedWord.{RefusedWord}
 use Rattle.hw_report.specs.declared.report.RefusedWord.TheVariants.{Check}
 use Rattle.hw_command.specs.Carries.{Task, one_report}
-use Rattle.hw_command.specs.Scope.{named, MakesProof}
+use Rattle.hw_command.specs.Scope.{named_feed, MakesProof}
 use Rattle.hw_command.specs.Sending.{IsCutOf}
 use Rattle.hw_command.specs.declared.outcome.CertOutcome.TheVariants.{Wrong, TooLong}
 use Rattle.hw_repair.specs.Wishes.{PlanParts}
-use Rattle.hw_resume.specs.Going.{GoesOn, IsRefused}
+use Rattle.hw_resume.specs.Going.{LinesGoOn, LineIsRefused}
 use Rattle.hw_subject.specs.Meanings.{HeadSays, IsBoundOf, IsPrintedTable, judged, repaired_problem}
 use Rattle.hw_subject.specs.Shown.{Shown, Refused}
 use Rattle.hw_subject.specs.Subjects.{Subject}
@@ -42,7 +42,7 @@ IsNewlySpent budget Memory more all = ⊤
 
 -- lines that begin with those of a start show a printed head with a timetable or none and a printed bound or none, of a problem or of its repair: each is valid after those before it, no more lemmas were added than the budget says, their verdict is that of the head for which the printed one stands, the timetable is their last table, and the bound stands for their last one
 pub record GoesOnTo (f : Problem) (plan : Option PlanParts) (budget : ℕ) (head : Head) (table : Option (List ℕ)) (bound : Option ℕ) (start all : List Line) : Type 0 where
-  pub goes_on : GoesOn (repaired_problem f plan) start all
+  pub goes_on : LinesGoOn (repaired_problem f plan) start all
   pub few : length (lemmas_of goes_on.more) ≤ budget
   pub last : last_table all ≡ table
   pub last_bound : own_bound plan f.ships (bound_of all) ≡ bound
@@ -84,7 +84,7 @@ pub record Resumed (s : Subject) (cert : List ℕ) (budget : ℕ) (proof : List 
 pub record IsNotTaken (s : Subject) (cert : List ℕ) (held : List ℕ → Option (List ℕ)) (number : ℕ) (word : RefusedWord) (hint : Option ℕ) : Type 0 where
   pub start : Starts s cert held
   pub cause : Refusal
-  pub refused : IsRefused (judged s start.value) start.shown.lines number cause
+  pub refused : LineIsRefused (judged s start.value) start.shown.lines number cause
   pub word_of : word ≡ Check cause.word
   pub hint_of : hint ≡ cause.hint
 
@@ -92,7 +92,7 @@ pub record IsNotTaken (s : Subject) (cert : List ℕ) (held : List ℕ → Optio
 pub record ResumeBreaks (s : Subject) (cert : List ℕ) (budget : ℕ) (old new : DeskState) : Type 0 where
   pub start : Starts s cert old.held
   pub lines : List Line
-  pub goes_on : GoesOn (judged s start.value) start.shown.lines lines
+  pub goes_on : LinesGoOn (judged s start.value) start.shown.lines lines
   pub few : length (lemmas_of goes_on.more) ≤ budget
   pub cut : IfSome (new.trays tray.Proof).sent (IsCutOf (cert_text Three lines))
 
@@ -106,7 +106,7 @@ ResumeSays s cert budget proof old new (Some r) = s.Refuses old.held r
 
 abbrev pub resume_task : Subject → List ℕ → ℕ → List ℕ → Task
 resume_task s cert budget proof = record {
-  inputs = s.inputs ++ (named Certificate cert ∷ []);
+  inputs = s.inputs ++ (named_feed Certificate cert ∷ []);
   Gives = s.Gives;
   proof = Some proof;
   Says = one_report (ResumeSays s cert budget proof);

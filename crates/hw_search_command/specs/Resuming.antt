@@ -18,7 +18,7 @@ use Rattle.hw_command.specs.declared.outcome.CertOutcome.{CertOutcome}
 use Rattle.hw_command.specs.declared.outcome.CertOutcome.TheVariants.{Shows, Wrong, TooLong}
 use Rattle.hw_command.specs.declared.outcome.CertStop.{CertStop}
 use Rattle.hw_command.specs.declared.outcome.CertStop.TheVariants as stops
-use Rattle.hw_resume.specs.Going.{Resumes, StopsFor}
+use Rattle.hw_resume.specs.Going.{Resumes, ResumingStopsFor}
 use Rattle.hw_resume.specs.declared.resumed.Resumed.{Resumed}
 use Rattle.hw_resume.specs.declared.resumed.ResumeStop.{ResumeStop}
 use Rattle.hw_resume.specs.declared.resumed.ResumeStop.TheVariants as resume_stops
@@ -73,11 +73,11 @@ pub record Unstarted (f : Problem) (cert : List ℕ) (old new : DeskState) (stop
 pub record Unanswered (f : Problem) (cert : List ℕ) (old new : DeskState) (stopped : Result CertOutcome CertStop) : Type 0 where
   pub starts : StartsOn f cert old new
   pub stop : ResumeStop
-  pub cause : StopsFor f starts.read.kept.items stop
+  pub cause : ResumingStopsFor f starts.read.kept.items stop
   pub told : stopped ≡ stop_outcome stop
 
 -- its lines with those that the search added are sent to Proof
-pub record Sends {E : Type 0} (f : Problem) (cert : List ℕ) (budget : ℕ) (proof : List ℕ) (old new : DeskState) (r : Resumed) (sent : Result Unit E) : Type 0 where
+pub record SendsResumed {E : Type 0} (f : Problem) (cert : List ℕ) (budget : ℕ) (proof : List ℕ) (old new : DeskState) (r : Resumed) (sent : Result Unit E) : Type 0 where
   pub mid : DeskState
   pub starts : StartsOn f cert old mid
   pub resumes : Resumes f budget starts.read.kept.items r
@@ -86,5 +86,5 @@ pub record Sends {E : Type 0} (f : Problem) (cert : List ℕ) (budget : ℕ) (pr
 -- what comes of a certificate
 abbrev pub ResumesTo : Problem → List ℕ → ℕ → List ℕ → DeskState → DeskState → Resumption → Type 0
 ResumesTo f cert budget proof old new (ends.Stopped stopped) = Unstarted f cert old new stopped ⊎ Unanswered f cert old new stopped
-ResumesTo f cert budget proof old new (ends.Found found) = (r : Resumed) × (found ≡ resumed_found budget r) × Sends {E = Unit} f cert budget proof old new r (Ok tt)
-ResumesTo f cert budget proof old new ends.WriteFailed = (r : Resumed) × Sends {E = Unit} f cert budget proof old new r (Err tt)
+ResumesTo f cert budget proof old new (ends.Found found) = (r : Resumed) × (found ≡ resumed_found budget r) × SendsResumed {E = Unit} f cert budget proof old new r (Ok tt)
+ResumesTo f cert budget proof old new ends.WriteFailed = (r : Resumed) × SendsResumed {E = Unit} f cert budget proof old new r (Err tt)

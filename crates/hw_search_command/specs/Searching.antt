@@ -8,12 +8,12 @@ use Rattle.hw_desk.specs.declared.desk.Tray.TheVariants as tray
 use Rattle.hw_verdict.specs.Laws.{IsBound}
 use Rattle.hw_cert.specs.Logs.{LogModel, LogTold, WhereTold}
 use Rattle.hw_cert.specs.Told.{log_under}
-use Rattle.hw_search_command.specs.Certified.{HeadMeans, IsWritten, Shows, IsCertificate, IsCutLine, IsCutShort}
+use Rattle.hw_search_command.specs.Certified.{HeadMeans, IsWritten, ShowsHead, IsCertificate, IsCutLine, IsCutShort}
 use Rattle.hw_search_command.specs.Searchers.{Searcher}
 use Rattle.hw_search_command.specs.declared.finding.Found.{Found}
 
 -- what was found of the problem that was searched is true
-pub record IsTrueOf (q : Searcher) (f : Problem) (budget : ℕ) (found : Found) : Type 0 where
+pub record FoundIsTrue (q : Searcher) (f : Problem) (budget : ℕ) (found : Found) : Type 0 where
   pub permitted : IfSome found.table (Permits f)
   pub means : HeadMeans f budget (q.most f) found.head found.table
   pub bounded : IfSome found.bound (IsBound f)
@@ -24,7 +24,7 @@ pub record IsTrueOf (q : Searcher) (f : Problem) (budget : ℕ) (found : Found) 
 pub record TellsFound (q : Searcher) (f : Problem) (budget : ℕ) (found : Found) (told : LogTold) : Type 0 where
   pub whole : told.behind ≡ []
   pub written : IsWritten q f budget told.lines
-  pub shows : Shows f None budget found.head found.table found.bound told.lines
+  pub shows : ShowsHead f None budget found.head found.table found.bound told.lines
 
 -- lines of the search, and a part of the next one
 pub record TellsCut (q : Searcher) (f : Problem) (budget : ℕ) (told : LogTold) : Type 0 where
@@ -33,7 +33,7 @@ pub record TellsCut (q : Searcher) (f : Problem) (budget : ℕ) (told : LogTold)
 
 -- what a search leaves: what was found, the log not having failed; or a log that failed
 abbrev pub LogLeaves : Searcher → Problem → ℕ → LogModel → LogModel → Option Found → Type 0
-LogLeaves q f budget old new (Some found) = (new.faults ≡ old.faults) × IsTrueOf q f budget found × WhereTold new (TellsFound q f budget found)
+LogLeaves q f budget old new (Some found) = (new.faults ≡ old.faults) × FoundIsTrue q f budget found × WhereTold new (TellsFound q f budget found)
 LogLeaves q f budget old new None = Rose old.faults new.faults × WhereTold new (TellsCut q f budget)
 
 pub record SearchMeets (q : Searcher) (f : Problem) (budget : ℕ) (old : LogModel) (found : Option Found) (new : LogModel) : Type 0 where
@@ -48,7 +48,7 @@ SearchesOn q f budget old found new = SearchMeets q f budget (log_under q.versio
 
 -- what is on Proof after a search: a certificate that shows what was found; or what a failed make or write leaves
 abbrev pub SearchLeaves : Searcher → Problem → ℕ → DeskState → DeskState → Option Found → Type 0
-SearchLeaves q f budget old new (Some found) = (new.write_faults ≡ old.write_faults) × IsTrueOf q f budget found × IfSome (new.trays tray.Proof).sent (IsCertificate q f None budget found.head found.table found.bound)
+SearchLeaves q f budget old new (Some found) = (new.write_faults ≡ old.write_faults) × FoundIsTrue q f budget found × IfSome (new.trays tray.Proof).sent (IsCertificate q f None budget found.head found.table found.bound)
 SearchLeaves q f budget old new None = Rose old.write_faults new.write_faults × IsCutShort q f budget new
 
 -- Proof was made under its name, and a search wrote to it

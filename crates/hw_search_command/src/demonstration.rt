@@ -2,7 +2,7 @@
 
 ghost use Rattle.std.specs.Prelude.{◌≡◌, ◌≤◌, ◌∷◌, ◌++◌, [], All, IfOk, List, None, length, true};
 ghost use Rattle.hw_cert.specs.Logs.{memory_log};
-ghost use Rattle.hw_check.specs.Follows.{Follows};
+ghost use Rattle.hw_check.specs.Follows.{CheckerFollows};
 ghost use Rattle.hw_desk.specs.State.{IsNewDesk};
 ghost use Rattle.hw_flat.specs.Demonstration.{demonstration};
 ghost use Rattle.hw_lines.specs.Lemmas.{lemmas_of};
@@ -156,7 +156,7 @@ fn check_one<'f>(checker: Checker<'f>, line: &Line) -> Result<Checker<'f>, NoMem
     requires fits { LineFits checker.problem line.now }
     requires valid { kept_refusal checker.problem checker.kept line.now ≡ None }
     ensures problem { IfOk result (λ c. c.problem ≡ checker.entry.problem) }
-    ensures followed { (before : List CertLine) → Follows checker.entry before → IfOk result (λ c. Follows c (before ++ line.now ∷ [])) }
+    ensures followed { (before : List CertLine) → CheckerFollows checker.entry before → IfOk result (λ c. CheckerFollows c (before ++ line.now ∷ [])) }
 {
     match checker.borrowed_line(line) {
         Ok(followed) => Ok(followed),

@@ -1,7 +1,7 @@
 //! The order in which searchers take turns, and the word that it is read from.
 
 ghost use Rattle.std.specs.Prelude.{◌≡◌, ◌≤◌, ◌∷◌, [], length};
-ghost use Rattle.hw_search_command.specs.Orders.{order_read, rule_of};
+ghost use Rattle.hw_search_command.specs.Orders.{order_read, rule_of_letter};
 
 use hw_search::Branching;
 use std::marker::Model;
@@ -20,22 +20,22 @@ pub struct Order {
 impl Model for Order {
     ghost use Rattle.std.specs.Prelude.{List, take, length};
     ghost use Rattle.hw_progress.specs.declared.outcome.Branching.{Branching as BranchingOf};
-    ghost use Rattle.hw_search_command.specs.Orders.{IsOrder, count_back, filled, rules_back};
+    ghost use Rattle.hw_search_command.specs.Orders.{IsTurnOrder, count_back, filled_order, rules_back};
 
     ghost Value = { List BranchingOf };
 
     ghost view = { λ o. take o.count o.rules };
 
-    ghost invariant = { λ o. IsOrder o.rules o.count };
+    ghost invariant = { λ o. IsTurnOrder o.rules o.count };
 
-    ghost inverse = { λ turns. record { rules = filled turns; count = length turns } };
+    ghost inverse = { λ turns. record { rules = filled_order turns; count = length turns } };
 
     ghost inverse_ok = { λ o h i. record { rules = rules_back o.rules o.count h i; count = count_back o.rules o.count h i } };
 }
 
 /// The branching rule of a letter.
 fn rule_of(letter: u8) -> Option<Branching>
-    ensures { result ≡ rule_of letter }
+    ensures { result ≡ rule_of_letter letter }
 {
     match letter {
         b'g' => Some(Branching::Greatest),

@@ -6,7 +6,7 @@ ghost use Rattle.hw_report.specs.Seen.{report_seen, table_seen};
 ghost use Rattle.hw_subject.specs.Meanings.{own_worth};
 ghost use Rattle.hw_subject.specs.Reading.{plan_in};
 ghost use Rattle.hw_search_command.specs.Certified.{own_bound};
-ghost use Rattle.hw_search_command.specs.Finding.{HasSlots, moved_told, own_head, report_of};
+ghost use Rattle.hw_search_command.specs.Finding.{PlanHasSlots, moved_told, own_head, report_of_finding};
 
 use crate::finding::Found;
 use hw_flat::Timetable;
@@ -49,7 +49,7 @@ fn own_bound(given: &Given, bound: Option<u64>) -> Option<u64>
 
 /// How many ships the timetable of a repair moves, and 0 where there is none.
 fn moved_ships(given: &Given, table: Option<&Timetable>) -> Option<u32>
-    requires { HasSlots (plan_in given.now.repair) (table_seen table) }
+    requires { PlanHasSlots (plan_in given.now.repair) (table_seen table) }
     ensures { result ≡ moved_told (plan_in given.now.repair) (table_seen table.entry) }
 {
     match (&given.repair, table) {
@@ -61,8 +61,8 @@ fn moved_ships(given: &Given, table: Option<&Timetable>) -> Option<u32>
 
 /// The report of what was found. If memory ran out, it has the best timetable so far.
 pub(crate) fn found_report<'a>(given: &'a Given, found: &'a Found) -> Report<'a>
-    requires { HasSlots (plan_in given.now.repair) found.now.table }
-    ensures { report_seen result ≡ report_of given.now found.now }
+    requires { PlanHasSlots (plan_in given.now.repair) found.now.table }
+    ensures { report_seen result ≡ report_of_finding given.now found.now }
 {
     let table = found.table.as_ref();
     Report::Solved {

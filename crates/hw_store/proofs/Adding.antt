@@ -7,7 +7,7 @@ use Rattle.hw_model.specs.Lits.{IsLitOf}
 use Rattle.hw_store.specs.declared.store.Stored.{Stored}
 use Rattle.hw_store.specs.declared.watching.Watch.{Watch}
 use Rattle.hw_store.specs.declared.watching.Watch.TheVariants.{Due}
-use Rattle.hw_store.specs.Stores.{Ascends, KeepsClauses}
+use Rattle.hw_store.specs.Stores.{StoredAscend, KeepsClauses}
 use Rattle.hw_store.specs.Numbering.{bucket_count}
 use Rattle.hw_store.specs.Watches.{WatchModel, WatchedModel, count_due, Watches, Listed, KeepsDue, KeepsBuckets, KeepsSeen, IsOneMore, KeepsWatches}
 use Rattle.hw_store.proofs.Holding.{keeps_more}
@@ -16,14 +16,14 @@ use Rattle.hw_store.proofs.Standing.{stand_more}
 use Rattle.hw_store.proofs.Seen.{seen_add}
 
 -- a number is at least its clause's place
-rank : (held : List Stored) (d : Stored) (i : ℕ) → Ascends held → i < length held → i ≤ (get_or held i d).number
+rank : (held : List Stored) (d : Stored) (i : ℕ) → StoredAscend held → i < length held → i ≤ (get_or held i d).number
 rank held d zero a lt = omega arith
 rank held d (suc i) a lt =
     let h = rank held d i a (omega (arith, lt)) in
     let up = a i (suc i) d (omega arith) lt in
     omega (arith, h, up)
 
-pub few_held : (held : List Stored) (id : ℕ) → Ascends held → All (λ (one : Stored). one.number < id) held → length held ≤ id
+pub few_held : (held : List Stored) (id : ℕ) → StoredAscend held → All (λ (one : Stored). one.number < id) held → length held ≤ id
 few_held held id a h = by (length held) refl
   where
     by : (n : ℕ) → n ≡ length held → length held ≤ id

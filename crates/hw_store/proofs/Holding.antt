@@ -5,9 +5,9 @@ use Rattle.std.proofs.lemmas.List.{get_or_append_left, get_or_push, get_or_defau
 use Rattle.std.proofs.lemmas.Bool.{cases_eq}
 use Rattle.hw_model.specs.Lits.{IsLitOf}
 use Rattle.hw_store.specs.declared.store.Stored.{Stored}
-use Rattle.hw_store.specs.Stores.{Ascends, KeepsClauses, IsClauseOf}
+use Rattle.hw_store.specs.Stores.{StoredAscend, KeepsClauses, IsClauseOf}
 
-pub ascends_more : (held : List Stored) (one : Stored) → Ascends held → All (λ (s : Stored). s.number < one.number) held → Ascends (held ++ one ∷ [])
+pub ascends_more : (held : List Stored) (one : Stored) → StoredAscend held → All (λ (s : Stored). s.number < one.number) held → StoredAscend (held ++ one ∷ [])
 ascends_more held one a h i j d lt lt2 = elim (cases_eq j (length held)) [
   | inl e ↦ (
       let left : i < length held = omega (arith, lt, e) in
@@ -39,7 +39,7 @@ below_or_above (suc k) (suc p) n = elim (below_or_above k p (λ e. n (ap suc e))
 ]
 
 -- the clause at a place is the only one of its number
-pub only_one : (held : List Stored) (place : ℕ) (one : Stored) → Ascends held → place < length held → one ≡ get_or held place one → IsClauseOf held one.number one.clause
+pub only_one : (held : List Stored) (place : ℕ) (one : Stored) → StoredAscend held → place < length held → one ≡ get_or held place one → IsClauseOf held one.number one.clause
 only_one held place one a lt e = (
   (place, lt, sym e),
   λ k d inside same. elim (cases_eq k place) [
@@ -77,13 +77,13 @@ AllAbove held id n = (i : ℕ) (d : Stored) → n ≤ i → i < length held → 
 read_at : (held : List Stored) (m : ℕ) (one : Stored) → m < length held → one ≡ get_or held m one → (d : Stored) → (get_or held m d).number ≡ one.number
 read_at held m one lt e d = ap (λ (s : Stored). s.number) (get_or_default held m d one lt ∙ sym e)
 
-pub below_half : (held : List Stored) (id m : ℕ) (one : Stored) → Ascends held → m < length held → one ≡ get_or held m one → one.number < id → AllBelow held id (m + 1)
+pub below_half : (held : List Stored) (id m : ℕ) (one : Stored) → StoredAscend held → m < length held → one ≡ get_or held m one → one.number < id → AllBelow held id (m + 1)
 below_half held id m one a lt e less i d lt2 inside = elim (cases_eq i m) [
   | inl q ↦ (let r = read_at held m one lt e d in subst (λ n. (get_or held n d).number < id) (sym q) (omega (arith, r, less)))
   | inr n ↦ (let r = read_at held m one lt e d in let up = a i m d (omega (arith, lt2, n)) lt in omega (arith, r, less, up))
 ]
 
-pub above_half : (held : List Stored) (id m : ℕ) (one : Stored) → Ascends held → m < length held → one ≡ get_or held m one → id < one.number → AllAbove held id m
+pub above_half : (held : List Stored) (id m : ℕ) (one : Stored) → StoredAscend held → m < length held → one ≡ get_or held m one → id < one.number → AllAbove held id m
 above_half held id m one a lt e more i d le inside = elim (cases_eq i m) [
   | inl q ↦ (let r = read_at held m one lt e d in subst (λ n. id < (get_or held n d).number) (sym q) (omega (arith, r, more)))
   | inr n ↦ (let r = read_at held m one lt e d in let up = a m i d (omega (arith, le, n)) inside in omega (arith, r, more, up))

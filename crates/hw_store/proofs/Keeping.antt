@@ -3,6 +3,7 @@ use Rattle.std.proofs.Common.{◌≡◌, ◌≢◌, ℕ, ◌<◌, ◌≤◌, ◌
 use Rattle.std.proofs.lemmas.List.{get_or_default}
 use Rattle.std.proofs.lemmas.List.Elements.{All-contains, All-set, Contains-append_left, Contains-append_right}
 use Rattle.std.proofs.lemmas.Bool.{cases_eq, eq-eqb, or_right}
+use Rattle.hw_lemmas.proofs.Truths.{neither}
 use Rattle.hw_model.specs.declared.lit.Lit.{Lit}
 use Rattle.hw_model.specs.declared.lit.LitTruth.TheVariants.{False, Free}
 use Rattle.hw_model.specs.Lits.{IsLitOf}
@@ -15,7 +16,7 @@ use Rattle.hw_store.specs.declared.watching.Watch.TheVariants.{Due, One, Two}
 use Rattle.hw_store.specs.Looks.{StandsBefore}
 use Rattle.hw_store.specs.Numbering.{bucket, bucket_count, hits, HitsWithin}
 use Rattle.hw_store.specs.Stores.{KeepsClauses}
-use Rattle.hw_store.specs.Watches.{WatchModel, WatchedModel, is_hit, is_on, IsWatchOf, Watches, Listed, Shows, ShowsAll, DropsSome, Grows, SiftsOne, MissedRun, KeepsBuckets, KeepsSeen, IsOpen, Marks, GetsWatch, KeepsWatches, WatchReady}
+use Rattle.hw_store.specs.Watches.{WatchModel, WatchedModel, is_hit, is_on, IsWatchOf, Watches, Listed, Shows, ShowsAll, DropsSome, GainsPlace, SiftsOne, MissedRun, KeepsBuckets, KeepsSeen, IsOpenWatch, MarksDue, GetsWatch, KeepsWatches, WatchReady}
 use Rattle.hw_store.proofs.Views.{sure_quiet, two_quiet}
 use Rattle.hw_store.proofs.Drops.{dropped}
 use Rattle.hw_store.proofs.Cuts.{cut_sure, cut_open}
@@ -72,11 +73,6 @@ missed ships slots lists room run i lit m true within still c f e =
     let at = within m e still in
     f (bucket ships slots m) at.0 at.1 c
 
-neither : (a b : Bool) → (a || b) ≡ false → (a ≡ false) × (b ≡ false)
-neither false false e = (refl, refl)
-neither false true e = absurd cc
-neither true b e = absurd cc
-
 cut_shows : (ships slots : ℕ) (lists : List (List ℕ)) (room : RoomModel) (run : ℕ × ℕ) (lit : Lit) (i : ℕ) (w : Watch) → IsRoom room → room.ships ≡ ships → IsLitOf ships lit → truth room lit ≡ Free → IsWatchOf ships w → HitsWithin ships slots room lit run → Listed ships slots lists i w → ((n : ℕ) → run.0 ≤ n → n < run.1 → Contains (get_or lists n []) i → is_hit lit w ≡ false) → Shows room w → Shows (cut lit room) w
 cut_shows ships slots lists room run lit i Due is e of free fits within listed f h = tt
 cut_shows ships slots lists room run lit i (One m) is e of free fits within listed f h = cut_sure room lit m is (subst (λ n. IsLitOf n lit) (sym e) of) (subst (λ n. IsLitOf n m) (sym e) fits) free h
@@ -101,7 +97,7 @@ marked_shows s room run lit ws k r is of free d within marked i e lt = subst (Sh
 pub numbers : (P : ℕ → ℕ → Type 0) (a b c d : ℕ) → c ≡ a → d ≡ b → P a b → P c d
 numbers P a b c d e f h = subst (λ n. P n d) (sym e) (subst (P a) (sym f) h)
 
-pub keeps_marks : (s : WatchModel) (w : WatchedModel) → KeepsWatches s → Marks s.watched w → KeepsWatches (record s { watched = w })
+pub keeps_marks : (s : WatchModel) (w : WatchedModel) → KeepsWatches s → MarksDue s.watched w → KeepsWatches (record s { watched = w })
 keeps_marks s w k m =
     let d = m.drops in
     let by : (P : ℕ → ℕ → Type 0) → P s.watched.ships s.watched.slots → P w.ships w.slots = λ P h. numbers P s.watched.ships s.watched.slots w.ships w.slots m.same_ships m.same_slots h in
@@ -158,7 +154,7 @@ listed_sifts ships slots at i cutting ws old new (Two a b) f e h = (
 )
 
 -- a list was gone through after a cut
-pub keeps_sifts : (s : WatchModel) (at : ℕ) (cutting : Lit) (w : WatchedModel) (lists : List (List ℕ)) → KeepsWatches s → Marks s.watched w → SiftsOne s.watched.ships s.watched.slots at cutting w.watches s.lists lists → KeepsBuckets lists w.stands → KeepsWatches (record s { watched = w; lists = lists })
+pub keeps_sifts : (s : WatchModel) (at : ℕ) (cutting : Lit) (w : WatchedModel) (lists : List (List ℕ)) → KeepsWatches s → MarksDue s.watched w → SiftsOne s.watched.ships s.watched.slots at cutting w.watches s.lists lists → KeepsBuckets lists w.stands → KeepsWatches (record s { watched = w; lists = lists })
 keeps_sifts s at cutting w lists k m f known =
     let h = keeps_marks s w k m in
     let g : SiftsOne w.ships w.slots at cutting w.watches s.lists lists = numbers (λ ships slots. SiftsOne ships slots at cutting w.watches s.lists lists) s.watched.ships s.watched.slots w.ships w.slots m.same_ships m.same_slots f in
@@ -173,13 +169,13 @@ keeps_sifts s at cutting w lists k m f known =
       seen = h.seen;
     }
 
-listed_more : (ships slots place i : ℕ) (old new : List (List ℕ)) (w : Watch) → Grows place old new → Listed ships slots old i w → Listed ships slots new i w
+listed_more : (ships slots place i : ℕ) (old new : List (List ℕ)) (w : Watch) → GainsPlace place old new → Listed ships slots old i w → Listed ships slots new i w
 listed_more ships slots place i old new Due g h = tt
 listed_more ships slots place i old new (One lit) g h = tt
 listed_more ships slots place i old new (Two a b) g h = (g.kept (bucket ships slots a) i h.0, g.kept (bucket ships slots b) i h.1)
 
 -- a place was put into a list
-pub keeps_lists : (s : WatchModel) (place : ℕ) (lists : List (List ℕ)) → KeepsWatches s → Grows place s.lists lists → place < length s.watched.watches → KeepsWatches (record s { lists = lists })
+pub keeps_lists : (s : WatchModel) (place : ℕ) (lists : List (List ℕ)) → KeepsWatches s → GainsPlace place s.lists lists → place < length s.watched.watches → KeepsWatches (record s { lists = lists })
 keeps_lists s place lists k g lt = record {
   clauses = k.clauses;
   each_clause = k.each_clause;
@@ -201,7 +197,7 @@ at_set P ws place i watch lt here there = elim (cases_eq i place) [
 ]
 
 -- a clause got a watch
-pub keeps_watch : (s : WatchModel) (place : ℕ) (watch : Watch) (w : WatchedModel) → KeepsWatches s → place < length s.watched.watches → GetsWatch place watch s.watched w → ((d : Stored) → Watches (get_or s.held place d).clause watch) → Listed s.watched.ships s.watched.slots s.lists place watch → KeepsBuckets s.lists w.stands → IsOpen s.seen watch → KeepsWatches (record s { watched = w })
+pub keeps_watch : (s : WatchModel) (place : ℕ) (watch : Watch) (w : WatchedModel) → KeepsWatches s → place < length s.watched.watches → GetsWatch place watch s.watched w → ((d : Stored) → Watches (get_or s.held place d).clause watch) → Listed s.watched.ships s.watched.slots s.lists place watch → KeepsBuckets s.lists w.stands → IsOpenWatch s.seen watch → KeepsWatches (record s { watched = w })
 keeps_watch s place watch w k lt g stands listed known still =
     let by : (P : ℕ → ℕ → Type 0) → P s.watched.ships s.watched.slots → P w.ships w.slots = λ P h. numbers P s.watched.ships s.watched.slots w.ships w.slots g.same_ships g.same_slots h in
     let long : length w.watches ≡ length s.watched.watches = ap length g.watches ∙ length-set s.watched.watches place watch in

@@ -1,13 +1,13 @@
 -- What a cut, and a look at the watches, leave of what is watched.
 use Rattle.std.proofs.Common.{◌≡◌, ℕ, ◌<◌, List, [], length, get_or, sym, ◌∙◌, subst, All, Contains}
 use Rattle.std.proofs.lemmas.List.{get_or_default}
-use Rattle.hw_store.specs.Watches.{WatchedModel, WatchModel, Marks, KeepsWatches}
+use Rattle.hw_store.specs.Watches.{WatchedModel, WatchModel, MarksDue, KeepsWatches}
 use Rattle.hw_store.specs.Numbering.{bucket_count}
 use Rattle.hw_store.proofs.Keeping.{numbers}
 use Rattle.hw_store.proofs.Sifting.{drops_twice}
 use Rattle.hw_store.proofs.Standing.{forgets_twice}
 
-pub marks_twice : (a b c : WatchedModel) → Marks a b → Marks b c → Marks a c
+pub marks_twice : (a b c : WatchedModel) → MarksDue a b → MarksDue b c → MarksDue a c
 marks_twice a b c m n = record {
   same_ships = n.same_ships ∙ m.same_ships;
   same_slots = n.same_slots ∙ m.same_slots;

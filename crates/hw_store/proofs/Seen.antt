@@ -5,22 +5,22 @@ use Rattle.std.proofs.lemmas.Bool.{cases_eq, cases_lt}
 use Rattle.hw_model.specs.Rooms.{RoomModel, IsRoom, RoomWithin}
 use Rattle.hw_store.specs.declared.watching.Watch.{Watch}
 use Rattle.hw_store.specs.declared.watching.Watch.TheVariants.{Due, One, Two}
-use Rattle.hw_store.specs.Watches.{is_one, IsWatchOf, Shows, ShowsAll, ShowsOnes, IsOpen, DropsSome, KeepsSeen}
+use Rattle.hw_store.specs.Watches.{is_one, IsWatchOf, Shows, ShowsAll, ShowsOnes, IsOpenWatch, DropsSome, KeepsSeen}
 use Rattle.hw_store.proofs.Drops.{dropped}
 use Rattle.hw_store.proofs.Cuts.{open_around}
 use Rattle.hw_store.proofs.Ones.{due_pushed}
 
-shows_open : (room : RoomModel) (w : Watch) → Shows room w → IsOpen room w
+shows_open : (room : RoomModel) (w : Watch) → Shows room w → IsOpenWatch room w
 shows_open room Due h = tt
 shows_open room (One lit) h = tt
 shows_open room (Two a b) h = h
 
-open_shows : (room : RoomModel) (w : Watch) → (is_one w ≡ true → Shows room w) → IsOpen room w → Shows room w
+open_shows : (room : RoomModel) (w : Watch) → (is_one w ≡ true → Shows room w) → IsOpenWatch room w → Shows room w
 open_shows room Due f h = tt
 open_shows room (One lit) f h = f refl
 open_shows room (Two a b) f h = h
 
-watch_around : (inner outer : RoomModel) (w : Watch) → IsRoom inner → inner.ships ≡ outer.ships → RoomWithin inner outer → IsWatchOf outer.ships w → IsOpen inner w → IsOpen outer w
+watch_around : (inner outer : RoomModel) (w : Watch) → IsRoom inner → inner.ships ≡ outer.ships → RoomWithin inner outer → IsWatchOf outer.ships w → IsOpenWatch inner w → IsOpenWatch outer w
 watch_around inner outer Due is e h fits o = tt
 watch_around inner outer (One lit) is e h fits o = tt
 watch_around inner outer (Two a b) is e h fits o = (open_around inner outer a is e h fits.0 o.0, open_around inner outer b is e h fits.1 o.1)
@@ -28,17 +28,17 @@ watch_around inner outer (Two a b) is e h fits o = (open_around inner outer a is
 -- ---- the room that was seen
 
 pub seen_drop : (ships : ℕ) (seen : RoomModel) (w v : List Watch) → KeepsSeen ships seen w → DropsSome w v → KeepsSeen ships seen v
-seen_drop ships seen w v k d = record { same_ships = k.same_ships; open_all = λ i. dropped (IsOpen seen) w v i d tt (k.open_all i) }
+seen_drop ships seen w v k d = record { same_ships = k.same_ships; open_all = λ i. dropped (IsOpenWatch seen) w v i d tt (k.open_all i) }
 
 pub seen_add : (ships : ℕ) (seen : RoomModel) (ws : List Watch) → KeepsSeen ships seen ws → KeepsSeen ships seen (ws ++ Due ∷ [])
-seen_add ships seen ws k = record { same_ships = k.same_ships; open_all = λ i. subst (IsOpen seen) (sym (due_pushed ws i)) (k.open_all i) }
+seen_add ships seen ws k = record { same_ships = k.same_ships; open_all = λ i. subst (IsOpenWatch seen) (sym (due_pushed ws i)) (k.open_all i) }
 
-pub seen_set : (ships : ℕ) (seen : RoomModel) (ws : List Watch) (place : ℕ) (watch : Watch) → KeepsSeen ships seen ws → place < length ws → IsOpen seen watch → KeepsSeen ships seen (set ws place watch)
+pub seen_set : (ships : ℕ) (seen : RoomModel) (ws : List Watch) (place : ℕ) (watch : Watch) → KeepsSeen ships seen ws → place < length ws → IsOpenWatch seen watch → KeepsSeen ships seen (set ws place watch)
 seen_set ships seen ws place watch k lt h = record {
   same_ships = k.same_ships;
   open_all = λ i. elim (cases_eq i place) [
-    | inl q ↦ subst (IsOpen seen) (sym (ap (λ n. get_or (set ws place watch) n Due) q ∙ get_or-set_same ws place watch Due lt)) h
-    | inr n ↦ subst (IsOpen seen) (sym (get_or-set_other ws place i watch Due n)) (k.open_all i)
+    | inl q ↦ subst (IsOpenWatch seen) (sym (ap (λ n. get_or (set ws place watch) n Due) q ∙ get_or-set_same ws place watch Due lt)) h
+    | inr n ↦ subst (IsOpenWatch seen) (sym (get_or-set_other ws place i watch Due n)) (k.open_all i)
   ];
 }
 
@@ -48,7 +48,7 @@ seen_now ships room ws e h = record {
   same_ships = e;
   open_all = λ i. elim (cases_lt i (length ws)) [
     | inl lt ↦ shows_open room (get_or ws i Due) (h i Due lt)
-    | inr past ↦ subst (IsOpen room) (sym (get_or_past ws i Due past)) tt
+    | inr past ↦ subst (IsOpenWatch room) (sym (get_or_past ws i Due past)) tt
   ];
 }
 

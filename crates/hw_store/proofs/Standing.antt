@@ -2,8 +2,9 @@
 use Rattle.std.proofs.Common.{◌≡◌, ◌≢◌, ◌⊎◌, ℕ, zero, suc, ◌+◌, ◌<◌, ◌≤◌, ◌==◌, ◌||◌, Bool, true, false, Some, List, [], ◌∷◌, ◌++◌, length, take, get_or, set, refl, sym, ap, ◌∙◌, subst, arith, Contains, inl, inr, get_or-set_same, get_or-set_other, get_or-take, length-take-le}
 use Rattle.std.proofs.lemmas.List.{get_or_default}
 use Rattle.std.proofs.lemmas.Bool.{cases_eq, eqb-true}
+use Rattle.hw_lemmas.proofs.Truths.{not_true}
 use Rattle.hw_store.specs.declared.watching.Buckets.{Buckets}
-use Rattle.hw_store.specs.Watches.{is_among, nowhere, StandsAt, KeepsBuckets, Forgets, Leaves, Grows}
+use Rattle.hw_store.specs.Watches.{is_among, nowhere, StandsInBuckets, KeepsBuckets, Forgets, Leaves, GainsPlace}
 
 false_true : false ≡ true → ⊥
 false_true e = cc
@@ -23,16 +24,16 @@ forgets_twice a b c f g = record { same_length = g.same_length ∙ f.same_length
 pub forgotten : (lists : List (List ℕ)) (a b : List Buckets) → Forgets a b → KeepsBuckets lists a → KeepsBuckets lists b
 forgotten lists a b f k i n e = k i n (f.only i n e)
 
-pub grown : (place : ℕ) (old new : List (List ℕ)) (stands : List Buckets) → Grows place old new → KeepsBuckets old stands → KeepsBuckets new stands
+pub grown : (place : ℕ) (old new : List (List ℕ)) (stands : List Buckets) → GainsPlace place old new → KeepsBuckets old stands → KeepsBuckets new stands
 grown place old new stands g k i n e = g.kept n i (k i n e)
 
-pub both_stand : (lists : List (List ℕ)) (place a b : ℕ) → Contains (get_or lists a []) place → Contains (get_or lists b []) place → StandsAt lists place (record { first = Some a; second = Some b })
+pub both_stand : (lists : List (List ℕ)) (place a b : ℕ) → Contains (get_or lists a []) place → Contains (get_or lists b []) place → StandsInBuckets lists place (record { first = Some a; second = Some b })
 both_stand lists place a b x y n e = elim (either (a == n) (b == n) e) [
   | inl q ↦ subst (λ m. Contains (get_or lists m []) place) (eqb-true a n q) x
   | inr q ↦ subst (λ m. Contains (get_or lists m []) place) (eqb-true b n q) y
 ]
 
-pub stand_at : (lists : List (List ℕ)) (stands : List Buckets) (place : ℕ) (buckets : Buckets) → place < length stands → KeepsBuckets lists stands → StandsAt lists place buckets → KeepsBuckets lists (set stands place buckets)
+pub stand_at : (lists : List (List ℕ)) (stands : List Buckets) (place : ℕ) (buckets : Buckets) → place < length stands → KeepsBuckets lists stands → StandsInBuckets lists place buckets → KeepsBuckets lists (set stands place buckets)
 stand_at lists stands place buckets lt k h i n e = elim (cases_eq i place) [
   | inl q ↦ subst (λ m. Contains (get_or lists n []) m) (sym q) (h n (subst (λ x. is_among x n ≡ true) (ap (λ m. get_or (set stands place buckets) m nowhere) q ∙ get_or-set_same stands place buckets nowhere lt) e))
   | inr q ↦ k i n (subst (λ x. is_among x n ≡ true) (get_or-set_other stands place i buckets nowhere q) e)
@@ -63,10 +64,6 @@ leave_keeps bucket stands old now at kept within h i lt = elim (cases_eq i at) [
     | inr g ↦ inr g
   ]
 ]
-
-not_true : (b : Bool) → (b ≡ true → ⊥) → b ≡ false
-not_true true f = absurd (f refl)
-not_true false f = refl
 
 gone_still : (a b : List Buckets) (p bucket : ℕ) → Forgets a b → is_among (get_or a p nowhere) bucket ≡ false → is_among (get_or b p nowhere) bucket ≡ false
 gone_still a b p bucket f g = not_true (is_among (get_or b p nowhere) bucket) (λ e. false_true (sym g ∙ f.only p bucket e))

@@ -6,7 +6,7 @@ use Rattle.hw_model.specs.declared.lit.Lit.{Lit}
 use Rattle.hw_store.specs.declared.watching.Buckets.{Buckets}
 use Rattle.hw_store.specs.declared.watching.Watch.{Watch}
 use Rattle.hw_store.specs.declared.watching.Watch.TheVariants.{Due, One, Two}
-use Rattle.hw_store.specs.Watches.{WatchedModel, IsWatchOf, is_one, KeepsDue, DropsSome, OnesStay, KeepsWatched, IsLast, nowhere}
+use Rattle.hw_store.specs.Watches.{WatchedModel, IsWatchOf, is_one, KeepsDue, DropsSome, OnesStay, KeepsWatched, IsLastDue, nowhere}
 use Rattle.hw_store.proofs.Drops.{drops_fit}
 use Rattle.hw_store.proofs.Ones.{ones_drop, ones_add, ones_one, ones_other, last_not_one}
 use Rattle.hw_store.proofs.Adding.{due_push}
@@ -35,11 +35,11 @@ keeps_one_more s ones room many room' many' k long_due wide small =
     }
 
 -- the next due clause has no watched literal
-pub last_is_due : (s : WatchedModel) (ones : List ℕ) (room many place : ℕ) → KeepsWatched s ones room many → IsLast s place → is_one (get_or s.watches place Due) ≡ false
+pub last_is_due : (s : WatchedModel) (ones : List ℕ) (room many place : ℕ) → KeepsWatched s ones room many → IsLastDue s place → is_one (get_or s.watches place Due) ≡ false
 last_is_due s ones room many place k l = last_not_one s.watches s.due room place place k.due l.some l.last
 
 -- it got one watched literal
-pub keeps_one : (s : WatchedModel) (ones : List ℕ) (room many room' place : ℕ) (lit : Lit) (due : List ℕ) → KeepsWatched s ones room many → IsLast s place → IsWatchOf s.ships (One lit) → KeepsDue (set s.watches place (One lit)) due room' → KeepsWatched (record s { watches = set s.watches place (One lit); due = due }) (ones ++ place ∷ []) room' many
+pub keeps_one : (s : WatchedModel) (ones : List ℕ) (room many room' place : ℕ) (lit : Lit) (due : List ℕ) → KeepsWatched s ones room many → IsLastDue s place → IsWatchOf s.ships (One lit) → KeepsDue (set s.watches place (One lit)) due room' → KeepsWatched (record s { watches = set s.watches place (One lit); due = due }) (ones ++ place ∷ []) room' many
 keeps_one s ones room many room' place lit due k l fits q =
     let long = length-set s.watches place (One lit) in
     record {
@@ -51,7 +51,7 @@ keeps_one s ones room many room' place lit due k l fits q =
     }
 
 -- it got two
-pub keeps_two : (s : WatchedModel) (ones : List ℕ) (room many room' place : ℕ) (a b : Lit) (buckets : Buckets) (due : List ℕ) → KeepsWatched s ones room many → IsLast s place → IsWatchOf s.ships (Two a b) → KeepsDue (set s.watches place (Two a b)) due room'
+pub keeps_two : (s : WatchedModel) (ones : List ℕ) (room many room' place : ℕ) (a b : Lit) (buckets : Buckets) (due : List ℕ) → KeepsWatched s ones room many → IsLastDue s place → IsWatchOf s.ships (Two a b) → KeepsDue (set s.watches place (Two a b)) due room'
     → KeepsWatched (record s { watches = set s.watches place (Two a b); stands = set s.stands place buckets; due = due }) ones room' many
 keeps_two s ones room many room' place a b buckets due k l fits q =
     let long = length-set s.watches place (Two a b) in

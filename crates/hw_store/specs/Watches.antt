@@ -12,7 +12,7 @@ use Rattle.hw_store.specs.declared.watching.Watch.TheVariants.{Due, One, Two}
 use Rattle.hw_store.specs.Looks.{StandsBefore}
 use Rattle.hw_store.specs.declared.watch.Next.{Next}
 use Rattle.hw_store.specs.declared.watch.Next.TheVariants as nexts
-use Rattle.hw_store.specs.Stores.{KeepsClauses, Finds}
+use Rattle.hw_store.specs.Stores.{KeepsClauses, FindsStored}
 use Rattle.hw_store.specs.Numbering.{bucket, bucket_count, hits}
 
 -- what is watched of each clause: `watches` and `stands` have an entry for each clause, `due` has the places of the due clauses, the next one last
@@ -102,10 +102,10 @@ abbrev pub StayShown : RoomModel → List Watch → List Watch → Type 0
 StayShown room old new = (i : ℕ) → Shows room (get_or old i Due) → get_or new i Due ≡ get_or old i Due
 
 -- neither of two watched literals is False
-abbrev pub IsOpen : RoomModel → Watch → Type 0
-IsOpen room Due = ⊤
-IsOpen room (One lit) = ⊤
-IsOpen room (Two first second) = (truth room first ≢ False) × (truth room second ≢ False)
+abbrev pub IsOpenWatch : RoomModel → Watch → Type 0
+IsOpenWatch room Due = ⊤
+IsOpenWatch room (One lit) = ⊤
+IsOpenWatch room (Two first second) = (truth room first ≢ False) × (truth room second ≢ False)
 
 -- ---- what is kept
 
@@ -126,7 +126,7 @@ pub record KeepsOnes (watches : List Watch) (ones : List ℕ) : Type 0 where
 -- in the room that was seen neither of two watched literals is False
 pub record KeepsSeen (ships : ℕ) (seen : RoomModel) (watches : List Watch) : Type 0 where
   pub same_ships : seen.ships ≡ ships
-  pub open_all : (i : ℕ) → IsOpen seen (get_or watches i Due)
+  pub open_all : (i : ℕ) → IsOpenWatch seen (get_or watches i Due)
 
 -- each watch stays or becomes Due
 pub record DropsSome (old new : List Watch) : Type 0 where
@@ -154,7 +154,7 @@ abbrev pub MissedRun : ℕ → ℕ → Lit → List Watch → List (List ℕ) �
 MissedRun first end cutting ws lists = (n p : ℕ) → first ≤ n → n < end → Contains (get_or lists n []) p → is_hit cutting (get_or ws p Due) ≡ false
 
 -- the lists gain this place alone, and lose nothing
-pub record Grows (place : ℕ) (old new : List (List ℕ)) : Type 0 where
+pub record GainsPlace (place : ℕ) (old new : List (List ℕ)) : Type 0 where
   pub same_length : length new ≡ length old
   pub kept : (s p : ℕ) → Contains (get_or old s []) p → Contains (get_or new s []) p
   pub only : (s p : ℕ) → Contains (get_or new s []) p → Contains (get_or old s []) p ⊎ (p ≡ place)
@@ -176,12 +176,12 @@ abbrev pub nowhere : Buckets
 nowhere = record { first = None; second = None }
 
 -- the place is in the lists of these buckets
-abbrev pub StandsAt : List (List ℕ) → ℕ → Buckets → Type 0
-StandsAt lists place buckets = (n : ℕ) → is_among buckets n ≡ true → Contains (get_or lists n []) place
+abbrev pub StandsInBuckets : List (List ℕ) → ℕ → Buckets → Type 0
+StandsInBuckets lists place buckets = (n : ℕ) → is_among buckets n ≡ true → Contains (get_or lists n []) place
 
 -- the same for each clause
 abbrev pub KeepsBuckets : List (List ℕ) → List Buckets → Type 0
-KeepsBuckets lists stands = (i : ℕ) → StandsAt lists i (get_or stands i nowhere)
+KeepsBuckets lists stands = (i : ℕ) → StandsInBuckets lists i (get_or stands i nowhere)
 
 -- no bucket is added
 pub record Forgets (old new : List Buckets) : Type 0 where
@@ -214,14 +214,14 @@ pub record IsOneMore (old new : WatchedModel) : Type 0 where
   pub stands : new.stands ≡ old.stands ++ nowhere ∷ []
 
 -- some watches became Due, and some places are no longer known to stand where they stood
-pub record Marks (old new : WatchedModel) : Type 0 where
+pub record MarksDue (old new : WatchedModel) : Type 0 where
   pub same_ships : new.ships ≡ old.ships
   pub same_slots : new.slots ≡ old.slots
   pub drops : DropsSome old.watches new.watches
   pub forgets : Forgets old.stands new.stands
 
 -- this is the place of the next due clause
-pub record IsLast (s : WatchedModel) (place : ℕ) : Type 0 where
+pub record IsLastDue (s : WatchedModel) (place : ℕ) : Type 0 where
   pub inside : place < length s.watches
   pub beside : place < length s.stands
   pub some : 0 < length s.due
@@ -230,7 +230,7 @@ pub record IsLast (s : WatchedModel) (place : ℕ) : Type 0 where
 -- the place of the next due clause, or none if no clause is due
 abbrev pub IsNextDue : WatchedModel → Option ℕ → Type 0
 IsNextDue s None = (i : ℕ) → i < length s.watches → get_or s.watches i Due ≢ Due
-IsNextDue s (Some place) = IsLast s place
+IsNextDue s (Some place) = IsLastDue s place
 
 -- the next due clause got this watch
 pub record GetsWatch (place : ℕ) (watch : Watch) (old new : WatchedModel) : Type 0 where
@@ -268,7 +268,7 @@ WatchReady s room = (room.ships ≡ s.watched.ships) × ShowsAll room s.watched.
 
 -- a step is done, or fewer clauses are due
 abbrev pub NextIs : WatchModel → WatchModel → RoomModel → Next → Type 0
-NextIs old new room (nexts.Found found) = Finds old.held room found
+NextIs old new room (nexts.Found found) = FindsStored old.held room found
 NextIs old new room nexts.Went = length new.watched.due < length old.watched.due
 
 -- without clauses, and ready for every room

@@ -79,12 +79,12 @@ impl Store for ScanStore {
 }
 
 ghost use Rattle.hw_store.specs.Scans.{IsNewScan};
-ghost use Rattle.hw_store.specs.Stores.{Finds, IsNotHeld, IsClauseOf, Ascends, FitsShips};
+ghost use Rattle.hw_store.specs.Stores.{FindsStored, IsNotHeld, IsClauseOf, StoredAscend, FitsShips};
 
 // The first clause that isn't quiet.
 fn first_active(held: &[Stored], room: &Room) -> Held
     requires fits { FitsShips room.now.ships held.now }
-    ensures found { Finds held.now room.now result }
+    ensures found { FindsStored held.now room.now result }
 {
     for one in held {
         if !is_quiet(&one.clause, room) {
@@ -96,7 +96,7 @@ fn first_active(held: &[Stored], room: &Room) -> Held
 
 /// The clause of a number, by binary search.
 pub fn find(held: &[Stored], id: u32) -> Option<&Clause>
-    requires ascends { Ascends held.now }
+    requires ascends { StoredAscend held.now }
     ensures tells { MatchOption result (IsNotHeld held.now id) (λ clause. IsClauseOf held.now id clause.now) }
 {
     let mut low = 0;

@@ -5,8 +5,8 @@ ghost use Rattle.hw_model.specs.Rooms.{RoomModel};
 ghost use Rattle.hw_model.specs.Lits.{IsLitOf};
 ghost use Rattle.hw_store.specs.declared.store.Stored.{Stored as StoredOf};
 ghost use Rattle.hw_store.specs.Numbering.{bucket};
-ghost use Rattle.hw_store.specs.Watches.{WatchModel, WatchReady, SameClauses, IsNewWatch, NextIs, Watches, IsWatchOf, IsOpen};
-ghost use Rattle.hw_store.specs.Watches.{Grows, SiftsOne, MissedRun, Marks, IsLast, GetsWatch};
+ghost use Rattle.hw_store.specs.Watches.{WatchModel, WatchReady, SameClauses, IsNewWatch, NextIs, Watches, IsWatchOf, IsOpenWatch};
+ghost use Rattle.hw_store.specs.Watches.{GainsPlace, SiftsOne, MissedRun, MarksDue, IsLastDue, GetsWatch};
 
 use crate::buckets::BucketMap;
 use crate::looking::{Look, look_at};
@@ -103,10 +103,10 @@ impl WatchStore {
 
     // Watches two literals of the next due clause. If memory runs out, the clause is still due.
     fn watch_two(&mut self, place: u32, first: Lit, second: Lit) -> Result<(), NoMemory>
-        requires last { IsLast self.old.watched place }
+        requires last { IsLastDue self.old.watched place }
         requires watches { (d : StoredOf) → Watches (slice_index_or self.old.held place d).clause (Watch.Two first second) }
         requires fits { IsWatchOf self.old.watched.ships (Watch.Two first second) }
-        requires open { IsOpen self.old.seen (Watch.Two first second) }
+        requires open { IsOpenWatch self.old.seen (Watch.Two first second) }
         ensures same { SameClauses self.old self.new }
         ensures watch { OnOk result (GetsWatch place (Watch.Two first second) self.old.watched self.new.watched) }
         ensures still { OnErr result (self.new.watched ≡ self.old.watched) }
@@ -124,7 +124,7 @@ impl WatchStore {
         requires fits { IsLitOf self.old.watched.ships lit }
         ensures same { SameClauses self.old self.new }
         ensures watched { self.new.watched ≡ self.old.watched }
-        ensures grows { Grows place self.old.lists self.new.lists }
+        ensures grows { GainsPlace place self.old.lists self.new.lists }
         ensures value { IfOk result (λ at. at ≡ bucket self.old.watched.ships self.old.watched.slots lit) }
         ensures there { IfOk result (λ at. Contains (slice_index_or self.new.lists at []) place) }
     {
@@ -139,7 +139,7 @@ impl WatchStore {
     fn mark_run(&mut self, first: usize, end: usize, cutting: Lit)
         requires inside { end ≤ length self.old.lists }
         ensures same { SameClauses self.old self.new }
-        ensures marks { Marks self.old.watched self.new.watched }
+        ensures marks { MarksDue self.old.watched self.new.watched }
         ensures missed { MissedRun first end cutting self.new.watched.watches self.old.lists }
     {
         for bucket in first..end {
@@ -151,7 +151,7 @@ impl WatchStore {
     fn mark_at(&mut self, bucket: usize, cutting: Lit)
         requires inside { bucket < length self.old.lists }
         ensures same { SameClauses self.old self.new }
-        ensures marks { Marks self.old.watched self.new.watched }
+        ensures marks { MarksDue self.old.watched self.new.watched }
         ensures sifted { SiftsOne self.old.watched.ships self.old.watched.slots bucket cutting self.new.watched.watches self.old.lists self.new.lists }
     {
         self.lists[bucket].mark(&mut self.watched, bucket, cutting);

@@ -6,7 +6,7 @@ ghost use Rattle.hw_model.specs.Lits.{IsLitOf};
 ghost use Rattle.hw_store.specs.Numbering.{hits};
 ghost use Rattle.hw_store.specs.Watches.{is_hit, is_due, is_on, is_bucket, is_among, other_bucket, nowhere};
 ghost use Rattle.hw_store.specs.Watches.{IsWatchOf, Shows, ShowsAll, ShowsOnes, StayShown, KeepsDue, KeepsOnes, KeepsSeen};
-ghost use Rattle.hw_store.specs.Watches.{DropsSome, Sifted, Leaves, Marks, IsUnwatched, IsNextDue, IsLast, IsOneMore, GetsWatch};
+ghost use Rattle.hw_store.specs.Watches.{DropsSome, Sifted, Leaves, MarksDue, IsUnwatched, IsNextDue, IsLastDue, IsOneMore, GetsWatch};
 
 use crate::buckets::BucketMap;
 use crate::places::Places;
@@ -50,7 +50,7 @@ impl Places {
     /// the clauses that no longer watch the bucket. One pass over the list, without an allocation.
     pub fn mark(&mut self, watched: &mut Watched, bucket: usize, cutting: Lit)
         requires inside { All (λ place. place < length watched.old.watches) self.old }
-        ensures marks { Marks watched.old watched.new }
+        ensures marks { MarksDue watched.old watched.new }
         ensures sifted { Sifted watched.old.ships watched.old.slots bucket cutting watched.new.watches self.old self.new }
         ensures leaves { Leaves bucket watched.new.stands self.old self.new }
     {
@@ -147,7 +147,7 @@ impl Watched {
 
     /// Watches one literal of the next due clause, which is due no longer.
     pub fn watch_one(&mut self, place: u32, lit: Lit)
-        requires last { IsLast self.old place }
+        requires last { IsLastDue self.old place }
         requires fits { IsLitOf self.old.ships lit }
         ensures watch { GetsWatch place (Watch.One lit) self.old self.new }
         ensures stands { self.new.stands ≡ self.old.stands }
@@ -159,7 +159,7 @@ impl Watched {
     /// Watches two literals of the next due clause, which is due no longer and whose place stands in the
     /// lists of their buckets.
     pub fn watch_two(&mut self, place: u32, lits: (Lit, Lit), buckets: (usize, usize))
-        requires last { IsLast self.old place }
+        requires last { IsLastDue self.old place }
         requires fits { IsLitOf self.old.ships lits.0 × IsLitOf self.old.ships lits.1 }
         ensures watch { GetsWatch place (Watch.Two lits.0 lits.1) self.old self.new }
         ensures stands { self.new.stands ≡ slice_set self.old.stands place (record { first = Some buckets.0; second = Some buckets.1 }) }
@@ -181,7 +181,7 @@ impl Watched {
     pub fn recheck(&mut self, room: &Room, seen: &Room)
         requires fits { room.now.ships ≡ self.old.ships }
         requires seen { KeepsSeen self.old.ships seen.now self.old.watches }
-        ensures marks { Marks self.old self.new }
+        ensures marks { MarksDue self.old self.new }
         ensures shown { ShowsAll room.now self.new.watches }
     {
         recheck(room, seen, &mut self.ones, &mut self.watches, &mut self.due);
@@ -190,7 +190,7 @@ impl Watched {
     // Marks a clause as due if the cut made its watch False. Returns whether it still watches the bucket.
     fn stays(&mut self, bucket: usize, cutting: Lit, place: u32) -> bool
         requires inside { place < length self.old.watches }
-        ensures marks { Marks self.old self.new }
+        ensures marks { MarksDue self.old self.new }
         ensures missed { is_hit cutting (slice_index_or self.new.watches place Watch.Due) ≡ false }
         ensures value { result ≡ is_on self.old.ships self.old.slots bucket (slice_index_or self.new.watches place Watch.Due) }
     {
@@ -205,7 +205,7 @@ impl Watched {
     // Forgets that a clause's place stands in the list of a bucket.
     fn leave(&mut self, place: u32, bucket: usize)
         requires inside { place < length self.old.watches }
-        ensures marks { Marks self.old self.new }
+        ensures marks { MarksDue self.old self.new }
         ensures watches { self.new.watches ≡ self.old.watches }
         ensures gone { is_among (slice_index_or self.new.stands place nowhere) bucket ≡ false }
     {
@@ -221,7 +221,7 @@ impl Watched {
 // stay to the front. Returns how many stay.
 fn sift(places: &mut [u32], watched: &mut Watched, bucket: usize, cutting: Lit) -> usize
     requires inside { All (λ place. place < length watched.old.watches) places.old }
-    ensures marks { Marks watched.old watched.new }
+    ensures marks { MarksDue watched.old watched.new }
     ensures same { length places.new ≡ length places.old }
     ensures sifted { Sifted watched.old.ships watched.old.slots bucket cutting watched.new.watches places.old (take result places.new) }
     ensures leaves { Leaves bucket watched.new.stands places.old (take result places.new) }

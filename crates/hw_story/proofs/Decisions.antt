@@ -1,10 +1,11 @@
 -- The levels of a trail by their decisions, the event that made a literal False, and few clauses.
-use Rattle.std.proofs.Common.{◌≡◌, ℕ, zero, suc, ◌+◌, ◌-◌, ◌*◌, ◌/◌, ◌^◌, ◌<◌, ◌≤◌, Bool, true, false, List, [], ◌∷◌, Option, Some, None, length, take, get_or, map, All, IsSomeAnd, refl, sym, ap, ◌∙◌, subst, arith, inl, inr}
+use Rattle.std.proofs.Common.{◌≡◌, ℕ, zero, suc, ◌+◌, ◌-◌, ◌*◌, ◌/◌, ◌^◌, ◌<◌, ◌≤◌, true, List, [], ◌∷◌, Option, Some, None, length, take, get_or, map, All, IsSomeAnd, refl, sym, ap, ◌∙◌, subst, arith, inl, inr}
 use Rattle.std.specs.Prelude.{AllPairs}
 use Rattle.std.proofs.lemmas.Bool.{cases_Bool, cases_lt}
 use Rattle.std.proofs.lemmas.List.{length-map}
 use Rattle.std.proofs.lemmas.List.Elements.{All-map, All-weaker}
 use Rattle.std.proofs.lemmas.Option.{slice_get-get_or, same_Some}
+use Rattle.hw_lemmas.proofs.Truths.{clash}
 use Rattle.hw_model.specs.declared.lit.Lit.{Lit}
 use Rattle.hw_model.specs.declared.lit.LitTruth.TheVariants.{False}
 use Rattle.hw_model.specs.declared.shape.Shape.{Shape}
@@ -16,7 +17,7 @@ use Rattle.hw_laws.proofs.Searches.{first_found}
 use Rattle.hw_story.specs.declared.event.Event.{Event}
 use Rattle.hw_story.specs.declared.event.Why.{Why}
 use Rattle.hw_story.specs.Stories.{room_at}
-use Rattle.hw_story.specs.Trails.{TrailModel, trail_shape, reason, clause_of, room_before, room_of, level_after, Because, IsTrail}
+use Rattle.hw_story.specs.Trails.{TrailModel, trail_shape, reason, reason_clause, room_before, room_of, level_after, Because, IsTrail}
 use Rattle.hw_story.specs.Learning.{is_false, event_of, level_by, level_at}
 use Rattle.hw_story.specs.Laws.{HasLevels, IsEventOf}
 use Rattle.hw_story.specs.Bridge.{idle, event_at, story_of}
@@ -37,7 +38,7 @@ no_reason e h = ap (λ (o : Option Why). by o) h
   where
     by : Option Why → Option (List Lit)
     by None = None
-    by (Some why) = Some (clause_of why)
+    by (Some why) = Some (reason_clause why)
 
 -- the event that first came to a level is its decision
 first_at : (t : TrailModel) → IsTrail t → (level n : ℕ) → 1 ≤ level → n ≤ length t.events → level ≤ level_after (take n t.events) → (p : ℕ) × (p < n) × ((event_at t p).why ≡ None) × ((event_at t p).level ≡ level)
@@ -72,9 +73,6 @@ has_levels t is = record {
 }
 
 -- ---- the event that made a literal False
-
-clash : (b : Bool) → b ≡ true → b ≡ false → ⊥
-clash b y n = cc
 
 place_found : (t : TrailModel) → IsTrail t → (lit : Lit) → lit_fits (trail_shape t) lit ≡ true → (m : Made t lit) → IsEventOf t lit m.place
 place_found t is lit f m =

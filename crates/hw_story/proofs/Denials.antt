@@ -1,39 +1,32 @@
 -- What the denied room of a normal clause knows, and that it is a room.
-use Rattle.std.proofs.Common.{◌≡◌, ◌⊎◌, ℕ, ◌+◌, ◌-◌, ◌*◌, ◌<◌, ◌≤◌, Bool, true, false, List, [], ◌∷◌, Option, Some, None, replicate, get_or, refl, sym, ap, ◌∙◌, subst, arith, inl, inr, All, nat_lt, nat_le}
-use Rattle.std.proofs.lemmas.Bool.{and_parts, and_from, or_cases, or_left, or_right, cases_lt, leb-true, ltb-true, le-leb, lt-ltb}
-use Rattle.std.proofs.lemmas.List.{get_or-replicate, length-replicate, get_or_past}
-use Rattle.std.proofs.lemmas.List.Elements.{All-nil, All-cons}
+use Rattle.std.proofs.Common.{◌≡◌, ◌⊎◌, ℕ, ◌+◌, ◌-◌, ◌<◌, ◌≤◌, Bool, true, false, List, [], ◌∷◌, Option, Some, None, refl, sym, ap, ◌∙◌, subst, arith, inl, inr, nat_lt, nat_le}
+use Rattle.std.proofs.lemmas.Bool.{and_parts, and_from, or_cases, or_left, or_right, leb-true, ltb-true, le-leb, lt-ltb}
 use Rattle.hw_model.specs.declared.lit.Lit.{Lit}
 use Rattle.hw_model.specs.declared.lit.Lit.TheVariants.{AtOrAfter, Before, First, NotFirst}
 use Rattle.hw_model.specs.declared.order.Order.TheVariants as orders
 use Rattle.hw_model.specs.declared.shape.Shape.{Shape}
 use Rattle.hw_model.specs.Lits.{negation, lit_fits, keeps_form, is_earlier, place_of, first_bad_from, IsClause}
 use Rattle.hw_model.specs.Limits.{ShapeFits}
-use Rattle.hw_model.specs.Rooms.{RoomModel, IsRoomOf, low_of, high_of, order_of, whole_room}
+use Rattle.hw_model.specs.Rooms.{RoomModel, IsRoomOf, order_of, whole_room}
 use Rattle.hw_model.specs.Narrowing.{cut, denied_from, denied}
 use Rattle.hw_model.specs.RefutingComputed.{is_first, is_not_first}
 use Rattle.hw_model.specs.Lits.{IsLitOf}
 use Rattle.hw_laws.proofs.Ranges.{IsFull, other_order}
 use Rattle.hw_laws.proofs.Cuts.{NoOrderSet, full_cut, same_ships}
 use Rattle.hw_laws.proofs.Places.{earlier_trans, not_itself}
-use Rattle.hw_laws.proofs.Denials.{lit_of, negation_of, no_bad, whole_full}
+use Rattle.hw_laws.proofs.Denials.{lit_of, negation_of, no_bad, whole_full, whole_unset}
 use Rattle.hw_model.proofs.Kept.{whole_is}
+use Rattle.hw_laws.proofs.Denying.{whole_range}
 use Rattle.hw_story.specs.Sides.{implies}
 use Rattle.hw_story.specs.Replays.{Facts}
-use Rattle.hw_story.specs.Walks.{In, denying, Covered}
+use Rattle.hw_story.specs.Walks.{InClause, denying, CoveredByLemma}
 use Rattle.hw_story.specs.Knowing.{knows, always}
 use Rattle.hw_story.proofs.Ends.{denied_parts, denied_from as from_denying, denied_start}
 use Rattle.hw_story.proofs.Knowing.{after_true, after_from, before_true, before_from, pair_true, cut_in, cut_out}
 
 -- ---- the literals of a normal clause
 
-pub clause_lits : (shape : Shape) (clause : List Lit) (place : ℕ) (before : Option Lit) → first_bad_from shape place before clause ≡ None → All (IsLitOf shape.ships) clause
-clause_lits shape [] place before e = All-nil (IsLitOf shape.ships)
-clause_lits shape (lit ∷ more) place before e =
-    let good = no_bad (lit_fits shape lit) (keeps_form before lit) _ _ _ e in
-    All-cons (IsLitOf shape.ships) lit more (lit_of shape lit good.0) (clause_lits shape more (place + 1) (Some lit) good.2)
-
-pub in_fits : (shape : Shape) (clause : List Lit) (place : ℕ) (before : Option Lit) → first_bad_from shape place before clause ≡ None → (l : Lit) → In l clause → lit_fits shape l ≡ true
+pub in_fits : (shape : Shape) (clause : List Lit) (place : ℕ) (before : Option Lit) → first_bad_from shape place before clause ≡ None → (l : Lit) → InClause l clause → lit_fits shape l ≡ true
 in_fits shape [] place before e l i = absurd i
 in_fits shape (lit ∷ more) place before e l (inl same) = subst (λ (m : Lit). lit_fits shape m ≡ true) same (no_bad (lit_fits shape lit) (keeps_form before lit) _ _ _ e).0
 in_fits shape (lit ∷ more) place before e l (inr i) = in_fits shape more (place + 1) (Some lit) (no_bad (lit_fits shape lit) (keeps_form before lit) _ _ _ e).2 l i
@@ -69,7 +62,7 @@ next_unset room before (NotFirst a b) fits k h = λ v w lt later. other_order ro
 
 -- ---- what is known while a clause is denied
 
-from_out : (shape : Shape) (clause : List Lit) (room : RoomModel) (place : ℕ) (before : Option Lit) → IsFull room → room.ships ≡ shape.ships → first_bad_from shape place before clause ≡ None → (m : Lit) → knows (denied_from room clause) m ≡ true → (knows room m ≡ true) ⊎ Covered (knows room) clause m
+from_out : (shape : Shape) (clause : List Lit) (room : RoomModel) (place : ℕ) (before : Option Lit) → IsFull room → room.ships ≡ shape.ships → first_bad_from shape place before clause ≡ None → (m : Lit) → knows (denied_from room clause) m ≡ true → (knows room m ≡ true) ⊎ CoveredByLemma (knows room) clause m
 from_out shape [] room place before full ships e m h = inl h
 from_out shape (lit ∷ more) room place before full ships e m h =
     let good = no_bad (lit_fits shape lit) (keeps_form before lit) _ _ _ e in
@@ -83,7 +76,7 @@ from_out shape (lit ∷ more) room place before full ships e m h =
       | inr c ↦ inr (record { by = c.by; within = inr c.within; implied = c.implied })
     ]
 
-from_in : (shape : Shape) (clause : List Lit) (room : RoomModel) (place : ℕ) (before : Option Lit) → IsFull room → room.ships ≡ shape.ships → LaterUnset room before → first_bad_from shape place before clause ≡ None → (m : Lit) → (knows room m ≡ true) ⊎ Covered (knows room) clause m → knows (denied_from room clause) m ≡ true
+from_in : (shape : Shape) (clause : List Lit) (room : RoomModel) (place : ℕ) (before : Option Lit) → IsFull room → room.ships ≡ shape.ships → LaterUnset room before → first_bad_from shape place before clause ≡ None → (m : Lit) → (knows room m ≡ true) ⊎ CoveredByLemma (knows room) clause m → knows (denied_from room clause) m ≡ true
 from_in shape [] room place before full ships unset e m (inl h) = h
 from_in shape [] room place before full ships unset e m (inr c) = absurd c.within
 from_in shape (lit ∷ more) room place before full ships unset e m h =
@@ -101,17 +94,6 @@ from_in shape (lit ∷ more) room place before full ships unset e m h =
     ])
 
 -- ---- the whole room
-
-pub whole_unset : (shape : Shape) (v w : ℕ) → order_of (whole_room shape) v w ≡ orders.Unset
-whole_unset shape v w = elim (cases_lt (v * shape.ships + w) (shape.ships * shape.ships)) [
-  | inl lt ↦ get_or-replicate (shape.ships * shape.ships) (v * shape.ships + w) orders.Unset orders.Unset lt
-  | inr past ↦ get_or_past (replicate (shape.ships * shape.ships) orders.Unset) (v * shape.ships + w) orders.Unset (omega (arith, past, length-replicate (shape.ships * shape.ships) orders.Unset))
-]
-
-whole_range : (shape : Shape) (ship : ℕ) → ship < shape.ships → (low_of (whole_room shape) ship ≡ 0) × (high_of (whole_room shape) ship ≡ shape.slots - 1)
-whole_range shape ship lt =
-    let e : get_or (replicate shape.ships (0, shape.slots - 1)) ship (0, 0) ≡ (0, shape.slots - 1) = get_or-replicate shape.ships ship (0, shape.slots - 1) (0, 0) lt in
-    (ap (λ (p : ℕ × ℕ). p.0) e, ap (λ (p : ℕ × ℕ). p.1) e)
 
 pub whole_knows : (shape : Shape) → 1 ≤ shape.slots → (m : Lit) → knows (whole_room shape) m ≡ true → always shape.ships shape.slots m ≡ true
 whole_knows shape some (AtOrAfter v k) h =
@@ -153,7 +135,7 @@ knows_whole shape some (NotFirst v w) h = absurd cc
 
 -- ---- the denied room
 
-covered_by : (r s : Facts) (c : List Lit) (m : Lit) → Covered r c m → Covered s c m
+covered_by : (r s : Facts) (c : List Lit) (m : Lit) → CoveredByLemma r c m → CoveredByLemma s c m
 covered_by r s c m h = record { by = h.by; within = h.within; implied = h.implied }
 
 pub denied_knows : (shape : Shape) (clause : List Lit) → 1 ≤ shape.slots → IsClause shape clause → (m : Lit) → knows (denied shape clause) m ≡ true → denying (always shape.ships shape.slots) clause m ≡ true

@@ -17,7 +17,7 @@ use Rattle.hw_model.specs.Narrowing.{truth, cut}
 use Rattle.hw_model.specs.Replay.{narrowing, QuietClause}
 use Rattle.hw_story.specs.declared.event.Event.{Event}
 use Rattle.hw_story.specs.declared.event.Why.{Why}
-use Rattle.hw_story.specs.Trails.{TrailModel, trail_shape, reason, clause_of, room_by, room_before, room_of, level_after, Because, Happens, IsTrail, no_events, with_event, decided, implied, back_to}
+use Rattle.hw_story.specs.Trails.{TrailModel, trail_shape, reason, reason_clause, room_by, room_before, room_of, level_after, Because, Happens, IsTrail, no_events, with_event, decided, implied, back_to}
 use Rattle.hw_story.specs.Learning.{QuietBelow}
 use Rattle.hw_story.specs.Bridge.{idle, event_at, story_of}
 use Rattle.hw_story.proofs.Stories.{levels_rise}
@@ -71,7 +71,7 @@ decided_kept t lit is fits free = more_kept t (record { lit = lit; level = t.lev
   because = ap (λ n. n + 1) is.last_level;
 })
 
-pub implied_kept : (t : TrailModel) (lit : Lit) (why : Why) → IsTrail t → lit_fits (trail_shape t) lit ≡ true → IsClause (trail_shape t) (clause_of why) → truth (room_of t) lit ≡ Free → narrowing (clause_of why) (room_of t) ≡ Cut lit → IsTrail (implied t lit why)
+pub implied_kept : (t : TrailModel) (lit : Lit) (why : Why) → IsTrail t → lit_fits (trail_shape t) lit ≡ true → IsClause (trail_shape t) (reason_clause why) → truth (room_of t) lit ≡ Free → narrowing (reason_clause why) (room_of t) ≡ Cut lit → IsTrail (implied t lit why)
 implied_kept t lit why is fits clause free cuts = more_kept t (record { lit = lit; level = t.level; why = Some why }) is (record {
   fits = fits;
   clause_fits = clause;

@@ -4,8 +4,9 @@ use Rattle.std.proofs.lemmas.Bool.{or_left, or_right, false_from_ne_true, leb-tr
 use Rattle.std.proofs.lemmas.List.Elements.{All-get_or}
 use Rattle.std.proofs.lemmas.List.{get_or-set_same, get_or-set_other}
 use Rattle.std.proofs.lemmas.Nat.{mul-add-lt}
-use Rattle.std.proofs.Math.Nat.{mul-le-mul_right}
 use Rattle.std.specs.Prelude.{slice_set, slice_index_or}
+use Rattle.hw_lemmas.proofs.Truths.{clash}
+use Rattle.hw_lemmas.proofs.Numbers.{rows_apart}
 use Rattle.hw_model.specs.declared.order.Order.{Order}
 use Rattle.hw_model.specs.declared.order.Order.TheVariants as orders
 use Rattle.hw_model.specs.declared.lit.Lit.{Lit}
@@ -101,17 +102,11 @@ range_same r i v x lt = get_or-set_same r.ranges v x (0, 0) (omega (arith, lt, i
 range_other : (r : RoomModel) (v w : ℕ) (x : ℕ × ℕ) → (w ≡ v → ⊥) → slice_index_or (ranged r v x).ranges w (0, 0) ≡ slice_index_or r.ranges w (0, 0)
 range_other r v w x ne = get_or-set_other r.ranges v w x (0, 0) ne
 
--- the order's places differ for different pairs
-below_row : (n v w x y : ℕ) → w < n → v < x → v * n + w < x * n + y
-below_row n v w x y lt less =
-    let le : v + 1 ≤ x = omega arith in
-    omega (arith, mul-le-mul_right n le)
-
 one_place : (n v w x y : ℕ) → w < n → y < n → x * n + y ≡ v * n + w → (x ≡ v) × (y ≡ w)
 one_place n v w x y lw ly e = elim (cases_order v x) [
   | inl same ↦ (sym same, omega (arith, e, ap (λ k. k * n) same))
-  | inr (inl less) ↦ absurd (omega (arith, below_row n v w x y lw less, e))
-  | inr (inr more) ↦ absurd (omega (arith, below_row n x y v w ly more, e))
+  | inr (inl less) ↦ absurd (omega (arith, rows_apart n v w x y lw less, e))
+  | inr (inr more) ↦ absurd (omega (arith, rows_apart n x y v w ly more, e))
 ]
 
 order_same : (r : RoomModel) → IsFull r → (v w : ℕ) (o : Order) → v < w → w < r.ships → order_of (ordered r v w o) v w ≡ o
@@ -161,9 +156,6 @@ pair_true ships v w b h =
 pub pair_from : (ships v w : ℕ) (b : Bool) → v < w → w < ships → b ≡ true → ((nat_lt v w && nat_lt w ships) && b) ≡ true
 pair_from ships v w b p q e = and_from _ _ (and_from _ _ (lt-ltb _ _ p) (lt-ltb _ _ q)) e
 
-refuse : (b : Bool) → b ≡ true → b ≡ false → ⊥
-refuse b y n = cc
-
 -- A CUT
 pub cut_sees : (r : RoomModel) → IsFull r → (e : Lit) → IsLitOf r.ships e → knows (cut e r) e ≡ true
 cut_sees r i (AtOrAfter v k) f = after_from r.ships v k _ f.0 (omega (arith, ap (λ (x : ℕ × ℕ). x.0) (range_same r i v (max (low_of r v) k, high_of r v) f.0)))
@@ -209,7 +201,7 @@ cut_kept r i (First v w) f free (First x y) h =
 cut_kept r i (First v w) f free (NotFirst x y) h =
     let a = pair_true r.ships x y _ h in
     elim (ordered_at r i v w orders.First f.0 f.1 x y a.1) [
-      | inl z ↦ absurd (refuse _ a.2 (ap is_not_first (ap (λ (k : ℕ). order_of r k y) z.0.0 ∙ ap (λ (k : ℕ). order_of r v k) z.0.1 ∙ free)))
+      | inl z ↦ absurd (clash _ a.2 (ap is_not_first (ap (λ (k : ℕ). order_of r k y) z.0.0 ∙ ap (λ (k : ℕ). order_of r v k) z.0.1 ∙ free)))
       | inr z ↦ pair_from r.ships x y _ a.0 a.1 (ap is_not_first z.1 ∙ a.2)
     ]
 cut_kept r i (First v w) f free (AtOrAfter x j) h = h
@@ -223,7 +215,7 @@ cut_kept r i (NotFirst v w) f free (NotFirst x y) h =
 cut_kept r i (NotFirst v w) f free (First x y) h =
     let a = pair_true r.ships x y _ h in
     elim (ordered_at r i v w orders.NotFirst f.0 f.1 x y a.1) [
-      | inl z ↦ absurd (refuse _ a.2 (ap is_first (ap (λ (k : ℕ). order_of r k y) z.0.0 ∙ ap (λ (k : ℕ). order_of r v k) z.0.1 ∙ free)))
+      | inl z ↦ absurd (clash _ a.2 (ap is_first (ap (λ (k : ℕ). order_of r k y) z.0.0 ∙ ap (λ (k : ℕ). order_of r v k) z.0.1 ∙ free)))
       | inr z ↦ pair_from r.ships x y _ a.0 a.1 (ap is_first z.1 ∙ a.2)
     ]
 cut_kept r i (NotFirst v w) f free (AtOrAfter x j) h = h
@@ -285,7 +277,7 @@ cut_out r i (First v w) f (First x y) h =
 cut_out r i (First v w) f (NotFirst x y) h =
     let a = pair_true r.ships x y _ h in
     elim (ordered_at r i v w orders.First f.0 f.1 x y a.1) [
-      | inl z ↦ absurd (refuse _ a.2 (ap is_not_first z.1))
+      | inl z ↦ absurd (clash _ a.2 (ap is_not_first z.1))
       | inr z ↦ stays (First v w) (NotFirst x y) _ (pair_from r.ships x y _ a.0 a.1 (sym (ap is_not_first z.1) ∙ a.2))
     ]
 cut_out r i (First v w) f (AtOrAfter x j) h = stays (First v w) (AtOrAfter x j) _ h
@@ -299,7 +291,7 @@ cut_out r i (NotFirst v w) f (NotFirst x y) h =
 cut_out r i (NotFirst v w) f (First x y) h =
     let a = pair_true r.ships x y _ h in
     elim (ordered_at r i v w orders.NotFirst f.0 f.1 x y a.1) [
-      | inl z ↦ absurd (refuse _ a.2 (ap is_first z.1))
+      | inl z ↦ absurd (clash _ a.2 (ap is_first z.1))
       | inr z ↦ stays (NotFirst v w) (First x y) _ (pair_from r.ships x y _ a.0 a.1 (sym (ap is_first z.1) ∙ a.2))
     ]
 cut_out r i (NotFirst v w) f (AtOrAfter x j) h = stays (NotFirst v w) (AtOrAfter x j) _ h
@@ -310,7 +302,7 @@ apart : (e m : Lit) → (SameSide e m → ⊥) → same_side e m ≡ false
 apart e m ne = false_from_ne_true _ (λ y. ne (same_parts e m y))
 
 together : (e m : Lit) → SameSide e m → same_side e m ≡ false → ⊥
-together e m s n = refuse _ (same_from e m s) n
+together e m s n = clash _ (same_from e m s) n
 
 -- what is known of other sides stays; the side's own negation isn't known
 pub widen_in : (r : RoomModel) → IsFull r → (e : Lit) → IsLitOf r.ships e → knows r (negation e) ≡ false → (m : Lit) → knows r m ≡ true → same_side e m ≡ false → knows (widened e r) m ≡ true
@@ -351,7 +343,7 @@ widen_in r i (First v w) f free (First x y) h n =
 widen_in r i (First v w) f free (NotFirst x y) h n =
     let a = pair_true r.ships x y _ h in
     elim (ordered_at r i v w orders.Unset f.0 f.1 x y a.1) [
-      | inl z ↦ absurd (refuse _ (subst (λ (k : ℕ). knows r (NotFirst k w) ≡ true) z.0.0 (subst (λ (k : ℕ). knows r (NotFirst x k) ≡ true) z.0.1 h)) free)
+      | inl z ↦ absurd (clash _ (subst (λ (k : ℕ). knows r (NotFirst k w) ≡ true) z.0.0 (subst (λ (k : ℕ). knows r (NotFirst x k) ≡ true) z.0.1 h)) free)
       | inr z ↦ pair_from r.ships x y _ a.0 a.1 (ap is_not_first z.1 ∙ a.2)
     ]
 widen_in r i (First v w) f free (AtOrAfter x j) h n = h
@@ -365,7 +357,7 @@ widen_in r i (NotFirst v w) f free (NotFirst x y) h n =
 widen_in r i (NotFirst v w) f free (First x y) h n =
     let a = pair_true r.ships x y _ h in
     elim (ordered_at r i v w orders.Unset f.0 f.1 x y a.1) [
-      | inl z ↦ absurd (refuse _ (subst (λ (k : ℕ). knows r (First k w) ≡ true) z.0.0 (subst (λ (k : ℕ). knows r (First x k) ≡ true) z.0.1 h)) free)
+      | inl z ↦ absurd (clash _ (subst (λ (k : ℕ). knows r (First k w) ≡ true) z.0.0 (subst (λ (k : ℕ). knows r (First x k) ≡ true) z.0.1 h)) free)
       | inr z ↦ pair_from r.ships x y _ a.0 a.1 (ap is_first z.1 ∙ a.2)
     ]
 widen_in r i (NotFirst v w) f free (AtOrAfter x j) h n = h
@@ -404,13 +396,13 @@ widen_out r i (Before v k) f (NotFirst x y) h = inr (h, apart (Before v k) (NotF
 widen_out r i (First v w) f (First x y) h =
     let a = pair_true r.ships x y _ h in
     elim (ordered_at r i v w orders.Unset f.0 f.1 x y a.1) [
-      | inl z ↦ absurd (refuse _ a.2 (ap is_first z.1))
+      | inl z ↦ absurd (clash _ a.2 (ap is_first z.1))
       | inr z ↦ inr (pair_from r.ships x y _ a.0 a.1 (sym (ap is_first z.1) ∙ a.2), apart (First v w) (First x y) (λ s. z.0 (sym s.ones, sym s.others)))
     ]
 widen_out r i (First v w) f (NotFirst x y) h =
     let a = pair_true r.ships x y _ h in
     elim (ordered_at r i v w orders.Unset f.0 f.1 x y a.1) [
-      | inl z ↦ absurd (refuse _ a.2 (ap is_not_first z.1))
+      | inl z ↦ absurd (clash _ a.2 (ap is_not_first z.1))
       | inr z ↦ inr (pair_from r.ships x y _ a.0 a.1 (sym (ap is_not_first z.1) ∙ a.2), apart (First v w) (NotFirst x y) (λ s. omega (arith, s.kinds)))
     ]
 widen_out r i (First v w) f (AtOrAfter x j) h = inr (h, apart (First v w) (AtOrAfter x j) (λ s. omega (arith, s.kinds)))
@@ -418,13 +410,13 @@ widen_out r i (First v w) f (Before x j) h = inr (h, apart (First v w) (Before x
 widen_out r i (NotFirst v w) f (NotFirst x y) h =
     let a = pair_true r.ships x y _ h in
     elim (ordered_at r i v w orders.Unset f.0 f.1 x y a.1) [
-      | inl z ↦ absurd (refuse _ a.2 (ap is_not_first z.1))
+      | inl z ↦ absurd (clash _ a.2 (ap is_not_first z.1))
       | inr z ↦ inr (pair_from r.ships x y _ a.0 a.1 (sym (ap is_not_first z.1) ∙ a.2), apart (NotFirst v w) (NotFirst x y) (λ s. z.0 (sym s.ones, sym s.others)))
     ]
 widen_out r i (NotFirst v w) f (First x y) h =
     let a = pair_true r.ships x y _ h in
     elim (ordered_at r i v w orders.Unset f.0 f.1 x y a.1) [
-      | inl z ↦ absurd (refuse _ a.2 (ap is_first z.1))
+      | inl z ↦ absurd (clash _ a.2 (ap is_first z.1))
       | inr z ↦ inr (pair_from r.ships x y _ a.0 a.1 (sym (ap is_first z.1) ∙ a.2), apart (NotFirst v w) (First x y) (λ s. omega (arith, s.kinds)))
     ]
 widen_out r i (NotFirst v w) f (AtOrAfter x j) h = inr (h, apart (NotFirst v w) (AtOrAfter x j) (λ s. omega (arith, s.kinds)))

@@ -1,10 +1,11 @@
 -- What the walk back over a trail finds is what a conflict teaches.
-use Rattle.std.proofs.Common.{◌≡◌, ◌⊎◌, ℕ, zero, suc, ◌+◌, ◌<◌, ◌≤◌, Bool, true, false, List, [], ◌∷◌, ◌++◌, Option, Some, None, length, get_or, filter_map, option_and_then, All, IfSome, IsSome, IsSomeAnd, refl, sym, ap, ◌∙◌, subst, arith, inl, inr}
+use Rattle.std.proofs.Common.{◌≡◌, ◌⊎◌, ℕ, zero, suc, ◌+◌, ◌<◌, ◌≤◌, true, List, [], ◌∷◌, ◌++◌, Option, Some, None, length, get_or, filter_map, option_and_then, All, IfSome, IsSome, IsSomeAnd, refl, sym, ap, ◌∙◌, subst, arith, inl, inr}
 use Rattle.std.specs.Prelude.{Any, Contains}
 use Rattle.std.specs.List.{cons_option}
 use Rattle.std.proofs.lemmas.Bool.{cases_Bool, cases_lt}
 use Rattle.std.proofs.lemmas.List.Elements.{All-nil, All-cons}
 use Rattle.std.proofs.lemmas.Option.{slice_get-get_or}
+use Rattle.hw_lemmas.proofs.Truths.{clash}
 use Rattle.hw_model.specs.declared.lit.Lit.{Lit}
 use Rattle.hw_model.specs.declared.lit.LitTruth.TheVariants.{False}
 use Rattle.hw_model.specs.Lits.{negation, lit_fits, IsClause}
@@ -14,7 +15,7 @@ use Rattle.hw_model.specs.Lits.{IsLitOf}
 use Rattle.hw_story.specs.Sides.{implies}
 use Rattle.hw_story.specs.Replays.{meets}
 use Rattle.hw_story.specs.Stories.{Story, room_at}
-use Rattle.hw_story.specs.Walks.{In, InSome, chain, reason_of, Ascends, OneLess, Late, IsTop, denying, story_level, OneAtTop, Levels, WalkGives}
+use Rattle.hw_story.specs.Walks.{InClause, InSome, chain, reason_of, ReasonedAscend, OneLess, Late, IsTopLevel, denying, story_level, OneAtTop, Levels, WalkGives}
 use Rattle.hw_story.specs.Walks.Levels.{Nothing, One}
 use Rattle.hw_story.specs.Knowing.{knows, always}
 use Rattle.hw_story.specs.Trails.{TrailModel, trail_shape, reason, room_of, IsTrail}
@@ -27,31 +28,32 @@ use Rattle.hw_story.proofs.Knowing.{know_world}
 use Rattle.hw_story.proofs.Needs.{ascends_less, less_split}
 use Rattle.hw_story.proofs.Ends.{denied_start}
 use Rattle.hw_story.proofs.Steps.{meets_replays, replay_meets}
-use Rattle.hw_story.proofs.Denials.{clause_lits, in_fits, knows_denied, denied_knows}
+use Rattle.hw_story.proofs.Denials.{in_fits, knows_denied, denied_knows}
 use Rattle.hw_laws.proofs.Denying.{denied_is}
+use Rattle.hw_lits.proofs.Forms.{lits_from}
 use Rattle.hw_story.proofs.Trails.{told_at}
 use Rattle.hw_story.proofs.Levels.{made_false, level_is, level_stays, top_is, end_false}
 
 -- ---- members
 
-pub in_contains : (c : List Lit) (d : Lit) → In d c → Contains c d
+pub in_contains : (c : List Lit) (d : Lit) → InClause d c → Contains c d
 in_contains [] d i = absurd i
 in_contains (l ∷ c) d (inl e) = (0, omega arith, e)
 in_contains (l ∷ c) d (inr i) = let r = in_contains c d i in (suc r.0, omega (arith, r.1), r.2)
 
-at_in : (c : List Lit) (d : Lit) (k : ℕ) → k < length c → get_or c k d ≡ d → In d c
+at_in : (c : List Lit) (d : Lit) (k : ℕ) → k < length c → get_or c k d ≡ d → InClause d c
 at_in [] d k lt e = absurd (omega (arith, lt))
 at_in (l ∷ c) d zero lt e = inl e
 at_in (l ∷ c) d (suc k) lt e = inr (at_in c d k (omega (arith, lt)) e)
 
-pub contains_in : (c : List Lit) (d : Lit) → Contains c d → In d c
+pub contains_in : (c : List Lit) (d : Lit) → Contains c d → InClause d c
 contains_in c d h = at_in c d h.0 h.1 h.2
 
-pub all_in : (P : Lit → Type 0) (c : List Lit) → ((l : Lit) → In l c → P l) → All P c
+pub all_in : (P : Lit → Type 0) (c : List Lit) → ((l : Lit) → InClause l c → P l) → All P c
 all_in P [] h = All-nil P
 all_in P (l ∷ c) h = All-cons P l c (h l (inl refl)) (all_in P c (λ m i. h m (inr i)))
 
-pub in_all : (P : Lit → Type 0) (c : List Lit) → All P c → (l : Lit) → In l c → P l
+pub in_all : (P : Lit → Type 0) (c : List Lit) → All P c → (l : Lit) → InClause l c → P l
 in_all P c h l i =
     let r = in_contains c l i in
     subst P r.2 (h r.0 l r.1)
@@ -60,9 +62,6 @@ some_any : (cs : List (List Lit)) (d : Lit) → InSome d cs → Any (λ other. C
 some_any [] d i = absurd i
 some_any (c ∷ cs) d (inl i) = (0, c, omega arith, refl, in_contains c d i)
 some_any (c ∷ cs) d (inr i) = let r = some_any cs d i in (suc r.0, r.1, omega (arith, r.2), r.3, r.4)
-
-clash : (b : Bool) → b ≡ true → b ≡ false → ⊥
-clash b y n = cc
 
 pub same_lit : (l m : Lit) → (l ≡ m) ⊎ (l ≡ m → ⊥)
 same_lit l m = elim (cases_Bool (implies l m)) [
@@ -82,7 +81,7 @@ chain_next : (t : TrailModel) (o p : Option (List Lit)) (c k : List Lit) (qs : L
 chain_next t None p c k qs cs e f h = absurd cc
 chain_next t (Some d) p c k qs cs e f h = ap (λ xs. d ∷ xs) h ∙ sym (ap (λ (o : Option (List Lit)). cons_option o (filter_map (reason_at t) qs) ++ k ∷ []) f)
 
-pub chain_same : (t : TrailModel) (n : ℕ) → n ≤ length t.events → (k : List Lit) (p : ℕ) (places : List ℕ) → Ascends (story_of t) n p places → chain (story_of t) places k ≡ chain_of t places k
+pub chain_same : (t : TrailModel) (n : ℕ) → n ≤ length t.events → (k : List Lit) (p : ℕ) (places : List ℕ) → ReasonedAscend (story_of t) n p places → chain (story_of t) places k ≡ chain_of t places k
 chain_same t n le k p [] h = refl
 chain_same t n le k p (q ∷ qs) h = chain_next t (reason (event_at t q)) (reason_at t q) h.2.0 k qs (chain (story_of t) qs k) h.2.1 (reason_is t q (omega (arith, h.1, le))) (chain_same t n le k (suc q) qs h.3)
 
@@ -93,15 +92,15 @@ chain_by : (t : TrailModel) (o : Option (List Lit)) (c : List Lit) (cs : List (L
 chain_by t None c cs ships e f h = absurd cc
 chain_by t (Some d) c cs ships e f h = let same : d ≡ c = cc in All-cons (All (IsLitOf ships)) d cs (subst (All (IsLitOf ships)) (sym same) f) h
 
-pub chain_lits : (t : TrailModel) → IsTrail t → (n : ℕ) → n ≤ length t.events → (k : List Lit) (p : ℕ) (places : List ℕ) → IsClause (trail_shape t) k → Ascends (story_of t) n p places → All (All (IsLitOf t.ships)) (chain (story_of t) places k)
-chain_lits t is n le k p [] f h = All-cons (All (IsLitOf t.ships)) k [] (clause_lits (trail_shape t) k 0 None f) (All-nil (All (IsLitOf t.ships)))
+pub chain_lits : (t : TrailModel) → IsTrail t → (n : ℕ) → n ≤ length t.events → (k : List Lit) (p : ℕ) (places : List ℕ) → IsClause (trail_shape t) k → ReasonedAscend (story_of t) n p places → All (All (IsLitOf t.ships)) (chain (story_of t) places k)
+chain_lits t is n le k p [] f h = All-cons (All (IsLitOf t.ships)) k [] (lits_from (trail_shape t) k 0 None f) (All-nil (All (IsLitOf t.ships)))
 chain_lits t is n le k p (q ∷ qs) f h =
     let lt : q < length t.events = omega (arith, h.1, le) in
-    chain_by t (reason (event_at t q)) h.2.0 (chain (story_of t) qs k) t.ships h.2.1 (clause_lits (trail_shape t) h.2.0 0 None (reason_fits t is q lt h.2.0 h.2.1)) (chain_lits t is n le k (suc q) qs f h.3)
+    chain_by t (reason (event_at t q)) h.2.0 (chain (story_of t) qs k) t.ships h.2.1 (lits_from (trail_shape t) h.2.0 0 None (reason_fits t is q lt h.2.0 h.2.1)) (chain_lits t is n le k (suc q) qs f h.3)
 
 -- ---- places
 
-increasing : (s : Story) (n p : ℕ) (places : List ℕ) → Ascends s n p places → (k : ℕ) → k + 1 < length places → get_or places k 0 < get_or places (k + 1) 0
+increasing : (s : Story) (n p : ℕ) (places : List ℕ) → ReasonedAscend s n p places → (k : ℕ) → k + 1 < length places → get_or places k 0 < get_or places (k + 1) 0
 increasing s n p [] h k lt = absurd (omega (arith, lt))
 increasing s n p (q ∷ []) h k lt = absurd (omega (arith, lt))
 increasing s n p (q ∷ r ∷ rs) h zero lt = h.3.0
@@ -109,7 +108,7 @@ increasing s n p (q ∷ r ∷ rs) h (suc k) lt =
     let e : suc (k + 1) ≡ suc k + 1 = omega arith in
     subst (λ i. get_or (r ∷ rs) k 0 < get_or (q ∷ r ∷ rs) i 0) e (increasing s n (suc q) (r ∷ rs) h.3 k (omega (arith, lt)))
 
-with_reason : (t : TrailModel) (n : ℕ) → n ≤ length t.events → (p : ℕ) (places : List ℕ) → Ascends (story_of t) n p places → All (λ place. IsSome (reason_at t place)) places
+with_reason : (t : TrailModel) (n : ℕ) → n ≤ length t.events → (p : ℕ) (places : List ℕ) → ReasonedAscend (story_of t) n p places → All (λ place. IsSome (reason_at t place)) places
 with_reason t n le p [] h = All-nil (λ place. IsSome (reason_at t place))
 with_reason t n le p (q ∷ qs) h =
     let here : IsSome (reason_at t q) = subst IsSome (sym (reason_is t q (omega (arith, h.1, le)) ∙ h.2.1)) refl in
@@ -120,7 +119,7 @@ late_of s level u [] h k q lt e l = absurd (omega (arith, lt))
 late_of s level u (p ∷ ps) h zero q lt e l = subst (λ (x : ℕ). room_at s x u ≡ true) e (h.0 (ap (λ (x : ℕ). (s.at x).level) e ∙ l))
 late_of s level u (p ∷ ps) h (suc k) q lt e l = late_of s level u ps h.1 k q (omega (arith, lt)) e l
 
-place_below : (s : Story) (n p : ℕ) (places : List ℕ) → Ascends s n p places → (k q : ℕ) → k < length places → get_or places k q ≡ q → q < n
+place_below : (s : Story) (n p : ℕ) (places : List ℕ) → ReasonedAscend s n p places → (k q : ℕ) → k < length places → get_or places k q ≡ q → q < n
 place_below s n p [] h k q lt e = absurd (omega (arith, lt))
 place_below s n p (r ∷ rs) h zero q lt e = omega (arith, h.1, e)
 place_below s n p (r ∷ rs) h (suc k) q lt e = place_below s n (suc r) rs h.3 k q (omega (arith, lt)) e
@@ -128,11 +127,11 @@ place_below s n p (r ∷ rs) h (suc k) q lt e = place_below s n (suc r) rs h.3 k
 -- ---- levels
 
 one_of : (t : TrailModel) → IsTrail t → (n : ℕ) → n ≤ length t.events → (top back : ℕ) (lemma : List Lit) (places : List ℕ) → IsClause (trail_shape t) lemma
-    → ((l : Lit) → In l lemma → room_at (story_of t) n (negation l) ≡ true) → Ascends (story_of t) n 0 places → GoesBack (story_of t) n top lemma back → OneAtTop (story_of t) n top back lemma places → OneOfLevel t top lemma back places
+    → ((l : Lit) → InClause l lemma → room_at (story_of t) n (negation l) ≡ true) → ReasonedAscend (story_of t) n 0 places → GoesBack (story_of t) n top lemma back → OneAtTop (story_of t) n top back lemma places → OneOfLevel t top lemma back places
 one_of t is n le top back lemma places f known asc gb h =
-    let fits : (l : Lit) → In l lemma → lit_fits (trail_shape t) l ≡ true = in_fits (trail_shape t) lemma 0 None f in
-    let known' : (l : Lit) → In l lemma → room_at (story_of t) (length t.events) (negation l) ≡ true = λ l i. room_grows (story_of t) n (length t.events) le (negation l) (known l i) in
-    let same : (l : Lit) → In l lemma → level_of t l ≡ story_level (story_of t) n l = λ l i. level_is t is l (fits l i) (known' l i) ∙ level_stays (story_of t) l n (length t.events) le (known l i) in
+    let fits : (l : Lit) → InClause l lemma → lit_fits (trail_shape t) l ≡ true = in_fits (trail_shape t) lemma 0 None f in
+    let known' : (l : Lit) → InClause l lemma → room_at (story_of t) (length t.events) (negation l) ≡ true = λ l i. room_grows (story_of t) n (length t.events) le (negation l) (known l i) in
+    let same : (l : Lit) → InClause l lemma → level_of t l ≡ story_level (story_of t) n l = λ l i. level_is t is l (fits l i) (known' l i) ∙ level_stays (story_of t) l n (length t.events) le (known l i) in
     let m = made_false t is h.lit (fits h.lit h.within) (known' h.lit h.within) in
     record {
       lit = h.lit;
@@ -165,7 +164,7 @@ one_of t is n le top back lemma places f known asc gb h =
 -- ---- the theorem
 
 pub learns_from : (t : TrailModel) → IsTrail t → (n : ℕ) → n ≤ length t.events → (top : ℕ) (clause lemma : List Lit) (back : ℕ) (places : List ℕ)
-    → IsClause (trail_shape t) clause → ((d : Lit) → In d clause → room_at (story_of t) n (negation d) ≡ true) → IsTop (story_of t) n clause top
+    → IsClause (trail_shape t) clause → ((d : Lit) → InClause d clause → room_at (story_of t) n (negation d) ≡ true) → IsTopLevel (story_of t) n clause top
     → IsClause (trail_shape t) lemma → (top ≡ 0 → back ≡ 0) → GoesBack (story_of t) n top lemma back
     → WalkGives (story_of t) n top clause lemma back places → Learns t clause lemma back places
 learns_from t is n le top clause lemma back places cf known it f zb gb h =
@@ -180,7 +179,7 @@ learns_from t is n le top clause lemma back places cf known it f zb gb h =
       reasons = with_reason t n le 0 places h.ascends;
       needed = λ before later place e met.
           let less : OneLess places (before ++ later) = subst (λ xs. OneLess xs (before ++ later)) (sym e) (less_split before later place) in
-          let asc : Ascends (story_of t) n 0 (before ++ later) = ascends_less (story_of t) n 0 places (before ++ later) h.ascends less in
+          let asc : ReasonedAscend (story_of t) n 0 (before ++ later) = ascends_less (story_of t) n 0 places (before ++ later) h.ascends less in
           let back' : replay (denied (trail_shape t) lemma) (chain (story_of t) (before ++ later) clause) ≡ conflict = subst (λ cs. replay (denied (trail_shape t) lemma) cs ≡ conflict) (sym (chain_same t n le clause 0 (before ++ later) asc)) met in
           let lits' : All (All (IsLitOf (denied (trail_shape t) lemma).ships)) (chain (story_of t) (before ++ later) clause) = subst (λ k. All (All (IsLitOf k)) (chain (story_of t) (before ++ later) clause)) (sym room.same_ships) (chain_lits t is n le clause 0 (before ++ later) cf asc) in
           h.needed (knows (denied (trail_shape t) lemma)) (know_world (denied (trail_shape t) lemma) room.is_room) (λ m y. knows_denied (trail_shape t) lemma is.shape.some_slot f m (denied_start (story_of t).start lemma m y)) (denied_knows (trail_shape t) lemma is.shape.some_slot f) (before ++ later) less

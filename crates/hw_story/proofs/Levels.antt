@@ -2,6 +2,7 @@
 use Rattle.std.proofs.Common.{◌≡◌, ◌⊎◌, ℕ, zero, suc, ◌+◌, ◌<◌, ◌≤◌, max, Bool, true, false, cond, nat_le, nat_lt, List, [], ◌∷◌, Some, length, fold, refl, sym, ap, ◌∙◌, subst, arith, inl, inr}
 use Rattle.std.proofs.lemmas.Bool.{cases_Bool, cases_lt, and_parts, leb-true, ltb-true}
 use Rattle.std.proofs.lemmas.Option.{slice_get-get_or}
+use Rattle.hw_lemmas.proofs.Truths.{clash}
 use Rattle.hw_model.specs.declared.lit.Lit.{Lit}
 use Rattle.hw_model.specs.declared.lit.Lit.TheVariants.{AtOrAfter, Before, First, NotFirst}
 use Rattle.hw_model.specs.declared.lit.LitTruth.{LitTruth}
@@ -13,7 +14,7 @@ use Rattle.hw_model.specs.Lits.{IsLitOf}
 use Rattle.hw_laws.proofs.Denials.{lit_of}
 use Rattle.hw_laws.proofs.Searches.{found_first}
 use Rattle.hw_story.specs.Stories.{Story, room_at}
-use Rattle.hw_story.specs.Walks.{In, IsTop, story_level}
+use Rattle.hw_story.specs.Walks.{InClause, IsTopLevel, story_level}
 use Rattle.hw_story.specs.Knowing.{always}
 use Rattle.hw_story.specs.Trails.{TrailModel, trail_shape, room_before, room_of, IsTrail}
 use Rattle.hw_story.specs.Learning.{is_false, event_of, level_by, level_made, level_of, top_level}
@@ -25,9 +26,6 @@ use Rattle.hw_story.proofs.Knowing.{after_true}
 use Rattle.hw_story.proofs.Trails.{room_known, room_end}
 
 -- ---- a literal in range isn't False everywhere
-
-clash : (b : Bool) → b ≡ true → b ≡ false → ⊥
-clash b y n = cc
 
 pub fits_fresh : (shape : Shape) (lit : Lit) → lit_fits shape lit ≡ true → always shape.ships shape.slots (negation lit) ≡ false
 fits_fresh shape (AtOrAfter v k) f = elim (cases_Bool (always shape.ships shape.slots (Before v k))) [
@@ -141,12 +139,12 @@ most_kept : (g : Lit → ℕ) (c : List Lit) (m : ℕ) → m ≤ fold (λ top li
 most_kept g [] m = omega arith
 most_kept g (l ∷ c) m = omega (arith, most_kept g c (max m (g l)))
 
-most_each : (g : Lit → ℕ) (c : List Lit) (m : ℕ) (d : Lit) → In d c → g d ≤ fold (λ top lit. max top (g lit)) m c
+most_each : (g : Lit → ℕ) (c : List Lit) (m : ℕ) (d : Lit) → InClause d c → g d ≤ fold (λ top lit. max top (g lit)) m c
 most_each g [] m d i = absurd i
 most_each g (l ∷ c) m d (inl e) = omega (arith, most_kept g c (max m (g l)), ap g e)
 most_each g (l ∷ c) m d (inr i) = most_each g c (max m (g l)) d i
 
-most_reached : (g : Lit → ℕ) (c : List Lit) (m : ℕ) → (fold (λ top lit. max top (g lit)) m c ≡ m) ⊎ ((d : Lit) × In d c × (g d ≡ fold (λ top lit. max top (g lit)) m c))
+most_reached : (g : Lit → ℕ) (c : List Lit) (m : ℕ) → (fold (λ top lit. max top (g lit)) m c ≡ m) ⊎ ((d : Lit) × InClause d c × (g d ≡ fold (λ top lit. max top (g lit)) m c))
 most_reached g [] m = inl refl
 most_reached g (l ∷ c) m = elim (most_reached g c (max m (g l))) [
   | inl e ↦ elim (cases_lt m (g l)) [
@@ -156,16 +154,16 @@ most_reached g (l ∷ c) m = elim (most_reached g c (max m (g l))) [
   | inr r ↦ inr (r.0, inr r.1, r.2)
 ]
 
-pub top_each : (t : TrailModel) (c : List Lit) (d : Lit) → In d c → level_of t d ≤ top_level t c
+pub top_each : (t : TrailModel) (c : List Lit) (d : Lit) → InClause d c → level_of t d ≤ top_level t c
 top_each t c d i = most_each (level_of t) c 0 d i
 
-pub top_reached : (t : TrailModel) (c : List Lit) → (top_level t c ≡ 0) ⊎ ((d : Lit) × In d c × (level_of t d ≡ top_level t c))
+pub top_reached : (t : TrailModel) (c : List Lit) → (top_level t c ≡ 0) ⊎ ((d : Lit) × InClause d c × (level_of t d ≡ top_level t c))
 top_reached t c = most_reached (level_of t) c 0
 
 -- the greatest level that was found is the greatest level
-pub top_is : (t : TrailModel) → IsTrail t → (n : ℕ) → n ≤ length t.events → (c : List Lit) (top : ℕ) → ((d : Lit) → In d c → lit_fits (trail_shape t) d ≡ true) → ((d : Lit) → In d c → room_at (story_of t) n (negation d) ≡ true) → IsTop (story_of t) n c top → top_level t c ≡ top
+pub top_is : (t : TrailModel) → IsTrail t → (n : ℕ) → n ≤ length t.events → (c : List Lit) (top : ℕ) → ((d : Lit) → InClause d c → lit_fits (trail_shape t) d ≡ true) → ((d : Lit) → InClause d c → room_at (story_of t) n (negation d) ≡ true) → IsTopLevel (story_of t) n c top → top_level t c ≡ top
 top_is t is n le c top fits known h =
-    let same : (d : Lit) → In d c → level_of t d ≡ story_level (story_of t) n d = λ d i.
+    let same : (d : Lit) → InClause d c → level_of t d ≡ story_level (story_of t) n d = λ d i.
     level_is t is d (fits d i) (room_grows (story_of t) n (length t.events) le (negation d) (known d i)) ∙ level_stays (story_of t) d n (length t.events) le (known d i) in
     let upper : top_level t c ≤ top = elim (top_reached t c) [
       | inl e ↦ omega (arith, e)

@@ -14,13 +14,12 @@ use Rattle.hw_model.specs.Narrowing.{truth, cut, with_range, with_order}
 use Rattle.hw_model.specs.Lits.{IsLitOf}
 use Rattle.hw_laws.proofs.Ranges.{new_order, other_order, cases_pair, IsFull}
 use Rattle.hw_laws.proofs.Cuts.{full_room, no_order_set}
-use Rattle.hw_laws.proofs.Denials.{lit_of}
+use Rattle.hw_laws.proofs.Denials.{lit_of, whole_unset}
 use Rattle.hw_story.specs.Trails.{TrailModel, trail_shape, room_before, IsTrail, most_events}
 use Rattle.hw_story.specs.Bridge.{event_at}
 use Rattle.hw_story.proofs.Counted.{row, pairs, pairs_length, Every}
 use Rattle.hw_story.proofs.Truth.{free_unknown}
 use Rattle.hw_story.proofs.Knowing.{after_from, before_from}
-use Rattle.hw_story.proofs.Denials.{whole_unset}
 use Rattle.hw_story.proofs.Trails.{room_known, told_at, room_suc}
 
 -- ---- pairs

@@ -1,7 +1,6 @@
 -- A literal is denied, and the greatest literal that a room knows of a side.
 use Rattle.std.proofs.Common.{◌≡◌, ℕ, ◌<◌, ◌≤◌, ◌+◌, true, false, refl, arith, inl, inr, nat_le, nat_lt, sym, ap, subst}
 use Rattle.std.proofs.lemmas.Bool.{or_cases, or_right, and_from, le-leb, lt-ltb, cases_Bool, and_parts, leb-true}
-use Rattle.hw_model.specs.declared.order.Order.{Order}
 use Rattle.hw_model.specs.declared.order.Order.TheVariants as orders
 use Rattle.hw_model.specs.declared.lit.Lit.{Lit}
 use Rattle.hw_model.specs.declared.lit.Lit.TheVariants.{AtOrAfter, Before, First, NotFirst}
@@ -11,6 +10,7 @@ use Rattle.hw_model.specs.Narrowing.{cut}
 use Rattle.hw_model.specs.RefutingComputed.{is_first, is_not_first}
 use Rattle.hw_model.specs.Lits.{IsLitOf}
 use Rattle.hw_laws.proofs.Cuts.{full_room, no_order_set}
+use Rattle.hw_laws.proofs.Tested.{first_is, not_first_is}
 use Rattle.hw_story.specs.Sides.{implies, one, floor, roof}
 use Rattle.hw_story.specs.Knowing.{knows, always}
 use Rattle.hw_story.specs.Passes.{DeniesOne, MostOf, NothingOf}
@@ -113,29 +113,19 @@ not_first_floor v w (AtOrAfter x y) p = absurd (omega (arith, p.kinds))
 not_first_floor v w (Before x y) p = absurd (omega (arith, p.kinds))
 not_first_floor v w (First x y) p = absurd (omega (arith, p.kinds))
 
-first_when : (o : Order) → is_first o ≡ true → o ≡ orders.First
-first_when orders.Unset h = absurd cc
-first_when orders.First h = refl
-first_when orders.NotFirst h = absurd cc
-
-not_first_when : (o : Order) → is_not_first o ≡ true → o ≡ orders.NotFirst
-not_first_when orders.Unset h = absurd cc
-not_first_when orders.NotFirst h = refl
-not_first_when orders.First h = absurd cc
-
 pub nothing_first : (r : RoomModel) (v w : ℕ) → (order_of r v w ≡ orders.First → ⊥) → NothingOf (always r.ships r.slots) (knows r) (First v w)
 nothing_first r v w ne m h side =
     let f = first_floor v w m (same_parts _ _ side) in
     let g : knows r (First v w) ≡ true = subst (λ (x : Lit). knows r x ≡ true) f.0 h in
     let a = pair_true r.ships v w _ g in
-    absurd (ne (first_when _ a.2))
+    absurd (ne (first_is _ a.2))
 
 pub nothing_not_first : (r : RoomModel) (v w : ℕ) → (order_of r v w ≡ orders.NotFirst → ⊥) → NothingOf (always r.ships r.slots) (knows r) (NotFirst v w)
 nothing_not_first r v w ne m h side =
     let f = not_first_floor v w m (same_parts _ _ side) in
     let g : knows r (NotFirst v w) ≡ true = subst (λ (x : Lit). knows r x ≡ true) f.0 h in
     let a = pair_true r.ships v w _ g in
-    absurd (ne (not_first_when _ a.2))
+    absurd (ne (not_first_is _ a.2))
 
 pub most_first : (r : RoomModel) (v w : ℕ) → v < w → w < r.ships → order_of r v w ≡ orders.First → MostOf (always r.ships r.slots) (knows r) (First v w) (First v w)
 most_first r v w lt lw e = record {

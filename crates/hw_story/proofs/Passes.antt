@@ -8,10 +8,10 @@ use Rattle.hw_model.specs.Rooms.{RoomModel, IsRoom}
 use Rattle.hw_model.specs.Lits.{IsLitOf}
 use Rattle.hw_laws.proofs.Cuts.{full_room}
 use Rattle.hw_story.specs.Sides.{same_side, implies}
-use Rattle.hw_story.specs.Replays.{Facts, Narrower, dropping, OnlyLeft, AllFalse}
+use Rattle.hw_story.specs.Replays.{Facts, Narrower, dropping, OnlyLeft, AllDenied}
 use Rattle.hw_story.specs.Knowing.{knows, always, widened}
 use Rattle.hw_story.specs.Stories.{Story, room_at, IsStory}
-use Rattle.hw_story.specs.Walks.{In, Bounds, Walk, Hit, Miss, Top, Denies, Resolves}
+use Rattle.hw_story.specs.Walks.{InClause, EventBounds, Walk, Hit, Miss, Top, Denies, Resolves}
 use Rattle.hw_story.specs.Walks.Top.{Ground, Open, Found}
 use Rattle.hw_story.specs.Passes.{DeniesOne, MostOf, NothingOf, HitBefore, NoHit, DeniesOthers, DeniesAll, StepKeeps, When, Walks}
 use Rattle.hw_story.specs.Passes.When.{OnGround, WithAnother}
@@ -25,17 +25,17 @@ clash : (r : Facts) (m : Lit) → r m ≡ true → r m ≡ false → ⊥
 clash r m y n = cc
 
 -- MEMBERS
-pub in_append : (xs ys : List Lit) (l : Lit) → In l (xs ++ ys) → In l xs ⊎ In l ys
+pub in_append : (xs ys : List Lit) (l : Lit) → InClause l (xs ++ ys) → InClause l xs ⊎ InClause l ys
 in_append [] ys l h = inr h
 in_append (x ∷ xs) ys l (inl e) = inl (inl e)
 in_append (x ∷ xs) ys l (inr h) = elim (in_append xs ys l h) [ inl a ↦ inl (inr a) | inr b ↦ inr b ]
 
-pub in_front : (xs ys : List Lit) (l : Lit) → In l xs → In l (xs ++ ys)
+pub in_front : (xs ys : List Lit) (l : Lit) → InClause l xs → InClause l (xs ++ ys)
 in_front [] ys l h = absurd h
 in_front (x ∷ xs) ys l (inl e) = inl e
 in_front (x ∷ xs) ys l (inr h) = inr (in_front xs ys l h)
 
-pub in_last : (xs : List Lit) (l : Lit) → In l (xs ++ l ∷ [])
+pub in_last : (xs : List Lit) (l : Lit) → InClause l (xs ++ l ∷ [])
 in_last [] l = inl refl
 in_last (x ∷ xs) l = inr (in_last xs l)
 
@@ -129,7 +129,7 @@ goes_down t first b e (suc p) le none all m y n = elim (cases_lt p first) [
       | inr s ↦ s
     ]
 
-pub alone_from : (t : Story) (n top first base p : ℕ) (b : Facts) (places : List ℕ) → Bounds t n top first base → p < n → Hit t p b → 1 ≤ (t.at p).level → NoHit t first p b
+pub alone_from : (t : Story) (n top first base p : ℕ) (b : Facts) (places : List ℕ) → EventBounds t n top first base → p < n → Hit t p b → 1 ≤ (t.at p).level → NoHit t first p b
     → Top t top first base (suc p) b places → (t.at p).level ≡ top → Narrower (room_at t first) (dropping (t.at p).lit b)
 alone_from t n top first base p b places bs lt h up none (Ground z g) e = absurd (omega arith)
 alone_from t n top first base p b places bs lt h up none (Open z out all) e =
@@ -139,11 +139,11 @@ alone_from t n top first base p b places bs lt h up none (Found z u k f g rest l
     absurd (found_no_hit t n top first base p b bs lt h (first_of_top t n top first base p bs e) u k g rest)
 
 -- RESOLVING
-all_moved : (r s : Facts) (c : List Lit) → AllFalse r c → ((l : Lit) → In l c → r (negation l) ≡ true → s (negation l) ≡ true) → AllFalse s c
+all_moved : (r s : Facts) (c : List Lit) → AllDenied r c → ((l : Lit) → InClause l c → r (negation l) ≡ true → s (negation l) ≡ true) → AllDenied s c
 all_moved r s [] h f = tt
 all_moved r s (l ∷ c) h f = (f l (inl refl) h.0, all_moved r s c h.1 (λ x i. f x (inr i)))
 
-only_moved : (r s : Facts) (e : Lit) (c : List Lit) → OnlyLeft r e c → ((l : Lit) → In l c → r (negation l) ≡ true → s (negation l) ≡ true) → OnlyLeft s e c
+only_moved : (r s : Facts) (e : Lit) (c : List Lit) → OnlyLeft r e c → ((l : Lit) → InClause l c → r (negation l) ≡ true → s (negation l) ≡ true) → OnlyLeft s e c
 only_moved r s e [] h f = h
 only_moved r s e (l ∷ c) (inl h) f = inl (h.0, all_moved r s c h.1 (λ x i. f x (inr i)))
 only_moved r s e (l ∷ c) (inr h) f = inr (f l (inl refl) h.0, only_moved r s e c h.1 (λ x i. f x (inr i)))
@@ -249,12 +249,12 @@ all_more old mid new c x d o = record {
   ];
 }
 
-all_from : (r : Facts) (c : List Lit) → ((l : Lit) → In l c → r (negation l) ≡ true) → AllFalse r c
+all_from : (r : Facts) (c : List Lit) → ((l : Lit) → InClause l c → r (negation l) ≡ true) → AllDenied r c
 all_from r [] f = tt
 all_from r (l ∷ c) f = (f l (inl refl), all_from r c (λ x i. f x (inr i)))
 
 -- the room that denies the conflict is where the walk begins: the trail lies inside it
-pub denies_from : (t : Story) (n : ℕ) → IsStory t n → (k : List Lit) (old new : Facts) → ((m : Lit) → old m ≡ true → t.start m ≡ true) → ((l : Lit) → In l k → room_at t n (negation l) ≡ true)
+pub denies_from : (t : Story) (n : ℕ) → IsStory t n → (k : List Lit) (old new : Facts) → ((m : Lit) → old m ≡ true → t.start m ≡ true) → ((l : Lit) → InClause l k → room_at t n (negation l) ≡ true)
     → DeniesAll old new k → Denies t.start (room_at t n) k new
 denies_from t n s k old new fresh false_all d =
     let inside : Narrower (room_at t n) new = λ m y. elim (d.sources m y) [

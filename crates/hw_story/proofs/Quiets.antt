@@ -15,7 +15,7 @@ use Rattle.hw_model.specs.Lits.{IsLitOf}
 use Rattle.hw_laws.proofs.Denials.{lit_of}
 use Rattle.hw_story.specs.Replays.{Narrower}
 use Rattle.hw_story.specs.Stories.{room_at}
-use Rattle.hw_story.specs.Walks.{In, denying}
+use Rattle.hw_story.specs.Walks.{InClause, denying}
 use Rattle.hw_story.specs.News.{Free as IsFree, Quiet}
 use Rattle.hw_story.specs.News.Quiet.{ByTrue, ByTwo}
 use Rattle.hw_story.specs.Knowing.{knows, always}
@@ -46,19 +46,19 @@ is_free_of True e = absurd cc
 is_free_of False e = absurd cc
 is_free_of Free e = refl
 
-some_in : (room : RoomModel) (c : List Lit) → some_true room c ≡ true → (l : Lit) × In l c × (truth room l ≡ True)
+some_in : (room : RoomModel) (c : List Lit) → some_true room c ≡ true → (l : Lit) × InClause l c × (truth room l ≡ True)
 some_in room [] e = absurd cc
 some_in room (l ∷ c) e = elim (or_cases (is_true (truth room l)) (some_true room c) e) [
   | inl y ↦ (l, inl refl, is_true_of _ y)
   | inr y ↦ let r = some_in room c y in (r.0, inr r.1, r.2)
 ]
 
-in_some : (room : RoomModel) (c : List Lit) (l : Lit) → In l c → truth room l ≡ True → some_true room c ≡ true
+in_some : (room : RoomModel) (c : List Lit) (l : Lit) → InClause l c → truth room l ≡ True → some_true room c ≡ true
 in_some room [] l i e = absurd i
 in_some room (m ∷ c) l (inl same) e = or_left _ _ (ap is_true (ap (truth room) same ∙ e))
 in_some room (m ∷ c) l (inr i) e = or_right _ _ (in_some room c l i e)
 
-fits_room : (shape : Shape) (room : RoomModel) (c : List Lit) → IsRoomOf shape room → IsClause shape c → (l : Lit) → In l c → IsLitOf room.ships l
+fits_room : (shape : Shape) (room : RoomModel) (c : List Lit) → IsRoomOf shape room → IsClause shape c → (l : Lit) → InClause l c → IsLitOf room.ships l
 fits_room shape room c of f l i = subst (λ n. IsLitOf n l) (sym of.same_ships) (lit_of shape l (in_fits shape c 0 None f l i))
 
 free_known : (room : RoomModel) → IsRoom room → (l : Lit) → truth room l ≡ Free → IsFree (knows room) l
@@ -101,7 +101,7 @@ denied_narrower shape new old sized fn fo h m y =
 
 -- ---- the lemma against one that was quiet at the end of the level below
 
-known_end : (t : TrailModel) → IsTrail t → (lemma : List Lit) → IsClause (trail_shape t) lemma → All (λ lit. truth (room_of t) lit ≡ False) lemma → (l : Lit) → In l lemma → room_at (story_of t) (length t.events) (negation l) ≡ true
+known_end : (t : TrailModel) → IsTrail t → (lemma : List Lit) → IsClause (trail_shape t) lemma → All (λ lit. truth (room_of t) lit ≡ False) lemma → (l : Lit) → InClause l lemma → room_at (story_of t) (length t.events) (negation l) ≡ true
 known_end t is lemma f h l i = false_end t is l (in_fits (trail_shape t) lemma 0 None f l i) (in_all (λ lit. truth (room_of t) lit ≡ False) lemma h l i)
 
 -- a literal of a level up to this one is False at its end
@@ -145,7 +145,7 @@ not_within t is clause lemma back places old h some fo quiet inside =
     (denied_narrower (trail_shape t) lemma old is.shape h.fits fo inside)
 
 -- a lemma without literals lies inside none that has one
-pub none_within : (shape : Shape) (old : List Lit) (l : Lit) → ShapeFits shape → IsClause shape old → In l old → RoomWithin (denied shape []) (denied shape old) → ⊥
+pub none_within : (shape : Shape) (old : List Lit) (l : Lit) → ShapeFits shape → IsClause shape old → InClause l old → RoomWithin (denied shape []) (denied shape old) → ⊥
 none_within shape old l sized fo i inside =
     empty_outside (always shape.ships shape.slots) old l i (fits_fresh shape l (in_fits shape old 0 None fo l i)) (denied_narrower shape [] old sized refl fo inside)
 

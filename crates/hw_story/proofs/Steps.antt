@@ -14,7 +14,7 @@ use Rattle.hw_model.specs.Replay.{is_true, is_free, some_true, free_lits, step_b
 use Rattle.hw_model.specs.Lits.{IsLitOf}
 use Rattle.hw_laws.proofs.Bounds.{cut_room_is}
 use Rattle.hw_laws.proofs.Cuts.{full_room, no_order_set, same_ships}
-use Rattle.hw_story.specs.Replays.{Facts, Narrower, World, AllFalse, OnlyLeft, adding, left, any_true, meets}
+use Rattle.hw_story.specs.Replays.{Facts, Narrower, World, AllDenied, OnlyLeft, adding, left, any_true, meets}
 use Rattle.hw_story.specs.Knowing.{knows}
 use Rattle.hw_story.proofs.Replays.{Step, step_view, left_free, ends_inside, step_conflict, after_same, after_cut, cut_world}
 use Rattle.hw_story.proofs.Replays.Step.{Conflict, Same, Cut}
@@ -170,15 +170,15 @@ cut_left room c e i f h =
     let parts = cut_parts _ _ e (sym (narrow_left room c i f (left (knows room) c) refl) ∙ h) in
     sym (none_true room (left (knows room) c) parts.0) ∙ parts.1
 
-all_false_by : (b : Bool) (r : Facts) (l : Lit) (xs c : List Lit) → r (negation l) ≡ b → cond b xs (l ∷ xs) ≡ [] → (xs ≡ [] → AllFalse r c) → (r (negation l) ≡ true) × AllFalse r c
+all_false_by : (b : Bool) (r : Facts) (l : Lit) (xs c : List Lit) → r (negation l) ≡ b → cond b xs (l ∷ xs) ≡ [] → (xs ≡ [] → AllDenied r c) → (r (negation l) ≡ true) × AllDenied r c
 all_false_by true r l xs c e h k = (e, k h)
 all_false_by false r l xs c e h k = absurd cc
 
-pub all_false_left : (r : Facts) (c : List Lit) → left r c ≡ [] → AllFalse r c
+pub all_false_left : (r : Facts) (c : List Lit) → left r c ≡ [] → AllDenied r c
 all_false_left r [] h = tt
 all_false_left r (l ∷ c) h = all_false_by (r (negation l)) r l (left r c) c refl h (all_false_left r c)
 
-only_by : (b : Bool) (r : Facts) (l e : Lit) (xs c : List Lit) → r (negation l) ≡ b → cond b xs (l ∷ xs) ≡ e ∷ [] → (xs ≡ [] → AllFalse r c) → (xs ≡ e ∷ [] → OnlyLeft r e c) → ((l ≡ e) × AllFalse r c) ⊎ ((r (negation l) ≡ true) × OnlyLeft r e c)
+only_by : (b : Bool) (r : Facts) (l e : Lit) (xs c : List Lit) → r (negation l) ≡ b → cond b xs (l ∷ xs) ≡ e ∷ [] → (xs ≡ [] → AllDenied r c) → (xs ≡ e ∷ [] → OnlyLeft r e c) → ((l ≡ e) × AllDenied r c) ⊎ ((r (negation l) ≡ true) × OnlyLeft r e c)
 only_by true r l e xs c at h k g = inr (at, g h)
 only_by false r l e xs c at h k g = inl ((let same : l ≡ e = cc in same), k (let none : xs ≡ [] = cc in none))
 
@@ -187,7 +187,7 @@ only_left_of r e [] h = absurd cc
 only_left_of r e (l ∷ c) h = only_by (r (negation l)) r l e (left r c) c refl h (all_false_left r c) (only_left_of r e c)
 
 -- what a narrower room makes of them
-pub false_narrower : (r s : Facts) → Narrower s r → (c : List Lit) → AllFalse r c → AllFalse s c
+pub false_narrower : (r s : Facts) → Narrower s r → (c : List Lit) → AllDenied r c → AllDenied s c
 false_narrower r s n [] h = tt
 false_narrower r s n (l ∷ c) h = (n (negation l) h.0, false_narrower r s n c h.1)
 

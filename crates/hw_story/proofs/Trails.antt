@@ -5,7 +5,6 @@ use Rattle.std.proofs.lemmas.Bool.{cases_Bool, or_cases, or_left, or_right}
 use Rattle.std.proofs.lemmas.List.Sums.{fold_push}
 use Rattle.std.proofs.lemmas.Option.{slice_get-get_or}
 use Rattle.hw_model.specs.declared.lit.Lit.{Lit}
-use Rattle.hw_model.specs.declared.lit.Lit.TheVariants.{AtOrAfter, Before, First, NotFirst}
 use Rattle.hw_model.specs.Lits.{negation, IsClause}
 use Rattle.hw_model.specs.Rooms.{RoomModel, IsRoomOf, whole_room}
 use Rattle.hw_model.specs.Narrowing.{cut}
@@ -13,6 +12,8 @@ use Rattle.hw_model.specs.Lits.{IsLitOf}
 use Rattle.hw_laws.proofs.Bounds.{cut_room_is}
 use Rattle.hw_laws.proofs.Cuts.{full_room, no_order_set, same_ships}
 use Rattle.hw_laws.proofs.Denials.{lit_of}
+use Rattle.hw_laws.proofs.Quiets.{same_slots as cut_slots}
+use Rattle.hw_lits.proofs.Forms.{lits_from}
 use Rattle.hw_story.specs.declared.event.Event.{Event}
 use Rattle.hw_story.specs.Replays.{World}
 use Rattle.hw_story.specs.Stories.{room_at, level_before, CameBy, IsStory}
@@ -22,7 +23,7 @@ use Rattle.hw_story.specs.Bridge.{idle, event_at, story_of}
 use Rattle.hw_story.proofs.Knowing.{know_world, cut_in, cut_out}
 use Rattle.hw_story.proofs.Truth.{free_unknown}
 use Rattle.hw_story.proofs.Steps.{cut_left, only_left_of, only_narrower}
-use Rattle.hw_story.proofs.Denials.{whole_of, whole_knows, knows_whole, clause_lits}
+use Rattle.hw_story.proofs.Denials.{whole_of, whole_knows, knows_whole}
 
 pub told_at : (t : TrailModel) → IsTrail t → (p : ℕ) → p < length t.events → Happens (trail_shape t) (room_before t p) (level_after (take p t.events)) (event_at t p)
 told_at t is p lt = subst (λ o. IfSome o (Happens (trail_shape t) (room_before t p) (level_after (take p t.events)))) (slice_get-get_or t.events p idle lt) (is.told p)
@@ -32,12 +33,6 @@ room_suc t p lt = ap (room_by (trail_shape t)) (take-suc t.events p idle lt) ∙
 
 pub level_suc : (t : TrailModel) (p : ℕ) → p < length t.events → level_after (take (suc p) t.events) ≡ (event_at t p).level
 level_suc t p lt = ap level_after (take-suc t.events p idle lt) ∙ fold_push (λ level (event : Event). event.level) 0 (take p t.events) (event_at t p)
-
-cut_slots : (room : RoomModel) (lit : Lit) → (cut lit room).slots ≡ room.slots
-cut_slots room (AtOrAfter v k) = refl
-cut_slots room (Before v k) = refl
-cut_slots room (First v w) = refl
-cut_slots room (NotFirst v w) = refl
 
 -- the room before a place is one of the shape, and knows what the story says
 pub record Known (t : TrailModel) (p : ℕ) : Type 0 where
@@ -112,7 +107,7 @@ always_world t is =
 because_of : (t : TrailModel) (p : ℕ) → IsTrail t → p < length t.events → Known t p → (why : Option (List Lit)) → IfSome why (IsClause (trail_shape t)) → Because (room_before t p) (level_after (take p t.events)) (event_at t p).lit (event_at t p).level why → CameBy (story_of t) p why
 because_of t p is lt k None f b = b ∙ ap (λ n. n + 1) (level_same t p (omega (arith, lt)))
 because_of t p is lt k (Some c) f b =
-    let lits : All (IsLitOf (room_before t p).ships) c = subst (λ n. All (IsLitOf n) c) (sym k.of.same_ships) (clause_lits (trail_shape t) c 0 None f) in
+    let lits : All (IsLitOf (room_before t p).ships) c = subst (λ n. All (IsLitOf n) c) (sym k.of.same_ships) (lits_from (trail_shape t) c 0 None f) in
     (b.0 ∙ level_same t p (omega (arith, lt)), only_narrower (knows (room_before t p)) (room_at (story_of t) p) (event_at t p).lit k.into c (only_left_of (knows (room_before t p)) (event_at t p).lit c (cut_left (room_before t p) c (event_at t p).lit k.of.is_room lits b.1)))
 
 pub trail_story : (t : TrailModel) → IsTrail t → IsStory (story_of t) (length t.events)

@@ -1,6 +1,7 @@
 -- What a room knows is what it makes True, and what it makes False is what it knows the negation of.
 use Rattle.std.proofs.Common.{◌≡◌, Bool, true, false, cond, refl, sym, ◌∙◌, arith, inl, inr, nat_le, nat_lt}
 use Rattle.std.proofs.lemmas.Bool.{and_parts, and_from, le-leb, lt-ltb, lt-leb, le-ltb, cases_Bool}
+use Rattle.hw_lemmas.proofs.Truths.{clash}
 use Rattle.hw_model.specs.declared.lit.Lit.{Lit}
 use Rattle.hw_model.specs.declared.lit.Lit.TheVariants.{AtOrAfter, Before, First, NotFirst}
 use Rattle.hw_model.specs.declared.lit.LitTruth.{LitTruth}
@@ -108,9 +109,6 @@ free_unknown room i lit e = (
   elim (cases_Bool (knows room lit)) [ inl y ↦ absurd (true_isnt_free (sym (known_true room lit y) ∙ e)) | inr n ↦ n ],
   elim (cases_Bool (knows room (negation lit))) [ inl y ↦ absurd (false_isnt_free (sym (known_false room i lit y) ∙ e)) | inr n ↦ n ],
 )
-
-clash : (b : Bool) → b ≡ true → b ≡ false → ⊥
-clash b y n = cc
 
 pub unknown_free : (room : RoomModel) (lit : Lit) → IsLitOf room.ships lit → knows room lit ≡ false → knows room (negation lit) ≡ false → truth room lit ≡ Free
 unknown_free room lit f y n = by (truth room lit) refl

@@ -14,9 +14,9 @@ use Rattle.hw_story.specs.declared.event.Event.{Event}
 use Rattle.hw_story.specs.declared.event.Why.{Why}
 use Rattle.hw_story.specs.Replays.{meets}
 use Rattle.hw_story.specs.Stories.{room_at, IsStory}
-use Rattle.hw_story.specs.Walks.{In, IsTop, WalkGives}
+use Rattle.hw_story.specs.Walks.{InClause, IsTopLevel, WalkGives}
 use Rattle.hw_story.specs.Knowing.{knows}
-use Rattle.hw_story.specs.Trails.{TrailModel, trail_shape, clause_of, room_before, room_of, IsTrail, no_events, with_event, decided, implied, back_to, most_events}
+use Rattle.hw_story.specs.Trails.{TrailModel, trail_shape, reason_clause, room_before, room_of, IsTrail, no_events, with_event, decided, implied, back_to, most_events}
 use Rattle.hw_story.specs.Learning.{event_of, level_at, top_level, Learns, QuietBelow}
 use Rattle.hw_story.specs.Bridge.{story_of, event_at, GoesBack}
 
@@ -31,7 +31,7 @@ ReplayKnows = (room : RoomModel) (clauses : List (List Lit)) → IsRoom room →
 -- no event is a trail, and each change keeps one
 pub record TrailChanges (t : TrailModel) : Type 0 where
   pub decision : (lit : Lit) → lit_fits (trail_shape t) lit ≡ true → truth (room_of t) lit ≡ Free → IsTrail (decided t lit)
-  pub implication : (lit : Lit) (why : Why) → lit_fits (trail_shape t) lit ≡ true → IsClause (trail_shape t) (clause_of why) → truth (room_of t) lit ≡ Free → narrowing (clause_of why) (room_of t) ≡ Cut lit → IsTrail (implied t lit why)
+  pub implication : (lit : Lit) (why : Why) → lit_fits (trail_shape t) lit ≡ true → IsClause (trail_shape t) (reason_clause why) → truth (room_of t) lit ≡ Free → narrowing (reason_clause why) (room_of t) ≡ Cut lit → IsTrail (implied t lit why)
   pub back : (level : ℕ) → level ≤ t.level → IsTrail (back_to t level)
   pub cuts : (event : Event) → room_of (with_event t event) ≡ cut event.lit (room_of t)
 
@@ -78,7 +78,7 @@ EventComputed = (t : TrailModel) (lit : Lit) → IsTrail t → lit_fits (trail_s
 -- what the walk back over a story finds is what the conflict teaches
 abbrev pub WalkLearns : Type 0
 WalkLearns = (t : TrailModel) → IsTrail t → (n : ℕ) → n ≤ length t.events → (top : ℕ) (clause lemma : List Lit) (back : ℕ) (places : List ℕ)
-    → IsClause (trail_shape t) clause → ((lit : Lit) → In lit clause → room_at (story_of t) n (negation lit) ≡ true) → IsTop (story_of t) n clause top
+    → IsClause (trail_shape t) clause → ((lit : Lit) → InClause lit clause → room_at (story_of t) n (negation lit) ≡ true) → IsTopLevel (story_of t) n clause top
     → IsClause (trail_shape t) lemma → (top ≡ 0 → back ≡ 0) → GoesBack (story_of t) n top lemma back
     → WalkGives (story_of t) n top clause lemma back places → Learns t clause lemma back places
 

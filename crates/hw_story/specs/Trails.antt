@@ -25,14 +25,14 @@ abbrev pub trail_shape : TrailModel → Shape
 trail_shape t = record { ships = t.ships; slots = t.slots; rules = 0 }
 
 -- the clause of a reason
-abbrev pub clause_of : Why → List Lit
-clause_of (whys.Lemma id clause) = clause
-clause_of (whys.Source source clause) = clause
-clause_of (whys.Priced clause) = clause
+abbrev pub reason_clause : Why → List Lit
+reason_clause (whys.Lemma id clause) = clause
+reason_clause (whys.Source source clause) = clause
+reason_clause (whys.Priced clause) = clause
 
 -- the clause of an event's reason, none of a decision
 abbrev pub reason : Event → Option (List Lit)
-reason event = option_map clause_of event.why
+reason event = option_map reason_clause event.why
 
 -- the whole room cut by the literals of events, in order
 abbrev pub room_by : Shape → List Event → RoomModel

@@ -13,7 +13,7 @@ use Rattle.hw_report.specs.Reports.{Report, by_number, refused, too_long}
 use Rattle.hw_report.specs.declared.report.RefusedWord.{RefusedWord}
 use Rattle.hw_command.specs.Certificates.{cert_outcome_to, report_of, report_of_check}
 use Rattle.hw_command.specs.Readings.{KeepsTable, ReadsCert, ReadsLines, outcome_in}
-use Rattle.hw_command.specs.Scope.{Entered, named}
+use Rattle.hw_command.specs.Scope.{Entered, named_feed}
 use Rattle.hw_command.specs.Works.{Works, is_common}
 use Rattle.hw_command.specs.declared.cert.ReadCert.{ReadCert}
 use Rattle.hw_command.specs.declared.outcome.CertOutcome.{CertOutcome}
@@ -24,7 +24,7 @@ use Rattle.hw_command.specs.declared.taking.LastTable.{LastTable}
 use Rattle.hw_command.proofs.Begun.{entered_on}
 use Rattle.hw_command.proofs.CertWorks.{cert_works}
 use Rattle.hw_repair.specs.Wishes.{PlanParts}
-use Rattle.hw_subject.specs.Meanings.{IsModelled, judged, ships_of}
+use Rattle.hw_subject.specs.Meanings.{IsModelled, judged, repair_ships}
 use Rattle.hw_subject.specs.Reading.{ReadsSubject, plan_in, searched_in}
 use Rattle.hw_subject.specs.Shown.{Refused, Shown}
 use Rattle.hw_subject.specs.Subjects.{Subject, Topic, topic_subject}
@@ -45,8 +45,8 @@ pub unmade : (topic : Topic) {x y : DeskState} {given : Given} → IsNewDesk x �
 unmade topic new h = ap (λ trays. (trays tray.Proof).made) h.entered.trays ∙ new.trays tray.Proof
 
 -- the number of ships that is told
-pub counted : {s : Subject} {x y : DeskState} {given : Given} → (h : ReadsSubject s x y given) → ships_of given.flat (plan_in given.repair) ≡ ships_of (s.problem h.value) (s.plan h.value)
-counted {s = s} {given = given} h = ap (λ (f : Problem). ships_of f (plan_in given.repair)) h.problem ∙ ap (λ (plan : Option PlanParts). ships_of (s.problem h.value) plan) h.plan
+pub counted : {s : Subject} {x y : DeskState} {given : Given} → (h : ReadsSubject s x y given) → repair_ships given.flat (plan_in given.repair) ≡ repair_ships (s.problem h.value) (s.plan h.value)
+counted {s = s} {given = given} h = ap (λ (f : Problem). repair_ships f (plan_in given.repair)) h.problem ∙ ap (λ (plan : Option PlanParts). repair_ships (s.problem h.value) plan) h.plan
 
 pub modelled : (topic : Topic) {x y : DeskState} {given : Given} → (h : ReadsSubject (topic_subject topic) x y given) → IsModelled (topic_subject topic) h.value
 modelled topic {x = x} h = subjects_modelled_law topic x.held h.value h.reads
@@ -60,7 +60,7 @@ judged_lines s {Kept = Kept} {most = most} {cert = cert} {y = y} {z = z} {read =
 -- ---- a certificate whose last timetable is kept
 
 -- all inputs were begun
-pub all_entered : (topic : Topic) {cert : List ℕ} {x y z : DeskState} {given : Given} {result : Result (ReadCert LastTable) CertStop} {f : Problem} → ReadsSubject (topic_subject topic) x y given → ReadsCert Three KeepsTable f cert y z result → Entered ((topic_subject topic).inputs ++ named Certificate cert ∷ []) x z
+pub all_entered : (topic : Topic) {cert : List ℕ} {x y z : DeskState} {given : Given} {result : Result (ReadCert LastTable) CertStop} {f : Problem} → ReadsSubject (topic_subject topic) x y given → ReadsCert Three KeepsTable f cert y z result → Entered ((topic_subject topic).inputs ++ named_feed Certificate cert ∷ []) x z
 all_entered topic h k = entered_on (topic_subject topic).inputs h.entered k.enters (certless topic).unread
 
 -- what was read of it before this outcome
@@ -94,7 +94,7 @@ nothing_says topic P (Err Fault) nothing h k wrong long own = absurd (cc)
 nothing_says topic P (Err NoMemory) nothing h k wrong long own = absurd (cc)
 
 -- the work up to it
-pub nothing_works : (topic : Topic) {cert : List ℕ} {x y z : DeskState} {given : Given} {f : Problem} (result : Result (ReadCert LastTable) CertStop) → ReadsSubject (topic_subject topic) x y given → ReadsCert Three KeepsTable f cert y z result → Works ((topic_subject topic).inputs ++ named Certificate cert ∷ []) ((topic_subject topic).Gives x.held) None x z (report_of_check by_number None None (outcome_in result))
+pub nothing_works : (topic : Topic) {cert : List ℕ} {x y z : DeskState} {given : Given} {f : Problem} (result : Result (ReadCert LastTable) CertStop) → ReadsSubject (topic_subject topic) x y given → ReadsCert Three KeepsTable f cert y z result → Works ((topic_subject topic).inputs ++ named_feed Certificate cert ∷ []) ((topic_subject topic).Gives x.held) None x z (report_of_check by_number None None (outcome_in result))
 nothing_works topic {cert = cert} {x = x} result h k =
     let s = topic_subject topic in
-    cert_works by_number None None None result h.entered h.read_faults (certless topic).unread (before_last (s.Gives x.held) s.inputs (named Certificate cert) h.give) k
+    cert_works by_number None None None result h.entered h.read_faults (certless topic).unread (before_last (s.Gives x.held) s.inputs (named_feed Certificate cert) h.give) k

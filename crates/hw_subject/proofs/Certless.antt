@@ -4,7 +4,7 @@ use Rattle.hw_desk.specs.declared.desk.Feed.TheVariants.{Certificate, Plan}
 use Rattle.hw_cert.specs.declared.version.Version.{Version}
 use Rattle.hw_report.specs.Reports.{Report, bad_text, checked, refused, too_long}
 use Rattle.hw_report.specs.declared.report.RefusedWord.{RefusedWord}
-use Rattle.hw_command.specs.Scope.{is_among}
+use Rattle.hw_command.specs.Scope.{feed_is_among}
 use Rattle.hw_command.specs.Works.{of_answer, speaks}
 use Rattle.hw_command.proofs.FlatForms.{by_line}
 use Rattle.hw_command.proofs.PortForms.{by_fault}
@@ -13,7 +13,7 @@ use Rattle.hw_subject.specs.Subjects.{Subject, Origin, Topic, flat_text, port_of
 
 -- it doesn't begin a certificate
 pub record IsCertless (s : Subject) : Type 0 where
-  pub unread : is_among s.inputs Certificate ≡ false
+  pub unread : feed_is_among s.inputs Certificate ≡ false
   pub silent : (held : List ℕ → Option (List ℕ)) (r : Report) → s.Refuses held r → speaks r ≡ of_answer → ⊥
   pub refused : (held : List ℕ → Option (List ℕ)) (number : ℕ) (word : RefusedWord) (hint : Option ℕ) → s.Refuses held (refused number word hint) → ⊥
   pub long : (held : List ℕ → Option (List ℕ)) → s.Refuses held (too_long Certificate) → ⊥
@@ -43,7 +43,7 @@ origin_certless (port_of instance table) = record {
   long = λ held h. h;
 }
 
-repair_unread : (a : Origin) (name : List ℕ) → is_among (repair_of (origin_subject a) name).inputs Certificate ≡ false
+repair_unread : (a : Origin) (name : List ℕ) → feed_is_among (repair_of (origin_subject a) name).inputs Certificate ≡ false
 repair_unread (flat_text text) name = refl
 repair_unread (port_of instance table) name = refl
 

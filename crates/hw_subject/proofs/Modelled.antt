@@ -4,8 +4,8 @@ use Rattle.std.specs.Prelude.{◌↔◌}
 use Rattle.hw_model.specs.Limits.{IsFlat}
 use Rattle.hw_model.specs.Problem.{Problem}
 use Rattle.hw_model.specs.Timetables.{Permits, cargo, plus}
+use Rattle.hw_laws.proofs.Cargoes.{has_cargo}
 use Rattle.hw_flat.specs.TextWritten.{IsWritable}
-use Rattle.hw_verdict.proofs.Denied.{has_cargo}
 use Rattle.hw_port_laws.proofs.Limits.{flattened_fits_law, staying_is_nothing_law}
 use Rattle.hw_port_laws.proofs.Permits.{same_permitted_law, same_cargo_law}
 use Rattle.hw_port.specs.Kept.{PortKept}

@@ -8,7 +8,7 @@ use Rattle.hw_cert.specs.declared.version.Version.{Version}
 use Rattle.hw_cert.specs.declared.version.Version.TheVariants.{Two}
 use Rattle.hw_report.specs.Reports.{Report, by_number, bad_flat, too_long}
 use Rattle.hw_command.specs.Inputs.{NoFlat}
-use Rattle.hw_command.specs.Values.{most_bytes, IsTextOf}
+use Rattle.hw_command.specs.Values.{most_bytes, IsProblemText}
 use Rattle.hw_subject.specs.Subjects.{IsProblemOf}
 use Rattle.hw_subject.specs.Texts.{plan_report, read_report, texts_report}
 
@@ -18,7 +18,7 @@ within : (most : Version) (text : List ℕ) (plan : Option (List ℕ)) (bytes : 
 within most text plan bytes h = ap (λ b. cond b (too_long feeds.Flat) (read_report most (flat_text text) plan bytes)) (le-ltb _ _ h)
 
 -- a text of this problem
-pub of_text : (most : Version) (f : Problem) (text : List ℕ) (plan : Option (List ℕ)) (bytes : List ℕ) → IsTextOf f text → texts_report most text plan bytes ≡ plan_report most by_number f plan bytes
+pub of_text : (most : Version) (f : Problem) (text : List ℕ) (plan : Option (List ℕ)) (bytes : List ℕ) → IsProblemText f text → texts_report most text plan bytes ≡ plan_report most by_number f plan bytes
 of_text most f text plan bytes h = within most text plan bytes h.0 ∙ ap (λ read. read_report most read plan bytes) h.1
 
 -- a text that gives none

@@ -3,7 +3,7 @@ use Rattle.std.proofs.Common.{◌≡◌, ◌≤◌, ◌<◌, ◌⊎◌, ◌∙�
 use Rattle.std.proofs.lemmas.Bool.{le-ltb, lt-ltb}
 use Rattle.hw_model.specs.Problem.{Problem}
 use Rattle.hw_desk.specs.declared.desk.Feed.TheVariants as feeds
-use Rattle.hw_derived.specs.Reading.{Fault}
+use Rattle.hw_derived.specs.Reading.{MalformedLine}
 use Rattle.hw_repair.specs.Text.{plan_text}
 use Rattle.hw_repair.specs.declared.fault.PlanWord.{PlanWord}
 use Rattle.hw_repair.specs.Wishes.{PlanParts}
@@ -45,10 +45,10 @@ of_no_plan s name held most names plan bytes (bad_text feeds.Plan number word) t
 of_no_plan s name held most names plan bytes (too_long feeds.Plan) told h = inr (record { value = h.0.value; reads = h.0.reads; report = long_is most names (s.problem h.0.value) plan bytes (subst (λ (o : Option (List ℕ)). IfSome o IsLong) told h.1) })
 of_no_plan s name held most names plan bytes r told h = inl h
 
-one_read : {a b : PlanParts} {read : Result PlanParts (Fault PlanWord)} → read ≡ Ok a → read ≡ Ok b → a ≡ b
+one_read : {a b : PlanParts} {read : Result PlanParts (MalformedLine PlanWord)} → read ≡ Ok a → read ≡ Ok b → a ≡ b
 one_read h k = cc
 
-bad_read : {a : PlanParts} {bad : Fault PlanWord} {read : Result PlanParts (Fault PlanWord)} → read ≡ Ok a → read ≡ Err bad → ⊥
+bad_read : {a : PlanParts} {bad : MalformedLine PlanWord} {read : Result PlanParts (MalformedLine PlanWord)} → read ≡ Ok a → read ≡ Err bad → ⊥
 bad_read h k = absurd (cc)
 
 too_many : {n m : ℕ} → n ≤ m → m < n → ⊥

@@ -10,7 +10,7 @@ use Rattle.hw_tide.specs.Levels.{TideParts}
 use Rattle.hw_report.specs.Reports.{Report, bad_text, too_long}
 use Rattle.hw_command.specs.Inputs.{ReadsFlat}
 use Rattle.hw_command.specs.PortInputs.{ReadsPortProblem}
-use Rattle.hw_command.specs.Scope.{Named as Input, named, is_among, GiveBefore}
+use Rattle.hw_command.specs.Scope.{Named as Input, named_feed, feed_is_among, GiveBefore}
 use Rattle.hw_command.proofs.Begun.{entered_on}
 use Rattle.hw_command.proofs.FlatForms.{gives_problem}
 use Rattle.hw_command.proofs.PortForms.{port_given, gives_tide}
@@ -19,7 +19,7 @@ use Rattle.hw_repair.specs.Repaired.{repaired}
 use Rattle.hw_subject.specs.PlanInputs.{ReadsRepair, report_of_plan}
 use Rattle.hw_subject.specs.Plans.{IsPlanOf, IsPlanText}
 use Rattle.hw_subject.specs.Reading.{AllGive, ReadsSubject, StopsAtSubject}
-use Rattle.hw_subject.specs.Subjects.{Subject, PlannedGives, NoPlanned, flat_subject, port_subject, source_of, repair_of, repaired_by}
+use Rattle.hw_subject.specs.Subjects.{Subject, PlannedGives, NoPlanned, flat_subject, port_subject, subject_of_source, repair_of, repaired_by}
 use Rattle.hw_subject.specs.declared.plan_input.PlanStop.{PlanStop}
 use Rattle.hw_subject.specs.declared.plan_input.Repair.{Repair}
 use Rattle.hw_subject.specs.declared.source.Named.TheVariants.{ByNumber, ByName}
@@ -70,7 +70,7 @@ before_last G [] last h = tt
 before_last G (input ∷ []) last h = (h.0, tt)
 before_last G (input ∷ next ∷ more) last h = (h.0, before_last G (next ∷ more) last h.1)
 
-all_on : (G : Feed → Type 0) (xs : List Input) (last : Input) → AllGive G xs → G last.feed → AllGive G (xs ++ last ∷ [])
+pub all_on : (G : Feed → Type 0) (xs : List Input) (last : Input) → AllGive G xs → G last.feed → AllGive G (xs ++ last ∷ [])
 all_on G [] last h k = (k, tt)
 all_on G (input ∷ more) last h k = (h.0, all_on G more last h.1 k)
 
@@ -82,7 +82,7 @@ all_as G H (input ∷ more) k h = (k input.feed h.0, all_as G H more k h.1)
 
 -- it doesn't begin a plan, and what it gives and refuses its repair does too
 pub record Plain (s : Subject) : Type 0 where
-  pub unread : is_among s.inputs feeds.Plan ≡ false
+  pub unread : feed_is_among s.inputs feeds.Plan ≡ false
   pub gives : (name : List ℕ) (held : List ℕ → Option (List ℕ)) (feed : Feed) → s.Gives held feed → PlannedGives s name held feed
   pub refuses : (name : List ℕ) (held : List ℕ → Option (List ℕ)) (r : Report) → s.Refuses held r → NoPlanned s name held r
   pub planless : (v : s.Value) → s.plan v ≡ None
@@ -105,7 +105,7 @@ port_refuses_on instance table name held (bad_text feeds.Plan number word) h = a
 port_refuses_on instance table name held (too_long feeds.Plan) h = absurd h
 port_refuses_on instance table name held r h = h
 
-pub plain : (a : Source) → Plain (source_of a)
+pub plain : (a : Source) → Plain (subject_of_source a)
 plain (Flat text) = record { unread = refl; gives = flat_gives_on text.now; refuses = flat_refuses_on text.now; planless = λ v. refl }
 plain (Port names) = record { unread = refl; gives = port_gives_on names.instance.now names.tides.now; refuses = port_refuses_on names.instance.now names.tides.now; planless = λ v. refl }
 
@@ -117,7 +117,7 @@ planned_read s name {x = x} {given = given} {repair = repair} plain h k =
     record {
       entered = entered_on s.inputs h.entered k.enters plain.unread;
       read_faults = k.answer.2 ∙ h.read_faults;
-      give = all_on (PlannedGives s name x.held) s.inputs (named feeds.Plan name) (all_as (s.Gives x.held) (PlannedGives s name x.held) s.inputs (plain.gives name x.held) h.give) (record { value = record { value = h.value; plan = repair.plan }; reads = record { reads = h.reads; planned = planned } });
+      give = all_on (PlannedGives s name x.held) s.inputs (named_feed feeds.Plan name) (all_as (s.Gives x.held) (PlannedGives s name x.held) s.inputs (plain.gives name x.held) h.give) (record { value = record { value = h.value; plan = repair.plan }; reads = record { reads = h.reads; planned = planned } });
       value = record { value = h.value; plan = repair.plan };
       reads = record { reads = h.reads; planned = planned };
       problem = h.problem;
@@ -130,14 +130,14 @@ planned_read s name {x = x} {given = given} {repair = repair} plain h k =
 
 pub planless : (s : Subject) (name : List ℕ) {x y z : DeskState} {given : Given} (stop : PlanStop) → Plain s → ReadsSubject s x y given → ReadsRepair given.flat name y z (Err stop) → StopsAtSubject (repair_of s name) x z (report_of_plan stop)
 planless s name {x = x} stop plain h k = plan_stops stop h.entered h.read_faults plain.unread
-    (before_last (PlannedGives s name x.held) s.inputs (named feeds.Plan name) (all_as (s.Gives x.held) (PlannedGives s name x.held) s.inputs (plain.gives name x.held) h.give))
+    (before_last (PlannedGives s name x.held) s.inputs (named_feed feeds.Plan name) (all_as (s.Gives x.held) (PlannedGives s name x.held) s.inputs (plain.gives name x.held) h.give))
     (λ long. (record { value = h.value; reads = h.reads }, long))
     (λ number word bad. record { value = h.value; reads = h.reads; wrong = record { kind = word; named = refl; reads = subst (λ (g : Problem). IfSome (x.held name) (IsPlanText g (Err (record { number = number; word = word })))) h.problem bad } }) k
 
 pub stops_by : (s : Subject) (o : Option (List ℕ)) {x y : DeskState} {r : Report} → Plain s → StopsAtSubject s x y r → StopsAtSubject (repaired_by s o) x y r
 stops_by s None plain h = h
 stops_by s (Some name) {x = x} {r = r} plain h = record {
-  works = further (s.inputs ++ named feeds.Plan name ∷ []) (named feeds.Plan name ∷ []) None refl (plain.gives name x.held) h.early h.works;
+  works = further (s.inputs ++ named_feed feeds.Plan name ∷ []) (named_feed feeds.Plan name ∷ []) None refl (plain.gives name x.held) h.early h.works;
   early = h.early;
   why = λ own. plain.refuses name x.held r (h.why own);
 }

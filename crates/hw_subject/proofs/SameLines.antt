@@ -10,7 +10,7 @@ use Rattle.hw_cert.specs.declared.version.Version.{Version}
 use Rattle.hw_cert.specs.declared.version.Version.TheVariants.{One, Two, Three}
 use Rattle.hw_cert.specs.Spelled.{header_words, kept_to, version_to}
 use Rattle.hw_cert.specs.Fits.{line_read}
-use Rattle.hw_cert.specs.Stream.{Cut, nothing, whole, unended, long, passes, cut_of, tail_cut, behind, line_by, line_next, CertLines, onward, lines_from, lines_by, lines_after, cert_stream_to, cert_stream}
+use Rattle.hw_cert.specs.Stream.{Cut, nothing, whole, unended, long, line_passes_limit, cut_of, tail_cut, behind, line_by, line_next, CertLines, onward, lines_from, lines_by, lines_after, cert_stream_to, cert_stream}
 use Rattle.hw_cert.proofs.Headers.{header_back}
 use Rattle.hw_subject.specs.Decided.{NamesThird}
 
@@ -50,8 +50,8 @@ whole_first taken (tail ∷ []) line more e = absurd (tail_whole taken tail e)
 
     tail_whole : (taken : ℕ) (tail : List ℕ) → tail_cut taken tail ≡ whole line more → ⊥
     tail_whole taken [] e = absurd (cc)
-    tail_whole taken (b ∷ bs) e = passed (passes taken (length (b ∷ bs)) 0) e
-whole_first taken (first ∷ next ∷ rest) line more e = (next, rest, ap (λ (l : List ℕ). l ∷ next ∷ rest) (by (passes taken (length first) 1) e))
+    tail_whole taken (b ∷ bs) e = passed (line_passes_limit taken (length (b ∷ bs)) 0) e
+whole_first taken (first ∷ next ∷ rest) line more e = (next, rest, ap (λ (l : List ℕ). l ∷ next ∷ rest) (by (line_passes_limit taken (length first) 1) e))
   where
     by : (b : Bool) → cond b long (whole first (next ∷ rest)) ≡ whole line more → first ≡ line
     by true e = absurd (cc)

@@ -6,9 +6,9 @@ use Rattle.hw_lines.specs.declared.check.Verdict.{Verdict}
 use Rattle.hw_cert.specs.declared.version.Version.{Version}
 use Rattle.hw_report.specs.Reports.{Report, Naming, checked, refused, too_long}
 use Rattle.hw_command.specs.Carries.{Task, one_report}
-use Rattle.hw_command.specs.Scope.{named}
+use Rattle.hw_command.specs.Scope.{named_feed}
 use Rattle.hw_command.specs.declared.outcome.CertOutcome.TheVariants.{Wrong, TooLong}
-use Rattle.hw_subject.specs.Meanings.{ships_of}
+use Rattle.hw_subject.specs.Meanings.{repair_ships}
 use Rattle.hw_subject.specs.Subjects.{Subject}
 use Rattle.hw_subject.specs.Shown.{Shown, Refused}
 
@@ -17,7 +17,7 @@ pub record Checked (s : Subject) (most : Version) (cert : List ℕ) (held : List
   pub value : s.Value
   pub reads : s.Reads held value
   pub naming : names ≡ s.naming value
-  pub counted : ships ≡ ships_of (s.problem value) (s.plan value)
+  pub counted : ships ≡ repair_ships (s.problem value) (s.plan value)
   pub table : Option (List ℕ)
   pub shown : Shown s value most (held cert) shows bound table
 
@@ -34,7 +34,7 @@ CheckSays s most cert old (Some r) = Checks s most cert old.held r
 
 abbrev pub check_task : Subject → Version → List ℕ → Task
 check_task s most cert = record {
-  inputs = s.inputs ++ (named Certificate cert ∷ []);
+  inputs = s.inputs ++ (named_feed Certificate cert ∷ []);
   Gives = s.Gives;
   proof = None;
   Says = one_report (λ old new. CheckSays s most cert old);

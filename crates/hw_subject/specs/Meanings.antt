@@ -38,9 +38,9 @@ own_moves None ships d = 0
 own_moves (Some plan) ships d = own_moved ships d
 
 -- the number of ships, if a plan is repaired
-abbrev pub ships_of : Problem → Option PlanParts → Option ℕ
-ships_of f None = None
-ships_of f (Some plan) = Some f.ships
+abbrev pub repair_ships : Problem → Option PlanParts → Option ℕ
+repair_ships f None = None
+repair_ships f (Some plan) = Some f.ships
 
 -- ---- timetables
 

@@ -8,7 +8,7 @@ use Rattle.hw_report.specs.Reports.{Report, bad_text}
 use Rattle.hw_command.specs.Inputs.{Enters, StopsFor, report_of_stop}
 use Rattle.hw_repair.specs.declared.fault.PlanWord.{PlanWord}
 use Rattle.hw_repair.specs.Repaired.{repaired}
-use Rattle.hw_repair.specs.Words.{word_text}
+use Rattle.hw_repair.specs.Words.{plan_word_text}
 use Rattle.hw_derived.specs.declared.fault.LineFault.{LineFault}
 use Rattle.hw_derived.specs.declared.fault.LineFault.TheVariants as faults
 use Rattle.hw_subject.specs.Plans.{IsPlanOf, IsPlanText}
@@ -35,4 +35,4 @@ pub record ReadsRepair (f : Problem) (name : List ℕ) (old new : DeskState) (re
 -- the report of why there is no plan
 abbrev pub report_of_plan : PlanStop → Report
 report_of_plan (stops.Input stop) = report_of_stop feeds.Plan stop
-report_of_plan (stops.Line number word) = bad_text feeds.Plan number (word_text word)
+report_of_plan (stops.Line number word) = bad_text feeds.Plan number (plan_word_text word)

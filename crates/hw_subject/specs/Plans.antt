@@ -2,14 +2,14 @@
 use Rattle.std.specs.Prelude.{◌≡◌, ◌≤◌, ℕ, List, Option, Result, Ok, Err, IfSome, length}
 use Rattle.hw_model.specs.Problem.{Problem}
 use Rattle.hw_command.specs.Values.{most_bytes}
-use Rattle.hw_derived.specs.Reading.{Fault}
+use Rattle.hw_derived.specs.Reading.{MalformedLine}
 use Rattle.hw_repair.specs.Text.{plan_text}
 use Rattle.hw_repair.specs.Wishes.{PlanParts, PlanFits}
-use Rattle.hw_repair.specs.Words.{word_text}
+use Rattle.hw_repair.specs.Words.{plan_word_text}
 use Rattle.hw_repair.specs.declared.fault.PlanWord.{PlanWord}
 
 -- the bytes keep the limit, and as a plan of the problem they are read as this
-abbrev pub IsPlanText : Problem → Result PlanParts (Fault PlanWord) → List ℕ → Type 0
+abbrev pub IsPlanText : Problem → Result PlanParts (MalformedLine PlanWord) → List ℕ → Type 0
 IsPlanText f what bytes = (length bytes ≤ most_bytes) × (plan_text f bytes ≡ what)
 
 -- a plan that fits the problem, that of the bytes where they are told
@@ -20,5 +20,5 @@ pub record IsPlanOf (plan : Option (List ℕ)) (f : Problem) (parts : PlanParts)
 -- the first wrong line of the bytes, where they are told, as a plan of the problem, and the word of what was demanded there
 pub record IsWrongLine (plan : Option (List ℕ)) (f : Problem) (number : ℕ) (word : List ℕ) : Type 0 where
   pub kind : PlanWord
-  pub named : word ≡ word_text kind
+  pub named : word ≡ plan_word_text kind
   pub reads : IfSome plan (IsPlanText f (Err (record { number = number; word = kind })))

@@ -7,7 +7,7 @@ use Rattle.hw_desk.specs.declared.desk.Feed.{Feed}
 use Rattle.hw_report.specs.Printing.{AreNamesOf}
 use Rattle.hw_report.specs.Reports.{Report, Naming, by_number, by_name}
 use Rattle.hw_command.specs.Scope.{Named as Input, Entered}
-use Rattle.hw_command.specs.Works.{Stops}
+use Rattle.hw_command.specs.Works.{StopsReading}
 use Rattle.hw_repair.specs.Wishes.{PlanParts}
 use Rattle.hw_subject.specs.Meanings.{judged}
 use Rattle.hw_subject.specs.Subjects.{Subject}
@@ -55,4 +55,4 @@ pub record ReadsSubject (s : Subject) (old new : DeskState) (given : Given) : Ty
 
 -- why there is no value
 abbrev pub StopsAtSubject : Subject → DeskState → DeskState → Report → Type 0
-StopsAtSubject s old new r = Stops s.inputs (s.Gives old.held) (s.Refuses old.held) old new r
+StopsAtSubject s old new r = StopsReading s.inputs (s.Gives old.held) (s.Refuses old.held) old new r

@@ -10,7 +10,7 @@ use Rattle.hw_cert.specs.declared.version.Version.{Version}
 use Rattle.hw_cert.specs.Laws.{has_form}
 use Rattle.hw_cert.specs.Stream.{cert_stream_to}
 use Rattle.hw_command.specs.Certificates.{cert_outcome_to}
-use Rattle.hw_command.specs.Keeping.{whole_lines}
+use Rattle.hw_command.specs.Keeping.{complete_lines}
 use Rattle.hw_command.specs.declared.outcome.CertOutcome.{CertOutcome}
 use Rattle.hw_command.specs.declared.outcome.CertOutcome.TheVariants.{Shows}
 use Rattle.hw_subject.specs.Meanings.{judged, own_worth, IsBoundOf, VerdictSays}
@@ -25,7 +25,7 @@ pub record Shown (s : Subject) (v : s.Value) (most : Version) (bytes : Option (L
   pub verdict : shows ≡ verdict (judged s v) lines
   pub last_bound : bound ≡ bound_of lines
   pub last_table : table ≡ last_table lines
-  pub reads : IfSome bytes (λ bs. cert_stream_to most (shape_of (judged s v)) bs ≡ whole_lines lines)
+  pub reads : IfSome bytes (λ bs. cert_stream_to most (shape_of (judged s v)) bs ≡ complete_lines lines)
   pub outcome : IfSome bytes (λ bs. Shows shows ≡ cert_outcome_to most (judged s v) bs)
   pub means : VerdictSays s v shows table
   pub bounds : IfSome bound (λ b. IsBoundOf s v (own_worth (s.plan v) (s.problem v).ships b))

@@ -16,8 +16,8 @@ use Rattle.hw_port_rules.specs.Permitted.{PortPermits, port_cargo}
 use Rattle.hw_report.specs.Reports.{Report, Naming, by_number, by_name, bad_text, too_long}
 use Rattle.hw_command.specs.Inputs.{NoFlat}
 use Rattle.hw_command.specs.PortInputs.{NoPort}
-use Rattle.hw_command.specs.Scope.{Named, named}
-use Rattle.hw_command.specs.Values.{IsLong, IsTextOf, IsPortOf, FlatGives, PortGives}
+use Rattle.hw_command.specs.Scope.{Named, named_feed}
+use Rattle.hw_command.specs.Values.{IsLong, IsProblemText, IsPortOf, FlatGives, PortGives}
 use Rattle.hw_repair.specs.Wishes.{PlanParts, Grants}
 use Rattle.hw_subject.specs.Plans.{IsPlanOf, IsWrongLine}
 use Rattle.hw_subject.specs.declared.source.Source.{Source}
@@ -55,11 +55,11 @@ pub record Subject : Type 1 where
 pub record IsProblemOf (text : Option (List ℕ)) (f : Problem) : Type 0 where
   pub limits : IsFlat f
   pub writable : IsWritable f
-  pub reads : IfSome text (IsTextOf f)
+  pub reads : IfSome text (IsProblemText f)
 
 abbrev pub flat_subject : List ℕ → Subject
 flat_subject name = record {
-  inputs = named feeds.Flat name ∷ [];
+  inputs = named_feed feeds.Flat name ∷ [];
   Gives = FlatGives name;
   Value = Problem;
   Reads = λ held f. IsProblemOf (held name) f;
@@ -81,7 +81,7 @@ pub record Harbour : Type 0 where
 
 abbrev pub port_subject : List ℕ → List ℕ → Subject
 port_subject instance table = record {
-  inputs = named feeds.Instance instance ∷ named feeds.Tides table ∷ [];
+  inputs = named_feed feeds.Instance instance ∷ named_feed feeds.Tides table ∷ [];
   Gives = PortGives instance table;
   Value = Harbour;
   Reads = λ held v. IsPortOf (held instance) (held table) v.port v.tide;
@@ -136,7 +136,7 @@ NoPlanned s name held r = s.Refuses held r
 -- a subject that is no repair, repaired by a plan
 abbrev pub repair_of : Subject → List ℕ → Subject
 repair_of s name = record {
-  inputs = s.inputs ++ (named feeds.Plan name ∷ []);
+  inputs = s.inputs ++ (named_feed feeds.Plan name ∷ []);
   Gives = PlannedGives s name;
   Value = Planned s;
   Reads = ReadsPlanned s name;
@@ -189,8 +189,8 @@ plan_seen (Some name) = Some name.now
 abbrev pub topic_seen : Asked → Topic
 topic_seen asked = record { origin = origin_seen asked.of; plan = plan_seen asked.plan }
 
-abbrev pub source_of : Source → Subject
-source_of source = origin_subject (origin_seen source)
+abbrev pub subject_of_source : Source → Subject
+subject_of_source source = origin_subject (origin_seen source)
 
 abbrev pub subject_of : Asked → Subject
 subject_of asked = topic_subject (topic_seen asked)

@@ -9,12 +9,12 @@ use Rattle.hw_cert.specs.Stream.{cert_stream_to}
 use Rattle.hw_report.specs.Reports.{Report, Naming, by_number, bad_flat, bad_text, too_long}
 use Rattle.hw_command.specs.Certificates.{cert_outcome_to, report_of}
 use Rattle.hw_command.specs.Values.{most_bytes}
-use Rattle.hw_derived.specs.Reading.{Fault}
+use Rattle.hw_derived.specs.Reading.{MalformedLine}
 use Rattle.hw_repair.specs.Text.{plan_text}
-use Rattle.hw_repair.specs.Words.{word_text}
+use Rattle.hw_repair.specs.Words.{plan_word_text}
 use Rattle.hw_repair.specs.declared.fault.PlanWord.{PlanWord}
 use Rattle.hw_repair.specs.Wishes.{PlanParts}
-use Rattle.hw_subject.specs.Meanings.{repaired_problem, ships_of}
+use Rattle.hw_subject.specs.Meanings.{repaired_problem, repair_ships}
 
 -- the bound of the last bound line that a certificate's bytes read as, or none
 abbrev pub cert_bound : Version → Problem → List ℕ → Option ℕ
@@ -22,11 +22,11 @@ cert_bound most f bytes = bound_of (cert_stream_to most (shape_of f) bytes).line
 
 -- a certificate of a problem in these names, or of the problem's repair by a plan
 abbrev pub cert_report : Version → Naming → Problem → Option PlanParts → List ℕ → Report
-cert_report most names f plan bytes = report_of names (cert_bound most (repaired_problem f plan) bytes) (ships_of f plan) (cert_outcome_to most (repaired_problem f plan) bytes)
+cert_report most names f plan bytes = report_of names (cert_bound most (repaired_problem f plan) bytes) (repair_ships f plan) (cert_outcome_to most (repaired_problem f plan) bytes)
 
 -- a certificate of what a plan of the problem reads as
-abbrev pub planned_report : Version → Naming → Problem → Result PlanParts (Fault PlanWord) → List ℕ → Report
-planned_report most names f (Err bad) bytes = bad_text Plan bad.number (word_text bad.word)
+abbrev pub planned_report : Version → Naming → Problem → Result PlanParts (MalformedLine PlanWord) → List ℕ → Report
+planned_report most names f (Err bad) bytes = bad_text Plan bad.number (plan_word_text bad.word)
 planned_report most names f (Ok plan) bytes = cert_report most names f (Some plan) bytes
 
 -- a certificate of the problem, or of its plan by the plan's bytes

@@ -4,9 +4,9 @@ ghost use Rattle.std.specs.Prelude.{◌≡◌, IfErr, IfOk, None};
 ghost use Rattle.hw_desk.specs.State.{IsNewDesk};
 ghost use Rattle.hw_report.specs.Printing.{CanPrint};
 ghost use Rattle.hw_report.specs.Seen.{names_seen, report_seen};
-ghost use Rattle.hw_subject.specs.Meanings.{ships_of};
+ghost use Rattle.hw_subject.specs.Meanings.{repair_ships};
 ghost use Rattle.hw_subject.specs.Reading.{ReadsSubject, StopsAtSubject, naming_of, plan_in, searched_in};
-ghost use Rattle.hw_subject.specs.Subjects.{source_of, subject_of};
+ghost use Rattle.hw_subject.specs.Subjects.{subject_of_source, subject_of};
 
 use crate::plan_input::{Repair, no_plan, read_repair};
 use crate::source::{Named, Source};
@@ -56,7 +56,7 @@ impl Given {
 
     /// The number of ships, 1 to 40, if a plan is repaired.
     pub fn repaired_ships(&self) -> Option<u32>
-        ensures { result ≡ ships_of self.now.flat (plan_in self.now.repair) }
+        ensures { result ≡ repair_ships self.now.flat (plan_in self.now.repair) }
     {
         match &self.repair {
             Some(_) => Some(self.flat.shape().ships),
@@ -103,9 +103,9 @@ fn read_source<D: Desk>(
     source: Source,
 ) -> Result<Given, Report<'static>>
     requires { IsNewDesk (D.state desk.old) }
-    ensures given { IfOk result (λ given. ReadsSubject (source_of source.entry) (D.state desk.old) (D.state desk.new) given) }
+    ensures given { IfOk result (λ given. ReadsSubject (subject_of_source source.entry) (D.state desk.old) (D.state desk.new) given) }
     ensures plain { IfOk result (λ given. given.repair ≡ None) }
-    ensures stops { IfErr result (λ report. StopsAtSubject (source_of source.entry) (D.state desk.old) (D.state desk.new) (report_seen report)) }
+    ensures stops { IfErr result (λ report. StopsAtSubject (subject_of_source source.entry) (D.state desk.old) (D.state desk.new) (report_seen report)) }
     ensures printed { IfErr result (λ report. CanPrint (report_seen report)) }
 {
     match source {

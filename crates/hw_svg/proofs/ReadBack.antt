@@ -8,7 +8,7 @@ use Rattle.hw_svg.specs.Figures.{move, moves}
 use Rattle.hw_svg.proofs.Digits.{is_digit, digits_of}
 
 -- digits end where a letter begins
-parted : (a b : List ℕ) (x : ℕ) (r s : List ℕ) → is_digit x ≡ false → list_all is_digit a ≡ true → list_all is_digit b ≡ true → a ++ x ∷ r ≡ b ++ x ∷ s → (a ≡ b) × (r ≡ s)
+pub parted : (a b : List ℕ) (x : ℕ) (r s : List ℕ) → is_digit x ≡ false → list_all is_digit a ≡ true → list_all is_digit b ≡ true → a ++ x ∷ r ≡ b ++ x ∷ s → (a ≡ b) × (r ≡ s)
 parted [] [] x r s none p q e = (refl, ap (drop 1) e)
 parted [] (d ∷ b) x r s none p q e = absurd (both_ways (is_digit x) none (ap is_digit (ap (λ (l : List ℕ). get_or l 0 0) e) ∙ (and_parts _ _ q).0))
 parted (c ∷ a) [] x r s none p q e = absurd (both_ways (is_digit x) none (ap is_digit (sym (ap (λ (l : List ℕ). get_or l 0 0) e)) ∙ (and_parts _ _ p).0))

@@ -4,8 +4,8 @@ use Rattle.std.specs.Int.{is_negative}
 use Rattle.hw_svg.specs.Joined.{joined}
 
 -- tenths of a tonne as tonnes
-unfoldable pub tenths : ℕ → List ℕ
-tenths amount = joined (decimal (amount / 10) ∷ codes "." ∷ decimal (amount % 10) ∷ [])
+unfoldable pub tonnes_label : ℕ → List ℕ
+tonnes_label amount = joined (decimal (amount / 10) ∷ codes "." ∷ decimal (amount % 10) ∷ [])
 
 -- centimetres as metres
 unfoldable pub metres : ℕ → List ℕ
@@ -18,12 +18,12 @@ sign height = if is_negative height then codes "-" else []
 unfoldable pub height_text : ℤ → List ℕ
 height_text height = joined (sign height ∷ metres (unsigned_abs height) ∷ [])
 
-abbrev pub two_digits : ℕ → List ℕ
-two_digits number = joined (decimal (number / 10) ∷ decimal (number % 10) ∷ [])
+abbrev pub digit_pair : ℕ → List ℕ
+digit_pair number = joined (decimal (number / 10) ∷ decimal (number % 10) ∷ [])
 
 abbrev pub days : ℕ → List ℕ
 days number = if nat_lt 0 number then joined (decimal number ∷ codes "d " ∷ []) else []
 
 -- minutes as days, where there are some, and hours and minutes of a day
 unfoldable pub clock : ℕ → List ℕ
-clock minutes = joined (days (minutes / 1440) ∷ two_digits (minutes / 60 % 24) ∷ codes ":" ∷ two_digits (minutes % 60) ∷ [])
+clock minutes = joined (days (minutes / 1440) ∷ digit_pair (minutes / 60 % 24) ∷ codes ":" ∷ digit_pair (minutes % 60) ∷ [])

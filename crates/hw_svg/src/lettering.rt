@@ -1,7 +1,7 @@
 //! Lines of text.
 
 ghost use Rattle.hw_desk.specs.Writers.{Puts};
-ghost use Rattle.hw_svg.specs.Pieces.{pieces_text};
+ghost use Rattle.hw_svg.specs.Pieces.{picture_pieces_text};
 ghost use Rattle.hw_svg.specs.Lettering.{line, name_line, squeeze, squeezed, text_begin};
 
 use crate::name::{is_wider, put_name};
@@ -29,7 +29,7 @@ fn put_text_begin<W: Writer>(out: &mut W, class: &[u8], x: u64, y: u64)
 
 /// Puts a text of a class at a place.
 pub fn put_line<W: Writer>(out: &mut W, class: &[u8], x: u64, y: u64, text: &[Piece])
-    ensures { Puts (line class.now x y (pieces_text text.now)) (W.state out.old) (W.state out.new) }
+    ensures { Puts (line class.now x y (picture_pieces_text text.now)) (W.state out.old) (W.state out.new) }
 {
     put_text_begin(out, class, x, y);
     out.put(b">");

@@ -1,14 +1,14 @@
 //! Numbers as they are read: tonnes, metres, times.
 
 ghost use Rattle.hw_desk.specs.Writers.{Puts};
-ghost use Rattle.hw_svg.specs.Numbers.{clock, days, height_text, metres, sign, tenths, two_digits};
+ghost use Rattle.hw_svg.specs.Numbers.{clock, days, height_text, metres, sign, tonnes_label, digit_pair};
 
 use hw_desk::Writer;
 
 /// Puts tenths of a tonne as tonnes, with one digit after the point.
-#[tactic(auto, unfolding(crate::specs::Numbers::tenths))]
+#[tactic(auto, unfolding(crate::specs::Numbers::tonnes_label))]
 pub fn put_tenths<W: Writer>(out: &mut W, amount: u64)
-    ensures { Puts (tenths amount) (W.state out.old) (W.state out.new) }
+    ensures { Puts (tonnes_label amount) (W.state out.old) (W.state out.new) }
 {
     out.put_number(amount / 10);
     out.put(b".");
@@ -48,7 +48,7 @@ pub fn put_height<W: Writer>(out: &mut W, height: i64)
 
 /// Puts a number below 100 as two digits.
 fn put_two_digits<W: Writer>(out: &mut W, number: u64)
-    ensures { Puts (two_digits number) (W.state out.old) (W.state out.new) }
+    ensures { Puts (digit_pair number) (W.state out.old) (W.state out.new) }
 {
     out.put_number(number / 10);
     out.put_number(number % 10);

@@ -1,6 +1,6 @@
 //! The pieces of a text: words, names and numbers.
 
-ghost use Rattle.hw_svg.specs.Pieces.{piece_text, pieces_text};
+ghost use Rattle.hw_svg.specs.Pieces.{picture_piece_text, picture_pieces_text};
 ghost use Rattle.hw_desk.specs.Writers.{Puts};
 
 use crate::name::put_name;
@@ -26,7 +26,7 @@ pub enum Piece<'a> {
 }
 
 fn put_piece<W: Writer>(out: &mut W, piece: Piece)
-    ensures { Puts (piece_text piece.entry) (W.state out.old) (W.state out.new) }
+    ensures { Puts (picture_piece_text piece.entry) (W.state out.old) (W.state out.new) }
 {
     match piece {
         Piece::Word(word) => out.put(word),
@@ -41,7 +41,7 @@ fn put_piece<W: Writer>(out: &mut W, piece: Piece)
 
 /// Puts the pieces one after another, at most about a dozen.
 pub fn put_pieces<W: Writer>(out: &mut W, pieces: &[Piece])
-    ensures { Puts (pieces_text pieces.now) (W.state out.old) (W.state out.new) }
+    ensures { Puts (picture_pieces_text pieces.now) (W.state out.old) (W.state out.new) }
 {
     if let [piece, more @ ..] = pieces {
         put_piece(out, *piece);

@@ -1,7 +1,7 @@
 //! Shapes.
 
 ghost use Rattle.hw_desk.specs.Writers.{Puts};
-ghost use Rattle.hw_svg.specs.Pieces.{pieces_text};
+ghost use Rattle.hw_svg.specs.Pieces.{picture_pieces_text};
 ghost use Rattle.hw_svg.specs.Shapes.{area_path, block, shape, shape_begin, titled};
 
 use crate::area::Area;
@@ -20,7 +20,7 @@ pub fn put_shape_begin<W: Writer>(out: &mut W, class: &[u8])
 
 /// Puts a shape of a class along a path.
 pub fn put_shape<W: Writer>(out: &mut W, class: &[u8], path: &[Piece])
-    ensures { Puts (shape class.now (pieces_text path.now)) (W.state out.old) (W.state out.new) }
+    ensures { Puts (shape class.now (picture_pieces_text path.now)) (W.state out.old) (W.state out.new) }
 {
     put_shape_begin(out, class);
     put_pieces(out, path);
@@ -61,7 +61,7 @@ pub fn put_block<W: Writer>(out: &mut W, class: &[u8], area: Area)
 
 /// Puts a filled area with a title, which viewers show on request.
 pub fn put_titled<W: Writer>(out: &mut W, class: &[u8], area: Area, title: &[Piece])
-    ensures { Puts (titled class.now area (pieces_text title.now)) (W.state out.old) (W.state out.new) }
+    ensures { Puts (titled class.now area (picture_pieces_text title.now)) (W.state out.old) (W.state out.new) }
 {
     put_shape_begin(out, class);
     put_area_path(out, area);

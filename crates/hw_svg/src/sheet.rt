@@ -1,7 +1,7 @@
 //! A picture, and the windows and lists on it.
 
 ghost use Rattle.hw_desk.specs.Writers.{Puts};
-ghost use Rattle.hw_svg.specs.Pieces.{pieces_text};
+ghost use Rattle.hw_svg.specs.Pieces.{picture_pieces_text};
 ghost use Rattle.hw_svg.specs.Sheets.{group_end, item_begin, list_begin, picture_begin, size_begin, svg_end, title_end, window_begin};
 
 use crate::piece::{Piece, put_pieces};
@@ -42,7 +42,7 @@ fn put_size_begin<W: Writer>(out: &mut W, width: u64, height: u64)
 
 /// Puts the beginning of a picture of a size, with a title.
 pub fn put_picture_begin<W: Writer>(out: &mut W, width: u64, height: u64, title: &[Piece])
-    ensures { Puts (picture_begin width height (pieces_text title.now)) (W.state out.old) (W.state out.new) }
+    ensures { Puts (picture_begin width height (picture_pieces_text title.now)) (W.state out.old) (W.state out.new) }
 {
     put_size_begin(out, width, height);
     put_pieces(out, title);

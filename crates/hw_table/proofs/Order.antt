@@ -9,34 +9,34 @@ use Rattle.hw_port.specs.Whole.{Parts}
 use Rattle.hw_port_laws.proofs.Eachs.{Each, all_of_each, each_get, each_join, each_of_all, each_weaker}
 use Rattle.hw_port_rules.specs.Numbers.{horizon_of, some_may_stay}
 use Rattle.hw_port_rules.specs.Timetables.{IsGiven}
-use Rattle.hw_table.specs.Entries.{Entry, entries, entries_from, entries_in, entry_in, has_slot, is_slot}
-use Rattle.hw_table.specs.Laws.{InOrder, Precedes, ShipsInOrder}
+use Rattle.hw_table.specs.Entries.{ShipEntry, entries, entries_from, entries_in, entry_in, has_slot, is_slot}
+use Rattle.hw_table.specs.Laws.{InOrder, EntryPrecedes, ShipsInOrder}
 
 -- ---- in order
 
-abbrev Ordered : List Entry → Type 0
+abbrev Ordered : List ShipEntry → Type 0
 Ordered [] = Unit {0}
-Ordered (e ∷ more) = Each (Precedes e) more × Ordered more
+Ordered (e ∷ more) = Each (EntryPrecedes e) more × Ordered more
 
-ordered_join : (xs ys : List Entry) → Ordered xs → Ordered ys → Each (λ e. Each (Precedes e) ys) xs → Ordered (xs ++ ys)
+ordered_join : (xs ys : List ShipEntry) → Ordered xs → Ordered ys → Each (λ e. Each (EntryPrecedes e) ys) xs → Ordered (xs ++ ys)
 ordered_join [] ys o r before = r
-ordered_join (x ∷ xs) ys o r before = (each_join (Precedes x) xs ys o.0 before.0, ordered_join xs ys o.1 r before.1)
+ordered_join (x ∷ xs) ys o r before = (each_join (EntryPrecedes x) xs ys o.0 before.0, ordered_join xs ys o.1 r before.1)
 
-in_order : (xs : List Entry) → Ordered xs → InOrder xs
+in_order : (xs : List ShipEntry) → Ordered xs → InOrder xs
 in_order [] o = tt
-in_order (x ∷ xs) o = (all_of_each (Precedes x) xs o.0, in_order xs o.1)
+in_order (x ∷ xs) o = (all_of_each (EntryPrecedes x) xs o.0, in_order xs o.1)
 
 module _ (table : List ℕ) where
   -- an entry of this slot, with a number from this one on
-  record IsAt (slot v : ℕ) (e : Entry) : Type 0 where
+  record IsAt (slot v : ℕ) (e : ShipEntry) : Type 0 where
     at : e.slot ≡ slot
     from : v ≤ e.number
 
-  one_by : (b : Bool) (P : Entry → Type 0) (e : Entry) → P e → Each P (cond b (e ∷ []) [])
+  one_by : (b : Bool) (P : ShipEntry → Type 0) (e : ShipEntry) → P e → Each P (cond b (e ∷ []) [])
   one_by true P e h = (h, tt)
   one_by false P e h = tt
 
-  ordered_by : (b : Bool) (e : Entry) → Ordered (cond b (e ∷ []) [])
+  ordered_by : (b : Bool) (e : ShipEntry) → Ordered (cond b (e ∷ []) [])
   ordered_by true e = (tt, tt)
   ordered_by false e = tt
 
@@ -49,12 +49,12 @@ module _ (table : List ℕ) where
   slot_ordered : (slot v : ℕ) (ships : List ShipParts) → Ordered (entries_in table slot v ships)
   slot_ordered slot v [] = tt
   slot_ordered slot v (s ∷ more) =
-      let e : Entry = record { number = v; ship = s; slot = slot } in
+      let e : ShipEntry = record { number = v; ship = s; slot = slot } in
       ordered_join (entry_in table slot v s) (entries_in table slot (v + 1) more)
       (ordered_by (has_slot table slot v) e)
       (slot_ordered slot (v + 1) more)
-      (one_by (has_slot table slot v) (λ x. Each (Precedes x) (entries_in table slot (v + 1) more)) e
-      (each_weaker (IsAt slot (v + 1)) (Precedes e) (entries_in table slot (v + 1) more) (λ f a. let le = a.from in inr (sym a.at, omega (arith, le))) (at_slot slot (v + 1) more)))
+      (one_by (has_slot table slot v) (λ x. Each (EntryPrecedes x) (entries_in table slot (v + 1) more)) e
+      (each_weaker (IsAt slot (v + 1)) (EntryPrecedes e) (entries_in table slot (v + 1) more) (λ f a. let le = a.from in inr (sym a.at, omega (arith, le))) (at_slot slot (v + 1) more)))
 
   -- an entry of a slot from this one on
   from_slot : (ships : List ShipParts) (slot count : ℕ) → Each (λ e. slot ≤ e.slot) (entries_from table ships slot count)
@@ -68,8 +68,8 @@ module _ (table : List ℕ) where
   all_ordered ships slot (suc count) = ordered_join (entries_in table slot 0 ships) (entries_from table ships (slot + 1) count)
       (slot_ordered slot 0 ships)
       (all_ordered ships (slot + 1) count)
-      (each_weaker (IsAt slot 0) (λ e. Each (Precedes e) (entries_from table ships (slot + 1) count)) (entries_in table slot 0 ships)
-      (λ e a. let same = a.at in each_weaker (λ f. slot + 1 ≤ f.slot) (Precedes e) (entries_from table ships (slot + 1) count) (λ f le. inl (omega (arith, same, le))) (from_slot ships (slot + 1) count))
+      (each_weaker (IsAt slot 0) (λ e. Each (EntryPrecedes e) (entries_from table ships (slot + 1) count)) (entries_in table slot 0 ships)
+      (λ e a. let same = a.at in each_weaker (λ f. slot + 1 ≤ f.slot) (EntryPrecedes e) (entries_from table ships (slot + 1) count) (λ f le. inl (omega (arith, same, le))) (from_slot ships (slot + 1) count))
       (at_slot slot 0 ships))
 
   -- ---- what is listed was given
@@ -79,13 +79,13 @@ module _ (table : List ℕ) where
   slot_by slot (Some given) e = ap (λ (n : ℕ). Some n) (eqb-true given slot e)
 
   -- a ship of these, with its number from v on, and the slot that the timetable gives it
-  record IsOf (v : ℕ) (ships : List ShipParts) (e : Entry) : Type 0 where
+  record IsOf (v : ℕ) (ships : List ShipParts) (e : ShipEntry) : Type 0 where
     place : ℕ
     number : e.number ≡ v + place
     ship : slice_get ships place ≡ Some e.ship
     given : slice_get table e.number ≡ Some e.slot
 
-  later : (v : ℕ) (s : ShipParts) (ships : List ShipParts) (e : Entry) → IsOf (v + 1) ships e → IsOf v (s ∷ ships) e
+  later : (v : ℕ) (s : ShipParts) (ships : List ShipParts) (e : ShipEntry) → IsOf (v + 1) ships e → IsOf v (s ∷ ships) e
   later v s ships e is = let n = is.number in record { place = suc is.place; number = omega (arith, n); ship = is.ship; given = is.given }
 
   first_by : (b : Bool) (v slot : ℕ) (s : ShipParts) (ships : List ShipParts) → has_slot table slot v ≡ b → Each (IsOf v (s ∷ ships)) (cond b (record { number = v; ship = s; slot = slot } ∷ []) [])
@@ -107,7 +107,7 @@ module _ (table : List ℕ) where
   itself : (n : ℕ) → nat_eq n n ≡ true
   itself n = eq-eqb n n refl
 
-  has_by : (b : Bool) (e : Entry) → b ≡ true → Contains (cond b (e ∷ []) []) e
+  has_by : (b : Bool) (e : ShipEntry) → b ≡ true → Contains (cond b (e ∷ []) []) e
   has_by true e is = (0, omega arith, refl)
   has_by false e is = absurd cc
 
@@ -123,7 +123,7 @@ module _ (table : List ℕ) where
       Contains-append_right (entry_in table slot v r) (entries_in table slot (v + 1) more) (record { number = n; ship = s; slot = slot })
       (listed_in slot (v + 1) n place s more (omega (arith, e)) at has)
 
-  listed_from : (ships : List ShipParts) (first count : ℕ) (e : Entry) → first ≤ e.slot → e.slot < first + count → Contains (entries_in table e.slot 0 ships) e → Contains (entries_from table ships first count) e
+  listed_from : (ships : List ShipParts) (first count : ℕ) (e : ShipEntry) → first ≤ e.slot → e.slot < first + count → Contains (entries_in table e.slot 0 ships) e → Contains (entries_from table ships first count) e
   listed_from ships first zero e low high is = absurd (omega (arith, low, high))
   listed_from ships first (suc count) e low high is = elim (cases_Bool (nat_eq first e.slot)) [
     | inl same ↦ Contains-append_left (entries_in table first 0 ships) (entries_from table ships (first + 1) count) e (subst (λ (slot : ℕ). Contains (entries_in table slot 0 ships) e) (sym (eqb-true first e.slot same)) is)
@@ -134,7 +134,7 @@ module _ (table : List ℕ) where
 
 -- ---- both
 
-given_of : (p : Parts) (table : List ℕ) (e : Entry) → IsOf table 0 p.ships e → IsGiven p table e.number e.ship e.slot
+given_of : (p : Parts) (table : List ℕ) (e : ShipEntry) → IsOf table 0 p.ships e → IsGiven p table e.number e.ship e.slot
 given_of p table e is = let n = is.number in record { ship = subst (λ (k : ℕ). slice_get p.ships k ≡ Some e.ship) (omega (arith, n)) is.ship; given = is.given }
 
 small_by : (p : Parts) (slot : ℕ) {A : Type 0} → (slot < horizon_of p) ⊎ ((slot ≡ horizon_of p) × A) → slot < 0 + (horizon_of p + 1)

@@ -1,8 +1,9 @@
 -- Numbers call for no quotes.
-use Rattle.std.proofs.Common.{◌≡◌, ◌<◌, ◌≤◌, ◌+◌, ◌*◌, ◌%◌, ◌/◌, ◌∙◌, ◌++◌, ◌==◌, ◌||◌, ℕ, zero, suc, ℤ, pos, negsuc, Bool, true, false, cond, List, [], ◌∷◌, codes, decimal, Option, Some, None, IfSome, refl, sym, ap, arith}
+use Rattle.std.proofs.Common.{◌≡◌, ◌<◌, ◌≤◌, ◌+◌, ◌*◌, ◌%◌, ◌/◌, ◌∙◌, ◌++◌, ◌==◌, ℕ, zero, suc, ℤ, pos, negsuc, Bool, true, false, cond, List, [], ◌∷◌, codes, decimal, Option, Some, None, IfSome, refl, sym, ap, arith}
 use Rattle.std.specs.Fmt.{digit_glyph, digits, digits_onto, signed_decimal}
 use Rattle.std.proofs.lemmas.Bool.{lt-ltb, ne_eqb}
 use Rattle.std.proofs.lemmas.List.Folds.{list_any-append}
+use Rattle.hw_lemmas.proofs.Truths.{or_none}
 use Rattle.csv.specs.Writing.{default_writer, field_text, needs_byte, needs_quotes, quoted}
 use Rattle.hw_port.specs.Kept.{IsStart}
 use Rattle.hw_port.specs.Whole.{Parts}
@@ -19,10 +20,6 @@ use Rattle.hw_table.specs.Sailings.{minutes_text, time_text}
 -- none of the bytes calls for quotes
 abbrev pub IsPlain : List ℕ → Type 0
 IsPlain text = needs_quotes default_writer text ≡ false
-
-or_none : (a b : Bool) → a ≡ false → b ≡ false → (a || b) ≡ false
-or_none true b e f = absurd cc
-or_none false b e f = f
 
 pub plain_on : (a b : List ℕ) → IsPlain a → IsPlain b → IsPlain (a ++ b)
 plain_on a b e f = list_any-append (needs_byte default_writer) a b ∙ or_none _ _ e f

@@ -10,19 +10,19 @@ use Rattle.hw_port.specs.declared.parts.Waypoint.{Waypoint}
 use Rattle.hw_port.specs.Whole.{Parts}
 use Rattle.hw_tide.specs.Levels.{TideParts}
 use Rattle.hw_port_rules.specs.Numbers.{horizon_of}
-use Rattle.hw_table.specs.Entries.{Entry, entries}
+use Rattle.hw_table.specs.Entries.{ShipEntry, entries}
 use Rattle.hw_table.specs.Laws.{SameColumns, TableReadsBack}
 use Rattle.hw_table.specs.Sailings.{SailingParts, pass_fields, sailing_fields}
-use Rattle.hw_table.specs.Tables.{empty_fields, header, records_text, sailing_in, ship_record}
+use Rattle.hw_table.specs.Tables.{empty_fields, header, records_text, sailing_of_entry, ship_record}
 
 module _ (p : Parts) (h : TideParts) where
-  reached : (all : List Entry) → Reached default_config st.StartRecord (records_text p h all) (map (ship_record p h) all) st.StartRecord []
+  reached : (all : List ShipEntry) → Reached default_config st.StartRecord (records_text p h all) (map (ship_record p h) all) st.StartRecord []
   unfolding Reached
   reached [] = (refl, refl)
   reached (e ∷ more) = ((ship_record p h e, st.StartRecord, records_text p h more), read-write-many (decimal e.number) e.ship.name _ (records_text p h more), refl, reached more)
 
   -- after the header
-  headed : (all : List Entry) → Reached default_config st.StartRecord (row_text default_writer (header p) ++ records_text p h all) (header p ∷ map (ship_record p h) all) st.StartRecord []
+  headed : (all : List ShipEntry) → Reached default_config st.StartRecord (row_text default_writer (header p) ++ records_text p h all) (header p ∷ map (ship_record p h) all) st.StartRecord []
   unfolding Reached
   headed all = ((header p, st.StartRecord, records_text p h all), read-write-many _ _ _ (records_text p h all), refl, reached all)
 
@@ -59,7 +59,7 @@ pub columns_law : SameColumns
 columns_law p h e =
     let names : length (map (λ (w : Waypoint). w.name) p.waypoints) ≡ length p.waypoints = length-map p.waypoints (λ (w : Waypoint). w.name) in
     let none : length (map (λ (w : Waypoint). the_empty) p.waypoints) ≡ length p.waypoints = length-map p.waypoints (λ (w : Waypoint). the_empty) in
-    let course = course_long (nat_lt e.slot (horizon_of p)) (sailing_fields (sailing_in p h e)) (empty_fields p.waypoints) (eight (length p.waypoints)) (ap eight (passes_long (sailing_in p h e) 0 p.waypoints)) (ap eight none) in
+    let course = course_long (nat_lt e.slot (horizon_of p)) (sailing_fields (sailing_of_entry p h e)) (empty_fields p.waypoints) (eight (length p.waypoints)) (ap eight (passes_long (sailing_of_entry p h e) 0 p.waypoints)) (ap eight none) in
     ap (λ (n : ℕ). suc (suc (suc n))) course ∙ sym (ap (λ (n : ℕ). suc (suc (suc (eight n)))) names)
   where
     the_empty : List ℕ

@@ -8,9 +8,9 @@ use Rattle.hw_port.specs.Whole.{Parts}
 use Rattle.hw_tide.specs.Levels.{TideParts}
 use Rattle.hw_port.specs.Parts.{ShipParts}
 use Rattle.hw_port_rules.specs.Numbers.{horizon_of}
-use Rattle.hw_table.specs.Entries.{Entry, entries, entries_from, entries_in, entry, entry_in, has_slot}
+use Rattle.hw_table.specs.Entries.{ShipEntry, entries, entries_from, entries_in, table_entry, entry_in, has_slot}
 use Rattle.hw_table.specs.Sailings.{SailingParts, figure_fields, time_text, water_fields}
-use Rattle.hw_table.specs.Tables.{PlanParts, columns_text, empty_fields, header, records_text, ship_record, slot_text, slots_text}
+use Rattle.hw_table.specs.Tables.{TimetableParts, columns_text, empty_fields, header, records_text, ship_record, slot_entries_text, slots_text}
 
 -- some fields and then others
 pub fields_on : (xs ys : List (List ℕ)) → fields_text default_writer (xs ++ ys) ≡ fields_text default_writer xs ++ fields_text default_writer ys
@@ -61,7 +61,7 @@ escaped_end text i le = ap (escaped default_writer) (drop_of_length-le text le)
 -- ---- records
 
 module _ (p : Parts) (h : TideParts) where
-  pub records_on : (xs ys : List Entry) → records_text p h (xs ++ ys) ≡ records_text p h xs ++ records_text p h ys
+  pub records_on : (xs ys : List ShipEntry) → records_text p h (xs ++ ys) ≡ records_text p h xs ++ records_text p h ys
   records_on [] ys = refl
   records_on (e ∷ more) ys =
       ap (λ t. row_text default_writer (ship_record p h e) ++ t) (records_on more ys)
@@ -69,15 +69,15 @@ module _ (p : Parts) (h : TideParts) where
 
 -- ---- ship by ship, and slot by slot
 
-module _ (a : PlanParts) where
-  one_same : (b : Bool) (e : Entry) → cond b (row_text default_writer (ship_record a.port a.tide e)) [] ≡ records_text a.port a.tide (cond b (e ∷ []) [])
+module _ (a : TimetableParts) where
+  one_same : (b : Bool) (e : ShipEntry) → cond b (row_text default_writer (ship_record a.port a.tide e)) [] ≡ records_text a.port a.tide (cond b (e ∷ []) [])
   one_same true e = sym (append-nil (row_text default_writer (ship_record a.port a.tide e)))
   one_same false e = refl
 
-  slot_same : (slot v : ℕ) (ships : List ShipParts) → slot_text a slot v ships ≡ records_text a.port a.tide (entries_in a.table slot v ships)
+  slot_same : (slot v : ℕ) (ships : List ShipParts) → slot_entries_text a slot v ships ≡ records_text a.port a.tide (entries_in a.table slot v ships)
   slot_same slot v [] = refl
   slot_same slot v (s ∷ more) =
-      ap (λ t. t ++ slot_text a slot (v + 1) more) (one_same (has_slot a.table slot v) (entry v s slot))
+      ap (λ t. t ++ slot_entries_text a slot (v + 1) more) (one_same (has_slot a.table slot v) (table_entry v s slot))
       ∙ ap (λ t. records_text a.port a.tide (entry_in a.table slot v s) ++ t) (slot_same slot (v + 1) more)
       ∙ sym (records_on a.port a.tide (entry_in a.table slot v s) (entries_in a.table slot (v + 1) more))
 
@@ -91,5 +91,5 @@ module _ (a : PlanParts) where
   pub plan_same : records_text a.port a.tide (entries a.port a.table) ≡ slots_text a 0 (horizon_of a.port + 1)
   plan_same = sym (slots_same 0 (horizon_of a.port + 1))
 
-  pub slots_next : (slot count : ℕ) → 0 < count → slots_text a slot count ≡ slot_text a slot 0 a.port.ships ++ slots_text a (slot + 1) (count - 1)
+  pub slots_next : (slot count : ℕ) → 0 < count → slots_text a slot count ≡ slot_entries_text a slot 0 a.port.ships ++ slots_text a (slot + 1) (count - 1)
   slots_next slot count lt = let e : count ≡ suc (count - 1) = omega (arith, lt) in ap (slots_text a slot) e

@@ -12,7 +12,7 @@ use Rattle.hw_tide.specs.Levels.{TideParts}
 use Rattle.hw_port_laws.proofs.Drafts.{least_draft_law}
 use Rattle.hw_port_laws.proofs.Eachs.{Each, all_of_each}
 use Rattle.hw_port_rules.specs.Numbers.{horizon_of, is_outgoing, whole}
-use Rattle.hw_port_rules.specs.Drafts.{allowed, allowed_draft, carried, depth_of, draft_at, floating, height_of, may_sail, loaded, sailing, sailing_draft, ship_value, value}
+use Rattle.hw_port_rules.specs.Drafts.{allowed, allowed_draft, carried, depth_of, draft_at, floating, height_for_pass, may_sail, loaded, sailing, sailing_draft, ship_value, value}
 use Rattle.hw_port_rules.specs.Permitted.{Stays}
 use Rattle.hw_dates.specs.Moments.{moment_after, start_of}
 use Rattle.hw_dates.proofs.Moments.{counts_law}
@@ -21,7 +21,7 @@ use Rattle.hw_table.specs.Fields.{centimetres, tonnes}
 use Rattle.hw_table.specs.Laws.{IsToldOf, RecordsAreTrue, TimesAreTrue}
 use Rattle.hw_table.specs.Passes.{clearance_of, keel_at, leaves_just, limit_name, limiting_pass, under_keel}
 use Rattle.hw_table.specs.Sailings.{figure_fields, limit_of, minutes_text, sailing_fields, time_text}
-use Rattle.hw_table.specs.Tables.{course_fields, empty_fields, sailing_in}
+use Rattle.hw_table.specs.Tables.{course_fields, empty_fields, sailing_of_entry}
 
 -- ---- when
 
@@ -90,7 +90,7 @@ enough_by depth height clearance draft a e le = omega (arith, ints, e, le)
 -- the water that is left keeps the clearance of a pass
 keeps_clearance : (p : Parts) (h : TideParts) (slot : ℕ) (draft a : ℤ) (pass : Pass) → draft_at p h slot pass ≡ a → draft ≤ℤ a → pass.clearance ≤ℤ under_keel p h slot draft pass
 unfolding under_keel
-keeps_clearance p h slot draft a pass e le = enough_by (depth_of p.waypoints pass) (height_of p h slot pass) pass.clearance draft a e le
+keeps_clearance p h slot draft a pass e le = enough_by (depth_of p.waypoints pass) (height_for_pass p h slot pass) pass.clearance draft a e le
 
 -- ---- the fields
 
@@ -146,5 +146,5 @@ empty_by false fields waypoints e = (refl, (refl, (refl, (refl, (refl, (refl, (r
 pub told_law : RecordsAreTrue
 told_law = record {
   sails = λ p h table v slot s permits is. sails_by p h v slot s is.ship is.sails (permits.sails v s slot (record { ship = is.ship; given = is.given }));
-  stays = λ p h e is. all_of_each (λ (field : List ℕ). field ≡ []) (course_fields p h e) (empty_by (nat_lt e.slot (horizon_of p)) (sailing_fields (sailing_in p h e)) p.waypoints (le-ltb e.slot (horizon_of p) (omega (arith, is))));
+  stays = λ p h e is. all_of_each (λ (field : List ℕ). field ≡ []) (course_fields p h e) (empty_by (nat_lt e.slot (horizon_of p)) (sailing_fields (sailing_of_entry p h e)) p.waypoints (le-ltb e.slot (horizon_of p) (omega (arith, is))));
 }

@@ -5,13 +5,13 @@ use Rattle.hw_port.specs.Whole.{Parts}
 use Rattle.hw_port_rules.specs.Numbers.{horizon_of}
 
 -- a ship with its number and its slot
-pub record Entry : Type 0 where
+pub record ShipEntry : Type 0 where
   pub number : ℕ
   pub ship : ShipParts
   pub slot : ℕ
 
-abbrev pub entry : ℕ → ShipParts → ℕ → Entry
-entry v s slot = record { number = v; ship = s; slot = slot }
+abbrev pub table_entry : ℕ → ShipParts → ℕ → ShipEntry
+table_entry v s slot = record { number = v; ship = s; slot = slot }
 
 -- the slot is this one
 abbrev pub is_slot : ℕ → Option ℕ → Bool
@@ -23,19 +23,19 @@ abbrev pub has_slot : List ℕ → ℕ → ℕ → Bool
 has_slot table slot v = is_slot slot (slice_get table v)
 
 -- the ship, where it has the slot
-abbrev pub entry_in : List ℕ → ℕ → ℕ → ShipParts → List Entry
-entry_in table slot v s = if has_slot table slot v then entry v s slot ∷ [] else []
+abbrev pub entry_in : List ℕ → ℕ → ℕ → ShipParts → List ShipEntry
+entry_in table slot v s = if has_slot table slot v then table_entry v s slot ∷ [] else []
 
 -- the ships from this number on that have the slot
-abbrev pub entries_in : List ℕ → ℕ → ℕ → List ShipParts → List Entry
+abbrev pub entries_in : List ℕ → ℕ → ℕ → List ShipParts → List ShipEntry
 entries_in table slot v [] = []
 entries_in table slot v (s ∷ more) = entry_in table slot v s ++ entries_in table slot (v + 1) more
 
--- the ships that have a slot from this one on, of so many slots, slot by slot
-abbrev pub entries_from : List ℕ → List ShipParts → ℕ → ℕ → List Entry
+-- the ships that have a slot from this one on, one of this many, slot by slot
+abbrev pub entries_from : List ℕ → List ShipParts → ℕ → ℕ → List ShipEntry
 entries_from table ships slot zero = []
 entries_from table ships slot (suc count) = entries_in table slot 0 ships ++ entries_from table ships (slot + 1) count
 
 -- the ships of a timetable by their slots, and by their numbers where these are alike; those that stay have the slot after the last one
-abbrev pub entries : Parts → List ℕ → List Entry
+abbrev pub entries : Parts → List ℕ → List ShipEntry
 entries p table = entries_from table p.ships 0 (horizon_of p + 1)

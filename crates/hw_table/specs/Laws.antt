@@ -15,11 +15,11 @@ use Rattle.hw_port_rules.specs.Timetables.{IsGiven, IsPortTimetable, SailsIn}
 use Rattle.hw_dates.specs.declared.moment.Moment.{Moment}
 use Rattle.hw_dates.specs.Moments.{IsMoment, minutes_of, start_of}
 use Rattle.hw_dates.specs.Texts.{moment_text}
-use Rattle.hw_table.specs.Entries.{Entry, entries}
+use Rattle.hw_table.specs.Entries.{ShipEntry, entries}
 use Rattle.hw_table.specs.Fields.{tonnes_text}
-use Rattle.hw_table.specs.Passes.{under_keel, waypoint_name}
+use Rattle.hw_table.specs.Passes.{under_keel, passed_waypoint_name}
 use Rattle.hw_table.specs.Sailings.{figure_fields, time_text}
-use Rattle.hw_table.specs.Tables.{course_fields, header, ship_record, table_text}
+use Rattle.hw_table.specs.Tables.{course_fields, header, ship_record, whole_table_text}
 
 -- ---- what is read of it
 
@@ -30,27 +30,27 @@ all_records p h (Some table) = header p ∷ map (ship_record p h) (entries p tab
 
 -- a reader of CSV reads just these records, whatever the names are
 abbrev pub TableReadsBack : Type 0
-TableReadsBack = (p : Parts) (h : TideParts) (table : Option (List ℕ)) → AreRecords default_config st.StartRecord (strip_bom (table_text p h table)) (all_records p h table)
+TableReadsBack = (p : Parts) (h : TideParts) (table : Option (List ℕ)) → AreRecords default_config st.StartRecord (strip_bom (whole_table_text p h table)) (all_records p h table)
 
 -- each record has as many fields as the header
 abbrev pub SameColumns : Type 0
-SameColumns = (p : Parts) (h : TideParts) (e : Entry) → length (ship_record p h e) ≡ length (header p)
+SameColumns = (p : Parts) (h : TideParts) (e : ShipEntry) → length (ship_record p h e) ≡ length (header p)
 
 -- ---- which ships, in which order
 
 -- a lower slot, or a lower number where the slots are alike
-abbrev pub Precedes : Entry → Entry → Type 0
-Precedes e f = (e.slot < f.slot) ⊎ ((e.slot ≡ f.slot) × (e.number < f.number))
+abbrev pub EntryPrecedes : ShipEntry → ShipEntry → Type 0
+EntryPrecedes e f = (e.slot < f.slot) ⊎ ((e.slot ≡ f.slot) × (e.number < f.number))
 
 -- each precedes all after it
-abbrev pub InOrder : List Entry → Type 0
+abbrev pub InOrder : List ShipEntry → Type 0
 InOrder [] = ⊤
-InOrder (e ∷ more) = All (Precedes e) more × InOrder more
+InOrder (e ∷ more) = All (EntryPrecedes e) more × InOrder more
 
 -- the ships are those of the timetable, each once, by their slots
 pub record ShipsInOrder : Type 0 where
   pub ordered : (p : Parts) (table : List ℕ) → InOrder (entries p table)
-  pub told : (p : Parts) (table : List ℕ) (e : Entry) → IsPortTimetable p table → (Contains (entries p table) e ↔ IsGiven p table e.number e.ship e.slot)
+  pub told : (p : Parts) (table : List ℕ) (e : ShipEntry) → IsPortTimetable p table → (Contains (entries p table) e ↔ IsGiven p table e.number e.ship e.slot)
 
 -- ---- when
 
@@ -80,9 +80,9 @@ pub record IsToldOf (p : Parts) (h : TideParts) (s : ShipParts) (slot : ℕ) (fi
   pub enough : pass.clearance ≤ℤ under_keel p h slot draft pass
   pub cargo : ℕ
   pub carries : ship_value p h s slot ≡ Some cargo
-  pub told : fields ≡ decimal slot ∷ time_text p slot ∷ signed_decimal draft ∷ signed_decimal most ∷ waypoint_name p (whole pass.waypoint) ∷ signed_decimal (under_keel p h slot draft pass) ∷ signed_decimal pass.clearance ∷ tonnes_text cargo ∷ []
+  pub told : fields ≡ decimal slot ∷ time_text p slot ∷ signed_decimal draft ∷ signed_decimal most ∷ passed_waypoint_name p (whole pass.waypoint) ∷ signed_decimal (under_keel p h slot draft pass) ∷ signed_decimal pass.clearance ∷ tonnes_text cargo ∷ []
 
 -- of a timetable that the port permits: of each ship that sails this is told, and nothing of one that stays
 pub record RecordsAreTrue : Type 0 where
   pub sails : (p : Parts) (h : TideParts) (table : List ℕ) (v slot : ℕ) (s : ShipParts) → PortPermits p h table → SailsIn p table v s slot → IsToldOf p h s slot (figure_fields (record { port = p; tide = h; number = v; ship = s; slot = slot }))
-  pub stays : (p : Parts) (h : TideParts) (e : Entry) → Stays p e.slot → All (λ field. field ≡ []) (course_fields p h e)
+  pub stays : (p : Parts) (h : TideParts) (e : ShipEntry) → Stays p e.slot → All (λ field. field ≡ []) (course_fields p h e)

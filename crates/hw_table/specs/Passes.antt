@@ -6,7 +6,7 @@ use Rattle.hw_port.specs.declared.parts.Pass.{Pass}
 use Rattle.hw_port.specs.Whole.{Parts}
 use Rattle.hw_tide.specs.Levels.{TideParts}
 use Rattle.hw_port_rules.specs.Numbers.{whole}
-use Rattle.hw_port_rules.specs.Drafts.{depth_of, draft_at, height_of}
+use Rattle.hw_port_rules.specs.Drafts.{depth_of, draft_at, height_for_pass}
 
 -- a pass leaves just this draft
 unfoldable pub leaves_just : Parts → TideParts → ℕ → ℤ → Pass → Bool
@@ -21,7 +21,7 @@ limiting_pass p h slot draft (pass ∷ more) =
 
 -- the water under the keel of a ship of this draft at a pass: depth and height less the draft
 unfoldable pub under_keel : Parts → TideParts → ℕ → ℤ → Pass → ℤ
-under_keel p h slot draft pass = depth_of p.waypoints pass +ℤ height_of p h slot pass -ℤ draft
+under_keel p h slot draft pass = depth_of p.waypoints pass +ℤ height_for_pass p h slot pass -ℤ draft
 
 -- the same where there are both
 abbrev pub keel_at : Parts → TideParts → ℕ → Option ℤ → Option Pass → Option ℤ
@@ -30,13 +30,13 @@ keel_at p h slot (Some draft) None = None
 keel_at p h slot (Some draft) (Some pass) = Some (under_keel p h slot draft pass)
 
 -- the name of a waypoint
-abbrev pub waypoint_name : Parts → ℕ → List ℕ
-waypoint_name p place = option_map_or (λ w. w.name) (slice_get p.waypoints place) []
+abbrev pub passed_waypoint_name : Parts → ℕ → List ℕ
+passed_waypoint_name p place = option_map_or (λ w. w.name) (slice_get p.waypoints place) []
 
 -- that of a pass
 abbrev pub limit_name : Parts → Option Pass → List ℕ
 limit_name p None = []
-limit_name p (Some pass) = waypoint_name p (whole pass.waypoint)
+limit_name p (Some pass) = passed_waypoint_name p (whole pass.waypoint)
 
 -- the clearance of a pass
 abbrev pub clearance_of : Option Pass → Option ℤ

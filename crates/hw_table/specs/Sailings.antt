@@ -47,7 +47,7 @@ limit_of a = option_and_then (λ draft. limiting_pass a.port a.tide a.slot draft
 abbrev pub keel_of : SailingParts → Option ℤ
 keel_of a = keel_at a.port a.tide a.slot (sailing a.port a.tide a.number a.slot) (limit_of a)
 
--- when a pass is made that comes so many slots after sailing
+-- when a pass is made that comes this many slots after sailing
 abbrev pub pass_text : Parts → ℕ → Option ℕ → List ℕ
 pass_text p slot None = []
 pass_text p slot (Some offset) = time_text p (slot + offset)

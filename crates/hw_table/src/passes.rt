@@ -5,9 +5,9 @@ ghost use Rattle.std.specs.Int.{int_min};
 ghost use Rattle.std.specs.Option.{option_map_or};
 ghost use Rattle.hw_port.specs.Kept.{PassKept, PortKept, WaypointKept, Within};
 ghost use Rattle.hw_port_rules.specs.Numbers.{whole};
-ghost use Rattle.hw_port_rules.specs.Drafts.{depth_of, draft_at, height_of};
+ghost use Rattle.hw_port_rules.specs.Drafts.{depth_of, draft_at, height_for_pass};
 ghost use Rattle.hw_tide.specs.Levels.{height_at};
-ghost use Rattle.hw_table.specs.Passes.{keel_at, leaves_just, limiting_pass, offset_at, under_keel, waypoint_name};
+ghost use Rattle.hw_table.specs.Passes.{keel_at, leaves_just, limiting_pass, offset_at, under_keel, passed_waypoint_name};
 
 use hw_model::{MOST_SLOTS, Slot};
 use hw_port::{Pass, PortParts, Waypoint};
@@ -24,7 +24,7 @@ pub fn natural(number: i64) -> u32
 
 /// The name of a waypoint, or none of its bytes where there is no such waypoint.
 pub fn waypoint_name(parts: &PortParts, place: u32) -> &[u8]
-    ensures { result.now ≡ waypoint_name parts.now place }
+    ensures { result.now ≡ passed_waypoint_name parts.now place }
 {
     match parts.waypoints.get(place as usize) {
         Some(waypoint) => &waypoint.name.items,
@@ -87,7 +87,7 @@ fn height_of(parts: &PortParts, tide: &Tide, slot: Slot, pass: &Pass) -> i32
     requires columns { tide.now.columns ≡ length parts.now.waypoints }
     requires slot { slot ≤ MOST_SLOTS }
     requires pass { PassKept (pos (length parts.now.waypoints)) pass.now }
-    ensures { result ≡ height_of parts.now tide.now slot pass.now }
+    ensures { result ≡ height_for_pass parts.now tide.now slot pass.now }
 {
     let row = slot + natural(pass.offset);
     height_judged(tide, row, natural(pass.waypoint), parts.is_least())
@@ -171,7 +171,7 @@ fn water_over(parts: &PortParts, tide: &Tide, slot: Slot, draft: i64, pass: &Pas
     requires slot { slot ≤ MOST_SLOTS }
     requires draft { Within (pos 0) (pos 10_000) draft }
     requires pass { PassKept (pos (length parts.now.waypoints)) pass.now }
-    ensures { result ≡ depth_of parts.now.waypoints pass.now +ℤ height_of parts.now tide.now slot pass.now -ℤ draft }
+    ensures { result ≡ depth_of parts.now.waypoints pass.now +ℤ height_for_pass parts.now tide.now slot pass.now -ℤ draft }
 {
     let height = height_of(parts, tide, slot, pass);
     over(depth_of(&parts.waypoints, pass), height, draft)

@@ -5,7 +5,7 @@ ghost use Rattle.csv.specs.Writing.{default_writer, fields_text, row_text};
 ghost use Rattle.hw_desk.specs.Writers.{Puts};
 ghost use Rattle.hw_port.specs.Kept.{ShipKept};
 ghost use Rattle.hw_port_rules.specs.Numbers.{horizon_of};
-ghost use Rattle.hw_table.specs.Entries.{entry};
+ghost use Rattle.hw_table.specs.Entries.{table_entry};
 ghost use Rattle.hw_table.specs.Tables.{columns_text, course_fields, empty_fields, header, ship_record, ship_text};
 
 use crate::field::{Field, put_comma, put_field, put_fields, put_line_end, put_next};
@@ -104,7 +104,7 @@ fn put_course<W: Writer>(
     requires numbered { number < length port.now.ships }
     requires ship { ShipKept port.now ship.now }
     requires columns { tide.now.columns ≡ length port.now.waypoints }
-    ensures { Puts (fields_text default_writer (course_fields port.now tide.now (entry number ship.now slot))) (W.state out.old) (W.state out.new) }
+    ensures { Puts (fields_text default_writer (course_fields port.now tide.now (table_entry number ship.now slot))) (W.state out.old) (W.state out.new) }
 {
     if sails(port, slot) {
         let sailing = Sailing {
@@ -146,7 +146,7 @@ pub fn put_record<W: Writer>(
     requires numbered { number < length port.now.ships }
     requires ship { ShipKept port.now ship.now }
     requires columns { tide.now.columns ≡ length port.now.waypoints }
-    ensures { Puts (row_text default_writer (ship_record port.now tide.now (entry number ship.now slot))) (W.state out.old) (W.state out.new) }
+    ensures { Puts (row_text default_writer (ship_record port.now tide.now (table_entry number ship.now slot))) (W.state out.old) (W.state out.new) }
 {
     put_ship(out, number, ship);
     put_course(out, port, tide, number, ship, slot);

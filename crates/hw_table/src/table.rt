@@ -5,12 +5,12 @@ ghost use Rattle.hw_desk.specs.Writers.{Puts};
 ghost use Rattle.hw_port.specs.Kept.{ShipKept};
 ghost use Rattle.hw_port_rules.specs.Numbers.{horizon_of};
 ghost use Rattle.hw_table.specs.Entries.{entries, has_slot};
-ghost use Rattle.hw_table.specs.Tables.{entry_text, records_text, slot_text, slots_text, table_text};
+ghost use Rattle.hw_table.specs.Tables.{ship_entry_text, records_text, slot_entries_text, slots_text, whole_table_text};
 
 use crate::passes::natural;
 use crate::record::{put_header, put_record};
 use hw_desk::Writer;
-use hw_model::{MOST_SHIPS, ShipId, Slot};
+use hw_model::{MOST_SHIPS, MOST_SLOTS, ShipId, Slot};
 use hw_port::{Port, Ship};
 use hw_tide::Tide;
 use std::marker::Model;
@@ -24,13 +24,13 @@ pub struct Plan<'p> {
 }
 
 impl<'p> Model for Plan<'p> {
-    ghost use Rattle.hw_table.specs.Tables.{IsPlan, PlanParts};
+    ghost use Rattle.hw_table.specs.Tables.{IsTimetableParts, TimetableParts};
 
-    ghost Value = { PlanParts };
+    ghost Value = { TimetableParts };
 
     ghost view = { λ a. record { port = a.port.now; tide = a.tide.now; table = a.table.now } };
 
-    ghost invariant = { λ a. IsPlan (record { port = a.port.now; tide = a.tide.now; table = a.table.now }) };
+    ghost invariant = { λ a. IsTimetableParts (record { port = a.port.now; tide = a.tide.now; table = a.table.now }) };
 }
 
 /// Whether a timetable gives a ship this slot.
@@ -47,7 +47,7 @@ fn has_slot(table: &[Slot], slot: Slot, number: ShipId) -> bool
 fn put_entry<W: Writer>(out: &mut W, plan: &Plan, slot: Slot, number: ShipId, ship: &Ship)
     requires numbered { number < length plan.now.port.ships }
     requires ship { ShipKept plan.now.port ship.now }
-    ensures { Puts (entry_text plan.now slot number ship.now) (W.state out.old) (W.state out.new) }
+    ensures { Puts (ship_entry_text plan.now slot number ship.now) (W.state out.old) (W.state out.new) }
 {
     if has_slot(plan.table, slot, number) {
         put_record(out, plan.port, plan.tide, number, ship, slot);
@@ -61,7 +61,7 @@ fn put_entries<W: Writer>(out: &mut W, plan: &Plan, slot: Slot, first: ShipId, s
     requires few { first + length ships.now ≤ MOST_SHIPS }
     requires inside { first + length ships.now ≤ length plan.now.port.ships }
     requires ships { All (ShipKept plan.now.port) ships.now }
-    ensures { Puts (slot_text plan.now slot first ships.now) (W.state out.old) (W.state out.new) }
+    ensures { Puts (slot_entries_text plan.now slot first ships.now) (W.state out.old) (W.state out.new) }
 {
     if let [ship, more @ ..] = ships {
         put_entry(out, plan, slot, first, ship);
@@ -71,15 +71,15 @@ fn put_entries<W: Writer>(out: &mut W, plan: &Plan, slot: Slot, first: ShipId, s
 
 /// Puts the records of all ships that have this slot.
 fn put_slot<W: Writer>(out: &mut W, plan: &Plan, slot: Slot)
-    ensures { Puts (slot_text plan.now slot 0 plan.now.port.ships) (W.state out.old) (W.state out.new) }
+    ensures { Puts (slot_entries_text plan.now slot 0 plan.now.port.ships) (W.state out.old) (W.state out.new) }
 {
     let parts = plan.port.parts();
     put_entries(out, plan, slot, 0, &parts.ships);
 }
 
-/// Puts the records of the ships with one of so many slots from the first on, slot by slot.
+/// Puts the records of the ships whose slot is one of the `count` from `first` on, slot by slot.
 fn put_slots<W: Writer>(out: &mut W, plan: &Plan, first: Slot, count: u32)
-    requires few { first + count ≤ 1_000 }
+    requires few { first + count ≤ MOST_SLOTS + 1 }
     ensures { Puts (slots_text plan.now first count) (W.state out.old) (W.state out.new) }
 {
     if count > 0 {
@@ -91,7 +91,7 @@ fn put_slots<W: Writer>(out: &mut W, plan: &Plan, first: Slot, count: u32)
 /// The number of slots that a ship may have, with that of staying.
 fn slots_of(plan: &Plan) -> u32
     ensures value { result ≡ horizon_of plan.now.port + 1 }
-    ensures few { result ≤ 1_000 }
+    ensures few { result ≤ MOST_SLOTS + 1 }
 {
     natural(plan.port.parts().slots) + 1
 }
@@ -109,7 +109,7 @@ fn put_plan<W: Writer>(out: &mut W, plan: &Plan)
 /// field that isn't known is empty. It takes no memory. A record is below 2,000 bytes.
 pub fn put_table<W: Writer>(out: &mut W, port: &Port, tide: &Tide, table: Option<&[Slot]>)
     requires { tide.now.columns ≡ length port.now.waypoints }
-    ensures { Puts (table_text port.now tide.now (option_map (λ table. table.now) table.entry)) (W.state out.old) (W.state out.new) }
+    ensures { Puts (whole_table_text port.now tide.now (option_map (λ table. table.now) table.entry)) (W.state out.old) (W.state out.new) }
 {
     put_header(out, port);
     if let Some(table) = table {

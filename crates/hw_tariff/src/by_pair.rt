@@ -70,8 +70,8 @@ impl RulesByPair {
     /// The rules on these two ships are asked first, then the rules that were found last among the others,
     /// for any pair and for a pair with one of these ships, then those on tugs that may refute the room, which
     /// costs a look at each job. Only where none of these refutes the room, all are asked. A rule that is found
-    /// then needs the slots of one of the two ships at most, and serves each pair with that ship: so of all
-    /// pairs of some blocks at most as many ask all rules as there are ships, and one more.
+    /// then needs the slots of one of the two ships at most, and serves each pair with that ship: so among the
+    /// pairs of a line's blocks all rules are asked at most once more than there are ships.
     pub(crate) fn refute(&mut self, flat: &Flat, room: &Room, v: ShipId, w: ShipId) -> bool
         requires ships { room.now.ships ≡ flat.now.ships }
         requires slots { room.now.slots ≡ flat.now.slots }

@@ -1,14 +1,11 @@
 -- Parts and the text in which they are joined.
-use Rattle.std.proofs.Common.{◌≡◌, ℕ, ◌≤◌, ◌==◌, Bool, true, false, cond, not, List, [], ◌∷◌, ◌++◌, length, refl, sym, ap, ◌∙◌, arith}
+use Rattle.std.proofs.Common.{◌≡◌, ℕ, ◌≤◌, ◌==◌, true, false, cond, List, [], ◌∷◌, ◌++◌, length, refl, sym, ap, ◌∙◌, arith}
 use Rattle.std.proofs.lemmas.Bool.{and_parts}
 use Rattle.std.proofs.lemmas.Bool.Decides.{nat_tests}
 use Rattle.std.proofs.lemmas.List.Splits.{join_with_byte-slice_split}
 use Rattle.std.specs.List.{onto_first, list_all, join_with_byte}
+use Rattle.hw_lemmas.proofs.Truths.{was_not}
 use Rattle.hw_text.specs.Parts.{parts_of, lacks, ended_lines}
-
-is_off : (b : Bool) → not b ≡ true → b ≡ false
-is_off true h = sym h
-is_off false h = refl
 
 same_test : (c : ℕ) → (c == c) ≡ true
 same_test c = grind (arith, nat_tests)
@@ -18,7 +15,7 @@ pub one_part : (c : ℕ) (xs : List ℕ) → lacks c xs ≡ true → parts_of c 
 one_part c [] h = refl
 one_part c (x ∷ xs) h =
     let a = and_parts _ _ h in
-    let off : (x == c) ≡ false = is_off _ a.0 in
+    let off : (x == c) ≡ false = was_not _ a.0 in
     rw (off, one_part c xs a.1) refl
 
 -- the first part ends at the first place of the byte
@@ -26,7 +23,7 @@ pub part_before : (c : ℕ) (xs ys : List ℕ) → lacks c xs ≡ true → parts
 part_before c [] ys h = rw (same_test c) refl
 part_before c (x ∷ xs) ys h =
     let a = and_parts _ _ h in
-    let off : (x == c) ≡ false = is_off _ a.0 in
+    let off : (x == c) ≡ false = was_not _ a.0 in
     rw (off, part_before c xs ys a.1) refl
 
 -- joined parts are cut again into the same parts

@@ -3,16 +3,13 @@ use Rattle.std.proofs.Common.{◌≡◌, ℕ, ◌<◌, ◌≤◌, ◌^◌, ◌&&
 use Rattle.std.proofs.lemmas.Bool.{ltb-true, leb-true, eqb-true, lt-ltb, le-leb, and_parts, or_cases, or_left, or_right, cases_lt}
 use Rattle.std.proofs.lemmas.Fmt.{decimal-digits_value, digits_decimal, digits_value-decimal, decimal_nonempty, first_decimal, decimal_digit}
 use Rattle.std.specs.Str.Parse.{digits_value}
+use Rattle.hw_lemmas.proofs.Truths.{given_by}
 use Rattle.hw_text.specs.Numbers.{number_up_to}
 use Rattle.hw_text.proofs.Digits.{own}
 
-given : (b : Bool) (x n : ℕ) → cond b (Some x) None ≡ Some n → (b ≡ true) × (x ≡ n)
-given true x n e = (refl, cc)
-given false x n e = absurd cc
-
 pub is_spelled : (most : ℕ) (word : List ℕ) (n : ℕ) → most < 2 ^ 64 → number_up_to most word ≡ Some n → (word ≡ decimal n) × (n ≤ most)
 is_spelled most word n small e =
-    let g = given _ (digits_value 10 word) n e in
+    let g = given_by _ (digits_value 10 word) n e in
     let a = and_parts _ _ g.0 in
     let d = and_parts _ _ a.0 in
     let s = and_parts _ _ d.1 in

@@ -32,9 +32,9 @@ abbrev pub PartsJoined : Type 0
 PartsJoined = (at : ℕ) → Joins at
 
 -- lines are the parts of the text in which each of them is ended, and the other way round
-pub record Ends (lines : List (List ℕ)) (bytes : List ℕ) : Type 0 where
+pub record EndsText (lines : List (List ℕ)) (bytes : List ℕ) : Type 0 where
   pub ended : parts_of 10 bytes ≡ lines ++ [] ∷ [] → bytes ≡ ended_lines lines
   pub cut : bytes ≡ ended_lines lines → list_all (lacks 10) lines ≡ true → parts_of 10 bytes ≡ lines ++ [] ∷ []
 
 abbrev pub EndedLinesCut : Type 0
-EndedLinesCut = (lines : List (List ℕ)) (bytes : List ℕ) → Ends lines bytes
+EndedLinesCut = (lines : List (List ℕ)) (bytes : List ℕ) → EndsText lines bytes

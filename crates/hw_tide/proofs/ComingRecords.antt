@@ -10,7 +10,7 @@ use Rattle.csv.proofs.ReadFacts.{rows-end, rows-more}
 use Rattle.hw_tide.specs.declared.fault.TideFault.{TideFault}
 use Rattle.hw_tide.specs.declared.fault.TideFault.TheVariants.{Header, Length, Field, Few, NoMemory}
 use Rattle.hw_tide.specs.Coming.{Records, IsAt, IsReading, AreComing, Takes, ReadsComing}
-use Rattle.hw_tide.specs.Table.{Gives}
+use Rattle.hw_tide.specs.Table.{TideGives}
 use Rattle.hw_tide.proofs.Listed.{one_before, listed}
 
 abbrev bytes_of : Bor (List ℕ) → Option (List ℕ)
@@ -75,7 +75,7 @@ pub some_after : (from now new : Records) (done : List (List (List ℕ))) (row :
 some_after from now new done row so_far takes = let rest = some_coming new takes.0 in (rest.0, so_far.1 (fields_of row ∷ rest.0) (takes.1 rest.0 rest.1))
 
 -- an answer that is given of the records to come
-pub read_of : {X Y : Type 0} (view : X → Y) (records : Records) (read : List (List (List ℕ)) → Result Y TideFault) (result : Result X TideFault) (coming : List (List (List ℕ))) → AreComing records coming → Gives view result (read coming) → ReadsComing view records read result
+pub read_of : {X Y : Type 0} (view : X → Y) (records : Records) (read : List (List (List ℕ)) → Result Y TideFault) (result : Result X TideFault) (coming : List (List (List ℕ))) → AreComing records coming → TideGives view result (read coming) → ReadsComing view records read result
 read_of view records read (Ok x) coming all gives = (coming, all, gives)
 read_of view records read (Err (Header column)) coming all gives = (coming, all, gives)
 read_of view records read (Err (Length row)) coming all gives = (coming, all, gives)

@@ -4,9 +4,10 @@ use Rattle.std.proofs.lemmas.List.{length-drop}
 use Rattle.csv.specs.Records.{field_at}
 use Rattle.hw_tide.specs.declared.fault.TideFault.{TideFault}
 use Rattle.std.proofs.Common.{ℤ, append_assoc, ap, ◌∙◌}
+use Rattle.hw_lemmas.specs.Operators.{◌>>=◌}
 use Rattle.hw_text.specs.Numbers.{signed_up_to}
 use Rattle.hw_tide.specs.declared.fault.TideFault.TheVariants.{Field}
-use Rattle.hw_tide.specs.Table.{◌>>=◌, formed, heights_from}
+use Rattle.hw_tide.specs.Table.{formed_field, heights_from}
 
 abbrev pub with_front : {A : Type 0} → List A → Result (List A) TideFault → Result (List A) TideFault
 with_front front read = read >>= λ xs. Ok (front ++ xs)
@@ -40,7 +41,7 @@ pub next_height : (row column : ℕ) (front : List ℤ) (f : List ℕ) (fs rest 
 unfolding heights_from
 next_height row column front f fs rest h whole at is so_far =
     let first : heights_from row column fs ≡ heights_from row column (f ∷ rest) = ap (heights_from row column) at in
-    let second : heights_from row column (f ∷ rest) ≡ (heights_from row (column + 1) rest >>= λ hs. Ok (h ∷ hs)) = ap (λ (o : Option ℤ). formed (Field row column) o >>= λ h. heights_from row (column + 1) rest >>= λ hs. Ok (h ∷ hs)) is in
+    let second : heights_from row column (f ∷ rest) ≡ (heights_from row (column + 1) rest >>= λ hs. Ok (h ∷ hs)) = ap (λ (o : Option ℤ). formed_field (Field row column) o >>= λ h. heights_from row (column + 1) rest >>= λ hs. Ok (h ∷ hs)) is in
     one_more front h (heights_from row (column + 1) rest) ∙ ap (with_front front) (sym (first ∙ second)) ∙ so_far
 
 -- a place of a record has a field

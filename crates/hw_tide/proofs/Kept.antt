@@ -2,10 +2,11 @@
 use Rattle.std.proofs.Common.{◌≡◌, ℕ, zero, suc, ◌+◌, ◌-◌, ◌≤◌, ◌==◌, ◌&&◌, Bool, true, false, cond, nat_le, ℤ, pos, neg_ℤ, List, [], ◌∷◌, length, drop, slice_index, Option, Some, None, option_map, option_and_then, Result, Ok, Err, All, ◌⊎◌, inl, inr, refl, sym, ap, ◌∙◌, subst, arith, eqb-true}
 use Rattle.std.specs.Str.Parse.{digits_value}
 use Rattle.std.proofs.lemmas.Bool.{and_parts, leb-true}
-use Rattle.std.proofs.lemmas.Option.{same_Some}
 use Rattle.std.proofs.lemmas.Int.{ints}
 use Rattle.std.proofs.lemmas.List.{length-drop}
 use Rattle.std.proofs.lemmas.List.Elements.{All-nil, All-cons}
+use Rattle.hw_lemmas.proofs.Truths.{given_by}
+use Rattle.hw_lemmas.specs.Operators.{◌>>=◌}
 use Rattle.hw_text.specs.Numbers.{is_number, number_up_to, number_from_to, signed_up_to}
 use Rattle.hw_tide.specs.declared.kind.TableKind.{TableKind}
 use Rattle.hw_tide.specs.declared.kind.TableKind.TheVariants.{Heights, Waters}
@@ -14,24 +15,20 @@ use Rattle.hw_tide.specs.Levels.{LevelsParts, IsLevels}
 use Rattle.hw_tide.specs.Tides.{IsTable, slot_at}
 use Rattle.hw_tide.specs.declared.fault.TideFault.{TideFault}
 use Rattle.hw_tide.specs.declared.fault.TideFault.TheVariants.{Length, Field}
-use Rattle.hw_tide.specs.Table.{◌>>=◌, formed, needed, kind_word, wrong_column, header_of, slot_fits, fitting, first_field, heights_from, levels_form, levels_from, not_empty, table_of}
+use Rattle.hw_tide.specs.Table.{formed_field, needed, kind_word, wrong_column, header_of, slot_fits, fitting, first_field, heights_from, levels_form, levels_from, not_empty, table_of}
 
 -- ---- numbers
 
-some_if : (b : Bool) (v n : ℕ) → cond b (Some v) None ≡ Some n → (b ≡ true) × (v ≡ n)
-some_if true v n e = (refl, same_Some v n e)
-some_if false v n e = absurd cc
-
 up_to : (most : ℕ) (word : List ℕ) (n : ℕ) → number_up_to most word ≡ Some n → n ≤ most
 up_to most word n e =
-    let p = some_if (is_number word && nat_le (digits_value 10 word) most) (digits_value 10 word) n e in
+    let p = given_by (is_number word && nat_le (digits_value 10 word) most) (digits_value 10 word) n e in
     let q = and_parts (is_number word) (nat_le (digits_value 10 word) most) p.0 in
     let le : digits_value 10 word ≤ most = leb-true _ _ q.1 in
     omega (arith, le, p.1)
 
 at_least : (least n : ℕ) (o : Option ℕ) → option_and_then (λ m. cond (nat_le least m) (Some m) None) o ≡ Some n → o ≡ Some n
 at_least least n None e = absurd cc
-at_least least n (Some m) e = ap (λ k. Some k) (some_if (nat_le least m) m n e).1
+at_least least n (Some m) e = ap (λ k. Some k) (given_by (nat_le least m) m n e).1
 
 from_to : (least most : ℕ) (word : List ℕ) (n : ℕ) → number_from_to least most word ≡ Some n → n ≤ most
 from_to least most word n e = up_to most word n (at_least least n (number_up_to most word) e)
@@ -64,7 +61,7 @@ pub bound : {A B : Type 0} (r : Result A TideFault) (g : A → Result B TideFaul
 bound (Ok x) g y e = (x, refl, e)
 bound (Err f) g y e = absurd cc
 
-pub was_formed : {A : Type 0} (fault : TideFault) (o : Option A) (x : A) → formed fault o ≡ Ok x → o ≡ Some x
+pub was_formed : {A : Type 0} (fault : TideFault) (o : Option A) (x : A) → formed_field fault o ≡ Ok x → o ≡ Some x
 was_formed fault None x e = absurd cc
 was_formed fault (Some a) x e = cc
 
@@ -83,7 +80,7 @@ heights_kept row column [] heights e =
     let is : [] ≡ heights = same_Ok [] heights e in
     subst (λ (hs : List ℤ). (length hs ≡ 0) × All InLimits hs) is (refl, All-nil InLimits)
 heights_kept row column (f ∷ fs) heights e =
-    let one = bound (formed (Field row column) (signed_up_to 2_000 f)) (λ h. heights_from row (column + 1) fs >>= λ hs. Ok (h ∷ hs)) heights e in
+    let one = bound (formed_field (Field row column) (signed_up_to 2_000 f)) (λ h. heights_from row (column + 1) fs >>= λ hs. Ok (h ∷ hs)) heights e in
     let rest = bound (heights_from row (column + 1) fs) (λ hs. Ok (one.0 ∷ hs)) heights one.2 in
     let more = heights_kept row (column + 1) fs rest.0 rest.1 in
     let small = in_limits f one.0 (was_formed (Field row column) (signed_up_to 2_000 f) one.0 one.1) in
@@ -93,7 +90,7 @@ heights_kept row column (f ∷ fs) heights e =
 pub fitted : (kind : TableKind) (row : ℕ) (last : Option ℕ) (o : Option ℕ) (slot : ℕ) → option_and_then (fitting kind row last) o ≡ Some slot → (o ≡ Some slot) × (slot_fits kind row last slot ≡ true)
 fitted kind row last None slot e = absurd cc
 fitted kind row last (Some m) slot e =
-    let p = some_if (slot_fits kind row last m) m slot e in
+    let p = given_by (slot_fits kind row last m) m slot e in
     (ap (λ k. Some k) p.1, subst (λ k. slot_fits kind row last k ≡ true) p.1 p.0)
 
 pub levels_kept : (kind : TableKind) (waypoints row : ℕ) (last : Option ℕ) (fields : List (List ℕ)) (l : LevelsParts) → levels_form kind (1 + waypoints) row last fields ≡ Ok l → IsLevels waypoints l × (slot_fits kind row last l.slot ≡ true)
@@ -101,7 +98,7 @@ unfolding levels_form
 levels_kept kind waypoints row last fields l e =
     let a = bound (needed (Length row) (length fields == 1 + waypoints)) _ l e in
     let size : length fields ≡ 1 + waypoints = eqb-true (length fields) (1 + waypoints) (was_needed (Length row) (length fields == 1 + waypoints) a.0 a.1) in
-    let b = bound (formed (Field row 0) (option_and_then (fitting kind row last) (number_up_to 2_047 (first_field (drop 0 fields))))) _ l a.2 in
+    let b = bound (formed_field (Field row 0) (option_and_then (fitting kind row last) (number_up_to 2_047 (first_field (drop 0 fields))))) _ l a.2 in
     let f = fitted kind row last (number_up_to 2_047 (first_field (drop 0 fields))) b.0 (was_formed (Field row 0) _ b.0 b.1) in
     let few : b.0 ≤ 2_047 = up_to 2_047 (first_field (drop 0 fields)) b.0 f.0 in
     let c = bound (heights_from row 1 (drop 1 fields)) _ l b.2 in

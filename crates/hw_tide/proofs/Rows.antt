@@ -5,10 +5,10 @@ use Rattle.std.proofs.Math.Seq.{drop-cons}
 use Rattle.std.proofs.lemmas.Bool.{le-ltb, cond-false}
 use Rattle.hw_tide.specs.Twelfths.{height_between}
 use Rattle.hw_tide.specs.Levels.{LevelsParts}
-use Rattle.hw_tide.specs.Tides.{heights_between, row_at, slot_at}
+use Rattle.hw_tide.specs.Tides.{heights_between, heights_in_slot, slot_at}
 
 -- a slot that isn't before the second water has the row that the waters from the second on give
-pub next_water : (levels : List LevelsParts) (place slot : ℕ) → suc place < length levels → slot_at levels (suc place) ≤ slot → row_at (drop (suc place) levels) slot ≡ row_at (drop place levels) slot
+pub next_water : (levels : List LevelsParts) (place slot : ℕ) → suc place < length levels → slot_at levels (suc place) ≤ slot → heights_in_slot (drop (suc place) levels) slot ≡ heights_in_slot (drop place levels) slot
 next_water [] place slot inside behind = absurd (omega (arith, inside))
 next_water (water ∷ []) place slot inside behind = absurd (omega (arith, inside))
 next_water (water ∷ next ∷ more) zero slot inside behind = sym (cond-false (nat_lt slot next.slot) _ _ (le-ltb slot next.slot behind))

@@ -3,7 +3,7 @@ use Rattle.std.proofs.Common.{◌≡◌, ℕ, zero, suc, ◌+◌, ◌-◌, ◌*�
 use Rattle.std.specs.List.{flat_map, range_with_len}
 use Rattle.std.proofs.lemmas.List.Elements.{All-head, All-tail}
 use Rattle.hw_tide.specs.Levels.{LevelsParts, IsLevels}
-use Rattle.hw_tide.specs.Tides.{heights_between, row_at, slot_at}
+use Rattle.hw_tide.specs.Tides.{heights_between, heights_in_slot, slot_at}
 
 pub joined_size : (columns : ℕ) (levels : List LevelsParts) → All (IsLevels columns) levels → length (flat_map (λ l. l.heights) levels) ≡ length levels * columns
 joined_size columns [] each = omega arith
@@ -17,7 +17,7 @@ between_size past size [] highs same = refl
 between_size past size (low ∷ lows) [] same = absurd (omega (arith, same))
 between_size past size (low ∷ lows) (high ∷ highs) same = ap (λ n. suc n) (between_size past size lows highs (omega (arith, same)))
 
-pub row_size : (columns : ℕ) (levels : List LevelsParts) (slot : ℕ) → 1 ≤ length levels → All (IsLevels columns) levels → length (row_at levels slot) ≡ columns
+pub row_size : (columns : ℕ) (levels : List LevelsParts) (slot : ℕ) → 1 ≤ length levels → All (IsLevels columns) levels → length (heights_in_slot levels slot) ≡ columns
 row_size columns [] slot some each = absurd (omega (arith, some))
 row_size columns (water ∷ []) slot some each = (All-head (IsLevels columns) water [] each).each_height
 row_size columns (water ∷ next ∷ more) slot some each =
@@ -25,7 +25,7 @@ row_size columns (water ∷ next ∷ more) slot some each =
     let rest = All-tail (IsLevels columns) water (next ∷ more) each in
     let there = (All-head (IsLevels columns) next more rest).each_height in
     let between = between_size (slot - water.slot) (next.slot - water.slot) water.heights next.heights (here ∙ sym there) ∙ here in
-    either (nat_lt slot next.slot) (heights_between (slot - water.slot) (next.slot - water.slot) water.heights next.heights) (row_at (next ∷ more) slot) columns between (row_size columns (next ∷ more) slot (omega arith) rest)
+    either (nat_lt slot next.slot) (heights_between (slot - water.slot) (next.slot - water.slot) water.heights next.heights) (heights_in_slot (next ∷ more) slot) columns between (row_size columns (next ∷ more) slot (omega arith) rest)
   where
     either : (b : Bool) (xs ys : List ℤ) (n : ℕ) → length xs ≡ n → length ys ≡ n → length (cond b xs ys) ≡ n
     either true xs ys n h g = h

@@ -4,13 +4,14 @@ use Rattle.std.proofs.lemmas.Bool.{ne_eqb}
 use Rattle.std.proofs.lemmas.Bool.Decides.{nat_tests}
 use Rattle.std.proofs.lemmas.Option.{same_Some}
 use Rattle.std.proofs.lemmas.Slice.Eq.{bytes_eq-Decides}
+use Rattle.hw_lemmas.specs.Operators.{◌>>=◌}
 use Rattle.hw_text.specs.Numbers.{number_up_to, signed_up_to}
 use Rattle.hw_tide.specs.declared.kind.TableKind.{TableKind}
 use Rattle.hw_tide.specs.declared.kind.TableKind.TheVariants.{Heights, Waters}
 use Rattle.hw_tide.specs.declared.fault.TideFault.{TideFault}
 use Rattle.hw_tide.specs.declared.fault.TideFault.TheVariants.{Header, Length, Field, Few, NoMemory}
 use Rattle.hw_tide.specs.Levels.{LevelsParts}
-use Rattle.hw_tide.specs.Table.{◌>>=◌, formed, needed, kind_word, wrong_column, header_of, slot_fits, fitting, first_field, heights_from, levels_form, levels_from, not_empty, table_of}
+use Rattle.hw_tide.specs.Table.{formed_field, needed, kind_word, wrong_column, header_of, slot_fits, fitting, first_field, heights_from, levels_form, levels_from, not_empty, table_of}
 use Rattle.hw_tide.specs.Tides.{tide_from, tide_of}
 use Rattle.hw_tide.specs.Told.{EachTells}
 use Rattle.hw_tide.specs.Faults.{Follows, IsFirstNoHeight, IsWrong, IsFirstOther, IsFirstBad, IsFirstFault, FaultTold}
@@ -23,7 +24,7 @@ failed : {A B : Type 0} (r : Result A TideFault) (g : A → Result B TideFault) 
 failed (Ok x) g e h = inr (x, refl, h)
 failed (Err f) g e h = let same : f ≡ e = cc in inl (ap (λ x. Err x) same)
 
-not_formed : {A : Type 0} (fault : TideFault) (o : Option A) (e : TideFault) → formed fault o ≡ Err e → (o ≡ None) × (fault ≡ e)
+not_formed : {A : Type 0} (fault : TideFault) (o : Option A) (e : TideFault) → formed_field fault o ≡ Err e → (o ≡ None) × (fault ≡ e)
 not_formed fault None e h = (refl, cc)
 not_formed fault (Some x) e h = absurd cc
 
@@ -47,7 +48,7 @@ before_on f fs place h is rest (suc k) lt none = rest k (omega (arith, lt)) none
 no_height : (row column : ℕ) (fields : List (List ℕ)) (e : TideFault) → heights_from row column fields ≡ Err e → (place : ℕ) × (e ≡ Field row (column + place)) × IsFirstNoHeight fields place
 unfolding heights_from
 no_height row column [] e h = absurd cc
-no_height row column (f ∷ fs) e h = elim (failed (formed (Field row column) (signed_up_to 2_000 f)) (λ h. heights_from row (column + 1) fs >>= λ hs. Ok (h ∷ hs)) e h) [
+no_height row column (f ∷ fs) e h = elim (failed (formed_field (Field row column) (signed_up_to 2_000 f)) (λ h. heights_from row (column + 1) fs >>= λ hs. Ok (h ∷ hs)) e h) [
   | inl bad ↦
       let w = not_formed (Field row column) (signed_up_to 2_000 f) e bad in
       let at : column ≡ column + 0 = omega arith in
@@ -68,13 +69,13 @@ unfolding heights_from
 height_fails row column [] place n = let inside = n.inside in absurd (omega (arith, inside))
 height_fails row column (f ∷ fs) zero n =
     let at : column ≡ column + 0 = omega arith in
-    ap (λ (o : Option ℤ). formed (Field row column) o >>= λ h. heights_from row (column + 1) fs >>= λ hs. Ok (h ∷ hs)) n.wrong ∙ ap (λ c. Err (Field row c)) at
+    ap (λ (o : Option ℤ). formed_field (Field row column) o >>= λ h. heights_from row (column + 1) fs >>= λ hs. Ok (h ∷ hs)) n.wrong ∙ ap (λ c. Err (Field row c)) at
 height_fails row column (f ∷ fs) (suc place) n =
     let one = some_of (signed_up_to 2_000 f) (n.before 0 (omega arith)) in
     let inside = n.inside in
     let rest : IsFirstNoHeight fs place = record { inside = omega (arith, inside); wrong = n.wrong; before = λ k lt. n.before (suc k) (omega (arith, lt)) } in
     let at : column + 1 + place ≡ column + suc place = omega arith in
-    ap (λ (o : Option ℤ). formed (Field row column) o >>= λ h. heights_from row (column + 1) fs >>= λ hs. Ok (h ∷ hs)) one.1
+    ap (λ (o : Option ℤ). formed_field (Field row column) o >>= λ h. heights_from row (column + 1) fs >>= λ hs. Ok (h ∷ hs)) one.1
     ∙ ap (λ (r : Result (List ℤ) TideFault). r >>= λ hs. Ok (one.0 ∷ hs)) (height_fails row (column + 1) fs place rest)
     ∙ ap (λ c. Err (Field row c)) at
 
@@ -101,13 +102,13 @@ slot_of kind row last (Some s) slot e = by (slot_fits kind row last s) refl e
 
 record_fails : (kind : TableKind) (waypoints row : ℕ) (last : Option ℕ) (fields : List (List ℕ)) (e : TideFault) → levels_form kind (1 + waypoints) row last fields ≡ Err e → IsWrong waypoints (λ s. slot_fits kind row last s ≡ true) row fields e
 unfolding levels_form
-record_fails kind waypoints row last fields e h = elim (failed (needed (Length row) (length fields == 1 + waypoints)) (λ size. formed (Field row 0) (option_and_then (fitting kind row last) (number_up_to 2_047 (first_field fields))) >>= λ slot. heights_from row 1 (drop 1 fields) >>= λ heights. Ok (record { slot = slot; heights = heights })) e h) [
+record_fails kind waypoints row last fields e h = elim (failed (needed (Length row) (length fields == 1 + waypoints)) (λ size. formed_field (Field row 0) (option_and_then (fitting kind row last) (number_up_to 2_047 (first_field fields))) >>= λ slot. heights_from row 1 (drop 1 fields) >>= λ heights. Ok (record { slot = slot; heights = heights })) e h) [
   | inl bad ↦
       let w = not_needed (Length row) (length fields == 1 + waypoints) e bad in
       subst (IsWrong waypoints (λ s. slot_fits kind row last s ≡ true) row fields) w.1 (refl, λ same. let yes = equal (length fields) (1 + waypoints) same in let no = w.0 in absurd cc)
   | inr a ↦
       let size : length fields ≡ 1 + waypoints = eqb-true (length fields) (1 + waypoints) (was_needed (Length row) (length fields == 1 + waypoints) a.0 a.1) in
-      elim (failed (formed (Field row 0) (option_and_then (fitting kind row last) (number_up_to 2_047 (first_field fields)))) (λ slot. heights_from row 1 (drop 1 fields) >>= λ heights. Ok (record { slot = slot; heights = heights })) e a.2) [
+      elim (failed (formed_field (Field row 0) (option_and_then (fitting kind row last) (number_up_to 2_047 (first_field fields)))) (λ slot. heights_from row 1 (drop 1 fields) >>= λ heights. Ok (record { slot = slot; heights = heights })) e a.2) [
         | inl bad ↦
             let w = not_formed (Field row 0) (option_and_then (fitting kind row last) (number_up_to 2_047 (first_field fields))) e bad in
             subst (IsWrong waypoints (λ s. slot_fits kind row last s ≡ true) row fields) w.1 (refl, size, λ has. let yes = slot_there kind row last (number_up_to 2_047 (first_field fields)) has.0 has.1 has.2 in let no = w.0 in absurd cc)
@@ -126,16 +127,16 @@ record_fails kind waypoints row last fields e h = elim (failed (needed (Length r
 record_fails_again : (kind : TableKind) (waypoints row : ℕ) (last : Option ℕ) (fields : List (List ℕ)) (e : TideFault) → IsWrong waypoints (λ s. slot_fits kind row last s ≡ true) row fields e → levels_form kind (1 + waypoints) row last fields ≡ Err e
 unfolding levels_form
 record_fails_again kind waypoints row last fields (Length at) w =
-    ap (λ (b : Bool). needed (Length row) b >>= λ size. formed (Field row 0) (option_and_then (fitting kind row last) (number_up_to 2_047 (first_field fields))) >>= λ slot. heights_from row 1 (drop 1 fields) >>= λ heights. Ok (record { slot = slot; heights = heights })) (ne_eqb (length fields) (1 + waypoints) w.1) ∙ ap (λ r. Err (Length r)) (sym w.0)
+    ap (λ (b : Bool). needed (Length row) b >>= λ size. formed_field (Field row 0) (option_and_then (fitting kind row last) (number_up_to 2_047 (first_field fields))) >>= λ slot. heights_from row 1 (drop 1 fields) >>= λ heights. Ok (record { slot = slot; heights = heights })) (ne_eqb (length fields) (1 + waypoints) w.1) ∙ ap (λ r. Err (Length r)) (sym w.0)
 record_fails_again kind waypoints row last fields (Field at zero) w =
-    ap (λ (b : Bool). needed (Length row) b >>= λ size. formed (Field row 0) (option_and_then (fitting kind row last) (number_up_to 2_047 (first_field fields))) >>= λ slot. heights_from row 1 (drop 1 fields) >>= λ heights. Ok (record { slot = slot; heights = heights })) (equal (length fields) (1 + waypoints) w.1)
-    ∙ ap (λ (o : Option ℕ). formed (Field row 0) o >>= λ slot. heights_from row 1 (drop 1 fields) >>= λ heights. Ok (record { slot = slot; heights = heights })) (no_slot kind row last (number_up_to 2_047 (first_field fields)) (λ s is fits. w.2 (s, is, fits)))
+    ap (λ (b : Bool). needed (Length row) b >>= λ size. formed_field (Field row 0) (option_and_then (fitting kind row last) (number_up_to 2_047 (first_field fields))) >>= λ slot. heights_from row 1 (drop 1 fields) >>= λ heights. Ok (record { slot = slot; heights = heights })) (equal (length fields) (1 + waypoints) w.1)
+    ∙ ap (λ (o : Option ℕ). formed_field (Field row 0) o >>= λ slot. heights_from row 1 (drop 1 fields) >>= λ heights. Ok (record { slot = slot; heights = heights })) (no_slot kind row last (number_up_to 2_047 (first_field fields)) (λ s is fits. w.2 (s, is, fits)))
     ∙ ap (λ r. Err (Field r 0)) (sym w.0)
 record_fails_again kind waypoints row last fields (Field at (suc place)) w =
     let has = w.2.0 in
     let on : 1 + place ≡ suc place = omega arith in
-    ap (λ (b : Bool). needed (Length row) b >>= λ size. formed (Field row 0) (option_and_then (fitting kind row last) (number_up_to 2_047 (first_field fields))) >>= λ slot. heights_from row 1 (drop 1 fields) >>= λ heights. Ok (record { slot = slot; heights = heights })) (equal (length fields) (1 + waypoints) w.1)
-    ∙ ap (λ (o : Option ℕ). formed (Field row 0) o >>= λ slot. heights_from row 1 (drop 1 fields) >>= λ heights. Ok (record { slot = slot; heights = heights })) (slot_there kind row last (number_up_to 2_047 (first_field fields)) has.0 has.1 has.2)
+    ap (λ (b : Bool). needed (Length row) b >>= λ size. formed_field (Field row 0) (option_and_then (fitting kind row last) (number_up_to 2_047 (first_field fields))) >>= λ slot. heights_from row 1 (drop 1 fields) >>= λ heights. Ok (record { slot = slot; heights = heights })) (equal (length fields) (1 + waypoints) w.1)
+    ∙ ap (λ (o : Option ℕ). formed_field (Field row 0) o >>= λ slot. heights_from row 1 (drop 1 fields) >>= λ heights. Ok (record { slot = slot; heights = heights })) (slot_there kind row last (number_up_to 2_047 (first_field fields)) has.0 has.1 has.2)
     ∙ ap (λ (r : Result (List ℤ) TideFault). r >>= λ heights. Ok (record { slot = has.0; heights = heights })) (height_fails row 1 (drop 1 fields) place w.2.1)
     ∙ ap (λ c. Err (Field row c)) on
     ∙ ap (λ r. Err (Field r (suc place))) (sym w.0)

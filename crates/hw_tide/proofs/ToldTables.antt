@@ -3,15 +3,16 @@ use Rattle.std.proofs.Common.{◌≡◌, ℕ, ◌+◌, ◌-◌, ◌≤◌, ◌==
 use Rattle.std.proofs.lemmas.Bool.{ltb-true, lt-ltb}
 use Rattle.std.proofs.lemmas.Bool.Decides.{nat_tests}
 use Rattle.std.proofs.lemmas.Slice.Eq.{bytes_eq-Decides}
+use Rattle.hw_lemmas.specs.Operators.{◌>>=◌}
 use Rattle.hw_text.specs.Numbers.{number_up_to, signed_up_to}
 use Rattle.hw_tide.specs.declared.kind.TableKind.{TableKind}
 use Rattle.hw_tide.specs.declared.kind.TableKind.TheVariants.{Heights, Waters}
 use Rattle.hw_tide.specs.declared.fault.TideFault.{TideFault}
 use Rattle.hw_tide.specs.declared.fault.TideFault.TheVariants.{Length, Field}
 use Rattle.hw_tide.specs.Levels.{LevelsParts}
-use Rattle.hw_tide.specs.Table.{◌>>=◌, formed, needed, kind_word, wrong_column, header_of, slot_fits, fitting, first_field, heights_from, levels_form, levels_from, not_empty, table_of}
+use Rattle.hw_tide.specs.Table.{formed_field, needed, kind_word, wrong_column, header_of, slot_fits, fitting, first_field, heights_from, levels_form, levels_from, not_empty, table_of}
 use Rattle.hw_tide.specs.Tides.{slot_at}
-use Rattle.hw_tide.specs.Told.{Tells, EachTells, Next, Rise, IsTableOf, TableTold}
+use Rattle.hw_tide.specs.Told.{RecordTells, EachTells, Next, Rise, IsTableOf, TableTold}
 use Rattle.hw_tide.proofs.Kept.{bound, was_formed, was_needed, same_Ok, fitted, was_some}
 
 -- ---- the header
@@ -40,7 +41,7 @@ heights_told : (row column : ℕ) (fields : List (List ℕ)) (heights : List ℤ
 unfolding heights_from
 heights_told row column [] heights e = ap (map (λ h. Some h)) (same_Ok [] heights e)
 heights_told row column (f ∷ fs) heights e =
-    let one = bound (formed (Field row column) (signed_up_to 2_000 f)) (λ h. heights_from row (column + 1) fs >>= λ hs. Ok (h ∷ hs)) heights e in
+    let one = bound (formed_field (Field row column) (signed_up_to 2_000 f)) (λ h. heights_from row (column + 1) fs >>= λ hs. Ok (h ∷ hs)) heights e in
     let rest = bound (heights_from row (column + 1) fs) (λ hs. Ok (one.0 ∷ hs)) heights one.2 in
     ap₂ (λ a b. a ∷ b) (was_formed (Field row column) (signed_up_to 2_000 f) one.0 one.1) (heights_told row (column + 1) fs rest.0 rest.1) ∙ ap (map (λ h. Some h)) (same_Ok (one.0 ∷ rest.0) heights rest.2)
 
@@ -52,26 +53,26 @@ heights_again row column (f ∷ fs) [] e = absurd cc
 heights_again row column (f ∷ fs) (h ∷ hs) e =
     let first : signed_up_to 2_000 f ≡ Some h = cc in
     let rest : map (signed_up_to 2_000) fs ≡ map (λ h. Some h) hs = cc in
-    ap (λ (o : Option ℤ). formed (Field row column) o >>= λ h. heights_from row (column + 1) fs >>= λ hs. Ok (h ∷ hs)) first ∙ ap (λ (r : Result (List ℤ) TideFault). r >>= λ hs. Ok (h ∷ hs)) (heights_again row (column + 1) fs hs rest)
+    ap (λ (o : Option ℤ). formed_field (Field row column) o >>= λ h. heights_from row (column + 1) fs >>= λ hs. Ok (h ∷ hs)) first ∙ ap (λ (r : Result (List ℤ) TideFault). r >>= λ hs. Ok (h ∷ hs)) (heights_again row (column + 1) fs hs rest)
 
-record_told : (kind : TableKind) (waypoints row : ℕ) (last : Option ℕ) (fields : List (List ℕ)) (l : LevelsParts) → levels_form kind (1 + waypoints) row last fields ≡ Ok l → Tells waypoints fields l × (slot_fits kind row last l.slot ≡ true)
+record_told : (kind : TableKind) (waypoints row : ℕ) (last : Option ℕ) (fields : List (List ℕ)) (l : LevelsParts) → levels_form kind (1 + waypoints) row last fields ≡ Ok l → RecordTells waypoints fields l × (slot_fits kind row last l.slot ≡ true)
 unfolding levels_form
 record_told kind waypoints row last fields l e =
     let a = bound (needed (Length row) (length fields == 1 + waypoints)) _ l e in
     let size : length fields ≡ 1 + waypoints = eqb-true (length fields) (1 + waypoints) (was_needed (Length row) (length fields == 1 + waypoints) a.0 a.1) in
-    let b = bound (formed (Field row 0) (option_and_then (fitting kind row last) (number_up_to 2_047 (first_field (drop 0 fields))))) _ l a.2 in
+    let b = bound (formed_field (Field row 0) (option_and_then (fitting kind row last) (number_up_to 2_047 (first_field (drop 0 fields))))) _ l a.2 in
     let f = fitted kind row last (number_up_to 2_047 (first_field (drop 0 fields))) b.0 (was_formed (Field row 0) _ b.0 b.1) in
     let c = bound (heights_from row 1 (drop 1 fields)) _ l b.2 in
     let one : LevelsParts = record { slot = b.0; heights = c.0 } in
-    subst (λ (x : LevelsParts). Tells waypoints fields x × (slot_fits kind row last x.slot ≡ true)) (same_Ok one l c.2) (record { width = size; slot = f.0; heights = heights_told row 1 (drop 1 fields) c.0 c.1 }, f.1)
+    subst (λ (x : LevelsParts). RecordTells waypoints fields x × (slot_fits kind row last x.slot ≡ true)) (same_Ok one l c.2) (record { width = size; slot = f.0; heights = heights_told row 1 (drop 1 fields) c.0 c.1 }, f.1)
 
-record_again : (kind : TableKind) (waypoints row : ℕ) (last : Option ℕ) (fields : List (List ℕ)) (l : LevelsParts) → Tells waypoints fields l → slot_fits kind row last l.slot ≡ true → levels_form kind (1 + waypoints) row last fields ≡ Ok l
+record_again : (kind : TableKind) (waypoints row : ℕ) (last : Option ℕ) (fields : List (List ℕ)) (l : LevelsParts) → RecordTells waypoints fields l → slot_fits kind row last l.slot ≡ true → levels_form kind (1 + waypoints) row last fields ≡ Ok l
 unfolding levels_form
 record_again kind waypoints row last fields l told fits =
     let wide : (length fields == 1 + waypoints) ≡ true = equal (length fields) (1 + waypoints) told.width in
     let slot : option_and_then (fitting kind row last) (number_up_to 2_047 (first_field fields)) ≡ Some l.slot = ap (option_and_then (fitting kind row last)) told.slot ∙ ap (λ b. cond b (Some l.slot) None) fits in
-    let first = ap (λ (b : Bool). needed (Length row) b >>= λ size. formed (Field row 0) (option_and_then (fitting kind row last) (number_up_to 2_047 (first_field fields))) >>= λ slot. heights_from row 1 (drop 1 fields) >>= λ heights. Ok (record { slot = slot; heights = heights })) wide in
-    let second = ap (λ (o : Option ℕ). formed (Field row 0) o >>= λ slot. heights_from row 1 (drop 1 fields) >>= λ heights. Ok (record { slot = slot; heights = heights })) slot in
+    let first = ap (λ (b : Bool). needed (Length row) b >>= λ size. formed_field (Field row 0) (option_and_then (fitting kind row last) (number_up_to 2_047 (first_field fields))) >>= λ slot. heights_from row 1 (drop 1 fields) >>= λ heights. Ok (record { slot = slot; heights = heights })) wide in
+    let second = ap (λ (o : Option ℕ). formed_field (Field row 0) o >>= λ slot. heights_from row 1 (drop 1 fields) >>= λ heights. Ok (record { slot = slot; heights = heights })) slot in
     let third = ap (λ (r : Result (List ℤ) TideFault). r >>= λ heights. Ok (record { slot = l.slot; heights = heights })) (heights_again row 1 (drop 1 fields) l.heights told.heights) in
     first ∙ second ∙ third
   where

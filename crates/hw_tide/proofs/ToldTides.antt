@@ -7,13 +7,14 @@ use Rattle.std.proofs.lemmas.List.{get_or_append_left, get_or-append-add}
 use Rattle.std.proofs.lemmas.List.Elements.{All-head, All-tail}
 use Rattle.std.proofs.lemmas.Nat.{div-add-mod'}
 use Rattle.std.proofs.Math.Nat.{mod-lt, div-lt_iff_lt-mul}
+use Rattle.hw_lemmas.specs.Operators.{◌>>=◌}
 use Rattle.hw_tide.specs.Twelfths.{height_between}
 use Rattle.hw_tide.specs.declared.kind.TableKind.{TableKind}
 use Rattle.hw_tide.specs.declared.kind.TableKind.TheVariants.{Heights, Waters}
 use Rattle.hw_tide.specs.declared.fault.TideFault.{TideFault}
 use Rattle.hw_tide.specs.Levels.{LevelsParts, TideParts, IsLevels, height_at}
-use Rattle.hw_tide.specs.Table.{◌>>=◌, table_of}
-use Rattle.hw_tide.specs.Tides.{heights_between, row_at, slot_at, row_count, tide_from, tide_of}
+use Rattle.hw_tide.specs.Table.{table_of}
+use Rattle.hw_tide.specs.Tides.{heights_between, heights_in_slot, slot_at, row_count, tide_from, tide_of}
 use Rattle.hw_tide.specs.Told.{Rise, HasHeights, HasWaters, HasRows, IsTideOf, TideTold}
 use Rattle.hw_tide.proofs.Kept.{bound, same_Ok, table_kept}
 use Rattle.hw_tide.proofs.Sizes.{joined_size, row_size, range_size}
@@ -88,7 +89,7 @@ not_before w (v ∷ more) (suc place) l rise is =
 
 -- ---- rows of waters
 
-row_between : (levels : List LevelsParts) (place slot : ℕ) (here next : LevelsParts) → Rise Waters levels → slice_get levels place ≡ Some here → slice_get levels (suc place) ≡ Some next → here.slot ≤ slot → slot < next.slot → row_at levels slot ≡ heights_between (slot - here.slot) (next.slot - here.slot) here.heights next.heights
+row_between : (levels : List LevelsParts) (place slot : ℕ) (here next : LevelsParts) → Rise Waters levels → slice_get levels place ≡ Some here → slice_get levels (suc place) ≡ Some next → here.slot ≤ slot → slot < next.slot → heights_in_slot levels slot ≡ heights_between (slot - here.slot) (next.slot - here.slot) here.heights next.heights
 row_between [] place slot here next rise is follows from before = absurd cc
 row_between (w ∷ []) zero slot here next rise is follows from before = absurd cc
 row_between (w ∷ []) (suc place) slot here next rise is follows from before = absurd cc
@@ -101,7 +102,7 @@ row_between (w ∷ v ∷ more) (suc place) slot here next rise is follows from b
     let le : v.slot ≤ slot = omega (arith, not_before v more place here rise.1 is, from) in
     cond-false (nat_lt slot v.slot) _ _ (le-ltb slot v.slot le) ∙ row_between (v ∷ more) place slot here next rise.1 is follows from before
 
-row_last : (levels : List LevelsParts) (place : ℕ) (here : LevelsParts) → Rise Waters levels → suc place ≡ length levels → slice_get levels place ≡ Some here → row_at levels here.slot ≡ here.heights
+row_last : (levels : List LevelsParts) (place : ℕ) (here : LevelsParts) → Rise Waters levels → suc place ≡ length levels → slice_get levels place ≡ Some here → heights_in_slot levels here.slot ≡ here.heights
 row_last [] place here rise size is = absurd cc
 row_last (w ∷ []) zero here rise size is = ap (λ (x : LevelsParts). x.heights) (same_Some w here is)
 row_last (w ∷ []) (suc place) here rise size is = absurd cc
@@ -117,10 +118,10 @@ heights_have columns levels each begins rise = record {
   heights = λ place column here is inside. ap (λ r. get_or (flat_map (λ l. l.heights) levels) (r * columns + column) (pos 0)) (slot_is_place levels place here begins rise is) ∙ joined_in columns levels place column here each is inside;
 }
 
-cell : (columns : ℕ) (levels : List LevelsParts) → 1 ≤ length levels → All (IsLevels columns) levels → (slot column : ℕ) → slot < row_count levels → column < columns → height_at (tide_from Waters columns levels) slot column ≡ get_or (row_at levels slot) column (pos 0)
+cell : (columns : ℕ) (levels : List LevelsParts) → 1 ≤ length levels → All (IsLevels columns) levels → (slot column : ℕ) → slot < row_count levels → column < columns → height_at (tide_from Waters columns levels) slot column ≡ get_or (heights_in_slot levels slot) column (pos 0)
 cell columns levels some each slot column lt inside =
     let at : 0 + slot ≡ slot = omega arith in
-    row_in (row_at levels) columns 0 (row_count levels) slot column (λ i. row_size columns levels i some each) lt inside ∙ ap (λ i. get_or (row_at levels i) column (pos 0)) at
+    row_in (heights_in_slot levels) columns 0 (row_count levels) slot column (λ i. row_size columns levels i some each) lt inside ∙ ap (λ i. get_or (heights_in_slot levels i) column (pos 0)) at
 
 up_to_last : (levels : List LevelsParts) (place end : ℕ) (l : LevelsParts) → Rise Waters levels → suc end ≡ length levels → slice_get levels place ≡ Some l → l.slot ≤ slot_at levels end
 up_to_last [] place end l rise size is = absurd cc
@@ -156,9 +157,9 @@ rows_have Waters columns levels some each begins rise = waters_have columns leve
 
 full : (kind : TableKind) (columns : ℕ) (levels : List LevelsParts) → 1 ≤ length levels → All (IsLevels columns) levels → length (tide_from kind columns levels).heights ≡ (tide_from kind columns levels).rows * columns
 full Heights columns levels some each = joined_size columns levels each
-full Waters columns levels some each = range_size (row_at levels) columns 0 (row_count levels) (λ i. row_size columns levels i some each)
+full Waters columns levels some each = range_size (heights_in_slot levels) columns 0 (row_count levels) (λ i. row_size columns levels i some each)
 
-as_wide : (kind : TableKind) (columns : ℕ) (levels : List LevelsParts) → (tide_from kind columns levels).columns ≡ columns
+pub as_wide : (kind : TableKind) (columns : ℕ) (levels : List LevelsParts) → (tide_from kind columns levels).columns ≡ columns
 as_wide Heights columns levels = refl
 as_wide Waters columns levels = refl
 

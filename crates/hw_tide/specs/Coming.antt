@@ -8,7 +8,7 @@ use Rattle.csv.specs.declared.parser.State.{State}
 use Rattle.csv.specs.declared.reader.Trim.TheVariants as trim
 use Rattle.hw_tide.specs.declared.fault.TideFault.{TideFault}
 use Rattle.hw_tide.specs.declared.fault.TideFault.TheVariants.{NoMemory}
-use Rattle.hw_tide.specs.Table.{Gives}
+use Rattle.hw_tide.specs.Table.{TideGives}
 
 abbrev pub Records : Type 0
 Records = ByteRecordsIntoIter (Bor (List ℕ))
@@ -39,4 +39,4 @@ Takes old (Err fault) new = fault ≡ NoMemory
 -- an answer that a function gives of the records to come; memory may run out at any time
 abbrev pub ReadsComing : {X Y : Type 0} → (X → Y) → Records → (List (List (List ℕ)) → Result Y TideFault) → Result X TideFault → Type 0
 ReadsComing view records read (Err NoMemory) = Unit {0}
-ReadsComing view records read result = (coming : List (List (List ℕ))) × AreComing records coming × Gives view result (read coming)
+ReadsComing view records read result = (coming : List (List (List ℕ))) × AreComing records coming × TideGives view result (read coming)

@@ -1,5 +1,6 @@
 -- A tide table, record by record, with the first fault.
 use Rattle.std.specs.Prelude.{◌≡◌, ℕ, ◌+◌, ◌-◌, ◌==◌, ℤ, List, [], ◌∷◌, length, drop, Bool, true, false, Option, Some, None, option_and_then, Result, Ok, Err, nat_lt, bytes_eq, codes, if◌then◌else◌}
+use Rattle.hw_lemmas.specs.Operators.{◌>>=◌}
 use Rattle.hw_text.specs.Numbers.{number_up_to, signed_up_to}
 use Rattle.hw_tide.specs.Levels.{LevelsParts}
 use Rattle.hw_tide.specs.declared.kind.TableKind.{TableKind}
@@ -7,24 +8,19 @@ use Rattle.hw_tide.specs.declared.kind.TableKind.TheVariants.{Heights, Waters}
 use Rattle.hw_tide.specs.declared.fault.TideFault.{TideFault}
 use Rattle.hw_tide.specs.declared.fault.TideFault.TheVariants.{Header, Length, Field, Few, NoMemory}
 
-infixl 10 ◌>>=◌
-abbrev pub ◌>>=◌ : {A B : Type 0} → Result A TideFault → (A → Result B TideFault) → Result B TideFault
-(Ok x) >>= f = f x
-(Err e) >>= f = Err e
-
 -- an answer that gives this reading; memory may run out at any time
-abbrev pub Fails : {Y : Type 0} → TideFault → Result Y TideFault → Type 0
-Fails NoMemory read = Unit {0}
-Fails e read = read ≡ Err e
+abbrev pub TideFails : {Y : Type 0} → TideFault → Result Y TideFault → Type 0
+TideFails NoMemory read = Unit {0}
+TideFails e read = read ≡ Err e
 
 -- what a call returned, seen by the view, is what reading gives; memory may run out at any time
-abbrev pub Gives : {X Y : Type 0} → (X → Y) → Result X TideFault → Result Y TideFault → Type 0
-Gives view (Ok x) read = read ≡ Ok (view x)
-Gives view (Err e) read = Fails e read
+abbrev pub TideGives : {X Y : Type 0} → (X → Y) → Result X TideFault → Result Y TideFault → Type 0
+TideGives view (Ok x) read = read ≡ Ok (view x)
+TideGives view (Err e) read = TideFails e read
 
-abbrev pub formed : {A : Type 0} → TideFault → Option A → Result A TideFault
-formed fault None = Err fault
-formed fault (Some x) = Ok x
+abbrev pub formed_field : {A : Type 0} → TideFault → Option A → Result A TideFault
+formed_field fault None = Err fault
+formed_field fault (Some x) = Ok x
 
 abbrev pub needed : TideFault → Bool → Result Bool TideFault
 needed fault true = Ok true
@@ -70,13 +66,13 @@ first_field (f ∷ fs) = f
 -- the heights of a record from a column on
 unfoldable pub heights_from : ℕ → ℕ → List (List ℕ) → Result (List ℤ) TideFault
 heights_from row column [] = Ok []
-heights_from row column (f ∷ fs) = formed (Field row column) (signed_up_to 2_000 f) >>= λ h. heights_from row (column + 1) fs >>= λ hs. Ok (h ∷ hs)
+heights_from row column (f ∷ fs) = formed_field (Field row column) (signed_up_to 2_000 f) >>= λ h. heights_from row (column + 1) fs >>= λ hs. Ok (h ∷ hs)
 
 -- a record of `columns` columns, the first field among them, after one with the slot `last`
 unfoldable pub levels_form : TableKind → ℕ → ℕ → Option ℕ → List (List ℕ) → Result LevelsParts TideFault
 levels_form kind columns row last fields = do
   size ← needed (Length row) (length fields == columns)
-  slot ← formed (Field row 0) (option_and_then (fitting kind row last) (number_up_to 2_047 (first_field (drop 0 fields))))
+  slot ← formed_field (Field row 0) (option_and_then (fitting kind row last) (number_up_to 2_047 (first_field (drop 0 fields))))
   heights ← heights_from row 1 (drop 1 fields)
   Ok (record { slot = slot; heights = heights })
 

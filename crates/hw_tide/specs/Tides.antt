@@ -2,9 +2,10 @@
 use Rattle.std.specs.Prelude.{◌≡◌, ◌≤◌, ℕ, ℤ, ◌+◌, ◌-◌, All, List, [], ◌∷◌, length, Result, Ok, nat_lt, if◌then◌else◌}
 use Rattle.std.specs.List.{slice_get, flat_map, range_with_len}
 use Rattle.std.specs.Option.{option_map_or}
+use Rattle.hw_lemmas.specs.Operators.{◌>>=◌}
 use Rattle.hw_tide.specs.Twelfths.{height_between}
 use Rattle.hw_tide.specs.Levels.{LevelsParts, TideParts, IsLevels}
-use Rattle.hw_tide.specs.Table.{◌>>=◌, table_of}
+use Rattle.hw_tide.specs.Table.{table_of}
 use Rattle.hw_tide.specs.declared.fault.TideFault.{TideFault}
 use Rattle.hw_tide.specs.declared.kind.TableKind.{TableKind}
 use Rattle.hw_tide.specs.declared.kind.TableKind.TheVariants.{Heights, Waters}
@@ -16,10 +17,10 @@ heights_between past size (low ∷ lows) [] = []
 heights_between past size (low ∷ lows) (high ∷ highs) = height_between low high past size ∷ heights_between past size lows highs
 
 -- the heights in a slot: between the last water up to it and the next one, or those of the last water
-abbrev pub row_at : List LevelsParts → ℕ → List ℤ
-row_at [] slot = []
-row_at (water ∷ []) slot = water.heights
-row_at (water ∷ next ∷ more) slot = if nat_lt slot next.slot then heights_between (slot - water.slot) (next.slot - water.slot) water.heights next.heights else row_at (next ∷ more) slot
+abbrev pub heights_in_slot : List LevelsParts → ℕ → List ℤ
+heights_in_slot [] slot = []
+heights_in_slot (water ∷ []) slot = water.heights
+heights_in_slot (water ∷ next ∷ more) slot = if nat_lt slot next.slot then heights_between (slot - water.slot) (next.slot - water.slot) water.heights next.heights else heights_in_slot (next ∷ more) slot
 
 -- the slot of a place, 0 past the end
 abbrev pub slot_at : List LevelsParts → ℕ → ℕ
@@ -31,7 +32,7 @@ row_count levels = slot_at levels (length levels - 1) + 1
 
 -- the tide of waters, or of heights
 abbrev pub tide_from : TableKind → ℕ → List LevelsParts → TideParts
-tide_from Waters columns levels = record { rows = row_count levels; columns = columns; heights = flat_map (row_at levels) (range_with_len 0 (row_count levels)) }
+tide_from Waters columns levels = record { rows = row_count levels; columns = columns; heights = flat_map (heights_in_slot levels) (range_with_len 0 (row_count levels)) }
 tide_from Heights columns levels = record { rows = length levels; columns = columns; heights = flat_map (λ l. l.heights) levels }
 
 -- the tide of all records, or the first fault

@@ -9,7 +9,7 @@ use Rattle.hw_tide.specs.Table.{kind_word, first_field, table_of}
 use Rattle.hw_tide.specs.Tides.{slot_at, tide_of}
 
 -- a record tells its slot, and a height for each of this many waypoints
-pub record Tells (waypoints : ℕ) (fields : List (List ℕ)) (l : LevelsParts) : Type 0 where
+pub record RecordTells (waypoints : ℕ) (fields : List (List ℕ)) (l : LevelsParts) : Type 0 where
   pub width : length fields ≡ 1 + waypoints
   pub slot : number_up_to 2_047 (first_field fields) ≡ Some l.slot
   pub heights : map (signed_up_to 2_000) (drop 1 fields) ≡ map (λ h. Some h) l.heights
@@ -19,7 +19,7 @@ abbrev pub EachTells : ℕ → List (List (List ℕ)) → List LevelsParts → T
 EachTells waypoints [] [] = Unit {0}
 EachTells waypoints [] (l ∷ ls) = ⊥
 EachTells waypoints (x ∷ xs) [] = ⊥
-EachTells waypoints (x ∷ xs) (l ∷ ls) = Tells waypoints x l × EachTells waypoints xs ls
+EachTells waypoints (x ∷ xs) (l ∷ ls) = RecordTells waypoints x l × EachTells waypoints xs ls
 
 -- heights stand slot by slot, and each water is later than that before
 abbrev pub Next : TableKind → ℕ → ℕ → Type 0

@@ -8,7 +8,7 @@ use Rattle.hw_tide.specs.declared.fault.TideFault.TheVariants.{NoMemory}
 use Rattle.hw_tide.specs.declared.kind.TableKind.{TableKind}
 use Rattle.hw_tide.specs.declared.kind.TableKind.TheVariants.{Heights, Waters}
 use Rattle.hw_tide.specs.Levels.{TideParts}
-use Rattle.hw_tide.specs.Table.{Gives}
+use Rattle.hw_tide.specs.Table.{TideGives}
 use Rattle.hw_tide.specs.Tides.{tide_of}
 
 -- the CSV reader gives these records for the text, a byte order mark skipped
@@ -16,9 +16,9 @@ abbrev pub HasRecords : List ℕ → List (List (List ℕ)) → Type 0
 HasRecords bytes records = AreRecords default_config st.StartRecord (strip_bom bytes) records
 
 -- what a call answers for the text's records; memory may run out at any time
-abbrev pub Reads : List ℕ → (List (List (List ℕ)) → Result TideParts TideFault) → Result TideParts TideFault → Type 0
-Reads bytes read (Err NoMemory) = Unit {0}
-Reads bytes read result = (records : List (List (List ℕ))) × HasRecords bytes records × Gives (λ t. t) result (read records)
+abbrev pub TideReads : List ℕ → (List (List (List ℕ)) → Result TideParts TideFault) → Result TideParts TideFault → Type 0
+TideReads bytes read (Err NoMemory) = Unit {0}
+TideReads bytes read result = (records : List (List (List ℕ))) × HasRecords bytes records × TideGives (λ t. t) result (read records)
 
 -- the names of a port's waypoints, in order
 abbrev pub waypoint_names : Parts → List (List ℕ)

@@ -5,8 +5,8 @@ ghost use Rattle.std.specs.List.{flat_map, range_with_len};
 ghost use Rattle.hw_tide.specs.declared.kind.TableKind.TheVariants.{Heights, Waters};
 ghost use Rattle.hw_tide.specs.Twelfths.{InLimits};
 ghost use Rattle.hw_tide.specs.Levels.{IsLevels};
-ghost use Rattle.hw_tide.specs.Table.{Gives};
-ghost use Rattle.hw_tide.specs.Tides.{IsTable, heights_between, row_at, slot_at, row_count, tide_from};
+ghost use Rattle.hw_tide.specs.Table.{TideGives};
+ghost use Rattle.hw_tide.specs.Tides.{IsTable, heights_between, heights_in_slot, slot_at, row_count, tide_from};
 
 use crate::fault::TideFault;
 use crate::kind::TableKind;
@@ -56,7 +56,7 @@ fn push_row(
     requires behind { slot_at levels.now 0 ≤ slot }
     requires before { 1 < length levels.now → slot < slot_at levels.now 1 }
     requires each { All (IsLevels columns) levels.now }
-    ensures row { OnOk result (heights.new.items ≡ heights.old.items ++ row_at levels.now slot) }
+    ensures row { OnOk result (heights.new.items ≡ heights.old.items ++ heights_in_slot levels.now slot) }
     ensures small { All InLimits heights.old.items → OnOk result (All InLimits heights.new.items) }
 {
     match levels {
@@ -80,7 +80,7 @@ fn reached(levels: &[Levels], from: usize, slot: u32) -> usize
     ensures inside { result < length levels.now }
     ensures behind { slot_at levels.now result ≤ slot }
     ensures before { result + 1 < length levels.now → slot < slot_at levels.now (result + 1) }
-    ensures same { (later : ℕ) → slot ≤ later → row_at (drop result levels.now) later ≡ row_at (drop from levels.now) later }
+    ensures same { (later : ℕ) → slot ≤ later → heights_in_slot (drop result levels.now) later ≡ heights_in_slot (drop from levels.now) later }
 {
     let mut place = from;
     while place + 1 < levels.len() && slot_of(levels, place + 1) <= slot {
@@ -100,7 +100,7 @@ fn slot_of(levels: &[Levels], place: usize) -> u32
 /// The rows of the slots up to the last water.
 fn filled(alloc: Global, columns: u32, levels: &[Levels], rows: u32) -> Result<Vec<i32>, AllocError>
     requires table { IsTable Waters columns levels.now }
-    ensures rows { IfOk result (λ v. v.items ≡ flat_map (row_at levels.now) (range_with_len 0 rows)) }
+    ensures rows { IfOk result (λ v. v.items ≡ flat_map (heights_in_slot levels.now) (range_with_len 0 rows)) }
     ensures small { IfOk result (λ v. All InLimits v.items) }
 {
     let mut heights = Vec::new(alloc);
@@ -127,7 +127,7 @@ fn joined(alloc: Global, columns: u32, levels: &[Levels]) -> Result<Vec<i32>, Al
 
 fn tide_of_waters(alloc: Global, columns: u32, levels: &[Levels]) -> Result<Tide, TideFault>
     requires table { IsTable Waters columns levels.now }
-    ensures tide { Gives (λ t. t) result (Ok (tide_from Waters columns levels.now)) }
+    ensures tide { TideGives (λ t. t) result (Ok (tide_from Waters columns levels.now)) }
     ensures columns { IfOk result (λ t. t.columns ≡ columns) }
 {
     let rows = slot_of(levels, levels.len() - 1) + 1;
@@ -141,7 +141,7 @@ fn tide_of_waters(alloc: Global, columns: u32, levels: &[Levels]) -> Result<Tide
 
 fn tide_of_heights(alloc: Global, columns: u32, levels: &[Levels]) -> Result<Tide, TideFault>
     requires table { IsTable Heights columns levels.now }
-    ensures tide { Gives (λ t. t) result (Ok (tide_from Heights columns levels.now)) }
+    ensures tide { TideGives (λ t. t) result (Ok (tide_from Heights columns levels.now)) }
     ensures columns { IfOk result (λ t. t.columns ≡ columns) }
 {
     let heights = joined(alloc, columns, levels)?;
@@ -160,7 +160,7 @@ pub fn tide_of_levels(
     levels: &[Levels],
 ) -> Result<Tide, TideFault>
     requires table { IsTable kind columns levels.now }
-    ensures tide { Gives (λ t. t) result (Ok (tide_from kind columns levels.now)) }
+    ensures tide { TideGives (λ t. t) result (Ok (tide_from kind columns levels.now)) }
     ensures columns { IfOk result (λ t. t.columns ≡ columns) }
 {
     match kind {

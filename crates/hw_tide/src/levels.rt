@@ -4,7 +4,7 @@ ghost use Rattle.std.specs.Prelude.{◌≡◌, ◌≤◌, drop, length, MatchOpt
 ghost use Rattle.csv.specs.Records.{fields_of};
 ghost use Rattle.hw_text.specs.Numbers.{number_up_to};
 ghost use Rattle.hw_tide.specs.Coming.{IsReading, ReadsComing};
-ghost use Rattle.hw_tide.specs.Table.{EndBefore, HasAt, Gives, slot_fits, fitting, first_field, heights_from, levels_form, levels_from};
+ghost use Rattle.hw_tide.specs.Table.{EndBefore, HasAt, TideGives, slot_fits, fitting, first_field, heights_from, levels_form, levels_from};
 
 use crate::fault::TideFault;
 use crate::kind::TableKind;
@@ -39,7 +39,7 @@ pub fn field_of(fields: &ByteRecord, place: usize) -> Option<&[u8]>
 #[tactic(auto, unfolding(crate::specs::Table::heights_from))]
 fn heights_of(alloc: Global, row: u64, fields: &ByteRecord) -> Result<Vec<i32>, TideFault>
     requires { length (fields_of fields.now) ≤ 17 }
-    ensures { Gives (λ v. v.items) result (heights_from row 1 (drop 1 (fields_of fields.now))) }
+    ensures { TideGives (λ v. v.items) result (heights_from row 1 (drop 1 (fields_of fields.now))) }
 {
     let mut heights = Vec::new(alloc);
     for column in 1..fields.len() {
@@ -100,7 +100,7 @@ fn levels_of(
 ) -> Result<Levels, TideFault>
     requires some { 1 ≤ row }
     requires few { columns ≤ 17 }
-    ensures { Gives (λ x. x) result (levels_form kind columns row last (fields_of fields.now)) }
+    ensures { TideGives (λ x. x) result (levels_form kind columns row last (fields_of fields.now)) }
 {
     if fields.len() != columns {
         return Err(TideFault::Length { row });

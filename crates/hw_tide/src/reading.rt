@@ -4,7 +4,7 @@ ghost use Rattle.std.specs.Prelude.{◌≡◌, ◌∷◌, [], length, IfOk, unwr
 ghost use Rattle.csv.specs.Records.{fields_of};
 ghost use Rattle.hw_tide.specs.declared.kind.TableKind.TheVariants.{Heights, Waters};
 ghost use Rattle.hw_tide.specs.Tides.{tide_of};
-ghost use Rattle.hw_tide.specs.Whole.{Reads, waypoint_names, kind_said, tide_by_header};
+ghost use Rattle.hw_tide.specs.Whole.{TideReads, waypoint_names, kind_said, tide_by_header};
 
 use crate::fault::TideFault;
 use crate::filling::tide_of_levels;
@@ -23,7 +23,7 @@ use std::alloc::Global;
 /// height in centimetres for each waypoint. Records are judged one by one, and only the heights of
 /// good ones are held.
 pub fn read_heights(alloc: Global, bytes: &[u8], port: &Port) -> Result<Tide, TideFault>
-    ensures tide { Reads bytes.now (tide_of Heights (waypoint_names port.now)) result }
+    ensures tide { TideReads bytes.now (tide_of Heights (waypoint_names port.now)) result }
     ensures columns { IfOk result (λ t. t.columns ≡ length port.now.waypoints) }
 {
     tide(alloc, Some(TableKind::Heights), bytes, port)
@@ -35,7 +35,7 @@ pub fn read_heights(alloc: Global, bytes: &[u8], port: &Port) -> Result<Tide, Ti
 /// one a later slot than that before; between two waters heights go by the rule of twelfths,
 /// rounded down. Records are judged one by one, and only the heights of good ones are held.
 pub fn read_waters(alloc: Global, bytes: &[u8], port: &Port) -> Result<Tide, TideFault>
-    ensures tide { Reads bytes.now (tide_of Waters (waypoint_names port.now)) result }
+    ensures tide { TideReads bytes.now (tide_of Waters (waypoint_names port.now)) result }
     ensures columns { IfOk result (λ t. t.columns ≡ length port.now.waypoints) }
 {
     tide(alloc, Some(TableKind::Waters), bytes, port)
@@ -44,7 +44,7 @@ pub fn read_waters(alloc: Global, bytes: &[u8], port: &Port) -> Result<Tide, Tid
 /// The tide of a table of waters where the first field of the header is `water`, and of heights
 /// otherwise.
 pub fn read_tides(alloc: Global, bytes: &[u8], port: &Port) -> Result<Tide, TideFault>
-    ensures tide { Reads bytes.now (tide_by_header (waypoint_names port.now)) result }
+    ensures tide { TideReads bytes.now (tide_by_header (waypoint_names port.now)) result }
     ensures columns { IfOk result (λ t. t.columns ≡ length port.now.waypoints) }
 {
     tide(alloc, None, bytes, port)
@@ -78,7 +78,7 @@ fn tide(
     bytes: &[u8],
     port: &Port,
 ) -> Result<Tide, TideFault>
-    ensures tide { Reads bytes.now (λ records. tide_of (unwrap_or wanted (kind_said records)) (waypoint_names port.now) records) result }
+    ensures tide { TideReads bytes.now (λ records. tide_of (unwrap_or wanted (kind_said records)) (waypoint_names port.now) records) result }
     ensures columns { IfOk result (λ t. t.columns ≡ length port.now.waypoints) }
 {
     let waypoints = &port.parts().waypoints;

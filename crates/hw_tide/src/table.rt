@@ -3,7 +3,7 @@
 ghost use Rattle.std.specs.Prelude.{◌≡◌, ◌≢◌, ◌≤◌, ◌∷◌, length, map, drop, true, ◌+◌, bytes_eq, IfErr};
 ghost use Rattle.csv.specs.Records.{fields_of};
 ghost use Rattle.hw_tide.specs.Coming.{IsReading, ReadsComing};
-ghost use Rattle.hw_tide.specs.Table.{Gives, kind_word, wrong_column, header_of, not_empty, table_of};
+ghost use Rattle.hw_tide.specs.Table.{TideGives, kind_word, wrong_column, header_of, not_empty, table_of};
 
 use crate::fault::TideFault;
 use crate::kind::TableKind;
@@ -65,7 +65,7 @@ fn test_header(
     header: &ByteRecord,
 ) -> Result<(), TideFault>
     requires { length waypoints.now ≤ 16 }
-    ensures tests { Gives (λ _. true) result (header_of (wrong_column 0 (kind_word kind ∷ map (λ w. w.name) waypoints.now) (drop 0 (fields_of header.now)))) }
+    ensures tests { TideGives (λ _. true) result (header_of (wrong_column 0 (kind_word kind ∷ map (λ w. w.name) waypoints.now) (drop 0 (fields_of header.now)))) }
     ensures told { IfErr result (λ fault. fault ≢ TideFault.NoMemory) }
 {
     match wrong_of(kind, waypoints, header) {
@@ -75,7 +75,7 @@ fn test_header(
 }
 
 fn some_levels(levels: Vec<Levels>) -> Result<Vec<Levels>, TideFault>
-    ensures tests { Gives (λ v. v.items) result (not_empty levels.items) }
+    ensures tests { TideGives (λ v. v.items) result (not_empty levels.items) }
     ensures told { IfErr result (λ fault. fault ≢ TideFault.NoMemory) }
 {
     if levels.is_empty() {

@@ -11,7 +11,7 @@ use Rattle.hw_model.specs.Limits.{IsFlat}
 use Rattle.hw_model.specs.Timetables.{cargo, cargo_from}
 use Rattle.hw_model.specs.Rooms.{RoomModel, RoomFits, InRange, low_of, high_of}
 use Rattle.hw_model.specs.Refuting.{Refutes, greatest_value, greatest_sum}
-use Rattle.hw_laws.proofs.Cargoes.{worth, cargo_below}
+use Rattle.hw_laws.proofs.Cargoes.{worth, cargo_below, plus_parts}
 use Rattle.hw_laws.proofs.Sound.{value_le}
 use Rattle.hw_tolls.specs.declared.tariff.Due.{Due}
 use Rattle.hw_tolls.specs.declared.tariff.Tariff.{Tariff}
@@ -22,7 +22,7 @@ use Rattle.hw_tolls.specs.Computed.{pays}
 use Rattle.hw_tolls.specs.Laws.{EarnsLess}
 use Rattle.hw_tolls.proofs.Sums.{over}
 use Rattle.hw_tolls.proofs.Taken.{paid_over}
-use Rattle.hw_tolls.proofs.Tops.{RangesFrom, from_ranges, table_ranges, list_ranges, plus_parts, sum_told, product}
+use Rattle.hw_tolls.proofs.Tops.{RangesFrom, from_ranges, table_ranges, list_ranges, sum_told, product}
 
 -- ---- wider ranges
 

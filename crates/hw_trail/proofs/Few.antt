@@ -1,6 +1,6 @@
 -- A trail has few events, and room for one more where a literal is open.
 use Rattle.std.proofs.Common.{◌≡◌, ℕ, ◌+◌, ◌-◌, ◌*◌, ◌<◌, ◌≤◌, true, List, [], ◌∷◌, ◌++◌, Some, None, length, arith, length-append, sym, ap, ◌∙◌, subst}
-use Rattle.std.proofs.Math.Nat.{mul-le-mul_right}
+use Rattle.hw_lemmas.proofs.Numbers.{product}
 use Rattle.hw_model.specs.declared.lit.Lit.{Lit}
 use Rattle.hw_model.specs.declared.lit.LitTruth.TheVariants.{Free}
 use Rattle.hw_model.specs.declared.narrowing.Narrowed.TheVariants.{Cut}
@@ -12,18 +12,12 @@ use Rattle.hw_model.specs.Lits.{IsLitOf}
 use Rattle.hw_laws.proofs.Denials.{lit_of}
 use Rattle.hw_story.specs.declared.event.Event.{Event}
 use Rattle.hw_story.specs.declared.event.Why.{Why}
-use Rattle.hw_story.specs.Trails.{TrailModel, trail_shape, clause_of, room_of, decided, most_events}
+use Rattle.hw_story.specs.Trails.{TrailModel, trail_shape, reason_clause, room_of, decided, most_events}
 use Rattle.hw_model.specs.Rooms.{IsRoomOf}
 use Rattle.hw_story.proofs.Trails.{room_known, room_end}
 use Rattle.hw_story.proofs.Kept.{decided_kept, implied_kept, more_room, level_most}
 use Rattle.hw_story.proofs.Many.{few_events}
 use Rattle.hw_trail.specs.Kept.{KeepsTrail}
-
-product : (a b c d : ℕ) → a ≤ b → c ≤ d → a * c ≤ b * d
-product a b c d p q =
-    let one : a * c ≤ b * c = mul-le-mul_right c p in
-    let two : c * b ≤ d * b = mul-le-mul_right b q in
-    omega (arith, one, two)
 
 pub most_few : (ships slots : ℕ) → ships ≤ 40 → slots ≤ 513 → most_events ships slots ≤ 21260
 most_few ships slots few small =
@@ -63,7 +57,7 @@ decide_keeps t room new capacity capacity' lit items k fits free e r c =
       reserved = omega (arith, k.reserved, c);
     })
 
-pub imply_keeps : (t : TrailModel) (room new : RoomModel) (capacity capacity' : ℕ) (lit : Lit) (why : Why) (items : List Event) → KeepsTrail t room capacity → lit_fits (trail_shape t) lit ≡ true → IsClause (trail_shape t) (clause_of why) → truth (room_of t) lit ≡ Free → narrowing (clause_of why) (room_of t) ≡ Cut lit → items ≡ t.events ++ record { lit = lit; level = t.level; why = Some why } ∷ [] → new ≡ cut lit room → capacity' ≡ capacity
+pub imply_keeps : (t : TrailModel) (room new : RoomModel) (capacity capacity' : ℕ) (lit : Lit) (why : Why) (items : List Event) → KeepsTrail t room capacity → lit_fits (trail_shape t) lit ≡ true → IsClause (trail_shape t) (reason_clause why) → truth (room_of t) lit ≡ Free → narrowing (reason_clause why) (room_of t) ≡ Cut lit → items ≡ t.events ++ record { lit = lit; level = t.level; why = Some why } ∷ [] → new ≡ cut lit room → capacity' ≡ capacity
     → KeepsTrail (record { ships = t.ships; slots = t.slots; events = items; level = t.level }) new capacity'
 imply_keeps t room new capacity capacity' lit why items k fits clause free cuts e r c =
     subst (λ es. KeepsTrail (record { ships = t.ships; slots = t.slots; events = es; level = t.level }) new capacity') (sym e) (record {

@@ -2,6 +2,7 @@
 use Rattle.std.proofs.Common.{◌≡◌, ℕ, zero, suc, ◌+◌, ◌<◌, ◌≤◌, ◌&&◌, ◌||◌, ◌↔◌, ◌⊎◌, Bool, true, false, not, List, [], ◌∷◌, ◌++◌, Option, Some, None, IsSomeAnd, length, take, get_or, nat_lt, nat_le, refl, sym, ap, ◌∙◌, subst, arith, inl, inr, length-append}
 use Rattle.std.proofs.lemmas.Bool.{and_parts, and_from, or_cases, cases_Bool, cases_lt, lt-ltb}
 use Rattle.std.proofs.lemmas.List.{get_or_append_left, get_or_push, take-append-le, get_or-take, length-take-le}
+use Rattle.hw_lemmas.proofs.Truths.{was_not, clash}
 use Rattle.hw_model.specs.declared.lit.Lit.{Lit}
 use Rattle.hw_model.specs.declared.lit.Lit.TheVariants.{AtOrAfter, Before, First, NotFirst}
 use Rattle.hw_model.specs.declared.lit.LitTruth.TheVariants.{True, False, Free}
@@ -72,15 +73,8 @@ knew_at t is p lt m h =
     let e = told_at t is p lt in
     knew_is (room_before t p) k.of.is_room (event_at t p).lit m (subst (λ n. IsLitOf n (event_at t p).lit) (sym k.of.same_ships) (lit_of (trail_shape t) (event_at t p).lit e.fits)) h e.free
 
-is_not : (b : Bool) → not b ≡ true → b ≡ false
-is_not true e = absurd cc
-is_not false e = refl
-
 not_is : (b : Bool) → b ≡ false → not b ≡ true
 not_is b e = ap not e
-
-clash : (b : Bool) → b ≡ true → b ≡ false → ⊥
-clash b y n = cc
 
 pub made_here : (t : TrailModel) (p bound : ℕ) (e : Event) (lit : Lit) → IsTrail t → lit_fits (trail_shape t) lit ≡ true → p < length t.events → e ≡ get_or t.events p e → bound ≡ range_end (room_before t p) (event_at t p).lit → (makes e.lit bound (negation lit) ≡ true) ↔ (event_of t lit ≡ Some p)
 made_here t p bound e lit is f lt at same = (into, out)
@@ -93,7 +87,7 @@ made_here t p bound e lit is f lt at same = (into, out)
         let parts = and_parts (implies e.lit (negation lit)) (not (knew bound (negation lit))) y in
         let k = room_known t is p (omega (arith, lt)) in
         let here : implies (event_at t p).lit (negation lit) ≡ true = subst (λ (x : Event). implies x.lit (negation lit) ≡ true) event parts.0 in
-        let no' : knows (room_before t p) (negation lit) ≡ false = knew_at t is p lt (negation lit) here ∙ ap (λ n. knew n (negation lit)) (sym same) ∙ is_not (knew bound (negation lit)) parts.1 in
+        let no' : knows (room_before t p) (negation lit) ≡ false = knew_at t is p lt (negation lit) here ∙ ap (λ n. knew n (negation lit)) (sym same) ∙ was_not (knew bound (negation lit)) parts.1 in
         sym (found t lit p e is f lt at (unknown_at t p k (negation lit) no') parts.0)
 
     out : event_of t lit ≡ Some p → makes e.lit bound (negation lit) ≡ true

@@ -7,7 +7,7 @@ ghost use Rattle.hw_model.specs.Lits.{lit_fits, IsClause};
 ghost use Rattle.hw_model.specs.Narrowing.{truth};
 ghost use Rattle.hw_model.specs.Replay.{narrowing};
 ghost use Rattle.hw_model.specs.Problem.{shape_of};
-ghost use Rattle.hw_story.specs.Trails.{IsTrail, trail_shape, clause_of, room_of, no_events, decided, implied, back_to};
+ghost use Rattle.hw_story.specs.Trails.{IsTrail, trail_shape, reason_clause, room_of, no_events, decided, implied, back_to};
 ghost use Rattle.hw_story.specs.Learning.{event_of};
 
 use crate::bounds::{makes, range_end};
@@ -90,9 +90,9 @@ impl Trail {
     /// that isn't False. It changes one bound or one order, and takes no memory.
     pub fn imply(&mut self, lit: Lit, why: Why)
         requires fits { lit_fits (trail_shape self.old) lit ≡ true }
-        requires clause_fits { IsClause (trail_shape self.old) (clause_of why) }
+        requires clause_fits { IsClause (trail_shape self.old) (reason_clause why) }
         requires free { truth (room_of self.old) lit ≡ Free }
-        requires only { narrowing (clause_of why) (room_of self.old) ≡ Cut lit }
+        requires only { narrowing (reason_clause why) (room_of self.old) ≡ Cut lit }
         ensures value { self.new ≡ implied self.old lit why }
     {
         self.bounds.push_reserved(range_end(lit, &self.room));

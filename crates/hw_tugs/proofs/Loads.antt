@@ -1,10 +1,11 @@
 -- What jobs certainly hold, by ranges that were seen and by a room.
-use Rattle.std.proofs.Common.{◌≡◌, ◌≢◌, ℕ, zero, suc, ◌+◌, ◌*◌, ◌<◌, ◌≤◌, Bool, true, false, cond, List, [], ◌∷◌, length, get_or, set, sum_by, refl, sym, ap, ◌∙◌, arith, inl, inr}
+use Rattle.std.proofs.Common.{◌≡◌, ◌≢◌, ℕ, zero, suc, ◌+◌, ◌*◌, ◌<◌, ◌≤◌, List, [], ◌∷◌, length, get_or, set, sum_by, refl, sym, ap, ◌∙◌, arith, inl, inr}
 use Rattle.std.specs.Prelude.{All, AllPairs}
 use Rattle.std.proofs.lemmas.Bool.{cases_eq, cases_order}
 use Rattle.std.proofs.lemmas.List.{get_or_default, get_or-set_same, get_or-set_other, set-get_or}
 use Rattle.std.proofs.lemmas.List.Elements.{All-head, All-tail, All-nil, All-cons}
 use Rattle.std.proofs.lemmas.List.Sums.{sum_by-cons}
+use Rattle.hw_lemmas.proofs.Truths.{cond_most}
 use Rattle.hw_model.specs.declared.rule.Job.{Job}
 use Rattle.hw_model.specs.Limits.{JobFits}
 use Rattle.hw_model.specs.Rooms.{RoomModel}
@@ -15,9 +16,6 @@ use Rattle.hw_prop.proofs.Reading.{range_put, range_put_other}
 use Rattle.hw_tugs.specs.Held.{held_for, held_for_sure, IsLoad, Sees, IsForced, HasShip}
 
 -- ---- how much is held
-cond_most : (b : Bool) (n : ℕ) → cond b n 0 ≤ n
-cond_most true n = omega arith
-cond_most false n = omega arith
 
 pub held_few : (jobs : List Job) (seen : List (ℕ × ℕ)) (slot : ℕ) → All (λ job. job.tugs ≤ 64) jobs → held_for_sure jobs seen slot ≤ 64 * length jobs
 held_few [] seen slot all = omega arith

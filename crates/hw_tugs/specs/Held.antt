@@ -37,8 +37,8 @@ abbrev pub IsForced : List Job → RoomModel → List ℕ → Type 0
 IsForced jobs room load = (slot : ℕ) → slot < length load → slice_index load slot ≡ sum_by (forced_by room slot) jobs
 
 -- no job is the ship's
-abbrev pub NoneOf : ℕ → List Job → Type 0
-NoneOf ship jobs = (place : ℕ) (job : Job) → place < length jobs → (slice_index_or jobs place job).ship ≢ ship
+abbrev pub NoJobOf : ℕ → List Job → Type 0
+NoJobOf ship jobs = (place : ℕ) (job : Job) → place < length jobs → (slice_index_or jobs place job).ship ≢ ship
 
 -- the job at this place is the ship's
 pub record HasShip (ship : ℕ) (jobs : List Job) (place : ℕ) : Type 0 where

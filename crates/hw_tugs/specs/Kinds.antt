@@ -32,9 +32,9 @@ abbrev pub jobs_of : Problem → Source → List Job
 jobs_of f source = jobs_in (rule_of f source)
 
 -- the tugs that the jobs of a source hold in a slot wherever their ships sail in their ranges
-abbrev pub tugs_held : Problem → Source → RoomModel → ℕ → ℕ
-tugs_held f source room slot = sum_by (forced_by room slot) (jobs_of f source)
+abbrev pub tugs_certainly_held : Problem → Source → RoomModel → ℕ → ℕ
+tugs_certainly_held f source room slot = sum_by (forced_by room slot) (jobs_of f source)
 
 -- this many tugs are held so in a slot, in any room for which something is ready
 abbrev pub HeldWhere : (Problem → RoomModel → Type 0) → Source → ℕ → ℕ → Type 0
-HeldWhere ready source slot held = (f : Problem) (room : RoomModel) → ready f room → held ≡ tugs_held f source room slot
+HeldWhere ready source slot held = (f : Problem) (room : RoomModel) → ready f room → held ≡ tugs_certainly_held f source room slot

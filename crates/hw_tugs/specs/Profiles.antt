@@ -8,7 +8,7 @@ use Rattle.hw_tugs.specs.Held.{IsLoad, Sees}
 use Rattle.hw_tugs.specs.declared.figures.Figures.{Figures}
 
 -- for each slot of the horizon the tugs certainly held, by the ranges last seen; the ships of the jobs; and a room to try in
-pub record Keeps (f : Problem) (source : Source) (ships : List ℕ) (trial : RoomModel) (figures : Figures) : Type 0 where
+pub record KeepsProfile (f : Problem) (source : Source) (ships : List ℕ) (trial : RoomModel) (figures : Figures) : Type 0 where
   pub of_tugs : OfTugs f source
   pub each_slot : length figures.load.items ≡ horizon f
   pub load : IsLoad (jobs_of f source) figures.seen.items figures.load.items
@@ -16,7 +16,7 @@ pub record Keeps (f : Problem) (source : Source) (ships : List ℕ) (trial : Roo
   pub trial_ships : trial.ships ≡ f.ships
 
 -- these are the figures of a room
-pub record IsReady (f : Problem) (source : Source) (ships : List ℕ) (trial : RoomModel) (figures : Figures) (room : RoomModel) : Type 0 where
-  pub keeps : Keeps f source ships trial figures
+pub record RoomHasFigures (f : Problem) (source : Source) (ships : List ℕ) (trial : RoomModel) (figures : Figures) (room : RoomModel) : Type 0 where
+  pub keeps : KeepsProfile f source ships trial figures
   pub fits : RoomFits f room
   pub sees : Sees room (jobs_of f source) figures.seen.items

@@ -4,7 +4,7 @@ ghost use Rattle.hw_model.specs.Limits.{JobFits};
 ghost use Rattle.hw_model.specs.Lits.{IsLitOf};
 ghost use Rattle.hw_model.specs.Narrowing.{with_range, truth, cut};
 ghost use Rattle.hw_model.specs.declared.lit.LitTruth.TheVariants.{Free};
-ghost use Rattle.hw_tugs.specs.Held.{IsLoad, IsForced, Sees, HasShip, NoneOf};
+ghost use Rattle.hw_tugs.specs.Held.{IsLoad, IsForced, Sees, HasShip, NoJobOf};
 
 use crate::mending::{add, take_away};
 use hw_flat::{Job, Room, ShipId, Slot};
@@ -49,7 +49,7 @@ fn loads(alloc: Global, jobs: &[Job], room: &Room, horizon: u32) -> Result<Vec<u
 
 /// The place of the job of a ship, or none.
 fn place_of(jobs: &[Job], ship: ShipId) -> Option<usize>
-    ensures found { MatchOption result (NoneOf ship jobs.now) (HasShip ship jobs.now) }
+    ensures found { MatchOption result (NoJobOf ship jobs.now) (HasShip ship jobs.now) }
 {
     for (place, job) in jobs.iter().enumerate() {
         if job.ship == ship {

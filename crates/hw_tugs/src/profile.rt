@@ -69,13 +69,13 @@ impl TugProfile {
 }
 
 impl Propagator for TugProfile {
-    ghost use Rattle.hw_tugs.specs.Profiles.{Keeps, IsReady};
+    ghost use Rattle.hw_tugs.specs.Profiles.{KeepsProfile, RoomHasFigures};
 
     ghost source = { λ p. p.source };
 
-    ghost serves = { λ p f. Keeps f p.source p.ships.items p.trial p.figures };
+    ghost serves = { λ p f. KeepsProfile f p.source p.ships.items p.trial p.figures };
 
-    ghost ready = { λ p f room. IsReady f p.source p.ships.items p.trial p.figures room };
+    ghost ready = { λ p f room. RoomHasFigures f p.source p.ships.items p.trial p.figures room };
 
     ghost ready_serves = { λ p f room h. h.keeps };
 

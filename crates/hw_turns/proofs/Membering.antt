@@ -21,7 +21,7 @@ use Rattle.hw_progress.specs.Searches.{SearchModel, IsSearch, LogFits, best_carg
 use Rattle.hw_progress.specs.Turns.{WritesWell, TurnMeets, FitsAfter, lines_of_turn, is_last}
 use Rattle.hw_progress.specs.Offers.{IsBetter, OfferMeets}
 use Rattle.hw_progress.proofs.Turned.{table}
-use Rattle.hw_search.specs.Going.{rank, most_cargo, turns_left}
+use Rattle.hw_search.specs.Going.{cargo_rank, most_cargo, turns_left}
 use Rattle.hw_search.proofs.Answering.{tells}
 use Rattle.hw_progress.proofs.OneLemma.{few_lemmas}
 use Rattle.hw_progress.proofs.Heeded.{valid_append, lean_append}
@@ -53,7 +53,7 @@ own_more f own more own' e w m = subst (OwnWell f) (sym e) (record {
 
 -- ---- a table was offered
 
-rank_le : (c : ℕ) (b : Option ℕ) → IsTrue (beats c b) → rank b ≤ c + 1
+rank_le : (c : ℕ) (b : Option ℕ) → IsTrue (beats c b) → cargo_rank b ≤ c + 1
 rank_le c None h = omega arith
 rank_le c (Some x) h = let lt : x < c = ltb-true x c h in omega (arith, lt)
 
@@ -64,8 +64,8 @@ caught_offer f s row own u own' w permits better t =
     let well : WritesWell f own (lines.Table row ∷ []) = subst (λ p. WritesWell p own (lines.Table row ∷ [])) w.same_problem does.written.1 in
     let after : SearchModel = record s { best = Some row } in
     let kept : IsSearch after = (table s own row better.0 w.kept w.fits.fits permits better.1 better.2).2 in
-    let high : rank (best_cargo s) ≤ better.0 + 1 = rank_le better.0 (best_cargo s) better.2 in
-    let made : rank (cargo s.problem row) ≡ better.0 + 1 = ap rank better.1 in
+    let high : cargo_rank (best_cargo s) ≤ better.0 + 1 = rank_le better.0 (best_cargo s) better.2 in
+    let made : cargo_rank (cargo s.problem row) ≡ better.0 + 1 = ap cargo_rank better.1 in
     record {
       working = record {
         same_problem = ap (λ (x : SearchModel). x.problem) does.better ∙ w.same_problem;
@@ -78,7 +78,7 @@ caught_offer f s row own u own' w permits better t =
       front = ap (take (length own)) e ∙ take_here own (lines.Table row ∷ []);
       count = ap clause_count e ∙ (table_added f own row).count;
       lemmas = ap (λ (x : SearchModel). x.lemmas) does.better;
-      nearer = λ budget. subst (λ (x : SearchModel). turns_left budget x ≤ turns_left budget s) (sym does.better) (less (most_cargo s.problem) (rank (cargo s.problem row)) (rank (best_cargo s)) ((budget - s.lemmas) * (most_events s.problem.ships s.problem.slots + 1) + (most_events s.problem.ships s.problem.slots - length s.trail.events)) (omega (arith, high, made)));
+      nearer = λ budget. subst (λ (x : SearchModel). turns_left budget x ≤ turns_left budget s) (sym does.better) (less (most_cargo s.problem) (cargo_rank (cargo s.problem row)) (cargo_rank (best_cargo s)) ((budget - s.lemmas) * (most_events s.problem.ships s.problem.slots + 1) + (most_events s.problem.ships s.problem.slots - length s.trail.events)) (omega (arith, high, made)));
     }
   where
     less : (m now before x : ℕ) → before ≤ now → (m + 1 - now) + x ≤ (m + 1 - before) + x

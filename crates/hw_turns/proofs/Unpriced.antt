@@ -9,11 +9,11 @@ use Rattle.hw_progress.specs.declared.outcome.Turn.TheVariants as turns
 use Rattle.hw_progress.specs.Branches.{branch_literal}
 use Rattle.hw_progress.specs.Searches.{SearchModel, room_in}
 use Rattle.hw_progress.specs.Settling.{Implies}
-use Rattle.hw_progress.specs.Turns.{cited, cite_conflict, with_lemma, to_level, is_due, gone_back, is_last, DoesDecide, TurnDoes}
+use Rattle.hw_progress.specs.Turns.{cited, cite_conflict, with_lemma, to_level, restart_is_due, gone_back, is_last, DoesDecide, TurnDoes}
 use Rattle.hw_progress.proofs.Stops.{numbers_kept}
 
 gone_priced : (u : SearchModel) (back : ℕ) → (gone_back u back).priced ≡ u.priced
-gone_priced u back = by (is_due u)
+gone_priced u back = by (restart_is_due u)
   where
     by : (b : Bool) → (cond b (record (to_level u 0) { restarts = u.restarts + 1; since = 0 }) (record (to_level u back) { since = u.since + 1 })).priced ≡ u.priced
     by true = refl

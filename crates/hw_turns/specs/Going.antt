@@ -54,17 +54,17 @@ pub record Written (f : Problem) (members : List Member) (board : Board) (closed
   pub said : IsSaid all now
 
 -- what a turn leaves of the whole crew
-abbrev pub StepLeaves : Problem → Turn → List Member → Board → LogModel → Type 0
-StepLeaves f turns.Decided members board new = Written f members board turns.Decided new
-StepLeaves f turns.Better members board new = Written f members board turns.Better new
-StepLeaves f turns.Lemma members board new = Written f members board turns.Lemma new
-StepLeaves f turns.Ended members board new = Written f members board turns.Ended new
-StepLeaves f turns.NoMemory members board new = Halts f stops.NoMemory board (pages_of members) new
-StepLeaves f turns.LogFailed members board new = Halts f stops.Failed board (pages_of members) new
+abbrev pub CrewStepLeaves : Problem → Turn → List Member → Board → LogModel → Type 0
+CrewStepLeaves f turns.Decided members board new = Written f members board turns.Decided new
+CrewStepLeaves f turns.Better members board new = Written f members board turns.Better new
+CrewStepLeaves f turns.Lemma members board new = Written f members board turns.Lemma new
+CrewStepLeaves f turns.Ended members board new = Written f members board turns.Ended new
+CrewStepLeaves f turns.NoMemory members board new = Halts f stops.NoMemory board (pages_of members) new
+CrewStepLeaves f turns.LogFailed members board new = Halts f stops.Failed board (pages_of members) new
 
 -- from what was handed on before a turn to what it leaves
 abbrev pub StepFrom : Problem → List Member → Board → LogModel → Turn → List Member → Board → LogModel → Type 0
-StepFrom f members board old turn members' board' new = Written f members board turns.Decided old → StepLeaves f turn members' board' new
+StepFrom f members board old turn members' board' new = Written f members board turns.Decided old → CrewStepLeaves f turn members' board' new
 
 -- a turn that isn't the last one brings the crew nearer to the budget's lemmas
 abbrev pub CrewNearer : ℕ → Turn → List Member → List Member → Type 0
@@ -93,7 +93,7 @@ abbrev pub AddsRule : Problem → List Branching → Branching → List Member �
 AddsRule f order rule members members' = (had : List Branching) → NewSoFar f order had members → NewSoFar f order (had ++ rule ∷ []) members'
 
 -- a searcher for each rule of the order, none of which has done anything
-pub record CrewNew (f : Problem) (order : List Branching) (members : List Member) : Type 0 where
+pub record CrewIsBlank (f : Problem) (order : List Branching) (members : List Member) : Type 0 where
   pub working : AllWorking f members
   pub blank : All (λ (m : Member). (m.search.lemmas ≡ 0) × (m.log ≡ []) × (m.numbers.items ≡ [])) members
   pub as_many : length members ≡ searcher_count order

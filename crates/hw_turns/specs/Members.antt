@@ -109,8 +109,8 @@ abbrev pub ComesNearer : ℕ → Turn → SearchModel → SearchModel → Type 0
 ComesNearer budget turn s u = is_last turn ≡ false → s.lemmas < budget → turns_left budget u < turns_left budget s
 
 -- the timetable's cargo is above that of the other one, or there is no other
-abbrev pub IsAbove : Problem → List ℕ → Option (List ℕ) → Type 0
-IsAbove f table other = (c : ℕ) × (cargo f table ≡ Some c) × IsTrue (beats c (option_and_then (cargo f) other))
+abbrev pub CargoIsAbove : Problem → List ℕ → Option (List ℕ) → Type 0
+CargoIsAbove f table other = (c : ℕ) × (cargo f table ≡ Some c) × IsTrue (beats c (option_and_then (cargo f) other))
 
 -- the timetable's cargo isn't above that of the other one
 abbrev pub NotAbove : Problem → List ℕ → Option (List ℕ) → Type 0

@@ -9,7 +9,7 @@ ghost use Rattle.hw_progress.specs.Searches.{new_search};
 ghost use Rattle.hw_progress.specs.Turns.{is_last};
 ghost use Rattle.hw_search.specs.Turning.{turn_of};
 ghost use Rattle.hw_turns.specs.Going.{page_of};
-ghost use Rattle.hw_turns.specs.Members.{Working, Caught, ComesNearer, IsAbove, KeepsUp, NotAbove, TurnsOn, TurnsOwn, UnlessStopped, TurnCause, StaysTold};
+ghost use Rattle.hw_turns.specs.Members.{Working, Caught, ComesNearer, CargoIsAbove, KeepsUp, NotAbove, TurnsOn, TurnsOwn, UnlessStopped, TurnCause, StaysTold};
 
 use crate::board::Board;
 use crate::handing::{OwnLines, hand_on};
@@ -57,7 +57,7 @@ pub fn new_member<'f>(
 fn is_above(flat: &Flat, table: &Timetable, other: Option<&Timetable>) -> bool
     requires table { IsTimetable flat.now table.now }
     requires other { IfSome (option_copied other) (IsTimetable flat.now) }
-    ensures better { IsTrue result → IsAbove flat.now table.now (option_copied other.entry) }
+    ensures better { IsTrue result → CargoIsAbove flat.now table.now (option_copied other.entry) }
     ensures not_better { result ≡ false → NotAbove flat.now table.now (option_copied other.entry) }
 {
     let Some(worth) = cargo(flat, table) else {

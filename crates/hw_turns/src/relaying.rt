@@ -8,7 +8,7 @@ ghost use Rattle.hw_lines.specs.Lines.{clause_of, table_after};
 ghost use Rattle.hw_lines.specs.Valid.{LineFits};
 ghost use Rattle.hw_lines.specs.Lemmas.{lemma_of};
 ghost use Rattle.hw_cert.specs.Logs.{IsWhole};
-ghost use Rattle.hw_crew.specs.Pages.{shared_number, renumbered, is_handed, with_number};
+ghost use Rattle.hw_crew.specs.Pages.{shared_number, renumbered, is_handed, with_clause_number};
 ghost use Rattle.hw_turns.specs.Relaying.{Relays, board_after};
 
 use crate::board::Board;
@@ -158,7 +158,7 @@ fn keep(next: Line, numbers: &mut Vec<u32>, board: &mut Board)
     requires room { vec_len numbers.old < vec_capacity numbers.old }
     requires few { board.old.clause_lines + 1 < 2 ^ 32 }
     requires few_lemmas { board.old.lemmas + 1 < 2 ^ 32 }
-    ensures numbers { numbers.new.items ≡ with_number numbers.old.items (board.old.clause_lines + 1) (clause_of next) }
+    ensures numbers { numbers.new.items ≡ with_clause_number numbers.old.items (board.old.clause_lines + 1) (clause_of next) }
     ensures board { board.new ≡ board_after board.old next (Some next) }
 {
     if has_clause(&next) {

@@ -5,7 +5,7 @@ ghost use Rattle.std.specs.Option.{option_copied};
 ghost use Rattle.hw_model.specs.Problem.{IsTimetable};
 ghost use Rattle.hw_model.specs.Timetables.{Permits};
 ghost use Rattle.hw_progress.specs.Turns.{is_last};
-ghost use Rattle.hw_turns.specs.Members.{Working, Caught, IsAbove, TurnsOwn, UnlessStopped};
+ghost use Rattle.hw_turns.specs.Members.{Working, Caught, CargoIsAbove, TurnsOwn, UnlessStopped};
 
 use hw_cert::MemoryLog;
 use hw_flat::{Flat, NoMemory, Timetable};
@@ -41,7 +41,7 @@ fn is_permitted(flat: &Flat, table: &Timetable) -> bool
 fn is_above(flat: &Flat, table: &Timetable, other: Option<&Timetable>) -> bool
     requires table { IsTimetable flat.now table.now }
     requires other { IfSome (option_copied other) (IsTimetable flat.now) }
-    ensures better { IsTrue result → IsAbove flat.now table.now (option_copied other.entry) }
+    ensures better { IsTrue result → CargoIsAbove flat.now table.now (option_copied other.entry) }
 {
     let Some(worth) = cargo(flat, table) else {
         return false;

@@ -21,7 +21,7 @@ use Rattle.hw_lines.specs.Valid.{LineFits, denied_room}
 use Rattle.hw_lines.specs.Kept.{kept_of}
 use Rattle.hw_lines.specs.Refusals.{refusal, claim_refusal, table_refusal, source_refusal, named, lemma_refusal, is_past, refused, delete_refusal}
 use Rattle.hw_lines.proofs.Keeping.{same_dead, same_named}
-use Rattle.hw_verdict.specs.Causes.{Explains, Unrefuted, Unshown, CanJudge, Wrong}
+use Rattle.hw_verdict.specs.Causes.{LineExplains, Unrefuted, Unshown, CanJudge, Wrong}
 use Rattle.hw_verdict.proofs.Unpriced.{Caused, toll_cause, tariff_cause, priced_cause, bound_cause}
 use Rattle.hw_verdict.proofs.Hinted.{lemma_cause, delete_cause}
 
@@ -59,7 +59,7 @@ table_cause f before table listed = by (first_broken f table) refl (cargo f tabl
 
 -- ---- sources
 
-source_cause : (f : Problem) (before : List Line) (line : Line) (source : Source) (clause : List Lit) → Explains f line source clause → (Unrefuted f before line → Unshown f before line) → Caused f before line (source_refusal f (best_of f before) source clause)
+source_cause : (f : Problem) (before : List Line) (line : Line) (source : Source) (clause : List Lit) → LineExplains f line source clause → (Unrefuted f before line → Unshown f before line) → Caused f before line (source_refusal f (best_of f before) source clause)
 source_cause f before line source clause explains unshown = by (refutes f source (best_of f before) (denied_room f clause)) refl
   where
     by : (b : Bool) → refutes f source (best_of f before) (denied_room f clause) ≡ b → Caused f before line (cond b None (refused words.Refute))

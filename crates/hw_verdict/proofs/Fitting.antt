@@ -1,10 +1,9 @@
 -- Renewed lines are of the problem's shape where the lines are; and what law functions say of renewing.
-use Rattle.std.proofs.Common.{◌≡◌, ℕ, ◌+◌, ◌<◌, ◌&&◌, not, true, false, max, fold, List, [], ◌∷◌, ◌++◌, Option, Some, None, get_or, All, refl, sym, ◌∙◌, arith}
+use Rattle.std.proofs.Common.{◌≡◌, ℕ, ◌+◌, ◌<◌, ◌&&◌, not, true, false, max, fold, List, [], ◌∷◌, ◌++◌, Option, Some, None, All, refl, sym, ◌∙◌, arith}
 use Rattle.std.proofs.lemmas.List.Elements.{All-nil, All-cons, All-head, All-tail, All-append, All-weaker}
-use Rattle.std.proofs.lemmas.List.FromFn.{length-range_with_len, get_or-range_with_len}
 use Rattle.std.proofs.lemmas.List.Kept.{IsStrictlyIncreasing-filter}
-use Rattle.std.specs.List.{range_with_len}
 use Rattle.std.specs.List.Sorted.{IsStrictlyIncreasing}
+use Rattle.hw_lemmas.proofs.Lists.{range_ascends}
 use Rattle.hw_model.specs.declared.lit.Lit.{Lit}
 use Rattle.hw_model.specs.Problem.{Problem}
 use Rattle.hw_lines.specs.declared.line.Line.{Line}
@@ -12,25 +11,19 @@ use Rattle.hw_lines.specs.declared.line.Line.TheVariants as lines
 use Rattle.hw_lines.specs.Lines.{clause_of, is_closed, ends}
 use Rattle.hw_lines.specs.Valid.{LineFits, ValidAfter, ValidFrom, Valid}
 use Rattle.hw_lines.proofs.Closed.{closed_from}
+use Rattle.hw_lines.proofs.Live.{live_above}
 use Rattle.hw_verdict.specs.Renewing.{hints_of, has_hint, is_hint_of, last_named, never_named, deletion, deletions, undeleting, next_number, renewed_from, renewed, RenewingKeeps}
-use Rattle.hw_verdict.proofs.Naming.{hints_live, live_above}
+use Rattle.hw_verdict.proofs.Naming.{hints_live}
 use Rattle.hw_verdict.proofs.Stays.{best_same}
 use Rattle.hw_verdict.proofs.Staying.{last_parts, never_is}
 use Rattle.hw_verdict.proofs.Renewed.{all_renewed}
 
 -- ---- numbers that ascend
 
-pub range_ascends : (a n : ℕ) → IsStrictlyIncreasing (range_with_len a n)
-range_ascends a n = λ k lt.
-    let within : k + 1 < n = omega (arith, lt, length-range_with_len a n) in
-    let here : get_or (range_with_len a n) k 0 ≡ a + k = get_or-range_with_len a n k 0 (omega (arith, within)) in
-    let next : get_or (range_with_len a n) (k + 1) 0 ≡ a + (k + 1) = get_or-range_with_len a n (k + 1) 0 within in
-    omega (arith, here, next)
-
 one_ascends : (n : ℕ) → IsStrictlyIncreasing (n ∷ [])
 one_ascends n = λ k lt. absurd (omega (arith, lt))
 
-last_ascends : (line : Line) (later : List Line) → IsStrictlyIncreasing (last_named line later)
+pub last_ascends : (line : Line) (later : List Line) → IsStrictlyIncreasing (last_named line later)
 last_ascends line later = IsStrictlyIncreasing-filter (λ id. has_hint id line && not (is_hint_of later id)) _ (range_ascends 0 (fold max 0 (hints_of line) + 1))
 
 never_ascends : (n : ℕ) (later : List Line) → IsStrictlyIncreasing (never_named n later)

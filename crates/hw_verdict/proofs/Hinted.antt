@@ -1,7 +1,8 @@
 -- Lemmas and deletions that are refused are wrong as their words say.
-use Rattle.std.proofs.Common.{◌≡◌, ℕ, zero, suc, ◌+◌, ◌<◌, ◌≤◌, cond, List, [], ◌∷◌, Option, Some, None, find, filter_map, length, All, IsSome, IfSome, is_none, is_some, refl, ap, subst, arith, slice_get, slice_index}
+use Rattle.std.proofs.Common.{◌≡◌, ℕ, zero, suc, ◌+◌, ◌<◌, ◌≤◌, cond, List, [], ◌∷◌, Option, Some, None, find, filter_map, length, All, IsSome, IfSome, is_none, is_some, refl, ap, subst, arith, slice_get}
 use Rattle.std.proofs.lemmas.List.Elements.{All-head, All-tail}
 use Rattle.std.specs.List.{cons_option}
+use Rattle.hw_lemmas.proofs.Lists.{stands_at}
 use Rattle.hw_model.specs.declared.lit.Lit.{Lit}
 use Rattle.hw_model.specs.declared.narrowing.Narrowed.{Narrowed}
 use Rattle.hw_model.specs.declared.narrowing.Narrowed.TheVariants.{Same, Cut, Conflict, Loose}
@@ -64,11 +65,6 @@ as_many h (id ∷ ids) all = by (h id) (All-head (λ id. IsSome (h id)) id ids a
     by : (o : Option (List Lit)) → IsSome o → length (filter_map h ids) ≡ length ids → length (cons_option o (filter_map h ids)) ≡ suc (length ids)
     by None some e = absurd cc
     by (Some lits) some e = ap suc e
-
-stands_at : (ids : List ℕ) (place : ℕ) → place < length ids → slice_get ids place ≡ Some (slice_index ids place)
-stands_at [] place lt = absurd (omega (arith, lt))
-stands_at (id ∷ ids) zero lt = refl
-stands_at (id ∷ ids) (suc place) lt = stands_at ids place (omega (arith, lt))
 
 pub lemma_cause : (f : Problem) (before : List Line) (clause : List Lit) (hints : List ℕ) → Caused f before (lines.Lemma clause hints) (lemma_refusal (find (λ id. is_none (live before id)) hints) hints (replay (denied_room f clause) (hinted before hints)))
 lemma_cause f before clause hints = by (find (λ id. is_none (live before id)) hints) refl (replay (denied_room f clause) (hinted before hints)) refl

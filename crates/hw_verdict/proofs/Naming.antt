@@ -1,5 +1,5 @@
 -- Hints and the live clauses that they name.
-use Rattle.std.proofs.Common.{◌≡◌, ℕ, zero, suc, ◌<◌, ◌==◌, Bool, true, false, cond, List, [], ◌∷◌, Option, None, get_or, All, IsSome, is_some, refl, subst, inl, inr, arith}
+use Rattle.std.proofs.Common.{◌≡◌, ℕ, ◌==◌, Bool, true, false, cond, List, [], ◌∷◌, Option, None, get_or, All, IsSome, refl, subst, inl, inr}
 use Rattle.std.proofs.lemmas.Bool.{or_cases, eqb-true, eq-eqb}
 use Rattle.std.proofs.lemmas.List.Elements.{All-head, All-tail}
 use Rattle.std.proofs.lemmas.List.Folds.{list_any_at}
@@ -30,15 +30,6 @@ some_live before id some = either (list_any (deletes id) before) (clause_at befo
     either : (b : Bool) (o : Option (List Lit)) → IsSome (cond b None o) → cond b None o ≡ o
     either true o some = absurd cc
     either false o some = refl
-
--- no clause has the number 0
-pub live_above : (before : List Line) (id : ℕ) → IsSome (live before id) → 0 < id
-live_above before zero some = absurd (none (list_any (deletes 0) before) some)
-  where
-    none : (b : Bool) → is_some (cond b None (clause_at before 0)) ≡ true → ⊥
-    none true e = cc
-    none false e = cc
-live_above before (suc n) some = omega arith
 
 -- the hints of a valid line are live
 pub hints_live : (f : Problem) (before : List Line) (line : Line) → ValidAfter f before line → (id : ℕ) → has_hint id line ≡ true → IsSome (live before id)

@@ -11,7 +11,7 @@ use Rattle.hw_lines.proofs.Deleted.{live_in}
 use Rattle.hw_verdict.specs.Renewing.{hints_of, IsNumbered}
 use Rattle.hw_verdict.proofs.Naming.{hints_live, among_all}
 
-count_append : (before more : List Line) → clause_count (before ++ more) ≡ clause_count before + clause_count more
+pub count_append : (before more : List Line) → clause_count (before ++ more) ≡ clause_count before + clause_count more
 count_append before more = ap length (filter_map-append clause_of before more) ∙ length-append (clauses_of before) (clauses_of more)
 
 few_more : (before : List Line) (line : Line) → IfSome (clause_of line) (λ clause. clause_count before + 1 < 2 ^ 32) → clause_count before < 2 ^ 32 → clause_count (before ++ line ∷ []) < 2 ^ 32

@@ -1,8 +1,9 @@
 -- The worked rows of lean lines and of new lemmas.
-use Rattle.std.proofs.Common.{◌≡◌, ℕ, zero, suc, ◌<◌, ◌≤◌, Bool, true, false, List, [], ◌∷◌, get_or, AllPairs, Contains, IsSomeAnd, refl, sym, ap, subst, arith, inl, ◌⊎◌}
+use Rattle.std.proofs.Common.{◌≡◌, ℕ, zero, suc, ◌<◌, ◌≤◌, true, false, List, [], ◌∷◌, get_or, AllPairs, Contains, IsSomeAnd, refl, sym, ap, subst, arith, inl, ◌⊎◌}
 use Rattle.std.proofs.lemmas.Bool.{and_parts, and_from}
 use Rattle.std.proofs.lemmas.List.Elements.{All-nil, All-cons, All-head, All-tail}
 use Rattle.std.specs.List.{list_all}
+use Rattle.hw_lemmas.proofs.Truths.{clash}
 use Rattle.hw_model.specs.declared.lit.Lit.{Lit}
 use Rattle.hw_model.specs.declared.lit.Lit.TheVariants.{AtOrAfter, Before, First, NotFirst}
 use Rattle.hw_model.specs.declared.source.Source.{Source}
@@ -28,9 +29,6 @@ speaks f source (lit ∷ more) e =
 spoken : (f : Problem) (source : Source) (clause : List Lit) → SpeaksOnlyOf f source clause → list_all (names_lit f source) clause ≡ true
 spoken f source [] all = refl
 spoken f source (lit ∷ more) all = and_from (names_lit f source lit) _ (All-head (λ lit. names_lit f source lit ≡ true) lit more all) (spoken f source more (All-tail (λ lit. names_lit f source lit ≡ true) lit more all))
-
-clash : (b : Bool) → b ≡ true → b ≡ false → ⊥
-clash b y n = cc
 
 silent : (f : Problem) (source : Source) (clause : List Lit) → list_all (names_lit f source) clause ≡ false → SpeaksOnlyOf f source clause → ⊥
 silent f source clause e all = clash _ (spoken f source clause all) e

@@ -1,7 +1,7 @@
 -- A line that stays is valid after the new lines.
-use Rattle.std.proofs.Common.{◌≡◌, ℕ, ◌+◌, ◌^◌, ◌<◌, ◌≤◌, ◌==◌, true, List, [], ◌∷◌, ◌++◌, Option, length, option_and_then, All, IsSome, IfSome, IsSomeAnd, refl, sym, ap, ◌∙◌, subst, arith, length-append}
+use Rattle.std.proofs.Common.{◌≡◌, ℕ, ◌+◌, ◌^◌, ◌<◌, ◌≤◌, ◌==◌, true, List, [], ◌∷◌, ◌++◌, Option, length, option_and_then, All, IsSome, IfSome, IsSomeAnd, refl, sym, ap, ◌∙◌, subst, arith}
 use Rattle.std.proofs.lemmas.Bool.{or_left, or_right}
-use Rattle.std.specs.List.{cons_option, list_any}
+use Rattle.std.specs.List.{list_any}
 use Rattle.hw_model.specs.declared.lit.Lit.{Lit}
 use Rattle.hw_model.specs.Problem.{Problem}
 use Rattle.hw_model.specs.Timetables.{cargo}
@@ -11,11 +11,11 @@ use Rattle.hw_tolls.specs.declared.toll.Toll.{Toll}
 use Rattle.hw_tolls.specs.Prices.{PricesRefute, PricesBound}
 use Rattle.hw_lines.specs.declared.line.Line.{Line}
 use Rattle.hw_lines.specs.declared.line.Line.TheVariants as lines
-use Rattle.hw_lines.specs.Lines.{clause_of, clauses_of, clause_count, live, best_of}
+use Rattle.hw_lines.specs.Lines.{clause_of, live, best_of}
 use Rattle.hw_lines.specs.declared.line.Price.{Price}
 use Rattle.hw_lines.specs.Tolled.{tolls_of, tariff_of, bound_of}
 use Rattle.hw_lines.specs.Valid.{ValidAfter, Holds, denied_room}
-use Rattle.hw_lines.proofs.Pushed.{clauses_push}
+use Rattle.hw_lines.proofs.Deleted.{count_more}
 use Rattle.hw_verdict.specs.Renewing.{undeleting}
 use Rattle.hw_verdict.proofs.Naming.{among_all}
 use Rattle.hw_verdict.proofs.Alike.{Same, same_push, Spares, spares_more, Keeps, same_live, hinted_same}
@@ -74,9 +74,6 @@ spares_line (lines.Tugs n slot most weights) id stays = refl
 spares_line (lines.Tariff scale prices) id stays = refl
 spares_line (lines.Priced clause) id stays = refl
 spares_line (lines.Bound bound) id stays = refl
-
-count_more : (before : List Line) (line : Line) → clause_count before ≤ clause_count (before ++ line ∷ [])
-count_more before line = omega (arith, ap length (clauses_push before line), length-append (clauses_of before) (cons_option (clause_of line) []))
 
 pub keeps_push : (before made later : List Line) (line : Line) → undeleting line ≡ line ∷ [] → Keeps before made later → Keeps (before ++ line ∷ []) (made ++ line ∷ []) later
 keeps_push before made later line stays keeps = record {

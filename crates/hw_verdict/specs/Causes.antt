@@ -22,18 +22,18 @@ use Rattle.hw_lines.specs.Valid.{LineFits, denied_room, hinted, Bounds}
 use Rattle.hw_lines.specs.Refusals.{refusal}
 
 -- the line explains a clause by a source
-abbrev pub Explains : Problem → Line → Source → List Lit → Type 0
-Explains f (lines.Table table) source clause = ⊥
-Explains f (lines.Explain n own) source clause = (source ≡ source_of f n) × (clause ≡ own)
-Explains f (lines.Order v w x own) source clause = (source ≡ sources.Order v w x) × (clause ≡ own)
-Explains f (lines.Goal own) source clause = (source ≡ sources.Goal) × (clause ≡ own)
-Explains f (lines.Lemma own hints) source clause = ⊥
-Explains f (lines.Delete ids) source clause = ⊥
-Explains f (lines.Narrows blocks) source clause = ⊥
-Explains f (lines.Tugs n slot most weights) source clause = ⊥
-Explains f (lines.Tariff scale prices) source clause = ⊥
-Explains f (lines.Priced own) source clause = ⊥
-Explains f (lines.Bound bound) source clause = ⊥
+abbrev pub LineExplains : Problem → Line → Source → List Lit → Type 0
+LineExplains f (lines.Table table) source clause = ⊥
+LineExplains f (lines.Explain n own) source clause = (source ≡ source_of f n) × (clause ≡ own)
+LineExplains f (lines.Order v w x own) source clause = (source ≡ sources.Order v w x) × (clause ≡ own)
+LineExplains f (lines.Goal own) source clause = (source ≡ sources.Goal) × (clause ≡ own)
+LineExplains f (lines.Lemma own hints) source clause = ⊥
+LineExplains f (lines.Delete ids) source clause = ⊥
+LineExplains f (lines.Narrows blocks) source clause = ⊥
+LineExplains f (lines.Tugs n slot most weights) source clause = ⊥
+LineExplains f (lines.Tariff scale prices) source clause = ⊥
+LineExplains f (lines.Priced own) source clause = ⊥
+LineExplains f (lines.Bound bound) source clause = ⊥
 
 -- some restriction is broken by the timetable, and this is the first
 pub record TableBroken (f : Problem) (line : Line) : Type 0 where
@@ -53,7 +53,7 @@ pub record TableWorse (f : Problem) (before : List Line) (line : Line) : Type 0 
 pub record Unrefuted (f : Problem) (before : List Line) (line : Line) : Type 0 where
   pub source : Source
   pub clause : List Lit
-  pub explains : Explains f line source clause
+  pub explains : LineExplains f line source clause
   pub leaves : Refutes f source (best_of f before) (denied_room f clause) → ⊥
 
 -- what the line shows by a source or by prices isn't so: its source or the prices in force leave something of the denied room,

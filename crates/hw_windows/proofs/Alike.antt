@@ -2,16 +2,16 @@
 use Rattle.std.proofs.Common.{◌≡◌, true, refl}
 use Rattle.hw_windows.specs.declared.status.Status.{Status}
 use Rattle.hw_windows.specs.declared.status.Status.TheVariants.{Sails, Closed, Shallow, TidesEnd}
-use Rattle.hw_windows.specs.Statuses.{alike}
+use Rattle.hw_windows.specs.Statuses.{statuses_alike}
 
-pub alike_self : (a : Status) → alike a a ≡ true
+pub alike_self : (a : Status) → statuses_alike a a ≡ true
 alike_self (Sails x) = refl
 alike_self Closed = refl
 alike_self (Shallow x) = refl
 alike_self TidesEnd = refl
 
 -- what is of the kind of one of two of a kind is of the kind of the other
-pub alike_on : (a b c : Status) → alike a b ≡ true → alike b c ≡ true → alike a c ≡ true
+pub alike_on : (a b c : Status) → statuses_alike a b ≡ true → statuses_alike b c ≡ true → statuses_alike a c ≡ true
 alike_on (Sails x) (Sails y) c e f = f
 alike_on (Sails x) Closed c e f = absurd cc
 alike_on (Sails x) (Shallow y) c e f = absurd cc
@@ -29,7 +29,7 @@ alike_on TidesEnd Closed c e f = absurd cc
 alike_on TidesEnd (Shallow y) c e f = absurd cc
 alike_on TidesEnd TidesEnd c e f = f
 
-pub alike_back : (a b c : Status) → alike a b ≡ true → alike a c ≡ true → alike b c ≡ true
+pub alike_back : (a b c : Status) → statuses_alike a b ≡ true → statuses_alike a c ≡ true → statuses_alike b c ≡ true
 alike_back (Sails x) (Sails y) c e f = f
 alike_back (Sails x) Closed c e f = absurd cc
 alike_back (Sails x) (Shallow y) c e f = absurd cc

@@ -2,7 +2,7 @@
 use Rattle.std.proofs.Common.{◌≡◌, ◌≤◌, ◌+◌, ◌-◌, ℕ, zero, suc, ℤ, ◌≤ℤ◌, int_lt, Bool, true, false, cond, refl, subst, inl, inr, arith}
 use Rattle.std.proofs.lemmas.Bool.{cases_lt}
 use Rattle.std.proofs.lemmas.Int.{ints}
-use Rattle.hw_windows.specs.Runs.{deeper, deepest, lighter, lightest}
+use Rattle.hw_windows.specs.Runs.{deeper_slot, deepest, lighter, lightest}
 use Rattle.hw_windows.specs.Laws.{DraftsAreExtremes}
 
 -- one of some slots, none of which has a lesser draft
@@ -98,7 +98,7 @@ lightest_on draft first slot best le e =
     let at : first + suc (slot - first) ≡ slot + 1 = omega (arith, le) in
     rw (size, at, e) refl
 
-pub deepest_on : (draft : ℕ → ℤ) (first slot best : ℕ) → first ≤ slot → best ≡ deepest draft first (slot - first) → deeper draft best (slot + 1) ≡ deepest draft first (slot + 1 - first)
+pub deepest_on : (draft : ℕ → ℤ) (first slot best : ℕ) → first ≤ slot → best ≡ deepest draft first (slot - first) → deeper_slot draft best (slot + 1) ≡ deepest draft first (slot + 1 - first)
 deepest_on draft first slot best le e =
     let size : slot + 1 - first ≡ suc (slot - first) = omega (arith, le) in
     let at : first + suc (slot - first) ≡ slot + 1 = omega (arith, le) in

@@ -10,10 +10,10 @@ use Rattle.hw_tide.specs.Levels.{TideParts}
 use Rattle.hw_port_laws.proofs.Eachs.{Each, all_of_each}
 use Rattle.hw_port_rules.specs.Numbers.{whole}
 use Rattle.hw_port_rules.specs.Closed.{is_least}
-use Rattle.hw_port_rules.specs.Drafts.{draft_at, is_passable, last_height, least, lesser, pass_draft, passing_slot}
+use Rattle.hw_port_rules.specs.Drafts.{draft_at, is_passable, last_height, least_of_drafts, lesser, pass_draft, passing_slot}
 use Rattle.hw_windows.specs.declared.passes.LastPass.{LastPass}
 use Rattle.hw_windows.specs.Closings.{some_pass_closed}
-use Rattle.hw_windows.specs.Passes.{last_pass, later, leaves_just, limiting, made_at, needed}
+use Rattle.hw_windows.specs.Passes.{last_pass, later_pass, leaves_just, limiting, made_at, judging_slot}
 use Rattle.hw_windows.specs.Laws.{LastPassIsLast}
 
 -- ---- the later of two passes
@@ -22,7 +22,7 @@ later_by : (b : Bool) (x y : LastPass) → nat_lt x.offset y.offset ≡ b → (x
 later_by true x y e = let lt = ltb-true x.offset y.offset e in (omega (arith, lt), omega arith)
 later_by false x y e = let le = ltb-false x.offset y.offset e in (omega arith, omega (arith, le))
 
-later_bounds : (x y : LastPass) → (x.offset ≤ (later x y).offset) × (y.offset ≤ (later x y).offset)
+later_bounds : (x y : LastPass) → (x.offset ≤ (later_pass x y).offset) × (y.offset ≤ (later_pass x y).offset)
 later_bounds x y = later_by (nat_lt x.offset y.offset) x y refl
 
 later_is : (b : Bool) (x y : LastPass) → (cond b y x ≡ x) ⊎ (cond b y x ≡ y)
@@ -104,7 +104,7 @@ module _ (p : Parts) (h : TideParts) (slot : ℕ) where
   out_on : (x y : ℕ) → h.rows ≤ cond (is_least p) (slot + x + 1) (slot + x) → x ≤ y → h.rows ≤ cond (is_least p) (slot + y + 1) (slot + y)
   out_on x y out le = judged_on (is_least p) h.rows (slot + x) (slot + y) out (omega (arith, le))
 
-  pub ends_before : (route : List Pass) → 1 ≤ length route → some_pass_closed p slot route ≡ false → least (map (pass_draft p h slot) route) ≡ None → h.rows ≤ needed p slot (last_pass route)
+  pub ends_before : (route : List Pass) → 1 ≤ length route → some_pass_closed p slot route ≡ false → least_of_drafts (map (pass_draft p h slot) route) ≡ None → h.rows ≤ judging_slot p slot (last_pass route)
   ends_before [] le opens none = absurd (omega (arith, le))
   ends_before (pass ∷ []) le opens none =
       let o = none_closed (is_passable p slot pass) false opens in
@@ -113,7 +113,7 @@ module _ (p : Parts) (h : TideParts) (slot : ℕ) where
   ends_before (pass ∷ next ∷ more) le opens none =
       let o = none_closed (is_passable p slot pass) (some_pass_closed p slot (next ∷ more)) opens in
       let both = later_bounds (made_at pass) (last_pass (next ∷ more)) in
-      elim (lesser_none (pass_draft p h slot pass) (least (map (pass_draft p h slot) (next ∷ more))) none) [
+      elim (lesser_none (pass_draft p h slot pass) (least_of_drafts (map (pass_draft p h slot) (next ∷ more))) none) [
         | inl this ↦ out_on (whole pass.offset) ((last_pass (pass ∷ next ∷ more)).offset) (outside pass o.0 this) both.0
         | inr that ↦ out_on ((last_pass (next ∷ more)).offset) ((last_pass (pass ∷ next ∷ more)).offset) (ends_before (next ∷ more) (omega arith) o.1 that) both.1
       ]

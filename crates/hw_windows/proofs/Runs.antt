@@ -3,7 +3,7 @@ use Rattle.std.proofs.Common.{◌≡◌, ◌<◌, ◌+◌, ◌-◌, ◌∙◌, �
 use Rattle.std.proofs.lemmas.Bool.{cases_lt}
 use Rattle.hw_windows.specs.declared.run.Run.{Run}
 use Rattle.hw_windows.specs.declared.status.Status.{Status}
-use Rattle.hw_windows.specs.Statuses.{alike}
+use Rattle.hw_windows.specs.Statuses.{statuses_alike}
 use Rattle.hw_windows.specs.Runs.{before, one_slot, runs}
 use Rattle.hw_windows.specs.Laws.{FollowOn, IsLongest, RunsAreLongest}
 use Rattle.hw_windows.proofs.Alike.{alike_back, alike_on, alike_self}
@@ -19,28 +19,28 @@ begins_by false slot run more = (slot, run ∷ more, refl)
 -- the runs from a slot on begin with one from that slot
 begins : (status : ℕ → Status) (slot : ℕ) (rs : List Run) → (last : ℕ) × (rest : List Run) × (before status slot rs ≡ from_to slot last ∷ rest)
 begins status slot [] = (slot, [], refl)
-begins status slot (run ∷ more) = begins_by (alike (status slot) (status run.first)) slot run more
+begins status slot (run ∷ more) = begins_by (statuses_alike (status slot) (status run.first)) slot run more
 
 -- the runs from a slot on, before an end
 abbrev pub runs_to : (ℕ → Status) → ℕ → ℕ → List Run
 runs_to status slot end = runs status slot (end - slot)
 
-joins : (status : ℕ → Status) (slot last : ℕ) (more rs : List Run) → alike (status slot) (status (slot + 1)) ≡ true → rs ≡ from_to (slot + 1) last ∷ more → before status slot rs ≡ from_to slot last ∷ more
+joins : (status : ℕ → Status) (slot last : ℕ) (more rs : List Run) → statuses_alike (status slot) (status (slot + 1)) ≡ true → rs ≡ from_to (slot + 1) last ∷ more → before status slot rs ≡ from_to slot last ∷ more
 joins status slot last more rs e is =
     ap (before status slot) is ∙ ap (λ b. cond b (from_to slot last ∷ more) (one_slot slot ∷ from_to (slot + 1) last ∷ more)) e
 
-stands : (status : ℕ → Status) (slot : ℕ) (rs : List Run) (last : ℕ) (more : List Run) → alike (status slot) (status (slot + 1)) ≡ false → rs ≡ from_to (slot + 1) last ∷ more → before status slot rs ≡ one_slot slot ∷ rs
+stands : (status : ℕ → Status) (slot : ℕ) (rs : List Run) (last : ℕ) (more : List Run) → statuses_alike (status slot) (status (slot + 1)) ≡ false → rs ≡ from_to (slot + 1) last ∷ more → before status slot rs ≡ one_slot slot ∷ rs
 stands status slot rs last more e is =
     ap (before status slot) is ∙ (ap (λ b. cond b (from_to slot last ∷ more) (one_slot slot ∷ from_to (slot + 1) last ∷ more)) e ∙ ap (λ xs. one_slot slot ∷ xs) (sym is))
 
 -- the first run of a slot goes on as that of the next slot, which is of its kind
-pub goes_on : (status : ℕ → Status) (slot end last : ℕ) (more : List Run) → slot < end → alike (status slot) (status (slot + 1)) ≡ true → runs_to status (slot + 1) end ≡ from_to (slot + 1) last ∷ more → runs_to status slot end ≡ from_to slot last ∷ more
+pub goes_on : (status : ℕ → Status) (slot end last : ℕ) (more : List Run) → slot < end → statuses_alike (status slot) (status (slot + 1)) ≡ true → runs_to status (slot + 1) end ≡ from_to (slot + 1) last ∷ more → runs_to status slot end ≡ from_to slot last ∷ more
 goes_on status slot end last more lt e is =
     let size : end - slot ≡ suc (end - (slot + 1)) = omega (arith, lt) in
     ap (runs status slot) size ∙ joins status slot last more (runs_to status (slot + 1) end) e is
 
 -- it ends where the next slot is of another kind
-pub stops : (status : ℕ → Status) (slot end : ℕ) → slot + 1 < end → alike (status slot) (status (slot + 1)) ≡ false → runs_to status slot end ≡ one_slot slot ∷ runs_to status (slot + 1) end
+pub stops : (status : ℕ → Status) (slot end : ℕ) → slot + 1 < end → statuses_alike (status slot) (status (slot + 1)) ≡ false → runs_to status slot end ≡ one_slot slot ∷ runs_to status (slot + 1) end
 stops status slot end lt e =
     let size : end - slot ≡ suc (end - (slot + 1)) = omega (arith, lt) in
     let next : end - (slot + 1) ≡ suc (end - (slot + 1 + 1)) = omega (arith, lt) in
@@ -58,7 +58,7 @@ ends status slot =
 abbrev pub GoesOn : (ℕ → Status) → ℕ → ℕ → ℕ → Type 0
 GoesOn status end first slot = (last : ℕ) (more : List Run) → runs_to status slot end ≡ from_to slot last ∷ more → runs_to status first end ≡ from_to first last ∷ more
 
-pub one_more : (status : ℕ → Status) (end first slot : ℕ) → slot < end → alike (status slot) (status (slot + 1)) ≡ true → GoesOn status end first slot → GoesOn status end first (slot + 1)
+pub one_more : (status : ℕ → Status) (end first slot : ℕ) → slot < end → statuses_alike (status slot) (status (slot + 1)) ≡ true → GoesOn status end first slot → GoesOn status end first (slot + 1)
 one_more status end first slot lt e told = λ last more is. told last more (goes_on status slot end last more lt e is)
 
 pub ended_at : (status : ℕ → Status) (last first slot : ℕ) → slot ≡ last → GoesOn status (last + 1) first slot → runs_to status first (last + 1) ≡ from_to first last ∷ runs_to status (last + 1) (last + 1)
@@ -66,37 +66,37 @@ ended_at status last first slot e told = subst (λ s. GoesOn status (last + 1) f
 
 -- ---- they are the longest ones
 
-alone : (status : ℕ → Status) (slot end : ℕ) → slot < end → (slot + 1 < end → alike (status slot) (status (slot + 1)) ≡ true → ⊥) → IsLongest status slot end (one_slot slot)
+alone : (status : ℕ → Status) (slot end : ℕ) → slot < end → (slot + 1 < end → statuses_alike (status slot) (status (slot + 1)) ≡ true → ⊥) → IsLongest status slot end (one_slot slot)
 alone status slot end lt other = record {
   begins = refl;
   forward = omega arith;
   inside = lt;
-  one_kind = λ k low high. let e : slot ≡ k = omega (arith, low, high) in subst (λ n. alike (status slot) (status n) ≡ true) e (alike_self (status slot));
+  one_kind = λ k low high. let e : slot ≡ k = omega (arith, low, high) in subst (λ n. statuses_alike (status slot) (status n) ≡ true) e (alike_self (status slot));
   longest = other;
 }
 
-longer : (status : ℕ → Status) (slot end : ℕ) (run : Run) → alike (status slot) (status run.first) ≡ true → IsLongest status (slot + 1) end run → IsLongest status slot end (from_to slot run.last)
+longer : (status : ℕ → Status) (slot end : ℕ) (run : Run) → statuses_alike (status slot) (status run.first) ≡ true → IsLongest status (slot + 1) end run → IsLongest status slot end (from_to slot run.last)
 longer status slot end run e is = record {
   begins = refl;
   forward = omega (arith, is.begins, is.forward);
   inside = is.inside;
   one_kind = λ k low high. elim (cases_lt slot k) [
     | inl later ↦ alike_on (status slot) (status run.first) (status k) e (is.one_kind k (omega (arith, is.begins, later)) high)
-    | inr same ↦ (let at : slot ≡ k = omega (arith, low, same) in subst (λ n. alike (status slot) (status n) ≡ true) at (alike_self (status slot)))
+    | inr same ↦ (let at : slot ≡ k = omega (arith, low, same) in subst (λ n. statuses_alike (status slot) (status n) ≡ true) at (alike_self (status slot)))
   ];
   longest = λ lt same. is.longest lt (alike_back (status slot) (status run.first) (status (run.last + 1)) e same);
 }
 
-put_by : (b : Bool) (status : ℕ → Status) (slot end : ℕ) (run : Run) (more : List Run) → alike (status slot) (status run.first) ≡ b → slot < end → FollowOn status (slot + 1) end (run ∷ more) → FollowOn status slot end (cond b (from_to slot run.last ∷ more) (one_slot slot ∷ run ∷ more))
+put_by : (b : Bool) (status : ℕ → Status) (slot end : ℕ) (run : Run) (more : List Run) → statuses_alike (status slot) (status run.first) ≡ b → slot < end → FollowOn status (slot + 1) end (run ∷ more) → FollowOn status slot end (cond b (from_to slot run.last ∷ more) (one_slot slot ∷ run ∷ more))
 put_by true status slot end run more e lt follow = (longer status slot end run e follow.0, follow.1)
 put_by false status slot end run more e lt follow =
     let next = follow.0.begins in
-    let other : alike (status slot) (status (slot + 1)) ≡ false = subst (λ n. alike (status slot) (status n) ≡ false) next e in
+    let other : statuses_alike (status slot) (status (slot + 1)) ≡ false = subst (λ n. statuses_alike (status slot) (status n) ≡ false) next e in
     (alone status slot end lt (λ below same. cc), follow)
 
 put_before : (status : ℕ → Status) (slot end : ℕ) (rs : List Run) → slot < end → FollowOn status (slot + 1) end rs → FollowOn status slot end (before status slot rs)
 put_before status slot end [] lt e = (alone status slot end lt (λ below same. absurd (omega (arith, below, e))), e)
-put_before status slot end (run ∷ more) lt follow = put_by (alike (status slot) (status run.first)) status slot end run more refl lt follow
+put_before status slot end (run ∷ more) lt follow = put_by (statuses_alike (status slot) (status run.first)) status slot end run more refl lt follow
 
 follow_on : (status : ℕ → Status) (count first end : ℕ) → first + count ≡ end → FollowOn status first end (runs status first count)
 follow_on status zero first end e = omega (arith, e)

@@ -6,6 +6,7 @@ use Rattle.hw_port.proofs.Keeping.{le_from_test}
 use Rattle.hw_port.specs.Kept.{ShipKept}
 use Rattle.hw_port.specs.Parts.{ShipParts}
 use Rattle.hw_port.specs.Whole.{Parts}
+use Rattle.hw_port.proofs.Faultless.{le_test}
 use Rattle.hw_tide.specs.Levels.{TideParts}
 use Rattle.hw_port_rules.specs.Numbers.{whole}
 use Rattle.hw_port_rules.specs.Closed.{is_least}
@@ -13,12 +14,12 @@ use Rattle.hw_port_rules.specs.Drafts.{sailing_draft}
 use Rattle.hw_windows.specs.declared.run.Run.{Run}
 use Rattle.hw_windows.specs.declared.status.Status.{Status}
 use Rattle.hw_windows.specs.declared.status.Status.TheVariants.{Sails, Closed, Shallow, TidesEnd}
-use Rattle.hw_windows.specs.Statuses.{alike, draft_of, is_closed, is_shallow, sails, tides_end}
+use Rattle.hw_windows.specs.Statuses.{statuses_alike, draft_of, is_closed_status, is_shallow, sails, tides_end}
 use Rattle.hw_windows.specs.Closings.{IsClosedFor}
 use Rattle.hw_windows.specs.Runs.{deepest_in}
-use Rattle.hw_windows.specs.Passes.{last_pass, needed}
+use Rattle.hw_windows.specs.Passes.{last_pass, judging_slot}
 use Rattle.hw_windows.specs.Windows.{AskedParts, drafts, greatest_draft, least_draft, span_of, statuses}
-use Rattle.hw_windows.specs.Laws.{IsLongest, IsToldOf, IsTooShallow, IsTrueOf, IsWithin, LinesAreTrue, SpanIsWindow}
+use Rattle.hw_windows.specs.Laws.{IsLongest, RunTells, IsTooShallow, IsTrueOf, IsWithin, LinesAreTrue, SpanIsWindow}
 use Rattle.hw_windows.proofs.Extremes.{extremes_law}
 use Rattle.hw_windows.proofs.Routes.{judged_up_to}
 use Rattle.hw_windows.proofs.Statuses.{reason}
@@ -33,9 +34,6 @@ high_is : (z : ℤ) (n : ℕ) → pos 0 ≤ℤ z → (pos n ≤ℤ z) ↔ (n ≤
 high_is (pos k) n at = (λ le. omega (arith, ints, le), λ le. omega (arith, ints, le))
 high_is (negsuc k) n at = absurd (omega (arith, ints, at))
 
-test_of : (a b : ℤ) → a ≤ℤ b → int_le a b ≡ true
-test_of a b le = grind (arith, ints, le)
-
 pub window_law : SpanIsWindow
 window_law = λ p s slot kept. (
   λ within.
@@ -44,7 +42,7 @@ window_law = λ p s slot kept. (
         low = (low_is s.earliest slot kept.earliest.low).0 (le_from_test s.earliest (pos slot) both.0);
         high = (high_is s.latest slot kept.latest.low).0 (le_from_test (pos slot) s.latest both.1);
       },
-  λ within. and_from (int_le s.earliest (pos slot)) (int_le (pos slot) s.latest) (test_of s.earliest (pos slot) ((low_is s.earliest slot kept.earliest.low).1 within.low)) (test_of (pos slot) s.latest ((high_is s.latest slot kept.latest.low).1 within.high)),
+  λ within. and_from (int_le s.earliest (pos slot)) (int_le (pos slot) s.latest) (le_test s.earliest (pos slot) ((low_is s.earliest slot kept.earliest.low).1 within.low)) (le_test (pos slot) s.latest ((high_is s.latest slot kept.latest.low).1 within.high)),
 )
 
 -- ---- a slot of a run
@@ -56,7 +54,7 @@ module _ (p : Parts) (h : TideParts) (s : ShipParts) (slot : ℕ) where
   sails_told (Shallow d) low high kind is above below = absurd cc
   sails_told TidesEnd low high kind is above below = absurd cc
 
-  closed_told : (here : Status) → is_closed here ≡ true → IsTrueOf p h s slot here → IsClosedFor p s slot
+  closed_told : (here : Status) → is_closed_status here ≡ true → IsTrueOf p h s slot here → IsClosedFor p s slot
   closed_told (Sails d) kind is = absurd cc
   closed_told Closed kind is = is
   closed_told (Shallow d) kind is = absurd cc
@@ -68,7 +66,7 @@ module _ (p : Parts) (h : TideParts) (s : ShipParts) (slot : ℕ) where
   shallow_told (Shallow d) kind is = is
   shallow_told TidesEnd kind is = absurd cc
 
-  ended_told : (here : Status) → tides_end here ≡ true → IsTrueOf p h s slot here → h.rows ≤ needed p slot (last_pass s.route)
+  ended_told : (here : Status) → tides_end here ≡ true → IsTrueOf p h s slot here → h.rows ≤ judging_slot p slot (last_pass s.route)
   ended_told (Sails d) kind is = absurd cc
   ended_told Closed kind is = absurd cc
   ended_told (Shallow d) kind is = absurd cc
@@ -80,10 +78,10 @@ module _ (a : AskedParts) (run : Run) (slot : ℕ) (there : slice_get a.port.shi
       let inside = (window_law a.port a.ship k kept).1 (record { low = omega (arith, from, within.low); high = omega (arith, longest.inside, within.high) }) in
       reason a.port a.tide a.ship k a.number there kept.passes.low inside
 
-  kind_of : (k : ℕ) (first : Status) → statuses a run.first ≡ first → IsWithin run k → alike first (statuses a k) ≡ true
-  kind_of k first e within = subst (λ st. alike st (statuses a k) ≡ true) e (longest.one_kind k within.low within.high)
+  kind_of : (k : ℕ) (first : Status) → statuses a run.first ≡ first → IsWithin run k → statuses_alike first (statuses a k) ≡ true
+  kind_of k first e within = subst (λ st. statuses_alike st (statuses a k) ≡ true) e (longest.one_kind k within.low within.high)
 
-  told_by : (first : Status) → statuses a run.first ≡ first → IsWithin run slot → IsToldOf a run slot first
+  told_by : (first : Status) → statuses a run.first ≡ first → IsWithin run slot → RunTells a run slot first
   told_by (Sails d) e within =
       let bounds = extremes_law (drafts a) run longest.forward in
       sails_told a.port a.tide a.ship slot (statuses a slot) (least_draft a run) (greatest_draft a run) (kind_of slot (Sails d) e within) (true_of slot within) (bounds.least slot within) (bounds.greatest slot within)

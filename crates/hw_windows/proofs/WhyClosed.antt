@@ -1,7 +1,8 @@
 -- What closes a slot for a ship.
-use Rattle.std.proofs.Common.{◌≡◌, ◌⊎◌, ◌<◌, ◌+◌, ◌&&◌, ◌||◌, not, ℕ, zero, suc, ℤ, pos, int_le, Bool, true, false, List, [], ◌∷◌, length, get_or, Contains, refl, inl, inr, arith}
+use Rattle.std.proofs.Common.{◌≡◌, ◌<◌, ◌+◌, ◌&&◌, ◌||◌, not, ℕ, zero, suc, ℤ, pos, int_le, Bool, true, false, List, [], ◌∷◌, length, get_or, Contains, refl, inl, inr, arith}
 use Rattle.std.specs.List.{list_any}
 use Rattle.std.proofs.lemmas.Bool.{and_parts}
+use Rattle.hw_lemmas.proofs.Truths.{was_not, either}
 use Rattle.hw_port.proofs.Keeping.{le_from_test}
 use Rattle.hw_port.specs.declared.parts.Closing.{Closing}
 use Rattle.hw_port.specs.declared.parts.Pass.{Pass}
@@ -9,17 +10,9 @@ use Rattle.hw_port.specs.Parts.{ShipParts}
 use Rattle.hw_port.specs.Whole.{Parts}
 use Rattle.hw_port_rules.specs.Closed.{closed_at, closes, is_open}
 use Rattle.hw_port_rules.specs.Drafts.{is_passable, passing_slot}
-use Rattle.hw_windows.specs.Closings.{Closes, IsClosedFor, PassCloses, closed_for, some_pass_closed}
+use Rattle.hw_windows.specs.Closings.{ClosesSlot, IsClosedFor, PassCloses, closed_for, some_pass_closed}
 
 -- ---- one of a list
-
-either : (a b : Bool) → (a || b) ≡ true → (a ≡ true) ⊎ (b ≡ true)
-either true b e = inl refl
-either false b e = inr e
-
-is_not : (b : Bool) → not b ≡ true → b ≡ false
-is_not true e = absurd cc
-is_not false e = refl
 
 not_not : (b : Bool) → not b ≡ false → b ≡ true
 not_not true e = refl
@@ -41,7 +34,7 @@ one_of test (x ∷ xs) e = elim (either (test x) (list_any test xs) e) [
 
 -- ---- closed slots
 
-pub closes_of : (closings : List Closing) (slot : ℕ) → is_open closings slot ≡ false → Closes closings slot
+pub closes_of : (closings : List Closing) (slot : ℕ) → is_open closings slot ≡ false → ClosesSlot closings slot
 closes_of closings slot e =
     let found = one_of (closes slot) closings (not_not (list_any (closes slot) closings) e) in
     let both = and_parts (int_le found.0.from (pos slot)) (int_le (pos slot) found.0.to) found.2 in
@@ -50,13 +43,13 @@ closes_of closings slot e =
 pass_closes : (p : Parts) (s : ShipParts) (slot : ℕ) → some_pass_closed p slot s.route ≡ true → PassCloses p s slot
 pass_closes p s slot e =
     let found = one_of (λ pass. not (is_passable p slot pass)) s.route e in
-    record { pass = found.0; among = found.1; closes = closes_of (closed_at p.waypoints found.0) (passing_slot slot found.0) (is_not (is_passable p slot found.0) found.2) }
+    record { pass = found.0; among = found.1; closes = closes_of (closed_at p.waypoints found.0) (passing_slot slot found.0) (was_not (is_passable p slot found.0) found.2) }
 
 pub why_closed : (p : Parts) (s : ShipParts) (slot : ℕ) → closed_for p s slot ≡ true → IsClosedFor p s slot
 why_closed p s slot e = elim (either (not (is_open p.closed slot)) (not (is_open s.closed slot) || some_pass_closed p slot s.route) e) [
-  | inl port ↦ inl (closes_of p.closed slot (is_not (is_open p.closed slot) port))
+  | inl port ↦ inl (closes_of p.closed slot (was_not (is_open p.closed slot) port))
   | inr more ↦ elim (either (not (is_open s.closed slot)) (some_pass_closed p slot s.route) more) [
-    | inl ship ↦ inr (inl (closes_of s.closed slot (is_not (is_open s.closed slot) ship)))
+    | inl ship ↦ inr (inl (closes_of s.closed slot (was_not (is_open s.closed slot) ship)))
     | inr route ↦ inr (inr (pass_closes p s slot route))
   ]
 ]

@@ -22,7 +22,7 @@ abbrev pub closed_in : Parts → ℕ → ℕ → Bool
 closed_in p v slot = option_map_or (λ s. closed_for p s slot) (slice_get p.ships v) false
 
 -- one of these closes the slot: it goes from a slot that isn't later to one that isn't earlier
-pub record Closes (closings : List Closing) (slot : ℕ) : Type 0 where
+pub record ClosesSlot (closings : List Closing) (slot : ℕ) : Type 0 where
   pub closing : Closing
   pub among : Contains closings closing
   pub from : closing.from ≤ℤ pos slot
@@ -32,8 +32,8 @@ pub record Closes (closings : List Closing) (slot : ℕ) : Type 0 where
 pub record PassCloses (p : Parts) (s : ShipParts) (slot : ℕ) : Type 0 where
   pub pass : Pass
   pub among : Contains s.route pass
-  pub closes : Closes (closed_at p.waypoints pass) (passing_slot slot pass)
+  pub closes : ClosesSlot (closed_at p.waypoints pass) (passing_slot slot pass)
 
 -- why a slot is closed for the ship
 abbrev pub IsClosedFor : Parts → ShipParts → ℕ → Type 0
-IsClosedFor p s slot = Closes p.closed slot ⊎ (Closes s.closed slot ⊎ PassCloses p s slot)
+IsClosedFor p s slot = ClosesSlot p.closed slot ⊎ (ClosesSlot s.closed slot ⊎ PassCloses p s slot)

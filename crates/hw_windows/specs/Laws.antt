@@ -12,18 +12,18 @@ use Rattle.hw_windows.specs.declared.status.Status.TheVariants.{Sails, Closed, S
 use Rattle.hw_windows.specs.declared.passes.LastPass.{LastPass}
 use Rattle.hw_windows.specs.declared.run.Run.{Run}
 use Rattle.hw_windows.specs.Closings.{IsClosedFor}
-use Rattle.hw_windows.specs.Statuses.{alike, sails, status_in}
+use Rattle.hw_windows.specs.Statuses.{statuses_alike, sails, status_in}
 use Rattle.hw_windows.specs.Runs.{deepest_in, lightest_in, runs_within}
 use Rattle.hw_windows.specs.Windows.{AskedParts, greatest_draft, least_draft, span_of, statuses}
-use Rattle.hw_windows.specs.Passes.{last_pass, limiting, made_at, needed}
+use Rattle.hw_windows.specs.Passes.{last_pass, limiting, made_at, judging_slot}
 
 -- a run that begins in this slot and ends before another one: its slots are of one kind, and the slot after it is of another
 pub record IsLongest (status : ℕ → Status) (from end : ℕ) (run : Run) : Type 0 where
   pub begins : run.first ≡ from
   pub forward : run.first ≤ run.last
   pub inside : run.last < end
-  pub one_kind : (slot : ℕ) → run.first ≤ slot → slot ≤ run.last → IsTrue (alike (status run.first) (status slot))
-  pub longest : run.last + 1 < end → IsTrue (alike (status run.first) (status (run.last + 1))) → ⊥
+  pub one_kind : (slot : ℕ) → run.first ≤ slot → slot ≤ run.last → IsTrue (statuses_alike (status run.first) (status slot))
+  pub longest : run.last + 1 < end → IsTrue (statuses_alike (status run.first) (status (run.last + 1))) → ⊥
 
 -- such runs one after another, from this slot to the one before the end
 abbrev pub FollowOn : (ℕ → Status) → ℕ → ℕ → List Run → Type 0
@@ -45,7 +45,7 @@ abbrev pub IsTrueOf : Parts → TideParts → ShipParts → ℕ → Status → T
 IsTrueOf p h s slot (Sails draft) = sailing_draft p h s slot ≡ Some draft
 IsTrueOf p h s slot Closed = IsClosedFor p s slot
 IsTrueOf p h s slot (Shallow draft) = IsTooShallow p h s slot draft
-IsTrueOf p h s slot TidesEnd = h.rows ≤ needed p slot (last_pass s.route)
+IsTrueOf p h s slot TidesEnd = h.rows ≤ judging_slot p slot (last_pass s.route)
 
 -- it is true of each slot for which the ship asks
 abbrev pub ReasonTrue : Type 0
@@ -83,12 +83,12 @@ abbrev pub SpanIsWindow : Type 0
 SpanIsWindow = (p : Parts) (s : ShipParts) (slot : ℕ) → ShipKept p s → (IsTrue (in_window s slot) ↔ IsWithin (span_of s) slot)
 
 -- what the line of a run says of one of its slots
-abbrev pub IsToldOf : AskedParts → Run → ℕ → Status → Type 0
-IsToldOf a run slot (Sails draft) = (d : ℤ) × (sailing_draft a.port a.tide a.ship slot ≡ Some d) × (least_draft a run ≤ℤ d) × (d ≤ℤ greatest_draft a run)
-IsToldOf a run slot Closed = IsClosedFor a.port a.ship slot
-IsToldOf a run slot (Shallow draft) = (d : ℤ) × IsTooShallow a.port a.tide a.ship slot d × (d ≤ℤ greatest_draft a run) × (greatest_draft a run <ℤ a.ship.light)
-IsToldOf a run slot TidesEnd = (a.tide.rows ≤ needed a.port slot (last_pass a.ship.route)) × (needed a.port slot (last_pass a.ship.route) ≤ needed a.port run.last (last_pass a.ship.route))
+abbrev pub RunTells : AskedParts → Run → ℕ → Status → Type 0
+RunTells a run slot (Sails draft) = (d : ℤ) × (sailing_draft a.port a.tide a.ship slot ≡ Some d) × (least_draft a run ≤ℤ d) × (d ≤ℤ greatest_draft a run)
+RunTells a run slot Closed = IsClosedFor a.port a.ship slot
+RunTells a run slot (Shallow draft) = (d : ℤ) × IsTooShallow a.port a.tide a.ship slot d × (d ≤ℤ greatest_draft a run) × (greatest_draft a run <ℤ a.ship.light)
+RunTells a run slot TidesEnd = (a.tide.rows ≤ judging_slot a.port slot (last_pass a.ship.route)) × (judging_slot a.port slot (last_pass a.ship.route) ≤ judging_slot a.port run.last (last_pass a.ship.route))
 
 -- it is true of each slot of a longest run of those for which the ship asks
 abbrev pub LinesAreTrue : Type 0
-LinesAreTrue = (a : AskedParts) (run : Run) (slot : ℕ) → slice_get a.port.ships a.number ≡ Some a.ship → ShipKept a.port a.ship → (span_of a.ship).first ≤ run.first → IsLongest (statuses a) run.first ((span_of a.ship).last + 1) run → IsWithin run slot → IsToldOf a run slot (statuses a run.first)
+LinesAreTrue = (a : AskedParts) (run : Run) (slot : ℕ) → slice_get a.port.ships a.number ≡ Some a.ship → ShipKept a.port a.ship → (span_of a.ship).first ≤ run.first → IsLongest (statuses a) run.first ((span_of a.ship).last + 1) run → IsWithin run slot → RunTells a run slot (statuses a run.first)

@@ -11,18 +11,18 @@ joined [] = []
 joined (text ∷ texts) = text ++ joined texts
 
 -- a word, a number, or a draft, which may be below 0
-abbrev pub piece_text : Piece → List ℕ
-piece_text (Word word) = word.now
-piece_text (Number n) = decimal n
-piece_text (Draft z) = signed_decimal z
+abbrev pub window_piece_text : Piece → List ℕ
+window_piece_text (Word word) = word.now
+window_piece_text (Number n) = decimal n
+window_piece_text (Draft z) = signed_decimal z
 
-abbrev pub pieces_text : List Piece → List ℕ
-pieces_text [] = []
-pieces_text (piece ∷ pieces) = piece_text piece ++ pieces_text pieces
+abbrev pub window_pieces_text : List Piece → List ℕ
+window_pieces_text [] = []
+window_pieces_text (piece ∷ pieces) = window_piece_text piece ++ window_pieces_text pieces
 
 -- the line of a ship: its number, from 0, and its name
-unfoldable pub ship_line : ℕ → List ℕ → List ℕ
-ship_line number name = joined (codes "ship " ∷ decimal number ∷ codes " " ∷ name ∷ codes "\n" ∷ [])
+unfoldable pub window_ship_line : ℕ → List ℕ → List ℕ
+window_ship_line number name = joined (codes "ship " ∷ decimal number ∷ codes " " ∷ name ∷ codes "\n" ∷ [])
 
 -- somewhere in a run the ship sails with its full draft, or nowhere
 abbrev pub full_word : Bool → List ℕ

@@ -2,7 +2,7 @@
 use Rattle.std.specs.Prelude.{ℕ, zero, suc, ◌+◌, ◌-◌, ℤ, int_lt, List, [], ◌∷◌, if◌then◌else◌}
 use Rattle.hw_windows.specs.declared.status.Status.{Status}
 use Rattle.hw_windows.specs.declared.run.Run.{Run}
-use Rattle.hw_windows.specs.Statuses.{alike}
+use Rattle.hw_windows.specs.Statuses.{statuses_alike}
 
 -- a run of one slot
 abbrev pub one_slot : ℕ → Run
@@ -12,7 +12,7 @@ one_slot slot = record { first = slot; last = slot }
 abbrev pub before : (ℕ → Status) → ℕ → List Run → List Run
 before status slot [] = one_slot slot ∷ []
 before status slot (run ∷ more) =
-    if alike (status slot) (status run.first) then record { first = slot; last = run.last } ∷ more
+    if statuses_alike (status slot) (status run.first) then record { first = slot; last = run.last } ∷ more
     else one_slot slot ∷ run ∷ more
 
 -- the longest runs of slots of one kind, among this many slots from the first on
@@ -29,8 +29,8 @@ abbrev pub lighter : (ℕ → ℤ) → ℕ → ℕ → ℕ
 lighter draft a b = if int_lt (draft b) (draft a) then b else a
 
 -- of two slots the one with the greater draft, and otherwise the first one
-abbrev pub deeper : (ℕ → ℤ) → ℕ → ℕ → ℕ
-deeper draft a b = if int_lt (draft a) (draft b) then b else a
+abbrev pub deeper_slot : (ℕ → ℤ) → ℕ → ℕ → ℕ
+deeper_slot draft a b = if int_lt (draft a) (draft b) then b else a
 
 -- of a slot and as many slots after it, the first with the least draft
 abbrev pub lightest : (ℕ → ℤ) → ℕ → ℕ → ℕ
@@ -40,7 +40,7 @@ lightest draft first (suc more) = lighter draft (lightest draft first more) (fir
 -- of a slot and as many slots after it, the first with the greatest draft
 abbrev pub deepest : (ℕ → ℤ) → ℕ → ℕ → ℕ
 deepest draft first zero = first
-deepest draft first (suc more) = deeper draft (deepest draft first more) (first + suc more)
+deepest draft first (suc more) = deeper_slot draft (deepest draft first more) (first + suc more)
 
 -- the same of a run
 abbrev pub lightest_in : (ℕ → ℤ) → Run → ℕ

@@ -33,11 +33,11 @@ sails Closed = false
 sails (Shallow allowed) = false
 sails TidesEnd = false
 
-abbrev pub is_closed : Status → Bool
-is_closed (Sails draft) = false
-is_closed Closed = true
-is_closed (Shallow allowed) = false
-is_closed TidesEnd = false
+abbrev pub is_closed_status : Status → Bool
+is_closed_status (Sails draft) = false
+is_closed_status Closed = true
+is_closed_status (Shallow allowed) = false
+is_closed_status TidesEnd = false
 
 abbrev pub is_shallow : Status → Bool
 is_shallow (Sails draft) = false
@@ -52,11 +52,11 @@ tides_end (Shallow allowed) = false
 tides_end TidesEnd = true
 
 -- two are of one kind, whatever their drafts
-abbrev pub alike : Status → Status → Bool
-alike (Sails draft) other = sails other
-alike Closed other = is_closed other
-alike (Shallow allowed) other = is_shallow other
-alike TidesEnd other = tides_end other
+abbrev pub statuses_alike : Status → Status → Bool
+statuses_alike (Sails draft) other = sails other
+statuses_alike Closed other = is_closed_status other
+statuses_alike (Shallow allowed) other = is_shallow other
+statuses_alike TidesEnd other = tides_end other
 
 -- the draft with which the ship may sail, or that the water allows it; 0 where neither is told
 abbrev pub draft_of : Status → ℤ
@@ -65,8 +65,8 @@ draft_of Closed = pos 0
 draft_of (Shallow allowed) = allowed
 draft_of TidesEnd = pos 0
 
-abbrev pub draft_in : Parts → TideParts → ℕ → ℕ → ℤ
-draft_in p h v slot = draft_of (status_in p h v slot)
+abbrev pub status_draft : Parts → TideParts → ℕ → ℕ → ℤ
+status_draft p h v slot = draft_of (status_in p h v slot)
 
 -- the draft at which a ship sails that the water doesn't keep back
 abbrev pub full_draft : ShipParts → ℤ

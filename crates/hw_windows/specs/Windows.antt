@@ -10,10 +10,10 @@ use Rattle.hw_port_rules.specs.Numbers.{whole}
 use Rattle.hw_windows.specs.declared.status.Status.{Status}
 use Rattle.hw_windows.specs.declared.status.Status.TheVariants.{Sails, Closed, Shallow, TidesEnd}
 use Rattle.hw_windows.specs.declared.run.Run.{Run}
-use Rattle.hw_windows.specs.Statuses.{draft_in, full_draft, status_in}
+use Rattle.hw_windows.specs.Statuses.{status_draft, full_draft, status_in}
 use Rattle.hw_windows.specs.Runs.{deepest_in, lightest_in, runs_within}
-use Rattle.hw_windows.specs.Passes.{last_pass, limiting, needed}
-use Rattle.hw_windows.specs.Lines.{closed_line, sails_line, shallow_line, ship_line, tides_line}
+use Rattle.hw_windows.specs.Passes.{last_pass, limiting, judging_slot}
+use Rattle.hw_windows.specs.Lines.{closed_line, sails_line, shallow_line, window_ship_line, tides_line}
 
 -- a ship of a port, its number, and the tide: of this it is asked when it may sail
 pub record AskedParts : Type 0 where
@@ -33,7 +33,7 @@ abbrev pub statuses : AskedParts → ℕ → Status
 statuses a = status_in a.port a.tide a.number
 
 abbrev pub drafts : AskedParts → ℕ → ℤ
-drafts a = draft_in a.port a.tide a.number
+drafts a = status_draft a.port a.tide a.number
 
 -- the least and the greatest draft in a run
 abbrev pub least_draft : AskedParts → Run → ℤ
@@ -60,7 +60,7 @@ shallow_in a run = shallow_line run a.ship.light (greatest_draft a run) (waypoin
 
 -- a run in which it makes a pass after the end of the tide table
 abbrev pub ended_in : AskedParts → Run → List ℕ
-ended_in a run = tides_line run (needed a.port run.last (last_pass a.ship.route)) (waypoint_name a.port ((last_pass a.ship.route).waypoint))
+ended_in a run = tides_line run (judging_slot a.port run.last (last_pass a.ship.route)) (waypoint_name a.port ((last_pass a.ship.route).waypoint))
 
 -- the line of a run, by the status of its slots
 abbrev pub line_of_kind : AskedParts → Run → Status → List ℕ
@@ -82,15 +82,15 @@ span_of s = record { first = whole s.earliest; last = whole s.latest }
 
 -- a ship: its line, and one for each longest run of the slots for which it asks
 abbrev pub asked_text : AskedParts → List ℕ
-asked_text a = ship_line a.number a.ship.name ++ run_lines a (runs_within (statuses a) (span_of a.ship))
+asked_text a = window_ship_line a.number a.ship.name ++ run_lines a (runs_within (statuses a) (span_of a.ship))
 
-abbrev pub ship_text : Parts → TideParts → ℕ → ShipParts → List ℕ
-ship_text p h v s = asked_text (record { port = p; tide = h; number = v; ship = s })
+abbrev pub ship_windows_text : Parts → TideParts → ℕ → ShipParts → List ℕ
+ship_windows_text p h v s = asked_text (record { port = p; tide = h; number = v; ship = s })
 
 -- the ships from this number on
 abbrev pub ships_from : Parts → TideParts → ℕ → List ShipParts → List ℕ
 ships_from p h v [] = []
-ships_from p h v (s ∷ more) = ship_text p h v s ++ ships_from p h (v + 1) more
+ships_from p h v (s ∷ more) = ship_windows_text p h v s ++ ships_from p h (v + 1) more
 
 abbrev pub windows_text : Parts → TideParts → List ℕ
 windows_text p h = ships_from p h 0 p.ships ++ codes "end\n"

@@ -4,7 +4,7 @@ ghost use Rattle.std.specs.Prelude.{◌≡◌, ◌<◌, ◌≤◌, ◌+◌, leng
 ghost use Rattle.std.specs.Ordering.{int_eq};
 ghost use Rattle.hw_port.specs.Kept.{PortKept, ShipKept};
 ghost use Rattle.hw_port_rules.specs.Numbers.{horizon_of, whole};
-ghost use Rattle.hw_windows.specs.Statuses.{alike, full_draft, reason_in};
+ghost use Rattle.hw_windows.specs.Statuses.{statuses_alike, full_draft, reason_in};
 ghost use Rattle.hw_windows.specs.Windows.{drafts, span_of, statuses};
 
 use crate::closings::is_closed_in;
@@ -112,7 +112,7 @@ impl Asked<'_> {
     /// Whether the ship fares in the next slot as it does in this one.
     pub fn goes_on(&self, slot: Slot) -> bool
         requires { slot + 1 < horizon_of self.now.port }
-        ensures { result ≡ alike (statuses self.now slot) (statuses self.now (slot + 1)) }
+        ensures { result ≡ statuses_alike (statuses self.now slot) (statuses self.now (slot + 1)) }
     {
         let _few = self.parts();
         self.status(slot).is_alike(self.status(slot + 1))

@@ -2,7 +2,7 @@
 
 ghost use Rattle.std.specs.Prelude.{◌≡◌, ◌*◌};
 ghost use Rattle.hw_desk.specs.Writers.{Puts};
-ghost use Rattle.hw_windows.specs.Lines.{closed_line, full_word, sails_line, shallow_line, ship_line, tides_line};
+ghost use Rattle.hw_windows.specs.Lines.{closed_line, full_word, sails_line, shallow_line, window_ship_line, tides_line};
 
 use crate::piece::{Piece, put_pieces};
 use crate::run::Run;
@@ -10,9 +10,9 @@ use hw_desk::Writer;
 use hw_model::{ShipId, Slot};
 
 /// Puts the line of a ship.
-#[tactic(auto, unfolding(crate::specs::Lines::ship_line))]
+#[tactic(auto, unfolding(crate::specs::Lines::window_ship_line))]
 pub fn put_ship_line<W: Writer>(out: &mut W, number: ShipId, name: &[u8])
-    ensures { Puts (ship_line number name.now) (W.state out.old) (W.state out.new) }
+    ensures { Puts (window_ship_line number name.now) (W.state out.old) (W.state out.new) }
 {
     put_pieces(
         out,

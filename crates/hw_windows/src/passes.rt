@@ -7,7 +7,7 @@ ghost use Rattle.hw_port.specs.Kept.{PassKept, PortKept, WaypointKept, Within};
 ghost use Rattle.hw_port_rules.specs.Numbers.{whole};
 ghost use Rattle.hw_port_rules.specs.Drafts.{draft_at};
 ghost use Rattle.hw_tide.specs.Levels.{height_at};
-ghost use Rattle.hw_windows.specs.Passes.{last_pass, leaves_just, limiting, needed};
+ghost use Rattle.hw_windows.specs.Passes.{last_pass, leaves_just, limiting, judging_slot};
 ghost use Rattle.hw_windows.specs.Windows.{waypoint_name};
 
 use hw_model::{MOST_SLOTS, Slot};
@@ -137,7 +137,7 @@ pub fn limiting(parts: &PortParts, tide: &Tide, slot: Slot, draft: i64, route: &
 pub fn needed(parts: &PortParts, slot: Slot, last: LastPass) -> Slot
     requires slot { slot ≤ MOST_SLOTS }
     requires offset { last.offset ≤ 1_023 }
-    ensures { result ≡ needed parts.now slot last }
+    ensures { result ≡ judging_slot parts.now slot last }
 {
     let passed = slot + last.offset;
     if parts.is_least() { passed + 1 } else { passed }

@@ -2,7 +2,7 @@
 
 ghost use Rattle.std.specs.Fmt.{signed_decimal};
 ghost use Rattle.hw_desk.specs.Writers.{Puts};
-ghost use Rattle.hw_windows.specs.Lines.{piece_text, pieces_text};
+ghost use Rattle.hw_windows.specs.Lines.{window_piece_text, window_pieces_text};
 
 use hw_desk::Writer;
 
@@ -26,7 +26,7 @@ fn put_signed<W: Writer>(out: &mut W, number: i64)
 }
 
 fn put_piece<W: Writer>(out: &mut W, piece: Piece)
-    ensures { Puts (piece_text piece.entry) (W.state out.old) (W.state out.new) }
+    ensures { Puts (window_piece_text piece.entry) (W.state out.old) (W.state out.new) }
 {
     match piece {
         Piece::Word(word) => out.put(word),
@@ -37,7 +37,7 @@ fn put_piece<W: Writer>(out: &mut W, piece: Piece)
 
 /// Puts the pieces one after another, at most two dozen.
 pub fn put_pieces<W: Writer>(out: &mut W, pieces: &[Piece])
-    ensures { Puts (pieces_text pieces.now) (W.state out.old) (W.state out.new) }
+    ensures { Puts (window_pieces_text pieces.now) (W.state out.old) (W.state out.new) }
 {
     if let [piece, more @ ..] = pieces {
         put_piece(out, *piece);

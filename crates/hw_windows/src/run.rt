@@ -2,7 +2,7 @@
 
 ghost use Rattle.std.specs.Prelude.{◌≡◌, ◌<◌, ◌≤◌, ◌+◌, ◌∷◌};
 ghost use Rattle.hw_port_rules.specs.Numbers.{horizon_of};
-ghost use Rattle.hw_windows.specs.Runs.{deeper, deepest_in, lighter, lightest_in, runs_within};
+ghost use Rattle.hw_windows.specs.Runs.{deeper_slot, deepest_in, lighter, lightest_in, runs_within};
 ghost use Rattle.hw_windows.specs.Windows.{drafts, statuses};
 
 use crate::asked::Asked;
@@ -60,7 +60,7 @@ fn lighter(asked: &Asked, one: Slot, other: Slot) -> Slot
 fn deeper(asked: &Asked, one: Slot, other: Slot) -> Slot
     requires one { one < horizon_of asked.now.port }
     requires other { other < horizon_of asked.now.port }
-    ensures value { result ≡ deeper (drafts asked.now) one other }
+    ensures value { result ≡ deeper_slot (drafts asked.now) one other }
     ensures inside { result < horizon_of asked.now.port }
 {
     if asked.draft(one) < asked.draft(other) {

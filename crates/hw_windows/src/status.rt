@@ -1,7 +1,7 @@
 //! How a ship fares in a slot.
 
 ghost use Rattle.std.specs.Prelude.{◌≡◌};
-ghost use Rattle.hw_windows.specs.Statuses.{alike, draft_of};
+ghost use Rattle.hw_windows.specs.Statuses.{statuses_alike, draft_of};
 
 /// How a ship fares in a slot from its earliest to its latest. Drafts are in centimetres.
 #[derive(Clone, Copy)]
@@ -19,7 +19,7 @@ pub enum Status {
 impl Status {
     /// Whether another status is of the same kind.
     pub fn is_alike(self, other: Status) -> bool
-        ensures { result ≡ alike self other }
+        ensures { result ≡ statuses_alike self other }
     {
         match self {
             Status::Sails { .. } => matches!(other, Status::Sails { .. }),

@@ -4,9 +4,9 @@ ghost use Rattle.std.specs.Prelude.{◌≡◌, ◌<◌, ◌≤◌, ◌+◌, leng
 ghost use Rattle.hw_desk.specs.Writers.{Puts};
 ghost use Rattle.hw_port.specs.Kept.{ShipKept};
 ghost use Rattle.hw_port_rules.specs.Numbers.{horizon_of};
-ghost use Rattle.hw_windows.specs.Lines.{ship_line};
+ghost use Rattle.hw_windows.specs.Lines.{window_ship_line};
 ghost use Rattle.hw_windows.specs.Runs.{runs_within};
-ghost use Rattle.hw_windows.specs.Windows.{asked_text, ended_in, run_line, run_lines, sails_in, shallow_in, ship_text, ships_from, span_of, statuses, windows_text};
+ghost use Rattle.hw_windows.specs.Windows.{asked_text, ended_in, run_line, run_lines, sails_in, shallow_in, ship_windows_text, ships_from, span_of, statuses, windows_text};
 
 use crate::asked::Asked;
 use crate::lines::{
@@ -92,7 +92,7 @@ fn put_runs<W: Writer>(out: &mut W, asked: &Asked, span: Run)
 
 /// Puts the line of a ship.
 fn put_name<W: Writer>(out: &mut W, asked: &Asked)
-    ensures { Puts (ship_line asked.now.number asked.now.ship.name) (W.state out.old) (W.state out.new) }
+    ensures { Puts (window_ship_line asked.now.number asked.now.ship.name) (W.state out.old) (W.state out.new) }
 {
     put_ship_line(out, asked.number, &asked.ship().name.items);
 }
@@ -131,7 +131,7 @@ fn put_ship<W: Writer>(out: &mut W, port: &Port, tide: &Tide, number: ShipId, sh
     requires numbered { number < length port.now.ships }
     requires ship { ShipKept port.now ship.now }
     requires columns { tide.now.columns ≡ length port.now.waypoints }
-    ensures { Puts (ship_text port.now tide.now number ship.now) (W.state out.old) (W.state out.new) }
+    ensures { Puts (ship_windows_text port.now tide.now number ship.now) (W.state out.old) (W.state out.new) }
 {
     let asked = Asked {
         port,

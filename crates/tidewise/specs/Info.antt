@@ -1,7 +1,7 @@
 -- What the program tells of itself: its help and its version, and which words ask for them.
 use Rattle.std.specs.Prelude.{ℕ, List, [], ◌∷◌, ◌++◌, ◌||◌, Option, Some, None, bytes_eq, codes, map, if◌then◌else◌}
 use Rattle.hw_app.specs.Forms.{forms}
-use Rattle.hw_app.specs.Usage.{usage}
+use Rattle.hw_app.specs.Usage.{usage_text}
 use Rattle.hw_app.specs.declared.form.Form.{Form}
 use Rattle.tidewise.specs.declared.info.Info.{Info}
 use Rattle.tidewise.specs.declared.info.Info.TheVariants.{Help, Version}
@@ -23,7 +23,7 @@ info_of (word ∷ other ∷ words) = None
 
 -- a form, and in the next line what it does
 abbrev pub form_text : Form → List ℕ → List ℕ
-form_text form purpose = codes "  " ++ usage form ++ codes "\n      " ++ purpose ++ codes "\n"
+form_text form purpose = codes "  " ++ usage_text form ++ codes "\n      " ++ purpose ++ codes "\n"
 
 -- forms, each with what it does
 abbrev pub forms_text : List Form → List (List ℕ) → List ℕ

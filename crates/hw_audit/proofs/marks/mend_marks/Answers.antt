@@ -1,5 +1,5 @@
 use Rattle.std.proofs.Common.{◌≡◌, ◌<◌, ◌≤◌, Some, slice_get, length, get_or-set_other, length-set, sym, ◌∙◌, arith}
-use Rattle.hw_derived.proofs.Places.{get_within}
+use Rattle.hw_lemmas.proofs.Lists.{get_within}
 use Rattle.hw_audit.proofs.Keeping.{kept_decides, marked_more, marked_kept, rule_at}
 use Rattle.hw_audit.proofs.marks.mend_marks.Goals as goal
 use Rattle.hw_audit.proofs.marks.mend_marks.Goals.{then-concerns, else-concerns}

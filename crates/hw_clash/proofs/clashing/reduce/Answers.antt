@@ -2,7 +2,7 @@ use Rattle.std.proofs.Common.{◌≡◌, ◌<◌, ◌≤◌, ◌++◌, [], ◌�
 use Rattle.hw_clash.specs.Wished.{wished_count}
 use Rattle.hw_clash.specs.Asking.{NoneAt, FitsAt}
 use Rattle.hw_clash.specs.Parts.{part}
-use Rattle.hw_clash.specs.Clashing.{without}
+use Rattle.hw_clash.specs.Clashing.{without_number}
 use Rattle.hw_clash.proofs.Reducing.{numbers_without, asked_there, taken_away, one_kept, all_tried, fits_without}
 use Rattle.hw_clash.proofs.clashing.reduce.Goals as goal
 use Rattle.hw_clash.proofs.clashing.reduce.Goals.{in-NoneFits, in-Fits+in-Some}
@@ -20,7 +20,7 @@ returns-in-Spent c =
 pub loop-n-preserved : goal.loop-n-preserved
 loop-n-preserved c =
     let lt : c.loop-n.n < wished_count c.args.wished.now = rw c.count-many.ensures.value at c.loop-n-test.true in
-    let others : c.in-Ok.others.items ≡ without c.loop-n.n c.loop-n.kept.items = rw c.deref.ensures.value at c.in-Ok.ensures in
+    let others : c.in-Ok.others.items ≡ without_number c.loop-n.n c.loop-n.kept.items = rw c.deref.ensures.value at c.in-Ok.ensures in
     elim c.match-ask.branch [
       | in-NoneFits w ↦
           let none : NoneAt (part c.args.wished.now c.in-Ok.others.items) w.in-NoneFits.shown = rw c.deref-in-loop-n.ensures.value at w.in-NoneFits.ensures in

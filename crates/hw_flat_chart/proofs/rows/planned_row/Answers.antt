@@ -1,5 +1,5 @@
 use Rattle.std.proofs.Common.{arith}
-use Rattle.hw_flat_chart.proofs.Onward.{rank_small}
+use Rattle.hw_chart.proofs.Ranks.{rank_small}
 use Rattle.hw_flat_chart.proofs.rows.planned_row.Goals as goal
 
 pub overflow_cast-result : goal.overflow_cast-result

@@ -1,8 +1,8 @@
 use Rattle.std.proofs.Common.{◌≡◌, ℕ, List, Err, subst}
 use Rattle.std.specs.Prelude.{IfOk}
-use Rattle.hw_read.specs.Instance.{Reads as ReadsPort}
+use Rattle.hw_read.specs.Instance.{PortReads as ReadsPort}
 use Rattle.hw_tide.specs.Levels.{IsTide, TideParts}
-use Rattle.hw_tide.specs.Whole.{Reads as ReadsHeights, tide_by_header, waypoint_names}
+use Rattle.hw_tide.specs.Whole.{TideReads as ReadsHeights, tide_by_header, waypoint_names}
 use Rattle.hw_lint.specs.Ports.{lint_text}
 use Rattle.hw_command.proofs.PortForms.{reads_instance, reads_tide}
 use Rattle.hw_lint_command.specs.Linted.{RefusesInstance, RefusesTable}

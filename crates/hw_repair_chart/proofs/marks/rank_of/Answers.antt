@@ -1,5 +1,5 @@
 use Rattle.std.proofs.Common.{ap, length, arith}
-use Rattle.hw_repair_chart.proofs.Ranks.{rank_small}
+use Rattle.hw_chart.proofs.Ranks.{rank_small}
 use Rattle.hw_repair_chart.proofs.marks.rank_of.Goals as goal
 
 pub overflow_cast-result : goal.overflow_cast-result

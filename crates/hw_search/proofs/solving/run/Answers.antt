@@ -1,4 +1,4 @@
-use Rattle.std.proofs.Common.{◌≡◌, ◌⊎◌, ◌<◌, false, Option, List, ℕ, refl, sym, ap, ◌∙◌, subst, IfSome, inl, inr, arith}
+use Rattle.std.proofs.Common.{◌≡◌, ◌<◌, false, Option, List, ℕ, refl, sym, ap, ◌∙◌, subst, IfSome, inl, inr, arith}
 use Rattle.hw_model.specs.Problem.{Problem}
 use Rattle.hw_model.specs.Timetables.{Permits}
 use Rattle.hw_progress.specs.declared.outcome.Solved.TheVariants as answers
@@ -7,16 +7,11 @@ use Rattle.hw_progress.specs.declared.outcome.Turn.TheVariants as turns
 use Rattle.hw_progress.specs.Proving.{IsEndOf}
 use Rattle.hw_progress.specs.Solving.{SolveMeets}
 use Rattle.hw_search.specs.Going.{Going}
-use Rattle.hw_progress.specs.Turns.{is_last}
+use Rattle.hw_progress.proofs.LastTurns.{goes}
 use Rattle.hw_search.proofs.Counting.{nearer}
 use Rattle.hw_search.proofs.Solutions.{begins, goes_on, ends_at, stopped, failed, spent, to_fit}
 use Rattle.hw_search.proofs.Faults.{going_keeps, ended_keeps}
 use Rattle.hw_search.proofs.solving.run.Goals as goal
-
-goes : (t : Turn) → (t ≡ turns.Decided) ⊎ ((t ≡ turns.Better) ⊎ (t ≡ turns.Lemma)) → is_last t ≡ false
-goes t (inl e) = ap is_last e
-goes t (inr (inl e)) = ap is_last e
-goes t (inr (inr e)) = ap is_last e
 
 pub turns-init : goal.turns-init
 turns-init g c = record {

@@ -1,5 +1,6 @@
 use Rattle.std.proofs.Common.{◌<◌, length, arith}
-use Rattle.hw_search_command.proofs.Demonstrated.{can_take, next_fits, next_plain, next_line, one_taken}
+use Rattle.hw_resume.proofs.Starting.{next_line, next_fits}
+use Rattle.hw_search_command.proofs.Demonstrated.{can_take, next_plain, one_taken}
 use Rattle.hw_search_command.proofs.demonstration.check_all.Goals as goal
 
 pub check_one-requires-clause-valid : goal.check_one-requires-clause-valid

@@ -1,12 +1,12 @@
 use Rattle.std.proofs.Common.{◌≡◌, ◌≤◌, ◌<◌, ◌-◌, ℕ, length, drop}
-use Rattle.hw_tide.specs.Tides.{row_at, slot_at}
+use Rattle.hw_tide.specs.Tides.{heights_in_slot, slot_at}
 use Rattle.hw_tide.proofs.filling.reached.Given as goal
 
 abbrev pub invariant-loop-place : goal.invariant-loop-place
 invariant-loop-place l = record {
   inside : l.place < length l.levels;
   behind : slot_at l.levels l.place ≤ l.slot;
-  same : (later : ℕ) → l.slot ≤ later → row_at (drop l.place l.levels) later ≡ row_at (drop l.fn.from l.levels) later;
+  same : (later : ℕ) → l.slot ≤ later → heights_in_slot (drop l.place l.levels) later ≡ heights_in_slot (drop l.fn.from l.levels) later;
 }
 
 abbrev pub decreases-loop-place : goal.decreases-loop-place

@@ -4,7 +4,7 @@ use Rattle.std.specs.Prelude.{IfSome, true}
 use Rattle.hw_cert.specs.Fits.{line_read}
 use Rattle.hw_cert.specs.Spelled.{is_within}
 use Rattle.hw_cert.specs.Reader.{ReaderModel, ReaderKeeps}
-use Rattle.hw_cert.specs.Nexts.{Takes}
+use Rattle.hw_cert.specs.Nexts.{TakesNextLine}
 use Rattle.hw_cert.specs.declared.reader.Next.TheVariants as nexts
 use Rattle.hw_cert.specs.declared.stop.LineStop.TheVariants as stops
 use Rattle.hw_cert.specs.declared.stop.FormWord.TheVariants as words
@@ -19,13 +19,13 @@ returns-in_err-take_line g c =
     let r : ReaderModel = record { shape = c.self.inside.shape; feed = c.self.inside.feed; at = record { most = c.self.inside.most; version = c.self.inside.version; number = c.self.inside.number; taken = c.self.inside.taken }; pending = c.self.inside.pending } in
     let p = err_from_is_err_and c.from_residual.result c.from_residual.ensures.1 in
     let t = rw c.in_err-take_line.was at c.take_line.ensures in
-    rw (p.1, p.2) (subst (λ (m : ReaderModel). Takes m (g.D.Desk.state c.args.desk.now) (g.D.Desk.state c.take_line.new.desk) (Err c.in_err-take_line.field-0.0)) c.self.view_is (line_stopped r c.in-Some.version c.in_err-take_line.field-0.0 c.in-Some.is c.self.invariant.short t))
+    rw (p.1, p.2) (subst (λ (m : ReaderModel). TakesNextLine m (g.D.Desk.state c.args.desk.now) (g.D.Desk.state c.take_line.new.desk) (Err c.in_err-take_line.field-0.0)) c.self.view_is (line_stopped r c.in-Some.version c.in_err-take_line.field-0.0 c.in-Some.is c.self.invariant.short t))
 
 pub returns-in-Unended : goal.returns-in-Unended
 returns-in-Unended g c =
     let r : ReaderModel = record { shape = c.self.inside.shape; feed = c.self.inside.feed; at = record { most = c.self.inside.most; version = c.self.inside.version; number = c.self.inside.number; taken = c.self.inside.taken }; pending = c.self.inside.pending } in
     let t = rw c.in-Unended.is at (rw c.in_ok-take_line.was at c.take_line.ensures) in
-    subst (λ (m : ReaderModel). Takes m (g.D.Desk.state c.args.desk.now) (g.D.Desk.state c.take_line.new.desk) (Err (stops.Form c.self.inside.number words.Form))) c.self.view_is (line_unended r c.in-Some.version c.in-Some.is c.self.invariant.short t)
+    subst (λ (m : ReaderModel). TakesNextLine m (g.D.Desk.state c.args.desk.now) (g.D.Desk.state c.take_line.new.desk) (Err (stops.Form c.self.inside.number words.Form))) c.self.view_is (line_unended r c.in-Some.version c.in-Some.is c.self.invariant.short t)
 
 pub invariant_of-self : goal.invariant_of-self
 invariant_of-self g c =
@@ -49,9 +49,9 @@ returns-in-Ok g c =
     let within : is_within c.self.inside.most c.in-Some.version ≡ true = subst (λ (v : Option Version). IfSome v (λ version. is_within c.self.inside.most version ≡ true)) c.in-Some.is c.self.invariant.named in
     let old = g.D.Desk.state c.args.desk.now in
     let new = g.D.Desk.state c.take_line.new.desk in
-    subst (λ (m : ReaderModel). Takes m old new (Ok (nexts.Line (stands c.self.inside.version (c.self.inside.taken + (c.len.result + 1))) c.in-Ok.line))) c.self.view_is
-    (subst (λ (v : Option Version). Takes r old new (Ok (nexts.Line (stands v (c.self.inside.taken + (c.len.result + 1))) c.in-Ok.line))) (sym c.in-Some.is)
-    (subst (λ (n : ℕ). Takes r old new (Ok (nexts.Line (stands (Some c.in-Some.version) n) c.in-Ok.line))) same
+    subst (λ (m : ReaderModel). TakesNextLine m old new (Ok (nexts.Line (stands c.self.inside.version (c.self.inside.taken + (c.len.result + 1))) c.in-Ok.line))) c.self.view_is
+    (subst (λ (v : Option Version). TakesNextLine r old new (Ok (nexts.Line (stands v (c.self.inside.taken + (c.len.result + 1))) c.in-Ok.line))) (sym c.in-Some.is)
+    (subst (λ (n : ℕ). TakesNextLine r old new (Ok (nexts.Line (stands (Some c.in-Some.version) n) c.in-Ok.line))) same
     (line_taken r c.in-Some.version c.in-Ok.line c.in-Some.is c.self.invariant.short is (read_fits c.self.inside.shape c.in-Some.version c.take_line.new.line.items c.in-Ok.line is)
     (read_formed c.self.inside.most c.self.inside.shape c.in-Some.version c.take_line.new.line.items c.in-Ok.line within is) t)))
 
@@ -60,4 +60,4 @@ returns-in-Err-Bad g c =
     let r : ReaderModel = record { shape = c.self.inside.shape; feed = c.self.inside.feed; at = record { most = c.self.inside.most; version = c.self.inside.version; number = c.self.inside.number; taken = c.self.inside.taken }; pending = c.self.inside.pending } in
     let t = rw c.in-Whole.is at (rw c.in_ok-take_line.was at c.take_line.ensures) in
     let wrong : line_read c.self.inside.shape c.in-Some.version c.take_line.new.line.items ≡ Err c.in-Err-Bad.word = ap (line_read c.self.inside.shape c.in-Some.version) (sym c.deref.ensures.value) ∙ rw c.in-Err-Bad.field-0-is at c.in-Err-Bad.ensures in
-    subst (λ (m : ReaderModel). Takes m (g.D.Desk.state c.args.desk.now) (g.D.Desk.state c.take_line.new.desk) (Err (stops.Form c.self.inside.number c.in-Err-Bad.word))) c.self.view_is (line_bad r c.in-Some.version c.in-Err-Bad.word c.in-Some.is c.self.invariant.short wrong t)
+    subst (λ (m : ReaderModel). TakesNextLine m (g.D.Desk.state c.args.desk.now) (g.D.Desk.state c.take_line.new.desk) (Err (stops.Form c.self.inside.number c.in-Err-Bad.word))) c.self.view_is (line_bad r c.in-Some.version c.in-Err-Bad.word c.in-Some.is c.self.invariant.short wrong t)

@@ -1,7 +1,8 @@
 use Rattle.std.proofs.Common.{refl, ◌∙◌, subst}
 use Rattle.hw_progress.specs.Searches.{IsSearch}
+use Rattle.hw_progress.proofs.Heeded.{heeds_none}
 use Rattle.hw_search.specs.Engines.{EngineModel}
-use Rattle.hw_search.proofs.Advice.{heeds_none, gains_on}
+use Rattle.hw_search.proofs.Advice.{gains_on}
 use Rattle.hw_search.proofs.AdvisedTurns.{turn_on, fewer_left}
 use Rattle.hw_search.proofs.engine.Engine.advised_turn.Goals as goal
 

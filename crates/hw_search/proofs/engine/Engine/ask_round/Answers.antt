@@ -1,7 +1,7 @@
 use Rattle.std.proofs.Common.{◌∙◌, length, sym, ap, subst, arith}
 use Rattle.std.proofs.lemmas.Result.{err_from_is_err_and}
 use Rattle.hw_progress.specs.Settling.{Implies}
-use Rattle.hw_search.specs.Askings.{Gains, Fails}
+use Rattle.hw_search.specs.Askings.{Gains, AskingFails}
 use Rattle.hw_search.specs.Engines.{EngineModel}
 use Rattle.hw_search.specs.Marks.{ClearWithin}
 use Rattle.hw_search.proofs.Steps.{implies_more, fails_more, gains_more, as_cut, as_conflict}
@@ -31,7 +31,7 @@ loop-place-preserved g c =
 
 pub returns-in-Conflict-clause-meets : goal.returns-in-Conflict-clause-meets
 returns-in-Conflict-clause-meets g c =
-    fails_more _ _ _ _ c.loop-place.invariant.implies (subst (λ (e : EngineModel). Fails e.search c.ask.new.self.search c.in-Conflict.why) c.next_marked.ensures.same (as_conflict _ c.next_marked.new.self.search c.ask.new.self.search c.in_ok-ask.field-0 c.in-Conflict.why c.in-Conflict.is c.in_ok-ask.ensures.meets))
+    fails_more _ _ _ _ c.loop-place.invariant.implies (subst (λ (e : EngineModel). AskingFails e.search c.ask.new.self.search c.in-Conflict.why) c.next_marked.ensures.same (as_conflict _ c.next_marked.new.self.search c.ask.new.self.search c.in_ok-ask.field-0 c.in-Conflict.why c.in-Conflict.is c.in_ok-ask.ensures.meets))
 
 pub returns-else-cut-clause-meets : goal.returns-else-cut-clause-meets
 returns-else-cut-clause-meets g c =

@@ -4,9 +4,10 @@ use Rattle.std.proofs.lemmas.Iterator.Adapters.{YieldsList-from_vec}
 use Rattle.std.proofs.lemmas.Result.{err_from_is_err_and}
 use Rattle.hw_tolls.specs.declared.toll.Toll.{Toll}
 use Rattle.hw_progress.specs.Searches.{IsSearch}
+use Rattle.hw_progress.proofs.Heeded.{heeds_none, heeds_both}
 use Rattle.hw_search.specs.Engines.{EngineModel}
-use Rattle.hw_search.specs.Heeding.{priced_by, with_tolls}
-use Rattle.hw_search.proofs.Advice.{heeds_none, heeds_both, heeds_fit, stops_on}
+use Rattle.hw_search.specs.Heeding.{with_other_prices, with_tolls}
+use Rattle.hw_search.proofs.Advice.{heeds_fit, stops_on}
 use Rattle.hw_search.proofs.Heard.{next_toll, next_few, tolls_then}
 use Rattle.hw_search.proofs.engine.Engine.declare_all.Goals as goal
 
@@ -15,7 +16,7 @@ loop-toll-init g c =
     let s = c.args.self.now.search in
     let is : IsSearch s = subst (λ (e : EngineModel). IsSearch e.search) c.self.view_is c.self.invariant.0.search in
     record {
-      search = ap (λ ts. priced_by s (record s.prices { tolls = ts })) (sym (append-nil s.prices.tolls));
+      search = ap (λ ts. with_other_prices s (record s.prices { tolls = ts })) (sym (append-nil s.prices.tolls));
       heeds = heeds_none s (g.L.Log.state c.args.log.now) is c.requires.fits;
       same_reference = refl;
     }
@@ -53,7 +54,7 @@ pub returns-clause-search : goal.returns-clause-search
 returns-clause-search g c =
     let s = c.args.self.now.search in
     let end = YieldsList-end (YieldsList-from_vec {s = c.into_iter-toll-iterator.result} c.args.tolls.items (search rules) (search rules)) c.loop-toll.yielded c.loop-toll.toll-iterator c.loop-toll.yielded_by c.next.result c.next.new.self c.in-None.is c.next.ensures.steps in
-    c.loop-toll.invariant.search ∙ ap (λ (ts : List Toll). priced_by s (with_tolls s.prices ts)) (sym (map-id c.loop-toll.yielded) ∙ end.0)
+    c.loop-toll.invariant.search ∙ ap (λ (ts : List Toll). with_other_prices s (with_tolls s.prices ts)) (sym (map-id c.loop-toll.yielded) ∙ end.0)
 
 pub returns-clause-heeds : goal.returns-clause-heeds
 returns-clause-heeds g c = c.loop-toll.invariant.heeds

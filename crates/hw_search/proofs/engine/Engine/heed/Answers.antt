@@ -3,7 +3,8 @@ use Rattle.std.proofs.lemmas.Result.{err_from_is_err_and}
 use Rattle.hw_model.specs.Rooms.{RoomModel}
 use Rattle.hw_lits.specs.Active.{IsActive}
 use Rattle.hw_progress.specs.Searches.{SearchModel, room_in}
-use Rattle.hw_search.proofs.Advice.{heeds_both, stops_on, consult_on}
+use Rattle.hw_progress.proofs.Heeded.{heeds_both}
+use Rattle.hw_search.proofs.Advice.{stops_on, consult_on}
 use Rattle.hw_search.proofs.engine.Engine.heed.Goals as goal
 
 pub returns-in_err-change_tariff-clause-meets : goal.returns-in_err-change_tariff-clause-meets

@@ -5,7 +5,7 @@ use Rattle.hw_model.specs.Lits.{lit_fits, IsClause}
 use Rattle.hw_model.specs.Narrowing.{truth, cut}
 use Rattle.hw_model.specs.Replay.{narrowing}
 use Rattle.hw_story.specs.declared.event.Event.{Event}
-use Rattle.hw_story.specs.Trails.{trail_shape, clause_of, room_of}
+use Rattle.hw_story.specs.Trails.{trail_shape, reason_clause, room_of}
 use Rattle.hw_story.proofs.Kept.{more_room}
 use Rattle.hw_progress.specs.Searches.{room_in, IsReason}
 use Rattle.hw_search.specs.Engines.{EngineModel}
@@ -17,9 +17,9 @@ pub add_event-requires : goal.add_event-requires
 add_event-requires g c =
     let h = one_more _ _ _ _ _ c.args.lit c.args.why c.self.invariant.0
     (of_view _ _ (λ (e : EngineModel). lit_fits (trail_shape e.search.trail) c.args.lit ≡ true) c.self.view_is c.requires.fits)
-    (of_view _ _ (λ (e : EngineModel). IsClause (trail_shape e.search.trail) (clause_of c.args.why)) c.self.view_is c.requires.clause)
+    (of_view _ _ (λ (e : EngineModel). IsClause (trail_shape e.search.trail) (reason_clause c.args.why)) c.self.view_is c.requires.clause)
     (of_view _ _ (λ (e : EngineModel). truth (room_in e.search) c.args.lit ≡ Free) c.self.view_is c.requires.free)
-    (of_view _ _ (λ (e : EngineModel). narrowing (clause_of c.args.why) (room_in e.search) ≡ Cut c.args.lit) c.self.view_is c.requires.only)
+    (of_view _ _ (λ (e : EngineModel). narrowing (reason_clause c.args.why) (room_in e.search) ≡ Cut c.args.lit) c.self.view_is c.requires.only)
     (of_view _ _ (λ (e : EngineModel). IsReason e.search c.args.why) c.self.view_is c.requires.reason)
     c.requires.unpriced in
     record { room = h }
@@ -30,9 +30,9 @@ invariant_of-self g c =
     let event : Event = record { lit = c.args.lit; level = c.self.inside.trail.level; why = Some c.args.why } in (
       kept_implied _ _ _ _ _ c.args.lit c.args.why _ _ _ _ c.self.invariant.0
           (of_view _ _ (λ (e : EngineModel). lit_fits (trail_shape e.search.trail) c.args.lit ≡ true) c.self.view_is c.requires.fits)
-          (of_view _ _ (λ (e : EngineModel). IsClause (trail_shape e.search.trail) (clause_of c.args.why)) c.self.view_is c.requires.clause)
+          (of_view _ _ (λ (e : EngineModel). IsClause (trail_shape e.search.trail) (reason_clause c.args.why)) c.self.view_is c.requires.clause)
           (of_view _ _ (λ (e : EngineModel). truth (room_in e.search) c.args.lit ≡ Free) c.self.view_is c.requires.free)
-          (of_view _ _ (λ (e : EngineModel). narrowing (clause_of c.args.why) (room_in e.search) ≡ Cut c.args.lit) c.self.view_is c.requires.only)
+          (of_view _ _ (λ (e : EngineModel). narrowing (reason_clause c.args.why) (room_in e.search) ≡ Cut c.args.lit) c.self.view_is c.requires.only)
           (of_view _ _ (λ (e : EngineModel). IsReason e.search c.args.why) c.self.view_is c.requires.reason)
           c.requires.unpriced
           c.imply.ensures.value c.changed.ensures.same c.add_event.ensures.value

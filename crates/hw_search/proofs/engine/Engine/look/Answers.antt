@@ -2,8 +2,8 @@ use Rattle.std.proofs.Common.{sym, subst}
 use Rattle.hw_model.specs.Rooms.{RoomModel}
 use Rattle.hw_store.specs.declared.store.Stored.{Stored}
 use Rattle.hw_lits.specs.Active.{IsActive}
-use Rattle.hw_store.specs.Stores.{Finds, IsNotHeld}
-use Rattle.hw_story.specs.Trails.{clause_of}
+use Rattle.hw_store.specs.Stores.{FindsStored, IsNotHeld}
+use Rattle.hw_story.specs.Trails.{reason_clause}
 use Rattle.hw_progress.specs.Searches.{IsSearch}
 use Rattle.hw_search.specs.Engines.{EngineModel}
 use Rattle.hw_search.specs.Askings.{IsHeldWhy}
@@ -18,8 +18,8 @@ pub take-requires-clause-active : goal.take-requires-clause-active
 take-requires-clause-active g c =
     let f = c.in_ok-step.ensures in
     let P : List Stored → Type 0 = λ held. IsHeldWhy held c.in-Clause.id c.in_ok-why-in-Clause.why in
-    let found = subst (Finds (g.S.Store.clauses c.self.inside.store) c.room.result.now) c.in-Clause.is f.found in
-    let Q : RoomModel → Type 0 = IsActive (clause_of c.in_ok-why-in-Clause.why) in
+    let found = subst (FindsStored (g.S.Store.clauses c.self.inside.store) c.room.result.now) c.in-Clause.is f.found in
+    let Q : RoomModel → Type 0 = IsActive (reason_clause c.in_ok-why-in-Clause.why) in
     subst Q c.room.ensures.value (held_active (g.S.Store.clauses c.self.inside.store) c.in-Clause.id c.room.result.now c.in_ok-why-in-Clause.why found (subst P f.same c.in_ok-why-in-Clause.ensures.held))
 
 pub take-requires-clause-reason : goal.take-requires-clause-reason
@@ -31,14 +31,14 @@ take-requires-clause-unpriced g c = held_unpriced (g.S.Store.clauses c.step.new.
 pub lemma_of-requires : goal.lemma_of-requires
 lemma_of-requires g c =
     let f = c.in_ok-step.ensures in
-    let found = subst (Finds (g.S.Store.clauses c.self.inside.store) c.room.result.now) c.in-Clause.is f.found in
+    let found = subst (FindsStored (g.S.Store.clauses c.self.inside.store) c.room.result.now) c.in-Clause.is f.found in
     let P : List Stored → Type 0 = λ held. IsNotHeld held c.in-Clause.id in
     record { held = λ none. held_there (g.S.Store.clauses c.self.inside.store) c.in-Clause.id c.room.result.now found (subst P f.same none) }
 
 pub returns-in-Quiet-clause-meets : goal.returns-in-Quiet-clause-meets
 returns-in-Quiet-clause-meets g c =
     let f = c.in_ok-step.ensures in
-    let found = subst (Finds (g.S.Store.clauses c.self.inside.store) c.room.result.now) c.in-Quiet.is f.found in
+    let found = subst (FindsStored (g.S.Store.clauses c.self.inside.store) c.room.result.now) c.in-Quiet.is f.found in
     let same = same_stored _ _ _ f.same c.self.view_is in
     let was = subst (λ (e : EngineModel). IsSearch e.search) c.self.view_is c.self.invariant.0.search in (
       same,

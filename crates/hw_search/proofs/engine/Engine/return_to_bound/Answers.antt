@@ -1,9 +1,10 @@
 use Rattle.std.proofs.Common.{◌≡◌, None, Some, sym, ap, ◌∙◌, subst}
 use Rattle.std.proofs.lemmas.Result.{err_from_is_err_and}
 use Rattle.hw_progress.specs.Searches.{IsSearch}
+use Rattle.hw_progress.proofs.Heeded.{heeds_none}
 use Rattle.hw_search.specs.Engines.{EngineModel}
 use Rattle.hw_search.specs.Heeding.{HeedStops}
-use Rattle.hw_search.proofs.Advice.{heeds_none, memory_stops}
+use Rattle.hw_search.proofs.Advice.{memory_stops}
 use Rattle.hw_search.proofs.Closings.{none_older, older_meets}
 use Rattle.hw_search.proofs.engine.Engine.return_to_bound.Goals as goal
 

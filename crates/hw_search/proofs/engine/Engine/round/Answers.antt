@@ -5,7 +5,7 @@ use Rattle.hw_progress.specs.declared.outcome.Turn.TheVariants as turns
 use Rattle.hw_progress.specs.Searches.{IsSearch}
 use Rattle.hw_progress.specs.Settling.{Settles}
 use Rattle.hw_search.specs.Engines.{EngineModel}
-use Rattle.hw_search.specs.Turning.{Begins, halted}
+use Rattle.hw_search.specs.Turning.{TurnBegins, halted}
 use Rattle.hw_search.proofs.Answering.{stopped_early}
 use Rattle.hw_search.proofs.Ending.{turned}
 use Rattle.hw_search.proofs.Faults.{stop_keeps}
@@ -37,7 +37,7 @@ returns-in-Ok-Conflict-clause-round g c =
     let mid = c.settle.new.self.search in
     let log = g.L.Log.state c.args.log.now in
     let is : IsSearch s = subst (λ (e : EngineModel). IsSearch e.search) c.self.view_is c.self.invariant.0.search in
-    let b : Begins s log = record { kept = is; going = c.requires.going; few = c.requires.few; fits = c.requires.fits } in
+    let b : TurnBegins s log = record { kept = is; going = c.requires.going; few = c.requires.few; fits = c.requires.fits } in
     turn_ends s log c.meet_conflict.result c.meet_conflict.new.self.search (g.L.Log.state c.meet_conflict.new.log) is c.requires.fits (c.meet_conflict.ensures.turns s b (subst (Settles s mid) c.in-Ok-Conflict.field-0-is c.in-Ok-Conflict.ensures.meets)) c.meet_conflict.ensures.kept
 
 pub returns-in-Err-clause-round : goal.returns-in-Err-clause-round
@@ -46,7 +46,7 @@ returns-in-Err-clause-round g c =
     let mid = c.settle.new.self.search in
     let log = g.L.Log.state c.args.log.now in
     let was : IsSearch s = subst (λ (e : EngineModel). IsSearch e.search) c.self.view_is c.self.invariant.0.search in
-    let b : Begins s log = record { kept = was; going = c.requires.going; few = c.requires.few; fits = c.requires.fits } in
+    let b : TurnBegins s log = record { kept = was; going = c.requires.going; few = c.requires.few; fits = c.requires.fits } in
     let is : IsSearch mid = subst (λ (e : EngineModel). IsSearch e.search) c.self-in-Err.view_is c.self-in-Err.invariant.0.search in
     turn_ends s log c.halt.result c.halt.new.self.search log was c.requires.fits
     (turned s log log turns.NoMemory c.halt.result (halted mid mid.written mid.clause_lines) c.halt.new.self.search c.halt.ensures.value c.halt.ensures.search (stopped_early s mid mid.written mid.clause_lines log b c.in-Err.ensures.meets is))

@@ -9,7 +9,7 @@ use Rattle.hw_model.specs.Problem.{shape_of}
 use Rattle.hw_model.specs.Replay.{narrowing}
 use Rattle.hw_model.specs.Rooms.{RoomModel}
 use Rattle.hw_lits.proofs.Forms.{clause_lits}
-use Rattle.hw_story.specs.Trails.{clause_of}
+use Rattle.hw_story.specs.Trails.{reason_clause}
 use Rattle.hw_progress.specs.Searches.{IsSearch, room_in}
 use Rattle.hw_progress.proofs.Holds.{problem_clause}
 use Rattle.hw_search.specs.Engines.{EngineModel}
@@ -25,7 +25,7 @@ narrowing-requires g c =
     let room : c.room.result.now ≡ room_in s = c.room.ensures.value ∙ ap (λ (e : EngineModel). room_in e.search) c.self.view_is in
     let P : List Lit → RoomModel → Type 0 = λ clause r. All (IsLitOf r.ships) clause in
     let ships = ap (λ (r : RoomModel). r.ships) room ∙ (room_here s is).same_ships in
-    record { fits = subst (λ clause. All (IsLitOf c.room.result.now.ships) clause) (sym c.clause_of.ensures.value) (subst (λ n. All (IsLitOf n) (clause_of c.args.why)) (sym ships) (clause_lits (shape_of s.problem) (clause_of c.args.why) c.requires.fits)) }
+    record { fits = subst (λ clause. All (IsLitOf c.room.result.now.ships) clause) (sym c.clause_of.ensures.value) (subst (λ n. All (IsLitOf n) (reason_clause c.args.why)) (sym ships) (clause_lits (shape_of s.problem) (reason_clause c.args.why) c.requires.fits)) }
 
 in_room : (g : given.Over) (c : goal.After-imply-arg-1 g) → c.room.result.now ≡ room_in c.args.self.now.search
 in_room g c = c.room.ensures.value ∙ ap (λ (e : EngineModel). room_in e.search) c.self.view_is
@@ -39,7 +39,7 @@ imply-requires-clause-fits g c =
 
 pub imply-requires-clause-only : goal.imply-requires-clause-only
 imply-requires-clause-only g c =
-    subst (λ r. narrowing (clause_of c.args.why) r ≡ Cut c.in-Cut.lit) (in_room g c) (subst (λ clause. narrowing clause c.room.result.now ≡ Cut c.in-Cut.lit) c.clause_of.ensures.value (sym c.in-Cut.ensures.value))
+    subst (λ r. narrowing (reason_clause c.args.why) r ≡ Cut c.in-Cut.lit) (in_room g c) (subst (λ clause. narrowing clause c.room.result.now ≡ Cut c.in-Cut.lit) c.clause_of.ensures.value (sym c.in-Cut.ensures.value))
 
 pub returns-in-Cut-clause-meets : goal.returns-in-Cut-clause-meets
 returns-in-Cut-clause-meets g c =
@@ -50,5 +50,5 @@ returns-in-Cut-clause-meets g c =
     let room : c.room.result.now ≡ room_in s = c.room.ensures.value ∙ ap (λ (e : EngineModel). room_in e.search) c.self.view_is in
     let fits = unit_fits s c.clause_of.result.now unit.place c.in-Cut.lit is (subst (IsClause (shape_of s.problem)) (sym c.clause_of.ensures.value) c.requires.fits) unit.stands in
     let free : truth (room_in s) c.in-Cut.lit ≡ Free = subst (λ r. truth r c.in-Cut.lit ≡ Free) room unit.free in
-    let only : narrowing (clause_of c.args.why) (room_in s) ≡ Cut c.in-Cut.lit = subst (λ r. narrowing (clause_of c.args.why) r ≡ Cut c.in-Cut.lit) room (subst (λ clause. narrowing clause c.room.result.now ≡ Cut c.in-Cut.lit) c.clause_of.ensures.value (sym c.in-Cut.ensures.value)) in
-    gains_one s c.imply.new.self.search c.in-Cut.lit c.args.why is fits (problem_clause s is.same_ships is.same_slots (clause_of c.args.why) c.requires.fits) free only c.requires.reason c.requires.unpriced c.imply.ensures.search
+    let only : narrowing (reason_clause c.args.why) (room_in s) ≡ Cut c.in-Cut.lit = subst (λ r. narrowing (reason_clause c.args.why) r ≡ Cut c.in-Cut.lit) room (subst (λ clause. narrowing clause c.room.result.now ≡ Cut c.in-Cut.lit) c.clause_of.ensures.value (sym c.in-Cut.ensures.value)) in
+    gains_one s c.imply.new.self.search c.in-Cut.lit c.args.why is fits (problem_clause s is.same_ships is.same_slots (reason_clause c.args.why) c.requires.fits) free only c.requires.reason c.requires.unpriced c.imply.ensures.search

@@ -1,5 +1,6 @@
 use Rattle.std.proofs.lemmas.Result.{err_from_is_err_and}
-use Rattle.hw_search.proofs.Advice.{heeds_both, stops_on}
+use Rattle.hw_progress.proofs.Heeded.{heeds_both}
+use Rattle.hw_search.proofs.Advice.{stops_on}
 use Rattle.hw_search.proofs.ToldBounds.{advice_shows, bounded}
 use Rattle.hw_search.proofs.engine.Engine.take_bound.Goals as goal
 

@@ -5,7 +5,7 @@ use Rattle.hw_progress.specs.declared.outcome.Turn.TheVariants as turns
 use Rattle.hw_progress.specs.Searches.{IsSearch, room_in}
 use Rattle.hw_progress.specs.Settling.{Settles}
 use Rattle.hw_search.specs.Engines.{EngineModel}
-use Rattle.hw_search.specs.Turning.{Begins, halted}
+use Rattle.hw_search.specs.Turning.{TurnBegins, halted}
 use Rattle.hw_search.proofs.Answering.{decides, decided_meets, stopped_early}
 use Rattle.hw_search.proofs.Ending.{turned}
 use Rattle.hw_search.proofs.engine.Engine.turn.Goals as goal
@@ -13,14 +13,14 @@ use Rattle.hw_search.proofs.engine.Engine.turn.Goals as goal
 pub returns-then-is_point-clause-turns : goal.returns-then-is_point-clause-turns
 returns-then-is_point-clause-turns g c =
     let s = c.args.self.now.search in
-    let b : Begins s (g.L.Log.state c.args.log.now) = record { kept = subst (λ (e : EngineModel). IsSearch e.search) c.self.view_is c.self.invariant.0.search; going = c.requires.going; few = c.requires.few; fits = c.requires.fits } in
+    let b : TurnBegins s (g.L.Log.state c.args.log.now) = record { kept = subst (λ (e : EngineModel). IsSearch e.search) c.self.view_is c.self.invariant.0.search; going = c.requires.going; few = c.requires.few; fits = c.requires.fits } in
     let mid = c.settle.new.self.search in
     c.improve.ensures.turns s b (subst (Settles s mid) c.in-Ok-Quiet.field-0-is c.in-Ok-Quiet.ensures.meets)
 
 pub returns-else-is_point-clause-turns : goal.returns-else-is_point-clause-turns
 returns-else-is_point-clause-turns g c =
     let s = c.args.self.now.search in
-    let b : Begins s (g.L.Log.state c.args.log.now) = record { kept = subst (λ (e : EngineModel). IsSearch e.search) c.self.view_is c.self.invariant.0.search; going = c.requires.going; few = c.requires.few; fits = c.requires.fits } in
+    let b : TurnBegins s (g.L.Log.state c.args.log.now) = record { kept = subst (λ (e : EngineModel). IsSearch e.search) c.self.view_is c.self.invariant.0.search; going = c.requires.going; few = c.requires.few; fits = c.requires.fits } in
     let mid = c.settle.new.self.search in
     let log = g.L.Log.state c.args.log.now in
     let settles : Settles s mid Quiet = subst (Settles s mid) c.in-Ok-Quiet.field-0-is c.in-Ok-Quiet.ensures.meets in
@@ -32,14 +32,14 @@ returns-else-is_point-clause-turns g c =
 pub returns-in-Ok-Conflict-clause-turns : goal.returns-in-Ok-Conflict-clause-turns
 returns-in-Ok-Conflict-clause-turns g c =
     let s = c.args.self.now.search in
-    let b : Begins s (g.L.Log.state c.args.log.now) = record { kept = subst (λ (e : EngineModel). IsSearch e.search) c.self.view_is c.self.invariant.0.search; going = c.requires.going; few = c.requires.few; fits = c.requires.fits } in
+    let b : TurnBegins s (g.L.Log.state c.args.log.now) = record { kept = subst (λ (e : EngineModel). IsSearch e.search) c.self.view_is c.self.invariant.0.search; going = c.requires.going; few = c.requires.few; fits = c.requires.fits } in
     let mid = c.settle.new.self.search in
     c.meet_conflict.ensures.turns s b (subst (Settles s mid) c.in-Ok-Conflict.field-0-is c.in-Ok-Conflict.ensures.meets)
 
 pub returns-in-Err-clause-turns : goal.returns-in-Err-clause-turns
 returns-in-Err-clause-turns g c =
     let s = c.args.self.now.search in
-    let b : Begins s (g.L.Log.state c.args.log.now) = record { kept = subst (λ (e : EngineModel). IsSearch e.search) c.self.view_is c.self.invariant.0.search; going = c.requires.going; few = c.requires.few; fits = c.requires.fits } in
+    let b : TurnBegins s (g.L.Log.state c.args.log.now) = record { kept = subst (λ (e : EngineModel). IsSearch e.search) c.self.view_is c.self.invariant.0.search; going = c.requires.going; few = c.requires.few; fits = c.requires.fits } in
     let mid = c.settle.new.self.search in
     let log = g.L.Log.state c.args.log.now in
     let is : IsSearch mid = subst (λ (e : EngineModel). IsSearch e.search) c.self-in-Err.view_is c.self-in-Err.invariant.0.search in

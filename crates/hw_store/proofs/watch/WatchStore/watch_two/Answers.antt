@@ -5,7 +5,7 @@ use Rattle.hw_store.specs.declared.store.Stored.{Stored}
 use Rattle.hw_store.specs.declared.watching.Watch.{Watch}
 use Rattle.hw_store.specs.declared.watching.Watch.TheVariants.{Two}
 use Rattle.hw_store.specs.Numbering.{bucket}
-use Rattle.hw_store.specs.Watches.{WatchModel, WatchedModel, Watches, IsOpen, IsWatchOf, IsLast, KeepsBuckets}
+use Rattle.hw_store.specs.Watches.{WatchModel, WatchedModel, Watches, IsOpenWatch, IsWatchOf, IsLastDue, KeepsBuckets}
 use Rattle.hw_store.proofs.Insides.{store_of}
 use Rattle.hw_store.proofs.Keeping.{keeps_watch}
 use Rattle.hw_store.proofs.Standing.{stand_at, both_stand}
@@ -27,7 +27,7 @@ invariant_of-self c =
     let same : m.watched ≡ c.args.self.now.watched = mid ∙ c.enlist.ensures.watched in
     let held : m.held ≡ c.args.self.now.held = ap (λ (s : WatchModel). s.held) c.self.view_is ∙ c.enlist-2.ensures.same.held ∙ c.enlist.ensures.same.held in
     let seen : m.seen ≡ c.args.self.now.seen = ap (λ (s : WatchModel). s.seen) c.self.view_is ∙ c.enlist-2.ensures.same.seen ∙ c.enlist.ensures.same.seen in
-    let last : IsLast m.watched c.args.place = subst (λ (w : WatchedModel). IsLast w c.args.place) (sym same) c.requires.last in
+    let last : IsLastDue m.watched c.args.place = subst (λ (w : WatchedModel). IsLastDue w c.args.place) (sym same) c.requires.last in
     let one : Contains (get_or m.lists c.in_ok-one.one []) c.args.place = subst (λ (s : WatchModel). Contains (get_or s.lists c.in_ok-one.one []) c.args.place) (sym c.self.view_is)
     (c.enlist-2.ensures.grows.kept c.in_ok-one.one c.args.place c.in_ok-one.ensures.there) in
     let two : Contains (get_or m.lists c.in_ok-two.two []) c.args.place = subst (λ (s : WatchModel). Contains (get_or s.lists c.in_ok-two.two []) c.args.place) (sym c.self.view_is) c.in_ok-two.ensures.there in
@@ -37,4 +37,4 @@ invariant_of-self c =
       subst (λ n. Contains (get_or m.lists n []) c.args.place) (subst (λ (w : WatchedModel). c.in_ok-two.two ≡ bucket w.ships w.slots c.args.second) (sym mid) c.in_ok-two.ensures.value) two,
     )
     (subst (KeepsBuckets m.lists) (sym c.watch_two.ensures.stands) (stand_at m.lists m.watched.stands c.args.place _ last.beside c.self.invariant.known (both_stand m.lists c.args.place c.in_ok-one.one c.in_ok-two.two one two)))
-    (subst (λ (room : RoomModel). IsOpen room watch) (sym seen) c.requires.open)
+    (subst (λ (room : RoomModel). IsOpenWatch room watch) (sym seen) c.requires.open)

@@ -1,7 +1,7 @@
 use Rattle.std.proofs.Common.{◌≡◌, ◌∙◌, Some, sym, subst, ap, arith, List, ℕ, length, set, drop, vec_capacity, length-set}
 use Rattle.hw_store.specs.declared.watching.Watch.{Watch}
 use Rattle.hw_store.specs.declared.watching.Watch.TheVariants.{Two}
-use Rattle.hw_store.specs.Watches.{WatchedModel, IsLast, IsWatchOf, KeepsDue, KeepsWatched}
+use Rattle.hw_store.specs.Watches.{WatchedModel, IsLastDue, IsWatchOf, KeepsDue, KeepsWatched}
 use Rattle.hw_store.proofs.Insides.{watched_of}
 use Rattle.hw_store.proofs.Keeping.{written}
 use Rattle.hw_store.proofs.Watched.{keeps_two}
@@ -12,7 +12,7 @@ invariant_of-self c =
     let m : WatchedModel = watched_of c.self.inside in
     let place : ℕ = c.args.place in
     let watch : Watch = Two c.args.lits.0 c.args.lits.1 in
-    let last : IsLast m place = subst (λ (s : WatchedModel). IsLast s place) (sym c.self.view_is) c.requires.last in
+    let last : IsLastDue m place = subst (λ (s : WatchedModel). IsLastDue s place) (sym c.self.view_is) c.requires.last in
     let fits : IsWatchOf m.ships watch = subst (λ (s : WatchedModel). IsWatchOf s.ships watch) (sym c.self.view_is) c.requires.fits in
     let same : c.resolve.new.watches ≡ set m.watches place watch = c.resolve.ensures.watches ∙ ap (λ (l : List Watch). set l place watch) c.deref_mut.ensures.value in
     let whole = written c.self.inside.watches.len c.resolve.new.watches (drop (length c.resolve.new.watches) c.self.inside.watches.items) (omega (arith, ap length c.resolve.ensures.watches, length-set c.deref_mut.result.now place watch, c.deref_mut.ensures.len)) in
