@@ -70,10 +70,10 @@ def legend(entries):
 def below():
     """The legend's second line."""
     out = chart.block("gh", 502, 512, 93, 103) + chart.line("m", 516, 102, "planned slot of a moved ship")
-    out += chart.block("sd", 674, 684, 93, 103) + chart.line("m", 688, 102, "has sailed")
-    out += ('<svg x="758" y="93" width="10" height="10" viewBox="0 0 3 1" preserveAspectRatio="none">\n'
+    out += chart.block("sd", 690, 700, 93, 103) + chart.line("m", 704, 102, "has sailed")
+    out += ('<svg x="772" y="93" width="10" height="10" viewBox="0 0 3 1" preserveAspectRatio="none">\n'
             + chart.block("ht", 0, 3, 0, 1) + "</svg>\n")
-    return out + chart.line("m", 772, 102, "before the earliest slot that the plan leaves")
+    return out + chart.line("m", 786, 102, "before the earliest slot that the plan leaves")
 
 
 # ---------------------------------------------------------------- what became of each ship

@@ -71,7 +71,7 @@ abbrev pub all_marks : List ℕ → Axis → List ℕ
 all_marks start a = dated_marks start a (first_mark start a) (end_mark start a - first_mark start a)
 
 abbrev pub caption : List ℕ → List ℕ
-caption start = line (codes "m") 16 116 (joined (codes "from " ∷ escaped start ∷ []))
+caption start = line (codes "m") 16 116 (escaped start)
 
 abbrev pub dated_axis_text : List ℕ → Axis → List ℕ
 dated_axis_text start a = joined (caption start ∷ shape (codes "ln") (all_lines start a) ∷ all_marks start a ∷ [])

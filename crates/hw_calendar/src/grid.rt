@@ -202,13 +202,7 @@ fn put_all_marks<W: Writer>(out: &mut W, start: &[u8], axis: Axis)
 fn put_caption<W: Writer>(out: &mut W, start: &[u8])
     ensures { Puts (caption start.now) (W.state out.old) (W.state out.new) }
 {
-    put_line(
-        out,
-        b"m",
-        16,
-        116,
-        &[Piece::Word(b"from "), Piece::Name(start)],
-    );
+    put_line(out, b"m", 16, 116, &[Piece::Name(start)]);
 }
 
 /// Puts the grid over this many slots of some minutes, the first of which begins at a start: that start, lines down the

@@ -33,7 +33,7 @@ module _ {P : Tags → List ℕ → Tags → Type 0} (w : Writing P) where
   of_dated : {a : Tags} (start : List ℕ) (minutes span bottom : ℕ) → P a (dated_grid start minutes span bottom) a
   of_dated start minutes span bottom =
       let x = dated_axis minutes span bottom in
-      three w (says w (codes "m") refl 16 116 (also (fixed (codes "from ") refl) (also (name start) no_words))) (w.shaped (letters (codes "ln") refl) (plain_lines start x _ _)) (of_marks start x _ _)
+      three w (says w (codes "m") refl 16 116 (name start)) (w.shaped (letters (codes "ln") refl) (plain_lines start x _ _)) (of_marks start x _ _)
 
   pub of_times : {a : Tags} (chart : ChartParts) (start : Option (List ℕ)) → P a (times_from chart start) a
   of_times chart None = of_grid w (Minutes (whole chart.port.slot_minutes)) chart.span (bottom chart)

@@ -39,11 +39,11 @@ module _ {P : Tags → List ℕ → Tags → Type 0} (w : Writing P) where
 
   of_sailing_entries : {a : Tags} → P a flat_sailing_entries a
   unfolding flat_sailing_entries
-  of_sailing_entries = four w (of_entry (codes "dr") refl 16 (fixed (codes "may sail: the higher, the more cargo") refl)) (of_entry (codes "fl") refl 234 (fixed (codes "with its most cargo") refl)) (of_entry (codes "pl") refl 362 (fixed (codes "could move there alone") refl)) (of_entry (codes "ou") refl 506 (fixed (codes "sails") refl))
+  of_sailing_entries = four w (of_entry (codes "dr") refl 16 (fixed (codes "may sail: the higher, the more cargo") refl)) (of_entry (codes "fl") refl 254 (fixed (codes "with its most cargo") refl)) (of_entry (codes "pl") refl 386 (fixed (codes "could move there alone") refl)) (of_entry (codes "ou") refl 544 (fixed (codes "sails") refl))
 
   of_other_entries : {a : Tags} → P a flat_other_entries a
   unfolding flat_other_entries
-  of_other_entries = three w (of_entry (codes "tu") refl 560 (fixed (codes "holds tugs") refl)) (of_entry (codes "be") refl 642 (fixed (codes "must wait for another") refl)) (of_entry (codes "fu") refl 778 (fixed (codes "whole fleet held") refl))
+  of_other_entries = three w (of_entry (codes "tu") refl 600 (fixed (codes "holds tugs") refl)) (of_entry (codes "be") refl 684 (fixed (codes "must wait for another") refl)) (of_entry (codes "fu") refl 830 (fixed (codes "whole fleet held") refl))
 
   pub of_legend : {a : Tags} → P a flat_legend a
   of_legend = w.onward of_sailing_entries of_other_entries

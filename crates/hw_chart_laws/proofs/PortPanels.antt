@@ -37,15 +37,15 @@ module _ {P : Tags → List ℕ → Tags → Type 0} (w : Writing P) where
 
   of_sailing_entries : {a : Tags} → P a sailing_entries a
   unfolding sailing_entries
-  of_sailing_entries = four w (of_entry (codes "wa") refl 16 (fixed (codes "tide") refl)) (of_entry (codes "dr") refl 70 (fixed (codes "may sail: the higher, the deeper") refl)) (of_entry (codes "fl") refl 258 (fixed (codes "with full draft") refl)) (of_entry (codes "pl") refl 358 (fixed (codes "could move there alone") refl))
+  of_sailing_entries = four w (of_entry (codes "wa") refl 16 (fixed (codes "tide") refl)) (of_entry (codes "dr") refl 70 (fixed (codes "may sail: the higher, the deeper") refl)) (of_entry (codes "fl") refl 274 (fixed (codes "with full draft") refl)) (of_entry (codes "pl") refl 374 (fixed (codes "could move there alone") refl))
 
   of_way_entries : {a : Tags} → P a way_entries a
   unfolding way_entries
-  of_way_entries = three w (of_entry (codes "ou") refl 502 (fixed (codes "sails out") refl)) (of_entry (codes "in") refl 578 (fixed (codes "comes in") refl)) (of_entry (codes "tu") refl 652 (fixed (codes "holds tugs") refl))
+  of_way_entries = three w (of_entry (codes "ou") refl 532 (fixed (codes "sails out") refl)) (of_entry (codes "in") refl 604 (fixed (codes "comes in") refl)) (of_entry (codes "tu") refl 680 (fixed (codes "holds tugs") refl))
 
   of_other_entries : {a : Tags} → P a other_entries a
   unfolding other_entries
-  of_other_entries = three w (of_entry (codes "ba") refl 734 (fixed (codes "tugs turn round") refl)) (of_entry (codes "be") refl 838 (fixed (codes "berth not yet clear") refl)) (of_entry (codes "fu") refl 962 (fixed (codes "whole fleet held") refl))
+  of_other_entries = three w (of_entry (codes "ba") refl 764 (fixed (codes "tugs turn round") refl)) (of_entry (codes "be") refl 876 (fixed (codes "berth not yet clear") refl)) (of_entry (codes "fu") refl 1006 (fixed (codes "whole fleet held") refl))
 
   of_legend : {a : Tags} → P a legend a
   of_legend = three w of_sailing_entries of_way_entries of_other_entries
@@ -63,7 +63,7 @@ module _ {P : Tags → List ℕ → Tags → Type 0} (w : Writing P) where
   of_legend_of p = w.onward of_legend (w.onward (if_so w (has_closings p) of_closed_sign) (if_so w (nat_lt 0 (length p.after)) of_stay_signs))
 
   of_columns : {a : Tags} (y : ℕ) → P a (columns y) a
-  of_columns y = five w (says w (codes "m r") refl 956 y (fixed (codes "sails") refl)) (says w (codes "m r") refl 1020 y (fixed (codes "draft m") refl)) (says w (codes "m r") refl 1094 y (fixed (codes "allowed m") refl)) (says w (codes "m r") refl 1176 y (fixed (codes "under keel m") refl)) (says w (codes "m r") refl 1268 y (fixed (codes "cargo t") refl))
+  of_columns y = five w (says w (codes "m r") refl 956 y (fixed (codes "sails") refl)) (says w (codes "m r") refl 1020 y (fixed (codes "draft m") refl)) (says w (codes "m r") refl 1108 y (fixed (codes "allowed m") refl)) (says w (codes "m r") refl 1186 y (fixed (codes "under keel m") refl)) (says w (codes "m r") refl 1268 y (fixed (codes "cargo t") refl))
 
   pub of_heads : {a : Tags} (table : Option (List ℕ)) (rows : ℕ) → P a (columns_where table rows) a
   of_heads table rows = if_so w (is_some table) (of_columns (rows - 8))

@@ -72,10 +72,10 @@ module _ {P : Tags → List ℕ → Tags → Type 0} (w : Writing P) where
   of_draft s g y = w.onward (says w (codes "r b") refl 1020 (y + 17) (of_metres g.draft)) (if_so w (is_outgoing s) (says w (codes "r m") refl 1020 (y + 33) (spelled_short (whole (full_of s)) g.draft)))
 
   of_allowed : {a : Tags} (chart : ChartParts) (g : Sailing) (y : ℕ) → P a (allowed_figures chart g y) a
-  of_allowed chart g y = w.onward (w.lettered 1094 (y + 17) (plain_tight g) (of_metres g.allowed)) (w.called 1094 (y + 33) (charted_waypoint_name chart g.by) 64 (letters (codes "r m") refl))
+  of_allowed chart g y = w.onward (w.lettered 1108 (y + 17) (plain_tight g) (of_metres g.allowed)) (w.called 1108 (y + 33) (charted_waypoint_name chart g.by) 80 (letters (codes "r m") refl))
 
   of_keel : {a : Tags} (g : Sailing) (y : ℕ) → P a (keel_figures g y) a
-  of_keel g y = w.onward (w.lettered 1176 (y + 17) (plain_tight g) (of_metres (keel_of_sailing g))) (says w (codes "r m") refl 1176 (y + 33) (also (fixed (codes "min ") refl) (also (of_metres g.clearance) nothing)))
+  of_keel g y = w.onward (w.lettered 1186 (y + 17) (plain_tight g) (of_metres (keel_of_sailing g))) (says w (codes "r m") refl 1186 (y + 33) (also (fixed (codes "min ") refl) (also (of_metres g.clearance) nothing)))
 
   of_cargo : {a : Tags} (s : ShipParts) (g : Sailing) (y : ℕ) → P a (cargo_figures s g y) a
   of_cargo s g y = if_so w (is_outgoing s) (w.onward (says w (codes "r b") refl 1268 (y + 17) (of_tenths g.cargo)) (says w (codes "r m") refl 1268 (y + 33) (also (fixed (codes "of ") refl) (also (of_tenths (deepest_cargo s)) nothing))))

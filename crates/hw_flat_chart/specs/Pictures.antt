@@ -33,10 +33,10 @@ abbrev pub entry : List ℕ → ℕ → List ℕ → List ℕ
 entry class x says = block class (record { left = x; right = x + 10; top = 77; bottom = 87 }) ++ line (codes "m") (x + 14) 86 says
 
 unfoldable pub flat_sailing_entries : List ℕ
-flat_sailing_entries = joined (entry (codes "dr") 16 (codes "may sail: the higher, the more cargo") ∷ entry (codes "fl") 234 (codes "with its most cargo") ∷ entry (codes "pl") 362 (codes "could move there alone") ∷ entry (codes "ou") 506 (codes "sails") ∷ [])
+flat_sailing_entries = joined (entry (codes "dr") 16 (codes "may sail: the higher, the more cargo") ∷ entry (codes "fl") 254 (codes "with its most cargo") ∷ entry (codes "pl") 386 (codes "could move there alone") ∷ entry (codes "ou") 544 (codes "sails") ∷ [])
 
 unfoldable pub flat_other_entries : List ℕ
-flat_other_entries = joined (entry (codes "tu") 560 (codes "holds tugs") ∷ entry (codes "be") 642 (codes "must wait for another") ∷ entry (codes "fu") 778 (codes "whole fleet held") ∷ [])
+flat_other_entries = joined (entry (codes "tu") 600 (codes "holds tugs") ∷ entry (codes "be") 684 (codes "must wait for another") ∷ entry (codes "fu") 830 (codes "whole fleet held") ∷ [])
 
 -- what the colours say
 abbrev pub flat_legend : List ℕ

@@ -32,17 +32,17 @@ fn put_sailing_entries<W: Writer>(out: &mut W)
             },
             Entry {
                 class: b"fl",
-                x: 234,
+                x: 254,
                 says: b"with its most cargo",
             },
             Entry {
                 class: b"pl",
-                x: 362,
+                x: 386,
                 says: b"could move there alone",
             },
             Entry {
                 class: b"ou",
-                x: 506,
+                x: 544,
                 says: b"sails",
             },
         ],
@@ -59,17 +59,17 @@ fn put_other_entries<W: Writer>(out: &mut W)
         &[
             Entry {
                 class: b"tu",
-                x: 560,
+                x: 600,
                 says: b"holds tugs",
             },
             Entry {
                 class: b"be",
-                x: 642,
+                x: 684,
                 says: b"must wait for another",
             },
             Entry {
                 class: b"fu",
-                x: 778,
+                x: 830,
                 says: b"whole fleet held",
             },
         ],

@@ -29,7 +29,7 @@ tight g = if nat_eq g.draft g.allowed then codes "r q" else codes "r"
 
 -- the allowed draft, and the waypoint that decides it
 abbrev pub allowed_figures : ChartParts → Sailing → ℕ → List ℕ
-allowed_figures chart g y = line (tight g) 1094 (y + 17) (metres g.allowed) ++ name_line (codes "r m") 1094 (y + 33) (charted_waypoint_name chart g.by) 64
+allowed_figures chart g y = line (tight g) 1108 (y + 17) (metres g.allowed) ++ name_line (codes "r m") 1108 (y + 33) (charted_waypoint_name chart g.by) 80
 
 -- the water under the keel where the draft is decided
 abbrev pub keel_of_sailing : Sailing → ℕ
@@ -37,7 +37,7 @@ keel_of_sailing g = g.allowed - g.draft + g.clearance
 
 -- the same, and how much there must be
 abbrev pub keel_figures : Sailing → ℕ → List ℕ
-keel_figures g y = line (tight g) 1176 (y + 17) (metres (keel_of_sailing g)) ++ line (codes "r m") 1176 (y + 33) (joined (codes "min " ∷ metres g.clearance ∷ []))
+keel_figures g y = line (tight g) 1186 (y + 17) (metres (keel_of_sailing g)) ++ line (codes "r m") 1186 (y + 33) (joined (codes "min " ∷ metres g.clearance ∷ []))
 
 -- what an outgoing ship carries at its deepest draft, in tenths of a tonne
 abbrev pub deepest_cargo : ShipParts → ℕ

@@ -26,13 +26,13 @@ abbrev pub sizes : Parts → List ℕ
 sizes p = sizes_text (length p.ships) (whole p.slots) (whole p.slot_minutes) (whole p.fleet)
 
 unfoldable pub sailing_entries : List ℕ
-sailing_entries = joined (entry (codes "wa") 16 (codes "tide") ∷ entry (codes "dr") 70 (codes "may sail: the higher, the deeper") ∷ entry (codes "fl") 258 (codes "with full draft") ∷ entry (codes "pl") 358 (codes "could move there alone") ∷ [])
+sailing_entries = joined (entry (codes "wa") 16 (codes "tide") ∷ entry (codes "dr") 70 (codes "may sail: the higher, the deeper") ∷ entry (codes "fl") 274 (codes "with full draft") ∷ entry (codes "pl") 374 (codes "could move there alone") ∷ [])
 
 unfoldable pub way_entries : List ℕ
-way_entries = joined (entry (codes "ou") 502 (codes "sails out") ∷ entry (codes "in") 578 (codes "comes in") ∷ entry (codes "tu") 652 (codes "holds tugs") ∷ [])
+way_entries = joined (entry (codes "ou") 532 (codes "sails out") ∷ entry (codes "in") 604 (codes "comes in") ∷ entry (codes "tu") 680 (codes "holds tugs") ∷ [])
 
 unfoldable pub other_entries : List ℕ
-other_entries = joined (entry (codes "ba") 734 (codes "tugs turn round") ∷ entry (codes "be") 838 (codes "berth not yet clear") ∷ entry (codes "fu") 962 (codes "whole fleet held") ∷ [])
+other_entries = joined (entry (codes "ba") 764 (codes "tugs turn round") ∷ entry (codes "be") 876 (codes "berth not yet clear") ∷ entry (codes "fu") 1006 (codes "whole fleet held") ∷ [])
 
 -- what the colours say
 abbrev pub legend : List ℕ
@@ -40,7 +40,7 @@ legend = joined (sailing_entries ∷ way_entries ∷ other_entries ∷ [])
 
 -- the heads of the columns right of the rows
 abbrev pub columns : ℕ → List ℕ
-columns y = joined (line (codes "m r") 956 y (codes "sails") ∷ line (codes "m r") 1020 y (codes "draft m") ∷ line (codes "m r") 1094 y (codes "allowed m") ∷ line (codes "m r") 1176 y (codes "under keel m") ∷ line (codes "m r") 1268 y (codes "cargo t") ∷ [])
+columns y = joined (line (codes "m r") 956 y (codes "sails") ∷ line (codes "m r") 1020 y (codes "draft m") ∷ line (codes "m r") 1108 y (codes "allowed m") ∷ line (codes "m r") 1186 y (codes "under keel m") ∷ line (codes "m r") 1268 y (codes "cargo t") ∷ [])
 
 -- they stand only where there is a timetable
 abbrev pub columns_where : Option (List ℕ) → ℕ → List ℕ

@@ -84,8 +84,8 @@ fn put_allowed<W: Writer>(out: &mut W, chart: &Chart, sailing: Sailing, y: u32)
 {
     let y = u64::from(y);
     let allowed = Piece::Metres(sailing.allowed);
-    put_line(out, tight(sailing), 1094, y + 17, &[allowed]);
-    put_name_line(out, b"r m", 1094, y + 33, chart.waypoint(sailing.by), 64);
+    put_line(out, tight(sailing), 1108, y + 17, &[allowed]);
+    put_name_line(out, b"r m", 1108, y + 33, chart.waypoint(sailing.by), 80);
 }
 
 /// The water under the keel where the draft is decided.
@@ -105,14 +105,14 @@ fn put_keel<W: Writer>(out: &mut W, sailing: Sailing, y: u32)
     put_line(
         out,
         tight(sailing),
-        1176,
+        1186,
         y + 17,
         &[Piece::Metres(keel(sailing))],
     );
     put_line(
         out,
         b"r m",
-        1176,
+        1186,
         y + 33,
         &[
             Piece::Word(b"min "),

@@ -36,12 +36,12 @@ fn put_sailing_entries<W: Writer>(out: &mut W)
             },
             Entry {
                 class: b"fl",
-                x: 258,
+                x: 274,
                 says: b"with full draft",
             },
             Entry {
                 class: b"pl",
-                x: 358,
+                x: 374,
                 says: b"could move there alone",
             },
         ],
@@ -58,17 +58,17 @@ fn put_way_entries<W: Writer>(out: &mut W)
         &[
             Entry {
                 class: b"ou",
-                x: 502,
+                x: 532,
                 says: b"sails out",
             },
             Entry {
                 class: b"in",
-                x: 578,
+                x: 604,
                 says: b"comes in",
             },
             Entry {
                 class: b"tu",
-                x: 652,
+                x: 680,
                 says: b"holds tugs",
             },
         ],
@@ -85,17 +85,17 @@ fn put_other_entries<W: Writer>(out: &mut W)
         &[
             Entry {
                 class: b"ba",
-                x: 734,
+                x: 764,
                 says: b"tugs turn round",
             },
             Entry {
                 class: b"be",
-                x: 838,
+                x: 876,
                 says: b"berth not yet clear",
             },
             Entry {
                 class: b"fu",
-                x: 962,
+                x: 1006,
                 says: b"whole fleet held",
             },
         ],
@@ -160,8 +160,8 @@ fn put_columns<W: Writer>(out: &mut W, y: u64)
 {
     put_line(out, b"m r", 956, y, &[Piece::Word(b"sails")]);
     put_line(out, b"m r", 1020, y, &[Piece::Word(b"draft m")]);
-    put_line(out, b"m r", 1094, y, &[Piece::Word(b"allowed m")]);
-    put_line(out, b"m r", 1176, y, &[Piece::Word(b"under keel m")]);
+    put_line(out, b"m r", 1108, y, &[Piece::Word(b"allowed m")]);
+    put_line(out, b"m r", 1186, y, &[Piece::Word(b"under keel m")]);
     put_line(out, b"m r", 1268, y, &[Piece::Word(b"cargo t")]);
 }
 

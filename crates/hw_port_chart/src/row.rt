@@ -35,7 +35,7 @@ use hw_svg::{
 };
 
 /// The place of a ship's row among all rows.
-#[tactic(auto, using(crate::proofs::Ranks::rank_small))]
+#[tactic(auto, using(hw_chart::proofs::Ranks::rank_small))]
 fn rank_of(chart: &Chart, number: ShipId) -> u32
     requires { number < length chart.now.port.ships }
     ensures value { result ≡ rank_in chart.now.table number }

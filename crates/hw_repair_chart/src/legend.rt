@@ -13,7 +13,7 @@ fn put_striped_entry<W: Writer>(out: &mut W)
     ensures { Puts striped_entry (W.state out.old) (W.state out.new) }
 {
     let patch = Window {
-        x: 758,
+        x: 772,
         y: 93,
         width: 10,
         height: 10,
@@ -30,7 +30,7 @@ fn put_striped_entry<W: Writer>(out: &mut W)
     put_block(out, b"ht", stripes);
     put_svg_end(out);
     let says = Piece::Word(b"before the earliest slot that the plan leaves");
-    put_line(out, b"m", 772, 102, &[says]);
+    put_line(out, b"m", 786, 102, &[says]);
 }
 
 /// Puts what the marks say, in the legend's second line.
@@ -44,7 +44,7 @@ pub fn put_marks_legend<W: Writer>(out: &mut W)
     };
     let sailed = Entry {
         class: b"sd",
-        x: 674,
+        x: 690,
         says: b"has sailed",
     };
     put_entry_below(out, planned);

@@ -26,7 +26,7 @@ pub struct Sheet {
 }
 
 /// The place of a ship's row among all rows.
-#[tactic(auto, using(crate::proofs::Ranks::rank_small))]
+#[tactic(auto, using(hw_chart::proofs::Ranks::rank_small))]
 fn rank_of(table: Option<&Timetable>, ship: ShipId) -> u32
     requires listed { IfSome table (λ t. ship < length t.now) }
     requires ship_in { ship < MOST_SHIPS }

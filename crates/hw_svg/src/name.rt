@@ -31,19 +31,21 @@ pub fn put_name<W: Writer>(out: &mut W, name: &[u8])
     }
 }
 
-/// An estimate of how wide a byte is in the type of a name, hardly ever too small.
+/// The most that a byte is wide in the type of a name.
 #[tactic(auto, unfolding(crate::specs::Widths::advance))]
 fn advance(byte: u8) -> u64
     ensures { result ≡ advance byte }
 {
-    if b" !'()*,-./:;I[\\]`fijlrt{|}".contains(&byte) {
-        4
-    } else if b"%@MWmw".contains(&byte) {
-        12
-    } else if b"ABCDEFGHJKLNOPQRSTUVXYZ&+<=>~".contains(&byte) {
-        9
-    } else {
+    if b" ',-./:;IJ\\ijl|".contains(&byte) {
+        5
+    } else if b"!\"()*?[]_`frtz".contains(&byte) {
         7
+    } else if b"%@MWmw".contains(&byte) {
+        14
+    } else if b"#&+<=>ABDGHKNOQRUVX^~".contains(&byte) {
+        11
+    } else {
+        9
     }
 }
 
