@@ -1,35 +1,30 @@
 -- Why there is no day: from the stops of its inputs, and of its events.
-use Rattle.std.proofs.Common.{◌≡◌, ℕ, List, [], ◌∷◌, Option, Some, None, Err, refl}
+use Rattle.std.proofs.Common.{ℕ, List, [], ◌∷◌, Option, None, Ok, Err, refl, ap}
 use Rattle.hw_desk.specs.State.{DeskState}
 use Rattle.hw_desk.specs.declared.desk.Feed.{Feed}
 use Rattle.hw_desk.specs.declared.desk.Feed.TheVariants.{Instance, Tides, Plan, Events}
 use Rattle.hw_desk.specs.declared.whole.ReadStop.TheVariants.{NoMemory}
 use Rattle.hw_port.specs.Whole.{Parts}
 use Rattle.hw_tide.specs.Levels.{TideParts}
-use Rattle.hw_port_rules.specs.Flattened.{flattened}
-use Rattle.hw_port_rules.specs.Numbers.{whole}
-use Rattle.hw_report.specs.Reports.{Report, bad_text, no_memory}
-use Rattle.hw_audit.specs.Audits.{audited}
-use Rattle.hw_audit.specs.Watching.{watched, first_refused}
-use Rattle.hw_audit.specs.Words.{audit_word_text}
+use Rattle.hw_report.specs.Reports.{Report, no_memory}
+use Rattle.hw_audit.specs.Audits.{Audited, audited}
 use Rattle.hw_audit.specs.declared.event.PortEvent.{PortEvent}
-use Rattle.hw_audit.specs.declared.fault.AuditWord.{AuditWord}
 use Rattle.hw_command.specs.PortInputs.{StopsAtPort}
 use Rattle.hw_command.specs.Scope.{named_feed}
 use Rattle.hw_command.specs.Values.{PortGives}
 use Rattle.hw_command.specs.Works.{StopsReading}
-use Rattle.hw_command.proofs.Begun.{refuses, wants_memory}
+use Rattle.hw_command.proofs.Begun.{wants_memory}
 use Rattle.hw_command.proofs.PortForms.{by_fault}
 use Rattle.hw_command.proofs.Stops.{further}
 use Rattle.hw_audit_command.specs.Days.{ReadsDay, StopsAtDay, day_inputs}
 use Rattle.hw_audit_command.specs.Reading.{report_of_text}
 use Rattle.hw_audit_command.specs.Refusals.{by_event, NoDay}
 use Rattle.hw_audit_command.specs.Trying.{TriesEvents}
-use Rattle.hw_audit_command.specs.Values.{AuditGives}
+use Rattle.hw_audit_command.specs.Values.{AreEventsOf, AuditGives}
 use Rattle.hw_audit_command.specs.declared.day.Day.{Day}
 use Rattle.hw_audit_command.specs.declared.reading.TextStop.{TextStop}
 use Rattle.hw_audit_command.specs.declared.reading.TextStop.TheVariants.{Input, Line}
-use Rattle.hw_audit_command.proofs.Inputs.{AllRead}
+use Rattle.hw_audit_command.proofs.Inputs.{EventsRead, bad_event}
 
 -- ---- no port, no timetable
 
@@ -55,48 +50,35 @@ table_stops instance tides plan events h = record {
 
 -- ---- an event is refused, or memory ran out
 
-event_stops : {instance tides plan events : List ℕ} {x y : DeskState} {p : Parts} {h : TideParts} {table : List ℕ} {happened : List PortEvent} (number : ℕ) (word : AuditWord) → AllRead instance tides plan events x y p h table happened
-    → first_refused (flattened p h) (whole p.fleet) 2 (watched table) happened ≡ Some (number, word) → StopsAtDay instance tides plan events x y (bad_text Events number (audit_word_text word))
-event_stops {instance = instance} {tides = tides} {plan = plan} {events = events} {p = p} {h = h} {table = table} {happened = happened} number word read refusal = record {
-  works = refuses None (named_feed Instance instance ∷ named_feed Tides tides ∷ named_feed Plan plan ∷ []) (named_feed Events events) [] (bad_text Events number (audit_word_text word)) refl refl read.entered read.give read.read_faults;
-  early = λ e. absurd (cc);
-  why = λ own. record {
-    port = p;
-    tide = h;
-    gives = read.port;
-    table = table;
-    planned = read.planned;
-    cause = word;
-    named = refl;
-    fail = by_event happened read.told refusal;
-  };
-}
-
-memory_stops : {instance tides plan events : List ℕ} {x y : DeskState} {p : Parts} {h : TideParts} {table : List ℕ} {happened : List PortEvent} → AllRead instance tides plan events x y p h table happened → StopsAtDay instance tides plan events x y no_memory
+memory_stops : {instance tides plan events : List ℕ} {x y : DeskState} {p : Parts} {h : TideParts} {table : List ℕ} → EventsRead instance tides plan events x y p h table → StopsAtDay instance tides plan events x y no_memory
 memory_stops {instance = instance} {tides = tides} {plan = plan} {events = events} read = record {
   works = wants_memory None (day_inputs instance tides plan events) [] refl read.entered read.give read.read_faults;
   early = λ e. absurd (cc);
   why = λ own. absurd (cc);
 }
 
-pub trial_stops : {instance tides plan events : List ℕ} {x y : DeskState} {p : Parts} {h : TideParts} {table : List ℕ} {happened : List PortEvent} (stop : TextStop) → AllRead instance tides plan events x y p h table happened → TriesEvents (audited p h table) happened (Err stop) → StopsAtDay instance tides plan events x y (report_of_text Events stop)
-trial_stops (Line number word) read tries = event_stops number word read tries
-trial_stops (Input NoMemory) read tries = memory_stops read
-trial_stops (Input _) read tries = absurd tries
+pub trial_stops : {instance tides plan events : List ℕ} {x y : DeskState} {p : Parts} {h : TideParts} {table : List ℕ} (happened : List PortEvent) (stop : TextStop) → EventsRead instance tides plan events x y p h table → AreEventsOf (x.held events) happened → TriesEvents (audited p h table) happened (Err stop)
+    → StopsAtDay instance tides plan events x y (report_of_text Events stop)
+trial_stops happened (Line number word) read told tries = bad_event number word read (by_event happened told tries)
+trial_stops happened (Input NoMemory) read told tries = memory_stops read
+trial_stops happened (Input _) read told tries = absurd tries
 
 -- ---- all was read
 
-pub day_read : {instance tides plan events : List ℕ} {x y : DeskState} {p : Parts} {h : TideParts} (day : Day) → AllRead instance tides plan events x y p h day.table day.happened → day.audit ≡ audited p h day.table
-    → first_refused (flattened p h) (whole p.fleet) 2 (watched day.table) day.happened ≡ None → ReadsDay instance tides plan events x y day
-day_read {p = p} {h = h} day read audit taken = record {
+pub day_read : {instance tides plan events : List ℕ} {x y : DeskState} {p : Parts} {h : TideParts} (day : Day) → EventsRead instance tides plan events x y p h day.table → AreEventsOf (x.held events) day.happened → TriesEvents (audited p h day.table) day.happened (Ok day.audit) → ReadsDay instance tides plan events x y day
+day_read {p = p} {h = h} day read told tries = record {
   entered = read.entered;
   give = read.give;
   read_faults = read.read_faults;
-  port = p;
-  tide = h;
-  reads = read.port;
-  planned = read.planned;
-  told = read.told;
-  taken = taken;
-  audit = audit;
+  gives = record {
+    port = p;
+    tide = h;
+    reads = read.port;
+    table = day.table;
+    planned = read.planned;
+    happened = day.happened;
+    told = told;
+    taken = tries.1;
+  };
+  is = ap (λ (audit : Audited). record { table = day.table; happened = day.happened; audit = audit }) tries.0;
 }

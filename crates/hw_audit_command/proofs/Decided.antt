@@ -1,36 +1,31 @@
--- The reports of an audit, and of `carry`, are functions of their files' bytes.
-use Rattle.std.proofs.Common.{◌≡◌, ◌≤◌, ◌<◌, ◌⊎◌, ◌∙◌, ℕ, List, [], ◌∷◌, length, Option, Some, None, Result, Ok, Err, inl, inr, refl, sym, ap, subst, arith}
+-- The reports of a command over a day are a function of its files' bytes.
+use Rattle.std.proofs.Common.{◌≡◌, ◌≤◌, ◌∙◌, ℕ, List, [], ◌∷◌, length, Option, Some, None, Result, Ok, Err, inl, inr, refl, sym, ap, subst}
 use Rattle.std.specs.Prelude.{◌≢◌}
 use Rattle.hw_model.specs.Problem.{Problem, shape_of}
 use Rattle.hw_desk.specs.declared.desk.Feed.TheVariants.{Instance, Tides, Plan, Events}
-use Rattle.hw_port.specs.declared.fault.PortFault.{PortFault}
 use Rattle.hw_port.specs.Whole.{Parts}
-use Rattle.hw_read.specs.Instance.{instance_of, PortReads as ReadsPort}
+use Rattle.hw_read.specs.Instance.{PortReads as ReadsPort}
 use Rattle.hw_read.specs.declared.fault.ReadFault.{ReadFault}
 use Rattle.hw_read.specs.declared.fault.ReadFault.TheVariants as read
 use Rattle.hw_tide.specs.Levels.{TideParts}
-use Rattle.hw_tide.specs.Whole.{HasRecords, TideReads as ReadsHeights, tide_by_header, waypoint_names}
+use Rattle.hw_tide.specs.Whole.{TideReads as ReadsHeights, tide_by_header, waypoint_names}
 use Rattle.hw_tide.specs.declared.fault.TideFault.{TideFault}
 use Rattle.hw_tide.specs.declared.fault.TideFault.TheVariants as tide
-use Rattle.hw_tide.proofs.OneList.{one_list_law}
 use Rattle.hw_port_rules.specs.Flattened.{flattened}
 use Rattle.hw_port_rules.specs.Numbers.{whole}
-use Rattle.hw_report.specs.Reports.{Report, too_long, bad_json, bad_field, bad_tides, bad_text, whole_text}
+use Rattle.hw_report.specs.Reports.{Report, too_long, bad_json, bad_field, bad_tides, bad_text}
 use Rattle.hw_derived.specs.Reading.{MalformedLine}
 use Rattle.hw_audit.specs.Text.{timetable_of_text, events_text}
-use Rattle.hw_audit.specs.Watching.{Watched, watched, after_all, first_refused}
+use Rattle.hw_audit.specs.Watching.{Watched, watched, first_refused}
 use Rattle.hw_audit.specs.Words.{audit_word_text}
 use Rattle.hw_audit.specs.declared.event.PortEvent.{PortEvent}
 use Rattle.hw_audit.specs.declared.fault.AuditWord.{AuditWord}
-use Rattle.hw_repair.specs.Written.{written_plan}
-use Rattle.hw_carry.specs.Carried.{carried_plan}
 use Rattle.hw_command.specs.PortInputs.{NoPort, IsBadTable}
 use Rattle.hw_command.specs.Values.{most_bytes, IsLong, IsPortOf, GivesPort}
 use Rattle.hw_command.proofs.OneReading.{Limited, one_instance, one_limited, one_table}
-use Rattle.hw_audit_command.specs.AuditPort.{audit_reports, Audits, AuditsTexts}
-use Rattle.hw_audit_command.specs.CarryPort.{CarriesDay, CarryTells}
+use Rattle.hw_audit_command.specs.Days.{DayReports, DayAnswer, AnswersDay, TellsNoDay, DaySays}
 use Rattle.hw_audit_command.specs.Refusals.{EventsFail, by_form, by_event, NoDay}
-use Rattle.hw_audit_command.specs.Laws.{OneAudit, OneCarry}
+use Rattle.hw_audit_command.specs.Laws.{OneAnswer}
 use Rattle.hw_audit_command.specs.Values.{IsPlannedTimetable}
 
 -- ---- one list of reports
@@ -41,37 +36,33 @@ One Says = (rs others : List Report) → Says rs → Says others → rs ≡ othe
 
 -- ---- the events, and before them the plan
 
--- what is printed of a day
-abbrev Printed : Type 0
-Printed = Problem → Watched → List PortEvent → List Report
-
-abbrev of_trial : Printed → Problem → Watched → List PortEvent → Option (ℕ × AuditWord) → List Report
+abbrev of_trial : DayReports → Problem → Watched → List PortEvent → Option (ℕ × AuditWord) → List Report
 of_trial all f s happened None = all f s happened
 of_trial all f s happened (Some refusal) = bad_text Events refusal.0 (audit_word_text refusal.1) ∷ []
 
-abbrev of_events : Printed → Problem → ℕ → Watched → Result (List PortEvent) (MalformedLine AuditWord) → List Report
+abbrev of_events : DayReports → Problem → ℕ → Watched → Result (List PortEvent) (MalformedLine AuditWord) → List Report
 of_events all f fleet s (Ok happened) = of_trial all f s happened (first_refused f fleet 2 s happened)
 of_events all f fleet s (Err bad) = bad_text Events bad.number (audit_word_text bad.word) ∷ []
 
-abbrev EventsSay : Printed → Parts → TideParts → List ℕ → List ℕ → List Report → Type 0
+abbrev EventsSay : DayReports → Parts → TideParts → List ℕ → List ℕ → List Report → Type 0
 EventsSay all p h events table rs = Limited events (too_long Events ∷ []) (λ rs. rs ≡ of_events all (flattened p h) (whole p.fleet) (watched table) (events_text events)) rs
 
-abbrev PlanSays : Printed → Parts → TideParts → List ℕ → Result (List ℕ) (MalformedLine AuditWord) → List Report → Type 0
+abbrev PlanSays : DayReports → Parts → TideParts → List ℕ → Result (List ℕ) (MalformedLine AuditWord) → List Report → Type 0
 PlanSays all p h events (Ok table) rs = EventsSay all p h events table rs
 PlanSays all p h events (Err bad) rs = rs ≡ bad_text Plan bad.number (audit_word_text bad.word) ∷ []
 
-abbrev LastSays : Printed → List ℕ → List ℕ → Parts → TideParts → List Report → Type 0
+abbrev LastSays : DayReports → List ℕ → List ℕ → Parts → TideParts → List Report → Type 0
 LastSays all plan events p h rs = Limited plan (too_long Plan ∷ []) (PlanSays all p h events (timetable_of_text (shape_of (flattened p h)) plan)) rs
 
 one_equal : (these : List Report) → One (λ rs. rs ≡ these)
 one_equal these rs others h g = h ∙ sym g
 
-one_plan : (all : Printed) (p : Parts) (h : TideParts) (events : List ℕ) (what : Result (List ℕ) (MalformedLine AuditWord)) → One (PlanSays all p h events what)
+one_plan : (all : DayReports) (p : Parts) (h : TideParts) (events : List ℕ) (what : Result (List ℕ) (MalformedLine AuditWord)) → One (PlanSays all p h events what)
 one_plan all p h events (Ok table) rs others says says_too =
     one_limited events (too_long Events ∷ []) (λ rs. rs ≡ of_events all (flattened p h) (whole p.fleet) (watched table) (events_text events)) (one_equal (of_events all (flattened p h) (whole p.fleet) (watched table) (events_text events))) rs others says says_too
 one_plan all p h events (Err bad) rs others says says_too = says ∙ sym says_too
 
-one_last : (all : Printed) (plan events : List ℕ) (p : Parts) (h : TideParts) → One (LastSays all plan events p h)
+one_last : (all : DayReports) (plan events : List ℕ) (p : Parts) (h : TideParts) → One (LastSays all plan events p h)
 one_last all plan events p h rs others says says_too =
     one_limited plan (too_long Plan ∷ []) (PlanSays all p h events (timetable_of_text (shape_of (flattened p h)) plan)) (one_plan all p h events (timetable_of_text (shape_of (flattened p h)) plan)) rs others says says_too
 
@@ -127,7 +118,7 @@ one_of_instance instance table Last one rs others a b =
 one_of_files : (instance table : List ℕ) (Last : Parts → TideParts → List Report → Type 0) → ((p : Parts) (h : TideParts) → One (Last p h)) → One (OfFiles instance table Last)
 one_of_files instance table Last one rs others a b = one_limited instance (too_long Instance ∷ []) (OfInstance instance table Last) (one_of_instance instance table Last one) rs others a b
 
--- ---- what an audit says is said of its files
+-- ---- what is said of a day is said of its files
 
 of_port : {instance table : List ℕ} {p : Parts} {h : TideParts} (Last : Parts → TideParts → List Report → Type 0) (rs : List Report) → IsPortOf (Some instance) (Some table) p h → Last p h rs → OfFiles instance table Last rs
 of_port {p = p} {h = h} Last rs port says = inr (
@@ -167,20 +158,20 @@ no_port_files instance table Last (too_long Tides) says = of_long_table Last say
 no_port_files instance table Last r says = absurd says
 
 -- a plan that is read as this
-by_plan : (all : Printed) (plan : List ℕ) (p : Parts) (h : TideParts) (events : List ℕ) (what : Result (List ℕ) (MalformedLine AuditWord)) (rs : List Report) → length plan ≤ most_bytes → timetable_of_text (shape_of (flattened p h)) plan ≡ what → PlanSays all p h events what rs → LastSays all plan events p h rs
+by_plan : (all : DayReports) (plan : List ℕ) (p : Parts) (h : TideParts) (events : List ℕ) (what : Result (List ℕ) (MalformedLine AuditWord)) (rs : List Report) → length plan ≤ most_bytes → timetable_of_text (shape_of (flattened p h)) plan ≡ what → PlanSays all p h events what rs → LastSays all plan events p h rs
 by_plan all plan p h events what rs short reads says = inr (short, subst (λ (read_as : Result (List ℕ) (MalformedLine AuditWord)). PlanSays all p h events read_as rs) (sym reads) says)
 
 -- a timetable, and events that are read as this
-by_events : (all : Printed) (plan events : List ℕ) (p : Parts) (h : TideParts) (table : List ℕ) (what : Result (List PortEvent) (MalformedLine AuditWord)) (rs : List Report) → IsPlannedTimetable (Some plan) p h table → length events ≤ most_bytes → events_text events ≡ what → rs ≡ of_events all (flattened p h) (whole p.fleet) (watched table) what → LastSays all plan events p h rs
+by_events : (all : DayReports) (plan events : List ℕ) (p : Parts) (h : TideParts) (table : List ℕ) (what : Result (List PortEvent) (MalformedLine AuditWord)) (rs : List Report) → IsPlannedTimetable (Some plan) p h table → length events ≤ most_bytes → events_text events ≡ what → rs ≡ of_events all (flattened p h) (whole p.fleet) (watched table) what → LastSays all plan events p h rs
 by_events all plan events p h table what rs planned short reads says =
     by_plan all plan p h events (Ok table) rs planned.reads.0 planned.reads.1 (inr (short, subst (λ (read_as : Result (List PortEvent) (MalformedLine AuditWord)). rs ≡ of_events all (flattened p h) (whole p.fleet) (watched table) read_as) (sym reads) says))
 
-by_failure : (all : Printed) (plan events : List ℕ) (p : Parts) (h : TideParts) (table : List ℕ) (number : ℕ) (cause : AuditWord) → IsPlannedTimetable (Some plan) p h table → EventsFail (flattened p h) (whole p.fleet) (watched table) (Some events) number cause → LastSays all plan events p h (bad_text Events number (audit_word_text cause) ∷ [])
+by_failure : (all : DayReports) (plan events : List ℕ) (p : Parts) (h : TideParts) (table : List ℕ) (number : ℕ) (cause : AuditWord) → IsPlannedTimetable (Some plan) p h table → EventsFail (flattened p h) (whole p.fleet) (watched table) (Some events) number cause → LastSays all plan events p h (bad_text Events number (audit_word_text cause) ∷ [])
 by_failure all plan events p h table number cause planned (by_form form) = by_events all plan events p h table (Err (record { number = number; word = cause })) (bad_text Events number (audit_word_text cause) ∷ []) planned form.0 form.1 refl
 by_failure all plan events p h table number cause planned (by_event happened told refusal) =
     by_events all plan events p h table (Ok happened) (bad_text Events number (audit_word_text cause) ∷ []) planned told.0 told.1 (sym (ap (of_trial all (flattened p h) (watched table) happened) refusal))
 
-lone_files : (all : Printed) (instance tides plan events : List ℕ) (r : Report) → NoDay (Some instance) (Some tides) (Some plan) (Some events) r → OfFiles instance tides (LastSays all plan events) (r ∷ [])
+lone_files : (all : DayReports) (instance tides plan events : List ℕ) (r : Report) → NoDay (Some instance) (Some tides) (Some plan) (Some events) r → OfFiles instance tides (LastSays all plan events) (r ∷ [])
 lone_files all instance tides plan events (bad_text Plan number word) says =
     of_port (LastSays all plan events) (bad_text Plan number word ∷ []) says.gives (by_plan all plan says.port says.tide events (Err (record { number = number; word = says.cause })) (bad_text Plan number word ∷ []) says.reads.0 says.reads.1 (ap (λ (w : List ℕ). bad_text Plan number w ∷ []) says.named))
 lone_files all instance tides plan events (bad_text Events number word) says =
@@ -190,38 +181,21 @@ lone_files all instance tides plan events (too_long Events) says =
     of_port (LastSays all plan events) (too_long Events ∷ []) says.0.reads (by_plan all plan says.0.port says.0.tide events (Ok says.0.table) (too_long Events ∷ []) says.0.planned.reads.0 says.0.planned.reads.1 (inl (says.1, refl)))
 lone_files all instance tides plan events r says = no_port_files instance tides (LastSays all plan events) r says
 
-abbrev audit_prints : Printed
-audit_prints f s happened = audit_reports f s happened
+untold_files : (all : DayReports) (instance tides plan events : List ℕ) (rs : List Report) → TellsNoDay (Some instance) (Some tides) (Some plan) (Some events) rs → OfFiles instance tides (LastSays all plan events) rs
+untold_files all instance tides plan events [] says = absurd says
+untold_files all instance tides plan events (r ∷ []) says = lone_files all instance tides plan events r says
+untold_files all instance tides plan events (r ∷ next ∷ more) says = absurd says
 
-all_files : (instance tides plan events : List ℕ) (rs : List Report) → Audits (Some instance) (Some tides) (Some plan) (Some events) rs → OfFiles instance tides (LastSays audit_prints plan events) rs
-all_files instance tides plan events rs h =
-    of_port (LastSays audit_prints plan events) rs h.reads (by_events audit_prints plan events h.port h.tide h.table (Ok h.happened) rs h.planned h.told.0 h.told.1 (h.printed ∙ sym (ap (of_trial audit_prints (flattened h.port h.tide) (watched h.table) h.happened) h.taken)))
+day_files : (answer : DayAnswer) (instance tides plan events : List ℕ) (rs : List Report) → AnswersDay answer (Some instance) (Some tides) (Some plan) (Some events) rs → OfFiles instance tides (LastSays answer.reports plan events) rs
+day_files answer instance tides plan events rs h =
+    let all = answer.reports in
+    let d = h.day in
+    of_port (LastSays all plan events) rs d.reads (by_events all plan events d.port d.tide d.table (Ok d.happened) rs d.planned d.told.0 d.told.1 (h.printed ∙ sym (ap (of_trial all (flattened d.port d.tide) (watched d.table) d.happened) d.taken)))
 
-files : (instance tides plan events : List ℕ) (rs : List Report) → AuditsTexts (Some instance) (Some tides) (Some plan) (Some events) rs → OfFiles instance tides (LastSays audit_prints plan events) rs
-files instance tides plan events [] says = absurd says
-files instance tides plan events (r ∷ []) says = lone_files audit_prints instance tides plan events r says
-files instance tides plan events (r ∷ next ∷ more) says = all_files instance tides plan events (r ∷ next ∷ more) says
+files : (answer : DayAnswer) (instance tides plan events : List ℕ) (rs : List Report) → DaySays answer (Some instance) (Some tides) (Some plan) (Some events) rs → OfFiles instance tides (LastSays answer.reports plan events) rs
+files answer instance tides plan events rs (inl none) = untold_files answer.reports instance tides plan events rs none
+files answer instance tides plan events rs (inr day) = day_files answer instance tides plan events rs day
 
-pub one_audit : OneAudit
-one_audit instance tides plan events reports others says says_too = one_of_files instance tides (LastSays audit_prints plan events) (one_last audit_prints plan events) reports others (files instance tides plan events reports says) (files instance tides plan events others says_too)
-
--- ---- what `carry` says is said of its files
-
-abbrev carry_prints : Printed
-carry_prints f s happened = whole_text (written_plan (carried_plan s.table (after_all s happened))) ∷ []
-
-day_files : (instance tides plan events text : List ℕ) → CarriesDay (Some instance) (Some tides) (Some plan) (Some events) text → OfFiles instance tides (LastSays carry_prints plan events) (whole_text text ∷ [])
-day_files instance tides plan events text h =
-    of_port (LastSays carry_prints plan events) (whole_text text ∷ []) h.reads (by_events carry_prints plan events h.port h.tide h.table (Ok h.happened) (whole_text text ∷ []) h.planned h.told.0 h.told.1
-    (ap (λ (xs : List ℕ). whole_text xs ∷ []) h.is_text ∙ sym (ap (of_trial carry_prints (flattened h.port h.tide) (watched h.table) h.happened) h.taken)))
-
-told_files : (instance tides plan events : List ℕ) (r : Report) → CarryTells (Some instance) (Some tides) (Some plan) (Some events) r → OfFiles instance tides (LastSays carry_prints plan events) (r ∷ [])
-told_files instance tides plan events (whole_text text) says = day_files instance tides plan events text says
-told_files instance tides plan events r says = lone_files carry_prints instance tides plan events r says
-
-same_lone : (r t : Report) → r ∷ [] ≡ t ∷ [] → r ≡ t
-same_lone r t e = cc
-
-pub one_carry : OneCarry
-one_carry instance tides plan events r t says says_too =
-    same_lone r t (one_of_files instance tides (LastSays carry_prints plan events) (one_last carry_prints plan events) (r ∷ []) (t ∷ []) (told_files instance tides plan events r says) (told_files instance tides plan events t says_too))
+pub one_answer : (answer : DayAnswer) → OneAnswer answer
+one_answer answer instance tides plan events reports others says says_too =
+    one_of_files instance tides (LastSays answer.reports plan events) (one_last answer.reports plan events) reports others (files answer instance tides plan events reports says) (files answer instance tides plan events others says_too)

@@ -7,12 +7,15 @@ use Rattle.hw_desk.specs.declared.desk.Feed.TheVariants.{Instance, Tides, Plan, 
 use Rattle.hw_port.specs.Whole.{Parts}
 use Rattle.hw_tide.specs.Levels.{TideParts}
 use Rattle.hw_port_rules.specs.Flattened.{flattened}
+use Rattle.hw_port_rules.specs.Numbers.{whole}
 use Rattle.hw_port_rules.specs.Timetables.{IsPortTimetable}
 use Rattle.hw_report.specs.Reports.{bad_text}
 use Rattle.hw_derived.specs.Reading.{malformed_line}
 use Rattle.hw_audit.specs.Text.{timetable_of_text, events_text}
+use Rattle.hw_audit.specs.Watching.{watched}
 use Rattle.hw_audit.specs.Words.{audit_word_text}
 use Rattle.hw_audit.specs.declared.event.PortEvent.{PortEvent}
+use Rattle.hw_audit.specs.declared.fault.AuditWord.{AuditWord}
 use Rattle.hw_audit.proofs.Begun.{to_port}
 use Rattle.hw_command.specs.Inputs.{StopsFor}
 use Rattle.hw_command.specs.PortInputs.{ReadsPortProblem}
@@ -21,7 +24,8 @@ use Rattle.hw_command.specs.Values.{IsPortOf}
 use Rattle.hw_command.specs.Works.{StopsReading}
 use Rattle.hw_command.proofs.Begun.{entered_on, input_stops, refuses}
 use Rattle.hw_command.proofs.PortForms.{port_given, gives_tide}
-use Rattle.hw_audit_command.specs.Refusals.{by_form, NoDay}
+use Rattle.hw_audit_command.specs.Days.{StopsAtDay, day_inputs}
+use Rattle.hw_audit_command.specs.Refusals.{EventsFail, by_form, NoDay}
 use Rattle.hw_audit_command.specs.Reading.{ReadsAs, ReadsText, report_of_text}
 use Rattle.hw_audit_command.specs.Values.{IsPlannedTimetable, AreEventsOf, GivesPlan, AuditGives}
 use Rattle.hw_audit_command.specs.declared.reading.TextStop.{TextStop}
@@ -82,45 +86,45 @@ plan_stops {instance = instance} {tides = tides} {plan = plan} {x = x} {p = p} {
 -- ---- the events
 
 -- what the three give
-pub gives_plan : {instance tides plan : List ℕ} {x y : DeskState} {p : Parts} {h : TideParts} {table : List ℕ} → PlanRead instance tides plan x y p h table → GivesPlan (x.held instance) (x.held tides) (x.held plan)
+gives_plan : {instance tides plan : List ℕ} {x y : DeskState} {p : Parts} {h : TideParts} {table : List ℕ} → PlanRead instance tides plan x y p h table → GivesPlan (x.held instance) (x.held tides) (x.held plan)
 gives_plan {p = p} {h = h} {table = table} read = record { port = p; tide = h; reads = read.port; table = table; planned = read.planned }
 
-pub three_give : {instance tides plan : List ℕ} {x y : DeskState} {p : Parts} {h : TideParts} {table : List ℕ} (events : List ℕ) → PlanRead instance tides plan x y p h table → GiveBefore (AuditGives instance tides plan x.held) (named_feed Instance instance ∷ named_feed Tides tides ∷ named_feed Plan plan ∷ named_feed Events events ∷ [])
+three_give : {instance tides plan : List ℕ} {x y : DeskState} {p : Parts} {h : TideParts} {table : List ℕ} (events : List ℕ) → PlanRead instance tides plan x y p h table → GiveBefore (AuditGives instance tides plan x.held) (day_inputs instance tides plan events)
 three_give {p = p} {h = h} events read = (record { port = p; kept = read.port.kept; reads = read.port.instance_reads }, (record { port = p; tide = h; reads = read.port }, (gives_plan read, tt)))
 
 events_entered : {instance tides plan events : List ℕ} {x y z : DeskState} {p : Parts} {h : TideParts} {table : List ℕ} {r : Result (List PortEvent) TextStop} → PlanRead instance tides plan x y p h table → ReadsText Events events_text events y z r
-    → Entered (named_feed Instance instance ∷ named_feed Tides tides ∷ named_feed Plan plan ∷ named_feed Events events ∷ []) x z
+    → Entered (day_inputs instance tides plan events) x z
 events_entered {instance = instance} {tides = tides} {plan = plan} read m = entered_on (named_feed Instance instance ∷ named_feed Tides tides ∷ named_feed Plan plan ∷ []) read.entered m.enters refl
 
 events_held : {instance tides plan : List ℕ} {x y : DeskState} {p : Parts} {h : TideParts} {table : List ℕ} (name : List ℕ) → PlanRead instance tides plan x y p h table → y.held name ≡ x.held name
 events_held name read = ap (λ held. held name) read.entered.begins.held
 
--- these too were read
-pub record AllRead (instance tides plan events : List ℕ) (x y : DeskState) (p : Parts) (h : TideParts) (table : List ℕ) (happened : List PortEvent) : Type 0 where
-  pub entered : Entered (named_feed Instance instance ∷ named_feed Tides tides ∷ named_feed Plan plan ∷ named_feed Events events ∷ []) x y
-  pub give : GiveBefore (AuditGives instance tides plan x.held) (named_feed Instance instance ∷ named_feed Tides tides ∷ named_feed Plan plan ∷ named_feed Events events ∷ [])
+-- they were read to their end
+pub record EventsRead (instance tides plan events : List ℕ) (x y : DeskState) (p : Parts) (h : TideParts) (table : List ℕ) : Type 0 where
+  pub entered : Entered (day_inputs instance tides plan events) x y
+  pub give : GiveBefore (AuditGives instance tides plan x.held) (day_inputs instance tides plan events)
   pub read_faults : y.read_faults ≡ x.read_faults
   pub port : IsPortOf (x.held instance) (x.held tides) p h
   pub planned : IsPlannedTimetable (x.held plan) p h table
-  pub told : AreEventsOf (x.held events) happened
 
-pub all_read : {instance tides plan events : List ℕ} {x y z : DeskState} {p : Parts} {h : TideParts} {table : List ℕ} {happened : List PortEvent} → PlanRead instance tides plan x y p h table → ReadsText Events events_text events y z (Ok happened) → AllRead instance tides plan events x z p h table happened
-all_read {events = events} {happened = happened} read m = record {
+pub events_read : {instance tides plan events : List ℕ} {x y z : DeskState} {p : Parts} {h : TideParts} {table : List ℕ} {r : Result (List PortEvent) TextStop} → PlanRead instance tides plan x y p h table → ReadsText Events events_text events y z r → z.read_faults ≡ y.read_faults
+    → EventsRead instance tides plan events x z p h table
+events_read {events = events} read m kept = record {
   entered = events_entered read m;
   give = three_give events read;
-  read_faults = m.answer.1 ∙ read.read_faults;
+  read_faults = kept ∙ read.read_faults;
   port = read.port;
   planned = read.planned;
-  told = subst (λ (told : Option (List ℕ)). AreEventsOf told happened) (events_held events read) m.answer.0;
 }
 
--- the events aren't there
-pub events_stop : {instance tides plan events : List ℕ} {x y z : DeskState} {p : Parts} {h : TideParts} {table : List ℕ} (stop : TextStop) → PlanRead instance tides plan x y p h table → ReadsText Events events_text events y z (Err stop)
-    → StopsReading (named_feed Instance instance ∷ named_feed Tides tides ∷ named_feed Plan plan ∷ named_feed Events events ∷ []) (AuditGives instance tides plan x.held) (NoDay (x.held instance) (x.held tides) (x.held plan) (x.held events)) x z (report_of_text Events stop)
-events_stop {instance = instance} {tides = tides} {plan = plan} {events = events} {y = y} {z = z} (Input stop) read m =
-    input_stops y (named_feed Instance instance ∷ named_feed Tides tides ∷ named_feed Plan plan ∷ []) Events events [] stop (λ long. (gives_plan read, long)) refl (events_entered read m) (three_give events read) read.read_faults (subst (λ (told : Option (List ℕ)). StopsFor told y z stop) (events_held events read) m.answer)
-events_stop {instance = instance} {tides = tides} {plan = plan} {events = events} {p = p} {h = h} {table = table} (Line number word) read m = record {
-  works = refuses None (named_feed Instance instance ∷ named_feed Tides tides ∷ named_feed Plan plan ∷ []) (named_feed Events events) [] (bad_text Events number (audit_word_text word)) refl refl (events_entered read m) (three_give events read) (m.answer.1 ∙ read.read_faults);
+pub events_told : {instance tides plan events : List ℕ} {x y z : DeskState} {p : Parts} {h : TideParts} {table : List ℕ} {happened : List PortEvent} → PlanRead instance tides plan x y p h table → ReadsText Events events_text events y z (Ok happened) → AreEventsOf (x.held events) happened
+events_told {events = events} {happened = happened} read m = subst (λ (told : Option (List ℕ)). AreEventsOf told happened) (events_held events read) m.answer.0
+
+-- a line of theirs is bad, or its event is refused
+pub bad_event : {instance tides plan events : List ℕ} {x y : DeskState} {p : Parts} {h : TideParts} {table : List ℕ} (number : ℕ) (word : AuditWord) → EventsRead instance tides plan events x y p h table → EventsFail (flattened p h) (whole p.fleet) (watched table) (x.held events) number word
+    → StopsAtDay instance tides plan events x y (bad_text Events number (audit_word_text word))
+bad_event {instance = instance} {tides = tides} {plan = plan} {events = events} {p = p} {h = h} {table = table} number word read fail = record {
+  works = refuses None (named_feed Instance instance ∷ named_feed Tides tides ∷ named_feed Plan plan ∷ []) (named_feed Events events) [] (bad_text Events number (audit_word_text word)) refl refl read.entered read.give read.read_faults;
   early = λ e. absurd (cc);
   why = λ own. record {
     port = p;
@@ -130,6 +134,12 @@ events_stop {instance = instance} {tides = tides} {plan = plan} {events = events
     planned = read.planned;
     cause = word;
     named = refl;
-    fail = by_form (subst (λ (told : Option (List ℕ)). IfSome told (ReadsAs events_text (malformed_line number word))) (events_held events read) m.answer.0);
+    fail = fail;
   };
 }
+
+-- they can't be read
+pub events_stop : {instance tides plan events : List ℕ} {x y z : DeskState} {p : Parts} {h : TideParts} {table : List ℕ} (stop : TextStop) → PlanRead instance tides plan x y p h table → ReadsText Events events_text events y z (Err stop) → StopsAtDay instance tides plan events x z (report_of_text Events stop)
+events_stop {instance = instance} {tides = tides} {plan = plan} {events = events} {y = y} {z = z} (Input stop) read m =
+    input_stops y (named_feed Instance instance ∷ named_feed Tides tides ∷ named_feed Plan plan ∷ []) Events events [] stop (λ long. (gives_plan read, long)) refl (events_entered read m) (three_give events read) read.read_faults (subst (λ (told : Option (List ℕ)). StopsFor told y z stop) (events_held events read) m.answer)
+events_stop {events = events} (Line number word) read m = bad_event number word (events_read read m m.answer.1) (by_form (subst (λ (told : Option (List ℕ)). IfSome told (ReadsAs events_text (malformed_line number word))) (events_held events read) m.answer.0))

@@ -2,6 +2,5 @@ pub mod Fronts
 pub mod Lines
 pub mod Inputs
 pub mod Days
-pub mod Watched
-pub mod Carried
+pub mod Ended
 pub mod Decided

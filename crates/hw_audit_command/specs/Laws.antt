@@ -1,14 +1,9 @@
--- The laws of an audit, and of the plan that a day gives.
+-- The law of commands over a day.
 use Rattle.std.specs.Prelude.{◌≡◌, ℕ, List, Some}
 use Rattle.hw_report.specs.Reports.{Report}
-use Rattle.hw_audit_command.specs.AuditPort.{AuditsTexts}
-use Rattle.hw_audit_command.specs.CarryPort.{CarryTells}
+use Rattle.hw_audit_command.specs.Days.{DayAnswer, DaySays}
 
 -- the bytes of the four files decide the reports
-abbrev pub OneAudit : Type 0
-OneAudit = (instance tides plan events : List ℕ) (reports others : List Report)
-    → AuditsTexts (Some instance) (Some tides) (Some plan) (Some events) reports → AuditsTexts (Some instance) (Some tides) (Some plan) (Some events) others → reports ≡ others
-
--- the bytes of the four files decide the report of `carry`
-abbrev pub OneCarry : Type 0
-OneCarry = (instance tides plan events : List ℕ) (r t : Report) → CarryTells (Some instance) (Some tides) (Some plan) (Some events) r → CarryTells (Some instance) (Some tides) (Some plan) (Some events) t → r ≡ t
+abbrev pub OneAnswer : DayAnswer → Type 0
+OneAnswer answer = (instance tides plan events : List ℕ) (reports others : List Report)
+    → DaySays answer (Some instance) (Some tides) (Some plan) (Some events) reports → DaySays answer (Some instance) (Some tides) (Some plan) (Some events) others → reports ≡ others
