@@ -1,5 +1,5 @@
 -- What a search that went on shows.
-use Rattle.std.proofs.Common.{◌≡◌, ◌≤◌, ◌+◌, ◌∙◌, ◌++◌, ◌∷◌, ℕ, List, [], Bool, true, false, Option, Some, None, length, refl, sym, ap, subst, append-nil, arith}
+use Rattle.std.proofs.Common.{◌≡◌, ◌≤◌, ◌∙◌, ◌++◌, ℕ, List, [], Bool, true, false, length, sym, ap, subst, append-nil, arith}
 use Rattle.std.specs.Prelude.{All}
 use Rattle.hw_model.specs.Problem.{Problem}
 use Rattle.hw_model.specs.Rooms.{room_count}
@@ -8,15 +8,11 @@ use Rattle.hw_lines.specs.Lemmas.{lemmas_of}
 use Rattle.hw_lines.specs.Valid.{LineFits, Valid, verdict}
 use Rattle.hw_lines.specs.Lines.{is_closed, last_table}
 use Rattle.hw_lines.specs.Tolled.{bound_of}
-use Rattle.hw_cert.specs.Logs.{memory_log}
-use Rattle.hw_progress.specs.declared.outcome.Solved.{Solved}
-use Rattle.hw_progress.specs.declared.outcome.Solved.TheVariants as answers
-use Rattle.hw_progress.specs.Proving.{ProveMeets}
-use Rattle.hw_resume.specs.Courses.{AddsLines, HandsToCourse, IsSearched, CourseStands, TellsOf}
-use Rattle.hw_resume.specs.Going.{LinesGoOn, IsBudgetSpent, Resumes}
+use Rattle.hw_resume.specs.Courses.{HandsToCourse, IsSearched, CourseStands, TellsOf}
+use Rattle.hw_resume.specs.Going.{Resumes}
 use Rattle.hw_resume.specs.declared.going_on.Course.{Course}
 use Rattle.hw_resume.specs.declared.resumed.Resumed.{Resumed}
-use Rattle.hw_resume.proofs.Handed.{longer, whole_course}
+use Rattle.hw_resume.proofs.Handed.{whole_course}
 
 -- ---- the search
 

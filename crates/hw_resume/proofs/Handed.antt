@@ -1,22 +1,22 @@
 -- The lines of a search, handed on.
-use Rattle.std.proofs.Common.{◌≡◌, ◌≤◌, ◌+◌, ◌∙◌, ◌++◌, ◌∷◌, ℕ, List, [], Option, Some, None, Ok, Err, length, refl, sym, ap, subst, append_assoc, append-nil, arith}
+use Rattle.std.proofs.Common.{◌≡◌, ◌+◌, ◌∙◌, ◌++◌, ◌∷◌, ℕ, List, [], Option, Some, None, length, refl, sym, ap, subst, append_assoc, append-nil, arith}
 use Rattle.std.specs.Prelude.{All}
 use Rattle.std.specs.List.{cons_option}
 use Rattle.std.proofs.lemmas.List.Elements.{filter_map-append}
 use Rattle.std.proofs.lemmas.List.{length-append}
 use Rattle.hw_model.specs.declared.lit.Lit.{Lit}
 use Rattle.hw_model.specs.Problem.{Problem}
-use Rattle.hw_lines.specs.declared.check.Refusal.{Refusal}
 use Rattle.hw_lines.specs.declared.line.Line.{Line}
+use Rattle.hw_lines.specs.declared.line.Line.TheVariants as lines
 use Rattle.hw_lines.specs.Lemmas.{lemma_of, lemmas_of}
 use Rattle.hw_lines.specs.Refusals.{kept_refusal, refusal}
 use Rattle.hw_lines.specs.Valid.{LineFits, Valid}
-use Rattle.hw_lines.specs.Kept.{Kept}
-use Rattle.hw_check.specs.Follows.{CheckerFollows, Stops}
+use Rattle.hw_lines.specs.Kept.{Kept, kept_of}
+use Rattle.hw_check.specs.Follows.{Stops}
 use Rattle.hw_check.specs.declared.stop.CheckStop.{CheckStop}
 use Rattle.hw_check.specs.declared.stop.CheckStop.TheVariants as check_stops
-use Rattle.hw_resume.specs.Courses.{AddsLines, HandsToCourse, CourseStands, stop_as}
-use Rattle.hw_resume.specs.Going.{LinesGoOn, LineIsRefused, ResumingStopsFor}
+use Rattle.hw_resume.specs.Courses.{AddsLines, CourseStopsFor, HandsToCourse, CourseStands, stop_as}
+use Rattle.hw_resume.specs.Going.{LinesGoOn, SaysNoMore, LineFails}
 use Rattle.hw_resume.specs.declared.going_on.Course.{Course}
 use Rattle.hw_resume.specs.declared.resumed.ResumeStop.{ResumeStop}
 use Rattle.hw_resume.specs.declared.resumed.ResumeStop.TheVariants as stops
@@ -47,10 +47,10 @@ longer {start = start} more parts h = record {
   valid = h.valid;
 }
 
-pub stops_on : (f g : Problem) (start middle : List Line) (more : List Line) (stop : ResumeStop) → g ≡ f → middle ≡ start ++ more → ResumingStopsFor g middle stop → ResumingStopsFor f start stop
+pub stops_on : (f g : Problem) (start middle : List Line) (more : List Line) (stop : ResumeStop) → g ≡ f → middle ≡ start ++ more → CourseStopsFor g middle stop → CourseStopsFor f start stop
 stops_on f g start middle more (stops.Refused number cause) same parts h =
-    let there = subst (λ (p : Problem). LineIsRefused p middle number cause) same h in
-    record { before = there.before; line = there.line; goes_on = longer more parts there.goes_on; fits = there.fits; counted = there.counted; refused = there.refused }
+    let there = subst (λ (p : Problem). LineFails p middle number cause) same h in
+    record { before = there.before; line = there.line; goes_on = longer more parts there.goes_on; fits = there.fits; news = there.news; counted = there.counted; refused = there.refused }
 stops_on f g start middle more stops.NoMemory same parts h = tt
 
 -- ---- on the way
@@ -81,7 +81,7 @@ along_next {entry = entry} {after = after} {all = all} {left = left} {next = nex
       lemmas = counted;
     }
 
-pub along_stops : {entry now : Course} {all left : List Line} (stop : ResumeStop) → Along entry now all left → ResumingStopsFor now.flat.now now.lines.items stop → ResumingStopsFor entry.flat.now entry.lines.items stop
+pub along_stops : {entry now : Course} {all left : List Line} (stop : ResumeStop) → Along entry now all left → CourseStopsFor now.flat.now now.lines.items stop → CourseStopsFor entry.flat.now entry.lines.items stop
 along_stops {entry = entry} {now = now} stop h k = stops_on entry.flat.now now.flat.now entry.lines.items now.lines.items h.more stop h.adds.stands.problem h.adds.parts k
 
 -- ---- one line
@@ -89,19 +89,27 @@ along_stops {entry = entry} {now = now} stop h k = stops_on entry.flat.now now.f
 pub left_out : {course : Course} (line : Line) → CourseStands course.flat.now course → lemma_of line ≡ None → HandsToCourse course course (line ∷ [])
 left_out {course = course} line h e = record { more = []; adds = record { stands = h; parts = sym (append-nil course.lines.items) }; lemmas = no_lemma line e }
 
+-- no lemma says no more than the lines before it
+pub known_lemma : (f : Problem) (kept : Kept) (line : Line) → SaysNoMore f kept line → lemma_of line ≡ None
+known_lemma f kept (lines.Table table) h = refl
+known_lemma f kept (lines.Bound bound) h = refl
+known_lemma f kept line h = absurd h
+
 -- the checker refused a line, or memory ran out
-pub not_taken : {course : Course} (line : Line) (number : ℕ) (stop : CheckStop) → CourseStands course.flat.now course → LineFits course.flat.now line → number ≡ length course.lines.items + 2 → Stops stop (kept_refusal course.checker.problem course.checker.kept line) → ResumingStopsFor course.flat.now course.lines.items (stop_as number stop)
-not_taken {course = course} line number (check_stops.Refused cause) h fits counted found =
+pub not_taken : {course : Course} (line : Line) (number : ℕ) (stop : CheckStop) → CourseStands course.flat.now course → LineFits course.flat.now line → (SaysNoMore course.flat.now course.checker.kept line → ⊥) → number ≡ length course.lines.items + 2 → Stops stop (kept_refusal course.checker.problem course.checker.kept line) → CourseStopsFor course.flat.now course.lines.items (stop_as number stop)
+not_taken {course = course} line number (check_stops.Refused cause) h fits news counted found =
     let kept = subst (λ (k : Kept). kept_refusal course.checker.problem k line ≡ Some cause) h.follows.kept found in
+    let same : course.checker.kept ≡ kept_of course.flat.now course.lines.items = h.follows.kept ∙ ap (λ (f : Problem). kept_of f course.lines.items) h.checked in
     record {
       before = course.lines.items;
       line = line;
       goes_on = whole_course h;
       fits = fits;
+      news = λ no_more. news (subst (λ (k : Kept). SaysNoMore course.flat.now k line) (sym same) no_more);
       counted = counted;
       refused = subst (λ (f : Problem). refusal f course.lines.items line ≡ Some cause) h.checked kept;
     }
-not_taken line number check_stops.NoMemory h fits counted found = tt
+not_taken line number check_stops.NoMemory h fits news counted found = tt
 
 pub fit_as : (f g : Problem) (xs ys : List Line) → g ≡ f → ys ≡ xs → All (LineFits f) xs → All (LineFits g) ys
 fit_as f g xs ys same is h = subst (λ (p : Problem). All (LineFits p) ys) (sym same) (subst (λ (ls : List Line). All (LineFits f) ls) (sym is) h)

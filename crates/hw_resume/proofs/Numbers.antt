@@ -1,5 +1,5 @@
 -- Numbers that are raised keep the limits of a line.
-use Rattle.std.proofs.Common.{◌≡◌, ◌<◌, ◌≤◌, ◌+◌, ◌∙◌, ℕ, List, All, length, map, get_or, refl, sym, subst, arith}
+use Rattle.std.proofs.Common.{◌≡◌, ◌<◌, ◌≤◌, ◌+◌, ◌∙◌, ℕ, List, length, map, sym, subst, arith}
 use Rattle.std.specs.Prelude.{slice_index}
 use Rattle.std.specs.List.Sorted.{IsStrictlyIncreasing}
 use Rattle.std.proofs.lemmas.List.{length-map, get_or-map}
@@ -10,7 +10,7 @@ use Rattle.hw_tolls.specs.declared.limits.TheConstants.{MOST_PRICE}
 use Rattle.hw_lines.specs.declared.line.Line.{Line}
 use Rattle.hw_lines.specs.declared.line.Line.TheVariants.{Delete, Tariff}
 use Rattle.hw_lines.specs.declared.line.Price.{Price}
-use Rattle.hw_lines.specs.Valid.{LineFits, PricesFit}
+use Rattle.hw_lines.specs.Valid.{LineFits}
 use Rattle.hw_resume.specs.Raising.{KeepsFit, raised_numbers, raised_prices}
 
 number_at : (by : ℕ) (ids : List ℕ) (k : ℕ) → k < length ids → slice_index (raised_numbers by ids) k ≡ slice_index ids k + by

@@ -1,12 +1,12 @@
 -- The lines of a start, which are valid, are taken one by one.
-use Rattle.std.proofs.Common.{◌≡◌, ◌<◌, ◌+◌, ◌∙◌, ◌++◌, ◌∷◌, ℕ, List, [], None, length, drop, get_or, drop-cons, add-one, refl, sym, ap, subst, append_assoc, append-nil}
+use Rattle.std.proofs.Common.{◌≡◌, ◌<◌, ◌+◌, ◌∙◌, ◌++◌, ◌∷◌, ℕ, List, [], None, length, drop, get_or, drop-cons, add-one, sym, ap, subst, append_assoc, append-nil}
 use Rattle.std.specs.Prelude.{All}
 use Rattle.hw_model.specs.Limits.{IsFlat}
 use Rattle.hw_model.specs.Problem.{Problem}
 use Rattle.hw_lines.specs.declared.line.Line.{Line}
 use Rattle.hw_lines.specs.Kept.{Kept}
 use Rattle.hw_lines.specs.Refusals.{kept_refusal}
-use Rattle.hw_lines.specs.Valid.{LineFits, ValidAfter, ValidFrom, Valid}
+use Rattle.hw_lines.specs.Valid.{LineFits, ValidAfter, ValidFrom}
 use Rattle.hw_verdict.proofs.Refused.{valid_judge, from_valid}
 use Rattle.hw_check.specs.Follows.{CheckerFollows}
 use Rattle.hw_check.specs.States.{CheckState}

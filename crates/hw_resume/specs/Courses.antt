@@ -1,11 +1,10 @@
 -- Lines that were taken, one after another, and how more of them are.
-use Rattle.std.specs.Prelude.{◌≡◌, ℕ, ◌+◌, ◌≤◌, Bool, true, false, List, [], ◌∷◌, ◌++◌, Result, Ok, Err, All, length, ⊤}
+use Rattle.std.specs.Prelude.{◌≡◌, ℕ, ◌≤◌, Bool, true, false, List, [], ◌∷◌, ◌++◌, Result, Ok, Err, All, length, ⊤}
 use Rattle.hw_model.specs.Problem.{Problem}
 use Rattle.hw_model.specs.Rooms.{room_count}
 use Rattle.hw_lines.specs.declared.line.Line.{Line}
-use Rattle.hw_lines.specs.Lemmas.{lemma_of, lemmas_of}
+use Rattle.hw_lines.specs.Lemmas.{lemmas_of}
 use Rattle.hw_lines.specs.Lines.{is_closed, last_table}
-use Rattle.hw_lines.specs.Refusals.{refusal}
 use Rattle.hw_lines.specs.Tolled.{bound_of}
 use Rattle.hw_lines.specs.Valid.{LineFits, verdict}
 use Rattle.hw_check.specs.Follows.{CheckerFollows}
@@ -15,7 +14,7 @@ use Rattle.hw_resume.specs.declared.going_on.Course.{Course}
 use Rattle.hw_resume.specs.declared.resumed.Resumed.{Resumed}
 use Rattle.hw_resume.specs.declared.resumed.ResumeStop.{ResumeStop}
 use Rattle.hw_resume.specs.declared.resumed.ResumeStop.TheVariants as stops
-use Rattle.hw_resume.specs.Going.{ResumingStopsFor}
+use Rattle.hw_resume.specs.Going.{LineFails}
 
 -- the checker follows the lines, and all is of this problem
 pub record CourseStands (f : Problem) (course : Course) : Type 0 where
@@ -33,10 +32,15 @@ abbrev pub stop_as : ℕ → CheckStop → ResumeStop
 stop_as number (check_stops.Refused cause) = stops.Refused number cause
 stop_as number check_stops.NoMemory = stops.NoMemory
 
+-- why no more lines of a course are taken; memory may run out at any time
+abbrev pub CourseStopsFor : Problem → List Line → ResumeStop → Type 0
+CourseStopsFor f before (stops.Refused number cause) = LineFails f before number cause
+CourseStopsFor f before stops.NoMemory = ⊤
+
 -- one more line was taken, or the checker refused it
 abbrev pub TakeMeets : Course → Line → Result Course ResumeStop → Type 0
 TakeMeets course line (Ok after) = AddsLines course after (line ∷ [])
-TakeMeets course line (Err stop) = ResumingStopsFor course.flat.now course.lines.items stop
+TakeMeets course line (Err stop) = CourseStopsFor course.flat.now course.lines.items stop
 
 -- what stands for lines of a search has as many lemmas
 pub record HandsToCourse (before after : Course) (found : List Line) : Type 0 where
@@ -46,7 +50,7 @@ pub record HandsToCourse (before after : Course) (found : List Line) : Type 0 wh
 
 abbrev pub HandsAllToCourse : Course → List Line → Result Course ResumeStop → Type 0
 HandsAllToCourse course found (Ok after) = HandsToCourse course after found
-HandsAllToCourse course found (Err stop) = ResumingStopsFor course.flat.now course.lines.items stop
+HandsAllToCourse course found (Err stop) = CourseStopsFor course.flat.now course.lines.items stop
 
 abbrev pub HandMeets : Course → Line → Result Course ResumeStop → Type 0
 HandMeets course line result = HandsAllToCourse course (line ∷ []) result

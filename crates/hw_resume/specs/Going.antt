@@ -1,10 +1,12 @@
 -- What a search that goes on from a start leaves.
-use Rattle.std.specs.Prelude.{◌≡◌, ℕ, ◌+◌, ◌≤◌, Bool, true, false, List, ◌++◌, Option, Some, Result, Ok, Err, All, length, ⊤}
+use Rattle.std.specs.Prelude.{◌≡◌, ℕ, ◌+◌, ◌≤◌, true, false, List, ◌++◌, Some, IsSomeAnd, Result, Ok, Err, All, length, ⊤}
 use Rattle.hw_model.specs.Problem.{Problem}
 use Rattle.hw_model.specs.Rooms.{room_count}
+use Rattle.hw_model.specs.Timetables.{cargo}
 use Rattle.hw_lines.specs.declared.check.Refusal.{Refusal}
-use Rattle.hw_lines.specs.declared.check.Verdict.{Verdict}
 use Rattle.hw_lines.specs.declared.line.Line.{Line}
+use Rattle.hw_lines.specs.declared.line.Line.TheVariants as lines
+use Rattle.hw_lines.specs.Kept.{Kept, kept_of}
 use Rattle.hw_lines.specs.Lemmas.{lemmas_of}
 use Rattle.hw_lines.specs.Lines.{is_closed, last_table}
 use Rattle.hw_lines.specs.Refusals.{refusal}
@@ -36,14 +38,26 @@ pub record Resumes (f : Problem) (budget : ℕ) (start : List Line) (r : Resumed
   pub table : r.table ≡ last_table r.lines.items
   pub spent : r.is_spent ≡ true → IsBudgetSpent f budget goes_on.more r.lines.items
 
+-- a line says no more than those before it, of which this is kept: a timetable that isn't better than the best, or a bound that isn't below the last one
+abbrev pub SaysNoMore : Problem → Kept → Line → Type 0
+SaysNoMore f kept (lines.Table table) = IsSomeAnd (cargo f table) (λ c. IsSomeAnd kept.best (λ best. c ≤ best))
+SaysNoMore f kept (lines.Bound bound) = IsSomeAnd kept.bound (λ last. last ≤ bound)
+SaysNoMore f kept line = ⊥
+
 -- a line of the problem that isn't valid after some that go on from the start, for this cause; it would have been the one of this number, counted from 1 with the header
-pub record LineIsRefused (f : Problem) (start : List Line) (number : ℕ) (cause : Refusal) : Type 0 where
+pub record LineFails (f : Problem) (start : List Line) (number : ℕ) (cause : Refusal) : Type 0 where
   pub before : List Line
   pub line : Line
   pub goes_on : LinesGoOn f start before
   pub fits : LineFits f line
+  pub news : SaysNoMore f (kept_of f before) line → ⊥
   pub counted : number ≡ length before + 2
   pub refused : refusal f before line ≡ Some cause
+
+-- such a line ends the search. Where the start leaves nothing open, nothing is searched and no line is refused
+pub record LineIsRefused (f : Problem) (start : List Line) (number : ℕ) (cause : Refusal) : Type 0 where
+  pub unclosed : is_closed start ≡ false
+  pub fails : LineFails f start number cause
 
 -- why there is no answer; memory may run out at any time
 abbrev pub ResumingStopsFor : Problem → List Line → ResumeStop → Type 0

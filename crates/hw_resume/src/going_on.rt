@@ -1,10 +1,10 @@
 //! Lines that were taken, one after another, with the checker that took them.
 
-ghost use Rattle.std.specs.Prelude.{◌≡◌, ◌↔◌, All, IfOk, IsTrue, None, false};
-ghost use Rattle.hw_lines.specs.Lemmas.{lemma_of};
+ghost use Rattle.std.specs.Prelude.{◌≡◌, ◌↔◌, All, IfOk, IsTrue, false};
 ghost use Rattle.hw_lines.specs.Lines.{is_closed, last_table};
 ghost use Rattle.hw_lines.specs.Valid.{LineFits, Valid};
 ghost use Rattle.hw_resume.specs.Courses.{CourseStands, TakeMeets, TellsOf, stop_as};
+ghost use Rattle.hw_resume.specs.Going.{SaysNoMore};
 
 use crate::checking::check_all;
 use crate::resumed::{ResumeStop, Resumed};
@@ -38,10 +38,11 @@ pub(crate) fn begun(alloc: Global, flat: &Flat, lines: Vec<Line>) -> Result<Cour
 }
 
 impl<'f> Course<'f> {
-    /// Takes one more line, unless the checker refuses it.
+    /// Takes one more line, which says more than those before it, unless the checker refuses it.
     pub(crate) fn take(self, line: Line) -> Result<Course<'f>, ResumeStop>
         requires stands { CourseStands self.flat.now self }
         requires fits { LineFits self.flat.now line }
+        requires news { SaysNoMore self.flat.now self.checker.kept line → ⊥ }
         ensures { TakeMeets self.entry line result }
     {
         let Course {
@@ -67,7 +68,7 @@ impl<'f> Course<'f> {
     /// or a bound that isn't lower than the last one.
     pub(crate) fn has_no_need_of(&self, line: &Line) -> bool
         requires fits { LineFits self.now.flat.now line.now }
-        ensures { IsTrue result → lemma_of line.now ≡ None }
+        ensures { IsTrue result ↔ SaysNoMore self.now.flat.now self.now.checker.kept line.now }
     {
         match line {
             Line::Table(table) => match (cargo(self.flat, table), self.best()) {
@@ -83,7 +84,9 @@ impl<'f> Course<'f> {
     }
 
     /// The best cargo so far.
-    fn best(&self) -> Option<u64> {
+    fn best(&self) -> Option<u64>
+        ensures { result ≡ self.now.checker.kept.best }
+    {
         match self.checker.verdict() {
             Verdict::Optimal(best) => Some(best),
             Verdict::Infeasible => None,

@@ -1,5 +1,8 @@
 //! The adviser that reminds a search of a timetable.
 
+ghost use Rattle.std.specs.Prelude.{◌≡◌, IsSome, None, Ok};
+ghost use Rattle.hw_advice.specs.Advisers.{IsScene};
+
 use hw_advice::{Advice, Adviser, Bounding, Scene};
 use hw_flat::Timetable;
 use hw_model::{Lit, NoMemory};
@@ -16,7 +19,9 @@ pub struct Reminder<A: Adviser + Drop> {
 
 impl<A: Adviser + Drop> Reminder<A> {
     /// Reminds of this timetable, and then says what the other adviser says. It takes no memory.
-    pub fn new(table: Option<Timetable>, other: A) -> Reminder<A> {
+    pub fn new(table: Option<Timetable>, other: A) -> Reminder<A>
+        ensures { result.table ≡ table }
+    {
         Reminder { table, other }
     }
 }
@@ -30,7 +35,11 @@ impl<A: Adviser + Drop> Adviser for Reminder<A> {
         self.other.bound(alloc, scene)
     }
 
-    fn propose(&mut self, alloc: Global, scene: &Scene<'_>) -> Result<Option<Timetable>, NoMemory> {
+    fn propose(&mut self, alloc: Global, scene: &Scene<'_>) -> Result<Option<Timetable>, NoMemory>
+        requires { IsScene scene.now }
+        ensures reminded { IsSome self.old.table → result ≡ Ok self.old.table }
+        ensures once { self.new.table ≡ None }
+    {
         match self.table.take() {
             Some(table) => Ok(Some(table)),
             None => self.other.propose(alloc, scene),
