@@ -2,15 +2,13 @@
 
 use crate::answering::open_bound;
 use crate::relaxation::Relaxation;
+use crate::settings::FIRST;
 use crate::variation::Variation;
 use crate::workshop::Workshop;
 use hw_advice::{Advice, Adviser, Bounding, Scene};
 use hw_flat::Timetable;
 use hw_model::{Lit, NoMemory};
 use std::alloc::Global;
-
-/// It says nothing before this many lemmas, so that easy problems stay as fast as they are.
-const FIRST: u32 = 32;
 
 /// Advises a search by prices on tolls. It looks for prices for the whole problem once, and then moves
 /// them a little in each room that it is shown.

@@ -2,19 +2,7 @@
 //! direction's length, with a pace that falls where nothing is gained. See M. Held, P. Wolfe and H. P. Crowder,
 //! "Validation of Subgradient Optimization", Mathematical Programming 6, 1974.
 
-use crate::subproblems::SCALE;
-
-/// How fast steps begin at most, in parts of `FULL_PACE`.
-pub(crate) const FULL_PACE: i64 = 1_024;
-
-/// After this many steps without a better total the pace falls.
-const PATIENCE: u32 = 12;
-
-/// A gain of less than 1/2000 of the gap to the target doesn't count as progress.
-const PROGRESS: i64 = 2_000;
-
-/// The target stays at least 1/50 below the best total.
-const DISTANCE: i64 = 50;
+use crate::settings::{DISTANCE, LENGTH, PATIENCE, PROGRESS, SCALE, SLOWED};
 
 /// What a room may earn at most to be refuted under a best, in parts.
 pub(crate) fn goal(best: u64) -> i64 {
@@ -30,6 +18,7 @@ pub(crate) fn goal(best: u64) -> i64 {
 pub(crate) struct Course {
     /// How many steps at most.
     pub(crate) steps: u32,
+    /// How fast they begin, in parts of `FULL_PACE`.
     pub(crate) pace: i64,
     /// What the room may earn in the end, in parts.
     pub(crate) target: i64,
@@ -93,7 +82,7 @@ impl StepRule {
         self.since = self.since.saturating_add(1);
         if PATIENCE <= self.since {
             self.since = 0;
-            self.pace = self.pace.saturating_mul(3) / 4;
+            self.pace = self.pace.saturating_mul(SLOWED) / 4;
         }
     }
 
@@ -108,6 +97,6 @@ impl StepRule {
         if norm <= 0 {
             return 0;
         }
-        gap.saturating_mul(self.pace.saturating_mul(4)) / norm
+        gap.saturating_mul(self.pace.saturating_mul(LENGTH)) / norm
     }
 }

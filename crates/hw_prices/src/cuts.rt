@@ -1,4 +1,4 @@
-//! The ends of ranges that prices cut.
+//! The ends of ranges that prices cut: bounds of slots, tightened by reduced profits.
 
 use crate::table::{Table, greatest};
 use hw_flat::{Room, ShipId, Slot};

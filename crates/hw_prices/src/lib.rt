@@ -1,22 +1,19 @@
 //! Finds prices on tolls for a search: which tolls are worth a price, and how much.
 //!
-//! In the field's words: the Lagrangian dual of the problem, whose relaxed constraints are valid inequalities (tolls), by a
-//! deflected subgradient method in whole numbers; clique and cover inequalities are separated on the way. A price is a
-//! multiplier, a ship with its best slot a subproblem, and what all ships earn with what the prices give back a bound. See
-//! M. L. Fisher, "The Lagrangian Relaxation Method for Solving Integer Programming Problems", Management Science 27, 1981.
+//! In the field's words: the Lagrangian dual of the problem, by a deflected subgradient method with Polyak's steps in whole
+//! numbers. The relaxed constraints, the rows, are valid inequalities (tolls): candidates of `hw_cuts`, and cuts that it
+//! separates on the way. A price is a multiplier, a ship with its best slot a subproblem, and what all ships earn with what
+//! the prices give back a bound. See M. L. Fisher, "The Lagrangian Relaxation Method for Solving Integer Programming
+//! Problems", Management Science 27, 1981.
 //!
 //! Nothing is promised of the numbers on the way. Each answer has passed the exact tests.
 #![tactic(auto)]
 
 mod adviser;
 mod answering;
-mod candidates;
 mod course;
-mod covers;
 mod cuts;
-mod distances;
 mod exact;
-mod finds;
 mod loosening;
 mod preferring;
 mod pricer;
@@ -25,7 +22,7 @@ mod relaxation;
 mod rounds;
 mod row_states;
 mod rows;
-mod separation;
+mod settings;
 mod subproblems;
 mod table;
 mod variation;

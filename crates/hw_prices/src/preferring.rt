@@ -78,7 +78,7 @@ fn peak_of_values(flat: &Flat, room: &Room, ship: ShipId) -> Peak {
         peak.slot = room.low(ship);
         for slot in room.low(ship)..room.high(ship).saturating_add(1).min(shape.slots) {
             let value = flat.value(ship, slot).unwrap_or(0);
-            peak = higher(peak, slot, i64::try_from(value).unwrap_or(0));
+            peak = higher(peak, slot, value as i64);
         }
     }
     peak

@@ -1,24 +1,24 @@
 //! Candidates with their prices, and how the prices are moved so that a room earns less.
 
-use crate::candidates::candidates;
-use crate::course::{Course, FULL_PACE, StepRule};
-use crate::distances::Distances;
+use crate::course::{Course, StepRule};
 use crate::row_states::{RowState, aimed, take_up};
 use crate::rows::{Part, Row, capacity};
+use crate::settings::FULL_PACE;
 use crate::subproblems::{Share, Subproblem, begin_subproblems, subproblems};
+use hw_cuts::Separator;
 use hw_flat::{Flat, Room};
 use hw_model::NoMemory;
 use hw_tolls::Toll;
 use std::alloc::Global;
 use std::mem;
 
-/// No price is greater, in parts.
+/// No price is greater, in parts: a limit that keeps sums small, and no setting.
 const DEAREST: i64 = 1_000_000_000_000_000;
 
 /// Candidates with prices, and what moving these takes.
 #[derive(Drop)]
 pub(crate) struct Pricer {
-    pub(crate) distances: Distances,
+    pub(crate) separator: Separator,
     pub(crate) subproblems: Vec<Subproblem>,
     /// By how much what is paid in a slot exceeds what is paid in the slot before: for each slot of
     /// each ship, and after its last one.
@@ -30,14 +30,12 @@ pub(crate) struct Pricer {
     best: Vec<i64>,
     row_states: Vec<RowState>,
     /// Rows with a price or a direction, and those that were overfilled last.
-    live: Vec<u32>,
-    spare: Vec<u32>,
+    live: Vec<usize>,
+    spare: Vec<usize>,
     /// Prices that the last room had no use for.
-    held: Vec<(u32, i64)>,
+    held: Vec<(usize, i64)>,
     /// What all prices give back.
     allowance: i64,
-    /// How many steps there were.
-    pub(crate) steps: i64,
     /// Prices that were met on the way, where they are kept.
     pub(crate) samples: Vec<Vec<i64>>,
 }
@@ -45,12 +43,12 @@ pub(crate) struct Pricer {
 impl Pricer {
     /// The candidates of a problem, without prices.
     pub(crate) fn new(alloc: Global, flat: &Flat) -> Result<Pricer, NoMemory> {
-        let distances = Distances::new(alloc, flat)?;
-        let tolls = candidates(alloc, flat, &distances)?;
+        let separator = Separator::new(alloc, flat)?;
+        let tolls = separator.candidates(alloc, flat)?;
         let shape = flat.shape();
         let places = shape.ships * (shape.slots + 1);
         let mut pricer = Pricer {
-            distances,
+            separator,
             subproblems: subproblems(alloc, flat)?,
             rises: vec![in alloc; 0; places as usize]?,
             rows: Vec::new(alloc),
@@ -61,7 +59,6 @@ impl Pricer {
             spare: Vec::new(alloc),
             held: Vec::new(alloc),
             allowance: 0,
-            steps: 0,
             samples: Vec::new(alloc),
         };
         for toll in tolls {
@@ -78,10 +75,10 @@ impl Pricer {
 
     /// Puts a row with its price after the others.
     fn put(&mut self, row: Row, price: i64) -> Result<(), NoMemory> {
-        let number = u32::try_from(self.rows.len()).unwrap_or(u32::MAX);
+        let place = self.rows.len();
         for charge in &row.charges {
             let share = Share {
-                row: number,
+                row: place,
                 units: i64::from(charge.amount),
             };
             if let Some(subproblem) = self.subproblems.get_mut(charge.ship as usize) {
@@ -105,14 +102,14 @@ impl Pricer {
             };
         }
         for (row, _price) in &self.held {
-            if let Some(row) = self.rows.get_mut(*row as usize) {
+            if let Some(row) = self.rows.get_mut(*row) {
                 row.idle = 0;
             }
         }
     }
 
     /// Drops each row unpriced in the last `rooms` rooms, unless `kept` prices it. Returns the new
-    /// place of each row, `u32::MAX` where it was dropped.
+    /// place of each row, none where it was dropped.
     ///
     /// It takes a step for each slot of each row that stays.
     pub(crate) fn drop_idle(
@@ -120,7 +117,7 @@ impl Pricer {
         alloc: Global,
         rooms: u32,
         kept: &[i64],
-    ) -> Result<Vec<u32>, NoMemory> {
+    ) -> Result<Vec<Option<usize>>, NoMemory> {
         self.release();
         for subproblem in self.subproblems.iter_mut() {
             subproblem.forget_shares();
@@ -133,10 +130,10 @@ impl Pricer {
         let mut places = Vec::new(alloc);
         for (place, row) in rows.into_iter().enumerate() {
             if row.idle < rooms || 0 < price_at(kept, place) {
-                places.push(u32::try_from(self.rows.len()).unwrap_or(u32::MAX))?;
+                places.push(Some(self.rows.len()))?;
                 self.put(row, price_at(&prices, place))?;
             } else {
-                places.push(u32::MAX)?;
+                places.push(None)?;
             }
         }
         Ok(places)
@@ -183,7 +180,7 @@ impl Pricer {
 
     /// Takes a step. Whether more of them are worth it.
     fn step(&mut self, step_rule: &mut StepRule) -> Result<bool, NoMemory> {
-        self.steps = self.steps.wrapping_add(1);
+        self.separator.begin_step();
         let total = self.choose()?;
         if total < step_rule.best {
             copy_prices(&mut self.best, &self.prices);
@@ -225,7 +222,7 @@ impl Pricer {
     /// Gives rows without a price the one that was held back.
     fn release(&mut self) {
         for (row, price) in &self.held {
-            if let Some(now) = self.prices.get_mut(*row as usize) {
+            if let Some(now) = self.prices.get_mut(*row) {
                 if *now == 0 {
                     *now = *price;
                 }
@@ -244,14 +241,14 @@ impl Pricer {
         if price <= 0 {
             return Ok(());
         }
+        state.clipped = true;
         let capacity = state.capacity;
-        let number = u32::try_from(row).unwrap_or(u32::MAX);
         if self.clip(row)? <= capacity {
-            self.held.push((number, price))?;
+            self.held.push((row, price))?;
             self.set_price(row, 0);
         } else {
             self.wake(row);
-            self.live.push(number)?;
+            self.live.push(row)?;
             self.charge(row, price);
         }
         Ok(())
@@ -295,13 +292,27 @@ impl Pricer {
         let mut total = self.allowance;
         for subproblem in self.subproblems.iter_mut() {
             total = total.wrapping_add(subproblem.choose(&self.rises));
+            self.separator.choose(subproblem.ship, subproblem.chosen);
         }
         take_up(&mut self.subproblems, &mut self.row_states, &mut self.live)?;
-        for place in known..self.live.len() {
-            let row = self.live.get(place).copied().unwrap_or(u32::MAX);
-            self.clip(row as usize)?;
-        }
+        self.clip_live(known)?;
         Ok(total)
+    }
+
+    /// Clips those of the live rows from a place on that weren't clipped in the room before.
+    fn clip_live(&mut self, known: usize) -> Result<(), NoMemory> {
+        for row in self.live.iter().skip(known) {
+            if let (Some(state), Some(row)) = (
+                self.row_states.get_mut(*row),
+                self.rows.get_mut(*row),
+            ) {
+                if !state.clipped {
+                    state.clipped = true;
+                    clip(row, &self.subproblems)?;
+                }
+            }
+        }
+        Ok(())
     }
 
     /// Turns each live row's direction by how far it is overfilled. Gives the square of their
@@ -309,10 +320,9 @@ impl Pricer {
     fn aim(&mut self) -> i64 {
         let mut norm: i64 = 0;
         for row in &self.live {
-            let row = *row as usize;
             if let (Some(state), Some(price)) = (
-                self.row_states.get_mut(row),
-                self.prices.get(row),
+                self.row_states.get_mut(*row),
+                self.prices.get(*row),
             ) {
                 state.direction = aimed(state, *price);
                 norm = norm.wrapping_add(state.direction.wrapping_mul(state.direction));
@@ -325,9 +335,10 @@ impl Pricer {
     /// or overfilled.
     fn move_prices(&mut self, unit: i64) -> Result<(), NoMemory> {
         for place in 0..self.live.len() {
-            let number = self.live.get(place).copied().unwrap_or(u32::MAX);
-            if self.move_price(number as usize, unit) {
-                self.spare.push(number)?;
+            if let Some(row) = self.live.get(place).copied() {
+                if self.move_price(row, unit) {
+                    self.spare.push(row)?;
+                }
             }
         }
         mem::swap(&mut self.live, &mut self.spare);

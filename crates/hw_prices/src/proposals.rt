@@ -3,7 +3,7 @@
 use crate::answering::Offer;
 use crate::pricer::price_at;
 use crate::rows::{Row, copy};
-use crate::subproblems::SCALE;
+use crate::settings::SCALE;
 use hw_model::NoMemory;
 use hw_tolls::{Due, Dues, Tariff};
 use std::alloc::Global;
@@ -12,38 +12,47 @@ use std::alloc::Global;
 #[derive(Drop)]
 pub(crate) struct Proposal {
     pub(crate) offer: Offer,
-    pub(crate) rows: Vec<u32>,
+    pub(crate) rows: Vec<usize>,
 }
 
-/// Takes rows for declared only as far as the search has declared tolls.
+/// Takes rows for declared only as far as the search has declared tolls. Of declared tolls that are no rows there
+/// is none.
 pub(crate) fn follow(
-    named: &mut Vec<u32>,
+    named: &mut Vec<Option<usize>>,
     rows: &mut [Row],
     declared: usize,
 ) -> Result<(), NoMemory> {
     for row in named.iter().skip(declared) {
-        if let Some(row) = rows.get_mut(*row as usize) {
-            row.number = None;
-        }
+        number_row(rows, *row, None);
     }
     named.truncate(declared);
     for _other in named.len()..declared {
-        named.push(u32::MAX)?;
+        named.push(None)?;
     }
     Ok(())
+}
+
+/// Gives the row at a place, if there is one, its number among the declared tolls.
+fn number_row(rows: &mut [Row], place: Option<usize>, number: Option<usize>) {
+    if let Some(place) = place {
+        if let Some(row) = rows.get_mut(place) {
+            row.number = number;
+        }
+    }
 }
 
 /// The tariff of some prices: first the dues on tolls that are declared, then those on others.
 pub(crate) fn proposal_of(
     alloc: Global,
     rows: &[Row],
-    named: &[u32],
+    named: &[Option<usize>],
     prices: &[i64],
 ) -> Result<Proposal, NoMemory> {
     let mut items = Vec::new(alloc);
     for (number, row) in named.iter().enumerate() {
-        let price = price_at(prices, *row as usize);
-        add_due(&mut items, number, price)?;
+        if let Some(row) = row {
+            add_due(&mut items, number, price_at(prices, *row))?;
+        }
     }
     let mut tolls = Vec::new(alloc);
     let mut new_rows = Vec::new(alloc);
@@ -52,14 +61,14 @@ pub(crate) fn proposal_of(
         if row.number.is_none() && 0 < price {
             add_due(&mut items, named.len().saturating_add(tolls.len()), price)?;
             tolls.push(copy(alloc, &row.toll)?)?;
-            new_rows.push(u32::try_from(place).unwrap_or(u32::MAX))?;
+            new_rows.push(place)?;
         }
     }
     Ok(Proposal {
         offer: Offer {
             tolls,
             tariff: Tariff {
-                scale: u32::try_from(SCALE).unwrap_or(0),
+                scale: SCALE as u32,
                 dues: Dues { items },
             },
         },
@@ -67,11 +76,12 @@ pub(crate) fn proposal_of(
     })
 }
 
+/// Adds a due, if it has a price. The exact tests refuse a toll of too great a number.
 fn add_due(items: &mut Vec<Due>, toll: usize, price: i64) -> Result<(), NoMemory> {
     if 0 < price {
         items.push(Due {
             toll: u32::try_from(toll).unwrap_or(u32::MAX),
-            price: u64::try_from(price).unwrap_or(0),
+            price: price.unsigned_abs(),
         })?;
     }
     Ok(())
@@ -79,16 +89,13 @@ fn add_due(items: &mut Vec<Due>, toll: usize, price: i64) -> Result<(), NoMemory
 
 /// Numbers rows whose tolls are declared after all others.
 pub(crate) fn name_rows(
-    named: &mut Vec<u32>,
+    named: &mut Vec<Option<usize>>,
     rows: &mut [Row],
-    new: &[u32],
+    new: &[usize],
 ) -> Result<(), NoMemory> {
-    for number in new {
-        let place = u32::try_from(named.len()).unwrap_or(u32::MAX);
-        named.push(*number)?;
-        if let Some(row) = rows.get_mut(*number as usize) {
-            row.number = Some(place);
-        }
+    for row in new {
+        number_row(rows, Some(*row), Some(named.len()));
+        named.push(Some(*row))?;
     }
     Ok(())
 }

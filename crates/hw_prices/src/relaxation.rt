@@ -6,13 +6,17 @@ ghost use Rattle.hw_tolls.specs.Tolls.{IsToll};
 ghost use Rattle.hw_advice.specs.Advisers.{IsAdviceIn, IsBoundIn, IsScene};
 
 use crate::answering::{advice_anew, advice_in_force, bounding};
-use crate::course::{Course, FULL_PACE, goal};
+use crate::course::{Course, goal};
 use crate::cuts::cuts;
 use crate::loosening::loosened;
 use crate::preferring::{by_earnings, by_regret};
 use crate::pricer::{Pricer, price_at};
 use crate::proposals::{Proposal, follow, name_rows, proposal_of};
 use crate::rounds::{add_tolls, find_prices};
+use crate::settings::{
+    CUTS, DEEPEST, ENOUGH, EXPLORED, IDLE, LAST_PACE, LAST_STEPS, MADE, ROOM_PACE, ROOM_STEPS,
+    SEARCHED,
+};
 use crate::table::Table;
 use crate::variation::Variation;
 use crate::workshop::Workshop;
@@ -23,36 +27,6 @@ use hw_tariff::RulesByPair;
 use hw_tolls::MOST_TOLLS;
 use std::alloc::Global;
 
-/// Steps in a room, from the last prices: chosen among 50 and 120 on demo-5-24-192, demo-11-12-96 and
-/// demo-3-16-36.
-const STEPS: u32 = 120;
-
-/// How fast they begin.
-const PACE: i64 = FULL_PACE / 16;
-
-/// Steps in a room where there is no best.
-const EXPLORED: u32 = 10;
-
-/// Steps of the last look at the whole room.
-const LAST_STEPS: u32 = 1_000;
-
-/// New prices that refute no room are worth an answer if they cut this many ends of ranges.
-const CUTS: usize = 4;
-
-/// One in this many rooms is looked through for tolls, if it is no deeper than this level.
-const SEARCHED: u32 = 16;
-
-const DEEPEST: u32 = 6;
-
-/// No room is looked through once there are this many candidates or declared tolls.
-const ENOUGH: usize = 3_000;
-
-/// In one of this many rooms timetables are made.
-const MADE: u32 = 8;
-
-/// After this many rooms the candidates that had no price in any of them are dropped.
-const IDLE: u32 = 32;
-
 /// What an adviser keeps of a problem.
 #[derive(Drop)]
 pub(crate) struct Relaxation {
@@ -61,8 +35,8 @@ pub(crate) struct Relaxation {
     /// In how many rooms prices were moved under a best.
     rooms: u32,
     rules: RulesByPair,
-    /// The rows whose tolls are declared, in order.
-    named: Vec<u32>,
+    /// The rows whose tolls are declared, in order; none where a row was dropped.
+    named: Vec<Option<usize>>,
     /// What ships earn under the tariff in force.
     table: Option<Table>,
     /// What they earn under the last prices, where these didn't come into force.
@@ -150,7 +124,7 @@ impl Relaxation {
         shop: &mut Workshop,
     ) -> Result<(), NoMemory> {
         self.pricer
-            .improve(scene.room, Course::towards(None, EXPLORED, PACE))?;
+            .improve(scene.room, Course::towards(None, EXPLORED, ROOM_PACE))?;
         let table = self.present(alloc)?;
         shop.make_by(alloc, scene.room, &table, None)?;
         self.latest = Some(table);
@@ -228,7 +202,7 @@ impl Relaxation {
     /// Moves the prices for a room, and now and then looks for more tolls there, or drops candidates that
     /// were of no use.
     fn move_prices(&mut self, alloc: Global, scene: &Scene<'_>, goal: i64) -> Result<(), NoMemory> {
-        let course = Course::towards(Some(goal), self.variation.steps(STEPS), PACE);
+        let course = Course::towards(Some(goal), self.variation.steps(ROOM_STEPS), ROOM_PACE);
         let least = self.pricer.improve(scene.room, course)?;
         self.rooms = self.rooms.wrapping_add(1);
         if goal < least && self.looks_for_tolls(scene) {
@@ -254,11 +228,11 @@ impl Relaxation {
     fn drop_idle(&mut self, alloc: Global) -> Result<(), NoMemory> {
         let places = self.pricer.drop_idle(alloc, IDLE, &self.root)?;
         for row in self.named.iter_mut() {
-            *row = places.get(*row as usize).copied().unwrap_or(u32::MAX);
+            *row = moved(&places, *row);
         }
         let mut root = Vec::new(alloc);
         for (place, new) in places.iter().enumerate() {
-            if *new != u32::MAX {
+            if new.is_some() {
                 root.push(price_at(&self.root, place))?;
             }
         }
@@ -355,7 +329,7 @@ impl Relaxation {
     fn look_again(&mut self, alloc: Global, scene: &Scene<'_>) -> Result<(), NoMemory> {
         let whole = Room::whole(alloc, scene.flat.shape())?;
         self.pricer.take_prices(&self.root);
-        let course = Course::towards(scene.best.map(goal), LAST_STEPS, FULL_PACE / 8);
+        let course = Course::towards(scene.best.map(goal), LAST_STEPS, LAST_PACE);
         let least = self.pricer.improve(&whole, course)?;
         self.sought = scene.best;
         if least < self.least {
@@ -379,5 +353,13 @@ impl Relaxation {
             Some(table) if !by_regrets => by_earnings(table, scene.room, variation),
             _ => by_regret(scene.flat, scene.room, variation),
         }
+    }
+}
+
+/// Where the row at a place, if there is one, stands after rows were dropped.
+fn moved(places: &[Option<usize>], row: Option<usize>) -> Option<usize> {
+    match row {
+        None => None,
+        Some(row) => places.get(row).copied().flatten(),
     }
 }

@@ -1,37 +1,18 @@
 //! The prices of the whole room, with tolls that are found on the way, and tolls for other rooms.
 
-use crate::course::{Course, FULL_PACE, goal};
-use crate::covers::find_covers;
-use crate::finds::Finds;
+use crate::course::{Course, goal};
 use crate::pricer::Pricer;
-use crate::separation::{Choices, find_narrows};
+use crate::rows::{Row, same};
+use crate::settings::{
+    COUNTED, COUNTED_IN_ROOM, COUNTED_PACE, FOUND, FOUND_IN_ROOM, FULL_PACE, NEAR, ROOM_PACE,
+    ROOT_STEPS, ROUND_PACE, ROUNDS, SAMPLED,
+};
 use crate::table::Table;
 use crate::workshop::Workshop;
 use hw_flat::{Flat, Room};
 use hw_model::NoMemory;
 use hw_tolls::Toll;
 use std::alloc::Global;
-
-/// Steps for the whole room, first and after each round.
-const STEPS: u32 = 1_000;
-
-/// Steps of a round in which the chosen slots are counted.
-const COUNTED: u32 = STEPS / 3;
-
-/// For one in this many of these steps timetables are made.
-const SAMPLED: u32 = 250;
-
-/// At most this many rounds of tolls that are found.
-const ROUNDS: u32 = 20;
-
-/// At most this many tolls a round: the next ones would be much like these.
-const FOUND: usize = 10;
-
-/// Steps in another room in which the chosen slots are counted.
-const COUNTED_IN_ROOM: u32 = 100;
-
-/// At most this many tolls for another room.
-const FOUND_IN_ROOM: usize = 3;
 
 /// Finds prices for a room from nothing, adds tolls that help, and makes timetables by the prices that
 /// it meets. It ends once the room earns no more than the best timetable carries, if there is one.
@@ -44,7 +25,7 @@ pub(crate) fn find_prices(
     best: Option<u64>,
     shop: &mut Workshop,
 ) -> Result<i64, NoMemory> {
-    let first = Course::towards(best.map(goal), STEPS, FULL_PACE);
+    let first = Course::towards(best.map(goal), ROOT_STEPS, FULL_PACE);
     let mut least = pricer.improve_sampled(alloc, room, first, SAMPLED)?;
     make_by_samples(alloc, pricer, room, shop)?;
     for _round in 0..ROUNDS {
@@ -52,9 +33,9 @@ pub(crate) fn find_prices(
         if least <= aim.unwrap_or(i64::MIN) {
             break;
         }
-        forget_counts(pricer);
-        let near = least.saturating_sub(least.saturating_abs() / 200);
-        let course = Course::towards(aim, COUNTED, FULL_PACE / 8);
+        pricer.separator.forget();
+        let near = least.saturating_sub(least.saturating_abs() / NEAR);
+        let course = Course::towards(aim, COUNTED, COUNTED_PACE);
         let counting = Course {
             target: course.target.max(near),
             ..course
@@ -64,7 +45,7 @@ pub(crate) fn find_prices(
         if !add_found(alloc, flat, pricer, FOUND)? {
             break;
         }
-        let improving = Course::towards(aim, STEPS, FULL_PACE / 2);
+        let improving = Course::towards(aim, ROOT_STEPS, ROUND_PACE);
         least = least.min(pricer.improve_sampled(alloc, room, improving, SAMPLED)?);
         make_by_samples(alloc, pricer, room, shop)?;
     }
@@ -103,21 +84,13 @@ pub(crate) fn add_tolls(
     room: &Room,
     goal: i64,
 ) -> Result<bool, NoMemory> {
-    forget_counts(pricer);
-    let course = Course::towards(Some(goal), COUNTED_IN_ROOM, FULL_PACE / 16);
+    pricer.separator.forget();
+    let course = Course::towards(Some(goal), COUNTED_IN_ROOM, ROOM_PACE);
     pricer.improve(room, course)?;
     add_found(alloc, flat, pricer, FOUND_IN_ROOM)
 }
 
-fn forget_counts(pricer: &mut Pricer) {
-    pricer.steps = 0;
-    for subproblem in pricer.subproblems.iter_mut() {
-        subproblem.forget_counts();
-    }
-}
-
-/// Adds tolls that were overfilled since the counts were forgotten, at most this many. Whether there
-/// are any.
+/// Adds tolls that the choices since these were forgotten violate, at most this many. Whether there are any.
 fn add_found(
     alloc: Global,
     flat: &Flat,
@@ -132,16 +105,17 @@ fn add_found(
     Ok(some)
 }
 
-/// Tolls that were overfilled since the counts were forgotten, those that were most, at most this many.
+/// Those tolls that are violated most, at most this many. None of them is a row, and none comes twice.
 fn found(alloc: Global, flat: &Flat, pricer: &Pricer, most: usize) -> Result<Vec<Toll>, NoMemory> {
-    let choices = Choices {
-        flat,
-        subproblems: &pricer.subproblems,
-        distances: &pricer.distances,
-        steps: pricer.steps,
-    };
-    let mut finds = Finds::new(alloc);
-    find_narrows(alloc, &choices, &mut finds)?;
-    find_covers(alloc, &choices, &mut finds)?;
-    finds.best(alloc, &pricer.rows, most)
+    let mut out = Vec::new(alloc);
+    for toll in pricer.separator.violated(alloc, flat)? {
+        if out.len() < most && is_new(&pricer.rows, &out, &toll) {
+            out.push(toll)?;
+        }
+    }
+    Ok(out)
+}
+
+fn is_new(rows: &[Row], tolls: &[Toll], toll: &Toll) -> bool {
+    tolls.iter().all(|other| !same(other, toll)) && rows.iter().all(|row| !same(&row.toll, toll))
 }

@@ -5,14 +5,9 @@
 //! Maffioli, "On Improving Relaxation Methods by Modified Gradient Techniques", Mathematical Programming Study 3,
 //! 1975.
 
+use crate::settings::{KEPT, UNIT};
 use crate::subproblems::{Share, Subproblem};
 use hw_model::NoMemory;
-
-/// Directions count units in this many parts.
-const UNIT: i64 = 16;
-
-/// This part of a direction is kept from the last one, in tenths.
-const KEPT: i64 = 6;
 
 /// What is taken of a row, and where its price goes.
 #[derive(Clone, Copy)]
@@ -21,6 +16,8 @@ pub(crate) struct RowState {
     pub(crate) usage: i64,
     pub(crate) direction: i64,
     pub(crate) live: bool,
+    /// Whether it is known what ships can take of the row in the present room.
+    pub(crate) clipped: bool,
 }
 
 impl RowState {
@@ -30,6 +27,7 @@ impl RowState {
             usage: 0,
             direction: 0,
             live: false,
+            clipped: false,
         }
     }
 
@@ -37,11 +35,12 @@ impl RowState {
         self.capacity < self.usage
     }
 
-    /// Nothing is taken, and the price rests.
+    /// In another room: nothing is taken, and the price rests.
     pub(crate) fn reset(&mut self) {
         self.usage = 0;
         self.direction = 0;
         self.live = false;
+        self.clipped = false;
     }
 }
 
@@ -62,7 +61,7 @@ pub(crate) fn aimed(state: &RowState, price: i64) -> i64 {
 pub(crate) fn take_up(
     subproblems: &mut [Subproblem],
     row_states: &mut [RowState],
-    live: &mut Vec<u32>,
+    live: &mut Vec<usize>,
 ) -> Result<(), NoMemory> {
     for subproblem in subproblems.iter_mut() {
         if subproblem.is_elsewhere() {
@@ -76,7 +75,7 @@ pub(crate) fn take_up(
 
 fn put_back(shares: &[Share], row_states: &mut [RowState]) {
     for share in shares {
-        if let Some(state) = row_states.get_mut(share.row as usize) {
+        if let Some(state) = row_states.get_mut(share.row) {
             state.usage = state.usage.wrapping_sub(share.units);
         }
     }
@@ -85,10 +84,10 @@ fn put_back(shares: &[Share], row_states: &mut [RowState]) {
 fn take(
     shares: &[Share],
     row_states: &mut [RowState],
-    live: &mut Vec<u32>,
+    live: &mut Vec<usize>,
 ) -> Result<(), NoMemory> {
     for share in shares {
-        if let Some(state) = row_states.get_mut(share.row as usize) {
+        if let Some(state) = row_states.get_mut(share.row) {
             state.usage = state.usage.wrapping_add(share.units);
             if !state.live && state.is_overfilled() {
                 state.live = true;

@@ -14,7 +14,7 @@ pub(crate) struct Row {
     /// What ships take of it.
     pub(crate) charges: Vec<Charge>,
     /// Its place among the tolls that the search has declared, if it is one of these.
-    pub(crate) number: Option<u32>,
+    pub(crate) number: Option<usize>,
     /// What ships take of it in the present room.
     pub(crate) parts: Vec<Part>,
     /// In how many rooms it has had no price since it last had one.

@@ -1,38 +1,37 @@
 //! The subproblem of a ship: what its slots earn, what is paid there, and which one is chosen.
 
-use hw_flat::{Flat, Room, ShipId};
-use hw_model::NoMemory;
-use std::alloc::Global;
+ghost use Rattle.std.specs.Prelude.{◌≤◌, unwrap_or};
 
-/// How many parts make a tenth of a tonne.
-pub(crate) const SCALE: i64 = 1_000;
+use crate::settings::SCALE;
+use hw_flat::{Flat, Room, ShipId};
+use hw_model::{MOST_VALUE, NoMemory};
+use std::alloc::Global;
 
 /// What a slot without a value earns: less than any other.
 pub(crate) const NOTHING: i64 = -(1 << 56);
 
-/// Units of a row.
+/// Units of the row at a place.
 #[derive(Clone, Copy)]
 pub(crate) struct Share {
-    pub(crate) row: u32,
+    pub(crate) row: usize,
     pub(crate) units: i64,
 }
 
 /// A ship's slots, of which it chooses the one that earns most less what is paid there. All amounts are in parts.
 #[derive(Drop)]
 pub(crate) struct Subproblem {
+    pub(crate) ship: ShipId,
     /// What the ship gains in each slot.
     pub(crate) gains: Vec<i64>,
     /// The place of its first slot among the slots of all ships.
     start: u32,
     /// What it takes of each row in a slot.
     shares: Vec<Vec<Share>>,
-    /// How often each slot was chosen.
-    pub(crate) counts: Vec<i64>,
     /// Its range in the present room.
     pub(crate) low: u32,
     pub(crate) high: u32,
     /// The slot that earns most.
-    chosen: u32,
+    pub(crate) chosen: u32,
     /// The slot in which the rows count what the ship takes.
     taken: Option<u32>,
 }
@@ -45,10 +44,10 @@ impl Subproblem {
             shares.push(Vec::new(alloc))?;
         }
         Ok(Subproblem {
+            ship,
             gains: gains(alloc, flat, ship)?,
             start: ship.saturating_mul(slots.saturating_add(1)),
             shares,
-            counts: vec![in alloc; 0; slots as usize]?,
             low: 0,
             high: slots.saturating_sub(1),
             chosen: 0,
@@ -86,9 +85,6 @@ impl Subproblem {
         let paid = within(rises, self.place(self.low), self.place(self.high));
         let (slot, earned) = best_slot(within(&self.gains, self.low, self.high), paid, self.low);
         self.chosen = slot;
-        if let Some(count) = self.counts.get_mut(slot as usize) {
-            *count = count.wrapping_add(1);
-        }
         earned
     }
 
@@ -116,27 +112,6 @@ impl Subproblem {
             Some(shares) => shares,
         }
     }
-
-    /// Forgets how often slots were chosen.
-    pub(crate) fn forget_counts(&mut self) {
-        for count in self.counts.iter_mut() {
-            *count = 0;
-        }
-    }
-
-    /// How often a slot from one to another was chosen.
-    pub(crate) fn chosen_within(&self, low: u32, high: u32) -> i64 {
-        let mut sum: i64 = 0;
-        for slot in low..high.saturating_add(1) {
-            sum = sum.wrapping_add(self.count(slot));
-        }
-        sum
-    }
-
-    /// How often a slot was chosen.
-    pub(crate) fn count(&self, slot: u32) -> i64 {
-        self.counts.get(slot as usize).copied().unwrap_or(0)
-    }
 }
 
 /// What a ship gains in each slot.
@@ -151,10 +126,12 @@ fn gains(alloc: Global, flat: &Flat, ship: ShipId) -> Result<Vec<i64>, NoMemory>
     Ok(out)
 }
 
-fn gain(value: Option<u64>) -> i64 {
+fn gain(value: Option<u64>) -> i64
+    requires small { unwrap_or value 0 ≤ MOST_VALUE }
+{
     match value {
         None => NOTHING,
-        Some(value) => i64::try_from(value).unwrap_or(0).saturating_mul(SCALE),
+        Some(value) => value as i64 * SCALE,
     }
 }
 

@@ -1,7 +1,8 @@
 //! What each ship earns in each slot under prices that stand.
 
+use crate::course::goal;
 use crate::rows::{Row, capacity};
-use crate::subproblems::{SCALE, Subproblem};
+use crate::subproblems::Subproblem;
 use hw_flat::{Room, ShipId};
 use hw_model::NoMemory;
 use std::alloc::Global;
@@ -62,12 +63,7 @@ impl Table {
     /// A room is refuted where the ships' greatest earnings in their ranges are at most this
     /// together.
     pub(crate) fn limit(&self, best: u64) -> i64 {
-        i64::try_from(best)
-            .unwrap_or(i64::MAX)
-            .saturating_add(1)
-            .saturating_mul(SCALE)
-            .saturating_sub(1)
-            .saturating_sub(self.allowance)
+        goal(best).saturating_sub(self.allowance)
     }
 
     /// The sum of the ships' greatest earnings in their ranges.

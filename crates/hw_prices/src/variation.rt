@@ -2,13 +2,8 @@
 
 ghost use Rattle.std.specs.Prelude.{◌≡◌, ◌%◌, ◌==◌};
 
+use crate::settings::{FEWEST_STEPS, MORE_STEPS};
 use hw_flat::ShipId;
-
-/// Prices are moved for at least this many steps in a room,
-const FEWEST_STEPS: u32 = 60;
-
-/// and for fewer than this many more.
-const MORE_STEPS: u32 = 128;
 
 /// What a seed moves: which ship is decided first where two are worth nearly the same, after which
 /// restarts that is by regret, and for how many steps prices are moved in a room. Seed 0 moves nothing.
@@ -36,7 +31,8 @@ impl Variation {
         mixed(self.seed, ship)
     }
 
-    /// What a ship's worth counts when ships are compared: up to 255 parts more, of 512, 1024 or 2048.
+    /// What a ship's worth counts when ships are compared: up to 255 parts more, of 512, 1024 or 2048. Nothing is known
+    /// of other parts.
     pub(crate) fn worth(self, ship: ShipId, worth: i64) -> i64
         ensures standing { self.seed ≡ 0 → result ≡ worth }
     {

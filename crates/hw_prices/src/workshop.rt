@@ -1,17 +1,11 @@
 //! Where timetables are made.
 
+use crate::settings::{MOST_EFFORT, TUGS};
 use crate::table::Table;
 use hw_flat::{Flat, Room, Timetable};
 use hw_making::{Maker, Ranking};
 use hw_model::{Hole, Job, NoMemory, Rule};
 use std::alloc::Global;
-
-/// No timetables are made of a problem whose ships rule out more slots for each other than this,
-/// counted once for each rule: each timetable would take too long.
-const MOST_EFFORT: u64 = 200_000;
-
-/// A slot for which a job holds its tugs counts as much as this many.
-const TUGS: u64 = 16;
 
 /// Makes timetables, where that doesn't take too long.
 #[derive(Drop)]
