@@ -86,6 +86,29 @@ class Made(unittest.TestCase):
                 ("latest", 2, "2027-03-14 05:55", 9), ("latest", 2, "2027-03-20 00:00", 95), ("latest", 2, "", 95)]:
             self.assertEqual(made(edited(column, text, row))["ships"][row - 2][column], slot)
 
+    def test_free_forms(self):
+        # Letters of columns and directions, a column of one's own, and a duration with seconds, as spreadsheets have them.
+        table = with_column("# agent", ["Meyer"] * 10)
+        self.assertEqual(made(table.replace("name,direction", "Name,DIRECTION").replace("outgoing", "Outgoing")), DAY)
+        table = with_column("after,gap", [",", "Gannet,18:00:00"] + [","] * 8).replace("after,gap,", "after,gap")
+        self.assertEqual(made(table)["after"], [{"first": 6, "second": 1, "gap": 76}])
+
+    def test_hours_and_minutes(self):
+        # 15 minutes are a slot. What is exact is as in slots, and the rest is rounded to the safe side.
+        exact = BASE.replace("[[3,4],[2,2]]", '[["0:45","1:00"],["0:30","0:30:00"]]').replace('"outgoing":2', '"outgoing":"0:30"')
+        exact = exact.replace('"offset":4', '"offset":"1:00"').replace('"enter":1,"leave":3', '"enter":"0:15","leave":"0:45"')
+        exact = exact.replace('"clear":4', '"clear":"1:00"')
+        self.assertEqual(made(edited("job", "1:00"), exact), DAY)
+        other = BASE.replace("[[3,4],[2,2]]", '[["0:31","0:46"],["0:16","0:30"]]').replace('"incoming":1', '"incoming":"0:01"')
+        other = other.replace('"enter":1,"leave":3', '"enter":"0:29","leave":"0:31"').replace('"clear":4', '"clear":"0:50"')
+        self.assertEqual(made(edited("job", "0:46"), other), DAY)
+        # At the bar 65 minutes later: in the slots 4 and 5 after its own.
+        late = made(base=BASE.replace('{"waypoint":"Bar","offset":4', '{"waypoint":"Bar","offset":"1:05"'))
+        self.assertEqual(late["ships"][0]["route"], [*DAY["ships"][0]["route"], {**DAY["ships"][0]["route"][1], "offset": 5}])
+        with self.assertRaises(port.Refused) as raised:
+            made(base=BASE.replace('"clear":4', '"clear":"1h"'))
+        self.assertEqual(str(raised.exception), 'port.json, berths.0.clear: "1h" is no integer')
+
     def test_may_stay(self):
         instance = made(with_column("may_stay", ["yes", "No"] + ["no"] * 8))
         self.assertEqual(instance["version"], 2)
@@ -188,8 +211,13 @@ class Refused(unittest.TestCase):
                 ("earliest", 4, "2027-03-15 03:26", "no slot is left: it is after the last slot"),
                 ("latest", 4, "2027-03-14 03:39", "it is before slot 0"),
                 ("latest", 4, "2027-03-14 05:30", "7 is below earliest, which is 8"),
-                ("tpc", 2, "100.0", '"100.0" is no whole number'),
-                ("tpc", 2, "", '"" is no whole number'),
+                ("tpc", 2, "100.0", '"100.0" is no whole number of tenths of a tonne'),
+                ("tpc", 2, "", '"" is no whole number of tenths of a tonne'),
+                ("deep", 2, "17.2", '"17.2" is no whole number of centimetres'),
+                ("job", 2, "1h", '"1h" is no whole number of slots'),
+                ("name", 2, "Möwe Nö", '"Möwe Nö" is no name of 1 to 40 plain characters: it has "ö"'),
+                ("earliest", 4, "14.03.2027 05:30",
+                 "14.03.2027 is no date of the form 2027-03-14, with a year of four digits (--dates dmy or mdy?)"),
                 ("tpc", 2, "3001", "3001 isn't from 0 to 3000"),
                 ("deep", 2, "1099", "1099 is below light, which is 1100"),
                 ("job", 2, "0", "0 isn't from 1 to 512")]:
@@ -199,14 +227,18 @@ class Refused(unittest.TestCase):
 
     def test_tables(self):
         header = SHIPS.splitlines()[0]
+        twice = "this column isn't known, or stands there twice; one that says nothing begins with #"
         for old, new, cause in [
-                ("berth", "quay", "row 1, column quay: this column isn't known, or stands there twice"),
-                ("berth", "job", "row 1, column job: this column isn't known, or stands there twice"),
+                ("berth", "Quay", f"row 1, column Quay: {twice}"), ("berth", "JOB", f"row 1, column job: {twice}"),
                 ("class,", "", "row 1, column class: this column is missing"),
                 ("East,3,4", "East,3,4,5", "row 2, column 13: there are more cells than columns")]:
             self.refused(f"ships.csv, {cause}", ships=SHIPS.replace(old, new, 1))
         self.refused("ships.csv, row 1, column name: this column is missing", ships="")
         self.refused("ships.csv, row 2, column name: there are 0 ships, and not 1 to 40", ships=header)
+        # One fault is told of each row.
+        faults = SHIPS.replace("Albatross,outgoing", "Albatross,out").replace("Curlew,outgoing,cape", "Curlew,outgoing,barge")
+        self.refused("""ships.csv, row 2, column direction: "out" is none of ['outgoing', 'incoming']\n"""
+                     'ships.csv, row 4, column class: "barge" is no class of the port', ships=faults)
         many = header + "".join(f"\nA{number},incoming,cape,,,,900,,in,,1,4" for number in range(41))
         self.refused("ships.csv, row 2, column name: there are 41 ships, and not 1 to 40", ships=many)
 
@@ -269,10 +301,12 @@ class Refused(unittest.TestCase):
 
 
 def places():
-    """The rows of the table of places: place, kind and meaning."""
+    """The places of the table: place, kind and meaning, with those of items that have members, which are objects."""
     with open(os.path.join(HERE, "..", "docs", "FORMATS.md"), encoding="utf-8") as file:
-        return [(place, kind, re.sub("^`[23]`", "", meaning.strip()).strip()) for place, kind, meaning in
-                re.findall(r"^\| [0-9]+ \| `([a-z_.*]+)` \| ([a-z ]+) \|(.*)\|$", file.read(), re.MULTILINE)]
+        rows = [(place, kind, re.sub("^`[23]`", "", meaning.strip()).strip()) for place, kind, meaning in
+                re.findall(r"^\| `([a-z_.*]+)` \| (object|list|text|number|truth value) \|(.*)\|$", file.read(), re.MULTILINE)]
+    return rows + [(item, "object", "") for item in sorted({place.rpartition(".")[0] for place, _, _ in rows if ".*." in place})
+                   if item.endswith("*") and item not in {place for place, _, _ in rows}]
 
 
 def resolved(schema):

@@ -168,6 +168,16 @@ class Reading(Room):
         self.assertEqual(self.heights(FROM_LOW, minutes="372", start=early, source="waters.txt-24m"), [58, 431, 74])
         self.assertEqual(self.heights(FROM_LOW, minutes="372", source="waters.txt*0,5"), [29, 215, 37])
         self.assertEqual(self.heights(FROM_LOW, minutes="372", source="waters.txt+1ft"), [88, 461, 104])
+        # Low waters at 04:11 and 16:36 with 48 and 64 cm, between them a high one at 10:16 with 411: 15 of the last 63 1/3
+        # minutes before the second low one it is 64 + 347/12 * 15/63.33 = 70.8.
+        self.assertEqual(self.heights(FROM_LOW, minutes="365", start="2027-03-14 04:11",
+                                      source="waters.txt+24m/+31m-20cm/-10cm"), [48, 411, 70])
+        self.assertEqual(self.heights(FROM_LOW, minutes="372", source="waters.txt-10cm/-0cm"), [58, 421, 74])
+
+    def test_day_of_the_week(self):
+        days = "Sun 2027-03-14 03:40 0.58 09:52 4.31\nMo., 2027-03-14 16:05 0.74\nSø;2027-03-14;22:16;4.12;\n"
+        self.assertEqual(self.heights(days, minutes="372"), self.heights(
+            "2027-03-14 03:40 0.58 09:52 4.31 16:05 0.74 22:16 4.12\n", minutes="372"))
 
     def test_last_slot(self):
         # In 2985 minutes, but a table has 2048 slots at most.
@@ -193,7 +203,7 @@ class Refusals(Room):
                 ("4.31", "0.50", "line 4: this water and the one before aren't high and low in turn: is one missing?"),
                 ("4.31", "0.58", "line 2: this water is as high as the one before"),
                 ("2027-03-14 09:52", "14.03.2027 09:52",
-                 "line 2: 14.03.2027 is no date of the form 2027-03-14, with a year of four digits"),
+                 "line 2: 14.03.2027 is no date of the form 2027-03-14, with a year of four digits (--dates dmy or mdy?)"),
                 ("2027-03-15 04:31", "2027-02-29 04:31", "line 5: the date 2027-02-29 doesn't exist"),
                 ("09:52", "24:00", "line 2: the time 24:00 doesn't exist"),
                 ("09:52", "9", "line 2: 9 is no time such as 09:52"),
@@ -202,7 +212,8 @@ class Refusals(Room):
                  "line 3: this water and the one before aren't high and low in turn: is one missing?")]:
             self.refused_list(TWO_DAYS.replace(old, new, 1), cause)
         self.refused_list(TWO_DAYS.encode() + b"\xff\n", "line 10: this isn't text in UTF-8")
-        self.refused_list(FROM_LOW.replace("03:40", "03:41"), "line 1: the first water must be at START or earlier")
+        self.refused_list(FROM_LOW.replace("03:40", "03:41"), "line 1: the first water must be at START or earlier: "
+                          "begin with the one before it")
         self.refused_list("2027-03-13 15:40 0.58\n2027-03-13 21:52 4.31\n",
                           "line 2: the last water is before the end of the first slot")
         self.refused_list("2027-03-14 03:40 2\n2027-03-14 09:52 7.0\n2027-03-14 16:05 x\n", "line 3: x is no number of feet",
@@ -246,6 +257,11 @@ class Refusals(Room):
                 (["Bar =waters.txt"], f"Bar =waters.txt: {plain}"),
                 (["waters.txt"], "waters.txt isn't NAME=FILE"),
                 (["Bar=other.txt"], "other.txt: No such file or directory"),
+                (["Bar=waters.txt+24"],
+                 "waters.txt+24: No such file or directory; differences are written as +24m*1.03-5cm"),
+                (["Bar=waters.txt+0m/+400m"],
+                 "waters.txt with its differences, line 2: this water isn't later than the one before"),
+                (["Bar=waters.txt-400cm/+0cm"], "waters.txt with its differences: high waters are below low ones"),
                 ([f"Bar=waters.txt*{'9' * 5000}"], f"Bar=waters.txt*{'9' * 5000}: {'9' * 5000} is no number of times"),
                 (["Bar=waters.txt*0"], "Bar=waters.txt*0: the factor must be above 0"),
                 (["Bar=waters.txt*1.2.3"], "Bar=waters.txt*1.2.3: 1.2.3 is no number of times"),

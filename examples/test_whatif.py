@@ -16,12 +16,18 @@ PROGRAM = None
 # What it reports depends on the fleet alone, or else on all depths, slots and separations.
 FAKE = """#!/usr/bin/env python3
 import json
+import os
 import sys
 import time
 form, port, instance, tides, budget, proof, *seed = sys.argv[1:]
 assert (form, port, tides, budget) == ("prove", "port", "tides.csv", "20")
 day = json.load(open(instance))
 open(proof, "w").write("cert 3\\n")
+# With eight tugs it goes on for a minute, and says which process it is.
+if day["fleet"] == 8:
+    open("pid.part", "w").write(str(os.getpid()))
+    os.rename("pid.part", "pid")
+    time.sleep(60)
 # In a race seed 1 spends its budget, seed 2 has a proof after that, and the others go on for a minute.
 if seed and seed[0] != "1" and day["fleet"] == 4:
     time.sleep(0.5 if seed[0] == "2" else 60)
@@ -55,6 +61,14 @@ class WhatIf(unittest.TestCase):
     def run_it(self, *words):
         return subprocess.run([sys.executable, os.path.join(HERE, "whatif.py"), *words], cwd=self.room, capture_output=True,
                               text=True, check=False)
+
+    def task(self, folder, number, job=None, place=None):
+        """How a task of the array in a folder ends, and what it says: by hand, or as Slurm begins a job in a place."""
+        slurm = {"SLURM_JOB_ID": job, "SLURM_ARRAY_JOB_ID": "7"} if job else {}
+        done = subprocess.run(["bash", os.path.join(folder, "array.sh")], cwd=place, capture_output=True, text=True, check=False,
+                              env={**os.environ, **slurm, "SLURM_ARRAY_TASK_ID": str(number),
+                                   "PATH": self.room + os.pathsep + os.environ["PATH"]})
+        return done.returncode, done.stdout + done.stderr
 
     def rows(self, *words):
         """The rows that are printed, by the columns of the header and without the seconds."""
@@ -105,10 +119,41 @@ class WhatIf(unittest.TestCase):
             self.assertIn("\n#SBATCH --array=0-2\n", file.read())
         # The second job is still waiting.
         for number in (0, 2):
-            subprocess.run(["bash", os.path.join(folder, "array.sh")], check=True,
-                           env={**os.environ, "SLURM_ARRAY_TASK_ID": str(number)})
+            self.assertEqual(self.task(folder, number), (0, ""))
         rows = self.rows(*words)
         self.assertEqual(self.rows("--table", "array"), [rows[0], ["fleet 3", "no report", "", "", ""], rows[2]])
+        # A job of Slurm begins where it was submitted, or where it is told by --chdir.
+        self.assertEqual(self.task(folder, 1, "1", folder), (0, ""))
+        self.assertEqual(self.rows("--table", "array"), rows)
+        self.assertEqual(self.task(folder, 1, "1", self.room), (
+            1, f"there is no 1.json in {self.room}: is this the folder of array.sh?\n"))
+        self.assertFalse(os.path.exists(os.path.join(self.room, "1.report")))
+
+    def test_slurm_failed(self):
+        self.run_it("--slurm", "array", "--program", "fake", "--budget", "20", "day.json", "day.csv", "fleet=9")
+        folder = os.path.join(self.room, "array")
+        # A budget that is spent is no failure of a task; a program that is gone, or ends otherwise, is.
+        self.put("array/1.json", json.dumps({**DAY, "fleet": 2}))
+        self.assertEqual(self.task(folder, 1), (0, ""))
+        os.remove(os.path.join(self.room, "fake"))
+        code, said = self.task(folder, 1)
+        self.assertEqual((code, said.endswith("fake: No such file or directory\n")), (1, True))
+
+    def test_slurm_race(self):
+        done = self.run_it("--slurm", "array", "--program", "fake", "--budget", "20", "--race", "3", "day.json", "day.csv")
+        self.assertEqual((done.returncode, done.stdout, done.stderr), (0, "", ""))
+        folder = os.path.join(self.room, "array")
+        self.put("scancel", f'#!/bin/sh\necho "$@" >> {self.room}/cancelled\n')
+        os.chmod(os.path.join(self.room, "scancel"), 0o755)
+        # Seed 1 spends its budget, and seed 2 ends the array.
+        for seed, ended in (("1", False), ("2", True)):
+            self.assertEqual(self.task(folder, seed, "8", folder), (0, ""))
+            self.assertEqual(os.path.exists(os.path.join(self.room, "cancelled")), ended)
+        with open(os.path.join(self.room, "cancelled"), encoding="utf-8") as file:
+            self.assertEqual(file.read(), "7\n")
+        done = self.run_it("--table", "array")
+        self.assertEqual([line.split()[:3] for line in done.stdout.splitlines()[1:]], [
+            ["0", "ended"], ["1", "unfinished", "700.0"], ["2", "optimal", "751.0"]])
 
     def test_no_day(self):
         self.put("day.json", json.dumps({**DAY, "fleet": 6}))
@@ -134,10 +179,25 @@ class WhatIf(unittest.TestCase):
         self.assertEqual((done.returncode, done.stderr), (1, "whatif.py: no seed has a proof\n"))
         self.assertEqual(done.stdout.splitlines()[1].split()[:3], ["0", "unfinished", "900.5"])
 
-        for more in (["fleet=3"], ["--form", "solve"], ["--slurm", "array"], ["--race", "-1"]):
+        for more in (["fleet=3"], ["--form", "solve"], ["--race", "-1"]):
             done = self.run_it("--program", "fake", "--race", "2", "day.json", "day.csv", *more)
             self.assertEqual((done.returncode, done.stdout, done.stderr), (
                 1, "", "whatif.py: --race N plans the day as it is by prove, with one seed or more\n"))
+
+    def test_ended(self):
+        words = [sys.executable, os.path.join(HERE, "whatif.py"), "--program", "fake", "--budget", "20", "--at-once", "1", "--keep",
+                 "kept", "day.json", "day.csv", "fleet=8", "fleet=3"]
+        with subprocess.Popen(words, cwd=self.room, stderr=subprocess.DEVNULL) as run:
+            pid = os.path.join(self.room, "kept", "pid")
+            while not os.path.exists(pid):
+                self.assertIsNone(run.poll())
+                time.sleep(0.1)
+            run.terminate()
+            self.assertEqual(run.wait(30), 143)
+        # The run that went on is ended, and no other has begun.
+        with open(pid, encoding="utf-8") as file:
+            self.assertRaises(ProcessLookupError, os.kill, int(file.read()), 0)
+        self.assertFalse(os.path.exists(os.path.join(self.room, "kept", "2.report")))
 
     def test_refused(self):
         for word, cause in [("tugs=3", "tugs=3 is no variant"), ("fleet", "fleet is no variant"),
@@ -162,7 +222,7 @@ class WhatIf(unittest.TestCase):
         self.assertEqual(rows[:2], [["as it is", "optimal", "106780.0", "", ""],
                                     ["fleet 8", "optimal", "108300.0", "", "+1520.0"]])
         self.assertEqual(rows[3:], [["fleet 2", "infeasible", "", "", ""],
-                                    ["Curlew 4 slots later", "bad instance ships.2.latest order", "", "", ""]])
+                                    ["Curlew 4 slots later", "no slot is left", "", "", ""]])
 
         day = self.rows("--program", PROGRAM, *(os.path.join(HERE, name) for name in ("day.json", "day-tides.csv")),
                         "deeper=Bar:10")
