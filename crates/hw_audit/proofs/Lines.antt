@@ -14,10 +14,10 @@ abbrev Read : Type 0
 Read = Result (List PortEvent × List (List ℕ)) (MalformedLine AuditWord)
 
 -- what was read before, and what is still read
-abbrev pub behind : List PortEvent → Read → Read
-behind front read = read >>= λ x. Ok (front ++ x.0, x.1)
+abbrev pub prefixed : List PortEvent → Read → Read
+prefixed front read = read >>= λ x. Ok (front ++ x.0, x.1)
 
-regroup : (front : List PortEvent) (event : PortEvent) (read : Read) → behind front (read >>= λ x. Ok (event ∷ x.0, x.1)) ≡ behind (front ++ event ∷ []) read
+regroup : (front : List PortEvent) (event : PortEvent) (read : Read) → prefixed front (read >>= λ x. Ok (event ∷ x.0, x.1)) ≡ prefixed (front ++ event ∷ []) read
 regroup front event (Ok x) = ap (λ (es : List PortEvent). Ok (es, x.1)) (sym (append_assoc front (event ∷ []) x.0))
 regroup front event (Err f) = refl
 
@@ -42,32 +42,32 @@ events_step number parts line rest cut other =
     rw (cut_is parts line rest cut, r.2, other) refl
 
 pub events_ended : (front : List PortEvent) (number : ℕ) (parts : List (List ℕ)) (line rest : List ℕ) (total : Read) → Cut parts line rest → true ≡ bytes_eq line (codes "end")
-    → behind front (events_at number parts) ≡ total → total ≡ Ok (front, parts_of 10 rest)
+    → prefixed front (events_at number parts) ≡ total → total ≡ Ok (front, parts_of 10 rest)
 unfolding events_at
 events_ended front number parts line rest total cut end so_far =
     let r = has_part (λ b. b == 10) rest in
-    let one : behind front (events_at number parts) ≡ Ok (front ++ [], parts_of 10 rest) = rw (cut_is parts line rest cut, r.2, sym end) refl in
+    let one : prefixed front (events_at number parts) ≡ Ok (front ++ [], parts_of 10 rest) = rw (cut_is parts line rest cut, r.2, sym end) refl in
     sym so_far ∙ one ∙ ap (λ (es : List PortEvent). Ok (es, parts_of 10 rest)) (append-nil front)
 
-pub events_cut_off : (front : List PortEvent) (number : ℕ) (parts : List (List ℕ)) (total : Read) → first_part parts ≡ None → behind front (events_at number parts) ≡ total → total ≡ malformed_line number words.Form
+pub events_cut_off : (front : List PortEvent) (number : ℕ) (parts : List (List ℕ)) (total : Read) → first_part parts ≡ None → prefixed front (events_at number parts) ≡ total → total ≡ malformed_line number words.Form
 unfolding events_at
 events_cut_off front number [] total none so_far = sym so_far
 events_cut_off front number (x ∷ []) total none so_far = sym so_far
 events_cut_off front number (x ∷ y ∷ parts) total none so_far = absurd cc
 
 pub events_fail : (front : List PortEvent) (number : ℕ) (parts : List (List ℕ)) (line rest : List ℕ) (total : Read) → Cut parts line rest → bytes_eq line (codes "end") ≡ false → event_form line ≡ None
-    → behind front (events_at number parts) ≡ total → total ≡ malformed_line number words.Form
+    → prefixed front (events_at number parts) ≡ total → total ≡ malformed_line number words.Form
 events_fail front number parts line rest total cut other bad so_far =
-    let one : behind front (events_at number parts) ≡ malformed_line number words.Form = rw (events_step number parts line rest cut other, bad) refl in
+    let one : prefixed front (events_at number parts) ≡ malformed_line number words.Form = rw (events_step number parts line rest cut other, bad) refl in
     sym so_far ∙ one
 
 pub events_go_on : (front more : List PortEvent) (event : PortEvent) (first : ℕ) (parts : List (List ℕ)) (line rest : List ℕ) (total : Read) → Cut parts line rest → bytes_eq line (codes "end") ≡ false → event_form line ≡ Some event
-    → more ≡ front ++ event ∷ [] → behind front (events_at (first + length front) parts) ≡ total → behind more (events_at (first + length more) (parts_of 10 rest)) ≡ total
+    → more ≡ front ++ event ∷ [] → prefixed front (events_at (first + length front) parts) ≡ total → prefixed more (events_at (first + length more) (parts_of 10 rest)) ≡ total
 events_go_on front more event first parts line rest total cut other good grown so_far =
     let n : (first + length front) + 1 ≡ first + (length front + 1) = omega arith in
     let size : length more ≡ length front + 1 = ap length grown ∙ length_push front event in
     let step : events_at (first + length front) parts ≡ event_before (first + length front) (Some event) (events_at (first + (length front + 1)) (parts_of 10 rest)) =
     rw (events_step (first + length front) parts line rest cut other, good, n) refl in
-    let one : behind front (events_at (first + length front) parts) ≡ behind (front ++ event ∷ []) (events_at (first + (length front + 1)) (parts_of 10 rest)) =
+    let one : prefixed front (events_at (first + length front) parts) ≡ prefixed (front ++ event ∷ []) (events_at (first + (length front + 1)) (parts_of 10 rest)) =
     rw step (regroup front event (events_at (first + (length front + 1)) (parts_of 10 rest))) in
     rw (size, grown) (sym one ∙ so_far)

@@ -58,8 +58,8 @@ at_last n place fleet [] jobs e = absurd cc
 at_last n zero fleet (job ∷ own) jobs e = omega arith
 at_last n (suc place) fleet (job ∷ own) jobs e = absurd cc
 
-behind : (rules last : List Rule) (place fleet : ℕ) (jobs : List Job) → Each2 rules → ((i : ℕ) → slice_get last i ≡ Some (Tugs fleet jobs) → i + 1 ≡ length last) → slice_get (rules ++ last) place ≡ Some (Tugs fleet jobs) → place + 1 ≡ length (rules ++ last)
-behind rules last place fleet jobs each own e = elim (cases_lt place (length rules)) [
+prefixed : (rules last : List Rule) (place fleet : ℕ) (jobs : List Job) → Each2 rules → ((i : ℕ) → slice_get last i ≡ Some (Tugs fleet jobs) → i + 1 ≡ length last) → slice_get (rules ++ last) place ≡ Some (Tugs fleet jobs) → place + 1 ≡ length (rules ++ last)
+prefixed rules last place fleet jobs each own e = elim (cases_lt place (length rules)) [
   | inl lt ↦ absurd (not_tugs rules place fleet jobs each (sym (get_left rules last place lt) ∙ e))
   | inr le ↦
       let at : place ≡ length rules + (place - length rules) = omega (arith, le) in
@@ -70,6 +70,6 @@ behind rules last place fleet jobs each own e = elim (cases_lt place (length rul
 pub tugs_last : (p : Parts) → TugsComeLast (rules_of p)
 tugs_last p place fleet jobs e =
     let tugs = tug_rule (whole p.fleet) (jobs_from p 0 p.ships) in
-    behind (pairs_from p 0 p.ships) (map berth_rule p.berths ++ (map after_rule p.after ++ tugs)) place fleet jobs (all_pairs p 0 p.ships)
-    (λ i h. behind (map berth_rule p.berths) (map after_rule p.after ++ tugs) i fleet jobs (all_berths p.berths)
-    (λ j k. behind (map after_rule p.after) tugs j fleet jobs (all_after p.after) (λ m. at_last (whole p.fleet) m fleet (jobs_from p 0 p.ships) jobs) k) h) e
+    prefixed (pairs_from p 0 p.ships) (map berth_rule p.berths ++ (map after_rule p.after ++ tugs)) place fleet jobs (all_pairs p 0 p.ships)
+    (λ i h. prefixed (map berth_rule p.berths) (map after_rule p.after ++ tugs) i fleet jobs (all_berths p.berths)
+    (λ j k. prefixed (map after_rule p.after) tugs j fleet jobs (all_after p.after) (λ m. at_last (whole p.fleet) m fleet (jobs_from p 0 p.ships) jobs) k) h) e

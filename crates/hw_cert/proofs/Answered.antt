@@ -12,7 +12,7 @@ use Rattle.hw_text.specs.Parts.{parts_of}
 use Rattle.hw_cert.specs.Fits.{line_read}
 use Rattle.hw_cert.specs.Spelled.{is_within, version_to}
 use Rattle.hw_cert.specs.Laws.{has_form}
-use Rattle.hw_cert.specs.Stream.{Cut, whole, long, line_passes_limit, cut_of, NextLine, bad, too_long, line_next, header_next, header_by, next_by, line_by, behind}
+use Rattle.hw_cert.specs.Stream.{Cut, whole, long, line_passes_limit, cut_of, NextLine, bad, too_long, line_next, header_next, header_by, next_by, line_by, past_line}
 use Rattle.hw_cert.specs.Reader.{ReaderModel, ReaderKeeps}
 use Rattle.hw_cert.specs.Taking.{TakesLine}
 use Rattle.hw_cert.specs.Nexts.{rest_of, next_line, StopsAs, Answers, GoesOn, TakesNextLine, TakesHeader}
@@ -98,7 +98,7 @@ header_wrong {line = line} {pending = pending} {x = x} {y = y} r none le unnamed
 
 -- after a header
 abbrev pub past_header : ReaderModel → Version → List ℕ → List ℕ → ReaderModel
-past_header r version line pending = record { shape = r.shape; feed = r.feed; at = behind r.at.most version r.at.number r.at.taken line; pending = pending }
+past_header r version line pending = record { shape = r.shape; feed = r.feed; at = past_line r.at.most version r.at.number r.at.taken line; pending = pending }
 
 pub header_taken : {line pending : List ℕ} {x y : DeskState} (r : ReaderModel) (version : Version) → r.at.version ≡ None → r.at.taken ≤ 2 ^ 40 → version_to r.at.most line ≡ Some version → TakesLine r.feed r.at.taken r.pending pending line x y (Ok Whole) → TakesHeader r x y (Ok (past_header r version line pending))
 header_taken {line = line} {pending = pending} {x = x} {y = y} r version none le named h = record {
@@ -188,7 +188,7 @@ line_unended {line = line} {pending = pending} {x = x} {y = y} r version named l
 
 -- what the bytes of a line read as, and what is left after it
 read_as : (line : List ℕ) (r : ReaderModel) (version : Version) (rest : List ℕ) (left : Option (List ℕ)) → r.at.version ≡ Some version → IsSomeAnd left (λ more. cut_of r.at.taken (parts_of 10 rest) ≡ whole line (parts_of 10 more))
-    → IsSomeAnd left (λ more. next_line r rest ≡ line_by r.at.number (behind r.at.most version r.at.number r.at.taken line) (parts_of 10 more) (line_read r.shape version line))
+    → IsSomeAnd left (λ more. next_line r rest ≡ line_by r.at.number (past_line r.at.most version r.at.number r.at.taken line) (parts_of 10 more) (line_read r.shape version line))
 read_as line r version rest left named c = some_map left (λ more cut. at_line r version rest named ∙ ap (line_next r.shape r.at.most version r.at.number r.at.taken) cut) c
 
 pub line_bad : {line pending : List ℕ} {x y : DeskState} (r : ReaderModel) (version : Version) (word : FormWord) → r.at.version ≡ Some version → r.at.taken ≤ 2 ^ 40 → line_read r.shape version line ≡ Err word → TakesLine r.feed r.at.taken r.pending pending line x y (Ok Whole) → TakesNextLine r x y (Err (stops.Form r.at.number word))
@@ -200,9 +200,9 @@ line_bad {line = line} {pending = pending} {x = x} {y = y} r version word named 
   kept = λ none. h.kept (λ e. absurd (cc));
 }
   where
-    is_bad : (rest : List ℕ) (left : Option (List ℕ)) → IsSomeAnd left (λ more. next_line r rest ≡ line_by r.at.number (behind r.at.most version r.at.number r.at.taken line) (parts_of 10 more) (line_read r.shape version line)) → next_line r rest ≡ bad r.at.number word
+    is_bad : (rest : List ℕ) (left : Option (List ℕ)) → IsSomeAnd left (λ more. next_line r rest ≡ line_by r.at.number (past_line r.at.most version r.at.number r.at.taken line) (parts_of 10 more) (line_read r.shape version line)) → next_line r rest ≡ bad r.at.number word
     is_bad rest None c = absurd c
-    is_bad rest (Some more) c = c ∙ ap (line_by r.at.number (behind r.at.most version r.at.number r.at.taken line) (parts_of 10 more)) wrong
+    is_bad rest (Some more) c = c ∙ ap (line_by r.at.number (past_line r.at.most version r.at.number r.at.taken line) (parts_of 10 more)) wrong
 
 within : (taken size : ℕ) → line_passes_limit taken size 1 ≡ false → taken + size + 1 ≤ 2 ^ 40
 within taken size h = both_off (nat_lt (2 ^ 20) size) (nat_lt (2 ^ 40) (taken + size + 1)) h (λ k. omega (arith, ltb-false (2 ^ 40) (taken + size + 1) k))
@@ -218,7 +218,7 @@ pub line_taken : {line pending : List ℕ} {x y : DeskState} (r : ReaderModel) (
     → ((f : Problem) → shape_of f ≡ r.shape → LineFits f l) → has_form r.at.most l ≡ true → TakesLine r.feed r.at.taken r.pending pending line x y (Ok Whole) → TakesNextLine r x y (Ok (nexts.Line (past_header r version line pending) l))
 line_taken {line = line} {pending = pending} {x = x} {y = y} r version l named le is fits formed h = record {
   moved = (h.moved.0, h.moved.1, h.moved.2);
-  next = told_map (rest_of r x) (λ rest c. some_map (prepend_known pending (y.feeds r.feed).left) (λ more e. e ∙ ap (line_by r.at.number (behind r.at.most version r.at.number r.at.taken line) (parts_of 10 more)) is) (read_as line r version rest _ named c)) (told_cut h le);
+  next = told_map (rest_of r x) (λ rest c. some_map (prepend_known pending (y.feeds r.feed).left) (λ more e. e ∙ ap (line_by r.at.number (past_line r.at.most version r.at.number r.at.taken line) (parts_of 10 more)) is) (read_as line r version rest _ named c)) (told_cut h le);
   line = record {
     shape = refl;
     feed = refl;

@@ -68,13 +68,13 @@ cut_past taken line more l le p =
 
 -- what the bytes begin with, by what was taken; after it these bytes are left
 abbrev pub CutIs : ℕ → List ℕ → List ℕ → Option (List ℕ) → Result TakenLine LineStop → Type 0
-CutIs taken rest line behind (Ok Whole) = IsSomeAnd behind (λ more. cut_of taken (parts_of 10 rest) ≡ whole line (parts_of 10 more))
-CutIs taken rest line behind (Ok Unended) = cut_of taken (parts_of 10 rest) ≡ unended
-CutIs taken rest line behind (Ok Nothing) = cut_of taken (parts_of 10 rest) ≡ nothing
-CutIs taken rest line behind (Err (stops.Form number word)) = ⊥
-CutIs taken rest line behind (Err stops.Fault) = ⊤
-CutIs taken rest line behind (Err stops.TooLong) = cut_of taken (parts_of 10 rest) ≡ long
-CutIs taken rest line behind (Err stops.NoMemory) = ⊤
+CutIs taken rest line remainder (Ok Whole) = IsSomeAnd remainder (λ more. cut_of taken (parts_of 10 rest) ≡ whole line (parts_of 10 more))
+CutIs taken rest line remainder (Ok Unended) = cut_of taken (parts_of 10 rest) ≡ unended
+CutIs taken rest line remainder (Ok Nothing) = cut_of taken (parts_of 10 rest) ≡ nothing
+CutIs taken rest line remainder (Err (stops.Form number word)) = ⊥
+CutIs taken rest line remainder (Err stops.Fault) = ⊤
+CutIs taken rest line remainder (Err stops.TooLong) = cut_of taken (parts_of 10 rest) ≡ long
+CutIs taken rest line remainder (Err stops.NoMemory) = ⊤
 
 cut_by : (taken : ℕ) (all line pending more : List ℕ) (r : Result TakenLine LineStop) → taken ≤ 2 ^ 40 → Stands taken all line pending (Some more) r → CutIs taken (all ++ more) line (Some (pending ++ more)) r
 cut_by taken all line pending more (Ok Whole) le w =

@@ -18,7 +18,7 @@ use Rattle.hw_lines.specs.declared.line.Line.TheVariants as lines
 use Rattle.hw_cert.specs.declared.version.Version.{Version}
 use Rattle.hw_cert.specs.declared.version.Version.TheVariants.{One, Two, Three}
 use Rattle.hw_cert.proofs.WordBytes.{both_on}
-use Rattle.hw_cert.proofs.ReadBack.{mapped, chained, paired, number_back, numbers_back, some_back, behind_words, lits_back}
+use Rattle.hw_cert.proofs.ReadBack.{mapped, chained, paired, number_back, numbers_back, some_back, remainder_words, lits_back}
 use Rattle.hw_cert.proofs.Shapes.{fitted_ok}
 use Rattle.hw_cert.proofs.Spells.{Spells, only_back}
 use Rattle.hw_cert.proofs.TollBack.{narrows_back, tugs_back, tariff_back, priced_back, bound_back}
@@ -70,7 +70,7 @@ goal_back version ws line h =
     let r = only_back ws p.0 p.1 in
     subst (Spells version (codes "g") ws) p.2 (record { words_are = ap (λ (vs : List (List ℕ)). codes "g" ∷ vs) r.0; small = r.1; wide = refl; formed = refl })
 
-hinted_back : (version : Version) (ls : List Lit) (b : Option (List (List ℕ))) (line : Line) → hinted_form ls b ≡ Some line → list_all is_small (flat_map lit_numbers ls) ≡ true → Spells version (codes "l") (map lit_text ls ++ behind_words b) line
+hinted_back : (version : Version) (ls : List Lit) (b : Option (List (List ℕ))) (line : Line) → hinted_form ls b ≡ Some line → list_all is_small (flat_map lit_numbers ls) ≡ true → Spells version (codes "l") (map lit_text ls ++ remainder_words b) line
 hinted_back version ls None line h s = absurd cc
 hinted_back version ls (Some vs) line h s =
     let p = mapped (lines.Lemma ls) (all_numbers vs) line h in
@@ -84,9 +84,9 @@ hinted_back version ls (Some vs) line h s =
 
 lemma_back : (version : Version) (ws : List (List ℕ)) (line : Line) → lemma_form ws ≡ Some line → Spells version (codes "l") ws line
 lemma_back version ws line h =
-    let p = chained (λ (found : Lits). hinted_form found.lits found.behind) (lits_of ws) line h in
+    let p = chained (λ (found : Lits). hinted_form found.lits found.remainder) (lits_of ws) line h in
     let r = lits_back ws p.0 p.1 in
-    subst (λ (vs : List (List ℕ)). Spells version (codes "l") vs line) (sym r.words) (hinted_back version p.0.lits p.0.behind line p.2 r.small)
+    subst (λ (vs : List (List ℕ)). Spells version (codes "l") vs line) (sym r.words) (hinted_back version p.0.lits p.0.remainder line p.2 r.small)
 
 delete_back : (version : Version) (ws : List (List ℕ)) (line : Line) → delete_form version ws ≡ Some line → Spells version (codes "d") ws line
 delete_back One ws line h = absurd cc

@@ -12,7 +12,7 @@ use Rattle.hw_cert.specs.declared.version.Version.{Version}
 use Rattle.hw_cert.specs.declared.version.Version.TheVariants.{One, Two, Three}
 use Rattle.hw_cert.specs.Spelled.{is_within, version_to}
 use Rattle.hw_cert.specs.Fits.{line_read}
-use Rattle.hw_cert.specs.Stream.{Position, Cut, nothing, whole, unended, long, cut_of, behind, line_by, line_next, CertLines, onward, lines_from, lines_by, lines_after, cert_stream_to}
+use Rattle.hw_cert.specs.Stream.{Position, Cut, nothing, whole, unended, long, cut_of, past_line, line_by, line_next, CertLines, onward, lines_from, lines_by, lines_after, cert_stream_to}
 use Rattle.hw_cert.specs.Laws.{has_form, PlainForms, ThirdForms, ReadForms, PlainRead}
 use Rattle.hw_cert.proofs.WordBytes.{both_on}
 use Rattle.hw_cert.proofs.FormBack.{read_text}
@@ -102,7 +102,7 @@ by_line most number after more (Err word) later f h = refl
 
 by_cut : (shape : Shape) (most version : Version) (number taken : ℕ) (cut : Cut) (later : CertLines) → is_within most version ≡ true → AreFormed most later → AreFormed most (onward (line_next shape most version number taken cut) later)
 by_cut shape most version number taken nothing later within h = refl
-by_cut shape most version number taken (whole line more) later within h = by_line most number (behind most version number taken line) more (line_read shape version line) later (λ l e. read_formed most shape version line l within e) h
+by_cut shape most version number taken (whole line more) later within h = by_line most number (past_line most version number taken line) more (line_read shape version line) later (λ l e. read_formed most shape version line l within e) h
 by_cut shape most version number taken unended later within h = refl
 by_cut shape most version number taken long later within h = refl
 

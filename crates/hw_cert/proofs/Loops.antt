@@ -9,9 +9,9 @@ with_front front (Some xs) = Some (front ++ xs)
 
 abbrev pub with_lits : List Lit → Option Lits → Option Lits
 with_lits front None = None
-with_lits front (Some found) = Some (record { lits = front ++ found.lits; behind = found.behind })
+with_lits front (Some found) = Some (record { lits = front ++ found.lits; remainder = found.remainder })
 
 -- a literal more
 pub lit_more : (front : List Lit) (lit : Lit) (o : Option Lits) → with_lits (front ++ lit ∷ []) o ≡ with_lits front (put_lit (Some lit) o)
 lit_more front lit None = refl
-lit_more front lit (Some found) = ap (λ (ls : List Lit). Some (record { lits = ls; behind = found.behind })) (append_assoc front (lit ∷ []) found.lits)
+lit_more front lit (Some found) = ap (λ (ls : List Lit). Some (record { lits = ls; remainder = found.remainder })) (append_assoc front (lit ∷ []) found.lits)

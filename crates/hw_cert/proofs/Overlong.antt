@@ -12,7 +12,7 @@ use Rattle.hw_cert.specs.declared.stop.FormWord.{FormWord}
 use Rattle.hw_cert.specs.declared.version.Version.{Version}
 use Rattle.hw_cert.specs.Fits.{line_read}
 use Rattle.hw_cert.specs.Spelled.{version_to}
-use Rattle.hw_cert.specs.Stream.{whole, unended, long, line_passes_limit, cut_of, tail_cut, behind, line_by, line_next, CertLines, overlong, onward, lines_from, lines_by, lines_after}
+use Rattle.hw_cert.specs.Stream.{whole, unended, long, line_passes_limit, cut_of, tail_cut, past_line, line_by, line_next, CertLines, overlong, onward, lines_from, lines_by, lines_after}
 use Rattle.hw_cert.specs.Laws.{ended_size, OverLimit, IsOverLimit, OverlongPasses}
 
 -- a test that is passed says which limit it is
@@ -39,7 +39,7 @@ tail_over taken number shape most version (b ∷ bs) later h = by (line_passes_l
 line_over : (taken number : ℕ) (shape : Shape) (most version : Version) (line next : List ℕ) (more : List (List ℕ)) (later : CertLines) → (onward (line_next shape most version number taken (cut_of taken (line ∷ next ∷ more))) later).stop ≡ overlong → (line_passes_limit taken (length line) 1 ≡ true) ⊎ (later.stop ≡ overlong)
 line_over taken number shape most version line next more later h = by (line_passes_limit taken (length line) 1) h
   where
-    read : (r : Result Line FormWord) → (onward (line_by number (behind most version number taken line) (next ∷ more) r) later).stop ≡ overlong → later.stop ≡ overlong
+    read : (r : Result Line FormWord) → (onward (line_by number (past_line most version number taken line) (next ∷ more) r) later).stop ≡ overlong → later.stop ≡ overlong
     read (Ok one) h = h
     read (Err word) h = absurd cc
 

@@ -99,27 +99,27 @@ lit_back (letter ∷ rest) lit h =
     (ap (λ (bs : List ℕ). letter ∷ bs) text ∙ l.0, ap (list_all is_small) l.1 ∙ q.1)
 
 -- the words after literals
-abbrev pub behind_words : Option (List (List ℕ)) → List (List ℕ)
-behind_words None = []
-behind_words (Some ws) = codes ";" ∷ ws
+abbrev pub remainder_words : Option (List (List ℕ)) → List (List ℕ)
+remainder_words None = []
+remainder_words (Some ws) = codes ";" ∷ ws
 
 -- words that are literals, and what follows them
 pub record AreLits (ws : List (List ℕ)) (found : Lits) : Type 0 where
-  pub words : ws ≡ map lit_text found.lits ++ behind_words found.behind
+  pub words : ws ≡ map lit_text found.lits ++ remainder_words found.remainder
   pub small : list_all is_small (flat_map lit_numbers found.lits) ≡ true
 
-put_lit_back : (a : Option Lit) (b : Option Lits) (found : Lits) → put_lit a b ≡ Some found → (lit : Lit) × (more : Lits) × (a ≡ Some lit) × (b ≡ Some more) × (record { lits = lit ∷ more.lits; behind = more.behind } ≡ found)
+put_lit_back : (a : Option Lit) (b : Option Lits) (found : Lits) → put_lit a b ≡ Some found → (lit : Lit) × (more : Lits) × (a ≡ Some lit) × (b ≡ Some more) × (record { lits = lit ∷ more.lits; remainder = more.remainder } ≡ found)
 put_lit_back None b found h = absurd cc
 put_lit_back (Some lit) None found h = absurd cc
 put_lit_back (Some lit) (Some more) found h = (lit, more, refl, refl, cc)
 
 pub lits_back : (ws : List (List ℕ)) (found : Lits) → lits_of ws ≡ Some found → AreLits ws found
 lits_back [] found h =
-    let start : Lits = record { lits = []; behind = None } in
+    let start : Lits = record { lits = []; remainder = None } in
     let e : start ≡ found = cc in
     subst (AreLits []) e (record { words = refl; small = refl })
 lits_back (w ∷ ws) found h =
-    let parted : Lits = record { lits = []; behind = Some ws } in
+    let parted : Lits = record { lits = []; remainder = Some ws } in
     elim (chosen (bytes_eq w (codes ";")) (Some parted) (put_lit (lit_word w) (lits_of ws)) (Some found) h) [
       | inl a ↦
           let e : parted ≡ found = cc in

@@ -125,7 +125,7 @@ fits_problem f (lines.Tugs n slot most weights) h =
     let b = and_parts (nat_lt n (f.ships + length f.rules)) (nat_lt slot f.slots && nat_le (length weights) 40) a.1 in
     let c = and_parts (nat_lt slot f.slots) (nat_le (length weights) 40) b.1 in
     record {
-      behind_ships = leb-true f.ships n a.0;
+      past_ships = leb-true f.ships n a.0;
       restriction_in = ltb-true n (f.ships + length f.rules) b.0;
       slot_in = ltb-true slot f.slots c.0;
       small_most = leb-true most 2_560 s.0;

@@ -7,7 +7,7 @@ use Rattle.hw_cert.specs.declared.version.Version.{Version}
 use Rattle.hw_cert.specs.Texts.{lit_text, line_words}
 use Rattle.hw_cert.specs.Spelled.{Lits, lits_of, unparted, only_lits}
 use Rattle.hw_cert.specs.Laws.{lit_numbers, line_numbers, wide_numbers, has_form, is_small, is_wide}
-use Rattle.hw_cert.proofs.ReadBack.{chained, behind_words, lits_back}
+use Rattle.hw_cert.proofs.ReadBack.{chained, remainder_words, lits_back}
 
 -- the words are those of the line, and its numbers are small
 pub record Spells (version : Version) (kind : List ℕ) (words : List (List ℕ)) (line : Line) : Type 0 where
@@ -18,11 +18,11 @@ pub record Spells (version : Version) (kind : List ℕ) (words : List (List ℕ)
 
 pub only_back : (ws : List (List ℕ)) (ls : List Lit) → only_lits ws ≡ Some ls → (ws ≡ map lit_text ls) × (list_all is_small (flat_map lit_numbers ls) ≡ true)
 only_back ws ls h =
-    let p = chained (λ (found : Lits). unparted found.lits found.behind) (lits_of ws) ls h in
+    let p = chained (λ (found : Lits). unparted found.lits found.remainder) (lits_of ws) ls h in
     let r = lits_back ws p.0 p.1 in
-    alone p.0.lits p.0.behind p.2 r.words r.small
+    alone p.0.lits p.0.remainder p.2 r.words r.small
   where
-    alone : (front : List Lit) (b : Option (List (List ℕ))) → unparted front b ≡ Some ls → ws ≡ map lit_text front ++ behind_words b → list_all is_small (flat_map lit_numbers front) ≡ true → (ws ≡ map lit_text ls) × (list_all is_small (flat_map lit_numbers ls) ≡ true)
+    alone : (front : List Lit) (b : Option (List (List ℕ))) → unparted front b ≡ Some ls → ws ≡ map lit_text front ++ remainder_words b → list_all is_small (flat_map lit_numbers front) ≡ true → (ws ≡ map lit_text ls) × (list_all is_small (flat_map lit_numbers ls) ≡ true)
     alone front None e words small =
         let same : front ≡ ls = cc in
         (words ∙ append-nil (map lit_text front) ∙ ap (map lit_text) same, ap (λ (xs : List Lit). list_all is_small (flat_map lit_numbers xs)) (sym same) ∙ small)

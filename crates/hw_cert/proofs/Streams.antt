@@ -3,7 +3,7 @@ use Rattle.std.proofs.Common.{◌≡◌, ◌+◌, cond, ℕ, true, false, List, 
 use Rattle.hw_model.specs.declared.shape.Shape.{Shape}
 use Rattle.hw_cert.specs.Fits.{line_read}
 use Rattle.hw_cert.specs.Spelled.{version_to}
-use Rattle.hw_cert.specs.Stream.{Position, Cut, nothing, whole, unended, long, line_passes_limit, cut_of, tail_cut, behind, line_by, line_next, header_by, header_next, next_by, next_of, CertLines, onward, lines_from, lines_by, lines_after, stream_by, stream_of}
+use Rattle.hw_cert.specs.Stream.{Position, Cut, nothing, whole, unended, long, line_passes_limit, cut_of, tail_cut, past_line, line_by, line_next, header_by, header_next, next_by, next_of, CertLines, onward, lines_from, lines_by, lines_after, stream_by, stream_of}
 use Rattle.hw_cert.specs.Laws.{following}
 use Rattle.hw_lines.specs.declared.line.Line.{Line}
 use Rattle.hw_cert.specs.declared.stop.FormWord.{FormWord}
@@ -18,7 +18,7 @@ tail_steps shape most version number taken (b ∷ bs) later =
     ]
 
 read_steps : (shape : Shape) (most version : Version) (number taken : ℕ) (line next : List ℕ) (more : List (List ℕ)) (r : Result Line FormWord)
-    → onward (line_by number (behind most version number taken line) (next ∷ more) r) (lines_from shape most version (number + 1) (taken + length line + 1) (next ∷ more)) ≡ following shape (line_by number (behind most version number taken line) (next ∷ more) r)
+    → onward (line_by number (past_line most version number taken line) (next ∷ more) r) (lines_from shape most version (number + 1) (taken + length line + 1) (next ∷ more)) ≡ following shape (line_by number (past_line most version number taken line) (next ∷ more) r)
 read_steps shape most version number taken line next more (Ok l) = refl
 read_steps shape most version number taken line next more (Err word) = refl
 

@@ -20,7 +20,7 @@ use Rattle.hw_cert.specs.Texts.{line_words, line_text}
 use Rattle.hw_cert.specs.Spelled.{spelled, spelled_line}
 use Rattle.hw_cert.specs.Laws.{line_numbers, wide_numbers, is_small, is_wide}
 use Rattle.hw_cert.specs.Logs.{LogTold, ended_text, IsWhole, TellsLine, TakesLine}
-use Rattle.hw_cert.specs.Told.{header_line_of, behind_text, line_told, with_line, parts_told, lines_told, told_under, is_told_under, log_under}
+use Rattle.hw_cert.specs.Told.{header_line_of, without_prefix, line_told, with_line, parts_told, lines_told, told_under, is_told_under, log_under}
 use Rattle.hw_cert.proofs.ReadBack.{chained}
 use Rattle.hw_cert.proofs.Written.{line_again, word_count}
 use Rattle.hw_cert.proofs.LineBytes.{words_lack}
@@ -76,7 +76,7 @@ parts_more (b ∷ bs) more = seam_cut (b == 10) b (parts_of 10 bs) (parts_of 10 
 
 -- ---- what they tell
 
-pub with_both : (o : Option Line) (t : Option LogTold) (now : LogTold) → with_line o t ≡ Some now → (line : Line) × (later : LogTold) × (o ≡ Some line) × (t ≡ Some later) × (record { lines = line ∷ later.lines; behind = later.behind } ≡ now)
+pub with_both : (o : Option Line) (t : Option LogTold) (now : LogTold) → with_line o t ≡ Some now → (line : Line) × (later : LogTold) × (o ≡ Some line) × (t ≡ Some later) × (record { lines = line ∷ later.lines; remainder = later.remainder } ≡ now)
 with_both None t now e = absurd (cc)
 with_both (Some line) None now e = absurd (cc)
 with_both (Some line) (Some later) now e = (line, later, refl, refl, cc)
@@ -84,7 +84,7 @@ with_both (Some line) (Some later) now e = (line, later, refl, refl, cc)
 -- lines before what is told
 abbrev after_lines : List Line → Option LogTold → Option LogTold
 after_lines lines None = None
-after_lines lines (Some t) = Some (record { lines = lines ++ t.lines; behind = t.behind })
+after_lines lines (Some t) = Some (record { lines = lines ++ t.lines; remainder = t.remainder })
 
 after_none : (o : Option LogTold) → o ≡ after_lines [] o
 after_none None = refl
@@ -95,17 +95,17 @@ after_one line all None = refl
 after_one line all (Some t) = refl
 
 -- whole lines are followed by what the bytes after them tell
-told_after : (ps qs : List (List ℕ)) (was : LogTold) → Nonempty qs → parts_told ps ≡ Some was → was.behind ≡ [] → parts_told (seam ps qs) ≡ after_lines was.lines (parts_told qs)
+told_after : (ps qs : List (List ℕ)) (was : LogTold) → Nonempty qs → parts_told ps ≡ Some was → was.remainder ≡ [] → parts_told (seam ps qs) ≡ after_lines was.lines (parts_told qs)
 told_after [] qs was h e none = absurd (cc)
 told_after (p ∷ []) [] was h e none = absurd (nothing h.is)
 told_after (p ∷ []) (q ∷ qs) was h e none =
-    let same : record { lines = []; behind = p } ≡ was = cc in
-    let empty : p ≡ [] = ap (λ (t : LogTold). t.behind) same ∙ none in
+    let same : record { lines = []; remainder = p } ≡ was = cc in
+    let empty : p ≡ [] = ap (λ (t : LogTold). t.remainder) same ∙ none in
     ap (λ (t : List ℕ). parts_told ((t ++ q) ∷ qs)) empty ∙ after_none (parts_told (q ∷ qs)) ∙ ap (λ (t : LogTold). after_lines t.lines (parts_told (q ∷ qs))) same
 told_after (p ∷ r ∷ ps) qs was h e none =
     let w = with_both (line_told p) (parts_told (r ∷ ps)) was e in
-    let behind : w.1.behind ≡ [] = ap (λ (t : LogTold). t.behind) w.4 ∙ none in
-    let later = told_after (r ∷ ps) qs w.1 h w.3 behind in
+    let remainder : w.1.remainder ≡ [] = ap (λ (t : LogTold). t.remainder) w.4 ∙ none in
+    let later = told_after (r ∷ ps) qs w.1 h w.3 remainder in
     headed p r ps qs w.0 w.2 ∙ ap (with_line (Some w.0)) later ∙ after_one w.0 w.1.lines (parts_told qs) ∙ ap (λ (t : LogTold). after_lines t.lines (parts_told qs)) w.4
   where
     headed : (p r : List ℕ) (ps qs : List (List ℕ)) (line : Line) → line_told p ≡ Some line → parts_told (p ∷ seam (r ∷ ps) qs) ≡ with_line (Some line) (parts_told (seam (r ∷ ps) qs))
@@ -141,11 +141,11 @@ told_itself (lines.Priced []) small wide = refl
 told_itself (lines.Priced (lit ∷ clause)) small wide = by_words (lines.Priced (lit ∷ clause)) small wide ∙ line_again Three (lines.Priced (lit ∷ clause)) small wide refl tt
 told_itself (lines.Bound bound) small wide = by_words (lines.Bound bound) small wide ∙ line_again Three (lines.Bound bound) small wide refl tt
 
-whole_told : (line : Line) → list_all is_small (line_numbers line) ≡ true → list_all is_wide (wide_numbers line) ≡ true → lines_told (ended_text line) ≡ Some (record { lines = line ∷ []; behind = [] })
-whole_told line small wide = ap parts_told (part_before 10 (line_text line) [] (text_lacks line small wide)) ∙ ap (λ (o : Option Line). with_line o (Some (record { lines = []; behind = [] }))) (told_itself line small wide)
+whole_told : (line : Line) → list_all is_small (line_numbers line) ≡ true → list_all is_wide (wide_numbers line) ≡ true → lines_told (ended_text line) ≡ Some (record { lines = line ∷ []; remainder = [] })
+whole_told line small wide = ap parts_told (part_before 10 (line_text line) [] (text_lacks line small wide)) ∙ ap (λ (o : Option Line). with_line o (Some (record { lines = []; remainder = [] }))) (told_itself line small wide)
 
 -- the end of a text is not in a proper prefix of it
-prefix_told : (line : Line) (n : ℕ) → list_all is_small (line_numbers line) ≡ true → list_all is_wide (wide_numbers line) ≡ true → n < length (ended_text line) → lines_told (take n (ended_text line)) ≡ Some (record { lines = []; behind = take n (ended_text line) })
+prefix_told : (line : Line) (n : ℕ) → list_all is_small (line_numbers line) ≡ true → list_all is_wide (wide_numbers line) ≡ true → n < length (ended_text line) → lines_told (take n (ended_text line)) ≡ Some (record { lines = []; remainder = take n (ended_text line) })
 prefix_told line n small wide lt =
     let short : n ≤ length (line_text line) = omega (arith, lt, length-append (line_text line) (10 ∷ [])) in
     let same : take n (ended_text line) ≡ take n (line_text line) = take-append-le n (line_text line) (10 ∷ []) short in
@@ -158,19 +158,19 @@ prefix_told line n small wide lt =
 
 -- ---- one line after whole lines
 
-all_told : (rest more : List ℕ) (was : LogTold) → lines_told rest ≡ Some was → was.behind ≡ [] → lines_told (rest ++ more) ≡ after_lines was.lines (lines_told more)
+all_told : (rest more : List ℕ) (was : LogTold) → lines_told rest ≡ Some was → was.remainder ≡ [] → lines_told (rest ++ more) ≡ after_lines was.lines (lines_told more)
 all_told rest more was e none = ap parts_told (parts_more rest more) ∙ told_after (parts_of 10 rest) (parts_of 10 more) was (some_parts more) e none
 
 -- what more bytes after whole lines tell
 abbrev Steps : (LogTold → LogTold → Type 0) → List ℕ → Type 0
-Steps P more = (rest : List ℕ) (was : LogTold) → lines_told rest ≡ Some was → was.behind ≡ [] → (now : LogTold) × (lines_told (rest ++ more) ≡ Some now) × P was now
+Steps P more = (rest : List ℕ) (was : LogTold) → lines_told rest ≡ Some was → was.remainder ≡ [] → (now : LogTold) × (lines_told (rest ++ more) ≡ Some now) × P was now
 
 one_more : (line : Line) → list_all is_small (line_numbers line) ≡ true → list_all is_wide (wide_numbers line) ≡ true → Steps (TellsLine line (Ok tt)) (ended_text line)
-one_more line small wide rest was e none = (record { lines = was.lines ++ line ∷ []; behind = [] }, all_told rest (ended_text line) was e none ∙ ap (after_lines was.lines) (whole_told line small wide), (refl, refl))
+one_more line small wide rest was e none = (record { lines = was.lines ++ line ∷ []; remainder = [] }, all_told rest (ended_text line) was e none ∙ ap (after_lines was.lines) (whole_told line small wide), (refl, refl))
 
 one_begun : (line : Line) (n : ℕ) → list_all is_small (line_numbers line) ≡ true → list_all is_wide (wide_numbers line) ≡ true → n < length (ended_text line) → Steps (TellsLine line (Err Failed)) (take n (ended_text line))
 one_begun line n small wide lt rest was e none = (
-  record { lines = was.lines ++ []; behind = take n (ended_text line) },
+  record { lines = was.lines ++ []; remainder = take n (ended_text line) },
   all_told rest (take n (ended_text line)) was e none ∙ ap (after_lines was.lines) (prefix_told line n small wide lt),
   (append-nil was.lines, (n, lt, refl)),
 )
@@ -181,10 +181,10 @@ by_first : (b : Bool) (o q : Option (List ℕ)) (rest new : List ℕ) → (o ≡
 by_first true o q rest new f e = f e
 by_first false o q rest new f e = absurd (cc)
 
-behind_more : (ps bs more rest : List ℕ) → behind_text ps bs ≡ Some rest → behind_text ps (bs ++ more) ≡ Some (rest ++ more)
-behind_more [] bs more rest e = let same : bs ≡ rest = cc in ap (λ (t : List ℕ). Some (t ++ more)) same
-behind_more (p ∷ ps) [] more rest e = absurd (cc)
-behind_more (p ∷ ps) (b ∷ bs) more rest e = by_first (b == p) (behind_text ps bs) (behind_text ps (bs ++ more)) rest (rest ++ more) (behind_more ps bs more rest) e
+prefix_more : (ps bs more rest : List ℕ) → without_prefix ps bs ≡ Some rest → without_prefix ps (bs ++ more) ≡ Some (rest ++ more)
+prefix_more [] bs more rest e = let same : bs ≡ rest = cc in ap (λ (t : List ℕ). Some (t ++ more)) same
+prefix_more (p ∷ ps) [] more rest e = absurd (cc)
+prefix_more (p ∷ ps) (b ∷ bs) more rest e = by_first (b == p) (without_prefix ps bs) (without_prefix ps (bs ++ more)) rest (rest ++ more) (prefix_more ps bs more rest) e
 
 pub some_told : (o : Option LogTold) → is_some o ≡ true → (told : LogTold) × (o ≡ Some told)
 some_told None e = absurd (cc)
@@ -195,16 +195,16 @@ record Grown (version : Version) (P : LogTold → LogTold → Type 0) (x y : Opt
   grows : IfSome (option_and_then (told_under version) y) (λ now. IsSomeAnd (option_and_then (told_under version) x) (λ was. P was now))
   told : is_told_under version y ≡ true
 
-grown : (version : Version) (P : LogTold → LogTold → Type 0) (x y : Option (List ℕ)) (more : List ℕ) → Steps P more → is_told_under version x ≡ true → IfSome (option_and_then (told_under version) x) (λ t. t.behind ≡ []) → Tells y (append_known x more) → Grown version P x y
+grown : (version : Version) (P : LogTold → LogTold → Type 0) (x y : Option (List ℕ)) (more : List ℕ) → Steps P more → is_told_under version x ≡ true → IfSome (option_and_then (told_under version) x) (λ t. t.remainder ≡ []) → Tells y (append_known x more) → Grown version P x y
 grown version P x None more f told whole t = record { grows = tt; told = refl }
 grown version P None (Some ys) more f told whole t = absurd (cc)
 grown version P (Some xs) (Some ys) more f told whole t =
     let same : xs ++ more ≡ ys = cc in
     let b = some_told (told_under version xs) told in
-    let p = chained lines_told (behind_text (header_line_of version) xs) b.0 b.1 in
-    let none = subst (λ (o : Option LogTold). IfSome o (λ s. s.behind ≡ [])) b.1 whole in
+    let p = chained lines_told (without_prefix (header_line_of version) xs) b.0 b.1 in
+    let none = subst (λ (o : Option LogTold). IfSome o (λ s. s.remainder ≡ [])) b.1 whole in
     let s = f p.0 b.0 p.2 none in
-    let new : told_under version ys ≡ Some s.0 = ap (told_under version) (sym same) ∙ ap (option_and_then lines_told) (behind_more (header_line_of version) xs more p.0 p.1) ∙ s.1 in
+    let new : told_under version ys ≡ Some s.0 = ap (told_under version) (sym same) ∙ ap (option_and_then lines_told) (prefix_more (header_line_of version) xs more p.0 p.1) ∙ s.1 in
     record {
       grows = subst (λ (o : Option LogTold). IfSome o (λ now. IsSomeAnd (told_under version xs) (λ was. P was now))) (sym new) (subst (λ (o : Option LogTold). IsSomeAnd o (λ was. P was s.0)) (sym b.1) s.2);
       told = ap is_some new;

@@ -109,7 +109,7 @@ is_line f version before (lines.Narrows blocks) formed flat few fits valid = rec
 is_line f version before (lines.Tugs n slot most weights) formed flat few fits valid = record {
   fits = both_none _ _
       (holds Form _ (both_on (nat_le most 2_560) _ (le-leb most 2_560 fits.small_most) (all_on (λ weight. nat_le weight 64) weights (weaker (λ weight. weight ≤ 64) (λ weight. nat_le weight 64 ≡ true) weights (λ weight le. le-leb weight 64 le) fits.small_weights))))
-      (holds Range _ (both_on (nat_le f.ships n) _ (le-leb f.ships n fits.behind_ships) (both_on (nat_lt n (f.ships + length f.rules)) _ (lt-ltb n (f.ships + length f.rules) fits.restriction_in)
+      (holds Range _ (both_on (nat_le f.ships n) _ (le-leb f.ships n fits.past_ships) (both_on (nat_lt n (f.ships + length f.rules)) _ (lt-ltb n (f.ships + length f.rules) fits.restriction_in)
       (both_on (nat_lt slot f.slots) _ (lt-ltb slot f.slots fits.slot_in) (le-leb (length weights) 40 fits.few_weights)))));
   small = both_on (is_small n) _ (small n (omega (arith, fits.restriction_in, flat.few_ships, flat.few_rules))) (both_on (is_small slot) _ (small slot (omega (arith, fits.slot_in, few_slots f flat)))
       (both_on (is_small most) _ (small most (omega (arith, fits.small_most))) (all_small weights (weaker (λ weight. weight ≤ 64) (λ weight. weight < 2 ^ 32) weights (λ weight le. omega (arith, le)) fits.small_weights))));

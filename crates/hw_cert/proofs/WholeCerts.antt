@@ -9,7 +9,7 @@ use Rattle.hw_cert.specs.Texts.{line_words, line_text, certificate_header}
 use Rattle.hw_cert.specs.Spelled.{is_within, version_to}
 use Rattle.hw_cert.specs.Fits.{line_read}
 use Rattle.hw_cert.specs.Certs.{Cert, BadLine, last_read, put_line, part_read, lines_read, with_version, headed, parts_read, cert_read_to}
-use Rattle.hw_cert.specs.Stream.{Position, whole, unended, long, line_passes_limit, cut_of, tail_cut, behind, line_by, line_next, CertEnd, complete, broken, overlong, CertLines, onward, lines_from, lines_by, lines_after, cert_stream_to}
+use Rattle.hw_cert.specs.Stream.{Position, whole, unended, long, line_passes_limit, cut_of, tail_cut, past_line, line_by, line_next, CertEnd, complete, broken, overlong, CertLines, onward, lines_from, lines_by, lines_after, cert_stream_to}
 use Rattle.hw_cert.specs.Laws.{IsLine, IsCert, StreamAgrees}
 use Rattle.hw_lines.specs.declared.line.Line.{Line}
 use Rattle.hw_cert.specs.declared.stop.FormWord.{FormWord}
@@ -157,7 +157,7 @@ lines_agree shape most version number taken (line ∷ next ∷ more) =
     let later : CertLines = lines_from shape most version (number + 1) (taken + length line + 1) (next ∷ more) in
     elim (line_passes_limit taken (length line) 1) as (λ p. AgreesLines (onward (line_next shape most version number taken (cond p long (whole line (next ∷ more)))) later).stop (onward (line_next shape most version number taken (cond p long (whole line (next ∷ more)))) later).lines (put_line number (line_read shape version line) (lines_read shape version (number + 1) (next ∷ more)))) [
       | true ↦ tt
-      | false ↦ read_agrees number (behind most version number taken line) (next ∷ more) (line_read shape version line) later (lines_read shape version (number + 1) (next ∷ more)) (lines_agree shape most version (number + 1) (taken + length line + 1) (next ∷ more))
+      | false ↦ read_agrees number (past_line most version number taken line) (next ∷ more) (line_read shape version line) later (lines_read shape version (number + 1) (next ∷ more)) (lines_agree shape most version (number + 1) (taken + length line + 1) (next ∷ more))
     ]
 
 -- the same with the version

@@ -41,16 +41,16 @@ no_semicolon (Before ship slot) = refl
 no_semicolon (First v w) = refl
 no_semicolon (NotFirst v w) = refl
 
-lits_again : (ls : List Lit) (tail : List (List ℕ)) (b : Option (List (List ℕ))) → list_all is_small (flat_map lit_numbers ls) ≡ true → lits_of tail ≡ Some (record { lits = []; behind = b }) → lits_of (map lit_text ls ++ tail) ≡ Some (record { lits = ls; behind = b })
+lits_again : (ls : List Lit) (tail : List (List ℕ)) (b : Option (List (List ℕ))) → list_all is_small (flat_map lit_numbers ls) ≡ true → lits_of tail ≡ Some (record { lits = []; remainder = b }) → lits_of (map lit_text ls ++ tail) ≡ Some (record { lits = ls; remainder = b })
 lits_again [] tail b h e = e
 lits_again (l ∷ ls) tail b h e =
     let p = small_parts (lit_numbers l) (flat_map lit_numbers ls) h in
-    ap (λ (t : Bool). cond t (Some (record { lits = []; behind = Some (map lit_text ls ++ tail) })) (put_lit (lit_word (lit_text l)) (lits_of (map lit_text ls ++ tail)))) (no_semicolon l)
+    ap (λ (t : Bool). cond t (Some (record { lits = []; remainder = Some (map lit_text ls ++ tail) })) (put_lit (lit_word (lit_text l)) (lits_of (map lit_text ls ++ tail)))) (no_semicolon l)
     ∙ ap (λ (o : Option Lit). put_lit o (lits_of (map lit_text ls ++ tail))) (lit_again l p.0)
     ∙ ap (put_lit (Some l)) (lits_again ls tail b p.1 e)
 
 only_again : (ls : List Lit) → list_all is_small (flat_map lit_numbers ls) ≡ true → only_lits (map lit_text ls) ≡ Some ls
-only_again ls h = ap (option_and_then (λ (found : Lits). unparted found.lits found.behind)) (ap lits_of (sym (append-nil (map lit_text ls))) ∙ lits_again ls [] None h refl)
+only_again ls h = ap (option_and_then (λ (found : Lits). unparted found.lits found.remainder)) (ap lits_of (sym (append-nil (map lit_text ls))) ∙ lits_again ls [] None h refl)
 
 deletes_again : (version : Version) (ids : List ℕ) → has_form version (lines.Delete ids) ≡ true → 0 < length ids → list_all is_small ids ≡ true → delete_form version (map decimal ids) ≡ Some (lines.Delete ids)
 deletes_again One ids f lt h = absurd cc
@@ -75,7 +75,7 @@ line_again version (lines.Order v w x clause) h l f t =
 line_again version (lines.Goal clause) h l f w = ap (option_map lines.Goal) (only_again clause h)
 line_again version (lines.Lemma clause hints) h l f w =
     let p = small_parts (flat_map lit_numbers clause) hints h in
-    ap (option_and_then (λ (found : Lits). hinted_form found.lits found.behind)) (lits_again clause (codes ";" ∷ map decimal hints) (Some (map decimal hints)) p.0 refl)
+    ap (option_and_then (λ (found : Lits). hinted_form found.lits found.remainder)) (lits_again clause (codes ";" ∷ map decimal hints) (Some (map decimal hints)) p.0 refl)
     ∙ ap (option_map (lines.Lemma clause)) (numbers_again hints p.1)
 line_again version (lines.Delete ids) h l f w = deletes_again version ids f w h
 line_again version (lines.Narrows blocks) h l f w = narrows_again version blocks h f w

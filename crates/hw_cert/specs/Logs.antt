@@ -12,7 +12,7 @@ use Rattle.hw_cert.specs.declared.log.LogStop.TheVariants.{Failed, NoMemory}
 -- the lines so far, and the bytes after them
 pub record LogTold : Type 0 where
   pub lines : List Line
-  pub behind : List ℕ
+  pub remainder : List ℕ
 
 -- what contracts see of a log: lines and the bytes after them, told together or untold; how often the log has failed
 pub record LogModel : Type 0 where
@@ -46,11 +46,11 @@ WhereTold log P = IfSome log.told P
 
 -- nothing follows the lines
 abbrev pub IsWhole : LogModel → Type 0
-IsWhole log = WhereTold log (λ told. told.behind ≡ [])
+IsWhole log = WhereTold log (λ told. told.remainder ≡ [])
 
 -- a log without lines, and nothing after them
 abbrev pub IsEmpty : LogModel → Type 0
-IsEmpty log = WhereTold log (λ told. (told.lines ≡ []) × (told.behind ≡ []))
+IsEmpty log = WhereTold log (λ told. (told.lines ≡ []) × (told.remainder ≡ []))
 
 -- what is told after a call was told before it, and this holds of the two. Untold lines never become told
 abbrev pub Grows : LogModel → LogModel → (LogTold → LogTold → Type 0) → Type 0
@@ -66,8 +66,8 @@ IsBegunLine line bytes = (n : ℕ) × (n < length (ended_text line)) × (bytes �
 
 -- the lines told after a line was taken, or not
 abbrev pub TellsLine : Line → Result Unit LogStop → LogTold → LogTold → Type 0
-TellsLine line (Ok done) was now = (now.lines ≡ was.lines ++ line ∷ []) × (now.behind ≡ [])
-TellsLine line (Err Failed) was now = (now.lines ≡ was.lines) × IsBegunLine line now.behind
+TellsLine line (Ok done) was now = (now.lines ≡ was.lines ++ line ∷ []) × (now.remainder ≡ [])
+TellsLine line (Err Failed) was now = (now.lines ≡ was.lines) × IsBegunLine line now.remainder
 TellsLine line (Err NoMemory) was now = now ≡ was
 
 -- a line fails only where the count of faults rose; else the count is as before
@@ -84,4 +84,4 @@ pub record TakesLine (line : Line) (old new : LogModel) (result : Result Unit Lo
 
 -- a log that keeps its lines in memory
 abbrev pub memory_log : List Line → LogModel
-memory_log lines = record { told = Some (record { lines = lines; behind = [] }); faults = 0 }
+memory_log lines = record { told = Some (record { lines = lines; remainder = [] }); faults = 0 }

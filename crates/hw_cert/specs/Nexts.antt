@@ -41,7 +41,7 @@ Answers next new (Ok n) = ComesAs next new n
 Answers next new (Err stop) = StopsAs next stop
 
 -- the reader of the same certificate stands one line further, or two, after the header
-pub record Behind (r reader : ReaderModel) (line : Line) : Type 0 where
+pub record ReadPast (r reader : ReaderModel) (line : Line) : Type 0 where
   pub shape : reader.shape ≡ r.shape
   pub feed : reader.feed ≡ r.feed
   pub most : reader.at.most ≡ r.at.most
@@ -53,7 +53,7 @@ pub record Behind (r reader : ReaderModel) (line : Line) : Type 0 where
   pub formed : has_form r.at.most line ≡ true
 
 abbrev pub GoesOn : ReaderModel → Next → Type 0
-GoesOn r (nexts.Line reader line) = Behind r reader line
+GoesOn r (nexts.Line reader line) = ReadPast r reader line
 GoesOn r nexts.End = ⊤
 
 -- the next line was taken, or why not
@@ -68,7 +68,7 @@ pub record TakesNextLine (r : ReaderModel) (old new : DeskState) (result : Resul
   pub kept : (IsErrOf result stops.Fault → ⊥) → new.read_faults ≡ old.read_faults
 
 -- the reader stands after the header, and what comes next is the same there
-pub record BehindHeader (r reader : ReaderModel) (bytes : List ℕ) (old new : DeskState) : Type 0 where
+pub record PastHeader (r reader : ReaderModel) (bytes : List ℕ) (old new : DeskState) : Type 0 where
   pub shape : reader.shape ≡ r.shape
   pub feed : reader.feed ≡ r.feed
   pub most : reader.at.most ≡ r.at.most
@@ -79,7 +79,7 @@ pub record BehindHeader (r reader : ReaderModel) (bytes : List ℕ) (old new : D
   pub next : IfSome (rest_of r old) (λ rest. IsSomeAnd (rest_of reader new) (λ more. next_line r rest ≡ next_line reader more))
 
 abbrev pub HeaderAnswers : ReaderModel → List ℕ → DeskState → DeskState → Result ReaderModel LineStop → Type 0
-HeaderAnswers r bytes old new (Ok reader) = BehindHeader r reader bytes old new
+HeaderAnswers r bytes old new (Ok reader) = PastHeader r reader bytes old new
 HeaderAnswers r bytes old new (Err stop) = IfSome (rest_of r old) (λ rest. StopsAs (next_line r rest) stop)
 
 -- the header was taken, or why not

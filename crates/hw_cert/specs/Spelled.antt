@@ -84,18 +84,18 @@ lit_word (letter ∷ rest) = option_and_then (lettered letter) (number_pair (par
 -- literals, and the words after the `;` that ends them, if one does
 pub record Lits : Type 0 where
   pub lits : List Lit
-  pub behind : Option (List (List ℕ))
+  pub remainder : Option (List (List ℕ))
 
 -- a literal put before others
 abbrev pub put_lit : Option Lit → Option Lits → Option Lits
 put_lit None o = None
 put_lit (Some lit) None = None
-put_lit (Some lit) (Some found) = Some (record { lits = lit ∷ found.lits; behind = found.behind })
+put_lit (Some lit) (Some found) = Some (record { lits = lit ∷ found.lits; remainder = found.remainder })
 
 -- the literals up to the first `;` or the end
 abbrev pub lits_of : List (List ℕ) → Option Lits
-lits_of [] = Some (record { lits = []; behind = None })
-lits_of (word ∷ words) = if bytes_eq word (codes ";") then Some (record { lits = []; behind = Some words }) else put_lit (lit_word word) (lits_of words)
+lits_of [] = Some (record { lits = []; remainder = None })
+lits_of (word ∷ words) = if bytes_eq word (codes ";") then Some (record { lits = []; remainder = Some words }) else put_lit (lit_word word) (lits_of words)
 
 -- no `;` ends the literals
 abbrev pub unparted : List Lit → Option (List (List ℕ)) → Option (List Lit)
@@ -104,7 +104,7 @@ unparted lits (Some words) = None
 
 -- words that are literals alone
 abbrev pub only_lits : List (List ℕ) → Option (List Lit)
-only_lits words = option_and_then (λ found. unparted found.lits found.behind) (lits_of words)
+only_lits words = option_and_then (λ found. unparted found.lits found.remainder) (lits_of words)
 
 -- `SLOT ..`
 abbrev pub table_form : List (List ℕ) → Option Line
@@ -131,7 +131,7 @@ hinted_form lits (Some words) = option_map (lines.Lemma lits) (all_numbers words
 
 -- `LITS ; ID ..`
 abbrev pub lemma_form : List (List ℕ) → Option Line
-lemma_form words = option_and_then (λ found. hinted_form found.lits found.behind) (lits_of words)
+lemma_form words = option_and_then (λ found. hinted_form found.lits found.remainder) (lits_of words)
 
 -- `ID ..`, from version 2 on
 abbrev pub delete_form : Version → List (List ℕ) → Option Line

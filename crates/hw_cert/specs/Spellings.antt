@@ -25,7 +25,7 @@ prices_view o = option_map (λ v. v.items) o
 
 -- literals, and the words after the `;`, if there is one
 abbrev pub lits_found : FoundLits → Lits
-lits_found found = record { lits = found.lits.items; behind = found.behind }
+lits_found found = record { lits = found.lits.items; remainder = found.remainder }
 
 abbrev pub found_view : Option FoundLits → Option Lits
 found_view o = option_map lits_found o

@@ -62,8 +62,8 @@ pub data NextLine : Type 0 where
   too_long : NextLine
 
 -- the position after a line, which has the header's version
-abbrev pub behind : Version → Version → ℕ → ℕ → List ℕ → Position
-behind most version number taken line = record { most = most; version = Some version; number = number + 1; taken = taken + length line + 1 }
+abbrev pub past_line : Version → Version → ℕ → ℕ → List ℕ → Position
+past_line most version number taken line = record { most = most; version = Some version; number = number + 1; taken = taken + length line + 1 }
 
 -- a line by what it reads as
 abbrev pub line_by : ℕ → Position → List (List ℕ) → Result Line FormWord → NextLine
@@ -73,7 +73,7 @@ line_by number after more (Err word) = bad number word
 -- the line after the header or another line
 abbrev pub line_next : Shape → Version → Version → ℕ → ℕ → Cut → NextLine
 line_next shape most version number taken nothing = ends
-line_next shape most version number taken (whole line more) = line_by number (behind most version number taken line) more (line_read shape version line)
+line_next shape most version number taken (whole line more) = line_by number (past_line most version number taken line) more (line_read shape version line)
 line_next shape most version number taken unended = bad number Form
 line_next shape most version number taken long = too_long
 

@@ -30,10 +30,10 @@ abbrev pub FailsHeader : DeskState → DeskState → Type 0
 FailsHeader = FailsHeaderOf Two
 
 -- the bytes after others, if they begin with those
-abbrev pub behind_text : List ℕ → List ℕ → Option (List ℕ)
-behind_text [] bytes = Some bytes
-behind_text (p ∷ ps) [] = None
-behind_text (p ∷ ps) (b ∷ bs) = if b == p then behind_text ps bs else None
+abbrev pub without_prefix : List ℕ → List ℕ → Option (List ℕ)
+without_prefix [] bytes = Some bytes
+without_prefix (p ∷ ps) [] = None
+without_prefix (p ∷ ps) (b ∷ bs) = if b == p then without_prefix ps bs else None
 
 -- the line whose text a part is, whatever the problem: one that a certificate of some version may have, or a table or a deletion
 -- without numbers, or a narrows without blocks
@@ -48,12 +48,12 @@ line_told part =
 abbrev pub with_line : Option Line → Option LogTold → Option LogTold
 with_line None more = None
 with_line (Some line) None = None
-with_line (Some line) (Some told) = Some (record { lines = line ∷ told.lines; behind = told.behind })
+with_line (Some line) (Some told) = Some (record { lines = line ∷ told.lines; remainder = told.remainder })
 
 -- the parts between line feeds: each is the text of a line, and the last one follows them
 abbrev pub parts_told : List (List ℕ) → Option LogTold
 parts_told [] = None
-parts_told (tail ∷ []) = Some (record { lines = []; behind = tail })
+parts_told (tail ∷ []) = Some (record { lines = []; remainder = tail })
 parts_told (part ∷ next ∷ parts) = with_line (line_told part) (parts_told (next ∷ parts))
 
 -- what bytes after a header tell
@@ -62,7 +62,7 @@ lines_told bytes = parts_told (parts_of 10 bytes)
 
 -- what bytes tell, the header of this version first
 abbrev pub told_under : Version → List ℕ → Option LogTold
-told_under version bytes = option_and_then lines_told (behind_text (header_line_of version) bytes)
+told_under version bytes = option_and_then lines_told (without_prefix (header_line_of version) bytes)
 
 -- the same of the second version
 abbrev pub bytes_told : List ℕ → Option LogTold
@@ -79,8 +79,8 @@ is_told = is_told_under Two
 
 -- bytes that are the text of these lines in a certificate of this version, and after it bytes without a line feed
 pub record IsTextUnder (version : Version) (told : LogTold) (bytes : List ℕ) : Type 0 where
-  pub text : bytes ≡ cert_text version told.lines ++ told.behind
-  pub no_end : lacks 10 told.behind ≡ true
+  pub text : bytes ≡ cert_text version told.lines ++ told.remainder
+  pub no_end : lacks 10 told.remainder ≡ true
 
 -- the same of the second version
 abbrev pub IsTextOf : LogTold → List ℕ → Type 0

@@ -65,7 +65,7 @@ pub enum Spelling {
 #[derive(Drop)]
 struct FoundLits<'l> {
     lits: Vec<Lit>,
-    behind: Option<Words<'l>>,
+    remainder: Option<Words<'l>>,
 }
 
 pub fn number_of(word: &[u8]) -> Option<u32>
@@ -147,15 +147,18 @@ fn lits_from(alloc: Global, mut words: Words<'_>) -> Result<Option<FoundLits<'_>
     let mut lits = Vec::new(alloc);
     while let Some(word) = words.word() {
         if is_text(word, b";") {
-            let behind = Some(words);
-            return Ok(Some(FoundLits { lits, behind }));
+            let remainder = Some(words);
+            return Ok(Some(FoundLits { lits, remainder }));
         }
         let Some(lit) = lit_of(word) else {
             return Ok(None);
         };
         lits.push(lit)?;
     }
-    Ok(Some(FoundLits { lits, behind: None }))
+    Ok(Some(FoundLits {
+        lits,
+        remainder: None,
+    }))
 }
 
 /// Words that are literals alone.
@@ -163,7 +166,12 @@ pub fn only_lits_of(alloc: Global, words: Words<'_>) -> Result<Option<Vec<Lit>>,
     ensures { IfOk result (λ o. lits_view o ≡ only_lits words.entry) }
 {
     match lits_from(alloc, words)? {
-        Some(FoundLits { lits, behind: None }) => Ok(Some(lits)),
+        Some(
+            FoundLits {
+                lits,
+                remainder: None,
+            },
+        ) => Ok(Some(lits)),
         _ => Ok(None),
     }
 }
@@ -224,10 +232,10 @@ fn goal_of(alloc: Global, words: Words<'_>) -> Result<Option<Spelling>, AllocErr
 fn lemma_of(alloc: Global, words: Words<'_>) -> Result<Option<Spelling>, AllocError>
     ensures { IfOk result (λ o. option_map spelling_view o ≡ lemma_form words.entry) }
 {
-    let Some(FoundLits { lits, behind }) = lits_from(alloc, words)? else {
+    let Some(FoundLits { lits, remainder }) = lits_from(alloc, words)? else {
         return Ok(None);
     };
-    let Some(words) = behind else {
+    let Some(words) = remainder else {
         return Ok(None);
     };
     match numbers_of(alloc, words)? {

@@ -112,14 +112,14 @@ number_below all old number marked made r =
     let most = ap clause_count r.whole ∙ count_append old r.later in
     omega (arith, r.counted, r.long, most)
 
-all_behind : (P : Line → Type 0) (new later : List Line) (line : Line) → All P (new ++ line ∷ later) → P line
-all_behind P [] later line all = All-head P line later all
-all_behind P (x ∷ new) later line all = all_behind P new later line (All-tail P x (new ++ line ∷ later) all)
+all_later : (P : Line → Type 0) (new later : List Line) (line : Line) → All P (new ++ line ∷ later) → P line
+all_later P [] later line all = All-head P line later all
+all_later P (x ∷ new) later line all = all_later P new later line (All-tail P x (new ++ line ∷ later) all)
 
 pub hints_below : (all old new : List Line) (line : Line) (number : ℕ) (marked : List Bool) (made : List Line) → Renews all old number marked made → IsNumbered all → old ≡ new ++ line ∷ [] → All (λ id. id < length marked) (hints_of line)
 hints_below all old new line number marked made r numbered split =
     let whole : all ≡ new ++ line ∷ r.later = r.whole ∙ ap (λ left. left ++ r.later) split ∙ append_assoc new (line ∷ []) r.later in
-    let named = all_behind (λ line. All (λ id. id ≤ clause_count all) (hints_of line)) new r.later line (subst (All (λ line. All (λ id. id ≤ clause_count all) (hints_of line))) whole numbered.named) in
+    let named = all_later (λ line. All (λ id. id ≤ clause_count all) (hints_of line)) new r.later line (subst (All (λ line. All (λ id. id ≤ clause_count all) (hints_of line))) whole numbered.named) in
     All-weaker (λ id. id ≤ clause_count all) (λ id. id < length marked) (λ id le. omega (arith, le, r.long)) (hints_of line) named
 
 pub one_at_least : (all old new : List Line) (line : Line) (number : ℕ) (marked : List Bool) (made : List Line) → Renews all old number marked made → old ≡ new ++ line ∷ [] → number ≡ clause_count new + numbers_of (clause_of line)

@@ -32,8 +32,8 @@ pub ascends_tail : (p : Place) (ps : List Place) → PlacesAscend (p ∷ ps) →
 ascends_tail p ps up = λ i j d lt within. up (suc i) (suc j) d (omega (arith, lt)) (omega (arith, within))
 
 -- the numbers after the first one are greater
-none_behind : (p : Place) (ps : List Place) (id : ℕ) → PlacesAscend (p ∷ ps) → p.id ≡ id → NoneHas ps id
-none_behind p ps id up e = λ k d lt same. omega (arith, e, same, up 0 (suc k) d (omega arith) (omega (arith, lt)))
+none_later : (p : Place) (ps : List Place) (id : ℕ) → PlacesAscend (p ∷ ps) → p.id ≡ id → NoneHas ps id
+none_later p ps id up e = λ k d lt same. omega (arith, e, same, up 0 (suc k) d (omega arith) (omega (arith, lt)))
 
 first_less : (p : Place) (ps : List Place) (i : ℕ) (d : Place) → PlacesAscend (p ∷ ps) → i < length ps → p.id < (get_or ps i d).id
 first_less p ps i d up lt = up 0 (suc i) d (omega arith) (omega (arith, lt))
@@ -50,7 +50,7 @@ found_at lits (p ∷ ps) id zero d up lt e = here p.is_live
   where
     here : (b : Bool) → clause_under (cons_option (cond b (Some (whole_at lits p)) None) (clauses_at lits ps)) id ≡ option_map (λ (one : NumberedClause). one.clause) (cond b (Some (whole_at lits p)) None)
     here true = hits (whole_at lits p) (clauses_at lits ps) id (eq-eqb p.id id e)
-    here false = none_under lits ps id (none_behind p ps id up e)
+    here false = none_under lits ps id (none_later p ps id up e)
 found_at lits (p ∷ ps) id (suc i) d up lt e =
     skipped p.is_live (whole_at lits p) (clauses_at lits ps) id (ne_eqb p.id id (λ same. omega (arith, same, e, first_less p ps i d up (omega (arith, lt)))))
     ∙ found_at lits ps id i d (ascends_tail p ps up) (omega (arith, lt)) e
@@ -104,7 +104,7 @@ pub removed_at : (lits : List Lit) (places : List Place) (id i : ℕ) (d dead : 
 removed_at lits [] id i d dead up lt e is_dead = absurd (omega (arith, lt))
 removed_at lits (p ∷ ps) id zero d dead up lt e is_dead =
     dead_none lits dead (clauses_at lits ps) is_dead
-    ∙ sym (none_gone lits ps id (none_behind p ps id up e))
+    ∙ sym (none_gone lits ps id (none_later p ps id up e))
     ∙ sym (drops_any p.is_live (whole_at lits p) (clauses_at lits ps) id (eq-eqb id p.id (sym e)))
 removed_at lits (p ∷ ps) id (suc i) d dead up lt e is_dead =
     ap (cons_option (clause_at_place lits p)) (removed_at lits ps id i d dead (ascends_tail p ps up) (omega (arith, lt)) e is_dead)
@@ -115,7 +115,7 @@ pub dead_already : (lits : List Lit) (places : List Place) (id i : ℕ) (d : Pla
 dead_already lits [] id i d up lt e is_dead = absurd (omega (arith, lt))
 dead_already lits (p ∷ ps) id zero d up lt e is_dead =
     drops_any p.is_live (whole_at lits p) (clauses_at lits ps) id (eq-eqb id p.id (sym e))
-    ∙ none_gone lits ps id (none_behind p ps id up e)
+    ∙ none_gone lits ps id (none_later p ps id up e)
     ∙ sym (dead_none lits p (clauses_at lits ps) is_dead)
 dead_already lits (p ∷ ps) id (suc i) d up lt e is_dead =
     keeps_any p.is_live (whole_at lits p) (clauses_at lits ps) id (ne_eqb id p.id (λ same. omega (arith, same, e, first_less p ps i d up (omega (arith, lt)))))
@@ -183,15 +183,15 @@ more_lits lits more (p ∷ ps) all =
     ∙ ap (cons_option (clause_at_place lits p)) (more_lits lits more ps (All-tail (PlaceFits (length lits)) p ps all))
 
 -- the literals after a list
-behind : (lits more : List Lit) → take (length lits + length more - length lits) (drop (length lits) (lits ++ more)) ≡ more
-behind lits more =
+back_part : (lits more : List Lit) → take (length lits + length more - length lits) (drop (length lits) (lits ++ more)) ≡ more
+back_part lits more =
     let size : length lits + length more - length lits ≡ length more = omega arith in
     rw (size, drop-append_seam lits more) (ap (take (length more)) (sym (append-nil more)) ∙ take-append_seam more [])
 
 pub pushed_at : (lits more : List Lit) (places : List Place) (id : ℕ) → All (PlaceFits (length lits)) places → clauses_at (lits ++ more) (places ++ new_place id lits more ∷ []) ≡ clauses_at lits places ++ (record { id = id; clause = more }) ∷ []
 pushed_at lits more places id all =
     filter_map-append (clause_at_place (lits ++ more)) places (new_place id lits more ∷ [])
-    ∙ ap (λ part. clauses_at (lits ++ more) places ++ (record { id = id; clause = part }) ∷ []) (behind lits more)
+    ∙ ap (λ part. clauses_at (lits ++ more) places ++ (record { id = id; clause = part }) ∷ []) (back_part lits more)
     ∙ ap (λ xs. xs ++ (record { id = id; clause = more }) ∷ []) (more_lits lits more places all)
 
 pub literals_push : (xs : List NumberedClause) (id : ℕ) (more : List Lit) → literals (xs ++ (record { id = id; clause = more }) ∷ []) ≡ literals xs + length more

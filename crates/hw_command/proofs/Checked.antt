@@ -16,7 +16,7 @@ use Rattle.hw_check.specs.declared.stop.CheckStop.TheVariants as checks
 use Rattle.hw_check.specs.Follows.{Stops}
 use Rattle.hw_cert.specs.declared.version.Version.{Version}
 use Rattle.hw_cert.specs.Laws.{following}
-use Rattle.hw_cert.specs.Nexts.{rest_of, next_line, Behind, TakesNextLine}
+use Rattle.hw_cert.specs.Nexts.{rest_of, next_line, ReadPast, TakesNextLine}
 use Rattle.hw_cert.specs.Reader.{ReaderModel}
 use Rattle.hw_lines.specs.Refusals.{refusal}
 use Rattle.hw_cert.specs.Stream.{NextLine, comes, bad, too_long, next_of, CertLines, stream_of}
@@ -27,7 +27,7 @@ use Rattle.hw_command.specs.Checking.{line_number, left_outcome, rest_outcome, C
 use Rattle.hw_command.specs.declared.outcome.CertOutcome.TheVariants.{Wrong, TooLong}
 use Rattle.hw_command.proofs.Told.{some_gives}
 
-pub line_number_on : {r reader : ReaderModel} {line : Line} → Behind r reader line → line_number reader.at ≡ line_number r.at + 1
+pub line_number_on : {r reader : ReaderModel} {line : Line} → ReadPast r reader line → line_number reader.at ≡ line_number r.at + 1
 line_number_on {r = r} {reader = reader} h = on r.at.version reader.at.version h.version h.number
   where
     on : (v w : Option Version) → IsSome w → reader.at.number ≡ r.at.number + (if is_none v then 2 else 1) → reader.at.number + (if is_none w then 1 else 0) ≡ r.at.number + (if is_none v then 1 else 0) + 1
@@ -48,7 +48,7 @@ abbrev pub ComesNext : ReaderModel → ReaderModel → Line → DeskState → De
 ComesNext r reader line x y = IfSome (rest_of r x) (λ rest. IsSomeAnd (rest_of reader y) (λ more. next_line r rest ≡ comes line reader.at (parts_of 10 more)))
 
 -- it is valid
-pub valid_comes : (x y : DeskState) (r reader : ReaderModel) (line : Line) (f : Problem) (before : List Line) → r.shape ≡ shape_of f → Behind r reader line → refusal f before line ≡ None → ComesNext r reader line x y
+pub valid_comes : (x y : DeskState) (r reader : ReaderModel) (line : Line) (f : Problem) (before : List Line) → r.shape ≡ shape_of f → ReadPast r reader line → refusal f before line ≡ None → ComesNext r reader line x y
     → IfSome (rest_of r x) (λ rest. IsSomeAnd (rest_of reader y) (λ more. rest_outcome f before r.at rest ≡ rest_outcome f (before ++ line ∷ []) reader.at more))
 valid_comes x y r reader line f before same h none next =
     told_map (rest_of r x) (λ rest. some_map (rest_of reader y) (λ more e.
@@ -58,7 +58,7 @@ valid_comes x y r reader line f before same h none next =
     ∙ ap (λ (number : ℕ). left_outcome f (before ++ line ∷ []) number left) (sym (line_number_on h)))) next
 
 -- it isn't
-pub wrong_comes : (x y : DeskState) (r reader : ReaderModel) (line : Line) (f : Problem) (before : List Line) (w : Refusal) (number : ℕ) → r.shape ≡ shape_of f → Behind r reader line → number + 1 ≡ line_number reader.at → refusal f before line ≡ Some w → ComesNext r reader line x y
+pub wrong_comes : (x y : DeskState) (r reader : ReaderModel) (line : Line) (f : Problem) (before : List Line) (w : Refusal) (number : ℕ) → r.shape ≡ shape_of f → ReadPast r reader line → number + 1 ≡ line_number reader.at → refusal f before line ≡ Some w → ComesNext r reader line x y
     → IfSome (rest_of r x) (λ rest. Wrong number (Check w.word) w.hint ≡ rest_outcome f before r.at rest)
 wrong_comes x y r reader line f before w number same h count is next =
     told_map (rest_of r x) (λ rest. some_gives (rest_of reader y) (λ more e.
@@ -76,7 +76,7 @@ pub long_comes : (r : ReaderModel) (f : Problem) (before : List Line) (known : O
 long_comes r f before known same = told_map known (λ rest e. sym (decided f before r rest too_long same e))
 
 -- the line that comes next isn't taken
-pub line_refused : (x y : DeskState) (r reader : ReaderModel) (line : Line) (f : Problem) (before : List Line) (number : ℕ) (stop : CheckStop) → r.shape ≡ shape_of f → Behind r reader line → number + 1 ≡ line_number reader.at → Stops stop (refusal f before line) → ComesNext r reader line x y → y.read_faults ≡ x.read_faults
+pub line_refused : (x y : DeskState) (r reader : ReaderModel) (line : Line) (f : Problem) (before : List Line) (number : ℕ) (stop : CheckStop) → r.shape ≡ shape_of f → ReadPast r reader line → number + 1 ≡ line_number reader.at → Stops stop (refusal f before line) → ComesNext r reader line x y → y.read_faults ≡ x.read_faults
     → ComesOrStops f before (rest_of r x) (rest_outcome f before r.at) x y (of_check_stop number stop)
 line_refused x y r reader line f before number (checks.Refused w) same h count is next kept = (kept, wrong_comes x y r reader line f before w number same h count is next)
 line_refused x y r reader line f before number checks.NoMemory same h count is next kept = kept

@@ -10,7 +10,7 @@ use Rattle.hw_desk.specs.declared.desk.Feed.TheVariants.{Certificate}
 use Rattle.hw_desk.proofs.Chain.{only_feed_on}
 use Rattle.hw_lines.specs.declared.line.Line.{Line}
 use Rattle.hw_lines.specs.Valid.{LineFits, Valid}
-use Rattle.hw_cert.specs.Nexts.{rest_of, Behind}
+use Rattle.hw_cert.specs.Nexts.{rest_of, ReadPast}
 use Rattle.hw_cert.specs.Reader.{ReaderModel}
 use Rattle.hw_cert.specs.declared.version.Version.{Version}
 use Rattle.hw_cert.specs.Stream.{start_to, CertLines, stream_of}
@@ -42,10 +42,10 @@ read_back a c b (Some x) None h k = absurd h
 read_back a c b (Some x) (Some y) h k = h ∙ k
 
 -- what is kept after lines that were taken
-pub kept_behind : {f : Problem} {told : Option (List ℕ)} {outcome : List ℕ → CertOutcome} {read : List ℕ → CertLines} {all : List Line} {r : ReaderModel} {c : CheckState} {y : DeskState} (x z : DeskState) (o : CertOutcome)
+pub kept_later : {f : Problem} {told : Option (List ℕ)} {outcome : List ℕ → CertOutcome} {read : List ℕ → CertLines} {all : List Line} {r : ReaderModel} {c : CheckState} {y : DeskState} (x z : DeskState) (o : CertOutcome)
     → Reached f told outcome all r c y → IfSome told (λ bytes. IsSomeAnd (rest_of r y) (λ rest. read bytes ≡ rest_read f all r.at rest)) → y.read_faults ≡ x.read_faults
     → ComesOrStops f all (rest_of r y) (rest_outcome f all r.at) y z (Ok o) → StepReads f all r y z (Ended (Ok o)) → (z.read_faults ≡ x.read_faults) × Keeps f told outcome read all o
-kept_behind {f = f} {told = told} {outcome = outcome} {read = is_read} {all = all} {r = r} {y = y} x z (Shows v) h read kept k reads = (
+kept_later {f = f} {told = told} {outcome = outcome} {read = is_read} {all = all} {r = r} {y = y} x z (Shows v) h read kept k reads = (
   k.0 ∙ kept,
   record {
     fit = subst (λ (p : Problem). All (LineFits p) all) h.problem h.follows.fit;
@@ -54,7 +54,7 @@ kept_behind {f = f} {told = told} {outcome = outcome} {read = is_read} {all = al
     reads = read_back is_read (rest_read f all r.at) (complete_lines all) told (rest_of r y) read reads;
   },
 )
-kept_behind {f = f} {told = told} {outcome = outcome} {all = all} {r = r} {y = y} x z (Wrong number word hint) h read kept k reads = (
+kept_later {f = f} {told = told} {outcome = outcome} {all = all} {r = r} {y = y} x z (Wrong number word hint) h read kept k reads = (
   k.0 ∙ kept,
   record {
     fit = subst (λ (p : Problem). All (LineFits p) all) h.problem h.follows.fit;
@@ -63,7 +63,7 @@ kept_behind {f = f} {told = told} {outcome = outcome} {all = all} {r = r} {y = y
     reads = tt;
   },
 )
-kept_behind {f = f} {told = told} {outcome = outcome} {all = all} {r = r} {y = y} x z TooLong h read kept k reads = (
+kept_later {f = f} {told = told} {outcome = outcome} {all = all} {r = r} {y = y} x z TooLong h read kept k reads = (
   k.0 ∙ kept,
   record {
     fit = subst (λ (p : Problem). All (LineFits p) all) h.problem h.follows.fit;
@@ -94,7 +94,7 @@ open_is {most = most} {f = f} {told = told} {now = now} shape r c same e h follo
     })
 
 -- the number of the line after which a reader stands, by that of the next one
-pub line_count : {r reader : ReaderModel} {line : Line} (number : ℕ) → Behind r reader line → number ≡ reader.at.number → (number - 1) + 1 ≡ line_number reader.at
+pub line_count : {r reader : ReaderModel} {line : Line} (number : ℕ) → ReadPast r reader line → number ≡ reader.at.number → (number - 1) + 1 ≡ line_number reader.at
 line_count {r = r} {reader = reader} number h e = on r.at.version reader.at.version h.version (e ∙ h.number) e
   where
     on : (v w : Option Version) → IsSome w → number ≡ r.at.number + (if is_none v then 2 else 1) → number ≡ reader.at.number → (number - 1) + 1 ≡ reader.at.number + (if is_none w then 1 else 0)

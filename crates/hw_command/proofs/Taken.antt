@@ -27,7 +27,7 @@ use Rattle.hw_command.specs.declared.outcome.CertStop.{CertStop}
 use Rattle.hw_command.specs.declared.outcome.CertStop.TheVariants.{Fault, NoMemory}
 use Rattle.hw_command.proofs.Begun.{rose_on}
 use Rattle.hw_command.proofs.Chained.{goes_on, reached_on}
-use Rattle.hw_command.proofs.Kept.{kept_behind, enters_on}
+use Rattle.hw_command.proofs.Kept.{kept_later, enters_on}
 
 -- these lines were taken by now; they are the first that are read, and have forms of the versions up to this one
 pub record Taken (f : Problem) (told : Option (List ℕ)) (outcome : List ℕ → CertOutcome) (read : List ℕ → CertLines) (most : Version) (all : List Line) (reader : ReaderModel) (checker : CheckState) (now : DeskState) : Type 0 where
@@ -57,13 +57,13 @@ taken_on {f = f} {told = told} {read = is_read} {most = most} {before = before} 
     }
 
 -- what was read after lines that were taken
-pub read_behind : {K : Type 0} {Kept : K → List Line → Type 0} {f : Problem} {told : Option (List ℕ)} {outcome : List ℕ → CertOutcome} {read : List ℕ → CertLines} {most : Version} {all : List Line} {r : ReaderModel} {c : CheckState} (x y z : DeskState) (cert : ReadCert K)
+pub read_onward : {K : Type 0} {Kept : K → List Line → Type 0} {f : Problem} {told : Option (List ℕ)} {outcome : List ℕ → CertOutcome} {read : List ℕ → CertLines} {most : Version} {all : List Line} {r : ReaderModel} {c : CheckState} (x y z : DeskState) (cert : ReadCert K)
     → Taken f told outcome read most all r c y → Kept cert.kept all → cert.bound ≡ bound_of all → y.read_faults ≡ x.read_faults
     → ComesOrStops c.problem all (rest_of r y) (rest_outcome c.problem all r.at) y z (Ok cert.outcome) → StepReads c.problem all r y z (Ended (Ok cert.outcome)) → ReadsOrStops most Kept f told outcome read x z (Ok cert)
-read_behind {all = all} {r = r} x y z cert h kept bound same k reads =
+read_onward {all = all} {r = r} x y z cert h kept bound same k reads =
     let step = subst (λ (p : Problem). ComesOrStops p all (rest_of r y) (rest_outcome p all r.at) y z (Ok cert.outcome)) h.reached.problem k in
     let one = subst (λ (p : Problem). StepReads p all r y z (Ended (Ok cert.outcome))) h.reached.problem reads in
-    let both = kept_behind x z cert.outcome h.reached h.reads same step one in
+    let both = kept_later x z cert.outcome h.reached h.reads same step one in
     (both.0, record { lines = all; formed = h.formed; keeps = both.1; last = bound; kept = kept })
 
 -- the same after a step without a fault

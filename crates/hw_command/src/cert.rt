@@ -108,14 +108,14 @@ fn read_lines<D: Desk, K: LineTaker>(
         let bound = checker.bound();
         match check_line(desk, reader, checker) {
             CertStep::Further {
-                reader: behind,
+                reader: past_reader,
                 checker: followed,
                 line,
             } => {
                 if kept.take(line).is_err() {
                     return Err(CertStop::NoMemory);
                 }
-                reader = behind;
+                reader = past_reader;
                 checker = followed;
             }
             CertStep::Ended(Ok(outcome)) => {

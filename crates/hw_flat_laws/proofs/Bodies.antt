@@ -12,10 +12,10 @@ use Rattle.hw_flat.specs.declared.fault.FlatWord.TheVariants as words
 use Rattle.hw_flat.specs.Text.{Fault, fault, rows_at, rules_at, problem_of, problem_of_lines}
 use Rattle.hw_flat.specs.TextForms.{header_form, size_form, row_form, rule_form}
 use Rattle.hw_flat.proofs.TextRows.{text_read}
-use Rattle.hw_flat_laws.specs.FirstLines.{line_behind, numbered_line}
+use Rattle.hw_flat_laws.specs.FirstLines.{later_line, numbered_line}
 use Rattle.hw_flat_laws.specs.Wanted.{SaysSize, IsWanted}
-use Rattle.hw_flat_laws.proofs.Same.{Parts, Full, Same, full_after, full_is, full_some, has, behind_next, behind_front, drop_front}
-use Rattle.hw_flat_laws.proofs.Refusals.{Refused, followed, behind_lines}
+use Rattle.hw_flat_laws.proofs.Same.{Parts, Full, Same, full_after, full_is, full_some, has, after_next, after_front, drop_front}
+use Rattle.hw_flat_laws.proofs.Refusals.{Refused, followed, past_lines}
 use Rattle.hw_flat_laws.proofs.ShipLines.{Row, Ended, filled, is_err, not_both, ships_refused, ships_read, ships_leave, last_ship}
 use Rattle.hw_flat_laws.proofs.RuleLines.{Closed, SaysOfRule, end_read, rules_refused, rules_were_read, rules_leave}
 
@@ -118,10 +118,10 @@ pub record BodyRefused (header size_line : List ℕ) (stay : Bool) (size : ℕ �
 begun : (header size_line : List ℕ) (body : Parts) (stay : Bool) (size : ℕ × ℕ) → header_form header ≡ Some stay → size_form size_line ≡ Some size → Full body → SaysSize (header ∷ size_line ∷ body) stay size.0 size.1
 begun header size_line body stay size a b full = record { header = a; size = rw full.2 b }
 
-pub numbered : (header size_line : List ℕ) (body : Parts) (number count : ℕ) → number ≡ 3 + count → Full body → numbered_line (header ∷ size_line ∷ body) number ≡ line_behind count body
+pub numbered : (header size_line : List ℕ) (body : Parts) (number count : ℕ) → number ≡ 3 + count → Full body → numbered_line (header ∷ size_line ∷ body) number ≡ later_line count body
 numbered header size_line body number count place full =
     let n : number - 1 ≡ suc (suc count) = omega (arith, place) in
-    ap (λ i. line_behind i (header ∷ size_line ∷ body)) n ∙ behind_next count size_line body full
+    ap (λ i. later_line i (header ∷ size_line ∷ body)) n ∙ after_next count size_line body full
 
 ships_bad : (header size_line : List ℕ) (stay : Bool) (size : ℕ × ℕ) (body : Parts) (e : Fault) → header_form header ≡ Some stay → size_form size_line ≡ Some size → Full body → rows_at stay size.1 3 size.0 body ≡ Err e → BodyRefused header size_line stay size body e
 ships_bad header size_line stay size body e a b full h =
@@ -134,7 +134,7 @@ ships_bad header size_line stay size body e a b full h =
         ships = size.0;
         slots = size.1;
         said = begun header size_line body stay size a b full;
-        behind_size = omega (arith, r.place);
+        past_size = omega (arith, r.place);
         before_rules = omega (arith, r.place, r.below);
         wrong = ap (has (row_form stay size.1)) (numbered header size_line body e.number r.count r.place full) ∙ r.wrong;
       });
@@ -142,23 +142,23 @@ ships_bad header size_line stay size body e a b full h =
     }
 
 -- the line before a bad rule is not `end`
-before_rule : (stay : Bool) (size : ℕ × ℕ) (front rest body : Parts) (x : Row × Parts) (count i : ℕ) → body ≡ front ++ rest → Full rest → length front ≡ size.0 → rows_at stay size.1 3 size.0 body ≡ Ok x → ((j : ℕ) → count ≡ suc j → line_behind j rest ≢ Some (codes "end"))
-    → suc i ≡ length front + count → line_behind i body ≢ Some (codes "end")
+before_rule : (stay : Bool) (size : ℕ × ℕ) (front rest body : Parts) (x : Row × Parts) (count i : ℕ) → body ≡ front ++ rest → Full rest → length front ≡ size.0 → rows_at stay size.1 3 size.0 body ≡ Ok x → ((j : ℕ) → count ≡ suc j → later_line j rest ≢ Some (codes "end"))
+    → suc i ≡ length front + count → later_line i body ≢ Some (codes "end")
 before_rule stay size front rest body x zero i lines full each h earlier n =
     let ships : suc i ≡ size.0 = omega (arith, n, each) in
     last_ship stay size.1 3 i body x (ap (λ k. rows_at stay size.1 3 k body) ships ∙ h)
 before_rule stay size front rest body x (suc j) i lines full each h earlier n =
     let place : length front + j ≡ i = omega (arith, n) in
-    λ s. earlier j refl (sym (behind_front j front rest full) ∙ ap (λ k. line_behind k (front ++ rest)) place ∙ ap (line_behind i) (sym lines) ∙ s)
+    λ s. earlier j refl (sym (after_front j front rest full) ∙ ap (λ k. later_line k (front ++ rest)) place ∙ ap (later_line i) (sym lines) ∙ s)
 
-says_wanted : (parts rest : Parts) (stay : Bool) (ships slots number count : ℕ) (word : FlatWord) → SaysSize parts stay ships slots → number ≡ 3 + ships + count → count ≤ 4_000 → numbered_line parts (number - 1) ≢ Some (codes "end") → numbered_line parts number ≡ line_behind count rest → SaysOfRule ships 4_000 count rest word
+says_wanted : (parts rest : Parts) (stay : Bool) (ships slots number count : ℕ) (word : FlatWord) → SaysSize parts stay ships slots → number ≡ 3 + ships + count → count ≤ 4_000 → numbered_line parts (number - 1) ≢ Some (codes "end") → numbered_line parts number ≡ later_line count rest → SaysOfRule ships 4_000 count rest word
     → IsWanted parts number word
 says_wanted parts rest stay ships slots number count words.Rule begins place few before line s = record {
   stay = stay;
   ships = ships;
   slots = slots;
   said = begins;
-  behind_ships = omega (arith, place);
+  past_ships = omega (arith, place);
   few_rules = omega (arith, place, few);
   no_end_before = before;
   no_end = λ k. s.0 (sym line ∙ k);
@@ -169,7 +169,7 @@ says_wanted parts rest stay ships slots number count words.Many begins place few
   ships = ships;
   slots = slots;
   said = begins;
-  behind_rules = omega (arith, place, s.0);
+  past_rules = omega (arith, place, s.0);
   no_end_before = before;
   rule = s.1.0;
   one_more = ap (has (rule_form ships)) line ∙ s.1.1;
@@ -189,8 +189,8 @@ rules_bad header size_line stay size body x e a b full h k =
     let place : e.number ≡ 3 + (length f.front + r.count) = omega (arith, r.place, f.each) in
     let i : ℕ = length f.front + r.count - 1 in
     let some : suc i ≡ length f.front + r.count = omega (arith, f.each, limits.some_ship) in
-    let before : numbered_line (header ∷ size_line ∷ body) (e.number - 1) ≡ line_behind i body = numbered header size_line body (e.number - 1) i (omega (arith, place, some)) full in
-    let line : numbered_line (header ∷ size_line ∷ body) e.number ≡ line_behind r.count x.1 = numbered header size_line body e.number (length f.front + r.count) place full ∙ ap (line_behind (length f.front + r.count)) f.lines ∙ behind_front r.count f.front x.1 left in
+    let before : numbered_line (header ∷ size_line ∷ body) (e.number - 1) ≡ later_line i body = numbered header size_line body (e.number - 1) i (omega (arith, place, some)) full in
+    let line : numbered_line (header ∷ size_line ∷ body) e.number ≡ later_line r.count x.1 = numbered header size_line body e.number (length f.front + r.count) place full ∙ ap (later_line (length f.front + r.count)) f.lines ∙ after_front r.count f.front x.1 left in
     let rules : Refused AnyProblem (closing stay size x.0) x.1 e r.count =
     followed Closed AnyProblem (rules_at size.0 (3 + size.0) 4_000) (λ rules. tail_at stay size x.0 rules.0 rules.1) x.1 e r.count (λ value done. (problem_of stay size x.0 value.0, tt, ap (tail_at stay size x.0 value.0) done)) r.refused in
     record {
@@ -198,7 +198,7 @@ rules_bad header size_line stay size body x e a b full h k =
       place = place;
       wanted = says_wanted (header ∷ size_line ∷ body) x.1 stay size.0 size.1 e.number r.count e.word (begun header size_line body stay size a b full) r.place r.few
           (λ s. before_rule stay size f.front x.1 body x r.count i f.lines left f.each h r.before some (sym before ∙ s)) line r.says;
-      refused = subst (λ (ps : Parts). Refused AnyProblem (body_at stay size) ps e (length f.front + r.count)) (sym f.lines) (behind_lines AnyProblem (closing stay size x.0) (body_at stay size) f.front x.1 e r.count (λ others more. rw (f.reads others more) refl) rules);
+      refused = subst (λ (ps : Parts). Refused AnyProblem (body_at stay size) ps e (length f.front + r.count)) (sym f.lines) (past_lines AnyProblem (closing stay size x.0) (body_at stay size) f.front x.1 e r.count (λ others more. rw (f.reads others more) refl) rules);
     }
 
 tail_bad : (header size_line : List ℕ) (stay : Bool) (size : ℕ × ℕ) (body : Parts) (x : Row × Parts) (y : List Rule × Parts) (e : Fault) → header_form header ≡ Some stay → size_form size_line ≡ Some size → Full body → rows_at stay size.1 3 size.0 body ≡ Ok x → rules_at size.0 (3 + size.0) 4_000 x.1 ≡ Ok y
@@ -218,8 +218,8 @@ tail_bad header size_line stay size body x y e a b full h k t =
     ap (body_at stay size) (append_assoc f.front closed others) ∙ (rw (f.reads (closed ++ others) (full_after closed others more), g.reads others more) refl) in
     let ends : numbered_line (header ∷ size_line ∷ body) (e.number - 1) ≡ Some (codes "end") =
     numbered header size_line body (e.number - 1) (length f.front + (length g.front + 0)) (omega (arith, place, total, f.each, g.each)) full
-    ∙ ap (line_behind (length f.front + (length g.front + 0))) f.lines ∙ behind_front (length g.front + 0) f.front x.1 (full_is _ _ (sym g.lines) (full_after closed y.1 left))
-    ∙ ap (line_behind (length g.front + 0)) (g.lines ∙ append_assoc g.front (codes "end" ∷ []) y.1) ∙ behind_front 0 g.front (codes "end" ∷ y.1) (codes "end", y.1, refl) ∙ (rw left.2 refl) in
+    ∙ ap (later_line (length f.front + (length g.front + 0))) f.lines ∙ after_front (length g.front + 0) f.front x.1 (full_is _ _ (sym g.lines) (full_after closed y.1 left))
+    ∙ ap (later_line (length g.front + 0)) (g.lines ∙ append_assoc g.front (codes "end" ∷ []) y.1) ∙ after_front 0 g.front (codes "end" ∷ y.1) (codes "end", y.1, refl) ∙ (rw left.2 refl) in
     let dropped : drop (e.number - 1) (header ∷ size_line ∷ body) ≡ y.1 =
     let n : e.number - 1 ≡ suc (suc (length (f.front ++ closed))) = omega (arith, place) in
     ap (λ i. drop i (header ∷ size_line ∷ body)) n ∙ ap (drop (length (f.front ++ closed))) lines ∙ drop_front (length (f.front ++ closed)) (f.front ++ closed) y.1 refl in
@@ -231,12 +231,12 @@ tail_bad header size_line stay size body x y e a b full h k t =
         ships = size.0;
         slots = size.1;
         said = begun header size_line body stay size a b full;
-        behind_ships = omega (arith, place, total);
+        past_ships = omega (arith, place, total);
         few_rules = omega (arith, place, total, g.few);
         end = ends;
         more = λ s. r.more (sym dropped ∙ s);
       });
-      refused = subst (λ (ps : Parts). Refused AnyProblem (body_at stay size) ps e (length (f.front ++ closed) + 0)) (sym lines) (behind_lines AnyProblem (tail_at stay size x.0 y.0) (body_at stay size) (f.front ++ closed) y.1 e 0 whole r.refused);
+      refused = subst (λ (ps : Parts). Refused AnyProblem (body_at stay size) ps e (length (f.front ++ closed) + 0)) (sym lines) (past_lines AnyProblem (tail_at stay size x.0 y.0) (body_at stay size) (f.front ++ closed) y.1 e 0 whole r.refused);
     }
 
 pub body_refused : (header size_line : List ℕ) (stay : Bool) (size : ℕ × ℕ) (body : Parts) (e : Fault) → header_form header ≡ Some stay → size_form size_line ≡ Some size → Full body → body_at stay size body ≡ Err e → BodyRefused header size_line stay size body e

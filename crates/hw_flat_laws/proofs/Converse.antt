@@ -10,7 +10,7 @@ use Rattle.hw_flat.specs.Text.{Fault, fault, problem_of_lines}
 use Rattle.hw_flat.specs.TextForms.{header_form, size_form, row_form, rule_form}
 use Rattle.hw_flat.specs.TextWritten.{problem_text}
 use Rattle.hw_flat.proofs.TextBack.{text_reads_back}
-use Rattle.hw_flat_laws.specs.FirstLines.{line_behind, numbered_line}
+use Rattle.hw_flat_laws.specs.FirstLines.{later_line, numbered_line}
 use Rattle.hw_flat_laws.specs.Wanted.{SaysSize, IsWanted}
 use Rattle.hw_flat_laws.specs.Laws.{TextGoesOn, IsRefused, WantedRefuses}
 use Rattle.hw_flat_laws.proofs.Same.{Parts, Same, same_from, same_takes, has}
@@ -27,7 +27,7 @@ same_less zero count (x ∷ xs) (y ∷ ys) le s = tt
 same_less (suc i) zero (x ∷ xs) (y ∷ ys) le s = absurd (omega (arith, le))
 same_less (suc i) (suc count) (x ∷ xs) (y ∷ ys) le s = (s.0, same_less i count xs ys (omega (arith, le)) s.1)
 
-line_same : (i count : ℕ) (xs ys : Parts) → i < count → Same count xs ys → line_behind i ys ≡ line_behind i xs
+line_same : (i count : ℕ) (xs ys : Parts) → i < count → Same count xs ys → later_line i ys ≡ later_line i xs
 line_same i count [] ys lt s = absurd s
 line_same i count (x ∷ xs) [] lt s = absurd s
 line_same i zero (x ∷ xs) (y ∷ ys) lt s = absurd (omega (arith, lt))
@@ -53,46 +53,46 @@ wanted_same number xs ys words.Values s w = record {
   stay = w.stay;
   ships = w.ships;
   slots = w.slots;
-  said = begins_same number xs ys w.stay w.ships w.slots (omega (arith, w.behind_size)) s w.said;
-  behind_size = w.behind_size;
+  said = begins_same number xs ys w.stay w.ships w.slots (omega (arith, w.past_size)) s w.said;
+  past_size = w.past_size;
   before_rules = w.before_rules;
-  wrong = ap (has (row_form w.stay w.slots)) (line_of_same number number xs ys (omega (arith, w.behind_size)) (omega arith) s) ∙ w.wrong;
+  wrong = ap (has (row_form w.stay w.slots)) (line_of_same number number xs ys (omega (arith, w.past_size)) (omega arith) s) ∙ w.wrong;
 }
 wanted_same number xs ys words.Rule s w =
-    let some : 2 ≤ number = omega (arith, w.behind_ships) in
+    let some : 2 ≤ number = omega (arith, w.past_ships) in
     let line = line_of_same number number xs ys (omega (arith, some)) (omega arith) s in
     record {
       stay = w.stay;
       ships = w.ships;
       slots = w.slots;
       said = begins_same number xs ys w.stay w.ships w.slots some s w.said;
-      behind_ships = w.behind_ships;
+      past_ships = w.past_ships;
       few_rules = w.few_rules;
       no_end_before = λ k. w.no_end_before (sym (line_of_same (number - 1) number xs ys (omega (arith, some)) (omega arith) s) ∙ k);
       no_end = λ k. w.no_end (sym line ∙ k);
       wrong = ap (has (rule_form w.ships)) line ∙ w.wrong;
     }
 wanted_same number xs ys words.Many s w =
-    let some : 2 ≤ number = omega (arith, w.behind_rules) in
+    let some : 2 ≤ number = omega (arith, w.past_rules) in
     record {
       stay = w.stay;
       ships = w.ships;
       slots = w.slots;
       said = begins_same number xs ys w.stay w.ships w.slots some s w.said;
-      behind_rules = w.behind_rules;
+      past_rules = w.past_rules;
       no_end_before = λ k. w.no_end_before (sym (line_of_same (number - 1) number xs ys (omega (arith, some)) (omega arith) s) ∙ k);
       rule = w.rule;
       one_more = ap (has (rule_form w.ships)) (line_of_same number number xs ys (omega (arith, some)) (omega arith) s) ∙ w.one_more;
     }
 wanted_same number xs ys words.Tail s w =
-    let some : 2 ≤ number = omega (arith, w.behind_ships) in
+    let some : 2 ≤ number = omega (arith, w.past_ships) in
     let ended = (same_takes number xs ys s).1 in
     record {
       stay = w.stay;
       ships = w.ships;
       slots = w.slots;
       said = begins_same number xs ys w.stay w.ships w.slots some s w.said;
-      behind_ships = w.behind_ships;
+      past_ships = w.past_ships;
       few_rules = w.few_rules;
       end = line_of_same (number - 1) number xs ys (omega (arith, some)) (omega arith) s ∙ w.end;
       more = λ k. omega (arith, ended, some, ap length k, length-drop (number - 1) ys);

@@ -9,9 +9,9 @@ use Rattle.hw_flat.specs.declared.fault.FlatWord.TheVariants as words
 use Rattle.hw_flat.specs.Text.{rows_at, rules_at, problem_of_lines}
 use Rattle.hw_flat.specs.TextForms.{header_form, size_form, row_form, rule_form}
 use Rattle.hw_flat.proofs.TextRows.{text_read, step}
-use Rattle.hw_flat_laws.specs.FirstLines.{line_behind, numbered_line}
+use Rattle.hw_flat_laws.specs.FirstLines.{later_line, numbered_line}
 use Rattle.hw_flat_laws.specs.Wanted.{SaysSize, IsWanted}
-use Rattle.hw_flat_laws.proofs.Same.{Parts, Full, full_after, has, behind_front, drop_front}
+use Rattle.hw_flat_laws.proofs.Same.{Parts, Full, full_after, has, after_front, drop_front}
 use Rattle.hw_flat_laws.proofs.ShipLines.{Row, not_both, ships_read, ships_leave, each_ship}
 use Rattle.hw_flat_laws.proofs.RuleLines.{rules_were_read, rules_leave, each_rule}
 use Rattle.hw_flat_laws.proofs.Bodies.{tail_at, closing, body_at, text_body, limits_of, numbered}
@@ -26,10 +26,10 @@ nothing_more stay size values rules ((b ∷ p) ∷ parts) f h = absurd cc
 record BodyReads (ships slots : ℕ) (stay : Bool) (body : Parts) : Type 0 where
   rest : Parts
   rules : List Rule
-  ship_lines : (i : ℕ) → i < ships → has (row_form stay slots) (line_behind i body) ≢ None
-  behind_ships : (i : ℕ) → line_behind (ships + i) body ≡ line_behind i rest
-  rule_lines : (i : ℕ) → i < length rules → has (rule_form ships) (line_behind i rest) ≢ None
-  end : line_behind (length rules) rest ≡ Some (codes "end")
+  ship_lines : (i : ℕ) → i < ships → has (row_form stay slots) (later_line i body) ≢ None
+  past_ships : (i : ℕ) → later_line (ships + i) body ≡ later_line i rest
+  rule_lines : (i : ℕ) → i < length rules → has (rule_form ships) (later_line i rest) ≢ None
+  end : later_line (length rules) rest ≡ Some (codes "end")
   few : length rules ≤ 4_000
   total : length body ≡ ships + length rules + 2
   dropped : drop (ships + length rules + 1) body ≡ [] ∷ []
@@ -54,11 +54,11 @@ body_reads stay size body f small full h =
       rest = rest;
       rules = rules;
       ship_lines = each_ship stay size.1 3 size.0 body s.0 s.1;
-      behind_ships = λ i. ap (λ n. line_behind (n + i) body) (sym a.each) ∙ ap (line_behind (length a.front + i)) a.lines ∙ behind_front i a.front rest left;
+      past_ships = λ i. ap (λ n. later_line (n + i) body) (sym a.each) ∙ ap (later_line (length a.front + i)) a.lines ∙ after_front i a.front rest left;
       rule_lines = each_rule size.0 (3 + size.0) 4_000 rest t.0 t.1;
       end =
           let n : length rules ≡ length b.front + 0 = omega (arith, b.each) in
-          ap (λ i. line_behind i rest) n ∙ ap (line_behind (length b.front + 0)) (b.lines ∙ append_assoc b.front (codes "end" ∷ []) t.0.1) ∙ behind_front 0 b.front (codes "end" ∷ t.0.1) (codes "end", t.0.1, refl) ∙ (rw last.2 refl);
+          ap (λ i. later_line i rest) n ∙ ap (later_line (length b.front + 0)) (b.lines ∙ append_assoc b.front (codes "end" ∷ []) t.0.1) ∙ after_front 0 b.front (codes "end" ∷ t.0.1) (codes "end", t.0.1, refl) ∙ (rw last.2 refl);
       few = b.few;
       total = omega (arith, count, front_count);
       dropped = ap (drop (size.0 + length rules + 1)) lines ∙ drop_front (size.0 + length rules + 1) (a.front ++ closed) ([] ∷ []) (sym front_count);
@@ -107,33 +107,33 @@ wants_nothing header size_line body f number words.Size full h within w =
     size_reads header size_line body f full h (sym (ap (has size_form) (second_line header size_line body full)) ∙ ap (λ n. has size_form (numbered_line (header ∷ size_line ∷ body) n)) (sym w.place) ∙ w.wrong)
 wants_nothing header size_line body f number words.Values full h within w =
     let r = reads_begun header size_line body w.stay w.ships w.slots f full h w.said in
-    let line = numbered header size_line body number (number - 3) (omega (arith, w.behind_size)) full in
-    r.ship_lines (number - 3) (omega (arith, w.behind_size, w.before_rules)) (sym (ap (has (row_form w.stay w.slots)) line) ∙ w.wrong)
+    let line = numbered header size_line body number (number - 3) (omega (arith, w.past_size)) full in
+    r.ship_lines (number - 3) (omega (arith, w.past_size, w.before_rules)) (sym (ap (has (row_form w.stay w.slots)) line) ∙ w.wrong)
 wants_nothing header size_line body f number words.Rule full h within w =
     let r = reads_begun header size_line body w.stay w.ships w.slots f full h w.said in
     let i : ℕ = number - (3 + w.ships) in
-    let place : number ≡ 3 + (w.ships + i) = omega (arith, w.behind_ships) in
-    let line : numbered_line (header ∷ size_line ∷ body) number ≡ line_behind i r.rest = numbered header size_line body number (w.ships + i) place full ∙ r.behind_ships i in
+    let place : number ≡ 3 + (w.ships + i) = omega (arith, w.past_ships) in
+    let line : numbered_line (header ∷ size_line ∷ body) number ≡ later_line i r.rest = numbered header size_line body number (w.ships + i) place full ∙ r.past_ships i in
     elim (cases_order i (length r.rules)) [
-      | inl same ↦ w.no_end (line ∙ ap (λ n. line_behind n r.rest) same ∙ r.end)
+      | inl same ↦ w.no_end (line ∙ ap (λ n. later_line n r.rest) same ∙ r.end)
       | inr (inl below) ↦ r.rule_lines i below (sym (ap (has (rule_form w.ships)) line) ∙ w.wrong)
       | inr (inr above) ↦
           let before : number - 1 ≡ 3 + (w.ships + length r.rules) = omega (arith, above, place, within, r.total) in
-          w.no_end_before (numbered header size_line body (number - 1) (w.ships + length r.rules) before full ∙ r.behind_ships (length r.rules) ∙ r.end)
+          w.no_end_before (numbered header size_line body (number - 1) (w.ships + length r.rules) before full ∙ r.past_ships (length r.rules) ∙ r.end)
     ]
 wants_nothing header size_line body f number words.Many full h within w =
     let r = reads_begun header size_line body w.stay w.ships w.slots f full h w.said in
-    let place : number ≡ 3 + (w.ships + 4_000) = omega (arith, w.behind_rules) in
-    let line : numbered_line (header ∷ size_line ∷ body) number ≡ line_behind 4_000 r.rest = numbered header size_line body number (w.ships + 4_000) place full ∙ r.behind_ships 4_000 in
+    let place : number ≡ 3 + (w.ships + 4_000) = omega (arith, w.past_rules) in
+    let line : numbered_line (header ∷ size_line ∷ body) number ≡ later_line 4_000 r.rest = numbered header size_line body number (w.ships + 4_000) place full ∙ r.past_ships 4_000 in
     elim (cases_order 4_000 (length r.rules)) [
       | inl same ↦
-          let ends : numbered_line (header ∷ size_line ∷ body) number ≡ Some (codes "end") = line ∙ ap (λ n. line_behind n r.rest) same ∙ r.end in
+          let ends : numbered_line (header ∷ size_line ∷ body) number ≡ Some (codes "end") = line ∙ ap (λ n. later_line n r.rest) same ∙ r.end in
           let none : has (rule_form w.ships) (numbered_line (header ∷ size_line ∷ body) number) ≡ None = ap (has (rule_form w.ships)) ends in
           apart w.rule (sym none ∙ w.one_more)
       | inr (inl below) ↦ absurd (omega (arith, below, r.few))
       | inr (inr above) ↦
           let before : number - 1 ≡ 3 + (w.ships + length r.rules) = omega (arith, above, place, within, r.total) in
-          w.no_end_before (numbered header size_line body (number - 1) (w.ships + length r.rules) before full ∙ r.behind_ships (length r.rules) ∙ r.end)
+          w.no_end_before (numbered header size_line body (number - 1) (w.ships + length r.rules) before full ∙ r.past_ships (length r.rules) ∙ r.end)
     ]
   where
     apart : (rule : Rule) → None ≡ Some rule → ⊥
@@ -141,14 +141,14 @@ wants_nothing header size_line body f number words.Many full h within w =
 wants_nothing header size_line body f number words.Tail full h within w =
     let r = reads_begun header size_line body w.stay w.ships w.slots f full h w.said in
     let i : ℕ = number - 1 - (3 + w.ships) in
-    let place : number - 1 ≡ 3 + (w.ships + i) = omega (arith, w.behind_ships) in
-    let line : numbered_line (header ∷ size_line ∷ body) (number - 1) ≡ line_behind i r.rest = numbered header size_line body (number - 1) (w.ships + i) place full ∙ r.behind_ships i in
+    let place : number - 1 ≡ 3 + (w.ships + i) = omega (arith, w.past_ships) in
+    let line : numbered_line (header ∷ size_line ∷ body) (number - 1) ≡ later_line i r.rest = numbered header size_line body (number - 1) (w.ships + i) place full ∙ r.past_ships i in
     elim (cases_order i (length r.rules)) [
       | inl same ↦
           let n : number - 1 ≡ suc (suc (w.ships + length r.rules + 1)) = omega (arith, same, place) in
           w.more (ap (λ k. drop k (header ∷ size_line ∷ body)) n ∙ r.dropped)
       | inr (inl below) ↦
-          let ends : line_behind i r.rest ≡ Some (codes "end") = sym line ∙ w.end in
+          let ends : later_line i r.rest ≡ Some (codes "end") = sym line ∙ w.end in
           r.rule_lines i below (ap (has (rule_form w.ships)) ends)
       | inr (inr above) ↦ absurd (omega (arith, above, place, within, r.total))
     ]

@@ -11,13 +11,13 @@ same_ships : (parts : Parts) (s t : Bool) (ships others slots more : ℕ) → Sa
 same_ships parts s t ships others slots more b c = let e : (ships, slots) ≡ (others, more) = cc in ap (λ (p : ℕ × ℕ). p.0) e
 
 values_rule : (parts : Parts) (number : ℕ) → WantsValues parts number → WantsRule parts number → ⊥
-values_rule parts number a b = let same = same_ships parts a.stay b.stay a.ships b.ships a.slots b.slots a.said b.said in omega (arith, same, a.before_rules, b.behind_ships)
+values_rule parts number a b = let same = same_ships parts a.stay b.stay a.ships b.ships a.slots b.slots a.said b.said in omega (arith, same, a.before_rules, b.past_ships)
 
 values_end : (parts : Parts) (number : ℕ) → WantsValues parts number → WantsEnd parts number → ⊥
-values_end parts number a b = let same = same_ships parts a.stay b.stay a.ships b.ships a.slots b.slots a.said b.said in omega (arith, same, a.before_rules, b.behind_rules)
+values_end parts number a b = let same = same_ships parts a.stay b.stay a.ships b.ships a.slots b.slots a.said b.said in omega (arith, same, a.before_rules, b.past_rules)
 
 values_more : (parts : Parts) (number : ℕ) → WantsValues parts number → WantsNoMore parts number → ⊥
-values_more parts number a b = let same = same_ships parts a.stay b.stay a.ships b.ships a.slots b.slots a.said b.said in omega (arith, same, a.before_rules, b.behind_ships)
+values_more parts number a b = let same = same_ships parts a.stay b.stay a.ships b.ships a.slots b.slots a.said b.said in omega (arith, same, a.before_rules, b.past_ships)
 
 rule_end : (parts : Parts) (number : ℕ) → WantsRule parts number → WantsEnd parts number → ⊥
 rule_end parts number a b =
@@ -28,36 +28,36 @@ rule_end parts number a b =
 pub one_word : (parts : Parts) (number : ℕ) (word other : FlatWord) → IsWanted parts number word → IsWanted parts number other → word ≡ other
 one_word parts number words.Header words.Header a b = refl
 one_word parts number words.Header words.Size a b = absurd (omega (arith, a.place, b.place))
-one_word parts number words.Header words.Values a b = absurd (omega (arith, a.place, b.behind_size))
-one_word parts number words.Header words.Rule a b = absurd (omega (arith, a.place, b.behind_ships))
-one_word parts number words.Header words.Many a b = absurd (omega (arith, a.place, b.behind_rules))
-one_word parts number words.Header words.Tail a b = absurd (omega (arith, a.place, b.behind_ships))
+one_word parts number words.Header words.Values a b = absurd (omega (arith, a.place, b.past_size))
+one_word parts number words.Header words.Rule a b = absurd (omega (arith, a.place, b.past_ships))
+one_word parts number words.Header words.Many a b = absurd (omega (arith, a.place, b.past_rules))
+one_word parts number words.Header words.Tail a b = absurd (omega (arith, a.place, b.past_ships))
 one_word parts number words.Size words.Header a b = absurd (omega (arith, b.place, a.place))
 one_word parts number words.Size words.Size a b = refl
-one_word parts number words.Size words.Values a b = absurd (omega (arith, a.place, b.behind_size))
-one_word parts number words.Size words.Rule a b = absurd (omega (arith, a.place, b.behind_ships))
-one_word parts number words.Size words.Many a b = absurd (omega (arith, a.place, b.behind_rules))
-one_word parts number words.Size words.Tail a b = absurd (omega (arith, a.place, b.behind_ships))
-one_word parts number words.Values words.Header a b = absurd (omega (arith, b.place, a.behind_size))
-one_word parts number words.Values words.Size a b = absurd (omega (arith, b.place, a.behind_size))
+one_word parts number words.Size words.Values a b = absurd (omega (arith, a.place, b.past_size))
+one_word parts number words.Size words.Rule a b = absurd (omega (arith, a.place, b.past_ships))
+one_word parts number words.Size words.Many a b = absurd (omega (arith, a.place, b.past_rules))
+one_word parts number words.Size words.Tail a b = absurd (omega (arith, a.place, b.past_ships))
+one_word parts number words.Values words.Header a b = absurd (omega (arith, b.place, a.past_size))
+one_word parts number words.Values words.Size a b = absurd (omega (arith, b.place, a.past_size))
 one_word parts number words.Values words.Values a b = refl
 one_word parts number words.Values words.Rule a b = absurd (values_rule parts number a b)
 one_word parts number words.Values words.Many a b = absurd (values_end parts number a b)
 one_word parts number words.Values words.Tail a b = absurd (values_more parts number a b)
-one_word parts number words.Rule words.Header a b = absurd (omega (arith, b.place, a.behind_ships))
-one_word parts number words.Rule words.Size a b = absurd (omega (arith, b.place, a.behind_ships))
+one_word parts number words.Rule words.Header a b = absurd (omega (arith, b.place, a.past_ships))
+one_word parts number words.Rule words.Size a b = absurd (omega (arith, b.place, a.past_ships))
 one_word parts number words.Rule words.Values a b = absurd (values_rule parts number b a)
 one_word parts number words.Rule words.Rule a b = refl
 one_word parts number words.Rule words.Many a b = absurd (rule_end parts number a b)
 one_word parts number words.Rule words.Tail a b = absurd (a.no_end_before b.end)
-one_word parts number words.Many words.Header a b = absurd (omega (arith, b.place, a.behind_rules))
-one_word parts number words.Many words.Size a b = absurd (omega (arith, b.place, a.behind_rules))
+one_word parts number words.Many words.Header a b = absurd (omega (arith, b.place, a.past_rules))
+one_word parts number words.Many words.Size a b = absurd (omega (arith, b.place, a.past_rules))
 one_word parts number words.Many words.Values a b = absurd (values_end parts number b a)
 one_word parts number words.Many words.Rule a b = absurd (rule_end parts number b a)
 one_word parts number words.Many words.Many a b = refl
 one_word parts number words.Many words.Tail a b = absurd (a.no_end_before b.end)
-one_word parts number words.Tail words.Header a b = absurd (omega (arith, b.place, a.behind_ships))
-one_word parts number words.Tail words.Size a b = absurd (omega (arith, b.place, a.behind_ships))
+one_word parts number words.Tail words.Header a b = absurd (omega (arith, b.place, a.past_ships))
+one_word parts number words.Tail words.Size a b = absurd (omega (arith, b.place, a.past_ships))
 one_word parts number words.Tail words.Values a b = absurd (values_more parts number b a)
 one_word parts number words.Tail words.Rule a b = absurd (b.no_end_before a.end)
 one_word parts number words.Tail words.Many a b = absurd (b.no_end_before a.end)

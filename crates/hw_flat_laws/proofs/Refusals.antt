@@ -31,9 +31,9 @@ followed Done More read f parts e count goes r =
     }
 
 -- a reading of one more line
-pub behind_line : {A : Type 0} (Done : A → Type 0) (read whole : Parts → Result A Fault) (line : List ℕ) (parts : Parts) (e : Fault) (count : ℕ) → ((others : Parts) → Full others → whole (line ∷ others) ≡ read others) → Refused Done read parts e count
+pub past_line_form : {A : Type 0} (Done : A → Type 0) (read whole : Parts → Result A Fault) (line : List ℕ) (parts : Parts) (e : Fault) (count : ℕ) → ((others : Parts) → Full others → whole (line ∷ others) ≡ read others) → Refused Done read parts e count
     → Refused Done whole (line ∷ parts) e (suc count)
-behind_line {A = A} Done read whole line parts e count step r = record {
+past_line_form {A = A} Done read whole line parts e count step r = record {
   mended = line ∷ r.mended;
   value = r.value;
   done = r.done;
@@ -52,9 +52,9 @@ behind_line {A = A} Done read whole line parts e count step r = record {
     cut other n (x ∷ others) s m = ap (λ y. whole (y ∷ others)) s.0 ∙ step others (full_same count parts others s.1) ∙ r.cut other (omega (arith, n)) others s.1 (omega (arith, m))
 
 -- a reading of more lines
-pub behind_lines : {A : Type 0} (Done : A → Type 0) (read whole : Parts → Result A Fault) (front parts : Parts) (e : Fault) (count : ℕ) → ((others : Parts) → Full others → whole (front ++ others) ≡ read others) → Refused Done read parts e count
+pub past_lines : {A : Type 0} (Done : A → Type 0) (read whole : Parts → Result A Fault) (front parts : Parts) (e : Fault) (count : ℕ) → ((others : Parts) → Full others → whole (front ++ others) ≡ read others) → Refused Done read parts e count
     → Refused Done whole (front ++ parts) e (length front + count)
-behind_lines Done read whole [] parts e count step r =
+past_lines Done read whole [] parts e count step r =
     let n : count ≡ 0 + count = omega arith in
     subst (Refused Done whole parts e) n (record {
       mended = r.mended;
@@ -65,9 +65,9 @@ behind_lines Done read whole [] parts e count step r =
       dead = λ others s. step others (full_same (suc count) parts others s) ∙ r.dead others s;
       cut = λ other k others s m. step others (full_same count parts others s) ∙ r.cut other k others s m;
     })
-behind_lines Done read whole (x ∷ front) parts e count step r =
+past_lines Done read whole (x ∷ front) parts e count step r =
     let n : suc (length front + count) ≡ suc (length front) + count = omega arith in
-    subst (Refused Done whole (x ∷ front ++ parts) e) n (behind_line Done (λ others. whole (x ∷ others)) whole x (front ++ parts) e (length front + count) (λ others full. refl) (behind_lines Done read (λ others. whole (x ∷ others)) front parts e count step r))
+    subst (Refused Done whole (x ∷ front ++ parts) e) n (past_line_form Done (λ others. whole (x ∷ others)) whole x (front ++ parts) e (length front + count) (λ others full. refl) (past_lines Done read (λ others. whole (x ∷ others)) front parts e count step r))
 
 -- a bad line
 pub refused_line : {A : Type 0} (Done : A → Type 0) (read : Parts → Result A Fault) (line next : List ℕ) (parts : Parts) (e : Fault) (first : List ℕ) (more : Parts) (value : A) → Done value → read (first ∷ more) ≡ Ok value → ((y : List ℕ) (ys : Parts) → read (line ∷ y ∷ ys) ≡ Err e)

@@ -5,4 +5,4 @@ use Rattle.hw_flat_laws.specs.Rows.{BadLineRows}
 
 pub bad_line_rows : BadLineRows
 unfolding row_at rows_at rules_at problem_of_lines
-bad_line_rows = record { other_header = refl; no_slots = refl; silent_on_staying = refl; too_many_values = refl; behind_itself = refl; end_not_ended = refl; one_line_more = refl }
+bad_line_rows = record { other_header = refl; no_slots = refl; silent_on_staying = refl; too_many_values = refl; after_itself = refl; end_not_ended = refl; one_line_more = refl }

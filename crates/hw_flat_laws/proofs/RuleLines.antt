@@ -10,9 +10,9 @@ use Rattle.hw_flat.specs.TextForms.{rule_form}
 use Rattle.hw_flat.specs.TextWritten.{rule_text}
 use Rattle.hw_flat.proofs.TextRows.{rules_read}
 use Rattle.hw_flat.proofs.TextBack.{rules_back}
-use Rattle.hw_flat_laws.specs.FirstLines.{line_behind}
+use Rattle.hw_flat_laws.specs.FirstLines.{later_line}
 use Rattle.hw_flat_laws.proofs.Same.{Parts, Full, full_is, has}
-use Rattle.hw_flat_laws.proofs.Refusals.{Refused, followed, behind_line, refused_line, refused_short}
+use Rattle.hw_flat_laws.proofs.Refusals.{Refused, followed, past_line_form, refused_line, refused_short}
 use Rattle.hw_flat_laws.proofs.ShipLines.{is_err, not_both, before_done}
 
 abbrev pub Closed : List Rule × Parts → Type 0
@@ -20,8 +20,8 @@ Closed x = x.1 ≡ [] ∷ []
 
 -- what the word says of the line
 abbrev pub SaysOfRule : ℕ → ℕ → ℕ → Parts → FlatWord → Type 0
-SaysOfRule ships room count parts words.Rule = (line_behind count parts ≢ Some (codes "end")) × (has (rule_form ships) (line_behind count parts) ≡ None)
-SaysOfRule ships room count parts words.Many = (count ≡ room) × ((rule : Rule) × (has (rule_form ships) (line_behind count parts) ≡ Some rule))
+SaysOfRule ships room count parts words.Rule = (later_line count parts ≢ Some (codes "end")) × (has (rule_form ships) (later_line count parts) ≡ None)
+SaysOfRule ships room count parts words.Many = (count ≡ room) × ((rule : Rule) × (has (rule_form ships) (later_line count parts) ≡ Some rule))
 SaysOfRule ships room count parts _ = ⊥
 
 said_later : (ships room count : ℕ) (line next : List ℕ) (parts : Parts) (word : FlatWord) → 1 ≤ room → SaysOfRule ships (room - 1) count (next ∷ parts) word → SaysOfRule ships room (suc count) (line ∷ next ∷ parts) word
@@ -36,7 +36,7 @@ pub record RulesRefused (ships number room : ℕ) (parts : Parts) (e : Fault) : 
   pub count : ℕ
   pub place : e.number ≡ number + count
   pub few : count ≤ room
-  pub before : (i : ℕ) → count ≡ suc i → line_behind i parts ≢ Some (codes "end")
+  pub before : (i : ℕ) → count ≡ suc i → later_line i parts ≢ Some (codes "end")
   pub says : SaysOfRule ships room count parts e.word
   pub refused : Refused Closed (rules_at ships number room) parts e count
 
@@ -75,20 +75,20 @@ rule_step ships number room less line rule others other form some full = rw (ful
 
 a_rule : (ships number room less : ℕ) (line next : List ℕ) (parts : Parts) (rule : Rule) (e : Fault) → bytes_eq line (codes "end") ≡ false → rule_form ships line ≡ Some rule → room ≡ suc less → rules_at ships number room (line ∷ next ∷ parts) ≡ Err e
     → (rules_at ships (number + 1) (room - 1) (next ∷ parts) ≡ Err e → RulesRefused ships (number + 1) (room - 1) (next ∷ parts) e) → RulesRefused ships number room (line ∷ next ∷ parts) e
-a_rule ships number room less line next parts rule e other form some h behind =
+a_rule ships number room less line next parts rule e other form some h prefixed =
     let step : (others : Parts) → Full others → rules_at ships number room (line ∷ others) ≡ (rules_at ships (number + 1) (room - 1) others >>= λ x. Ok (rule ∷ x.0, x.1)) = λ others full. rule_step ships number room less line rule others other form some full in
-    let r = behind (before_done (rules_at ships (number + 1) (room - 1) (next ∷ parts)) (λ x. (rule ∷ x.0, x.1)) e (sym (step (next ∷ parts) (next, parts, refl)) ∙ h)) in
+    let r = prefixed (before_done (rules_at ships (number + 1) (room - 1) (next ∷ parts)) (λ x. (rule ∷ x.0, x.1)) e (sym (step (next ∷ parts) (next, parts, refl)) ∙ h)) in
     record {
       count = suc r.count;
       place = omega (arith, r.place);
       few = omega (arith, r.few, some);
       before = before r.count r.before;
       says = said_later ships room r.count line next parts e.word (omega (arith, some)) r.says;
-      refused = behind_line Closed (λ others. rules_at ships (number + 1) (room - 1) others >>= λ x. Ok (rule ∷ x.0, x.1)) (rules_at ships number room) line (next ∷ parts) e r.count step
+      refused = past_line_form Closed (λ others. rules_at ships (number + 1) (room - 1) others >>= λ x. Ok (rule ∷ x.0, x.1)) (rules_at ships number room) line (next ∷ parts) e r.count step
           (followed Closed Closed (rules_at ships (number + 1) (room - 1)) (λ x. Ok (rule ∷ x.0, x.1)) (next ∷ parts) e r.count (λ value done. ((rule ∷ value.0, value.1), done, refl)) r.refused);
     }
   where
-    before : (count : ℕ) → ((i : ℕ) → count ≡ suc i → line_behind i (next ∷ parts) ≢ Some (codes "end")) → (i : ℕ) → suc count ≡ suc i → line_behind i (line ∷ next ∷ parts) ≢ Some (codes "end")
+    before : (count : ℕ) → ((i : ℕ) → count ≡ suc i → later_line i (next ∷ parts) ≢ Some (codes "end")) → (i : ℕ) → suc count ≡ suc i → later_line i (line ∷ next ∷ parts) ≢ Some (codes "end")
     before count earlier zero k = other_text line other
     before count earlier (suc i) k = earlier i (omega (arith, k))
 
@@ -166,28 +166,28 @@ rules_leave ships number room (line ∷ next ∷ parts) x h =
     ] refl
 
 -- each of them has its form
-pub each_rule : (ships number room : ℕ) (parts : Parts) (x : List Rule × Parts) → rules_at ships number room parts ≡ Ok x → (i : ℕ) → i < length x.0 → has (rule_form ships) (line_behind i parts) ≢ None
+pub each_rule : (ships number room : ℕ) (parts : Parts) (x : List Rule × Parts) → rules_at ships number room parts ≡ Ok x → (i : ℕ) → i < length x.0 → has (rule_form ships) (later_line i parts) ≢ None
 unfolding rules_at
 each_rule ships number room [] x h i lt = absurd cc
 each_rule ships number room (line ∷ []) x h i lt = absurd cc
 each_rule ships number room (line ∷ next ∷ parts) x h i lt =
-    elim (bytes_eq line (codes "end")) as (λ b. bytes_eq line (codes "end") ≡ b → has (rule_form ships) (line_behind i (line ∷ next ∷ parts)) ≢ None) [
+    elim (bytes_eq line (codes "end")) as (λ b. bytes_eq line (codes "end") ≡ b → has (rule_form ships) (later_line i (line ∷ next ∷ parts)) ≢ None) [
       | true ↦ λ ends.
           let good : rules_at ships number room (line ∷ next ∷ parts) ≡ Ok ([], next ∷ parts) = rw ends refl in
           let e : ([], next ∷ parts) ≡ x = cc in
           let none : 0 ≡ length x.0 = ap (λ (y : List Rule × Parts). length y.0) e in
           absurd (omega (arith, none, lt))
       | false ↦ λ other.
-          elim (rule_form ships line) as (λ o. rule_form ships line ≡ o → has (rule_form ships) (line_behind i (line ∷ next ∷ parts)) ≢ None) [
+          elim (rule_form ships line) as (λ o. rule_form ships line ≡ o → has (rule_form ships) (later_line i (line ∷ next ∷ parts)) ≢ None) [
             | None ↦ λ form. let bad : rules_at ships number room (line ∷ next ∷ parts) ≡ Err (record { number = number; word = words.Rule }) = rw (other, form) refl in absurd (not_both (rules_at ships number room (line ∷ next ∷ parts)) x _ h bad)
             | Some rule ↦ λ form.
-                elim room as (λ n. room ≡ n → has (rule_form ships) (line_behind i (line ∷ next ∷ parts)) ≢ None) [
+                elim room as (λ n. room ≡ n → has (rule_form ships) (later_line i (line ∷ next ∷ parts)) ≢ None) [
                   | zero ↦ λ none. let bad : rules_at ships number room (line ∷ next ∷ parts) ≡ Err (record { number = number; word = words.Many }) = rw (other, form, none) refl in absurd (not_both (rules_at ships number room (line ∷ next ∷ parts)) x _ h bad)
                   | suc less ↦ λ more.
                       let step = rule_step ships number room less line rule (next ∷ parts) other form more (next, parts, refl) in
                       let r = last_step (rules_at ships (number + 1) (room - 1) (next ∷ parts)) rule x (sym step ∙ h) in
                       let count : suc (length r.0.0) ≡ length x.0 = ap (λ (y : List Rule × Parts). length y.0) r.2 in
-                      elim i as (λ n. n < length x.0 → has (rule_form ships) (line_behind n (line ∷ next ∷ parts)) ≢ None) [
+                      elim i as (λ n. n < length x.0 → has (rule_form ships) (later_line n (line ∷ next ∷ parts)) ≢ None) [
                         | zero ↦ λ _ s. cc
                         | suc j ↦ λ k. each_rule ships (number + 1) (room - 1) (next ∷ parts) r.0 r.1 j (omega (arith, k, count))
                       ] lt

@@ -2,7 +2,7 @@
 use Rattle.std.proofs.Common.{◌≡◌, ℕ, zero, suc, ◌+◌, ◌<◌, ◌≤◌, List, [], ◌∷◌, ◌++◌, Option, length, take, drop, refl, sym, ap, ◌∙◌, arith}
 use Rattle.std.proofs.Math.Path.{ap₂}
 use Rattle.hw_flat.specs.TextForms.{◌and_then◌}
-use Rattle.hw_flat_laws.specs.FirstLines.{line_behind}
+use Rattle.hw_flat_laws.specs.FirstLines.{later_line}
 
 abbrev pub Parts : Type 0
 Parts = List (List ℕ)
@@ -52,14 +52,14 @@ pub full_after : (xs parts : Parts) → Full parts → Full (xs ++ parts)
 full_after [] parts full = full
 full_after (x ∷ xs) parts full = (x, xs ++ parts, refl)
 
-pub behind_next : (count : ℕ) (line : List ℕ) (parts : Parts) → Full parts → line_behind (suc count) (line ∷ parts) ≡ line_behind count parts
-behind_next count line parts full = rw full.2 refl
+pub after_next : (count : ℕ) (line : List ℕ) (parts : Parts) → Full parts → later_line (suc count) (line ∷ parts) ≡ later_line count parts
+after_next count line parts full = rw full.2 refl
 
-pub behind_front : (count : ℕ) (front parts : Parts) → Full parts → line_behind (length front + count) (front ++ parts) ≡ line_behind count parts
-behind_front count [] parts full = let n : 0 + count ≡ count = omega arith in ap (λ i. line_behind i parts) n
-behind_front count (x ∷ front) parts full =
+pub after_front : (count : ℕ) (front parts : Parts) → Full parts → later_line (length front + count) (front ++ parts) ≡ later_line count parts
+after_front count [] parts full = let n : 0 + count ≡ count = omega arith in ap (λ i. later_line i parts) n
+after_front count (x ∷ front) parts full =
     let n : suc (length front) + count ≡ suc (length front + count) = omega arith in
-    ap (λ i. line_behind i (x ∷ front ++ parts)) n ∙ behind_next (length front + count) x (front ++ parts) (full_after front parts full) ∙ behind_front count front parts full
+    ap (λ i. later_line i (x ∷ front ++ parts)) n ∙ after_next (length front + count) x (front ++ parts) (full_after front parts full) ∙ after_front count front parts full
 
 pub drop_front : (count : ℕ) (front parts : Parts) → count ≡ length front → drop count (front ++ parts) ≡ parts
 drop_front zero [] parts e = refl

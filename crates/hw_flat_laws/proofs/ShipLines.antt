@@ -8,9 +8,9 @@ use Rattle.hw_flat.specs.TextForms.{row_form}
 use Rattle.hw_flat.specs.TextWritten.{row_text, rows_in}
 use Rattle.hw_flat.proofs.TextRows.{width, last_in, RowsFit, rows_read}
 use Rattle.hw_flat.proofs.TextBack.{rows_back}
-use Rattle.hw_flat_laws.specs.FirstLines.{line_behind}
+use Rattle.hw_flat_laws.specs.FirstLines.{later_line}
 use Rattle.hw_flat_laws.proofs.Same.{Parts, Full, full_after, full_is, has}
-use Rattle.hw_flat_laws.proofs.Refusals.{Refused, followed, behind_line, refused_line, refused_short}
+use Rattle.hw_flat_laws.proofs.Refusals.{Refused, followed, past_line_form, refused_line, refused_short}
 
 abbrev pub Row : Type 0
 Row = List (Option ℕ)
@@ -80,7 +80,7 @@ pub record ShipsRefused (stay : Bool) (slots number ships : ℕ) (parts : Parts)
   pub place : e.number ≡ number + count
   pub word : e.word ≡ words.Values
   pub below : count < ships
-  pub wrong : has (row_form stay slots) (line_behind count parts) ≡ None
+  pub wrong : has (row_form stay slots) (later_line count parts) ≡ None
   pub refused : Refused Ended (rows_at stay slots number ships) parts e count
 
 pub ships_refused : (stay : Bool) (slots number ships : ℕ) (parts : Parts) (e : Fault) → 1 ≤ length parts → rows_at stay slots number ships parts ≡ Err e → ShipsRefused stay slots number ships parts e
@@ -110,7 +110,7 @@ ships_refused stay slots number (suc ships) (line ∷ next ∷ parts) e some h =
             word = r.word;
             below = omega (arith, r.below);
             wrong = r.wrong;
-            refused = behind_line Ended (λ others. rows_at stay slots (number + 1) ships others >>= λ more. Ok (row ++ more.0, more.1)) (rows_at stay slots number (suc ships)) line (next ∷ parts) e r.count step
+            refused = past_line_form Ended (λ others. rows_at stay slots (number + 1) ships others >>= λ more. Ok (row ++ more.0, more.1)) (rows_at stay slots number (suc ships)) line (next ∷ parts) e r.count step
                 (followed Ended Ended (rows_at stay slots (number + 1) ships) (λ more. Ok (row ++ more.0, more.1)) (next ∷ parts) e r.count (λ value done. ((row ++ value.0, value.1), done, refl)) r.refused);
           }
     ] refl
@@ -161,17 +161,17 @@ ships_leave stay slots number (suc ships) (line ∷ next ∷ parts) x full h =
     ] refl
 
 -- the last of them is not `end`
-pub last_ship : (stay : Bool) (slots number ships : ℕ) (parts : Parts) (x : Row × Parts) → rows_at stay slots number (suc ships) parts ≡ Ok x → line_behind ships parts ≢ Some (codes "end")
+pub last_ship : (stay : Bool) (slots number ships : ℕ) (parts : Parts) (x : Row × Parts) → rows_at stay slots number (suc ships) parts ≡ Ok x → later_line ships parts ≢ Some (codes "end")
 unfolding rows_at row_at
 last_ship stay slots number ships [] x h = absurd cc
 last_ship stay slots number ships (line ∷ []) x h = absurd cc
 last_ship stay slots number ships (line ∷ next ∷ parts) x h =
-    elim (row_form stay slots line) as (λ o. row_form stay slots line ≡ o → line_behind ships (line ∷ next ∷ parts) ≢ Some (codes "end")) [
+    elim (row_form stay slots line) as (λ o. row_form stay slots line ≡ o → later_line ships (line ∷ next ∷ parts) ≢ Some (codes "end")) [
       | None ↦ λ form.
           let bad : rows_at stay slots number (suc ships) (line ∷ next ∷ parts) ≡ Err (record { number = number; word = words.Values }) = rw form refl in
           absurd (not_both (rows_at stay slots number (suc ships) (line ∷ next ∷ parts)) x _ h bad)
       | Some row ↦ λ form.
-          elim ships as (λ n. ships ≡ n → line_behind n (line ∷ next ∷ parts) ≢ Some (codes "end")) [
+          elim ships as (λ n. ships ≡ n → later_line n (line ∷ next ∷ parts) ≢ Some (codes "end")) [
             | zero ↦ λ none s.
                 let same : line ≡ codes "end" = cc in
                 let ends : row_form stay slots line ≡ None = ap (row_form stay slots) same in
@@ -184,20 +184,20 @@ last_ship stay slots number ships (line ∷ next ∷ parts) x h =
     ] refl
 
 -- each of them has its form
-pub each_ship : (stay : Bool) (slots number ships : ℕ) (parts : Parts) (x : Row × Parts) → rows_at stay slots number ships parts ≡ Ok x → (i : ℕ) → i < ships → has (row_form stay slots) (line_behind i parts) ≢ None
+pub each_ship : (stay : Bool) (slots number ships : ℕ) (parts : Parts) (x : Row × Parts) → rows_at stay slots number ships parts ≡ Ok x → (i : ℕ) → i < ships → has (row_form stay slots) (later_line i parts) ≢ None
 unfolding rows_at row_at
 each_ship stay slots number zero parts x h i lt = absurd (omega (arith, lt))
 each_ship stay slots number (suc ships) [] x h i lt = absurd cc
 each_ship stay slots number (suc ships) (line ∷ []) x h i lt = absurd cc
 each_ship stay slots number (suc ships) (line ∷ next ∷ parts) x h i lt =
-    elim (row_form stay slots line) as (λ o. row_form stay slots line ≡ o → has (row_form stay slots) (line_behind i (line ∷ next ∷ parts)) ≢ None) [
+    elim (row_form stay slots line) as (λ o. row_form stay slots line ≡ o → has (row_form stay slots) (later_line i (line ∷ next ∷ parts)) ≢ None) [
       | None ↦ λ form.
           let bad : rows_at stay slots number (suc ships) (line ∷ next ∷ parts) ≡ Err (record { number = number; word = words.Values }) = rw form refl in
           absurd (not_both (rows_at stay slots number (suc ships) (line ∷ next ∷ parts)) x _ h bad)
       | Some row ↦ λ form.
           let step : rows_at stay slots number (suc ships) (line ∷ next ∷ parts) ≡ (rows_at stay slots (number + 1) ships (next ∷ parts) >>= λ y. Ok (row ++ y.0, y.1)) = rw form refl in
           let r = last_step (rows_at stay slots (number + 1) ships (next ∷ parts)) row x (sym step ∙ h) in
-          elim i as (λ n. n < suc ships → has (row_form stay slots) (line_behind n (line ∷ next ∷ parts)) ≢ None) [
+          elim i as (λ n. n < suc ships → has (row_form stay slots) (later_line n (line ∷ next ∷ parts)) ≢ None) [
             | zero ↦ λ _ s. cc
             | suc j ↦ λ k. each_ship stay slots (number + 1) ships (next ∷ parts) r.0 r.1 j (omega (arith, k))
           ] lt

@@ -14,7 +14,7 @@ use Rattle.hw_flat_laws.specs.FirstLines.{SameLines}
 use Rattle.hw_flat_laws.specs.Wanted.{IsWanted}
 use Rattle.hw_flat_laws.specs.Laws.{TextGoesOn, FirstBadLine}
 use Rattle.hw_flat_laws.proofs.Same.{Parts, Full, Same, same_from, same_takes, full_some}
-use Rattle.hw_flat_laws.proofs.Refusals.{Refused, behind_line, refused_line, refused_short}
+use Rattle.hw_flat_laws.proofs.Refusals.{Refused, past_line_form, refused_line, refused_short}
 use Rattle.hw_flat_laws.proofs.ShipLines.{is_err}
 use Rattle.hw_flat_laws.proofs.Bodies.{AnyProblem, body_at, body_mended, body_refused, text_body}
 
@@ -62,7 +62,7 @@ second_refused header stay (line ∷ next ∷ parts) e a some h =
             count = suc r.count;
             place = omega (arith, r.place);
             wanted = r.wanted;
-            refused = behind_line AnyProblem (body_at stay size) (second_at stay) line (next ∷ parts) e r.count step r.refused;
+            refused = past_line_form AnyProblem (body_at stay size) (second_at stay) line (next ∷ parts) e r.count step r.refused;
           }
     ] refl
 
@@ -109,7 +109,7 @@ text_refused (line ∷ next ∷ parts) e some h =
             count = suc r.count;
             place = omega (arith, r.place);
             wanted = r.wanted;
-            refused = behind_line AnyProblem (second_at stay) problem_of_lines line (next ∷ parts) e r.count step r.refused;
+            refused = past_line_form AnyProblem (second_at stay) problem_of_lines line (next ∷ parts) e r.count step r.refused;
           }
     ] refl
 

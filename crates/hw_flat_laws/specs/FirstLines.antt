@@ -7,15 +7,15 @@ abbrev pub part_count : List ℕ → ℕ
 part_count bytes = length (parts_of 10 bytes)
 
 -- the line after `count` others
-abbrev pub line_behind : ℕ → List (List ℕ) → Option (List ℕ)
-line_behind count [] = None
-line_behind count (line ∷ []) = None
-line_behind zero (line ∷ next ∷ parts) = Some line
-line_behind (suc count) (line ∷ next ∷ parts) = line_behind count (next ∷ parts)
+abbrev pub later_line : ℕ → List (List ℕ) → Option (List ℕ)
+later_line count [] = None
+later_line count (line ∷ []) = None
+later_line zero (line ∷ next ∷ parts) = Some line
+later_line (suc count) (line ∷ next ∷ parts) = later_line count (next ∷ parts)
 
 -- the line of this number
 abbrev pub numbered_line : List (List ℕ) → ℕ → Option (List ℕ)
-numbered_line parts number = line_behind (number - 1) parts
+numbered_line parts number = later_line (number - 1) parts
 
 -- both texts have at least `count` lines and more after them, and these lines are the same
 pub record SameLines (count : ℕ) (bytes others : List ℕ) : Type 0 where

@@ -15,7 +15,7 @@ pub record BadLineRows : Type 0 where
   -- two values where there is one slot
   pub too_many_values : IsRefused (codes "flat 1\nsize 1 1\nv 5 6\nend\n") 3 words.Values
   -- a ship after itself
-  pub behind_itself : IsRefused (codes "flat 1\nsize 2 1\nv 5\nv 7\ns 1 0 3\ns 1 1 3\nend\n") 6 words.Rule
+  pub after_itself : IsRefused (codes "flat 1\nsize 2 1\nv 5\nv 7\ns 1 0 3\ns 1 1 3\nend\n") 6 words.Rule
   -- `end` without the end of its line
   pub end_not_ended : IsRefused (codes "flat 1\nsize 1 1\nv 5\nend") 4 words.Rule
   -- an empty line after `end`

@@ -28,7 +28,7 @@ pub record WantsValues (parts : List (List ℕ)) (number : ℕ) : Type 0 where
   pub ships : ℕ
   pub slots : ℕ
   pub said : SaysSize parts stay ships slots
-  pub behind_size : 3 ≤ number
+  pub past_size : 3 ≤ number
   pub before_rules : number < 3 + ships
   pub wrong : (numbered_line parts number and_then row_form stay slots) ≡ None
 
@@ -38,7 +38,7 @@ pub record WantsRule (parts : List (List ℕ)) (number : ℕ) : Type 0 where
   pub ships : ℕ
   pub slots : ℕ
   pub said : SaysSize parts stay ships slots
-  pub behind_ships : 3 + ships ≤ number
+  pub past_ships : 3 + ships ≤ number
   pub few_rules : number ≤ 3 + ships + MOST_RULES
   pub no_end_before : numbered_line parts (number - 1) ≢ Some (codes "end")
   pub no_end : numbered_line parts number ≢ Some (codes "end")
@@ -50,7 +50,7 @@ pub record WantsEnd (parts : List (List ℕ)) (number : ℕ) : Type 0 where
   pub ships : ℕ
   pub slots : ℕ
   pub said : SaysSize parts stay ships slots
-  pub behind_rules : number ≡ 3 + ships + MOST_RULES
+  pub past_rules : number ≡ 3 + ships + MOST_RULES
   pub no_end_before : numbered_line parts (number - 1) ≢ Some (codes "end")
   pub rule : Rule
   pub one_more : (numbered_line parts number and_then rule_form ships) ≡ Some rule
@@ -61,7 +61,7 @@ pub record WantsNoMore (parts : List (List ℕ)) (number : ℕ) : Type 0 where
   pub ships : ℕ
   pub slots : ℕ
   pub said : SaysSize parts stay ships slots
-  pub behind_ships : 3 + ships < number
+  pub past_ships : 3 + ships < number
   pub few_rules : number ≤ 4 + ships + MOST_RULES
   pub end : numbered_line parts (number - 1) ≡ Some (codes "end")
   pub more : drop (number - 1) parts ≢ [] ∷ []

@@ -5,7 +5,7 @@ use Rattle.hw_lines.specs.Rows.{RefusalRows}
 pub refusal_rows : RefusalRows
 refusal_rows = record {
   the_last_line = refl;
-  a_line_behind_it = refl;
+  a_line_after_it = refl;
   sailing_too_near = refl;
   no_more_cargo = refl;
   a_goal_without_a_best = refl;

@@ -43,7 +43,7 @@ whole_lines = best_table ∷ second_late ∷ first_late ∷ apart_explained ∷ 
 -- which lines are refused after these, and why
 pub record RefusalRows : Type 0 where
   pub the_last_line : refusal explained_ships_apart open_lines last_line ≡ None
-  pub a_line_behind_it : refusal explained_ships_apart whole_lines first_late ≡ refused words.Ended
+  pub a_line_after_it : refusal explained_ships_apart whole_lines first_late ≡ refused words.Ended
   pub sailing_too_near : refusal explained_ships_apart open_lines (lines.Table (1 ∷ 1 ∷ [])) ≡ refused words.Table
   pub no_more_cargo : refusal explained_ships_apart open_lines (lines.Table (0 ∷ 2 ∷ [])) ≡ refused words.Worse
   pub a_goal_without_a_best : refusal explained_ships_apart [] first_late ≡ refused words.Refute

@@ -28,7 +28,7 @@ use Rattle.hw_progress.specs.Prices.{PricesTold}
 use Rattle.hw_progress.specs.Searches.{SearchModel, FitsOpen, LiveKept, written_at, kept_numbers}
 use Rattle.hw_progress.specs.Settling.{with_events}
 use Rattle.hw_progress.specs.Turns.{unkept}
-use Rattle.hw_progress.proofs.Numbers.{WrittenAt, get_within, contains_here, contains_there, flat_behind, flat_front}
+use Rattle.hw_progress.proofs.Numbers.{WrittenAt, get_within, contains_here, contains_there, flat_past, flat_front}
 use Rattle.hw_progress.proofs.Lines.{stored_cases, kept_stored, kept_written, if_some, some_reason, live_stays, live_parts, at_stays, same_lemmas, any_push, of_some, prices_on}
 
 -- ---- a search that keeps some of the numbers
@@ -68,22 +68,22 @@ reason_within t more level q clause e = by (slice_get t.events q) refl e
 
 pub events_open : (before : List Line) (s : SearchModel) (more : List Event) → FitsOpen before s → FitsOpen before (with_events s more)
 events_open before s more fit = open_less before s (with_events s more) refl refl refl refl refl (λ q m w.
-    let old : written_at s q ≡ Some m = sym (flat_behind s.written (length more) q) ∙ w in
+    let old : written_at s q ≡ Some m = sym (flat_past s.written (length more) q) ∙ w in
     let r = some_reason s before fit q m old in
     (old, reason_within s.trail more s.trail.level q r.0 r.1 ∙ sym r.1)) fit
 
 pub events_kept : (before : List Line) (s : SearchModel) (more : List Event) → LiveKept before s → LiveKept before (with_events s more)
-events_kept before s more kept = kept_more before s (with_events s more) refl (λ q m w. flat_behind s.written (length more) q ∙ w) kept
+events_kept before s more kept = kept_more before s (with_events s more) refl (λ q m w. flat_past s.written (length more) q ∙ w) kept
 
 -- a decision
 pub decided_open : (before : List Line) (s : SearchModel) (event : Event) → FitsOpen before s → FitsOpen before (record s { trail = record { ships = s.trail.ships; slots = s.trail.slots; events = s.trail.events ++ event ∷ []; level = event.level }; written = s.written ++ None ∷ [] })
 decided_open before s event fit = open_less before s (record s { trail = record { ships = s.trail.ships; slots = s.trail.slots; events = s.trail.events ++ event ∷ []; level = event.level }; written = s.written ++ None ∷ [] }) refl refl refl refl refl (λ q m w.
-    let old : written_at s q ≡ Some m = sym (flat_behind s.written 1 q) ∙ w in
+    let old : written_at s q ≡ Some m = sym (flat_past s.written 1 q) ∙ w in
     let r = some_reason s before fit q m old in
     (old, reason_within s.trail (event ∷ []) event.level q r.0 r.1 ∙ sym r.1)) fit
 
 pub decided_live : (before : List Line) (s : SearchModel) (event : Event) → LiveKept before s → LiveKept before (record s { trail = record { ships = s.trail.ships; slots = s.trail.slots; events = s.trail.events ++ event ∷ []; level = event.level }; written = s.written ++ None ∷ [] })
-decided_live before s event kept = kept_more before s (record s { trail = record { ships = s.trail.ships; slots = s.trail.slots; events = s.trail.events ++ event ∷ []; level = event.level }; written = s.written ++ None ∷ [] }) refl (λ q m w. flat_behind s.written 1 q ∙ w) kept
+decided_live before s event kept = kept_more before s (record s { trail = record { ships = s.trail.ships; slots = s.trail.slots; events = s.trail.events ++ event ∷ []; level = event.level }; written = s.written ++ None ∷ [] }) refl (λ q m w. flat_past s.written 1 q ∙ w) kept
 
 -- ---- events go
 

@@ -81,16 +81,16 @@ deletion_says (id ∷ ids) = one (lines.Delete (id ∷ ids)) (λ last. refl)
 lemma_says : (c more : List Line) (lemma : List Lit) (hints : List ℕ) → All IsBoundless c → All IsBoundless more → All IsBoundless (c ++ lines.Lemma lemma hints ∷ more)
 lemma_says c more lemma hints h r = All-append IsBoundless c (lines.Lemma lemma hints ∷ more) h (All-cons IsBoundless (lines.Lemma lemma hints) more (λ last. refl) r)
 
-behind_says : (lemma : List Lit) (ids : List ℕ) (behind : List Line) → (1 ≤ length lemma → behind ≡ deletion ids) → (lemma ≡ [] → behind ≡ []) → All IsBoundless behind
-behind_says [] ids behind some none = subst (All IsBoundless) (sym (none refl)) (All-nil IsBoundless)
-behind_says (l ∷ lemma) ids behind some none = subst (All IsBoundless) (sym (some (omega arith))) (deletion_says ids)
+remainder_says : (lemma : List Lit) (ids : List ℕ) (remainder : List Line) → (1 ≤ length lemma → remainder ≡ deletion ids) → (lemma ≡ [] → remainder ≡ []) → All IsBoundless remainder
+remainder_says [] ids remainder some none = subst (All IsBoundless) (sym (none refl)) (All-nil IsBoundless)
+remainder_says (l ∷ lemma) ids remainder some none = subst (All IsBoundless) (sym (some (omega arith))) (deletion_says ids)
 
 plan_says : (s : SearchModel) (before more : List Line) → Plans s before more → All IsBoundless more
 plan_says s before more (no_line e) = subst (All IsBoundless) (sym e) (All-nil IsBoundless)
 plan_says s before more (a_table mid settles point e) = subst (All IsBoundless) (sym e) (one _ (λ last. refl))
 plan_says s before more (an_end mid why settles none e) = subst (All IsBoundless) (sym e) (why_says s.problem why)
-plan_says s before more (a_lemma mid why lemma back places analysed literal behind some none e) =
-    subst (All IsBoundless) (sym e) (lemma_says (cite_conflict (cited mid places) why).lines behind lemma (cite_conflict (cited mid places) why).hints (cited_say mid why places) (behind_says lemma _ behind some none))
+plan_says s before more (a_lemma mid why lemma back places analysed literal remainder some none e) =
+    subst (All IsBoundless) (sym e) (lemma_says (cite_conflict (cited mid places) why).lines remainder lemma (cite_conflict (cited mid places) why).hints (cited_say mid why places) (remainder_says lemma _ remainder some none))
 
 part_says : (s : SearchModel) (was now : LogTold) → WritesPart s was now → bound_of now.lines ≡ bound_of was.lines
 part_says s was now w = ap bound_of w.part ∙ same_bound was.lines (take w.upto w.plan) (All-take IsBoundless w.upto w.plan (plan_says s was.lines w.plan w.planned))

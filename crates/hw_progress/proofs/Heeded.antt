@@ -119,12 +119,12 @@ line_good s before line after m = record {
   new = λ old. subst (AllPairs (λ earlier later. RoomWithin (denied_room s.problem later) (denied_room s.problem earlier) → ⊥)) (sym (same_lemmas before line m.no_lemma)) old;
 }
 
-pub heeds_one : (s : SearchModel) (line : Line) (after : SearchModel) (old new : LogModel) → WhereTold old (λ told. LogFits told s) → new.faults ≡ old.faults → PriceTaken s line after → Grows old new (λ was now. (now.lines ≡ was.lines ++ line ∷ []) × (now.behind ≡ []))
+pub heeds_one : (s : SearchModel) (line : Line) (after : SearchModel) (old new : LogModel) → WhereTold old (λ told. LogFits told s) → new.faults ≡ old.faults → PriceTaken s line after → Grows old new (λ was now. (now.lines ≡ was.lines ++ line ∷ []) × (now.remainder ≡ []))
     → HeedsLine s line after old new
 heeds_one s line after old new fits same taken grows = record {
   kept = taken.kept;
   same_faults = same;
-  writes = grown_from old new (λ told. LogFits told s) (λ was now. (now.lines ≡ was.lines ++ line ∷ []) × (now.behind ≡ [])) (λ was now. (now.lines ≡ was.lines ++ line ∷ []) × HeedWrites s after was now) fits grows (λ was now f g.
+  writes = grown_from old new (λ told. LogFits told s) (λ was now. (now.lines ≡ was.lines ++ line ∷ []) × (now.remainder ≡ [])) (λ was now. (now.lines ≡ was.lines ++ line ∷ []) × HeedWrites s after was now) fits grows (λ was now f g.
       let m = taken.meets was.lines f.fits in (
         g.0,
         record {
@@ -134,7 +134,7 @@ heeds_one s line after old new fits same taken grows = record {
           no_lemma = ap (λ o. cons_option o []) m.no_lemma;
           few_live = m.few_live f.live_kept;
           fits = record {
-            nothing_behind = g.1;
+            no_remainder = g.1;
             fits = subst (λ xs. FitsOpen xs after) (sym g.0) m.fits.opened;
             live_kept = subst (λ xs. LiveKept xs after) (sym g.0) (m.fits.kept f.live_kept);
           };

@@ -50,7 +50,7 @@ begins f budget branching log flat empty = record {
   going = refl;
   within = omega arith;
   later = omega arith;
-  told = told_same log (λ told. (told.lines ≡ []) × (told.behind ≡ [])) (λ was now. ProvedSoFar f (new_search f branching) now) empty (λ now e. record {
+  told = told_same log (λ told. (told.lines ≡ []) × (told.remainder ≡ [])) (λ was now. ProvedSoFar f (new_search f branching) now) empty (λ now e. record {
     fits = (starts f branching now flat e.0 e.1).1;
     good = subst (WrittenGood f) (sym e.0) (no_line f);
     lemmas = ap (λ xs. length (lemmas_of xs)) e.0;
@@ -148,7 +148,7 @@ preferred f budget s u turn old here now g p =
       later = q.later;
       told = told_so old now (λ was told. ProvedSoFar f s told) (λ was told. ProvedSoFar f u told) q.told (λ was told h. record {
         fits = subst (LogFits told) (sym p.decides) (record {
-          nothing_behind = h.fits.nothing_behind;
+          no_remainder = h.fits.no_remainder;
           fits = decided_open told.lines s (record { lit = p.lit; level = s.trail.level + 1; why = None }) h.fits.fits;
           live_kept = decided_live told.lines s (record { lit = p.lit; level = s.trail.level + 1; why = None }) h.fits.live_kept;
         });
@@ -197,14 +197,14 @@ prove_writes f budget answer bound before now all w closed tells last few spent 
 no_search : (f : Problem) (budget : ℕ) (log : LogModel) → IsEmpty log → ProveMeets f budget log (answers.NoMemory None) None log
 no_search f budget log empty = record {
   later = omega arith;
-  writes = told_same log (λ told. (told.lines ≡ []) × (told.behind ≡ [])) (λ was now. ProveWrites f budget (answers.NoMemory None) None log.faults log.faults now.lines) empty (λ now e.
+  writes = told_same log (λ told. (told.lines ≡ []) × (told.remainder ≡ [])) (λ was now. ProveWrites f budget (answers.NoMemory None) None log.faults log.faults now.lines) empty (λ now e.
       subst (ProveWrites f budget (answers.NoMemory None) None log.faults log.faults) (sym e.0) (prove_writes f budget (answers.NoMemory None) None log.faults log.faults [] (no_line f) refl refl refl (omega arith) (λ a b c. refl)));
   permitted = tt;
   worth = tt;
   means = tt;
   bounded = tt;
   above = tt;
-  ends = where_so log (λ told. (told.lines ≡ []) × (told.behind ≡ [])) (λ told. told.behind ≡ []) empty (λ told e. e.1);
+  ends = where_so log (λ told. (told.lines ≡ []) × (told.remainder ≡ [])) (λ told. told.remainder ≡ []) empty (λ told e. e.1);
 }
 
 -- ---- where it rests
@@ -216,7 +216,7 @@ allowed : (f : Problem) (s : SearchModel) → IsSearch s → s.problem ≡ f →
 allowed f s is same = subst (λ (p : Problem). IfSome s.best (Permits p)) same is.permitted
 
 whole : (f : Problem) (budget : ℕ) (s : SearchModel) (old now : LogModel) → Proving f budget s old now → IsWhole now
-whole f budget s old now g = where_so now (λ told. LogFits told s) (λ told. told.behind ≡ []) (to_fit f budget s old now g) (λ told h. h.nothing_behind)
+whole f budget s old now g = where_so now (λ told. LogFits told s) (λ told. told.remainder ≡ []) (to_fit f budget s old now g) (λ told h. h.no_remainder)
 
 -- the budget is spent
 spent : (f : Problem) (budget : ℕ) (s : SearchModel) (old now : LogModel) → IsSearch s → Proving f budget s old now → budget ≤ s.lemmas → (IsReached s → ⊥) → ProveMeets f budget old (answers.Unfinished s.best) s.prices.bound now
@@ -303,14 +303,14 @@ turn_stopped f budget s u old here now is g lt t =
     let few = few_lemmas turns.NoMemory s u here now t.does in
     record {
       later = omega (arith, g.later, t.later);
-      writes = told_and old now (λ was told. Closed f u told) (λ was told. ProveWrites f budget (answers.NoMemory u.best) u.prices.bound old.faults now.faults told.lines) (λ told. (told.behind ≡ []) × (is_closed told.lines ≡ false)) (closes f budget s u turns.NoMemory old here now g refl t) t.fits (λ was told c h.
+      writes = told_and old now (λ was told. Closed f u told) (λ was told. ProveWrites f budget (answers.NoMemory u.best) u.prices.bound old.faults now.faults told.lines) (λ told. (told.remainder ≡ []) × (is_closed told.lines ≡ false)) (closes f budget s u turns.NoMemory old here now g refl t) t.fits (λ was told c h.
           prove_writes f budget (answers.NoMemory u.best) u.prices.bound old.faults now.faults told.lines c.good h.1 c.best c.bound (omega (arith, c.lemmas, few, lt)) (λ a b d. refl));
       permitted = subst (λ o. IfSome o (Permits f)) (sym (t.best_stays refl)) (allowed f s is g.same_problem);
       worth = tt;
       means = tt;
       bounded = above_after f s u is g.same_problem t.same_prices;
       above = tt;
-      ends = where_so now (λ told. (told.behind ≡ []) × (is_closed told.lines ≡ false)) (λ told. told.behind ≡ []) t.fits (λ told a. a.0);
+      ends = where_so now (λ told. (told.remainder ≡ []) × (is_closed told.lines ≡ false)) (λ told. told.remainder ≡ []) t.fits (λ told a. a.0);
     }
 
 -- a log that failed in a turn
@@ -384,8 +384,8 @@ turn_ended f budget s u answer old here now is g lt t e = search_ended f budget 
   means = ended_means s u here now is t.does;
   few = omega (arith, few_lemmas turns.Ended s u here now t.does, lt);
   later = omega (arith, g.later, t.later);
-  told = told_and old now (λ was told. Closed f u told) (λ was told. Closed f u told × (is_closed told.lines ≡ true)) (λ told. (told.behind ≡ []) × (is_closed told.lines ≡ true)) (closes f budget s u turns.Ended old here now g refl t) t.fits (λ was told c h. (c, h.1));
-  whole = where_so now (λ told. (told.behind ≡ []) × (is_closed told.lines ≡ true)) (λ told. told.behind ≡ []) t.fits (λ told a. a.0);
+  told = told_and old now (λ was told. Closed f u told) (λ was told. Closed f u told × (is_closed told.lines ≡ true)) (λ told. (told.remainder ≡ []) × (is_closed told.lines ≡ true)) (closes f budget s u turns.Ended old here now g refl t) t.fits (λ was told c h. (c, h.1));
+  whole = where_so now (λ told. (told.remainder ≡ []) × (is_closed told.lines ≡ true)) (λ told. told.remainder ≡ []) t.fits (λ told a. a.0);
 }) e
 
 -- it was closed by its own bound
@@ -415,7 +415,7 @@ closed_at f budget s u answer old here now g x e =
       few = omega (arith, m.within, ap (λ (y : SearchModel). y.lemmas) x.over);
       later = omega (arith, m.later, x.same_faults);
       told = told_on old x.then now (λ was told. ProvedSoFar f x.mid told) (WritesLast x.mid.problem) (λ was told. Closed f u told × (is_closed told.lines ≡ true)) m.told x.writes (λ was mid told h w. last_told f x.mid u mid told m.same_problem x.over h w);
-      whole = where_grown x.then now (WritesLast x.mid.problem) (λ told. told.behind ≡ []) x.writes (λ was told w. w.nothing_behind);
+      whole = where_grown x.then now (WritesLast x.mid.problem) (λ told. told.remainder ≡ []) x.writes (λ was told w. w.no_remainder);
     })
     e
 

@@ -167,7 +167,7 @@ few_weights ships weights most (Some (rules.Tugs fleet jobs)) fits h = omega (ar
 toll_fits : (f : Problem) (toll : Toll) → IsFlat f → IsToll f toll → LineFits f (toll_line f toll)
 toll_fits f (tolls.Narrows blocks) flat is = record { some_block = is.some_block; few_blocks = is.few_blocks; each_block = is.each_block; ascend = ships_ascend f blocks is.apart }
 toll_fits f (tolls.Tugs place slot weights most) flat is = record {
-  behind_ships = omega arith;
+  past_ships = omega arith;
   restriction_in = omega (arith, place_in f place (WeighsUpTo weights most) is.weighed);
   slot_in = omega (arith, is.slot_in, horizon_le f);
   small_most = is.small_most;

@@ -38,11 +38,11 @@ use Rattle.hw_progress.proofs.Trues.{lemma_true}
 good : (f : Problem) (before : List Line) (line : Line) → Writes f before line → GoodLine f before line
 good f before line w = record { plain = w.plain; fits = w.fits; valid = w.valid; lean = w.lean }
 
-pub starts : (f : Problem) (branching : Branching) (told : LogTold) → IsFlat f → told.lines ≡ [] → told.behind ≡ [] → IsSearch (new_search f branching) × LogFits told (new_search f branching)
-starts f branching told flat none behind = (
+pub starts : (f : Problem) (branching : Branching) (told : LogTold) → IsFlat f → told.lines ≡ [] → told.remainder ≡ [] → IsSearch (new_search f branching) × LogFits told (new_search f branching)
+starts f branching told flat none remainder = (
   new_kept f branching flat,
   record {
-    nothing_behind = behind;
+    no_remainder = remainder;
     fits = subst (λ xs. FitsOpen xs (new_search f branching)) (sym none) (record {
       lemmas = refl;
       count = refl;

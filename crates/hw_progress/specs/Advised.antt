@@ -95,7 +95,7 @@ pub record Prefers (s : SearchModel) (old : LogModel) (turn : Turn) (after : Sea
 
 -- a line that is of the shape, valid and lean after these, of which a proper prefix follows them
 abbrev pub IsCutOff : Problem → LogTold → Type 0
-IsCutOff f now = (line : Line) × LineFits f line × ValidAfter f now.lines line × LeanAfter f now.lines line × IsBegunLine line now.behind
+IsCutOff f now = (line : Line) × LineFits f line × ValidAfter f now.lines line × LeanAfter f now.lines line × IsBegunLine line now.remainder
 
 -- why advice stopped: memory ran out and nothing was written, or the log failed within a line
 abbrev pub StopsBy : Problem → Turn → LogModel → LogModel → Type 0

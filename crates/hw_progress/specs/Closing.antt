@@ -22,7 +22,7 @@ last_priced = lines.Priced []
 -- the last line was written, and is good after those before it
 pub record WritesLast (f : Problem) (was now : LogTold) : Type 0 where
   pub lines : now.lines ≡ was.lines ++ last_priced ∷ []
-  pub nothing_behind : now.behind ≡ []
+  pub no_remainder : now.remainder ≡ []
   pub good : WritesGood f was.lines (last_priced ∷ [])
   pub few_live : FewLiveFrom f was.lines (last_priced ∷ [])
 

@@ -54,7 +54,7 @@ use Rattle.hw_progress.specs.Proving.{ProveMeets, Proving, IsEndOf}
 
 -- a new search keeps what it must, and fits a log without lines
 abbrev pub NewSearch : Type 0
-NewSearch = (f : Problem) (branching : Branching) (told : LogTold) → IsFlat f → told.lines ≡ [] → told.behind ≡ [] → IsSearch (new_search f branching) × LogFits told (new_search f branching)
+NewSearch = (f : Problem) (branching : Branching) (told : LogTold) → IsFlat f → told.lines ≡ [] → told.remainder ≡ [] → IsSearch (new_search f branching) × LogFits told (new_search f branching)
 
 -- ---- what each line leaves
 
@@ -144,7 +144,7 @@ HeedsOn = ((s : SearchModel) (log : LogModel) → IsSearch s → WhereTold log (
 
 -- one line of advice that a search takes is heeded
 abbrev pub HeedsOne : Type 0
-HeedsOne = (s : SearchModel) (line : Line) (after : SearchModel) (old new : LogModel) → WhereTold old (λ told. LogFits told s) → new.faults ≡ old.faults → PriceTaken s line after → Grows old new (λ was now. (now.lines ≡ was.lines ++ line ∷ []) × (now.behind ≡ []))
+HeedsOne = (s : SearchModel) (line : Line) (after : SearchModel) (old new : LogModel) → WhereTold old (λ told. LogFits told s) → new.faults ≡ old.faults → PriceTaken s line after → Grows old new (λ was now. (now.lines ≡ was.lines ++ line ∷ []) × (now.remainder ≡ []))
     → HeedsLine s line after old new
 
 -- ---- a whole solution with advice

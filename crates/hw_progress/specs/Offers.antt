@@ -29,7 +29,7 @@ pub record LosesOffer (s : SearchModel) (table : List ℕ) (after : SearchModel)
   pub over : after ≡ record s { over = true }
   pub cause : Rose old.faults new.faults
   pub failed : WhereTold new (FailsAt s.problem)
-  pub begun : Grows old new (λ was now. (now.lines ≡ was.lines) × IsBegunLine (lines.Table table) now.behind)
+  pub begun : Grows old new (λ was now. (now.lines ≡ was.lines) × IsBegunLine (lines.Table table) now.remainder)
 
 -- what an offer does, by its answer
 abbrev pub OfferDoes : SearchModel → List ℕ → LogModel → Turn → SearchModel → LogModel → Type 0

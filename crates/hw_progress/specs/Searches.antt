@@ -139,6 +139,6 @@ LiveKept lines s = (number : ℕ) → IsSome (live lines number) → Contains (k
 
 -- the log fits the search
 pub record LogFits (told : LogTold) (s : SearchModel) : Type 0 where
-  pub nothing_behind : told.behind ≡ []
+  pub no_remainder : told.remainder ≡ []
   pub fits : FitsOpen told.lines s
   pub live_kept : LiveKept told.lines s

@@ -223,7 +223,7 @@ pub data Plans (s : SearchModel) (before more : List Line) : Type 0 where
   no_line : more ≡ [] → Plans s before more
   a_table : (mid : SearchModel) → Settles s mid Quiet → IsPoint (room_in mid) → more ≡ lines.Table (point_of (room_in mid)) ∷ [] → Plans s before more
   an_end : (mid : SearchModel) (why : Why) → Settles s mid (Conflict why) → reason_clause why ≡ [] → more ≡ why_lines s.problem why → Plans s before more
-  a_lemma : (mid : SearchModel) (why : Why) (lemma : List Lit) (back : ℕ) (places : List ℕ) → Analysed s mid why lemma back places → 1 ≤ length (reason_clause why) → (behind : List Line) → (1 ≤ length lemma → behind ≡ deletion (unkept (before ++ (cite_conflict (cited mid places) why).lines ++ lines.Lemma lemma (cite_conflict (cited mid places) why).hints ∷ []) (gone_back (with_lemma (cite_conflict (cited mid places) why).search lemma) back))) → (lemma ≡ [] → behind ≡ []) → more ≡ (cite_conflict (cited mid places) why).lines ++ lines.Lemma lemma (cite_conflict (cited mid places) why).hints ∷ behind → Plans s before more
+  a_lemma : (mid : SearchModel) (why : Why) (lemma : List Lit) (back : ℕ) (places : List ℕ) → Analysed s mid why lemma back places → 1 ≤ length (reason_clause why) → (remainder : List Line) → (1 ≤ length lemma → remainder ≡ deletion (unkept (before ++ (cite_conflict (cited mid places) why).lines ++ lines.Lemma lemma (cite_conflict (cited mid places) why).hints ∷ []) (gone_back (with_lemma (cite_conflict (cited mid places) why).search lemma) back))) → (lemma ≡ [] → remainder ≡ []) → more ≡ (cite_conflict (cited mid places) why).lines ++ lines.Lemma lemma (cite_conflict (cited mid places) why).hints ∷ remainder → Plans s before more
 
 -- a turn that was cut short wrote the first lines of what it was about to write
 pub record WritesPart (s : SearchModel) (was now : LogTold) : Type 0 where
@@ -235,15 +235,15 @@ pub record WritesPart (s : SearchModel) (was now : LogTold) : Type 0 where
 -- the line that failed is the next one, and a proper prefix of its text follows the lines
 pub record FailsPart (s : SearchModel) (was now : LogTold) : Type 0 where
   pub written : WritesPart s was now
-  pub next : IsSomeAnd (slice_get written.plan written.upto) (λ line. IsBegunLine line now.behind)
+  pub next : IsSomeAnd (slice_get written.plan written.upto) (λ line. IsBegunLine line now.remainder)
 
 -- the line that failed is of the shape, valid and lean after the lines, and a proper prefix of its text follows them. Where no prices are in force it says nothing of tolls or prices
 abbrev pub FailsNext : Problem → LogTold → Type 0
-FailsNext f now = (line : Line) × (tariff_of now.lines ≡ None → is_plain line ≡ true) × LineFits f line × ValidAfter f now.lines line × LeanAfter f now.lines line × IsBegunLine line now.behind
+FailsNext f now = (line : Line) × (tariff_of now.lines ≡ None → is_plain line ≡ true) × LineFits f line × ValidAfter f now.lines line × LeanAfter f now.lines line × IsBegunLine line now.remainder
 
 -- the line that failed says nothing of tolls or prices, is of the shape, valid and lean after the lines, and a proper prefix of its text follows them
 abbrev pub FailsAt : Problem → LogTold → Type 0
-FailsAt f now = (line : Line) × (is_plain line ≡ true) × LineFits f line × ValidAfter f now.lines line × LeanAfter f now.lines line × IsBegunLine line now.behind
+FailsAt f now = (line : Line) × (is_plain line ≡ true) × LineFits f line × ValidAfter f now.lines line × LeanAfter f now.lines line × IsBegunLine line now.remainder
 
 -- the log failed: its faults rose, and some first lines of the turn were written
 pub record DoesFail (s after : SearchModel) (old new : LogModel) : Type 0 where
@@ -305,8 +305,8 @@ abbrev pub FitsAfter : Turn → SearchModel → LogModel → Type 0
 FitsAfter turns.Decided after new = WhereTold new (λ now. LogFits now after)
 FitsAfter turns.Better after new = WhereTold new (λ now. LogFits now after)
 FitsAfter turns.Lemma after new = WhereTold new (λ now. LogFits now after)
-FitsAfter turns.Ended after new = WhereTold new (λ now. (now.behind ≡ []) × (is_closed now.lines ≡ true))
-FitsAfter turns.NoMemory after new = WhereTold new (λ now. (now.behind ≡ []) × (is_closed now.lines ≡ false))
+FitsAfter turns.Ended after new = WhereTold new (λ now. (now.remainder ≡ []) × (is_closed now.lines ≡ true))
+FitsAfter turns.NoMemory after new = WhereTold new (λ now. (now.remainder ≡ []) × (is_closed now.lines ≡ false))
 FitsAfter turns.LogFailed after new = WhereTold new (λ now. is_closed now.lines ≡ false)
 
 -- what a turn meets. It needs a search that isn't over, has fewer than 100,000 lemmas, and a log that fits it

@@ -61,9 +61,9 @@ shown_infeasible = refl
 pub shown_nothing : report_text (checked (verdicts.Unfinished None) None None by_number) ≡ codes "unfinished none\n"
 shown_nothing = refl
 
-pub a_bound_behind : report_text (checked (verdicts.Unfinished (Some 15_471_561)) (Some 15_503_718) None by_number) ≡ codes "unfinished 15471561 bound 15503718\n"
+pub a_bound_after : report_text (checked (verdicts.Unfinished (Some 15_471_561)) (Some 15_503_718) None by_number) ≡ codes "unfinished 15471561 bound 15503718\n"
 unfolding digits
-a_bound_behind = refl
+a_bound_after = refl
 
 pub bound_in_tonnes : report_text (checked (verdicts.Unfinished (Some 5)) (Some 4_084_107) None (by_name (small true) tides)) ≡ codes "unfinished 0.5 bound 408410.7\n"
 unfolding digits
@@ -78,9 +78,9 @@ unfolding digits
 without_a_bound = refl
 
 -- a best timetable needs no bound
-pub no_bound_behind : report_text (checked (verdicts.Optimal 40) (Some 41) None by_number) ≡ codes "optimal 40\n"
+pub no_bound_after : report_text (checked (verdicts.Optimal 40) (Some 41) None by_number) ≡ codes "optimal 40\n"
 unfolding digits
-no_bound_behind = refl
+no_bound_after = refl
 
 pub infeasible_without_bound : report_text (checked verdicts.Infeasible (Some 41) None by_number) ≡ codes "infeasible\n"
 infeasible_without_bound = refl
@@ -167,9 +167,9 @@ unfolding digits
 a_looser_bound = refl
 
 -- a word that names no number has none after it
-pub no_number_behind : report_text (refused 3 (Check checks.Worse) (Some 9)) ≡ codes "refused 3 worse\n"
+pub no_number_after : report_text (refused 3 (Check checks.Worse) (Some 9)) ≡ codes "refused 3 worse\n"
 unfolding digits
-no_number_behind = refl
+no_number_after = refl
 
 pub a_fault : report_text (read_fault feeds.Certificate) ≡ codes "fault read certificate\n"
 a_fault = refl

@@ -49,18 +49,18 @@ ahead_on a b le h t = grind (arith, ints)
 ahead_at : (d : ℤ) (h : Hole) → d ≤ℤ h.hi → ahead d h ≡ true
 ahead_at d h le = grind (arith, ints)
 
-not_behind : (h : Hole) → ahead (h.hi +ℤ pos 1) h ≡ false
-not_behind h = grind (arith, ints)
+never_past : (h : Hole) → ahead (h.hi +ℤ pos 1) h ≡ false
+never_past h = grind (arith, ints)
 
 -- going on after a hole leaves fewer of them
 pub fewer_ahead : (holes : List Hole) (d : ℤ) (h : Hole) → HoleAt holes d h → count_by (ahead (h.hi +ℤ pos 1)) holes < count_by (ahead d) holes
 fewer_ahead holes d h at =
     let le : d ≤ℤ (h.hi +ℤ pos 1) = omega (arith, ints, at.to) in
-    count_less (ahead (h.hi +ℤ pos 1)) (ahead d) (ahead_on d (h.hi +ℤ pos 1) le) holes at.among.0 h at.among.1 at.among.2 (not_behind h) (ahead_at d h at.to)
+    count_less (ahead (h.hi +ℤ pos 1)) (ahead d) (ahead_on d (h.hi +ℤ pos 1) le) holes at.among.0 h at.among.1 at.among.2 (never_past h) (ahead_at d h at.to)
 
 -- an interval is covered if the part after the hole at its low end is
-pub behind_hole : (lo hi : ℤ) (holes : List Hole) (h : Hole) → HoleAt holes lo h → Covered (h.hi +ℤ pos 1) hi holes → Covered lo hi holes
-behind_hole lo hi holes h at rest d p q =
+pub past_this_hole : (lo hi : ℤ) (holes : List Hole) (h : Hole) → HoleAt holes lo h → Covered (h.hi +ℤ pos 1) hi holes → Covered lo hi holes
+past_this_hole lo hi holes h at rest d p q =
     elim (le_or_gt d h.hi) [
       | inl within ↦ held_through holes h d at.among (omega (arith, ints, at.from)) within
       | inr past ↦ rest d (omega (arith, ints)) q
@@ -77,4 +77,4 @@ pub each_round : (holes : List Hole) (lo at next hi end : ℤ) (h : Hole) (r : B
 each_round holes lo at next hi end h r p q s held both =
     let held' : HoleAt holes lo h = rw p at held in
     let both' : IsTrue r ↔ Covered (h.hi +ℤ pos 1) hi holes = rw (q, s) at both in
-    (λ t. behind_hole lo hi holes h held' (both'.0 t), λ all. both'.1 (from_covered lo hi holes h held' all))
+    (λ t. past_this_hole lo hi holes h held' (both'.0 t), λ all. both'.1 (from_covered lo hi holes h held' all))

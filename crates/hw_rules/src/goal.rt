@@ -8,7 +8,7 @@ ghost use Rattle.hw_model.specs.Rooms.{RoomFits, low_of, high_of};
 ghost use Rattle.hw_model.specs.Refuting as refuting;
 ghost use Rattle.hw_model.specs.RefutingComputed.{at_most_best};
 
-use crate::window::behind;
+use crate::window::slot_after;
 use hw_flat::{Flat, Room, ShipId, Slot, Timetable};
 use hw_model::{MOST_CARGO, MOST_VALUE};
 
@@ -67,7 +67,7 @@ pub fn greatest_value(flat: &Flat, ship: ShipId, low: Slot, high: Slot) -> u64
     ensures small { result ≤ MOST_VALUE }
 {
     let mut greatest: u64 = 0;
-    for slot in low..behind(flat, high) {
+    for slot in low..slot_after(flat, high) {
         greatest = greatest.max(flat.value(ship, slot).unwrap_or(0));
     }
     greatest

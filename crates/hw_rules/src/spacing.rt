@@ -66,7 +66,7 @@ fn hole_at(holes: &[Hole], d: i64) -> Option<Hole>
 }
 
 /// The difference right after a hole.
-fn behind(hole: Hole) -> i64
+fn past_hole(hole: Hole) -> i64
     ensures { result ≡ hole.hi +ℤ pos 1 }
 {
     i64::from(hole.hi) + 1
@@ -83,7 +83,7 @@ pub fn covered(lo: i64, hi: i64, holes: &[Hole]) -> bool
     }
     match hole_at(holes, lo) {
         None => false,
-        Some(hole) => covered(behind(hole), hi, holes),
+        Some(hole) => covered(past_hole(hole), hi, holes),
     }
 }
 

@@ -25,7 +25,7 @@ pub(crate) fn window_refuted(flat: &Flat, ship: ShipId, room: &Room) -> bool
     requires ship_in { ship < flat.now.ships }
     ensures value { result ≡ list_all (λ slot. is_none (value_at flat.now ship slot)) (slots_of room.now ship) }
 {
-    for slot in room.low(ship)..behind(flat, room.high(ship)) {
+    for slot in room.low(ship)..slot_after(flat, room.high(ship)) {
         if flat.value(ship, slot).is_some() {
             return false;
         }
@@ -34,7 +34,7 @@ pub(crate) fn window_refuted(flat: &Flat, ship: ShipId, room: &Room) -> bool
 }
 
 /// The number after a slot.
-pub(crate) fn behind(flat: &Flat, slot: Slot) -> Slot
+pub(crate) fn slot_after(flat: &Flat, slot: Slot) -> Slot
     requires slot_in { slot < flat.now.slots }
     ensures value { result ≡ slot + 1 }
     ensures in_slots { result ≤ flat.now.slots }

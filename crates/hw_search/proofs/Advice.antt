@@ -49,7 +49,7 @@ no_fewer s after old new h = omega (arith, ap (λ (t : TrailModel). length t.eve
 abbrev pub LineMeets : SearchModel → SearchModel → Line → Type 0
 LineMeets s after line = (before : List Line) → FitsOpen before s → PriceMeets s before line after
 
-pub one_writes : (s after : SearchModel) (line : Line) (was now : LogTold) → LogFits was s → PriceMeets s was.lines line after → (now.lines ≡ was.lines ++ line ∷ []) × (now.behind ≡ []) → HeedWrites s after was now
+pub one_writes : (s after : SearchModel) (line : Line) (was now : LogTold) → LogFits was s → PriceMeets s was.lines line after → (now.lines ≡ was.lines ++ line ∷ []) × (now.remainder ≡ []) → HeedWrites s after was now
 one_writes s after line was now fit m h = record {
   more = line ∷ [];
   lines = h.0;
@@ -61,7 +61,7 @@ one_writes s after line was now fit m h = record {
   };
   no_lemma = ap (λ o. cons_option o []) m.no_lemma;
   few_live = m.few_live fit.live_kept;
-  fits = record { nothing_behind = h.1; fits = subst (λ xs. FitsOpen xs after) (sym h.0) m.fits.opened; live_kept = subst (λ xs. LiveKept xs after) (sym h.0) (m.fits.kept fit.live_kept) };
+  fits = record { no_remainder = h.1; fits = subst (λ xs. FitsOpen xs after) (sym h.0) m.fits.opened; live_kept = subst (λ xs. LiveKept xs after) (sym h.0) (m.fits.kept fit.live_kept) };
 }
 
 -- the same search but for these
@@ -80,7 +80,7 @@ line_heeds s after line more tolls old new is implied trail declared bound same 
   same = same;
   kept = is;
   same_faults = t.faults;
-  writes = grown_with old new (λ was now. (now.lines ≡ was.lines ++ line ∷ []) × (now.behind ≡ [])) (HeedWrites s after) (λ told. LogFits told s) (λ was now fit h. one_writes s after line was now fit (meets was.lines fit.fits) h) fits t.told;
+  writes = grown_with old new (λ was now. (now.lines ≡ was.lines ++ line ∷ []) × (now.remainder ≡ [])) (HeedWrites s after) (λ told. LogFits told s) (λ was now fit h. one_writes s after line was now fit (meets was.lines fit.fits) h) fits t.told;
 }
 
 same_trail : (s : SearchModel) → s.trail ≡ (with_events s []).trail
@@ -100,23 +100,23 @@ priced_heeded s lit clause old new is meets fits t =
 
 -- ---- a line that wasn't taken
 
-begun : (line : Line) (count : ℕ) (was now : LogTold) → count ≤ 0 → StopsAfter stops.Failed (line ∷ []) count was now → (now.lines ≡ was.lines) × IsBegunLine line now.behind
-begun line zero was now le h = (h.lines ∙ append-nil was.lines, h.behind)
+begun : (line : Line) (count : ℕ) (was now : LogTold) → count ≤ 0 → StopsAfter stops.Failed (line ∷ []) count was now → (now.lines ≡ was.lines) × IsBegunLine line now.remainder
+begun line zero was now le h = (h.lines ∙ append-nil was.lines, h.remainder)
 begun line (suc n) was now le h = absurd (omega (arith, le))
 
-nothing : (line : Line) (count : ℕ) (was now : LogTold) → count ≤ 0 → StopsAfter stops.NoMemory (line ∷ []) count was now → (now.lines ≡ was.lines) × (now.behind ≡ [])
-nothing line zero was now le h = (h.lines ∙ append-nil was.lines, h.behind)
+nothing : (line : Line) (count : ℕ) (was now : LogTold) → count ≤ 0 → StopsAfter stops.NoMemory (line ∷ []) count was now → (now.lines ≡ was.lines) × (now.remainder ≡ [])
+nothing line zero was now le h = (h.lines ∙ append-nil was.lines, h.remainder)
 nothing line (suc n) was now le h = absurd (omega (arith, le))
 
 -- nothing was written, and what follows still fits
-pub no_more : (s : SearchModel) (was now : LogTold) → LogFits was s → (now.lines ≡ was.lines) × (now.behind ≡ []) → HeedWrites s s was now
+pub no_more : (s : SearchModel) (was now : LogTold) → LogFits was s → (now.lines ≡ was.lines) × (now.remainder ≡ []) → HeedWrites s s was now
 no_more s was now fit n = record {
   more = [];
   lines = n.0 ∙ sym (append-nil was.lines);
   good = record { fit = All-nil (LineFits s.problem); valid = tt; lean = tt; new = λ old. subst (IsNew s.problem) (sym (append-nil was.lines)) old };
   no_lemma = refl;
   few_live = tt;
-  fits = record { nothing_behind = n.1; fits = subst (λ xs. FitsOpen xs s) (sym n.0) fit.fits; live_kept = subst (λ xs. LiveKept xs s) (sym n.0) fit.live_kept };
+  fits = record { no_remainder = n.1; fits = subst (λ xs. FitsOpen xs s) (sym n.0) fit.fits; live_kept = subst (λ xs. LiveKept xs s) (sym n.0) fit.live_kept };
 }
 
 -- nothing was heeded

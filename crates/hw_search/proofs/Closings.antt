@@ -61,11 +61,11 @@ older_meets s u tariff old log (Err stop) reached older e h = tt
 last_written : (s : SearchModel) (old log : LogModel) → IsSearch s → s.over ≡ false → s.lemmas ≤ 100000 → PricesShow s [] → WhereTold old (λ told. LogFits told s) → TakesAll (last_priced ∷ []) old log → (log.faults ≡ old.faults) × Grows old log (WritesLast s.problem)
 last_written s old log is going few shown fits t = (
   t.faults,
-  grown_with old log (λ was now. (now.lines ≡ was.lines ++ last_priced ∷ []) × (now.behind ≡ [])) (WritesLast s.problem) (λ told. LogFits told s) (λ was now fit h.
+  grown_with old log (λ was now. (now.lines ≡ was.lines ++ last_priced ∷ []) × (now.remainder ≡ [])) (WritesLast s.problem) (λ told. LogFits told s) (λ was now fit h.
       let m = last_good s is going few shown was.lines fit.fits in
       record {
         lines = h.0;
-        nothing_behind = h.1;
+        no_remainder = h.1;
         good = record {
           fit = All-push (LineFits s.problem) [] last_priced (All-nil (LineFits s.problem)) m.0.fits;
           valid = (m.0.valid, tt);

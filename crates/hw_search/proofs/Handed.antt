@@ -6,7 +6,7 @@ use Rattle.hw_lines.specs.declared.line.Line.{Line}
 use Rattle.hw_cert.specs.declared.log.LogStop.{LogStop}
 use Rattle.hw_cert.specs.declared.log.LogStop.TheVariants as stops
 use Rattle.hw_cert.specs.Logs.{LogTold, LogModel, WhereTold, Grows, IsWhole, TellsLine, TakesLine, IsBegunLine}
-use Rattle.hw_search.specs.Handing.{TakesAll, StopCause, StopBehind, StopsAfter, StopsWithin}
+use Rattle.hw_search.specs.Handing.{TakesAll, StopCause, StopRemainder, StopsAfter, StopsWithin}
 
 -- ---- what is told
 
@@ -84,25 +84,25 @@ get_front [] ys n P h = absurd h
 get_front (x ∷ xs) ys zero P h = h
 get_front (x ∷ xs) ys (suc n) P h = get_front xs ys n P h
 
-behind_front : (stop : LogStop) (xs ys : List Line) (n : ℕ) (behind : List ℕ) → StopBehind stop (slice_get xs n) behind → StopBehind stop (slice_get (xs ++ ys) n) behind
-behind_front stops.Failed xs ys n behind h = get_front xs ys n (λ line. IsBegunLine line behind) h
-behind_front stops.NoMemory xs ys n behind h = h
+after_front : (stop : LogStop) (xs ys : List Line) (n : ℕ) (remainder : List ℕ) → StopRemainder stop (slice_get xs n) remainder → StopRemainder stop (slice_get (xs ++ ys) n) remainder
+after_front stops.Failed xs ys n remainder h = get_front xs ys n (λ line. IsBegunLine line remainder) h
+after_front stops.NoMemory xs ys n remainder h = h
 
 -- ---- one line after another
 
 pub all_none : (log : LogModel) → IsWhole log → TakesAll [] log log
 all_none log whole = record {
   faults = refl;
-  told = grows_none log (λ was now. (now.lines ≡ was.lines ++ []) × (now.behind ≡ [])) (λ told. told.behind ≡ []) (λ now h. (sym (append-nil now.lines), h)) whole;
+  told = grows_none log (λ was now. (now.lines ≡ was.lines ++ []) × (now.remainder ≡ [])) (λ told. told.remainder ≡ []) (λ now h. (sym (append-nil now.lines), h)) whole;
 }
 
 pub all_whole : (plan : List Line) (old new : LogModel) → TakesAll plan old new → IsWhole new
-all_whole plan old new t = grown_to old new (λ was now. (now.lines ≡ was.lines ++ plan) × (now.behind ≡ [])) (λ now. now.behind ≡ []) (λ was now h. h.1) t.told
+all_whole plan old new t = grown_to old new (λ was now. (now.lines ≡ was.lines ++ plan) × (now.remainder ≡ [])) (λ now. now.remainder ≡ []) (λ was now h. h.1) t.told
 
 pub all_on : (p q : List Line) (old mid new : LogModel) → TakesAll p old mid → TakesAll q mid new → TakesAll (p ++ q) old new
 all_on p q old mid new a b = record {
   faults = b.faults ∙ a.faults;
-  told = grows_on old mid new (λ was now. (now.lines ≡ was.lines ++ p) × (now.behind ≡ [])) (λ was now. (now.lines ≡ was.lines ++ q) × (now.behind ≡ [])) (λ was now. (now.lines ≡ was.lines ++ (p ++ q)) × (now.behind ≡ []))
+  told = grows_on old mid new (λ was now. (now.lines ≡ was.lines ++ p) × (now.remainder ≡ [])) (λ was now. (now.lines ≡ was.lines ++ q) × (now.remainder ≡ [])) (λ was now. (now.lines ≡ was.lines ++ (p ++ q)) × (now.remainder ≡ []))
       (λ was now then h k. (k.0 ∙ ap (λ xs. xs ++ q) h.0 ∙ append_assoc was.lines p q, k.1)) a.told b.told;
 }
 
@@ -114,13 +114,13 @@ pub stop_on : (stop : LogStop) (p q : List Line) (most : ℕ) (old mid new : Log
 stop_on stop p q most old mid new a b = record {
   later = omega (arith, a.faults, b.later);
   cause = cause_on stop old mid new a.faults b.cause;
-  told = grows_on old mid new (λ was now. (now.lines ≡ was.lines ++ p) × (now.behind ≡ [])) (λ was now. (count : ℕ) × (count ≤ most) × StopsAfter stop q count was now) (λ was now. (count : ℕ) × (count ≤ length p + most) × StopsAfter stop (p ++ q) count was now)
+  told = grows_on old mid new (λ was now. (now.lines ≡ was.lines ++ p) × (now.remainder ≡ [])) (λ was now. (count : ℕ) × (count ≤ most) × StopsAfter stop q count was now) (λ was now. (count : ℕ) × (count ≤ length p + most) × StopsAfter stop (p ++ q) count was now)
       (λ was now then h k. (
         length p + k.0,
         omega (arith, k.1),
         record {
           lines = k.2.lines ∙ ap (λ xs. xs ++ take k.0 q) h.0 ∙ append_assoc was.lines p (take k.0 q) ∙ ap (λ xs. was.lines ++ xs) (sym (take_past p q k.0));
-          behind = subst (λ o. StopBehind stop o then.behind) (sym (get_past p q k.0)) k.2.behind;
+          remainder = subst (λ o. StopRemainder stop o then.remainder) (sym (get_past p q k.0)) k.2.remainder;
         },
       )) a.told b.told;
 }
@@ -136,7 +136,7 @@ stop_in stop p q most old new le a = record {
         k.1,
         record {
           lines = k.2.lines ∙ ap (λ xs. was.lines ++ xs) (sym (take_front p q k.0 (omega (arith, k.1, le))));
-          behind = behind_front stop p q k.0 now.behind k.2.behind;
+          remainder = after_front stop p q k.0 now.remainder k.2.remainder;
         },
       )) a.told;
 }
@@ -153,8 +153,8 @@ pub memory_after : (p : List Line) (old new : LogModel) → TakesAll p old new �
 memory_after p old new a = record {
   later = omega (arith, a.faults);
   cause = a.faults;
-  told = grows_by old new (λ was now. (now.lines ≡ was.lines ++ p) × (now.behind ≡ [])) (λ was now. (count : ℕ) × (count ≤ length p) × StopsAfter stops.NoMemory p count was now)
-      (λ was now h. (length p, omega arith, record { lines = h.0 ∙ ap (λ xs. was.lines ++ xs) (sym (take_all p)); behind = h.1 })) a.told;
+  told = grows_by old new (λ was now. (now.lines ≡ was.lines ++ p) × (now.remainder ≡ [])) (λ was now. (count : ℕ) × (count ≤ length p) × StopsAfter stops.NoMemory p count was now)
+      (λ was now h. (length p, omega arith, record { lines = h.0 ∙ ap (λ xs. was.lines ++ xs) (sym (take_all p)); remainder = h.1 })) a.told;
 }
   where
     take_all : (p : List Line) → take (length p) p ≡ p
@@ -170,15 +170,15 @@ one_cause : (line : Line) (stop : LogStop) (old new : LogModel) → TakesLine li
 one_cause line stops.Failed old new t = t.cause
 one_cause line stops.NoMemory old new t = t.cause
 
-one_tells : (line : Line) (stop : LogStop) (was now : LogTold) → was.behind ≡ [] → TellsLine line (Err stop) was now → StopsAfter stop (line ∷ []) 0 was now
-one_tells line stops.Failed was now w h = record { lines = h.0 ∙ sym (append-nil was.lines); behind = h.1 }
-one_tells line stops.NoMemory was now w h = record { lines = ap (λ (t : LogTold). t.lines) h ∙ sym (append-nil was.lines); behind = ap (λ (t : LogTold). t.behind) h ∙ w }
+one_tells : (line : Line) (stop : LogStop) (was now : LogTold) → was.remainder ≡ [] → TellsLine line (Err stop) was now → StopsAfter stop (line ∷ []) 0 was now
+one_tells line stops.Failed was now w h = record { lines = h.0 ∙ sym (append-nil was.lines); remainder = h.1 }
+one_tells line stops.NoMemory was now w h = record { lines = ap (λ (t : LogTold). t.lines) h ∙ sym (append-nil was.lines); remainder = ap (λ (t : LogTold). t.remainder) h ∙ w }
 
 pub one_stopped : (line : Line) (stop : LogStop) (old new : LogModel) → IsWhole old → TakesLine line old new (Err stop) → StopsWithin stop (line ∷ []) 0 old new
 one_stopped line stop old new whole t = record {
   later = t.later;
   cause = one_cause line stop old new t;
-  told = grown_with old new (TellsLine line (Err stop)) (λ was now. (count : ℕ) × (count ≤ 0) × StopsAfter stop (line ∷ []) count was now) (λ told. told.behind ≡ []) (λ was now w h. (0, omega arith, one_tells line stop was now w h)) whole t.lines;
+  told = grown_with old new (TellsLine line (Err stop)) (λ was now. (count : ℕ) × (count ≤ 0) × StopsAfter stop (line ∷ []) count was now) (λ told. told.remainder ≡ []) (λ was now w h. (0, omega arith, one_tells line stop was now w h)) whole t.lines;
 }
 
 -- nothing was handed, since memory ran out
@@ -186,7 +186,7 @@ pub no_memory : (plan : List Line) (log : LogModel) → IsWhole log → StopsWit
 no_memory plan log whole = record {
   later = omega arith;
   cause = refl;
-  told = grows_none log (λ was now. (count : ℕ) × (count ≤ 0) × StopsAfter stops.NoMemory plan count was now) (λ told. told.behind ≡ []) (λ now h. (0, omega arith, record { lines = sym (ap (λ xs. now.lines ++ xs) (take_none plan) ∙ append-nil now.lines); behind = h })) whole;
+  told = grows_none log (λ was now. (count : ℕ) × (count ≤ 0) × StopsAfter stops.NoMemory plan count was now) (λ told. told.remainder ≡ []) (λ now h. (0, omega arith, record { lines = sym (ap (λ xs. now.lines ++ xs) (take_none plan) ∙ append-nil now.lines); remainder = h })) whole;
 }
   where
     take_none : (p : List Line) → take 0 p ≡ []

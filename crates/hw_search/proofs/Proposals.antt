@@ -57,7 +57,7 @@ left : (s u : SearchModel) (old new : LogModel) → IsSearch s → WhereTold old
 left s u old new is fits faults l = record {
   mid = s;
   then = new;
-  heeds = same_heeds s old new is faults (grown_with old new (λ was now. now ≡ was) (HeedWrites s s) (λ told. LogFits told s) (λ was now fit e. no_more s was now fit (ap (λ (t : LogTold). t.lines) e, ap (λ (t : LogTold). t.behind) e ∙ fit.nothing_behind)) fits l.no_line);
+  heeds = same_heeds s old new is faults (grown_with old new (λ was now. now ≡ was) (HeedWrites s s) (λ told. LogFits told s) (λ was now fit e. no_more s was now fit (ap (λ (t : LogTold). t.lines) e, ap (λ (t : LogTold). t.remainder) e ∙ fit.no_remainder)) fits l.no_line);
   stopped = record { over = l.over; later = omega arith; cause = refl };
 }
 

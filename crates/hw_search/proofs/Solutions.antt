@@ -57,7 +57,7 @@ begins f budget log flat empty = record {
   going = refl;
   within = omega arith;
   later = omega arith;
-  told = told_same log (λ told. (told.lines ≡ []) × (told.behind ≡ [])) (λ was now. SoFar f (new_search f Greatest) now) empty (λ now e. record {
+  told = told_same log (λ told. (told.lines ≡ []) × (told.remainder ≡ [])) (λ was now. SoFar f (new_search f Greatest) now) empty (λ now e. record {
     fits = (starts f Greatest now flat e.0 e.1).1;
     well = subst (WellWritten f) (sym e.0) (no_line f);
     lemmas = ap (λ xs. length (lemmas_of xs)) e.0;
@@ -125,12 +125,12 @@ stopped f budget s u old here now is g lt t =
     let few = few_lemmas turns.NoMemory s u here now t.does in
     record {
       later = omega (arith, g.later, t.later);
-      writes = told_and old now (λ was told. Closing f u told) (λ was told. SolveWrites f budget (answers.NoMemory u.best) old.faults now.faults told.lines) (λ told. (told.behind ≡ []) × (is_closed told.lines ≡ false)) (closes f budget s u turns.NoMemory old here now g t) t.fits (λ was told c h.
+      writes = told_and old now (λ was told. Closing f u told) (λ was told. SolveWrites f budget (answers.NoMemory u.best) old.faults now.faults told.lines) (λ told. (told.remainder ≡ []) × (is_closed told.lines ≡ false)) (closes f budget s u turns.NoMemory old here now g t) t.fits (λ was told c h.
           solve_writes f budget (answers.NoMemory u.best) old.faults now.faults told.lines c.well h.1 c.best (omega (arith, c.lemmas, few, lt)) (λ a b d. refl));
       permitted = subst (λ o. IfSome o (Permits f)) (sym (t.best_stays refl)) (subst (λ (p : Problem). IfSome s.best (Permits p)) g.same_problem is.permitted);
       worth = tt;
       means = tt;
-      ends = where_so now (λ told. (told.behind ≡ []) × (is_closed told.lines ≡ false)) (λ told. told.behind ≡ []) t.fits (λ told a. a.0);
+      ends = where_so now (λ told. (told.remainder ≡ []) × (is_closed told.lines ≡ false)) (λ told. told.remainder ≡ []) t.fits (λ told a. a.0);
     }
 
 -- a failed log
@@ -161,7 +161,7 @@ spent f budget s old now is g le = record {
   permitted = subst (λ (p : Problem). IfSome s.best (Permits p)) g.same_problem is.permitted;
   worth = tt;
   means = subst (λ (p : Problem). budget ≤ room_count p) g.same_problem (omega (arith, few_stored s is, is.counted g.going, le));
-  ends = where_so now (λ told. LogFits told s) (λ told. told.behind ≡ []) (to_fit f budget s old now g) (λ told a. a.nothing_behind);
+  ends = where_so now (λ told. LogFits told s) (λ told. told.remainder ≡ []) (to_fit f budget s old now g) (λ told a. a.no_remainder);
 }
 
 -- ---- the search ended
@@ -173,11 +173,11 @@ ends_at f budget s u answer old here now is g lt t e = by u.best refl answer e
     few = few_lemmas turns.Ended s u here now t.does
 
     writes : (answer : Solved) → is_proved answer ≡ true → ((all : List Line) → last_table all ≡ u.best → AnswerTells f budget answer all) → Grows old now (λ was told. SolveWrites f budget answer old.faults now.faults told.lines)
-    writes answer proved tells = told_and old now (λ was told. Closing f u told) (λ was told. SolveWrites f budget answer old.faults now.faults told.lines) (λ told. (told.behind ≡ []) × (is_closed told.lines ≡ true)) (closes f budget s u turns.Ended old here now g t) t.fits (λ was told c h.
+    writes answer proved tells = told_and old now (λ was told. Closing f u told) (λ was told. SolveWrites f budget answer old.faults now.faults told.lines) (λ told. (told.remainder ≡ []) × (is_closed told.lines ≡ true)) (closes f budget s u turns.Ended old here now g t) t.fits (λ was told c h.
         solve_writes f budget answer old.faults now.faults told.lines c.well (h.1 ∙ sym proved) (tells told.lines c.best) (omega (arith, c.lemmas, few_lemmas turns.Ended s u here now t.does, lt)) (λ a b d. absurd (let z : true ≡ false = sym h.1 ∙ d in cc)))
 
     whole : IsWhole now
-    whole = where_so now (λ told. (told.behind ≡ []) × (is_closed told.lines ≡ true)) (λ told. told.behind ≡ []) t.fits (λ told a. a.0)
+    whole = where_so now (λ told. (told.remainder ≡ []) × (is_closed told.lines ≡ true)) (λ told. told.remainder ≡ []) t.fits (λ told a. a.0)
 
     by : (best : Option (List ℕ)) → u.best ≡ best → (answer : Solved) → IsEndOf f best answer → SolveMeets f budget old answer now
     by None none answer e = subst (λ (a : Solved). SolveMeets f budget old a now) (sym e) (record {

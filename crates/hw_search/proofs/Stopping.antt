@@ -188,7 +188,7 @@ wrote_lines stop turn s p count was now most le t m =
 
 failed_at : (s : SearchModel) (p : List Line) (count : ℕ) (was now : LogTold) → count ≤ length p → StopsAfter stops.Failed p count was now → Planned s was.lines p → FailsNext s.problem now
 failed_at s p count was now le t m =
-    let line = some_and (slice_get (p ++ m.rest) count) (λ line. IsBegunLine line now.behind) (get_front p m.rest count (λ line. IsBegunLine line now.behind) t.behind) in
+    let line = some_and (slice_get (p ++ m.rest) count) (λ line. IsBegunLine line now.remainder) (get_front p m.rest count (λ line. IsBegunLine line now.remainder) t.remainder) in
     let e = lines_in stops.Failed s p count was now le t m in (
       line.0,
       λ none. holds_at (λ line. is_plain line ≡ true) (p ++ m.rest) count line.0 (m.well.plain (tariff_before was.lines (take count (p ++ m.rest)) (ap tariff_of (sym e) ∙ none))) line.1,
@@ -202,7 +202,7 @@ failed_part : (s : SearchModel) (p : List Line) (count : ℕ) (was now : LogTold
 unfolding wrote_part
 failed_part s p count was now le t m = record {
   written = wrote_part stops.Failed s p count was now le t m;
-  next = get_front p m.rest count (λ line. IsBegunLine line now.behind) t.behind;
+  next = get_front p m.rest count (λ line. IsBegunLine line now.remainder) t.remainder;
 }
 
 left_told : (stop : LogStop) (s after : SearchModel) (p : List Line) (P : ℕ → Type 0) (was now : LogTold) → ((told : LogTold) (count : ℕ) → LogFits told s → P count → Left after (told.lines ++ take count p)) → LogFits was s → Came stop p P was now → Left after now.lines
@@ -236,7 +236,7 @@ stop_meets s after stops.NoMemory p P old new b st inside later cause g plan lef
   same_prices = st.same_prices;
   over = st.over;
   writes = grown_with old new (Came stops.NoMemory p P) (TurnWrites s.problem turns.NoMemory) (λ told. LogFits told s) (λ was now fit t. wrote_lines stops.NoMemory turns.NoMemory s p t.0 was now (omega arith) (inside t.0 t.1) t.2 (plan was fit)) b.fits g;
-  fits = grown old new (Came stops.NoMemory p P) (λ told. LogFits told s) (λ now. (now.behind ≡ []) × (is_closed now.lines ≡ false)) g (λ was now fit t. (t.2.behind, (left_told stops.NoMemory s after p P was now left fit t).open')) b.fits;
+  fits = grown old new (Came stops.NoMemory p P) (λ told. LogFits told s) (λ now. (now.remainder ≡ []) × (is_closed now.lines ≡ false)) g (λ was now fit t. (t.2.remainder, (left_told stops.NoMemory s after p P was now left fit t).open')) b.fits;
   best = grown old new (Came stops.NoMemory p P) (λ told. LogFits told s) (λ now. last_table now.lines ≡ after.best) g (λ was now fit t. (left_told stops.NoMemory s after p P was now left fit t).best) b.fits;
   best_stays = λ e. st.best;
   lemmas = grown old new (Came stops.NoMemory p P) (λ told. LogFits told s) (λ now. length (lemmas_of now.lines) ≡ after.lemmas) g (λ was now fit t. (left_told stops.NoMemory s after p P was now left fit t).lemmas) b.fits;

@@ -16,7 +16,7 @@ use Rattle.hw_progress.specs.Settling.{Settles}
 use Rattle.hw_progress.specs.Laws.{lemma_lines}
 use Rattle.hw_progress.specs.Turns.{cited, with_lemma, to_level, gone_back, unkept, deletion, Analysed, IsAdded, TurnMeets}
 use Rattle.hw_progress.proofs.Stops.{numbers_kept, past as gone_keeps}
-use Rattle.hw_search.specs.Handing.{TakesAll, StopBehind, StopsAfter, StopsWithin}
+use Rattle.hw_search.specs.Handing.{TakesAll, StopRemainder, StopsAfter, StopsWithin}
 use Rattle.hw_search.specs.Naming.{own_number, taught, Taught}
 use Rattle.hw_search.specs.Dropped.{line_numbers_kept, IsLeftOver}
 use Rattle.hw_search.specs.GoingBack.{due, NextLevel, Adds}
@@ -134,13 +134,13 @@ went_meets s mid why lemma back places trail stored written ws lines restarts si
     (all_on (lemma_lines (taught mid why places) lemma) (deletion ids) old then new a d)))
 
 stop_here : (stop : LogStop) (p more : List Line) (old then new : LogModel) → TakesAll p old then → StopsWithin stop more 0 then new → Grows old new (λ was now. (count : ℕ) × (count ≡ length p) × StopsAfter stop (p ++ more) count was now)
-stop_here stop p more old then new a b = grows_on old then new (λ was now. (now.lines ≡ was.lines ++ p) × (now.behind ≡ [])) (λ was now. (count : ℕ) × (count ≤ 0) × StopsAfter stop more count was now) (λ was now. (count : ℕ) × (count ≡ length p) × StopsAfter stop (p ++ more) count was now)
+stop_here stop p more old then new a b = grows_on old then new (λ was now. (now.lines ≡ was.lines ++ p) × (now.remainder ≡ [])) (λ was now. (count : ℕ) × (count ≤ 0) × StopsAfter stop more count was now) (λ was now. (count : ℕ) × (count ≡ length p) × StopsAfter stop (p ++ more) count was now)
     (λ was mid now h k. (
       length p + k.0,
       omega (arith, k.1),
       record {
         lines = k.2.lines ∙ ap (λ xs. xs ++ take k.0 more) h.0 ∙ append_assoc was.lines p (take k.0 more) ∙ ap (λ xs. was.lines ++ xs) (sym (take_past p more k.0));
-        behind = subst (λ o. StopBehind stop o now.behind) (sym (get_past p more k.0)) k.2.behind;
+        remainder = subst (λ o. StopRemainder stop o now.remainder) (sym (get_past p more k.0)) k.2.remainder;
       },
     )) a.told b.told
 
@@ -153,11 +153,11 @@ pub stop_meets_past : (s mid : SearchModel) (why : Why) (lemma : List Lit) (back
     → Adds stop mid.stored (record { number = lines; clause = lemma }) stored
     → TakesAll (lemma_lines (taught mid why places) lemma) old then → (more ≡ []) ⊎ ((ids : List ℕ) × IsLeftOver (mid.stored ++ record { number = lines; clause = lemma } ∷ []) ws (length (back_to mid.trail level).events) own ids × (more ≡ deletion ids)) → StopsWithin stop more 0 then new
     → TurnMeets s old (turn_of stop) (record (went mid trail stored written lines restarts since) { over = true }) new
-stop_meets_past s mid why lemma back places trail stored written ws lines restarts since level own stop more old then new b settles se t literal w o h a behind d =
+stop_meets_past s mid why lemma back places trail stored written ws lines restarts since level own stop more old then new b settles se t literal w o h a remainder d =
     let g = gone_code mid why lemma back places trail written ws lines restarts since level w in
     let an = analysed s mid why lemma back places settles t in
     let p = lemma_lines (taught mid why places) lemma in
-    let tail : (was : LogTold) → LogFits was s → (rest : List Line) × (more ++ rest ≡ deletion (unkept (was.lines ++ p) (gone mid why lemma back places))) = λ was fit. elim behind [
+    let tail : (was : LogTold) → LogFits was s → (rest : List Line) × (more ++ rest ≡ deletion (unkept (was.lines ++ p) (gone mid why lemma back places))) = λ was fit. elim remainder [
       | inl none ↦ (deletion (unkept (was.lines ++ p) (gone mid why lemma back places)), ap (λ xs. xs ++ deletion (unkept (was.lines ++ p) (gone mid why lemma back places))) none)
       | inr all ↦ ([], append-nil more ∙ all.2 ∙ ap deletion (drops_left mid why lemma back places trail written ws lines restarts since level own all.0 s was w o (known s mid was why lemma back places b.kept b.going b.few fit an t.some) all.1))
     ] in

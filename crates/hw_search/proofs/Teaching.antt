@@ -139,7 +139,7 @@ last_meets s mid why back places ws n old new b a some t =
     let c = taught mid why places in
     let line = lines.Lemma [] c.hints in
     let all = lemma_lines c [] in
-    let R : LogTold → LogTold → Type 0 = λ was now. (now.lines ≡ was.lines ++ all) × (now.behind ≡ []) in
+    let R : LogTold → LogTold → Type 0 = λ was now. (now.lines ≡ was.lines ++ all) × (now.remainder ≡ []) in
     let K = λ (was : LogTold) (fit : LogFits was s). known s mid was why [] back places b.kept b.going b.few fit a some in
     let M = λ (was : LogTold) (fit : LogFits was s). last mid was.lines why back places a.settles.kept (K was fit).going (K was fit).few (K was fit).fit.fits (K was fit).fit.live_kept a.settles.ends some a.learns in
     let same : (before : List Line) → before ++ all ≡ (before ++ c.lines) ++ line ∷ [] = λ before. sym (append_assoc before c.lines (line ∷ [])) in
@@ -159,7 +159,7 @@ last_meets s mid why back places ws n old new b a some t =
         few = subst (λ (f : Problem). clause_count all ≤ most_events f.ships f.slots + 2) e.problem (M was fit).few;
         few_live = subst (λ f. FewLiveFrom f was.lines all) e.problem ((turn_lives mid was.lines a.settles.kept (K was fit).going (K was fit).few (K was fit).fit.fits (K was fit).fit.live_kept).last why back places a.learns);
       }) b.fits t.told;
-      fits = grown old new R (λ told. LogFits told s) (λ now. (now.behind ≡ []) × (is_closed now.lines ≡ true)) t.told (λ was now fit h. (h.1, ap is_closed h.0 ∙ (M was fit).closed)) b.fits;
+      fits = grown old new R (λ told. LogFits told s) (λ now. (now.remainder ≡ []) × (is_closed now.lines ≡ true)) t.told (λ was now fit h. (h.1, ap is_closed h.0 ∙ (M was fit).closed)) b.fits;
       best = grown old new R (λ told. LogFits told s) (λ now. last_table now.lines ≡ mid.best) t.told (λ was now fit h. ap last_table (h.0 ∙ same was.lines) ∙ best' was fit) b.fits;
       best_stays = λ f. e.best;
       lemmas = grown old new R (λ told. LogFits told s) (λ now. length (lemmas_of now.lines) ≡ mid.lemmas + 1) t.told (λ was now fit h. ap (λ xs. length (lemmas_of xs)) (h.0 ∙ same was.lines) ∙ ap length (lemmas' was fit) ∙ count) b.fits;
@@ -208,7 +208,7 @@ lemma_turned s mid why lemma back places ids old new b a some literal same is d 
     let after = gone mid why lemma back places in
     let g = same_gone (with_lemma c.search lemma) back in
     let p = lemma_lines c lemma in
-    let R : LogTold → LogTold → Type 0 = λ was now. (now.lines ≡ was.lines ++ (p ++ deletion ids)) × (now.behind ≡ []) in
+    let R : LogTold → LogTold → Type 0 = λ was now. (now.lines ≡ was.lines ++ (p ++ deletion ids)) × (now.remainder ≡ []) in
     let K = λ (was : LogTold) (fit : LogFits was s). known s mid was why lemma back places b.kept b.going b.few fit a some in
     let M = λ (was : LogTold) (fit : LogFits was s). lemma_meets mid was.lines why lemma back places a.settles.kept (K was fit).going (K was fit).few (K was fit).fit.fits (K was fit).fit.live_kept a.settles.ends some a.learns literal in
     let over : after.over ≡ false = g.over ∙ ap (λ (x : SearchModel). x.over) same ∙ e.over ∙ b.going in
@@ -216,7 +216,7 @@ lemma_turned s mid why lemma back places ids old new b a some literal same is d 
     let rest : (was : LogTold) → LogFits was s → deletion ids ≡ deletion (unkept (was.lines ++ p) after) = λ was fit. ap deletion (d was fit) in
     let fits : WhereTold new (λ told. LogFits told after) = grown old new R (λ told. LogFits told s) (λ told. LogFits told after) t.told (λ was now fit h.
     let q : now.lines ≡ (was.lines ++ p) ++ deletion (unkept (was.lines ++ p) after) = h.0 ∙ ap (λ xs. was.lines ++ (p ++ xs)) (rest was fit) ∙ sym (append_assoc was.lines p (deletion (unkept (was.lines ++ p) after))) in
-    record { nothing_behind = h.1; fits = subst (λ xs. FitsOpen xs after) (sym q) (M was fit).fits; live_kept = subst (λ xs. LiveKept xs after) (sym q) (M was fit).kept }) b.fits in
+    record { no_remainder = h.1; fits = subst (λ xs. FitsOpen xs after) (sym q) (M was fit).fits; live_kept = subst (λ xs. LiveKept xs after) (sym q) (M was fit).kept }) b.fits in
     record {
       later = omega (arith, t.faults);
       same_problem = g.problem ∙ ap (λ (x : SearchModel). x.problem) same ∙ e.problem;
@@ -284,7 +284,7 @@ pub past_meets : (s mid : SearchModel) (why : Why) (lemma : List Lit) (back : �
     → ((was : LogTold) → LogFits was s → (rest : List Line) × (more ++ rest ≡ deletion (unkept (was.lines ++ lemma_lines (taught mid why places) lemma) (gone mid why lemma back places))))
     → old.faults ≤ new.faults → StopCause stop old new → Grows old new (λ was now. (count : ℕ) × (count ≡ length (lemma_lines (taught mid why places) lemma)) × StopsAfter stop (lemma_lines (taught mid why places) lemma ++ more) count was now)
     → TurnMeets s old (turn_of stop) (past (gone mid why lemma back places) stored) new
-past_meets s mid why lemma back places stored more stop old new b a some literal same added behind later cause t =
+past_meets s mid why lemma back places stored more stop old new b a some literal same added remainder later cause t =
     let e = same_mid s mid a.settles.implies in
     let c = taught mid why places in
     let g = same_gone (with_lemma c.search lemma) back in
@@ -301,7 +301,7 @@ past_meets s mid why lemma back places stored more stop old new b a some literal
     stop_meets s after stop (p ++ more) (Just (length p)) old new b st (λ count z. omega (arith, z, length-append p more)) later cause t
     (λ was fit.
     let w = whole_lemma s mid was why lemma back places e (K was fit) a some literal in
-    let r = behind was fit in
+    let r = remainder was fit in
     part_of s was.lines (p ++ more) r.0 (subst (Whole s was.lines) (ap (λ xs. p ++ xs) (sym r.1) ∙ sym (append_assoc p more r.0)) w))
     (λ told count fit z. subst (λ xs. Left after (told.lines ++ xs)) (sym (ap (λ k. take k (p ++ more)) z ∙ take_front p more (length p) (omega arith) ∙ take_all (length p) p (omega arith))) (past_left s mid told why lemma back places stored b.kept b.going (K told fit) a literal))
     (TurnStops.past_lemma (record {

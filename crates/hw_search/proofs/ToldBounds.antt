@@ -32,7 +32,7 @@ bound_is e u p new same is = ap (λ x. with_other_prices e.search x) is ∙ ap (
 pub bound_told : (s : SearchModel) (new : ℕ) (old log : LogModel) → IsSearch s → IsNewBound s new → WhereTold old (λ told. LogFits told s) → TakesAll (lines.Bound new ∷ []) old log → TellsBound s new (with_other_prices s (with_bound s.prices new)) old log
 bound_told s new old log is of fits t =
     let after = with_other_prices s (with_bound s.prices new) in
-    let R : LogTold → LogTold → Type 0 = λ was now. (now.lines ≡ was.lines ++ lines.Bound new ∷ []) × (now.behind ≡ []) in
+    let R : LogTold → LogTold → Type 0 = λ was now. (now.lines ≡ was.lines ++ lines.Bound new ∷ []) × (now.remainder ≡ []) in
     record {
       search = refl;
       kept = (bound s new is of.small of.below of.shows).kept;

@@ -13,7 +13,7 @@ use Rattle.hw_progress.specs.Laws.{lemma_lines}
 -- these lines were taken, and nothing follows them
 pub record TakesAll (plan : List Line) (old new : LogModel) : Type 0 where
   pub faults : new.faults ≡ old.faults
-  pub told : Grows old new (λ was now. (now.lines ≡ was.lines ++ plan) × (now.behind ≡ []))
+  pub told : Grows old new (λ was now. (now.lines ≡ was.lines ++ plan) × (now.remainder ≡ []))
 
 -- why it stopped: a log fails only where its faults rose
 abbrev pub StopCause : LogStop → LogModel → LogModel → Type 0
@@ -21,14 +21,14 @@ StopCause Failed old new = Rose old.faults new.faults
 StopCause NoMemory old new = new.faults ≡ old.faults
 
 -- what follows the lines: of the line that failed a proper prefix; nothing if memory ran out
-abbrev pub StopBehind : LogStop → Option Line → List ℕ → Type 0
-StopBehind Failed next behind = IsSomeAnd next (λ line. IsBegunLine line behind)
-StopBehind NoMemory next behind = behind ≡ []
+abbrev pub StopRemainder : LogStop → Option Line → List ℕ → Type 0
+StopRemainder Failed next remainder = IsSomeAnd next (λ line. IsBegunLine line remainder)
+StopRemainder NoMemory next remainder = remainder ≡ []
 
 -- the first `count` lines of a plan were taken, and the next one was not
 pub record StopsAfter (stop : LogStop) (plan : List Line) (count : ℕ) (was now : LogTold) : Type 0 where
   pub lines : now.lines ≡ was.lines ++ take count plan
-  pub behind : StopBehind stop (slice_get plan count) now.behind
+  pub remainder : StopRemainder stop (slice_get plan count) now.remainder
 
 -- at most the first `most` lines of a plan were taken
 pub record StopsWithin (stop : LogStop) (plan : List Line) (most : ℕ) (old new : LogModel) : Type 0 where

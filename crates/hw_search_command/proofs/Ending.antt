@@ -28,8 +28,8 @@ by_lines version {P = P} (Some bytes) told h k =
     k t.0 bytes (each_text_told version bytes t.0 t.1) (subst (λ (o : Option LogTold). IfSome o P) t.1 h)
 
 -- the text of whole lines
-pub whole_text : (version : Version) {told : LogTold} {bytes : List ℕ} → IsTextUnder version told bytes → told.behind ≡ [] → bytes ≡ cert_text version told.lines
-whole_text version {told = told} t e = t.text ∙ ap (λ (behind : List ℕ). cert_text version told.lines ++ behind) e ∙ append-nil (cert_text version told.lines)
+pub whole_text : (version : Version) {told : LogTold} {bytes : List ℕ} → IsTextUnder version told bytes → told.remainder ≡ [] → bytes ≡ cert_text version told.lines
+whole_text version {told = told} t e = t.text ∙ ap (λ (remainder : List ℕ). cert_text version told.lines ++ remainder) e ∙ append-nil (cert_text version told.lines)
 
 leaves : (q : Searcher) (f : Problem) (budget : ℕ) (found : Option Found) (x y z : DeskState) → y.write_faults ≡ x.write_faults → is_told_under q.version (z.trays Proof).sent ≡ true → SearchMeets q f budget (log_under q.version y) found (log_under q.version z) → SearchLeaves q f budget x z found
 leaves q f budget (Some found) x y z before told m = (

@@ -30,6 +30,6 @@ letter_read rules letters i rule total inside room is so_far =
 pub one_place_less : (rules : List Branching) (i : ℕ) (rule : Branching) → i < length rules → drop i rules ≡ replicate (64 - i) Greatest → drop (i + 1) (set rules i rule) ≡ replicate (64 - (i + 1)) Greatest
 one_place_less rules i rule inside rest =
     let kept : drop (i + 1) (set rules i rule) ≡ drop (i + 1) rules = drop-set-lt (i + 1) rules i rule (omega arith) in
-    let behind : drop 1 (drop i rules) ≡ drop (i + 1) rules = rw (drop-cons rules i rule, add-one) refl in
+    let remainder : drop 1 (drop i rules) ≡ drop (i + 1) rules = rw (drop-cons rules i rule, add-one) refl in
     let less : (64 - i) - 1 ≡ 64 - (i + 1) = omega arith in
-    kept ∙ sym behind ∙ ap (drop 1) rest ∙ drop-replicate 1 (64 - i) Greatest ∙ ap (λ n. replicate n Greatest) less
+    kept ∙ sym remainder ∙ ap (drop 1) rest ∙ drop-replicate 1 (64 - i) Greatest ∙ ap (λ n. replicate n Greatest) less

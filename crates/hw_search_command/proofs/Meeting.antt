@@ -78,7 +78,7 @@ told_both A E B (Some was) (Some now) h e k = k now h e
 found_meets : (q : Searcher) (f : Problem) (budget : ℕ) (found : Found) (Wrote : List Line → Type 0) (old new : LogModel) → old.faults ≤ new.faults → new.faults ≡ old.faults → FoundIsTrue q f budget found → Grows old new (λ was now. Wrote now.lines) → IsWhole new → ((all : List Line) → Wrote all → IsWritten q f budget all) → ((all : List Line) → Wrote all → ShowsHead f None budget found.head found.table found.bound all) → SearchMeets q f budget old (Some found) new
 found_meets q f budget found Wrote old new later kept is grows whole written shows = record {
   later = later;
-  leaves = (kept, is, told_both (λ told. Wrote told.lines) (λ told. told.behind ≡ []) (TellsFound q f budget found) old.told new.told grows whole (λ told wrote here. record { whole = here; written = written told.lines wrote; shows = shows told.lines wrote }));
+  leaves = (kept, is, told_both (λ told. Wrote told.lines) (λ told. told.remainder ≡ []) (TellsFound q f budget found) old.told new.told grows whole (λ told wrote here. record { whole = here; written = written told.lines wrote; shows = shows told.lines wrote }));
 }
 
 -- lines, and a part of the next one

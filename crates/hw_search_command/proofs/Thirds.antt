@@ -75,7 +75,7 @@ pub record Sent (lines : List Line) (i : ℕ) (old now : DeskState) : Type 0 whe
   pub told : is_told_under Three (now.trays Proof).sent ≡ true
   pub outside : outside_of now ≡ outside_of old
   pub faults : now.write_faults ≡ old.write_faults
-  pub so_far : WhereTold (log_under Three now) (λ t. (t.lines ≡ take i lines) × (t.behind ≡ []))
+  pub so_far : WhereTold (log_under Three now) (λ t. (t.lines ≡ take i lines) × (t.remainder ≡ []))
 
 pub one_failed : {E : Type 0} {lines : List Line} {i : ℕ} {x y z : DeskState} {line : Line} (e : E) → Sent lines i x y → i < length lines → line ≡ get_or lines i line → TakesLine line (log_under Three y) (log_under Three z) (Err Failed) → is_told_under Three (z.trays Proof).sent ≡ true → outside_of z ≡ outside_of y → SendsLines lines x z (Err e)
 one_failed {lines = lines} {i = i} {x = x} {y = y} {z = z} {line = line} e h lt is takes told outside = record {

@@ -109,7 +109,7 @@ pub record IsCutLine (q : Searcher) (f : Problem) (told : LogTold) : Type 0 wher
   pub fits : LineFits f line
   pub valid : ValidAfter f told.lines line
   pub lean : LeanAfter f told.lines line
-  pub part : IsBegunLine line told.behind
+  pub part : IsBegunLine line told.remainder
 
 -- the text of whole lines, and after it a proper prefix of the next one's
 pub record IsInLine (q : Searcher) (f : Problem) (budget : ℕ) (bytes : List ℕ) : Type 0 where

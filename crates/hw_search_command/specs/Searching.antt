@@ -22,7 +22,7 @@ pub record FoundIsTrue (q : Searcher) (f : Problem) (budget : ℕ) (found : Foun
 
 -- whole lines of the search show what was found
 pub record TellsFound (q : Searcher) (f : Problem) (budget : ℕ) (found : Found) (told : LogTold) : Type 0 where
-  pub whole : told.behind ≡ []
+  pub whole : told.remainder ≡ []
   pub written : IsWritten q f budget told.lines
   pub shows : ShowsHead f None budget found.head found.table found.bound told.lines
 

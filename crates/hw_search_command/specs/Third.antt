@@ -19,11 +19,11 @@ pub record StopsAmong (lines : List Line) (told : LogTold) : Type 0 where
   pub line : Line
   pub rest : List Line
   pub parts : lines ≡ told.lines ++ line ∷ rest
-  pub begun : IsBegunLine line told.behind
+  pub begun : IsBegunLine line told.remainder
 
 -- all lines were sent and no write failed, or one failed
 abbrev pub LinesAnswer : {E : Type 0} → List Line → DeskState → DeskState → Result Unit E → Type 0
-LinesAnswer lines old new (Ok done) = (new.write_faults ≡ old.write_faults) × WhereTold (log_under Three new) (λ told. (told.lines ≡ lines) × (told.behind ≡ []))
+LinesAnswer lines old new (Ok done) = (new.write_faults ≡ old.write_faults) × WhereTold (log_under Three new) (λ told. (told.lines ≡ lines) × (told.remainder ≡ []))
 LinesAnswer lines old new (Err failed) = Rose old.write_faults new.write_faults × WhereTold (log_under Three new) (StopsAmong lines)
 
 -- nothing but what is on Proof was touched

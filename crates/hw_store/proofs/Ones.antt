@@ -142,7 +142,7 @@ room_for_one ws ones place k lt was =
 pub record Passing (room : RoomModel) (ws : List Watch) (old now : List ℕ) (at kept : ℕ) : Type 0 where
   pub same_length : length now ≡ length old
   pub few : kept ≤ at
-  pub behind : (i : ℕ) → at ≤ i → get_or now i 0 ≡ get_or old i 0
+  pub same_after : (i : ℕ) → at ≤ i → get_or now i 0 ≡ get_or old i 0
   pub each : (p : ℕ) → is_one (get_or ws p Due) ≡ true → (((j : ℕ) × (j < kept) × (get_or now j 0 ≡ p)) × Shows room (get_or ws p Due)) ⊎ ((j : ℕ) × (at ≤ j) × (j < length old) × (get_or old j 0 ≡ p))
   pub among : (j : ℕ) → j < kept → get_or now j 0 < length ws
   pub count : kept + length old ≤ count_one ws + at
@@ -151,7 +151,7 @@ pub pass_starts : (room : RoomModel) (ws : List Watch) (old : List ℕ) → Keep
 pass_starts room ws old k = record {
   same_length = refl;
   few = omega arith;
-  behind = λ i le. refl;
+  same_after = λ i le. refl;
   each = λ p e. (let h = k.has p e in inr (h.0, omega arith, h.1, get_or_default old h.0 0 p h.1 ∙ h.2));
   among = λ j lt. absurd (omega (arith, lt));
   count = omega (arith, k.few);
@@ -165,7 +165,7 @@ pass_keeps room ws old now at kept s inside lt shown =
     record {
       same_length = length-set now kept place ∙ s.same_length;
       few = omega (arith, s.few);
-      behind = λ i le. let ne : i ≢ kept = omega (arith, le, s.few) in get_or-set_other now kept i place 0 ne ∙ s.behind i (omega (arith, le));
+      same_after = λ i le. let ne : i ≢ kept = omega (arith, le, s.few) in get_or-set_other now kept i place 0 ne ∙ s.same_after i (omega (arith, le));
       each = λ p e. elim (s.each p e) [
         | inl h ↦ (
             let ne : h.0.0 ≢ kept = omega (arith, h.0.1) in
@@ -191,7 +191,7 @@ pass_drops room ws old now at kept s lt =
     record {
       same_length = s.same_length;
       few = omega (arith, s.few);
-      behind = λ i le. s.behind i (omega (arith, le));
+      same_after = λ i le. s.same_after i (omega (arith, le));
       each = λ p e. elim (cases_eq p place) [
         | inl q ↦ absurd (false_true (sym (ap is_one (ap (λ n. get_or (set ws place Due) n Due) q ∙ get_or-set_same ws place Due Due lt)) ∙ e))
         | inr n ↦ (

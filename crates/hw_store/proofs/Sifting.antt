@@ -33,7 +33,7 @@ still_on ships slots bucket w v p d on = elim (d.each p) [
 pub record Sifting (ships slots bucket : ℕ) (cutting : Lit) (ws : List Watch) (old now : List ℕ) (at kept : ℕ) : Type 0 where
   pub same_length : length now ≡ length old
   pub few : kept ≤ at
-  pub behind : (i : ℕ) → at ≤ i → get_or now i 0 ≡ get_or old i 0
+  pub same_after : (i : ℕ) → at ≤ i → get_or now i 0 ≡ get_or old i 0
   pub missed : (i : ℕ) → i < at → is_hit cutting (get_or ws (get_or old i 0) Due) ≡ false
   pub stays : (i : ℕ) → i < at → is_on ships slots bucket (get_or ws (get_or old i 0) Due) ≡ true → (j : ℕ) × (j < kept) × (get_or now j 0 ≡ get_or old i 0)
   pub only : (j : ℕ) → j < kept → (i : ℕ) × (i < at) × (get_or old i 0 ≡ get_or now j 0)
@@ -49,7 +49,7 @@ pub sift_passes : (ships slots bucket : ℕ) (cutting : Lit) (w v : List Watch) 
 sift_passes ships slots bucket cutting w v old now at kept s d miss off = record {
   same_length = s.same_length;
   few = omega (arith, s.few);
-  behind = λ i le. s.behind i (omega (arith, le));
+  same_after = λ i le. s.same_after i (omega (arith, le));
   missed = missed_more cutting w v old at d miss s.missed;
   stays = λ i lt on. elim (cases_eq i at) [
     | inl e ↦ absurd (false_true (sym off ∙ subst (λ n. is_on ships slots bucket (get_or v (get_or old n 0) Due) ≡ true) e on))
@@ -66,7 +66,7 @@ sift_keeps ships slots bucket cutting w v old now at kept s inside d miss =
     record {
       same_length = length-set now kept place ∙ s.same_length;
       few = omega (arith, s.few);
-      behind = λ i le. let ne : i ≢ kept = omega (arith, le, s.few) in get_or-set_other now kept i place 0 ne ∙ s.behind i (omega (arith, le));
+      same_after = λ i le. let ne : i ≢ kept = omega (arith, le, s.few) in get_or-set_other now kept i place 0 ne ∙ s.same_after i (omega (arith, le));
       missed = missed_more cutting w v old at d miss s.missed;
       stays = λ i lt on. elim (cases_eq i at) [
         | inl e ↦ (kept, omega arith, get_or-set_same now kept place 0 within ∙ ap (λ n. get_or old n 0) (sym e))

@@ -10,13 +10,13 @@ use Rattle.hw_cert.specs.declared.version.Version.{Version}
 use Rattle.hw_cert.specs.declared.version.Version.TheVariants.{One, Two, Three}
 use Rattle.hw_cert.specs.Spelled.{header_words, kept_to, version_to}
 use Rattle.hw_cert.specs.Fits.{line_read}
-use Rattle.hw_cert.specs.Stream.{Cut, nothing, whole, unended, long, line_passes_limit, cut_of, tail_cut, behind, line_by, line_next, CertLines, onward, lines_from, lines_by, lines_after, cert_stream_to, cert_stream}
+use Rattle.hw_cert.specs.Stream.{Cut, nothing, whole, unended, long, line_passes_limit, cut_of, tail_cut, past_line, line_by, line_next, CertLines, onward, lines_from, lines_by, lines_after, cert_stream_to, cert_stream}
 use Rattle.hw_cert.proofs.Headers.{header_back}
 use Rattle.hw_subject.specs.Decided.{NamesThird}
 
 -- ---- after the header
 
-read_same : (a b version : Version) (number taken : ℕ) (line : List ℕ) (more : List (List ℕ)) (r : Result Line FormWord) (s t : CertLines) → s ≡ t → onward (line_by number (behind a version number taken line) more r) s ≡ onward (line_by number (behind b version number taken line) more r) t
+read_same : (a b version : Version) (number taken : ℕ) (line : List ℕ) (more : List (List ℕ)) (r : Result Line FormWord) (s t : CertLines) → s ≡ t → onward (line_by number (past_line a version number taken line) more r) s ≡ onward (line_by number (past_line b version number taken line) more r) t
 read_same a b version number taken line more (Ok l) s t e = ap (λ (later : CertLines). record { lines = l ∷ later.lines; stop = later.stop }) e
 read_same a b version number taken line more (Err word) s t e = refl
 

@@ -69,6 +69,6 @@ name_back [] (c ∷ cs) e = absurd (none_is_some c (escaped cs) e)
 name_back (b ∷ bs) [] e = absurd (none_is_some b (escaped bs) (sym e))
 name_back (b ∷ bs) (c ∷ cs) e =
     let same : b ≡ c = sym (first_is b (escaped bs)) ∙ ap first_of e ∙ first_is c (escaped cs) in
-    let behind : byte_text b ++ escaped bs ≡ byte_text b ++ escaped cs = subst (λ (x : ℕ). byte_text b ++ escaped bs ≡ byte_text x ++ escaped cs) (sym same) e in
-    let later : bs ≡ cs = name_back bs cs (append_cancel_left (byte_text b) _ _ behind) in
+    let rest_same : byte_text b ++ escaped bs ≡ byte_text b ++ escaped cs = subst (λ (x : ℕ). byte_text b ++ escaped bs ≡ byte_text x ++ escaped cs) (sym same) e in
+    let later : bs ≡ cs = name_back bs cs (append_cancel_left (byte_text b) _ _ rest_same) in
     rw (same, later) refl

@@ -85,7 +85,7 @@ pub(crate) fn best_by_costs(
 {
     let _tolls = tolls;
     let mut most: Option<Balance> = None;
-    for slot in range.low..behind(flat, range.high) {
+    for slot in range.low..slot_after(flat, range.high) {
         let next = costed(
             tariff.scale,
             flat.value(range.ship, slot),
@@ -114,7 +114,7 @@ fn costed(scale: u32, value: Option<u64>, cost: u128) -> Option<Balance>
 }
 
 /// The number after a slot.
-fn behind(flat: &Flat, slot: Slot) -> Slot
+fn slot_after(flat: &Flat, slot: Slot) -> Slot
     requires slot_in { slot < flat.now.slots }
     ensures value { result ≡ slot + 1 }
     ensures in_slots { result ≤ flat.now.slots }

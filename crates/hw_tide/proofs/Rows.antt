@@ -9,10 +9,10 @@ use Rattle.hw_tide.specs.Tides.{heights_between, heights_in_slot, slot_at}
 
 -- a slot that isn't before the second water has the row that the waters from the second on give
 pub next_water : (levels : List LevelsParts) (place slot : ℕ) → suc place < length levels → slot_at levels (suc place) ≤ slot → heights_in_slot (drop (suc place) levels) slot ≡ heights_in_slot (drop place levels) slot
-next_water [] place slot inside behind = absurd (omega (arith, inside))
-next_water (water ∷ []) place slot inside behind = absurd (omega (arith, inside))
-next_water (water ∷ next ∷ more) zero slot inside behind = sym (cond-false (nat_lt slot next.slot) _ _ (le-ltb slot next.slot behind))
-next_water (water ∷ next ∷ more) (suc place) slot inside behind = next_water (next ∷ more) place slot (omega (arith, inside)) behind
+next_water [] place slot inside not_before = absurd (omega (arith, inside))
+next_water (water ∷ []) place slot inside not_before = absurd (omega (arith, inside))
+next_water (water ∷ next ∷ more) zero slot inside not_before = sym (cond-false (nat_lt slot next.slot) _ _ (le-ltb slot next.slot not_before))
+next_water (water ∷ next ∷ more) (suc place) slot inside not_before = next_water (next ∷ more) place slot (omega (arith, inside)) not_before
 
 one_column : (past size : ℕ) (lows highs : List ℤ) (i : ℕ) → i < length lows → i < length highs → heights_between past size (drop i lows) (drop i highs) ≡ height_between (get_or lows i (pos 0)) (get_or highs i (pos 0)) past size ∷ heights_between past size (drop (suc i) lows) (drop (suc i) highs)
 one_column past size lows highs i low high = rw (drop-cons lows i (pos 0), drop-cons highs i (pos 0)) refl

@@ -53,7 +53,7 @@ fn push_row(
     levels: &[Levels],
     slot: u32,
 ) -> Result<(), AllocError>
-    requires behind { slot_at levels.now 0 ≤ slot }
+    requires not_before { slot_at levels.now 0 ≤ slot }
     requires before { 1 < length levels.now → slot < slot_at levels.now 1 }
     requires each { All (IsLevels columns) levels.now }
     ensures row { OnOk result (heights.new.items ≡ heights.old.items ++ heights_in_slot levels.now slot) }
@@ -76,9 +76,9 @@ fn push_row(
 /// The place of the last water up to a slot, from a place on.
 fn reached(levels: &[Levels], from: usize, slot: u32) -> usize
     requires inside { from < length levels.now }
-    requires behind { slot_at levels.now from ≤ slot }
+    requires not_before { slot_at levels.now from ≤ slot }
     ensures inside { result < length levels.now }
-    ensures behind { slot_at levels.now result ≤ slot }
+    ensures not_before { slot_at levels.now result ≤ slot }
     ensures before { result + 1 < length levels.now → slot < slot_at levels.now (result + 1) }
     ensures same { (later : ℕ) → slot ≤ later → heights_in_slot (drop result levels.now) later ≡ heights_in_slot (drop from levels.now) later }
 {

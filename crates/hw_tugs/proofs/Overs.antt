@@ -41,15 +41,15 @@ none_held from to tugs s none = elim (cases_lt s from) [
   | inl a ↦ none_before from to tugs s a
   | inr a ↦ elim (cases_lt s to) [
     | inl b ↦ absurd (none a b)
-    | inr b ↦ none_behind from to tugs s b
+    | inr b ↦ none_later from to tugs s b
   ]
 ]
   where
     none_before : (from to tugs s : ℕ) → s < from → tugs_within from to tugs s ≡ 0
     none_before from to tugs s a = grind (arith, nat_tests)
 
-    none_behind : (from to tugs s : ℕ) → to ≤ s → tugs_within from to tugs s ≡ 0
-    none_behind from to tugs s a = grind (arith, nat_tests)
+    none_later : (from to tugs s : ℕ) → to ≤ s → tugs_within from to tugs s ≡ 0
+    none_later from to tugs s a = grind (arith, nat_tests)
 
 -- ---- the load of a room where one range is set
 pub put_load : (jobs : List Job) (room : RoomModel) (place : ℕ) (job : Job) (low high s : ℕ) → AllPairs (λ a b. a.ship < b.ship) jobs → slice_get jobs place ≡ Some job → job.ship < length room.ranges

@@ -33,7 +33,7 @@ use Rattle.hw_turns.proofs.Unpriced.{same_priced}
 
 -- a log in memory with these lines
 abbrev pub own_told : List Line → LogTold
-own_told own = record { lines = own; behind = [] }
+own_told own = record { lines = own; remainder = [] }
 
 -- ---- lines after lines
 

@@ -18,7 +18,7 @@ use Rattle.hw_turns.specs.declared.handing.OwnLines.{OwnLines}
 
 -- where a log is told, these are its lines, and nothing follows them
 abbrev pub IsSaid : List Line → LogModel → Type 0
-IsSaid all log = WhereTold log (λ told. (told.lines ≡ all) × (told.behind ≡ []))
+IsSaid all log = WhereTold log (λ told. (told.lines ≡ all) × (told.remainder ≡ []))
 
 -- these lines were handed on: all pages are tied to them, and the board tells of them
 pub record Crewing (f : Problem) (pages : List Page) (board : Board) (all : List Line) : Type 0 where

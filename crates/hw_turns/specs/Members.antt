@@ -25,7 +25,7 @@ pub record Working (f : Problem) (s : SearchModel) (own : List Line) : Type 0 wh
   pub kept : IsSearch s
   pub going : s.over ≡ false
   pub unpriced : s.priced ≡ 0
-  pub fits : LogFits (record { lines = own; behind = [] }) s
+  pub fits : LogFits (record { lines = own; remainder = [] }) s
   pub well : OwnWell f own
 
 -- the own lines, and after them a table that was offered, or nothing

@@ -46,7 +46,7 @@ pub record RenewedRows : Type 0 where
   pub one_never_named : renewed (best_table ∷ second_late ∷ second_late ∷ first_late ∷ apart_explained ∷ lines.Lemma [] (1 ∷ 3 ∷ 4 ∷ []) ∷ []) ≡ best_table ∷ second_late ∷ second_late ∷ lines.Delete (2 ∷ []) ∷ first_late ∷ apart_explained ∷ lines.Lemma [] (1 ∷ 3 ∷ 4 ∷ []) ∷ []
   pub all_named_at_the_end : renewed whole_lines ≡ whole_lines
   pub other_deletions_go : renewed (second_late ∷ first_late ∷ apart_explained ∷ lines.Delete (2 ∷ []) ∷ lines.Lemma [] (1 ∷ 3 ∷ []) ∷ []) ≡ second_late ∷ first_late ∷ lines.Delete (2 ∷ []) ∷ apart_explained ∷ lines.Lemma [] (1 ∷ 3 ∷ []) ∷ []
-  pub deleted_behind_the_last_hint : renewed (second_late ∷ first_late ∷ apart_explained ∷ second_lemma ∷ lines.Delete (1 ∷ []) ∷ lines.Lemma [] (2 ∷ 4 ∷ []) ∷ []) ≡ second_late ∷ first_late ∷ apart_explained ∷ second_lemma ∷ lines.Delete (1 ∷ 3 ∷ []) ∷ lines.Lemma [] (2 ∷ 4 ∷ []) ∷ []
+  pub deleted_after_the_last_hint : renewed (second_late ∷ first_late ∷ apart_explained ∷ second_lemma ∷ lines.Delete (1 ∷ []) ∷ lines.Lemma [] (2 ∷ 4 ∷ []) ∷ []) ≡ second_late ∷ first_late ∷ apart_explained ∷ second_lemma ∷ lines.Delete (1 ∷ 3 ∷ []) ∷ lines.Lemma [] (2 ∷ 4 ∷ []) ∷ []
   pub both_deletions : renewed (second_late ∷ second_late ∷ second_late ∷ second_lemma ∷ best_table ∷ []) ≡ second_late ∷ second_late ∷ lines.Delete (2 ∷ []) ∷ second_late ∷ second_lemma ∷ lines.Delete (1 ∷ 3 ∷ []) ∷ lines.Delete (4 ∷ []) ∷ best_table ∷ []
   pub tolls_and_prices_stay : renewed (best_table ∷ late_narrows ∷ late_costs_line ∷ second_late ∷ lines.Bound 40 ∷ last_priced ∷ []) ≡ best_table ∷ late_narrows ∷ late_costs_line ∷ second_late ∷ lines.Delete (1 ∷ []) ∷ lines.Bound 40 ∷ last_priced ∷ []
   pub priced_and_named : renewed (late_narrows ∷ late_costs_line ∷ lines.Priced second_slot ∷ lines.Lemma [] (1 ∷ []) ∷ []) ≡ late_narrows ∷ late_costs_line ∷ lines.Priced second_slot ∷ lines.Lemma [] (1 ∷ []) ∷ []

@@ -1,6 +1,6 @@
 use Rattle.std.proofs.Common.{◌++◌, ◌∷◌, ◌∙◌, [], refl, sym}
 use Rattle.hw_desk.proofs.Chain.{moves_on}
-use Rattle.hw_command.proofs.Taken.{unless_err, taken_on, read_behind}
+use Rattle.hw_command.proofs.Taken.{unless_err, taken_on, read_onward}
 use Rattle.hw_command.proofs.cert.read_lines.Goals as goal
 
 pub lines-preserved : goal.lines-preserved
@@ -30,7 +30,7 @@ returns-in-Ended-Ok-clause-reads g c =
     let z = g.D.Desk.state c.check_line.new.desk in
     let before = past.taken.0 in
     let follows = past.taken.1.reached.follows in
-    read_behind (g.D.Desk.state c.args.desk.now) y z (record { outcome = c.in-Ended-Ok.outcome; bound = c.bound-bound.result; kept = c.lines.kept }) past.taken.1 past.taken.2 (c.bound-bound.ensures.followed before follows) past.same
+    read_onward (g.D.Desk.state c.args.desk.now) y z (record { outcome = c.in-Ended-Ok.outcome; bound = c.bound-bound.result; kept = c.lines.kept }) past.taken.1 past.taken.2 (c.bound-bound.ensures.followed before follows) past.same
     (rw c.in-Ended-Ok.field-0-is at c.in-Ended-Ok.ensures.steps before follows)
     (rw c.in-Ended-Ok.field-0-is at c.in-Ended-Ok.ensures.reads before)
 

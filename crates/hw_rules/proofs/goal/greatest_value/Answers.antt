@@ -9,5 +9,5 @@ loop-slot-preserved c =
     let few : unwrap_or c.value.result 0 ≤ 1_000_000_000_000 = c.value.ensures.small in
     record {
       small = omega (arith, c.max-greatest.ensures, c.unwrap_or.ensures, few, c.loop-slot.invariant.small);
-      told = fold_step (λ most slot. max most (unwrap_or (value_at c.args.flat.now c.args.ship slot) 0)) c.loop-slot.greatest c.max-greatest.result c.loop-slot.slot (c.args.high + 1) _ (omega (arith, c.loop-slot-test.true, c.behind-slot-end.ensures.value)) (c.max-greatest.ensures ∙ ap (max c.loop-slot.greatest) value) c.loop-slot.invariant.told;
+      told = fold_step (λ most slot. max most (unwrap_or (value_at c.args.flat.now c.args.ship slot) 0)) c.loop-slot.greatest c.max-greatest.result c.loop-slot.slot (c.args.high + 1) _ (omega (arith, c.loop-slot-test.true, c.slot_after-slot-end.ensures.value)) (c.max-greatest.ensures ∙ ap (max c.loop-slot.greatest) value) c.loop-slot.invariant.told;
     }

@@ -13,7 +13,7 @@ loop-at-init c = (c.requires.keeps, drops_none c.args.watches.now, pass_starts c
 pub shows-requires : goal.shows-requires
 shows-requires c =
     let lt : c.loop-at.at < length c.args.ones.now = omega arith in
-    let same : get_or c.loop-at.ones c.loop-at.at 0 ≡ get_or c.args.ones.now c.loop-at.at 0 = c.loop-at.invariant.2.behind c.loop-at.at (omega arith) in
+    let same : get_or c.loop-at.ones c.loop-at.at 0 ≡ get_or c.args.ones.now c.loop-at.at 0 = c.loop-at.invariant.2.same_after c.loop-at.at (omega arith) in
     let old : get_or c.args.ones.now c.loop-at.at 0 < length c.loop-at.watches = subst (λ n. get_or c.args.ones.now c.loop-at.at 0 < n) (sym c.loop-at.invariant.1.same_length) (c.requires.ones.among c.loop-at.at 0 lt) in
     let in' : get_or c.loop-at.ones c.loop-at.at 0 < length c.loop-at.watches = subst (λ n. n < length c.loop-at.watches) (sym same) old in
     record { fits = watch_fits c.args.room.now.ships c.args.watches.now c.loop-at.watches (get_or c.loop-at.ones c.loop-at.at 0) c.loop-at.invariant.1 c.requires.fits in' }
@@ -21,7 +21,7 @@ shows-requires c =
 pub loop-at-preserved : goal.loop-at-preserved
 loop-at-preserved c =
     let lt : c.loop-at.at < length c.args.ones.now = omega arith in
-    let same : get_or c.loop-at.ones c.loop-at.at 0 ≡ get_or c.args.ones.now c.loop-at.at 0 = c.loop-at.invariant.2.behind c.loop-at.at (omega arith) in
+    let same : get_or c.loop-at.ones c.loop-at.at 0 ≡ get_or c.args.ones.now c.loop-at.at 0 = c.loop-at.invariant.2.same_after c.loop-at.at (omega arith) in
     let old : get_or c.args.ones.now c.loop-at.at 0 < length c.loop-at.watches = subst (λ n. get_or c.args.ones.now c.loop-at.at 0 < n) (sym c.loop-at.invariant.1.same_length) (c.requires.ones.among c.loop-at.at 0 lt) in
     elim c.if-shows.branch [
       | then-shows w ↦ rw (w.ones-is, w.watches-is, w.due-is, w.kept-is) (

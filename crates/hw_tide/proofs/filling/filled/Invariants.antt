@@ -7,7 +7,7 @@ use Rattle.hw_tide.proofs.filling.filled.Given as goal
 abbrev pub invariant-loop-slot : goal.invariant-loop-slot
 invariant-loop-slot l = record {
   inside : l.place < length l.levels;
-  behind : slot_at l.levels l.place ≤ l.slot;
+  not_before : slot_at l.levels l.place ≤ l.slot;
   same : (later : ℕ) → l.slot ≤ later → heights_in_slot (drop l.place l.levels) later ≡ heights_in_slot l.levels later;
   told : l.heights.items ++ flat_map (heights_in_slot l.levels) (range_with_len l.slot (l.rows - l.slot)) ≡ flat_map (heights_in_slot l.levels) (range_with_len 0 l.rows);
   small : All InLimits l.heights.items;

@@ -5,7 +5,7 @@ use Rattle.hw_tide.proofs.filling.reached.Given as goal
 abbrev pub invariant-loop-place : goal.invariant-loop-place
 invariant-loop-place l = record {
   inside : l.place < length l.levels;
-  behind : slot_at l.levels l.place ≤ l.slot;
+  not_before : slot_at l.levels l.place ≤ l.slot;
   same : (later : ℕ) → l.slot ≤ later → heights_in_slot (drop l.place l.levels) later ≡ heights_in_slot (drop l.fn.from l.levels) later;
 }
 
