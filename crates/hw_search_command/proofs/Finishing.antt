@@ -6,6 +6,8 @@ use Rattle.hw_desk.specs.State.{DeskState}
 use Rattle.hw_desk.specs.declared.desk.Tray.TheVariants as tray
 use Rattle.hw_cert.proofs.Answered.{told_map}
 use Rattle.hw_report.specs.Reports.{Report, Naming, solved}
+use Rattle.hw_report.specs.declared.report.Head.{Head}
+use Rattle.hw_report.specs.declared.report.Head.TheVariants.{Optimal, Infeasible, Unfinished, Memory}
 use Rattle.hw_repair.specs.Wishes.{PlanParts}
 use Rattle.hw_command.specs.Carries.{Carries}
 use Rattle.hw_command.specs.Ends.{Ends}
@@ -14,14 +16,14 @@ use Rattle.hw_command.specs.declared.status.Status.{Status}
 use Rattle.hw_command.specs.declared.status.Status.TheVariants.{WriteFault}
 use Rattle.hw_command.proofs.Made.{makes_past, made_works, breaks_off}
 use Rattle.hw_command.proofs.Stops.{stops_carries}
-use Rattle.hw_subject.specs.Meanings.{HeadSays, judged}
+use Rattle.hw_subject.specs.Meanings.{HeadSays, judged, repaired_problem}
 use Rattle.hw_subject.specs.Reading.{ReadsSubject, StopsAtSubject, naming_of, plan_in, searched_in}
 use Rattle.hw_subject.specs.Subjects.{Subject, Topic, topic_subject}
 use Rattle.hw_subject.specs.declared.subject.Given.{Given}
 use Rattle.hw_subject.proofs.Meant.{printed_table}
 use Rattle.hw_subject.proofs.Certified.{modelled}
 use Rattle.hw_subject.proofs.Readings.{give_before}
-use Rattle.hw_search_command.specs.Certified.{own_bound}
+use Rattle.hw_search_command.specs.Certified.{BoundIsAbove, PrintedBoundIsAbove, own_bound}
 use Rattle.hw_search_command.specs.Finding.{PlanHasSlots, found_report, moved_told, own_head, report_of_finding}
 use Rattle.hw_search_command.specs.Searchers.{Searcher, searcher_of}
 use Rattle.hw_search_command.specs.Searches.{Searched, SearchSays, search_task}
@@ -74,6 +76,14 @@ breaks s q {x = x} {z = z} h k =
       ends = (refl, refl);
     }
 
+-- a bound above the cargo of what was searched is printed above it
+bound_above : (f : Problem) (plan : Option PlanParts) (head : Head) (table : Option (List ℕ)) (bound : Option ℕ) → BoundIsAbove (repaired_problem f plan) head table bound → PrintedBoundIsAbove f plan (own_head plan f.ships head) table (own_bound plan f.ships bound)
+bound_above f None (Optimal c) table bound h = tt
+bound_above f None Infeasible table bound h = tt
+bound_above f None (Unfinished budget) table bound h = h
+bound_above f None Memory table bound h = tt
+bound_above f (Some plan) head table bound h = tt
+
 -- what was found, and what of it is said
 finds : (topic : Topic) (how : Search) {budget : ℕ} {proof : List ℕ} {x y z : DeskState} {given : Given} (found : Found) → (h : ReadsSubject (topic_subject topic) x y given) → SearchesTo (searcher_of how) (judged (topic_subject topic) h.value) budget proof y z (Some found)
     → Searched (topic_subject topic) (searcher_of how) budget proof x z (own_head ((topic_subject topic).plan h.value) ((topic_subject topic).problem h.value).ships found.head) ((topic_subject topic).problem h.value) ((topic_subject topic).naming h.value) found.table (moved_told ((topic_subject topic).plan h.value) found.table) (own_bound ((topic_subject topic).plan h.value) ((topic_subject topic).problem h.value).ships found.bound)
@@ -95,6 +105,7 @@ finds topic how {budget = budget} {z = z} found h k =
       permitted = printed_table s v found.table m is.permitted;
       means = subst (λ (most : ℕ). HeadSays s v budget most own found.table) (same_most how f (s.plan v)) (head_says s v budget (q.most (judged s v)) found.head found.table m is.means);
       bounded = bound_says s v found.bound m is.bounded;
+      above = bound_above f (s.plan v) found.head found.table found.bound is.above;
       certificate = told_map (z.trays tray.Proof).sent (λ bytes c. own_certificate q f (s.plan v) budget (q.most (judged s v)) found.head found.table found.bound bytes m.fits is.means c) k.leaves.2;
     }
 

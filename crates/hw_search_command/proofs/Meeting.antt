@@ -103,10 +103,10 @@ solved_with : {f : Problem} {budget : ℕ} {old new : LogModel} (answer : Solved
 solved_with {f = f} {budget = budget} {old = old} {new = new} answer found m kept is whole shows = found_meets solving f budget found (SolveWrites f budget answer old.faults new.faults) old new m.later kept is m.writes whole (λ all w. solve_written answer w) shows
 
 pub solve_meets : {f : Problem} {budget : ℕ} {old new : LogModel} (answer : Solved) → SolveMeets f budget old answer new → SolvedKeepsFaults answer old new → SearchMeets solving f budget old (found_of budget answer None) new
-solve_meets (solved.Optimal table c) m kept = solved_with (solved.Optimal table c) _ m kept (record { permitted = m.permitted; means = m.means; bounded = tt }) m.ends (λ all w. optimal_shows table c None w.tells.0 w.tells.1 w.proved_just (plain_bound all w.plain))
-solve_meets solved.Infeasible m kept = solved_with solved.Infeasible _ m kept (record { permitted = tt; means = (m.means, refl); bounded = tt }) m.ends (λ all w. infeasible_shows None w.tells w.proved_just (plain_bound all w.plain))
-solve_meets (solved.Unfinished table) m kept = solved_with (solved.Unfinished table) _ m kept (record { permitted = m.permitted; means = (refl, m.means); bounded = tt }) m.ends (λ all w. unfinished_shows table None w.tells w.proved_just (plain_bound all w.plain))
-solve_meets (solved.NoMemory table) m kept = solved_with (solved.NoMemory table) _ m kept (record { permitted = m.permitted; means = tt; bounded = tt }) m.ends (λ all w. memory_shows table None w.tells w.proved_just (plain_bound all w.plain))
+solve_meets (solved.Optimal table c) m kept = solved_with (solved.Optimal table c) _ m kept (record { permitted = m.permitted; means = m.means; bounded = tt; above = tt }) m.ends (λ all w. optimal_shows table c None w.tells.0 w.tells.1 w.proved_just (plain_bound all w.plain))
+solve_meets solved.Infeasible m kept = solved_with solved.Infeasible _ m kept (record { permitted = tt; means = (m.means, refl); bounded = tt; above = tt }) m.ends (λ all w. infeasible_shows None w.tells w.proved_just (plain_bound all w.plain))
+solve_meets (solved.Unfinished table) m kept = solved_with (solved.Unfinished table) _ m kept (record { permitted = m.permitted; means = (refl, m.means); bounded = tt; above = tt }) m.ends (λ all w. unfinished_shows table None w.tells w.proved_just (plain_bound all w.plain))
+solve_meets (solved.NoMemory table) m kept = solved_with (solved.NoMemory table) _ m kept (record { permitted = m.permitted; means = tt; bounded = tt; above = tt }) m.ends (λ all w. memory_shows table None w.tells w.proved_just (plain_bound all w.plain))
 solve_meets {f = f} {budget = budget} {old = old} {new = new} solved.LogFailed m kept = cut_meets solving f budget (SolveWrites f budget solved.LogFailed old.faults new.faults) (FailsAt f) old new m.later m.writes m.ends (λ all w. solve_written solved.LogFailed w) (plain_cut solving f (λ line e. e))
 
 -- ---- `prove`
@@ -118,10 +118,10 @@ proved_with : {f : Problem} {budget : ℕ} {bound : Option ℕ} {old new : LogMo
 proved_with {f = f} {budget = budget} {bound = bound} {old = old} {new = new} answer found m kept is whole shows = found_meets proving f budget found (ProveWrites f budget answer bound old.faults new.faults) old new m.later kept is m.writes whole (λ all w. prove_written answer w) shows
 
 pub prove_meets : {f : Problem} {budget : ℕ} {old new : LogModel} (answer : Solved) (bound : Option ℕ) → ProveMeets f budget old answer bound new → SolvedKeepsFaults answer old new → SearchMeets proving f budget old (found_of budget answer bound) new
-prove_meets (solved.Optimal table c) bound m kept = proved_with (solved.Optimal table c) _ m kept (record { permitted = m.permitted; means = m.means; bounded = m.bounded }) m.ends (λ all w. optimal_shows table c bound w.tells.0 w.tells.1 w.proved_just w.last_bound)
-prove_meets solved.Infeasible bound m kept = proved_with solved.Infeasible _ m kept (record { permitted = tt; means = (m.means, refl); bounded = m.bounded }) m.ends (λ all w. infeasible_shows bound w.tells w.proved_just w.last_bound)
-prove_meets (solved.Unfinished table) bound m kept = proved_with (solved.Unfinished table) _ m kept (record { permitted = m.permitted; means = (refl, m.means); bounded = m.bounded }) m.ends (λ all w. unfinished_shows table bound w.tells w.proved_just w.last_bound)
-prove_meets (solved.NoMemory table) bound m kept = proved_with (solved.NoMemory table) _ m kept (record { permitted = m.permitted; means = tt; bounded = m.bounded }) m.ends (λ all w. memory_shows table bound w.tells w.proved_just w.last_bound)
+prove_meets (solved.Optimal table c) bound m kept = proved_with (solved.Optimal table c) _ m kept (record { permitted = m.permitted; means = m.means; bounded = m.bounded; above = tt }) m.ends (λ all w. optimal_shows table c bound w.tells.0 w.tells.1 w.proved_just w.last_bound)
+prove_meets solved.Infeasible bound m kept = proved_with solved.Infeasible _ m kept (record { permitted = tt; means = (m.means, refl); bounded = m.bounded; above = tt }) m.ends (λ all w. infeasible_shows bound w.tells w.proved_just w.last_bound)
+prove_meets (solved.Unfinished table) bound m kept = proved_with (solved.Unfinished table) _ m kept (record { permitted = m.permitted; means = (refl, m.means); bounded = m.bounded; above = m.above }) m.ends (λ all w. unfinished_shows table bound w.tells w.proved_just w.last_bound)
+prove_meets (solved.NoMemory table) bound m kept = proved_with (solved.NoMemory table) _ m kept (record { permitted = m.permitted; means = tt; bounded = m.bounded; above = tt }) m.ends (λ all w. memory_shows table bound w.tells w.proved_just w.last_bound)
 prove_meets {f = f} {budget = budget} {old = old} {new = new} solved.LogFailed bound m kept = cut_meets proving f budget (ProveWrites f budget solved.LogFailed bound old.faults new.faults) (IsCutOff f) old new m.later m.writes m.ends (λ all w. prove_written solved.LogFailed w) (any_cut f)
 
 -- ---- `crew`
@@ -133,10 +133,10 @@ crewed_with : {f : Problem} {order : List Branching} {budget : ℕ} {old new : L
 crewed_with {f = f} {order = order} {budget = budget} {old = old} {new = new} answer found m kept is whole shows = found_meets (crewing order) f budget found (CrewWrites f order budget answer old.faults new.faults) old new m.later kept is m.writes whole (λ all w. crew_written answer w) shows
 
 pub crew_meets : {f : Problem} {order : List Branching} {budget : ℕ} {old new : LogModel} (answer : Crewed) → CrewMeets f order budget old answer new → SearchMeets (crewing order) f budget old (found_by_crew budget answer) new
-crew_meets (crewed.Optimal table c) m = crewed_with (crewed.Optimal table c) _ m m.kept (record { permitted = m.permitted; means = m.means; bounded = tt }) m.ends (λ all w. optimal_shows table c None w.tells.0 w.tells.1 w.proved_just (plain_bound all w.plain))
-crew_meets crewed.Infeasible m = crewed_with crewed.Infeasible _ m m.kept (record { permitted = tt; means = (m.means, refl); bounded = tt }) m.ends (λ all w. infeasible_shows None w.tells w.proved_just (plain_bound all w.plain))
-crew_meets (crewed.Spent table) m = crewed_with (crewed.Spent table) _ m m.kept (record { permitted = m.permitted; means = (refl, m.means); bounded = tt }) m.ends (λ all w. unfinished_shows table None w.tells w.proved_just (plain_bound all w.plain))
-crew_meets (crewed.NoMemory table) m = crewed_with (crewed.NoMemory table) _ m m.kept (record { permitted = m.permitted; means = tt; bounded = tt }) m.ends (λ all w. memory_shows table None w.tells w.proved_just (plain_bound all w.plain))
+crew_meets (crewed.Optimal table c) m = crewed_with (crewed.Optimal table c) _ m m.kept (record { permitted = m.permitted; means = m.means; bounded = tt; above = tt }) m.ends (λ all w. optimal_shows table c None w.tells.0 w.tells.1 w.proved_just (plain_bound all w.plain))
+crew_meets crewed.Infeasible m = crewed_with crewed.Infeasible _ m m.kept (record { permitted = tt; means = (m.means, refl); bounded = tt; above = tt }) m.ends (λ all w. infeasible_shows None w.tells w.proved_just (plain_bound all w.plain))
+crew_meets (crewed.Spent table) m = crewed_with (crewed.Spent table) _ m m.kept (record { permitted = m.permitted; means = (refl, m.means); bounded = tt; above = tt }) m.ends (λ all w. unfinished_shows table None w.tells w.proved_just (plain_bound all w.plain))
+crew_meets (crewed.NoMemory table) m = crewed_with (crewed.NoMemory table) _ m m.kept (record { permitted = m.permitted; means = tt; bounded = tt; above = tt }) m.ends (λ all w. memory_shows table None w.tells w.proved_just (plain_bound all w.plain))
 crew_meets {f = f} {order = order} {budget = budget} {old = old} {new = new} crewed.LogFailed m = cut_meets (crewing order) f budget (CrewWrites f order budget crewed.LogFailed old.faults new.faults) (FailsAt f) old new m.later m.writes m.ends (λ all w. crew_written crewed.LogFailed w) (plain_cut (crewing order) f (λ line e. e))
 
 -- ---- the one that is run

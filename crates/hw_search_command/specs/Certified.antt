@@ -1,7 +1,7 @@
 -- The certificate of a search, and what its answer says of the problem that was searched.
-use Rattle.std.specs.Prelude.{◌≡◌, ◌+◌, ◌-◌, ◌*◌, ◌≤◌, ◌<◌, ◌⊎◌, ℕ, List, Option, Some, None, All, IfSome, option_map, ⊤, false, length, take}
+use Rattle.std.specs.Prelude.{◌≡◌, ◌+◌, ◌-◌, ◌*◌, ◌≤◌, ◌<◌, ◌⊎◌, ℕ, List, Option, Some, None, All, IfSome, option_and_then, option_map, ⊤, false, length, take}
 use Rattle.hw_model.specs.Problem.{Problem}
-use Rattle.hw_model.specs.Timetables.{IsBest, NonePermitted}
+use Rattle.hw_model.specs.Timetables.{IsBest, NonePermitted, cargo}
 use Rattle.hw_desk.specs.State.{DeskState}
 use Rattle.hw_desk.specs.declared.desk.Tray.TheVariants as tray
 use Rattle.hw_lines.specs.declared.check.Verdict.{Verdict}
@@ -28,6 +28,13 @@ HeadMeans f budget most (Optimal c) (Some table) = IsBest f table c
 HeadMeans f budget most Infeasible table = NonePermitted f × (table ≡ None)
 HeadMeans f budget most (Unfinished spent) table = (spent ≡ budget) × (budget ≤ most)
 HeadMeans f budget most Memory table = ⊤
+
+-- beside `unfinished` a bound is above the cargo of its timetable: the two together would have closed the search
+abbrev pub BoundIsAbove : Problem → Head → Option (List ℕ) → Option ℕ → Type 0
+BoundIsAbove f (Optimal c) table bound = ⊤
+BoundIsAbove f Infeasible table bound = ⊤
+BoundIsAbove f (Unfinished spent) table bound = IfSome bound (λ most. IfSome (option_and_then (cargo f) table) (λ c. c < most))
+BoundIsAbove f Memory table bound = ⊤
 
 -- ---- the lines
 
@@ -77,6 +84,11 @@ searched_head (Some plan) ships table head = repair_head ships (ships_moved_in (
 abbrev pub own_bound : Option PlanParts → ℕ → Option ℕ → Option ℕ
 own_bound None ships bound = bound
 own_bound (Some plan) ships bound = option_map (own_cargo ships) bound
+
+-- a printed bound is above the printed cargo; of a repair both are quotients, which may be the same
+abbrev pub PrintedBoundIsAbove : Problem → Option PlanParts → Head → Option (List ℕ) → Option ℕ → Type 0
+PrintedBoundIsAbove f None head table bound = BoundIsAbove f head table bound
+PrintedBoundIsAbove f (Some plan) head table bound = ⊤
 
 -- ---- a certificate
 

@@ -9,11 +9,11 @@ use Rattle.hw_command.specs.Carries.{Task, one_report}
 use Rattle.hw_command.specs.Scope.{MakesProof}
 use Rattle.hw_subject.specs.Meanings.{HeadSays, IsBoundOf, IsPrintedTable, judged}
 use Rattle.hw_subject.specs.Subjects.{Subject}
-use Rattle.hw_search_command.specs.Certified.{IsCertificate, IsCutShort}
+use Rattle.hw_search_command.specs.Certified.{PrintedBoundIsAbove, IsCertificate, IsCutShort}
 use Rattle.hw_search_command.specs.Finding.{moved_told}
 use Rattle.hw_search_command.specs.Searchers.{Searcher}
 
--- what is read, that of the inputs where they are told, what a head says of it, and a bound that no permitted timetable passes; of a repair the number is that of the ships that the timetable moves. Proof was made, and holds the certificate that shows these, where it is told: lines speak of the problem that was searched, by the numbers of its restrictions
+-- what is read, that of the inputs where they are told, what a head says of it, and a bound that no permitted timetable passes, above the cargo of an unfinished search's timetable; of a repair the number is that of the ships that the timetable moves. Proof was made, and holds the certificate that shows these, where it is told: lines speak of the problem that was searched, by the numbers of its restrictions
 pub record Searched (s : Subject) (q : Searcher) (budget : ℕ) (proof : List ℕ) (old new : DeskState) (head : Head) (f : Problem) (names : Naming) (table : Option (List ℕ)) (moved bound : Option ℕ) : Type 0 where
   pub value : s.Value
   pub reads : s.Reads old.held value
@@ -24,6 +24,7 @@ pub record Searched (s : Subject) (q : Searcher) (budget : ℕ) (proof : List �
   pub permitted : IfSome table (IsPrintedTable s value)
   pub means : HeadSays s value budget (q.most (s.problem value)) head table
   pub bounded : IfSome bound (IsBoundOf s value)
+  pub above : PrintedBoundIsAbove (s.problem value) (s.plan value) head table bound
   pub certificate : IfSome (new.trays tray.Proof).sent (IsCertificate q (s.problem value) (s.plan value) budget head table bound)
 
 -- what is read, and what Proof holds after a failed make or write of it

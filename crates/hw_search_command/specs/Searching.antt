@@ -8,7 +8,7 @@ use Rattle.hw_desk.specs.declared.desk.Tray.TheVariants as tray
 use Rattle.hw_verdict.specs.Laws.{IsBound}
 use Rattle.hw_cert.specs.Logs.{LogModel, LogTold, WhereTold}
 use Rattle.hw_cert.specs.Told.{log_under}
-use Rattle.hw_search_command.specs.Certified.{HeadMeans, IsWritten, ShowsHead, IsCertificate, IsCutLine, IsCutShort}
+use Rattle.hw_search_command.specs.Certified.{HeadMeans, BoundIsAbove, IsWritten, ShowsHead, IsCertificate, IsCutLine, IsCutShort}
 use Rattle.hw_search_command.specs.Searchers.{Searcher}
 use Rattle.hw_search_command.specs.declared.finding.Found.{Found}
 
@@ -17,6 +17,7 @@ pub record FoundIsTrue (q : Searcher) (f : Problem) (budget : ℕ) (found : Foun
   pub permitted : IfSome found.table (Permits f)
   pub means : HeadMeans f budget (q.most f) found.head found.table
   pub bounded : IfSome found.bound (IsBound f)
+  pub above : BoundIsAbove f found.head found.table found.bound
 
 -- ---- on a log
 
