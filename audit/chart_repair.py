@@ -60,20 +60,14 @@ def top_part(height, said, means, sizes, sign):
     return out + chart.line("h", 48, 36, said) + chart.line("m", 48, 56, means) + chart.line("m r", 1268, 36, sizes)
 
 
-def legend(entries):
-    out = ""
-    for cls, x, text in entries:
-        out += chart.block(cls, x, x + 10, 77, 87) + chart.line("m", x + 14, 86, text)
-    return out
-
-
-def below():
-    """The legend's second line."""
-    out = chart.block("gh", 502, 512, 93, 103) + chart.line("m", 516, 102, "planned slot of a moved ship")
-    out += chart.block("sd", 690, 700, 93, 103) + chart.line("m", 704, 102, "has sailed")
-    out += ('<svg x="772" y="93" width="10" height="10" viewBox="0 0 3 1" preserveAspectRatio="none">\n'
-            + chart.block("ht", 0, 3, 0, 1) + "</svg>\n")
-    return out + chart.line("m", 786, 102, "before the earliest slot that the plan leaves")
+def entries(wishes, table, slots):
+    """What the legend says of the marks that stand."""
+    old = [wish[0] for wish in wishes]
+    moved = table is not None and table != old
+    sailed = any(earliest is None and o < slots and (table is None or table[v] == o) for v, (o, earliest) in enumerate(wishes))
+    early = any(earliest is not None and earliest > 0 for _, earliest in wishes)
+    return (("patch", "gh", "planned slot of a moved ship", moved), ("patch", "sd", "has sailed", sailed),
+            ("stripes", "ht", "too early for the plan", early))
 
 
 # ---------------------------------------------------------------- what became of each ship
@@ -112,14 +106,15 @@ def marks(wishes, table, slots, span, rows, when):
 # ---------------------------------------------------------------- the pictures
 
 
-def between(whole, first, last):
-    """What stands in a picture of chart.py after this and before that."""
-    return whole[whole.index(first):whole.rindex(last)]
+def rest_of(whole, sizes):
+    """What a picture of chart.py, drawn as that of an unfinished certificate, has between the line with these sizes and its end."""
+    last = chart.line("m r", 1268, 36, sizes)
+    return whole[whole.index(last) + len(last):whole.rindex("</svg>\n")]
 
 
 def draw_port(port, tide, wishes, table, ended, bound):
     slots, n = port["slots"], len(port["ships"])
-    rows = 124 + 50 * len(port["waypoints"]) + 22
+    rows = chart.HEAD + chart.STRIP_STEP * len(port["waypoints"]) + 22
     bottom = rows + 42 * n + 10 + 28 * len(port["sections"]) + 56
     span = chart.span_of_port(port, table)
     moved = 0 if table is None else sum(t != w[0] for t, w in zip(table, wishes))
@@ -128,9 +123,8 @@ def draw_port(port, tide, wishes, table, ended, bound):
     sizes = f"ships {n}, slots {slots} of {port['slot_minutes']} min, tugs {port['fleet']}"
     out = top_part(bottom + 28, title(table, ended, bound, moved, amount(cargo), amount), meaning(table, ended, bound), sizes,
                    chart.badge(table, ended))
-    out += legend(chart.PORT_LEGEND) + chart.second_legend(port)
-    out += between(chart.chart_port(port, tide, table, ended), '<text class="b" x="16" y="140"', "</svg>\n")
-    return out + below() + marks(wishes, table, slots, span, rows, lambda slot: ", " + chart.when(port, slot)) + "</svg>\n"
+    out += rest_of(chart.chart_port(port, tide, table, False, more=entries(wishes, table, slots)), sizes)
+    return out + marks(wishes, table, slots, span, rows, lambda slot: ", " + chart.when(port, slot)) + "</svg>\n"
 
 
 def draw_flat(flat, wishes, table, ended, bound):
@@ -142,12 +136,10 @@ def draw_flat(flat, wishes, table, ended, bound):
         span = max([slots] + [table[v] + h for rule in panels for v, _, h in rule[2] if table[v] < slots])
     moved = 0 if table is None else sum(t != w[0] for t, w in zip(table, wishes))
     cargo = "0" if table is None else str(sum(flat["values"][v][k] for v, k in enumerate(table)))
-    out = top_part(bottom + 28, title(table, ended, bound, moved, cargo, str), meaning(table, ended, bound),
-                   f"ships {n}, slots {slots}, rules {len(flat['rules'])}", chart.badge(table, ended))
-    out += legend(chart.FLAT_LEGEND)
-    first = '<g role="list">' if table is None else '<text class="m r" x="956" y="138"'
-    out += between(chart.chart_flat(flat, table, ended), first, "</svg>\n")
-    return out + below() + marks(wishes, table, slots, span, 146, lambda slot: "") + "</svg>\n"
+    sizes = f"ships {n}, slots {slots}, rules {len(flat['rules'])}"
+    out = top_part(bottom + 28, title(table, ended, bound, moved, cargo, str), meaning(table, ended, bound), sizes, chart.badge(table, ended))
+    out += rest_of(chart.chart_flat(flat, table, False, more=entries(wishes, table, slots)), sizes)
+    return out + marks(wishes, table, slots, span, 146, lambda slot: "") + "</svg>\n"
 
 
 def picture(kind, *texts):
@@ -161,4 +153,4 @@ def picture(kind, *texts):
 
 
 if __name__ == "__main__":
-    sys.stdout.write(picture(sys.argv[1], *map(chart.text_of, sys.argv[2:])))
+    sys.stdout.buffer.write(picture(sys.argv[1], *map(chart.text_of, sys.argv[2:])).encode())

@@ -1,2 +1,3 @@
 pub mod Onward
 pub mod Ranks
+pub mod Lines

@@ -61,7 +61,7 @@ marks a i zero = []
 marks a i (suc more) = mark a (i * a.step) ++ marks a (i + 1) more
 
 abbrev pub caption_text : Scale → List ℕ
-caption_text (Minutes minutes) = codes "hours after slot 0 begins"
+caption_text (Minutes minutes) = codes "hours from slot 0"
 caption_text Slots = codes "slot"
 
 abbrev pub axis_text : Axis → List ℕ

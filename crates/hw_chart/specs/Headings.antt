@@ -1,11 +1,10 @@
--- The head of a picture: its title and ground, and what its colours say.
-use Rattle.std.specs.Prelude.{ℕ, ◌+◌, List, [], ◌∷◌, ◌++◌, codes}
+-- The head of a picture: its title and ground.
+use Rattle.std.specs.Prelude.{ℕ, List, [], ◌∷◌, codes}
 use Rattle.hw_svg.specs.Joined.{joined}
 use Rattle.hw_svg.specs.Lettering.{line}
 use Rattle.hw_svg.specs.Shapes.{block}
 use Rattle.hw_svg.specs.Sheets.{picture_begin}
 use Rattle.hw_chart.specs.declared.style.TheConstants.{STYLE}
-use Rattle.hw_chart.specs.declared.heading.Entry.{Entry}
 use Rattle.hw_chart.specs.declared.outcome.CargoUnit.{CargoUnit}
 use Rattle.hw_chart.specs.declared.outcome.Outcome.{Outcome}
 use Rattle.hw_chart.specs.Outcomes.{badge, meaning_text, title_text}
@@ -23,11 +22,3 @@ heading_lines unit outcome sizes = joined (line (codes "h") 48 36 (title_text un
 
 abbrev pub heading : CargoUnit → Outcome → ℕ → List ℕ → List ℕ
 heading unit outcome height sizes = joined (picture_begin 1280 height (title_text unit outcome) ∷ style ∷ ground height ∷ badge outcome.verdict ∷ heading_lines unit outcome sizes ∷ [])
-
--- an entry of the legend: a patch of a class, and what it says
-abbrev pub entry_text : Entry → List ℕ
-entry_text e = block e.class.now (record { left = e.x; right = e.x + 10; top = 77; bottom = 87 }) ++ line (codes "m") (e.x + 14) 86 e.says.now
-
-abbrev pub entries_text : List Entry → List ℕ
-entries_text [] = []
-entries_text (e ∷ es) = entry_text e ++ entries_text es

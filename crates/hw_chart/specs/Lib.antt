@@ -1,6 +1,7 @@
 pub mod Courses
 pub mod Outcomes
 pub mod Headings
+pub mod Legends
 pub mod Layout
 pub mod Figures
 pub mod Rows

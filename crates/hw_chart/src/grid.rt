@@ -192,7 +192,7 @@ fn caption(scale: Scale) -> &'static [u8]
     ensures { result.now ≡ caption_text scale }
 {
     match scale {
-        Scale::Minutes(_) => b"hours after slot 0 begins",
+        Scale::Minutes(_) => b"hours from slot 0",
         Scale::Slots => b"slot",
     }
 }

@@ -2,21 +2,13 @@
 
 ghost use Rattle.hw_desk.specs.Writers.{Puts};
 ghost use Rattle.hw_svg.specs.Pieces.{picture_pieces_text};
-ghost use Rattle.hw_chart.specs.Headings.{entries_text, entry_text, ground, heading, heading_lines};
+ghost use Rattle.hw_chart.specs.Headings.{ground, heading, heading_lines};
 ghost use Rattle.hw_chart.specs.Outcomes.{title_text};
 
 use crate::outcome::{CargoUnit, Outcome, meaning, put_badge, title};
 use crate::style::put_style;
 use hw_desk::Writer;
 use hw_svg::{Area, Piece, put_block, put_line, put_picture_begin};
-
-/// An entry of the legend: a class of shapes, where it stands, and what it says.
-#[derive(Clone, Copy)]
-pub struct Entry {
-    pub class: &'static [u8],
-    pub x: u32,
-    pub says: &'static [u8],
-}
 
 /// Puts the ground of a picture of this height.
 fn put_ground<W: Writer>(out: &mut W, height: u64)
@@ -55,29 +47,4 @@ pub fn put_heading<W: Writer>(
     put_ground(out, height);
     put_badge(out, outcome.verdict);
     put_heading_lines(out, unit, outcome, sizes);
-}
-
-/// Puts an entry of the legend.
-fn put_entry<W: Writer>(out: &mut W, entry: Entry)
-    ensures { Puts (entry_text entry) (W.state out.old) (W.state out.new) }
-{
-    let x = u64::from(entry.x);
-    let area = Area {
-        left: x,
-        right: x + 10,
-        top: 77,
-        bottom: 87,
-    };
-    put_block(out, entry.class, area);
-    put_line(out, b"m", x + 14, 86, &[Piece::Word(entry.says)]);
-}
-
-/// Puts the legend, entry by entry.
-pub fn put_legend<W: Writer>(out: &mut W, entries: &[Entry])
-    ensures { Puts (entries_text entries.now) (W.state out.old) (W.state out.new) }
-{
-    if let [entry, more @ ..] = entries {
-        put_entry(out, *entry);
-        put_legend(out, more);
-    }
 }

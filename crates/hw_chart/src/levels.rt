@@ -1,7 +1,7 @@
 //! Figures made of others.
 
 ghost use Rattle.std.specs.Prelude.{◌≡◌, ◌-◌, ◌≤◌};
-ghost use Rattle.hw_chart.specs.Figures.{full_level, greatest_level};
+ghost use Rattle.hw_chart.specs.Figures.{full_level, greatest_level, is_reached, is_top_touched};
 
 use hw_svg::Levels;
 
@@ -55,4 +55,23 @@ pub fn greatest<L: Levels>(amounts: &L, end: u32) -> u64
         most = amounts.level(slot).max(most);
     }
     most
+}
+
+/// Whether a level is that of the top in one of the slots before an end.
+pub fn touches_top<L: Levels>(levels: &L, end: u32) -> bool
+    requires { end ≤ L.end levels.now }
+    ensures { result ≡ is_top_touched (L.level levels.now) end }
+{
+    (0..end).any(|slot| levels.level(slot) == 0)
+}
+
+/// Whether an amount is all that there is in one of the slots before an end.
+pub fn reaches<L: Levels>(amounts: &L, all: u64, end: u32) -> bool
+    requires { end ≤ L.end amounts.now }
+    ensures { result ≡ is_reached (L.level amounts.now) all end }
+{
+    (0..end).any(|slot| {
+        let amount = amounts.level(slot);
+        amount == all && amount > 0
+    })
 }

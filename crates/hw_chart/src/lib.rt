@@ -6,7 +6,9 @@ mod course;
 mod grid;
 mod hatch;
 mod heading;
+mod laws;
 mod layout;
+mod legend;
 mod levels;
 mod outcome;
 mod panel;
@@ -15,10 +17,14 @@ mod style;
 
 pub use course::{Course, course_at};
 pub use grid::{Axis, MINUTES, SLOTS, Scale, put_grid, put_line_path, put_span_end, step};
-pub use hatch::{HATCH, put_entry_below, put_hatch};
-pub use heading::{Entry, put_heading, put_legend};
+pub use hatch::{HATCH, put_hatch};
+pub use heading::put_heading;
+pub use laws::two_lines_hold;
 pub use layout::{place, plot, put_pin, put_stripe, rank};
-pub use levels::{Full, Rising, greatest};
+pub use legend::{
+    Entry, LegendPlace, Sample, legend_begin, next_place, put_entries, put_entry_where,
+};
+pub use levels::{Full, Rising, greatest, reaches, touches_top};
 pub use outcome::{CargoUnit, Outcome, cargo_piece, meaning, put_badge, title};
 pub use panel::{Panel, put_planned_panel, put_unplanned_panel};
 pub use row::{

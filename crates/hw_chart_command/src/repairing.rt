@@ -17,7 +17,7 @@ use hw_flat_chart::{Plan, bottom, put_flat_rest, sizes, slots_shown};
 use hw_port::Port;
 use hw_port_chart::{places_of, put_port_rest};
 use hw_repair::moved;
-use hw_repair_chart::{Sheet, own_outcome, put_marked_end, put_repair_head};
+use hw_repair_chart::{Sheet, own_outcome, put_marked_end, put_repair_head, repair_entries};
 use hw_tide::Tide;
 
 /// A repair that is drawn: the problem, a plan of it, a timetable with its moves, if there is one, and what a certificate of
@@ -70,8 +70,10 @@ pub(crate) fn put_flat_repair<W: Writer>(out: &mut W, drawn: Drawn)
         midnight: 0,
     };
     put_repair_head(out, CargoUnit::Plain, own, count, height, &sizes(flat));
-    put_flat_rest(out, flat, drawn.moves);
-    put_marked_end(out, flat, sheet, table_of(drawn.moves), &plan.wishes);
+    let table = table_of(drawn.moves);
+    let entries = repair_entries(flat, table, &plan.wishes);
+    put_flat_rest(out, flat, drawn.moves, &entries);
+    put_marked_end(out, flat, sheet, table, &plan.wishes);
 }
 
 /// The minutes of a slot.
@@ -122,6 +124,8 @@ pub(crate) fn put_port_repair<W: Writer>(out: &mut W, port: &Port, tide: &Tide, 
         height,
         &hw_port_chart::sizes(parts),
     );
-    put_port_rest(out, port, tide, drawn.moves);
-    put_marked_end(out, flat, sheet, table_of(drawn.moves), &plan.wishes);
+    let table = table_of(drawn.moves);
+    let entries = repair_entries(flat, table, &plan.wishes);
+    put_port_rest(out, port, tide, drawn.moves, &entries);
+    put_marked_end(out, flat, sheet, table, &plan.wishes);
 }

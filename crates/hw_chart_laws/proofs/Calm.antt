@@ -3,10 +3,11 @@ use Rattle.std.proofs.Common.{◌≡◌, ◌++◌, ◌&&◌, ℕ, Bool, true, fa
 use Rattle.std.specs.List.{list_all}
 use Rattle.std.proofs.lemmas.Bool.{and_parts, and_from, cond_both}
 use Rattle.hw_lemmas.proofs.Truths.{was_not}
-use Rattle.hw_svg.specs.Lettering.{line, name_line, squeeze, squeezed, text_begin}
+use Rattle.hw_svg.specs.Lettering.{line, name_line, shortened_line, text_begin}
 use Rattle.hw_svg.specs.Marks.{is_word}
 use Rattle.hw_svg.specs.Names.{escaped}
 use Rattle.hw_svg.specs.Shapes.{shape, shape_begin, titled}
+use Rattle.hw_svg.specs.Shortened.{shortened}
 use Rattle.hw_svg.specs.Sheets.{group_end, svg_end, window_begin}
 use Rattle.hw_svg.specs.Widths.{width_of}
 use Rattle.hw_svg.specs.declared.area.Area.{Area}
@@ -87,15 +88,17 @@ still_begin x y c = both (fixed (codes "<text class=\"") refl) (both (plain c) (
 still_line : {class text : List ℕ} (x y : ℕ) → Plain class → Spelled text → Still (line class x y text)
 still_line x y c p = both (still_begin x y c) (both (fixed (codes ">") refl) (both (spelled p) (both (fixed (codes "</text>\n") refl) (fixed [] refl))))
 
-still_squeezed : (place : ℕ) → Still (squeezed place)
-unfolding squeezed
-still_squeezed place = both (fixed (codes " textLength=\"") refl) (both (plain (number place)) (both (fixed (codes "\" lengthAdjust=\"spacingAndGlyphs\"") refl) (fixed [] refl)))
+still_escaped : (name : List ℕ) → Still (escaped name)
+still_escaped name = record { calm = words_calm (escaped name) (name_is_word name) }
 
-still_squeeze : (name : List ℕ) (place : ℕ) → Still (squeeze name place)
-still_squeeze name place = cond_both (nat_lt place (width_of name)) _ _ Still (λ e. still_squeezed place) (λ e. fixed [] refl)
+still_shortened : {class : List ℕ} (x y : ℕ) (name : List ℕ) (place : ℕ) → Plain class → Still (shortened_line class x y name place)
+still_shortened x y name place c = both (still_begin x y c) (both (fixed (codes "><title>") refl) (both (still_escaped name) (both (fixed (codes "</title>") refl) (both (still_escaped (shortened name place)) (both (fixed (codes "</text>\n") refl) (fixed [] refl))))))
+
+still_whole : {class : List ℕ} (x y : ℕ) (name : List ℕ) → Plain class → Still (line class x y (escaped name))
+still_whole x y name c = both (still_begin x y c) (both (fixed (codes ">") refl) (both (still_escaped name) (both (fixed (codes "</text>\n") refl) (fixed [] refl))))
 
 still_name : {class : List ℕ} (x y : ℕ) (name : List ℕ) (place : ℕ) → Plain class → Still (name_line class x y name place)
-still_name x y name place c = both (still_begin x y c) (both (still_squeeze name place) (both (fixed (codes ">") refl) (both (record { calm = words_calm (escaped name) (name_is_word name) }) (both (fixed (codes "</text>\n") refl) (fixed [] refl)))))
+still_name x y name place c = cond_both (nat_lt place (width_of name)) _ _ Still (λ e. still_shortened x y name place c) (λ e. still_whole x y name c)
 
 still_window : (w : Window) → Still (window_begin w)
 unfolding window_begin

@@ -6,9 +6,10 @@ use Rattle.std.proofs.lemmas.Bool.{and_from}
 use Rattle.hw_svg.specs.Lettering.{line, name_line, text_begin}
 use Rattle.hw_svg.specs.Names.{byte_text, escaped}
 use Rattle.hw_svg.specs.Shapes.{area_path, shape, shape_begin, titled}
+use Rattle.hw_svg.specs.Shortened.{shortened}
 use Rattle.hw_svg.specs.Sheets.{group_end, item_begin, list_begin, svg_end, title_end, window_begin}
 use Rattle.hw_svg.specs.Trees.{Attribute, Node, Nodes, words, element, no_more, node, nodes_text}
-use Rattle.hw_svg.specs.WellFormed.{attribute, on_a_line, shape_node, squeeze_attributes, place_attributes, title_node, window_attributes}
+use Rattle.hw_svg.specs.WellFormed.{attribute, on_a_line, name_nodes, shape_node, place_attributes, title_node, window_attributes}
 use Rattle.hw_svg.specs.Widths.{width_of}
 use Rattle.hw_svg.specs.declared.area.Area.{Area}
 use Rattle.hw_svg.specs.declared.sheet.Window.{Window}
@@ -65,21 +66,17 @@ leads_line {class = class} {text = text} x y c p =
     let part : Node = element (codes "text") (place_attributes class x y) (node (words p.from) no_more) in
     likewise (ap (line class x y) p.same ∙ line_same class x y p.from) (grows (on_a_line part) (on_line_tree part (and_from (are_attributes (place_attributes class x y)) _ (placed x y [] c refl refl refl refl) refl)))
 
-name_same : (class : List ℕ) (x y : ℕ) (name : List ℕ) (place : ℕ) → name_line class x y name place ≡ nodes_text (on_a_line (element (codes "text") (place_attributes class x y ++ squeeze_attributes name place) (node (words name) no_more)))
-unfolding byte_text
-name_same class x y name place = name_nested class x y (escaped name) place (nat_lt place (width_of name))
+name_same : (class : List ℕ) (x y : ℕ) (name : List ℕ) (place : ℕ) → name_line class x y name place ≡ nodes_text (on_a_line (element (codes "text") (place_attributes class x y) (name_nodes name place)))
+name_same class x y name place = name_nested class x y name (shortened name place) (nat_lt place (width_of name))
 
-named_tree : {class : List ℕ} (b : Bool) (x y : ℕ) (name : List ℕ) (place : ℕ) → Plain class → is_tree (element (codes "text") (place_attributes class x y ++ (if b then attribute (codes "textLength") (decimal place) ∷ attribute (codes "lengthAdjust") (codes "spacingAndGlyphs") ∷ [] else [])) (node (words name) no_more)) ≡ true
-named_tree {class = class} true x y name place c =
-    let last : List Attribute = attribute (codes "lengthAdjust") (codes "spacingAndGlyphs") ∷ [] in
-    let more : List Attribute = attribute (codes "textLength") (decimal place) ∷ last in
-    and_from (are_attributes (place_attributes class x y ++ more)) _ (placed x y more c refl refl refl (kept (attribute (codes "textLength") (decimal place)) last refl (number place) refl refl)) refl
-named_tree {class = class} false x y name place c = and_from (are_attributes (place_attributes class x y ++ [])) _ (placed x y [] c refl refl refl refl) refl
+named_tree : {class : List ℕ} (b : Bool) (x y : ℕ) (name shown : List ℕ) → Plain class → is_tree (element (codes "text") (place_attributes class x y) (if b then node (title_node name) (node (words shown) no_more) else node (words name) no_more)) ≡ true
+named_tree {class = class} true x y name shown c = and_from (are_attributes (place_attributes class x y)) _ (placed x y [] c refl refl refl refl) refl
+named_tree {class = class} false x y name shown c = and_from (are_attributes (place_attributes class x y)) _ (placed x y [] c refl refl refl refl) refl
 
 leads_name : {o : Tags} {class : List ℕ} (x y : ℕ) (name : List ℕ) (place : ℕ) → Plain class → Leads o (name_line class x y name place) o
 leads_name {class = class} x y name place c =
-    let part : Node = element (codes "text") (place_attributes class x y ++ squeeze_attributes name place) (node (words name) no_more) in
-    likewise (name_same class x y name place) (grows (on_a_line part) (on_line_tree part (named_tree (nat_lt place (width_of name)) x y name place c)))
+    let part : Node = element (codes "text") (place_attributes class x y) (name_nodes name place) in
+    likewise (name_same class x y name place) (grows (on_a_line part) (on_line_tree part (named_tree (nat_lt place (width_of name)) x y name (shortened name place) c)))
 
 abbrev newline : Nodes
 newline = node (words (codes "\n")) no_more

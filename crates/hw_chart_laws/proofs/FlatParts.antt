@@ -1,6 +1,5 @@
 -- The parts of a flat problem's picture, made of what a picture is written with.
-use Rattle.std.proofs.Common.{◌≡◌, true, ◌++◌, ◌+◌, ◌-◌, ℕ, nat_eq, List, [], ◌∷◌, slice_index, codes, refl}
-use Rattle.std.specs.List.{list_all}
+use Rattle.std.proofs.Common.{◌++◌, ◌+◌, ◌-◌, ℕ, nat_eq, nat_lt, Option, List, [], ◌∷◌, slice_index, codes, refl}
 use Rattle.hw_model.specs.declared.rule.Job.{Job}
 use Rattle.hw_model.specs.declared.rule.Rule.{Rule}
 use Rattle.hw_model.specs.declared.rule.Rule.TheVariants.{Pair, After, Tugs}
@@ -10,14 +9,18 @@ use Rattle.hw_svg.specs.Sheets.{group_end}
 use Rattle.hw_chart.specs.declared.course.Course.{Course}
 use Rattle.hw_chart.specs.declared.course.Course.TheVariants.{Unplanned, Stays, Sails}
 use Rattle.hw_chart.specs.Layout.{plot, stripe}
+use Rattle.hw_chart.specs.Legends.{legend_begin}
 use Rattle.hw_chart.specs.Rows.{moves_window}
 use Rattle.hw_flat_chart.specs.declared.row.Row.{Row}
 use Rattle.hw_flat_chart.specs.Fleets.{fleets, jobs_of_rule}
+use Rattle.hw_flat_chart.specs.declared.marks.FlatMark.{FlatMark}
+use Rattle.hw_flat_chart.specs.declared.marks.FlatMark.TheVariants as marks
+use Rattle.hw_flat_chart.specs.Legends.{all_flat_marks, flat_entries, flat_entry, flat_legend}
 use Rattle.hw_flat_chart.specs.Moves.{flat_open_level}
-use Rattle.hw_flat_chart.specs.Pictures.{flat_columns, entry, flat_legend, flat_other_entries, flat_panel_of, planned_panels, flat_sailing_entries, flat_picture_sizes, unplanned_panels}
+use Rattle.hw_flat_chart.specs.Pictures.{flat_columns, flat_panel_of, planned_panels, flat_picture_sizes, unplanned_panels}
 use Rattle.hw_flat_chart.specs.Rows.{flat_bars, course_parts, course_text, flat_figures, fleet_bars, job_bars, nowhere_text, flat_row_label, row_top, value_mark, value_window, values_text, wait_bar, flat_wait_bars}
 use Rattle.hw_flat_chart.specs.Values.{cargo_in_slot, most_carried, most_level, sails_nowhere, tall_of, value_level}
-use Rattle.hw_chart_laws.specs.Trees.{is_plain_byte}
+use Rattle.hw_chart_laws.proofs.Legends.{AreSound, IsSound, of_legend_from}
 use Rattle.hw_chart_laws.proofs.Plain.{letters}
 use Rattle.hw_chart_laws.proofs.Spelled.{Spelled, also, fixed, of_number, nothing}
 use Rattle.hw_chart_laws.proofs.Writing.{Tags, Writing, group}
@@ -33,20 +36,23 @@ spelled_course f ship Unplanned = nothing
 spelled_course f ship Stays = fixed (codes ", stays") refl
 spelled_course f ship (Sails slot) = also (fixed (codes ", sails in slot ") refl) (also (of_number _) (also (fixed (codes ", carries ") refl) (also (of_number _) nothing)))
 
+sound_mark : (f : Problem) (table : Option (List ℕ)) (mark : FlatMark) → IsSound (flat_entry f table mark)
+sound_mark f table marks.HasValue = record { class = letters _ refl; says = fixed _ refl }
+sound_mark f table marks.HasMost = record { class = letters _ refl; says = fixed _ refl }
+sound_mark f table marks.CouldMove = record { class = letters _ refl; says = fixed _ refl }
+sound_mark f table marks.Sails = record { class = letters _ refl; says = fixed _ refl }
+sound_mark f table marks.HoldsTugs = record { class = letters _ refl; says = fixed _ refl }
+sound_mark f table marks.MustWait = record { class = letters _ refl; says = fixed _ refl }
+sound_mark f table marks.WholeFleet = record { class = letters _ refl; says = fixed _ refl }
+
+sound_marks : (f : Problem) (table : Option (List ℕ)) (list : List FlatMark) → AreSound (flat_entries f table list ++ [])
+sound_marks f table [] = tt
+sound_marks f table (mark ∷ more) = (sound_mark f table mark, sound_marks f table more)
+
 module _ {P : Tags → List ℕ → Tags → Type 0} (w : Writing P) where
-  of_entry : {a : Tags} (class : List ℕ) (p : list_all is_plain_byte class ≡ true) (x : ℕ) {text : List ℕ} → Spelled text → P a (entry class x text) a
-  of_entry class p x text = w.onward (filled w class p (record { left = x; right = x + 10; top = 77; bottom = 87 })) (says w (codes "m") refl (x + 14) 86 text)
-
-  of_sailing_entries : {a : Tags} → P a flat_sailing_entries a
-  unfolding flat_sailing_entries
-  of_sailing_entries = four w (of_entry (codes "dr") refl 16 (fixed (codes "may sail: the higher, the more cargo") refl)) (of_entry (codes "fl") refl 254 (fixed (codes "with its most cargo") refl)) (of_entry (codes "pl") refl 386 (fixed (codes "could move there alone") refl)) (of_entry (codes "ou") refl 544 (fixed (codes "sails") refl))
-
-  of_other_entries : {a : Tags} → P a flat_other_entries a
-  unfolding flat_other_entries
-  of_other_entries = three w (of_entry (codes "tu") refl 600 (fixed (codes "holds tugs") refl)) (of_entry (codes "be") refl 684 (fixed (codes "must wait for another") refl)) (of_entry (codes "fu") refl 830 (fixed (codes "whole fleet held") refl))
-
-  pub of_legend : {a : Tags} → P a flat_legend a
-  of_legend = w.onward of_sailing_entries of_other_entries
+  pub of_legend : {a : Tags} (f : Problem) (table : Option (List ℕ)) → P a (flat_legend f table []) a
+  unfolding flat_legend
+  of_legend f table = of_legend_from w legend_begin (flat_entries f table all_flat_marks ++ []) (sound_marks f table all_flat_marks)
 
   pub of_columns : {a : Tags} → P a flat_columns a
   unfolding flat_columns
@@ -88,7 +94,7 @@ module _ {P : Tags → List ℕ → Tags → Type 0} (w : Writing P) where
 
   of_figures : {a : Tags} (f : Problem) (row : Row) (slot : ℕ) → P a (flat_figures f row slot) a
   unfolding flat_figures
-  of_figures f row slot = three w (says w (codes "r b") refl 956 (row_top row + 17) (of_number slot)) (says w (codes "r b") refl 1268 (row_top row + 17) (of_number (cargo_in_slot f row.ship slot))) (says w (codes "r m") refl 1268 (row_top row + 33) (also (fixed (codes "of ") refl) (also (of_number (most_carried f row.ship)) nothing)))
+  of_figures f row slot = w.onward (says w (codes "r b") refl 956 (row_top row + 17) (of_number slot)) (if_so w (nat_lt 0 (most_carried f row.ship)) (w.onward (says w (codes "r b") refl 1268 (row_top row + 17) (of_number (cargo_in_slot f row.ship slot))) (says w (codes "r m") refl 1268 (row_top row + 33) (also (fixed (codes "of ") refl) (also (of_number (most_carried f row.ship)) nothing)))))
 
   of_course : {a : Tags} (f : Problem) (table : List ℕ) (row : Row) (course : Course) → P a (course_parts f table row course) a
   unfolding course_parts

@@ -13,7 +13,8 @@ use Rattle.hw_chart.specs.Courses.{SailsBefore, course_of}
 use Rattle.hw_chart.specs.Headings.{ground, heading_lines, style}
 use Rattle.hw_chart.specs.Outcomes.{badge, title_text}
 use Rattle.hw_flat_chart.specs.Fleets.{fleets, picture_span}
-use Rattle.hw_flat_chart.specs.Pictures.{body, flat_picture_bottom, flat_columns, flat_picture, flat_foot, flat_head, flat_legend, panels_y, planned_body, planned_panels, flat_picture_sizes}
+use Rattle.hw_flat_chart.specs.Legends.{flat_legend}
+use Rattle.hw_flat_chart.specs.Pictures.{body, flat_picture_bottom, flat_columns, flat_picture, flat_foot, flat_head, panels_y, planned_body, planned_panels, flat_picture_sizes}
 use Rattle.hw_flat_chart.specs.Rows.{course_text, planned_row, planned_row_text, planned_rows}
 use Rattle.hw_flat_chart.specs.Values.{cargo_in_slot}
 use Rattle.hw_chart_laws.proofs.Calm.{Still, both, calm_writing, cut, spelled}
@@ -73,8 +74,8 @@ abbrev panels_of : Problem → List ℕ → List ℕ
 panels_of f table = planned_panels f table (picture_span f (Some table)) (panels_y f) (fleets f)
 
 -- what stands before the list of rows, and what after it
-abbrev before_rows : Problem → Outcome → List ℕ
-before_rows f outcome = picture_begin 1280 (flat_picture_bottom f + 28) (title_text PlainUnit outcome) ++ (style ++ (ground (flat_picture_bottom f + 28) ++ (badge outcome.verdict ++ (heading_lines PlainUnit outcome (flat_picture_sizes f) ++ (flat_legend ++ flat_columns)))))
+abbrev before_rows : Problem → List ℕ → Outcome → List ℕ
+before_rows f table outcome = picture_begin 1280 (flat_picture_bottom f + 28) (title_text PlainUnit outcome) ++ (style ++ (ground (flat_picture_bottom f + 28) ++ (badge outcome.verdict ++ (heading_lines PlainUnit outcome (flat_picture_sizes f) ++ (flat_legend f (Some table) [] ++ flat_columns)))))
 
 abbrev after_rows : Problem → List ℕ → List ℕ
 after_rows f table = group_end ++ (panels_of f table ++ flat_foot f (picture_span f (Some table)))
@@ -82,13 +83,13 @@ after_rows f table = group_end ++ (panels_of f table ++ flat_foot f (picture_spa
 parts : (pb st gr ba hl lg co lb rs ge pa ft : List ℕ) → ((pb ++ (st ++ (gr ++ (ba ++ (hl ++ []))))) ++ lg) ++ ((co ++ ((lb ++ (rs ++ (ge ++ []))) ++ (pa ++ []))) ++ (ft ++ [])) ≡ (pb ++ (st ++ (gr ++ (ba ++ (hl ++ (lg ++ co)))))) ++ (lb ++ (rs ++ (ge ++ (pa ++ ft))))
 parts pb st gr ba hl lg co lb rs ge pa ft = simp (append_assoc, append-nil)
 
-by_rows : (f : Problem) (table : List ℕ) (outcome : Outcome) → flat_picture f (Some table) outcome ≡ before_rows f outcome ++ (list_begin ++ (planned_rows f table 0 f.ships ++ after_rows f table))
+by_rows : (f : Problem) (table : List ℕ) (outcome : Outcome) → flat_picture f (Some table) outcome ≡ before_rows f table outcome ++ (list_begin ++ (planned_rows f table 0 f.ships ++ after_rows f table))
 unfolding flat_picture flat_head body planned_body
-by_rows f table outcome = parts (picture_begin 1280 (flat_picture_bottom f + 28) (title_text PlainUnit outcome)) style (ground (flat_picture_bottom f + 28)) (badge outcome.verdict) (heading_lines PlainUnit outcome (flat_picture_sizes f)) flat_legend flat_columns list_begin (planned_rows f table 0 f.ships) group_end (panels_of f table) (flat_foot f (picture_span f (Some table)))
+by_rows f table outcome = parts (picture_begin 1280 (flat_picture_bottom f + 28) (title_text PlainUnit outcome)) style (ground (flat_picture_bottom f + 28)) (badge outcome.verdict) (heading_lines PlainUnit outcome (flat_picture_sizes f)) (flat_legend f (Some table) []) flat_columns list_begin (planned_rows f table 0 f.ships) group_end (panels_of f table) (flat_foot f (picture_span f (Some table)))
 
-still_before : (f : Problem) (outcome : Outcome) → Still (before_rows f outcome)
-still_before f outcome =
-    both (still_begin 1280 (flat_picture_bottom f + 28) (plain_title PlainUnit outcome)) (both still_style (both (of_ground calm_writing {a = []} (flat_picture_bottom f + 28)).still (both (of_badge calm_writing {a = []} outcome.verdict).still (both (head_lines calm_writing {a = []} PlainUnit outcome (spelled_sizes f)).still (both (of_legend calm_writing {a = []}).still (of_columns calm_writing {a = []}).still)))))
+still_before : (f : Problem) (table : List ℕ) (outcome : Outcome) → Still (before_rows f table outcome)
+still_before f table outcome =
+    both (still_begin 1280 (flat_picture_bottom f + 28) (plain_title PlainUnit outcome)) (both still_style (both (of_ground calm_writing {a = []} (flat_picture_bottom f + 28)).still (both (of_badge calm_writing {a = []} outcome.verdict).still (both (head_lines calm_writing {a = []} PlainUnit outcome (spelled_sizes f)).still (both (of_legend calm_writing {a = []} f (Some table)).still (of_columns calm_writing {a = []}).still)))))
 
 -- two slots of which a ship's course is the same
 pub slots_same : (slots x y : ℕ) → x ≤ slots → y ≤ slots → course_of (Some x) slots ≡ course_of (Some y) slots → x ≡ y
@@ -112,7 +113,7 @@ slot_most f table listed k lt = below f.stay f.slots (slice_index table k) (All-
 
 pub flat_back : (f : Problem) (table other : List ℕ) (outcome later : Outcome) → horizon f < 2 ^ 64 → IsTimetable f table → IsTimetable f other → flat_picture f (Some table) outcome ≡ flat_picture f (Some other) later → table ≡ other
 flat_back f table other outcome later small listed given e =
-    let lists = list_back (before_rows f outcome) (before_rows f later) (planned_rows f table 0 f.ships) (after_rows f table) (planned_rows f other 0 f.ships) (after_rows f other) (still_before f outcome) (still_before f later) (sym (by_rows f table outcome) ∙ e ∙ by_rows f other later) in
+    let lists = list_back (before_rows f table outcome) (before_rows f other later) (planned_rows f table 0 f.ships) (after_rows f table) (planned_rows f other 0 f.ships) (after_rows f other) (still_before f table outcome) (still_before f other later) (sym (by_rows f table outcome) ∙ e ∙ by_rows f other later) in
     all_same table other (listed.each_ship ∙ sym given.each_ship) (λ k lt.
     let inside : k < 0 + f.ships = omega (arith, lt, listed.each_ship) in
     slots_same (horizon f) (slice_index table k) (slice_index other k) (slot_most f table listed k lt) (slot_most f other given k (omega (arith, lt, listed.each_ship, given.each_ship))) (rows_back f table other small 0 f.ships (after_rows f table) (after_rows f other) (ap cut lists) k (omega arith) inside))

@@ -13,7 +13,8 @@ use Rattle.hw_chart.specs.Rows.{moves_window}
 use Rattle.hw_flat_chart.specs.declared.row.Row.{Row}
 use Rattle.hw_flat_chart.specs.Fleets.{fleets, picture_span}
 use Rattle.hw_flat_chart.specs.Moves.{flat_open_level}
-use Rattle.hw_flat_chart.specs.Pictures.{body, flat_picture_bottom, flat_picture, flat_foot, flat_head, flat_legend, panels_y, planned_body, flat_picture_sizes, unplanned_body}
+use Rattle.hw_flat_chart.specs.Legends.{flat_legend}
+use Rattle.hw_flat_chart.specs.Pictures.{body, flat_picture_bottom, flat_picture, flat_foot, flat_head, panels_y, planned_body, flat_picture_sizes, unplanned_body}
 use Rattle.hw_flat_chart.specs.Rows.{course_parts, course_text, nowhere_text, planned_row, planned_row_text, planned_rows, flat_row_begin, flat_row_label, flat_row_title, row_top, unplanned_row, unplanned_row_text, unplanned_rows, values_text}
 use Rattle.hw_chart_laws.specs.Trees.{IsPicture}
 use Rattle.hw_chart_laws.proofs.Elements.{leads_item, leads_list, tree_writing}
@@ -78,15 +79,15 @@ pub arranged : (pb st gr ba hl lg bd gd se en : List ℕ) → ((pb ++ (st ++ (gr
 arranged pb st gr ba hl lg bd gd se en = simp (append_assoc, append-nil)
 
 abbrev middle : Problem → Option (List ℕ) → Outcome → List ℕ
-middle f table outcome = ground (flat_picture_bottom f + 28) ++ (badge outcome.verdict ++ (heading_lines PlainUnit outcome (flat_picture_sizes f) ++ (flat_legend ++ (body f table ++ (grid Slots (picture_span f table) (flat_picture_bottom f) ++ span_end (horizon f) (picture_span f table) (flat_picture_bottom f))))))
+middle f table outcome = ground (flat_picture_bottom f + 28) ++ (badge outcome.verdict ++ (heading_lines PlainUnit outcome (flat_picture_sizes f) ++ (flat_legend f table [] ++ (body f table ++ (grid Slots (picture_span f table) (flat_picture_bottom f) ++ span_end (horizon f) (picture_span f table) (flat_picture_bottom f))))))
 
 flat_is : (f : Problem) (table : Option (List ℕ)) (outcome : Outcome) → flat_picture f table outcome ≡ picture 1280 (flat_picture_bottom f + 28) (title_text PlainUnit outcome) (style ++ middle f table outcome)
 unfolding flat_picture flat_head flat_foot
-flat_is f table outcome = arranged (picture_begin 1280 (flat_picture_bottom f + 28) (title_text PlainUnit outcome)) style (ground (flat_picture_bottom f + 28)) (badge outcome.verdict) (heading_lines PlainUnit outcome (flat_picture_sizes f)) flat_legend (body f table) (grid Slots (picture_span f table) (flat_picture_bottom f)) (span_end (horizon f) (picture_span f table) (flat_picture_bottom f)) svg_end
+flat_is f table outcome = arranged (picture_begin 1280 (flat_picture_bottom f + 28) (title_text PlainUnit outcome)) style (ground (flat_picture_bottom f + 28)) (badge outcome.verdict) (heading_lines PlainUnit outcome (flat_picture_sizes f)) (flat_legend f table []) (body f table) (grid Slots (picture_span f table) (flat_picture_bottom f)) (span_end (horizon f) (picture_span f table) (flat_picture_bottom f)) svg_end
 
 lead_middle : (f : Problem) (table : Option (List ℕ)) (outcome : Outcome) → Leads [] (middle f table outcome) []
 lead_middle f table outcome =
-    onward (of_ground tree_writing (flat_picture_bottom f + 28)) (onward (of_badge tree_writing outcome.verdict) (onward (head_lines tree_writing PlainUnit outcome (spelled_sizes f)) (onward (of_legend tree_writing) (onward (lead_body f table) (onward (of_grid tree_writing Slots (picture_span f table) (flat_picture_bottom f)) (of_span_end tree_writing (horizon f) (picture_span f table) (flat_picture_bottom f)))))))
+    onward (of_ground tree_writing (flat_picture_bottom f + 28)) (onward (of_badge tree_writing outcome.verdict) (onward (head_lines tree_writing PlainUnit outcome (spelled_sizes f)) (onward (of_legend tree_writing f table) (onward (lead_body f table) (onward (of_grid tree_writing Slots (picture_span f table) (flat_picture_bottom f)) (of_span_end tree_writing (horizon f) (picture_span f table) (flat_picture_bottom f)))))))
 
 pub flat_trees : (f : Problem) (table : Option (List ℕ)) (outcome : Outcome) → IsPicture (flat_picture f table outcome)
 flat_trees f table outcome =

@@ -6,6 +6,7 @@ pub mod Open
 pub mod Elements
 pub mod Calm
 pub mod Shared
+pub mod Legends
 pub mod Whole
 pub mod Reading
 pub mod FlatParts
@@ -13,6 +14,7 @@ pub mod FlatTrees
 pub mod FlatReading
 pub mod PortTexts
 pub mod Dated
+pub mod PortWaters
 pub mod PortRows
 pub mod PortPanels
 pub mod PortTrees
@@ -32,3 +34,4 @@ pub mod Stretches
 pub mod OneWay
 pub mod Hatched
 pub mod Waited
+pub mod Without

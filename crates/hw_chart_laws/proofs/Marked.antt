@@ -1,11 +1,13 @@
 -- Texts that hold the same number of marks <: where a mark follows each, they can be told from what follows.
-use Rattle.std.proofs.Common.{◌≡◌, ◌+◌, ◌++◌, ◌∙◌, ◌||◌, ℕ, Bool, true, false, not, nat_eq, nat_lt, List, [], ◌∷◌, codes, decimal, drop, get_or, refl, ap, sym, arith, if◌then◌else◌}
+use Rattle.std.proofs.Common.{◌≡◌, ◌+◌, ◌++◌, ◌∙◌, ◌||◌, ℕ, Bool, true, false, not, nat_eq, nat_lt, List, [], ◌∷◌, codes, decimal, drop, get_or, refl, ap, sym, arith, append_assoc, append-nil, if◌then◌else◌}
 use Rattle.std.specs.List.{list_all}
 use Rattle.std.proofs.lemmas.Bool.{and_parts, cond_both}
-use Rattle.hw_svg.specs.Lettering.{line, name_line, squeeze, squeezed, text_begin}
+use Rattle.hw_svg.specs.Joined.{joined}
+use Rattle.hw_svg.specs.Lettering.{line, name_line, text_begin}
 use Rattle.hw_svg.specs.Marks.{is_word}
 use Rattle.hw_svg.specs.Names.{escaped}
 use Rattle.hw_svg.specs.Shapes.{block, shape, shape_begin}
+use Rattle.hw_svg.specs.Shortened.{shortened}
 use Rattle.hw_svg.specs.Sheets.{window_begin}
 use Rattle.hw_svg.specs.Widths.{width_of}
 use Rattle.hw_svg.specs.declared.area.Area.{Area}
@@ -13,7 +15,7 @@ use Rattle.hw_svg.specs.declared.sheet.Window.{Window}
 use Rattle.hw_svg.proofs.Words.{name_is_word}
 use Rattle.hw_chart_laws.specs.Trees.{is_plain_byte}
 use Rattle.hw_chart_laws.proofs.Calm.{plain_words}
-use Rattle.hw_chart_laws.proofs.Plain.{Plain, area, letters, nothing, number}
+use Rattle.hw_chart_laws.proofs.Plain.{Plain, area, letters, number}
 use Rattle.hw_chart_laws.proofs.Spelled.{Spelled}
 
 abbrev pub mark : ℕ → ℕ
@@ -112,21 +114,50 @@ pub line_first : (class : List ℕ) (x y : ℕ) (text t : List ℕ) → Begins (
 unfolding text_begin
 line_first class x y text t = record { first = refl }
 
-plain_squeezed : (place : ℕ) → marks (squeezed place) ≡ 0
-unfolding squeezed
-plain_squeezed place = (both (fixed (codes " textLength=\"")) (both (plain (number place) nothing) (both (fixed (codes "\" lengthAdjust=\"spacingAndGlyphs\"")) (fixed [])))).same
-
-squeeze_none : (name : List ℕ) (place : ℕ) → marks (squeeze name place) ≡ 0
-squeeze_none name place = cond_both (nat_lt place (width_of name)) _ _ (λ (text : List ℕ). marks text ≡ 0) (λ e. plain_squeezed place) (λ e. refl)
-
-pub of_name : (class : List ℕ) (x y z : ℕ) (name other : List ℕ) (place : ℕ) → AsMany (name_line class x y name place) (name_line class x z other place)
-of_name class x y z name other place =
-    let squeezes : AsMany (squeeze name place) (squeeze other place) = record { same = squeeze_none name place ∙ sym (squeeze_none other place) } in
-    both (begin_as class x y z) (both squeezes (both (fixed (codes ">")) (both (named name other) (both (fixed (codes "</text>\n")) (fixed [])))))
-
 pub name_first : (class : List ℕ) (x y : ℕ) (name : List ℕ) (place : ℕ) (t : List ℕ) → Begins (name_line class x y name place ++ t)
 unfolding text_begin
-name_first class x y name place t = record { first = refl }
+name_first class x y name place t = cond_both (nat_lt place (width_of name)) _ _ (λ (l : List ℕ). Begins (l ++ t)) (λ e. record { first = refl }) (λ e. record { first = refl })
+
+-- a name with a title, and one without
+abbrev titled_name : List ℕ → ℕ → ℕ → List ℕ → List ℕ → List ℕ
+titled_name class x y name shown = joined (text_begin class x y ∷ codes "><title>" ∷ escaped name ∷ codes "</title>" ∷ escaped shown ∷ codes "</text>\n" ∷ [])
+
+abbrev either_name : Bool → List ℕ → ℕ → ℕ → List ℕ → List ℕ → List ℕ
+either_name b class x y name shown = if b then titled_name class x y name shown else line class x y (escaped name)
+
+titled_as : (class : List ℕ) (x y z : ℕ) (name other shown seen : List ℕ) → AsMany (titled_name class x y name shown) (titled_name class x z other seen)
+titled_as class x y z name other shown seen = both (begin_as class x y z) (both (fixed (codes "><title>")) (both (named name other) (both (fixed (codes "</title>")) (both (named shown seen) (both (fixed (codes "</text>\n")) (fixed []))))))
+
+whole_as : (class : List ℕ) (x y z : ℕ) (name other : List ℕ) → AsMany (line class x y (escaped name)) (line class x z (escaped other))
+whole_as class x y z name other = both (begin_as class x y z) (both (fixed (codes ">")) (both (named name other) (both (fixed (codes "</text>\n")) (fixed []))))
+
+titled_spread : (tb a b en c es d t : List ℕ) → (tb ++ ((a ++ b) ++ (en ++ (c ++ (es ++ (d ++ [])))))) ++ t ≡ (tb ++ (a ++ [])) ++ (b ++ (en ++ (c ++ (es ++ (d ++ t)))))
+titled_spread tb a b en c es d t = simp (append_assoc, append-nil)
+
+whole_spread : (tb a en d t : List ℕ) → (tb ++ (a ++ (en ++ (d ++ [])))) ++ t ≡ (tb ++ (a ++ en)) ++ (d ++ t)
+whole_spread tb a en d t = simp (append_assoc, append-nil)
+
+-- a title isn't the end of a text
+not_whole : (class : List ℕ) (x y z : ℕ) (name shown other r s : List ℕ) → titled_name class x y name shown ++ r ≡ line class x z (escaped other) ++ s → ⊥
+not_whole class x y z name shown other r s e =
+    let t : List ℕ = codes "<title>" ++ (escaped name ++ (codes "</title>" ++ (escaped shown ++ (codes "</text>\n" ++ r)))) in
+    let u : List ℕ = codes "</text>\n" ++ s in
+    let nothing_more : AsMany [] (escaped other) = record { same = sym (words_hold (escaped other) (name_is_word other)) } in
+    let alike : AsMany (text_begin class x y ++ (codes ">" ++ [])) (text_begin class x z ++ (codes ">" ++ escaped other)) = both (begin_as class x y z) (both (fixed (codes ">")) nothing_more) in
+    let whole : (text_begin class x y ++ (codes ">" ++ [])) ++ t ≡ (text_begin class x z ++ (codes ">" ++ escaped other)) ++ u = sym (titled_spread (text_begin class x y) (codes ">") (codes "<title>") (escaped name) (codes "</title>") (escaped shown) (codes "</text>\n") r) ∙ e ∙ whole_spread (text_begin class x z) (codes ">") (escaped other) (codes "</text>\n") s in
+    let rest = (told t u alike (record { first = refl }) (record { first = refl }) whole).rest in
+    let no : ◌≡◌ {A = ℕ} 116 47 = ap (λ (l : List ℕ). get_or l 1 0) rest in
+    omega (arith, no)
+
+told_either : (b c : Bool) (class : List ℕ) (x y z : ℕ) (name other shown seen r s : List ℕ) → Begins r → Begins s → either_name b class x y name shown ++ r ≡ either_name c class x z other seen ++ s → r ≡ s
+told_either true true class x y z name other shown seen r s f g e = (told r s (titled_as class x y z name other shown seen) f g e).rest
+told_either true false class x y z name other shown seen r s f g e = absurd (not_whole class x y z name shown other r s e)
+told_either false true class x y z name other shown seen r s f g e = absurd (not_whole class x z y other seen name s r (sym e))
+told_either false false class x y z name other shown seen r s f g e = (told r s (whole_as class x y z name other) f g e).rest
+
+-- what follows a name is the same, whether that is whole or ends in an ellipsis
+pub told_name : (class : List ℕ) (x y z : ℕ) (name other : List ℕ) (place : ℕ) (r s : List ℕ) → Begins r → Begins s → name_line class x y name place ++ r ≡ name_line class x z other place ++ s → r ≡ s
+told_name class x y z name other place r s f g e = told_either (nat_lt place (width_of name)) (nat_lt place (width_of other)) class x y z name other (shortened name place) (shortened other place) r s f g e
 
 pub of_window : (w v : Window) → AsMany (window_begin w) (window_begin v)
 unfolding window_begin

@@ -1,69 +1,98 @@
 -- The head of a port's picture, its tides, sections and tugs, made of what a picture is written with.
-use Rattle.std.proofs.Common.{◌≡◌, true, ◌+◌, ◌-◌, ℕ, nat_eq, nat_lt, length, is_some, Option, Some, None, List, [], ◌∷◌, codes, refl, if◌then◌else◌}
-use Rattle.std.specs.List.{list_all}
+use Rattle.std.proofs.Common.{◌+◌, ◌-◌, ◌++◌, ℕ, nat_eq, is_some, Option, Some, None, List, [], ◌∷◌, codes, refl, if◌then◌else◌}
 use Rattle.hw_port.specs.declared.parts.Pass.{Pass}
 use Rattle.hw_port.specs.declared.parts.Section.{Section}
 use Rattle.hw_port.specs.declared.parts.Stretch.{Stretch}
 use Rattle.hw_port.specs.declared.parts.Waypoint.{Waypoint}
 use Rattle.hw_port.specs.Parts.{ShipParts}
-use Rattle.hw_port.specs.Whole.{Parts}
 use Rattle.hw_port_rules.specs.Numbers.{is_outgoing, whole}
 use Rattle.hw_chart.specs.declared.course.Course.{Course}
 use Rattle.hw_chart.specs.declared.course.Course.TheVariants.{Unplanned, Stays, Sails}
-use Rattle.hw_chart.specs.Hatches.{entry_below}
+use Rattle.hw_chart.specs.Legends.{legend_begin}
 use Rattle.hw_chart.specs.Layout.{plot}
-use Rattle.hw_flat_chart.specs.Pictures.{entry}
 use Rattle.hw_port_chart.specs.declared.heights.Heights.{Heights}
 use Rattle.hw_port_chart.specs.declared.passing.Strip.{Strip}
 use Rattle.hw_port_chart.specs.declared.passing.Underway.{Underway}
 use Rattle.hw_port_chart.specs.Charts.{ChartParts, course, shown, tall_between, charted_waypoint_name}
 use Rattle.hw_port_chart.specs.Fleets.{fleet_panel, tugs_held_in, panel_of}
-use Rattle.hw_port_chart.specs.Heads.{columns, columns_where, legend, other_entries, sailing_entries, way_entries}
+use Rattle.hw_port_chart.specs.Heads.{columns, columns_where}
+use Rattle.hw_port_chart.specs.declared.marks.Mark.{Mark}
+use Rattle.hw_port_chart.specs.declared.marks.Mark.TheVariants.{Tide, OfWindow, OfSailing, WholeFleet}
+use Rattle.hw_port_chart.specs.declared.marks.WindowMark.{WindowMark}
+use Rattle.hw_port_chart.specs.declared.marks.WindowMark.TheVariants.{MaySail, FullDraft, CouldMove, Outgoing, Incoming, Closed}
+use Rattle.hw_port_chart.specs.declared.marks.SailingMark.{SailingMark}
+use Rattle.hw_port_chart.specs.declared.marks.SailingMark.TheVariants.{Passes, PassesOut, HoldsTugs, TugsTurn, MustWait, WaitsOn, AtLimit, BelowFull}
+use Rattle.hw_port_chart.specs.Legends.{legend_marks, class_of_sailing, mark_entries, mark_entry, port_legend, sailing_says, window_class, window_says}
+use Rattle.hw_port_chart.specs.Marks.{has_mark}
 use Rattle.hw_port_chart.specs.Lanes.{course_stays, lane_begin, lane_text, lane_y, lanes_from, stay_of, stays_from, stretch_marks}
 use Rattle.hw_port_chart.specs.Passings.{course_marks, marks_from, pass_marks, passing, passing_area, underway}
 use Rattle.hw_port_chart.specs.Pictures.{legend_of}
-use Rattle.hw_port_chart.specs.Signs.{closed_sign, has_closings, stay_signs}
+use Rattle.hw_port_chart.specs.Signs.{has_closings}
 use Rattle.hw_port_chart.specs.Strips.{greatest_of, height_in, heights_of, least_height, strip_at_place, strip_heights, strip_label, strip_of, strip_text, strip_y, strips, strips_from, water_level}
-use Rattle.hw_chart_laws.specs.Trees.{is_plain_byte}
-use Rattle.hw_chart_laws.proofs.Plain.{letters}
+use Rattle.hw_chart_laws.proofs.Legends.{AreSound, IsSound, of_legend_from}
+use Rattle.hw_chart_laws.proofs.Plain.{Plain, letters}
 use Rattle.hw_chart_laws.proofs.PortTexts.{plain_mark, plain_stay, spelled_passing, spelled_stay}
-use Rattle.hw_chart_laws.proofs.Shared.{figure, filled, five, four, if_so, of_planned, of_unplanned, says, three}
+use Rattle.hw_chart_laws.proofs.PortWaters.{of_waters}
+use Rattle.hw_chart_laws.proofs.Shared.{either as either_plain, figure, filled, five, if_so, of_planned, of_unplanned, says, three}
 use Rattle.hw_chart_laws.proofs.Spelled.{Spelled, also, fixed, nothing, of_height, of_metres}
 use Rattle.hw_chart_laws.proofs.Writing.{Tags, Writing, svg}
 
+plain_of_window : (mark : WindowMark) → Plain (window_class mark)
+plain_of_window MaySail = letters _ refl
+plain_of_window FullDraft = letters _ refl
+plain_of_window CouldMove = letters _ refl
+plain_of_window Outgoing = letters _ refl
+plain_of_window Incoming = letters _ refl
+plain_of_window Closed = letters _ refl
+
+plain_of_sailing : (chart : ChartParts) (mark : SailingMark) → Plain (class_of_sailing chart mark)
+plain_of_sailing chart Passes = either_plain (has_mark chart (OfSailing PassesOut)) (letters _ refl) (letters _ refl)
+plain_of_sailing chart PassesOut = letters _ refl
+plain_of_sailing chart HoldsTugs = letters _ refl
+plain_of_sailing chart TugsTurn = letters _ refl
+plain_of_sailing chart MustWait = letters _ refl
+plain_of_sailing chart WaitsOn = letters _ refl
+plain_of_sailing chart AtLimit = letters _ refl
+plain_of_sailing chart BelowFull = letters _ refl
+
+spelled_by_window : (mark : WindowMark) → Spelled (window_says mark)
+spelled_by_window MaySail = fixed _ refl
+spelled_by_window FullDraft = fixed _ refl
+spelled_by_window CouldMove = fixed _ refl
+spelled_by_window Outgoing = fixed _ refl
+spelled_by_window Incoming = fixed _ refl
+spelled_by_window Closed = fixed _ refl
+
+spelled_by_sailing : (mark : SailingMark) → Spelled (sailing_says mark)
+spelled_by_sailing Passes = fixed _ refl
+spelled_by_sailing PassesOut = fixed _ refl
+spelled_by_sailing HoldsTugs = fixed _ refl
+spelled_by_sailing TugsTurn = fixed _ refl
+spelled_by_sailing MustWait = fixed _ refl
+spelled_by_sailing WaitsOn = fixed _ refl
+spelled_by_sailing AtLimit = fixed _ refl
+spelled_by_sailing BelowFull = fixed _ refl
+
+sound_mark : (chart : ChartParts) (mark : Mark) → IsSound (mark_entry chart mark)
+sound_mark chart Tide = record { class = letters _ refl; says = fixed _ refl }
+sound_mark chart (OfWindow mark) = record { class = plain_of_window mark; says = spelled_by_window mark }
+sound_mark chart (OfSailing mark) = record { class = plain_of_sailing chart mark; says = spelled_by_sailing mark }
+sound_mark chart WholeFleet = record { class = letters _ refl; says = fixed _ refl }
+
+sound_marks : (chart : ChartParts) (marks : List Mark) → AreSound (mark_entries chart marks ++ [])
+sound_marks chart [] = tt
+sound_marks chart (mark ∷ more) = (sound_mark chart mark, sound_marks chart more)
+
 module _ {P : Tags → List ℕ → Tags → Type 0} (w : Writing P) where
-  of_entry : {a : Tags} (class : List ℕ) (p : list_all is_plain_byte class ≡ true) (x : ℕ) {text : List ℕ} → Spelled text → P a (entry class x text) a
-  of_entry class p x text = w.onward (filled w class p (record { left = x; right = x + 10; top = 77; bottom = 87 })) (says w (codes "m") refl (x + 14) 86 text)
+  of_port_legend : {a : Tags} (chart : ChartParts) → P a (port_legend chart []) a
+  unfolding port_legend
+  of_port_legend chart = of_legend_from w legend_begin (mark_entries chart legend_marks ++ []) (sound_marks chart legend_marks)
 
-  of_sailing_entries : {a : Tags} → P a sailing_entries a
-  unfolding sailing_entries
-  of_sailing_entries = four w (of_entry (codes "wa") refl 16 (fixed (codes "tide") refl)) (of_entry (codes "dr") refl 70 (fixed (codes "may sail: the higher, the deeper") refl)) (of_entry (codes "fl") refl 274 (fixed (codes "with full draft") refl)) (of_entry (codes "pl") refl 374 (fixed (codes "could move there alone") refl))
-
-  of_way_entries : {a : Tags} → P a way_entries a
-  unfolding way_entries
-  of_way_entries = three w (of_entry (codes "ou") refl 532 (fixed (codes "sails out") refl)) (of_entry (codes "in") refl 604 (fixed (codes "comes in") refl)) (of_entry (codes "tu") refl 680 (fixed (codes "holds tugs") refl))
-
-  of_other_entries : {a : Tags} → P a other_entries a
-  unfolding other_entries
-  of_other_entries = three w (of_entry (codes "ba") refl 764 (fixed (codes "tugs turn round") refl)) (of_entry (codes "be") refl 876 (fixed (codes "berth not yet clear") refl)) (of_entry (codes "fu") refl 1006 (fixed (codes "whole fleet held") refl))
-
-  of_legend : {a : Tags} → P a legend a
-  of_legend = three w of_sailing_entries of_way_entries of_other_entries
-
-  of_entry_below : {a : Tags} (class : List ℕ) (p : list_all is_plain_byte class ≡ true) (x : ℕ) {text : List ℕ} → Spelled text → P a (entry_below class x text) a
-  of_entry_below class p x text = w.onward (filled w class p (record { left = x; right = x + 10; top = 93; bottom = 103 })) (says w (codes "m") refl (x + 14) 102 text)
-
-  of_closed_sign : {a : Tags} → P a closed_sign a
-  of_closed_sign = w.onward w.hatching (of_entry_below (codes "ha") refl 16 (fixed (codes "closed") refl))
-
-  of_stay_signs : {a : Tags} → P a stay_signs a
-  of_stay_signs = w.onward (of_entry_below (codes "be") refl 70 (fixed (codes "must wait for the ship before") refl)) (of_entry_below (codes "wi") refl 258 (fixed (codes "waits on") refl))
-
-  pub of_legend_of : {a : Tags} (p : Parts) → P a (legend_of p) a
-  of_legend_of p = w.onward of_legend (w.onward (if_so w (has_closings p) of_closed_sign) (if_so w (nat_lt 0 (length p.after)) of_stay_signs))
+  pub of_legend_of : {a : Tags} (chart : ChartParts) → P a (legend_of chart []) a
+  of_legend_of chart = w.onward (of_port_legend chart) (if_so w (has_closings chart.port) w.hatching)
 
   of_columns : {a : Tags} (y : ℕ) → P a (columns y) a
-  of_columns y = five w (says w (codes "m r") refl 956 y (fixed (codes "sails") refl)) (says w (codes "m r") refl 1020 y (fixed (codes "draft m") refl)) (says w (codes "m r") refl 1108 y (fixed (codes "allowed m") refl)) (says w (codes "m r") refl 1186 y (fixed (codes "under keel m") refl)) (says w (codes "m r") refl 1268 y (fixed (codes "cargo t") refl))
+  of_columns y = five w (says w (codes "m r") refl 956 y (fixed (codes "sails") refl)) (says w (codes "m r") refl 1020 y (fixed (codes "draft m") refl)) (says w (codes "m r") refl 1100 y (fixed (codes "allowed m") refl)) (says w (codes "m r") refl 1186 y (fixed (codes "under keel m") refl)) (says w (codes "m r") refl 1268 y (fixed (codes "cargo t") refl))
 
   pub of_heads : {a : Tags} (table : Option (List ℕ)) (rows : ℕ) → P a (columns_where table rows) a
   of_heads table rows = if_so w (is_some table) (of_columns (rows - 8))
@@ -89,7 +118,7 @@ module _ {P : Tags → List ℕ → Tags → Type 0} (w : Writing P) where
 
   of_strip : {a : Tags} (chart : ChartParts) (strip : Strip) (name : List ℕ) → P a (strip_text chart strip name) a
   of_strip chart strip name =
-      w.onward (of_strip_label strip name) (five w (w.opened (plot (strip_y strip) 40 chart.span (tall_between strip.low strip.high))) (figure w (codes "wa") refl (water_level chart.tide strip.place strip.high) 0 (shown chart) (tall_between strip.low strip.high)) (of_marks chart strip 0 chart.port.ships) w.closed (of_strip_heights chart strip))
+      w.onward (of_strip_label strip name) (w.onward (w.opened (plot (strip_y strip) 40 chart.span (tall_between strip.low strip.high))) (five w (figure w (codes "wa") refl (water_level chart.tide strip.place strip.high) 0 (shown chart) (tall_between strip.low strip.high)) (of_marks chart strip 0 chart.port.ships) w.closed (of_strip_heights chart strip) (of_waters w chart strip)))
 
   of_place : {a : Tags} (chart : ChartParts) (heights : Heights) (place : ℕ) (waypoint : Waypoint) → P a (strip_at_place chart heights place waypoint) a
   unfolding strip_at_place

@@ -19,6 +19,7 @@ use Rattle.hw_port_chart.specs.Fleets.{fleet_panel}
 use Rattle.hw_port_chart.specs.Heads.{columns_where, places, sizes}
 use Rattle.hw_port_chart.specs.Lanes.{lanes_from}
 use Rattle.hw_port_chart.specs.Pictures.{chart_of, foot, legend_of, picture_of_chart, port_picture}
+use Rattle.hw_port_chart.specs.Reasons.{hint_by}
 use Rattle.hw_port_chart.specs.Rows.{rank_in, rows_from}
 use Rattle.hw_port_chart.specs.Strips.{strips}
 use Rattle.hw_port_chart.specs.Titles.{course_title, ship_title}
@@ -26,6 +27,7 @@ use Rattle.hw_chart_laws.proofs.Calm.{Still, both, calm_writing, cut, spelled}
 use Rattle.hw_chart_laws.proofs.FlatReading.{slots_same}
 use Rattle.hw_chart_laws.proofs.PortCourses.{course_back, small_course}
 use Rattle.hw_chart_laws.proofs.PortPanels.{of_heads, of_legend_of, of_strips}
+use Rattle.hw_chart_laws.proofs.PortWaters.{of_hint}
 use Rattle.hw_chart_laws.proofs.PortRows.{of_row_rest}
 use Rattle.hw_chart_laws.proofs.PortTexts.{spelled_row, spelled_sizes}
 use Rattle.hw_chart_laws.proofs.PortTrees.{port_rest, port_title, ranked_is}
@@ -58,7 +60,7 @@ height_of chart = (places chart.port).bottom + 28
 
 -- what stands before the list of ships, and what after it
 abbrev before_ships : ChartParts → Outcome → List ℕ
-before_ships chart outcome = picture_begin 1280 (height_of chart) (title_text Tonnes outcome) ++ (style ++ (ground (height_of chart) ++ (badge outcome.verdict ++ (heading_lines Tonnes outcome (sizes chart.port) ++ (legend_of chart.port ++ (strips chart ++ columns_where chart.table ((places chart.port).rows)))))))
+before_ships chart outcome = picture_begin 1280 (height_of chart) (title_text Tonnes outcome) ++ (style ++ (ground (height_of chart) ++ (badge outcome.verdict ++ (heading_lines Tonnes outcome (sizes chart.port) ++ ((hint_by chart outcome.verdict ++ legend_of chart []) ++ (strips chart ++ columns_where chart.table ((places chart.port).rows)))))))
 
 abbrev after_ships : ChartParts → List ℕ
 after_ships chart = group_end ++ (lanes_from chart 0 chart.port.sections ++ (fleet_panel chart chart.table ++ foot chart))
@@ -68,11 +70,11 @@ parts pb st gr ba hl lg sr co lb rs ge la fl ft = simp (append_assoc, append-nil
 
 by_ships : (chart : ChartParts) (outcome : Outcome) → picture_of_chart chart outcome ≡ before_ships chart outcome ++ (list_begin ++ (rows_from chart 0 chart.port.ships ++ after_ships chart))
 unfolding picture_of_chart
-by_ships chart outcome = parts (picture_begin 1280 (height_of chart) (title_text Tonnes outcome)) style (ground (height_of chart)) (badge outcome.verdict) (heading_lines Tonnes outcome (sizes chart.port)) (legend_of chart.port) (strips chart) (columns_where chart.table ((places chart.port).rows)) list_begin (rows_from chart 0 chart.port.ships) group_end (lanes_from chart 0 chart.port.sections) (fleet_panel chart chart.table) (foot chart)
+by_ships chart outcome = parts (picture_begin 1280 (height_of chart) (title_text Tonnes outcome)) style (ground (height_of chart)) (badge outcome.verdict) (heading_lines Tonnes outcome (sizes chart.port)) (hint_by chart outcome.verdict ++ legend_of chart []) (strips chart) (columns_where chart.table ((places chart.port).rows)) list_begin (rows_from chart 0 chart.port.ships) group_end (lanes_from chart 0 chart.port.sections) (fleet_panel chart chart.table) (foot chart)
 
 still_before : (chart : ChartParts) (outcome : Outcome) → Still (before_ships chart outcome)
 still_before chart outcome =
-    both (still_begin 1280 (height_of chart) (plain_title Tonnes outcome)) (both still_style (both (of_ground calm_writing {a = []} (height_of chart)).still (both (of_badge calm_writing {a = []} outcome.verdict).still (both (head_lines calm_writing {a = []} Tonnes outcome (spelled_sizes chart.port)).still (both (of_legend_of calm_writing {a = []} chart.port).still (both (of_strips calm_writing {a = []} chart).still (of_heads calm_writing {a = []} chart.table ((places chart.port).rows)).still))))))
+    both (still_begin 1280 (height_of chart) (plain_title Tonnes outcome)) (both still_style (both (of_ground calm_writing {a = []} (height_of chart)).still (both (of_badge calm_writing {a = []} outcome.verdict).still (both (head_lines calm_writing {a = []} Tonnes outcome (spelled_sizes chart.port)).still (both (calm_writing.onward (of_hint calm_writing {a = []} chart outcome.verdict) (of_legend_of calm_writing {a = []} chart)).still (both (of_strips calm_writing {a = []} chart).still (of_heads calm_writing {a = []} chart.table ((places chart.port).rows)).still))))))
 
 slot_most : (p : Parts) (table : List ℕ) → IsPortTimetable p table → (k : ℕ) → k < length table → slice_index table k ≤ horizon_of p
 slot_most p table listed k lt =

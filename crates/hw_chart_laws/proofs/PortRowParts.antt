@@ -17,7 +17,7 @@ use Rattle.hw_port_chart.specs.Charts.{ChartParts, course, full_of, mark_class, 
 use Rattle.hw_port_chart.specs.Closings.{closings}
 use Rattle.hw_port_chart.specs.Drafts.{draft_level, draft_steps, full_sailings, full_steps, fullness_level, moves_text, sailing_where, window_of}
 use Rattle.hw_port_chart.specs.Rows.{arrow, arrow_path, full_draft_word, rank_in, ranked_row, row_name, row_right, row_y}
-use Rattle.hw_chart_laws.proofs.Marked.{AsMany, Begins, begins_either, both, fixed, line_first, name_first, of_block, of_line, of_name, of_shape, of_window, past_stripe, shape_first, spelled, told, window_first}
+use Rattle.hw_chart_laws.proofs.Marked.{AsMany, Begins, begins_either, both, fixed, line_first, name_first, of_block, of_line, of_shape, of_window, past_stripe, shape_first, spelled, told, told_name, window_first}
 use Rattle.hw_chart_laws.proofs.Plain.{Plain, letters, path}
 use Rattle.hw_chart_laws.proofs.PortTexts.{plain_arrow, plain_way, spelled_full, spelled_row}
 use Rattle.hw_chart_laws.proofs.PortTrees.{port_rest, port_title, ranked_is}
@@ -136,8 +136,8 @@ pub record SharedParts (one two : ChartParts) (v w : ℕ) (s r : ShipParts) (y z
 from_arrow : (one two : ChartParts) (v w : ℕ) (s r : ShipParts) (y z : ℕ) → arrow_on one v s y ≡ arrow_on two w r z → SharedParts one two v w s r y z
 from_arrow one two v w s r y z e =
     let arrows = told (name_on one v s y) (name_on two w r z) (arrows_as s r y z) (name_first (codes "b") 16 (y + 17) s.name 148 (number_on one v s y)) (name_first (codes "b") 16 (z + 17) r.name 148 (number_on two w r z)) e in
-    let names = told (number_on one v s y) (number_on two w r z) (of_name (codes "b") 16 (y + 17) (z + 17) s.name r.name 148) (line_first (codes "m") 16 (y + 33) (number_text v s) (window_on one v s y)) (line_first (codes "m") 16 (z + 33) (number_text w r) (window_on two w r z)) arrows.rest in
-    let numbers = told (window_on one v s y) (window_on two w r z) (of_line (codes "m") 16 (y + 33) (z + 33) (spelled_number v s) (spelled_number w r)) (window_first (window_in one s y) (ground_on one v s y)) (window_first (window_in two r z) (ground_on two w r z)) names.rest in
+    let names = told_name (codes "b") 16 (y + 17) (z + 17) s.name r.name 148 (number_on one v s y) (number_on two w r z) (line_first (codes "m") 16 (y + 33) (number_text v s) (window_on one v s y)) (line_first (codes "m") 16 (z + 33) (number_text w r) (window_on two w r z)) arrows.rest in
+    let numbers = told (window_on one v s y) (window_on two w r z) (of_line (codes "m") 16 (y + 33) (z + 33) (spelled_number v s) (spelled_number w r)) (window_first (window_in one s y) (ground_on one v s y)) (window_first (window_in two r z) (ground_on two w r z)) names in
     let windows = told (ground_on one v s y) (ground_on two w r z) (of_window (window_in one s y) (window_in two r z)) (shape_first (codes "wi") (area_path (ground_area s)) (drafts_on one v s y)) (shape_first (codes "wi") (area_path (ground_area r)) (drafts_on two w r z)) numbers.rest in
     let grounds = told (drafts_on one v s y) (drafts_on two w r z) (of_block (codes "wi") (ground_area s) (ground_area r) refl) (shape_first (codes "dr") (drafts_path one v s) (rest_on one v s y)) (shape_first (codes "dr") (drafts_path two w r) (rest_on two w r z)) windows.rest in
     let drawn = told (rest_on one v s y) (rest_on two w r z) (drafts_as one two v w s r y z) (rest_first one v s y) (rest_first two w r z) grounds.rest in

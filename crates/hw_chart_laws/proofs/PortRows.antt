@@ -1,11 +1,9 @@
 -- The rows of a port's picture, made of what a picture is written with.
-use Rattle.std.proofs.Common.{◌++◌, ◌+◌, ◌-◌, ℕ, zero, suc, nat_eq, nat_lt, is_none, is_some, List, [], ◌∷◌, codes, refl, if◌then◌else◌}
-use Rattle.std.specs.List.{list_all, range_with_len}
+use Rattle.std.proofs.Common.{◌++◌, ◌+◌, ◌-◌, ℕ, zero, suc, nat_eq, nat_lt, is_some, List, [], ◌∷◌, codes, refl, if◌then◌else◌}
 use Rattle.hw_svg.specs.Sheets.{group_end}
 use Rattle.hw_port.specs.declared.parts.AfterPair.{AfterPair}
 use Rattle.hw_port.specs.declared.parts.BerthPair.{BerthPair}
 use Rattle.hw_port.specs.Parts.{ShipParts}
-use Rattle.hw_port_rules.specs.Drafts.{sailing}
 use Rattle.hw_port_rules.specs.Numbers.{hold_of, horizon_of, is_outgoing, whole}
 use Rattle.hw_chart.specs.declared.course.Course.{Course}
 use Rattle.hw_chart.specs.declared.course.Course.TheVariants.{Unplanned, Stays, Sails}
@@ -24,7 +22,8 @@ use Rattle.hw_port_chart.specs.Spans.{last_pass_offset}
 use Rattle.hw_port_chart.specs.Stays.{chart_ship_name, stays_of, wait_of}
 use Rattle.hw_chart_laws.proofs.Plain.{letters}
 use Rattle.hw_chart_laws.proofs.PortTexts.{plain_arrow, plain_mark, plain_tight, plain_way, spelled_closing, spelled_full, spelled_short, spelled_wait}
-use Rattle.hw_chart_laws.proofs.Shared.{figure, five, if_so, of_bar, of_mark, of_moves, of_no_slot, of_pin, of_sailings, of_stays, of_stripe, says, three}
+use Rattle.hw_chart_laws.proofs.PortWaters.{of_reasons}
+use Rattle.hw_chart_laws.proofs.Shared.{figure, five, if_so, of_bar, of_mark, of_moves, of_pin, of_sailings, of_stays, of_stripe, says, three}
 use Rattle.hw_chart_laws.proofs.Spelled.{also, fixed, nothing, of_clock, of_metres, of_number, of_tenths}
 use Rattle.hw_chart_laws.proofs.Writing.{Tags, Writing, group}
 
@@ -72,7 +71,7 @@ module _ {P : Tags → List ℕ → Tags → Type 0} (w : Writing P) where
   of_draft s g y = w.onward (says w (codes "r b") refl 1020 (y + 17) (of_metres g.draft)) (if_so w (is_outgoing s) (says w (codes "r m") refl 1020 (y + 33) (spelled_short (whole (full_of s)) g.draft)))
 
   of_allowed : {a : Tags} (chart : ChartParts) (g : Sailing) (y : ℕ) → P a (allowed_figures chart g y) a
-  of_allowed chart g y = w.onward (w.lettered 1108 (y + 17) (plain_tight g) (of_metres g.allowed)) (w.called 1108 (y + 33) (charted_waypoint_name chart g.by) 80 (letters (codes "r m") refl))
+  of_allowed chart g y = w.onward (w.lettered 1100 (y + 17) (plain_tight g) (of_metres g.allowed)) (w.called 1100 (y + 33) (charted_waypoint_name chart g.by) 72 (letters (codes "r m") refl))
 
   of_keel : {a : Tags} (g : Sailing) (y : ℕ) → P a (keel_figures g y) a
   of_keel g y = w.onward (w.lettered 1186 (y + 17) (plain_tight g) (of_metres (keel_of_sailing g))) (says w (codes "r m") refl 1186 (y + 33) (also (fixed (codes "min ") refl) (also (of_metres g.clearance) nothing)))
@@ -84,7 +83,7 @@ module _ {P : Tags → List ℕ → Tags → Type 0} (w : Writing P) where
   of_figures chart s g y = five w (of_time g y) (of_draft s g y) (of_allowed chart g y) (of_keel g y) (of_cargo s g y)
 
   of_right : {a : Tags} (chart : ChartParts) (v : ℕ) (s : ShipParts) (y : ℕ) (course : Course) → P a (row_right chart v s y course) a
-  of_right chart v s y Unplanned = if_so w (list_all (λ slot. is_none (sailing chart.port chart.tide v slot)) (range_with_len 0 (horizon_of chart.port))) (of_no_slot w y)
+  of_right chart v s y Unplanned = of_reasons w chart v s y
   of_right chart v s y Stays = of_stays w y
   of_right chart v s y (Sails slot) = three w (of_pin w slot chart.span y (plain_way s)) (of_bars chart v s slot y) (of_figures chart s (sailing_of chart v s slot) y)
 

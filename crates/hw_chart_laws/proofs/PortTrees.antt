@@ -13,6 +13,7 @@ use Rattle.hw_chart.specs.Outcomes.{badge, title_text}
 use Rattle.hw_port_chart.specs.Charts.{ChartParts, course}
 use Rattle.hw_port_chart.specs.Heads.{places, sizes}
 use Rattle.hw_port_chart.specs.Pictures.{bottom, chart_of, horizon_line, legend_of, panels, picture_of_chart, port_picture, times}
+use Rattle.hw_port_chart.specs.Reasons.{hint_by}
 use Rattle.hw_port_chart.specs.Rows.{rank_in, ranked_row, row_left, row_right, row_windows, row_y, rows_from, ship_list}
 use Rattle.hw_port_chart.specs.Titles.{row_title}
 use Rattle.hw_chart_laws.specs.Trees.{IsPicture}
@@ -21,6 +22,7 @@ use Rattle.hw_chart_laws.proofs.Elements.{leads_item, leads_list, tree_writing}
 use Rattle.hw_chart_laws.proofs.FlatTrees.{arranged}
 use Rattle.hw_chart_laws.proofs.Open.{Leads, likewise, onward, unmoved}
 use Rattle.hw_chart_laws.proofs.PortPanels.{of_fleet, of_heads, of_lanes, of_legend_of, of_strips}
+use Rattle.hw_chart_laws.proofs.PortWaters.{of_hint}
 use Rattle.hw_chart_laws.proofs.PortRows.{of_row_rest}
 use Rattle.hw_chart_laws.proofs.PortTexts.{spelled_row, spelled_sizes}
 use Rattle.hw_chart_laws.proofs.Reading.{item_text}
@@ -61,15 +63,15 @@ abbrev height_of : ChartParts → ℕ
 height_of chart = (places chart.port).bottom + 28
 
 abbrev middle : ChartParts → Outcome → List ℕ
-middle chart outcome = ground (height_of chart) ++ (badge outcome.verdict ++ (heading_lines Tonnes outcome (sizes chart.port) ++ (legend_of chart.port ++ (panels chart ++ (times chart ++ horizon_line chart)))))
+middle chart outcome = ground (height_of chart) ++ (badge outcome.verdict ++ (heading_lines Tonnes outcome (sizes chart.port) ++ ((hint_by chart outcome.verdict ++ legend_of chart []) ++ (panels chart ++ (times chart ++ horizon_line chart)))))
 
 picture_is : (chart : ChartParts) (outcome : Outcome) → picture_of_chart chart outcome ≡ picture 1280 (height_of chart) (title_text Tonnes outcome) (style ++ middle chart outcome)
 unfolding picture_of_chart
-picture_is chart outcome = arranged (picture_begin 1280 (height_of chart) (title_text Tonnes outcome)) style (ground (height_of chart)) (badge outcome.verdict) (heading_lines Tonnes outcome (sizes chart.port)) (legend_of chart.port) (panels chart) (times chart) (horizon_line chart) svg_end
+picture_is chart outcome = arranged (picture_begin 1280 (height_of chart) (title_text Tonnes outcome)) style (ground (height_of chart)) (badge outcome.verdict) (heading_lines Tonnes outcome (sizes chart.port)) (hint_by chart outcome.verdict ++ legend_of chart []) (panels chart) (times chart) (horizon_line chart) svg_end
 
 lead_middle : (chart : ChartParts) (outcome : Outcome) → Leads [] (middle chart outcome) []
 lead_middle chart outcome =
-    onward (of_ground tree_writing (height_of chart)) (onward (of_badge tree_writing outcome.verdict) (onward (head_lines tree_writing Tonnes outcome (spelled_sizes chart.port)) (onward (of_legend_of tree_writing chart.port) (onward (lead_panels chart) (onward (of_times tree_writing chart chart.port.start) (of_span_end tree_writing (horizon_of chart.port) chart.span (bottom chart)))))))
+    onward (of_ground tree_writing (height_of chart)) (onward (of_badge tree_writing outcome.verdict) (onward (head_lines tree_writing Tonnes outcome (spelled_sizes chart.port)) (onward (onward (of_hint tree_writing chart outcome.verdict) (of_legend_of tree_writing chart)) (onward (lead_panels chart) (onward (of_times tree_writing chart chart.port.start) (of_span_end tree_writing (horizon_of chart.port) chart.span (bottom chart)))))))
 
 pub port_trees : (p : Parts) (h : TideParts) (table : Option (List ℕ)) (outcome : Outcome) → IsPicture (port_picture p h table outcome)
 unfolding port_picture

@@ -1,10 +1,11 @@
 -- Texts as elements hold them: names are spelled out, and what has no mark stands as it is.
-use Rattle.std.proofs.Common.{◌≡◌, ◌++◌, ◌∙◌, ℕ, ℤ, Bool, true, nat_eq, nat_lt, List, [], ◌∷◌, codes, decimal, refl, ap, sym, append_assoc, unsigned_abs, if◌then◌else◌, arith}
+use Rattle.std.proofs.Common.{◌≡◌, ◌++◌, ◌∙◌, ℕ, ℤ, Bool, true, nat_eq, nat_lt, List, [], ◌∷◌, codes, decimal, refl, ap, sym, unsigned_abs, if◌then◌else◌, arith}
 use Rattle.std.specs.Int.{is_negative}
 use Rattle.std.specs.List.{list_all}
 use Rattle.std.proofs.lemmas.Bool.{and_parts, cond_both}
 use Rattle.hw_svg.specs.Names.{byte_text, escaped}
 use Rattle.hw_svg.specs.Numbers.{clock, height_text, metres, tonnes_label, digit_pair}
+use Rattle.hw_svg.proofs.Shortened.{escaped_both}
 use Rattle.hw_chart_laws.specs.Trees.{is_plain_byte}
 use Rattle.hw_chart_laws.proofs.Plain.{Plain, number}
 
@@ -13,12 +14,8 @@ pub record Spelled (text : List ℕ) : Type 0 where
   pub from : List ℕ
   pub same : text ≡ escaped from
 
-escaped-append : (a b : List ℕ) → escaped (a ++ b) ≡ escaped a ++ escaped b
-escaped-append [] b = refl
-escaped-append (x ∷ a) b = ap (λ (l : List ℕ). byte_text x ++ l) (escaped-append a b) ∙ sym (append_assoc (byte_text x) (escaped a) (escaped b))
-
 pub also : {a b : List ℕ} → Spelled a → Spelled b → Spelled (a ++ b)
-also {a = a} {b = b} p q = record { from = p.from ++ q.from; same = rw (p.same, q.same) (sym (escaped-append p.from q.from)) }
+also {a = a} {b = b} p q = record { from = p.from ++ q.from; same = rw (p.same, q.same) (sym (escaped_both p.from q.from)) }
 
 pub name : (text : List ℕ) → Spelled (escaped text)
 name text = record { from = text; same = refl }

@@ -48,9 +48,9 @@ IsPortPart p (row ship) = ship < length p.ships
 IsPortPart p (lane section) = section < length p.sections
 IsPortPart p (panel fleet) = fleet ≡ 0
 
--- a part is as tall as its window; a row has its stripe
+-- a part is as tall as its window; a tide has a line of text over it and one below it, a row its stripe
 abbrev pub port_band : ChartParts → Part → Band
-port_band chart (tide place) = band_of_lines (place_y place) 40
+port_band chart (tide place) = band_of_lines (place_y place - 14) 68
 port_band chart (row ship) = stripe_band (row_y chart (rank_in chart.table ship))
 port_band chart (lane section) = band_of_lines (lane_y chart section) 18
 port_band chart (panel fleet) = band_of_lines (places chart.port).tugs 56

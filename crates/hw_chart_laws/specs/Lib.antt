@@ -5,3 +5,4 @@ pub mod Bands
 pub mod Lanes
 pub mod Sheet
 pub mod Thirds
+pub mod Without

@@ -6,6 +6,7 @@ ghost use Rattle.hw_chart_laws.specs.Lanes.{BlocksAreOccupations, LanesAreBlocks
 ghost use Rattle.hw_chart_laws.specs.Laws.{BarsAreSlots, FlatPicturesAreTrees, FlatPlansReadBack, FullBarsAreFullDrafts, PortPicturesAreTrees, PortPlansReadBack};
 ghost use Rattle.hw_chart_laws.specs.Sheet.{FetchesNothing, HatchFetchesNothing};
 ghost use Rattle.hw_chart_laws.specs.Thirds.{HatchesAreClosings, WaitsAreKept};
+ghost use Rattle.hw_chart_laws.specs.Without.{ReasonsAreTold};
 
 /// The picture of a flat problem is one element of trees.
 pub fn flat_pictures_are_trees()
@@ -91,4 +92,10 @@ pub fn hatches_are_closings()
 /// Where the port permits the timetable, the bar of a ship's stay is at least as long as the ship must wait.
 pub fn waits_are_kept()
     ensures { WaitsAreKept }
+{}
+
+/// Where a ship has no slot, its row names a reason exactly if that is the one against a slot for which the ship asks, as `windows`
+/// tells it.
+pub fn reasons_are_told()
+    ensures { ReasonsAreTold }
 {}

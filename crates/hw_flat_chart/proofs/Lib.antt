@@ -2,3 +2,4 @@ pub mod Fits
 pub mod Tested
 pub mod Onward
 pub mod Flags
+pub mod TwoLines

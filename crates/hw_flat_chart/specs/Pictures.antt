@@ -5,7 +5,6 @@ use Rattle.hw_model.specs.Problem.{Problem, horizon}
 use Rattle.hw_model.specs.Rules.{busy}
 use Rattle.hw_svg.specs.Joined.{joined}
 use Rattle.hw_svg.specs.Lettering.{line}
-use Rattle.hw_svg.specs.Shapes.{block}
 use Rattle.hw_svg.specs.Sheets.{list_of, svg_end}
 use Rattle.hw_chart.specs.declared.grid.Scale.TheVariants.{Slots}
 use Rattle.hw_chart.specs.declared.outcome.CargoUnit.TheVariants.{Plain}
@@ -15,6 +14,7 @@ use Rattle.hw_chart.specs.Grids.{grid, span_end}
 use Rattle.hw_chart.specs.Headings.{heading}
 use Rattle.hw_chart.specs.Panels.{planned_panel, unplanned_panel}
 use Rattle.hw_flat_chart.specs.Fleets.{fleet_of, fleets, picture_span}
+use Rattle.hw_flat_chart.specs.Legends.{flat_legend}
 use Rattle.hw_flat_chart.specs.Rows.{planned_rows, unplanned_rows}
 
 -- where the first panel stands, below the rows
@@ -28,22 +28,8 @@ flat_picture_bottom f = panels_y f + 66 * length (fleets f)
 unfoldable pub flat_picture_sizes : Problem → List ℕ
 flat_picture_sizes f = joined (codes "ships " ∷ decimal f.ships ∷ codes ", slots " ∷ decimal (horizon f) ∷ codes ", rules " ∷ decimal (length f.rules) ∷ [])
 
--- an entry of the legend: a patch of a class, and what it says
-abbrev pub entry : List ℕ → ℕ → List ℕ → List ℕ
-entry class x says = block class (record { left = x; right = x + 10; top = 77; bottom = 87 }) ++ line (codes "m") (x + 14) 86 says
-
-unfoldable pub flat_sailing_entries : List ℕ
-flat_sailing_entries = joined (entry (codes "dr") 16 (codes "may sail: the higher, the more cargo") ∷ entry (codes "fl") 254 (codes "with its most cargo") ∷ entry (codes "pl") 386 (codes "could move there alone") ∷ entry (codes "ou") 544 (codes "sails") ∷ [])
-
-unfoldable pub flat_other_entries : List ℕ
-flat_other_entries = joined (entry (codes "tu") 600 (codes "holds tugs") ∷ entry (codes "be") 684 (codes "must wait for another") ∷ entry (codes "fu") 830 (codes "whole fleet held") ∷ [])
-
--- what the colours say
-abbrev pub flat_legend : List ℕ
-flat_legend = flat_sailing_entries ++ flat_other_entries
-
-unfoldable pub flat_head : Problem → Outcome → List ℕ
-flat_head f outcome = heading Plain outcome (flat_picture_bottom f + 28) (flat_picture_sizes f) ++ flat_legend
+unfoldable pub flat_head : Problem → Option (List ℕ) → Outcome → List ℕ
+flat_head f table outcome = heading Plain outcome (flat_picture_bottom f + 28) (flat_picture_sizes f) ++ flat_legend f table []
 
 -- what the figures right of the rows are
 unfoldable pub flat_columns : List ℕ
@@ -77,4 +63,4 @@ body f (Some table) = planned_body f table
 
 -- the whole text: what a certificate shows, and the timetable, if there is one
 unfoldable pub flat_picture : Problem → Option (List ℕ) → Outcome → List ℕ
-flat_picture f table outcome = joined (flat_head f outcome ∷ body f table ∷ flat_foot f (picture_span f table) ∷ [])
+flat_picture f table outcome = joined (flat_head f table outcome ∷ body f table ∷ flat_foot f (picture_span f table) ∷ [])

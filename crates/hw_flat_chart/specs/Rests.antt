@@ -4,13 +4,15 @@ use Rattle.hw_model.specs.Problem.{Problem, horizon}
 use Rattle.hw_svg.specs.Joined.{joined}
 use Rattle.hw_chart.specs.declared.grid.Scale.TheVariants.{Slots}
 use Rattle.hw_chart.specs.Grids.{grid, span_end}
+use Rattle.hw_chart.specs.Legends.{LegendEntry}
 use Rattle.hw_flat_chart.specs.Fleets.{picture_span}
-use Rattle.hw_flat_chart.specs.Pictures.{body, flat_picture_bottom, flat_legend}
+use Rattle.hw_flat_chart.specs.Legends.{flat_legend}
+use Rattle.hw_flat_chart.specs.Pictures.{body, flat_picture_bottom}
 
 -- the grid over this many slots
 unfoldable pub lines_over : Problem → ℕ → List ℕ
 lines_over f span = grid Slots span (flat_picture_bottom f) ++ span_end (horizon f) span (flat_picture_bottom f)
 
--- what the colours say, rows, panels and grid
-unfoldable pub flat_rest : Problem → Option (List ℕ) → List ℕ
-flat_rest f table = joined (flat_legend ∷ body f table ∷ lines_over f (picture_span f table) ∷ [])
+-- the legend with these entries after its own, rows, panels and grid
+unfoldable pub flat_rest : Problem → Option (List ℕ) → List LegendEntry → List ℕ
+flat_rest f table more = joined (flat_legend f table more ∷ body f table ∷ lines_over f (picture_span f table) ∷ [])

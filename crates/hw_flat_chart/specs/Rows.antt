@@ -1,5 +1,5 @@
 -- The rows of a picture: a ship each.
-use Rattle.std.specs.Prelude.{ℕ, ◌+◌, ◌*◌, zero, suc, nat_eq, if◌then◌else◌, List, [], ◌∷◌, ◌++◌, codes, decimal, slice_index, Some}
+use Rattle.std.specs.Prelude.{ℕ, ◌+◌, ◌*◌, zero, suc, nat_eq, nat_lt, if◌then◌else◌, List, [], ◌∷◌, ◌++◌, codes, decimal, slice_index, Some}
 use Rattle.hw_model.specs.declared.rule.Job.{Job}
 use Rattle.hw_model.specs.declared.rule.Rule.{Rule}
 use Rattle.hw_model.specs.declared.rule.Rule.TheVariants.{Pair, After, Tugs}
@@ -81,9 +81,15 @@ fleet_bars slot ship (rule ∷ rules) = job_bars slot ship (jobs_of_rule rule) +
 unfoldable pub flat_bars : Problem → List ℕ → Row → ℕ → List ℕ
 flat_bars f table row slot = joined (bars_begin (row_top row) row.span ∷ flat_wait_bars table row.ship f.rules ∷ fleet_bars slot row.ship (fleets f) ∷ svg_end ∷ [])
 
--- the slot, what the ship carries, and the most that it may carry
+-- what the ship carries, and the most that it may carry; of a ship that carries nothing in any slot nothing is said
+abbrev pub value_figures : Problem → Row → ℕ → List ℕ
+value_figures f row slot =
+    if nat_lt 0 (most_carried f row.ship) then line (codes "r b") 1268 (row_top row + 17) (decimal (cargo_in_slot f row.ship slot)) ++ line (codes "r m") 1268 (row_top row + 33) (joined (codes "of " ∷ decimal (most_carried f row.ship) ∷ []))
+    else []
+
+-- the slot, and what the ship carries
 unfoldable pub flat_figures : Problem → Row → ℕ → List ℕ
-flat_figures f row slot = joined (line (codes "r b") 956 (row_top row + 17) (decimal slot) ∷ line (codes "r b") 1268 (row_top row + 17) (decimal (cargo_in_slot f row.ship slot)) ∷ line (codes "r m") 1268 (row_top row + 33) (joined (codes "of " ∷ decimal (most_carried f row.ship) ∷ [])) ∷ [])
+flat_figures f row slot = line (codes "r b") 956 (row_top row + 17) (decimal slot) ++ value_figures f row slot
 
 -- what a row says of the ship's course
 unfoldable pub course_parts : Problem → List ℕ → Row → Course → List ℕ

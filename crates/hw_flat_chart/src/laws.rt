@@ -1,5 +1,6 @@
 //! What the picture of a flat problem says, in the words of the problem.
 
+ghost use Rattle.hw_flat_chart.specs.Legends.{FlatLegendsFit};
 ghost use Rattle.hw_flat_chart.specs.Moves.{FlatMovesArePermitted};
 ghost use Rattle.hw_flat_chart.specs.Values.{BarsAreValues};
 
@@ -11,4 +12,9 @@ pub fn bars_are_values()
 /// The level of a move is 0 exactly where the problem permits the timetable with that slot for the ship.
 pub fn moves_are_permitted()
     ensures { FlatMovesArePermitted }
+{}
+
+/// The legend has two lines at most, whatever marks it names, if those after its own fill no more than a line.
+pub fn legends_fit()
+    ensures { FlatLegendsFit }
 {}

@@ -9,6 +9,8 @@ mod bars;
 mod fleets;
 mod labels;
 mod laws;
+mod legend;
+mod marks;
 mod moves;
 mod panels;
 mod picture;
@@ -20,7 +22,7 @@ mod span;
 mod values;
 
 pub use fleets::{Fleets, Found};
-pub use laws::{bars_are_values, moves_are_permitted};
+pub use laws::{bars_are_values, legends_fit, moves_are_permitted};
 pub use picture::{bottom, put_flat_picture, sizes};
 pub use plan::Plan;
 pub use rest::{put_flat_rest, slots_shown};

@@ -6,10 +6,11 @@ ghost use Rattle.hw_model.specs.Problem.{IsTimetable};
 ghost use Rattle.hw_model.specs.Rules.{busy};
 ghost use Rattle.hw_desk.specs.Writers.{Puts};
 ghost use Rattle.hw_flat_chart.specs.Fleets.{fleets_in};
+ghost use Rattle.hw_flat_chart.specs.Marks.{is_held_whole};
 ghost use Rattle.hw_flat_chart.specs.Pictures.{flat_panel_of, planned_panels, unplanned_panels};
 
 use crate::fleets::{Fleets, fleet_size, next};
-use hw_chart::{Panel, put_planned_panel, put_unplanned_panel};
+use hw_chart::{Panel, put_planned_panel, put_unplanned_panel, reaches};
 use hw_desk::Writer;
 use hw_flat::{Flat, Timetable};
 use hw_model::Rule;
@@ -82,4 +83,13 @@ pub(crate) fn put_planned_panels<W: Writer>(
         put_planned_panel(out, panel(flat, span, y, rule), &held);
         put_planned_panels(out, flat, table, span, y + 66, found.rest);
     }
+}
+
+/// Whether a fleet is held whole in some slot.
+pub(crate) fn is_held_whole(slots: u32, table: &Timetable, rule: &Rule) -> bool
+    requires fits { RuleFits (length table.now) rule.now }
+    ensures { result ≡ is_held_whole slots table.now rule.now }
+{
+    let held = Held { rule, table };
+    reaches(&held, u64::from(fleet_size(rule)), slots)
 }

@@ -4,85 +4,19 @@ ghost use Rattle.std.specs.Prelude.{◌≡◌, ◌≤◌, ◌<◌, IfSome, None,
 ghost use Rattle.hw_desk.specs.Writers.{Puts};
 ghost use Rattle.hw_flat_chart.specs.Fleets.{picture_span};
 ghost use Rattle.hw_flat_chart.specs.Moves.{IsPlan};
-ghost use Rattle.hw_flat_chart.specs.Pictures.{body, flat_picture_bottom, flat_columns, flat_picture, flat_foot, flat_head, flat_legend, flat_other_entries, panels_y, planned_body, flat_sailing_entries, flat_picture_sizes as sizes_of, unplanned_body};
+ghost use Rattle.hw_flat_chart.specs.Pictures.{body, flat_picture_bottom, flat_columns, flat_picture, flat_foot, flat_head, panels_y, planned_body, flat_picture_sizes as sizes_of, unplanned_body};
 ghost use Rattle.hw_svg.specs.Pieces.{picture_pieces_text};
 
 use crate::fleets::{count, fleets_of};
+use crate::legend::put_legend;
 use crate::panels::{put_planned_panels, put_unplanned_panels};
 use crate::plan::Plan;
 use crate::rows::{put_planned_rows, put_unplanned_rows};
 use crate::span::span;
-use hw_chart::{CargoUnit, Entry, Outcome, Scale, put_grid, put_heading, put_legend, put_span_end};
+use hw_chart::{CargoUnit, Outcome, Scale, put_grid, put_heading, put_span_end};
 use hw_desk::Writer;
 use hw_flat::Flat;
 use hw_svg::{Piece, put_group_end, put_line, put_list_begin, put_svg_end};
-
-/// Puts what the colours of sailings say.
-#[tactic(auto, unfolding(crate::specs::Pictures::flat_sailing_entries))]
-fn put_sailing_entries<W: Writer>(out: &mut W)
-    ensures { Puts flat_sailing_entries (W.state out.old) (W.state out.new) }
-{
-    put_legend(
-        out,
-        &[
-            Entry {
-                class: b"dr",
-                x: 16,
-                says: b"may sail: the higher, the more cargo",
-            },
-            Entry {
-                class: b"fl",
-                x: 254,
-                says: b"with its most cargo",
-            },
-            Entry {
-                class: b"pl",
-                x: 386,
-                says: b"could move there alone",
-            },
-            Entry {
-                class: b"ou",
-                x: 544,
-                says: b"sails",
-            },
-        ],
-    );
-}
-
-/// Puts what the other colours say.
-#[tactic(auto, unfolding(crate::specs::Pictures::flat_other_entries))]
-fn put_other_entries<W: Writer>(out: &mut W)
-    ensures { Puts flat_other_entries (W.state out.old) (W.state out.new) }
-{
-    put_legend(
-        out,
-        &[
-            Entry {
-                class: b"tu",
-                x: 600,
-                says: b"holds tugs",
-            },
-            Entry {
-                class: b"be",
-                x: 684,
-                says: b"must wait for another",
-            },
-            Entry {
-                class: b"fu",
-                x: 830,
-                says: b"whole fleet held",
-            },
-        ],
-    );
-}
-
-/// Puts what the colours say.
-pub(crate) fn put_colours<W: Writer>(out: &mut W)
-    ensures { Puts flat_legend (W.state out.old) (W.state out.new) }
-{
-    put_sailing_entries(out);
-    put_other_entries(out);
-}
 
 /// Where the first panel stands.
 fn panels_y(flat: &Flat) -> u32
@@ -116,14 +50,15 @@ pub fn sizes(flat: &Flat) -> [Piece<'static>; 6]
     ]
 }
 
-/// Puts the head of the picture: what a certificate shows, the sizes of the problem, and what the colours say.
+/// Puts the head of the picture: what a certificate shows, the sizes of the problem, and the legend.
 #[tactic(auto, unfolding(crate::specs::Pictures::flat_head))]
-fn put_head<W: Writer>(out: &mut W, flat: &Flat, outcome: Outcome)
-    ensures { Puts (flat_head flat.now outcome) (W.state out.old) (W.state out.new) }
+fn put_head<W: Writer>(out: &mut W, flat: &Flat, plan: Option<&Plan>, outcome: Outcome)
+    requires { IfSome plan (λ p. IsPlan flat.now p.now) }
+    ensures { Puts (flat_head flat.now (option_map (λ p. p.now.table) plan.entry) outcome) (W.state out.old) (W.state out.new) }
 {
     let height = u64::from(bottom(flat)) + 28;
     put_heading(out, CargoUnit::Plain, outcome, height, &sizes(flat));
-    put_colours(out);
+    put_legend(out, flat, plan, &[]);
 }
 
 /// Puts what the figures right of the rows are.
@@ -190,7 +125,7 @@ pub fn put_flat_picture<W: Writer>(out: &mut W, flat: &Flat, plan: Option<&Plan>
     requires { IfSome plan (λ p. IsPlan flat.now p.now) }
     ensures { Puts (flat_picture flat.now (option_map (λ p. p.now.table) plan.entry) outcome) (W.state out.old) (W.state out.new) }
 {
-    put_head(out, flat, outcome);
+    put_head(out, flat, plan, outcome);
     match plan {
         None => {
             put_unplanned_body(out, flat);

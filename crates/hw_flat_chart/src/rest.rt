@@ -1,16 +1,18 @@
 //! What a picture has between its head and its end.
 
-ghost use Rattle.std.specs.Prelude.{◌≡◌, ◌≤◌, ◌<◌, IfSome, None, Some, option_map};
+ghost use Rattle.std.specs.Prelude.{◌≡◌, ◌≤◌, ◌<◌, All, IfSome, None, Some, length, option_map};
 ghost use Rattle.hw_desk.specs.Writers.{Puts};
+ghost use Rattle.hw_chart.specs.Legends.{HasShortWords, legend_parts};
 ghost use Rattle.hw_flat_chart.specs.Fleets.{picture_span};
 ghost use Rattle.hw_flat_chart.specs.Moves.{IsPlan};
 ghost use Rattle.hw_flat_chart.specs.Pictures.{body};
 ghost use Rattle.hw_flat_chart.specs.Rests.{flat_rest, lines_over};
 
-use crate::picture::{bottom, put_colours, put_planned_body, put_unplanned_body};
+use crate::legend::put_legend;
+use crate::picture::{bottom, put_planned_body, put_unplanned_body};
 use crate::plan::Plan;
 use crate::span::span;
-use hw_chart::{Scale, put_grid, put_span_end};
+use hw_chart::{Entry, Scale, put_grid, put_span_end};
 use hw_desk::Writer;
 use hw_flat::Flat;
 
@@ -51,13 +53,16 @@ fn put_body<W: Writer>(out: &mut W, flat: &Flat, plan: Option<&Plan>)
     }
 }
 
-/// Puts what a picture has between its head and its end: what the colours say, rows, panels and grid. It takes no memory.
+/// Puts what a picture has between its head and its end: the legend, with these entries after its own, rows, panels and grid. It
+/// takes no memory.
 #[tactic(auto, unfolding(crate::specs::Rests::flat_rest))]
-pub fn put_flat_rest<W: Writer>(out: &mut W, flat: &Flat, plan: Option<&Plan>)
-    requires { IfSome plan (λ p. IsPlan flat.now p.now) }
-    ensures { Puts (flat_rest flat.now (option_map (λ p. p.now.table) plan.entry)) (W.state out.old) (W.state out.new) }
+pub fn put_flat_rest<W: Writer>(out: &mut W, flat: &Flat, plan: Option<&Plan>, more: &[Entry])
+    requires plan { IfSome plan (λ p. IsPlan flat.now p.now) }
+    requires few { length more.now ≤ 30 }
+    requires words { All HasShortWords more.now }
+    ensures { Puts (flat_rest flat.now (option_map (λ p. p.now.table) plan.entry) (legend_parts more.now)) (W.state out.old) (W.state out.new) }
 {
-    put_colours(out);
+    put_legend(out, flat, plan, more);
     put_body(out, flat, plan);
     put_lines_over(out, flat, slots_shown(flat, plan));
 }

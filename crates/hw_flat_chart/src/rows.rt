@@ -4,6 +4,7 @@ ghost use Rattle.std.specs.Prelude.{◌≡◌, ◌≤◌, ◌<◌, ℕ, Some, fa
 ghost use Rattle.hw_model.specs.Problem.{IsTimetable, horizon};
 ghost use Rattle.hw_desk.specs.Writers.{Puts};
 ghost use Rattle.hw_chart.specs.Courses.{SailsBefore};
+ghost use Rattle.hw_chart.specs.Figures.{is_top_touched};
 ghost use Rattle.hw_chart.specs.Rows.{moves_window};
 ghost use Rattle.hw_flat_chart.specs.Fleets.{picture_span};
 ghost use Rattle.hw_flat_chart.specs.Moves.{IsPlan, flag_place, move_is_open, flat_open_level};
@@ -14,7 +15,9 @@ use crate::labels::put_figures;
 use crate::plan::Plan;
 use crate::row::{Row, put_row_begin, row_y};
 use crate::values::sails_nowhere;
-use hw_chart::{Course, course_at, put_moves_window, put_no_slot, put_pin, put_stays, rank};
+use hw_chart::{
+    Course, course_at, put_moves_window, put_no_slot, put_pin, put_stays, rank, touches_top,
+};
 use hw_desk::Writer;
 use hw_flat::{Flat, Timetable};
 use hw_model::{MOST_SHIPS, ShipId};
@@ -77,6 +80,16 @@ fn put_moves<W: Writer>(out: &mut W, flat: &Flat, plan: &Plan, row: Row)
     let ship = row.ship;
     let openings = Openings { flat, plan, ship };
     put_moves_window(out, row_y(row), row.span, &openings, flat.horizon());
+}
+
+/// Whether there is a slot to which a ship alone could move.
+pub(crate) fn could_move(flat: &Flat, plan: &Plan, ship: ShipId) -> bool
+    requires planned { IsPlan flat.now plan.now }
+    requires ship_in { ship < flat.now.ships }
+    ensures { result ≡ is_top_touched (flat_open_level flat.now plan.now.table ship) (horizon flat.now) }
+{
+    let openings = Openings { flat, plan, ship };
+    touches_top(&openings, flat.horizon())
 }
 
 /// Puts the row of a ship in a timetable.

@@ -3,3 +3,5 @@ pub mod Extremes
 pub mod Openings
 pub mod Drawn
 pub mod Runs
+pub mod Reasoned
+pub mod TwoLines

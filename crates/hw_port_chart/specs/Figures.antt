@@ -29,7 +29,7 @@ tight g = if nat_eq g.draft g.allowed then codes "r q" else codes "r"
 
 -- the allowed draft, and the waypoint that decides it
 abbrev pub allowed_figures : ChartParts → Sailing → ℕ → List ℕ
-allowed_figures chart g y = line (tight g) 1108 (y + 17) (metres g.allowed) ++ name_line (codes "r m") 1108 (y + 33) (charted_waypoint_name chart g.by) 80
+allowed_figures chart g y = line (tight g) 1100 (y + 17) (metres g.allowed) ++ name_line (codes "r m") 1100 (y + 33) (charted_waypoint_name chart g.by) 72
 
 -- the water under the keel where the draft is decided
 abbrev pub keel_of_sailing : Sailing → ℕ

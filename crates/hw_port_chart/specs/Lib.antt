@@ -12,9 +12,12 @@ pub mod Stays
 pub mod Signs
 pub mod Bars
 pub mod Figures
+pub mod Reasons
 pub mod Rows
 pub mod Lanes
 pub mod Fleets
+pub mod Marks
+pub mod Legends
 pub mod Pictures
 pub mod Laws
 pub mod Rests

@@ -11,22 +11,25 @@ use Rattle.hw_chart.specs.declared.outcome.Outcome.{Outcome}
 use Rattle.hw_calendar.specs.Calendars.{dated_grid}
 use Rattle.hw_chart.specs.Grids.{grid, span_end}
 use Rattle.hw_chart.specs.Headings.{heading}
+use Rattle.hw_chart.specs.Legends.{LegendEntry}
 use Rattle.hw_port_chart.specs.Charts.{ChartParts}
 use Rattle.hw_port_chart.specs.Spans.{port_picture_span}
-use Rattle.hw_port_chart.specs.Heads.{columns_where, legend, places, sizes}
-use Rattle.hw_port_chart.specs.Signs.{signs}
+use Rattle.hw_port_chart.specs.Heads.{columns_where, places, sizes}
+use Rattle.hw_port_chart.specs.Legends.{port_legend}
+use Rattle.hw_port_chart.specs.Signs.{hatch_where}
 use Rattle.hw_port_chart.specs.Strips.{strips}
+use Rattle.hw_port_chart.specs.Reasons.{hint_by}
 use Rattle.hw_port_chart.specs.Rows.{ship_list}
 use Rattle.hw_port_chart.specs.Lanes.{lanes_from}
 use Rattle.hw_port_chart.specs.Fleets.{fleet_panel}
 
--- what the colours say, also of what only some ports show
-abbrev pub legend_of : Parts → List ℕ
-legend_of p = legend ++ signs p
+-- the legend, with these entries after its own, and what hatched shapes look like
+abbrev pub legend_of : ChartParts → List LegendEntry → List ℕ
+legend_of chart more = port_legend chart more ++ hatch_where chart.port
 
--- what was proved, the sizes of the port, and what the colours say
+-- what was proved, the sizes of the port, how to find out more where nothing fits, and the legend
 abbrev pub head : ChartParts → Outcome → List ℕ
-head chart outcome = heading Tonnes outcome ((places chart.port).bottom + 28) (sizes chart.port) ++ legend_of chart.port
+head chart outcome = heading Tonnes outcome ((places chart.port).bottom + 28) (sizes chart.port) ++ (hint_by chart outcome.verdict ++ legend_of chart [])
 
 -- the tides, the ships, the sections and the tugs, one below another
 abbrev pub panels : ChartParts → List ℕ

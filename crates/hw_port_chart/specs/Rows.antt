@@ -1,20 +1,19 @@
 -- The row of a ship.
-use Rattle.std.specs.Prelude.{ℕ, ◌+◌, ◌*◌, Option, Some, None, is_none, List, [], ◌∷◌, ◌++◌, codes, decimal, if◌then◌else◌}
-use Rattle.std.specs.List.{list_all, range_with_len}
+use Rattle.std.specs.Prelude.{ℕ, ◌+◌, ◌*◌, Option, Some, None, List, [], ◌∷◌, ◌++◌, codes, decimal, if◌then◌else◌}
 use Rattle.hw_svg.specs.Joined.{joined}
 use Rattle.hw_svg.specs.Lettering.{line, name_line}
 use Rattle.hw_svg.specs.Numbers.{metres}
 use Rattle.hw_svg.specs.Shapes.{shape}
 use Rattle.hw_svg.specs.Sheets.{group_end, item_begin, list_begin, title_end}
 use Rattle.hw_port.specs.Parts.{ShipParts}
-use Rattle.hw_port_rules.specs.Numbers.{whole, horizon_of, is_outgoing}
-use Rattle.hw_port_rules.specs.Drafts.{sailing}
+use Rattle.hw_port_rules.specs.Numbers.{whole, is_outgoing}
 use Rattle.hw_chart.specs.declared.course.Course.{Course}
 use Rattle.hw_chart.specs.declared.course.Course.TheVariants.{Unplanned, Stays, Sails}
 use Rattle.hw_chart.specs.Layout.{pin, rank_of, stripe}
-use Rattle.hw_chart.specs.Rows.{no_slot, stays_label}
+use Rattle.hw_chart.specs.Rows.{stays_label}
 use Rattle.hw_port_chart.specs.Charts.{ChartParts, course, full_of, way}
 use Rattle.hw_port_chart.specs.Heads.{places}
+use Rattle.hw_port_chart.specs.Reasons.{no_slot_where}
 use Rattle.hw_port_chart.specs.Titles.{row_title}
 use Rattle.hw_port_chart.specs.Drafts.{drafts_text, moves_text, window_of}
 use Rattle.hw_port_chart.specs.Closings.{closings}
@@ -62,16 +61,12 @@ row_begin chart v s rank = joined (item_begin ∷ row_title chart v s (course ch
 abbrev pub row_left : ℕ → ShipParts → ℕ → List ℕ
 row_left v s y = arrow s y ++ row_label v s y
 
--- no slot in which the ship may sail
-abbrev pub no_slot_where : ChartParts → ℕ → ℕ → List ℕ
-no_slot_where chart v y = if list_all (λ slot. is_none (sailing chart.port chart.tide v slot)) (range_with_len 0 (horizon_of chart.port)) then no_slot y else []
-
 abbrev pub sailing_parts : ChartParts → ℕ → ShipParts → ℕ → ℕ → List ℕ
 sailing_parts chart v s slot y = joined (pin (way s) slot chart.span y ∷ bars chart v s slot y ∷ figures chart s (sailing_of chart v s slot) y ∷ [])
 
 -- what the timetable says of the ship
 abbrev pub row_right : ChartParts → ℕ → ShipParts → ℕ → Course → List ℕ
-row_right chart v s y Unplanned = no_slot_where chart v y
+row_right chart v s y Unplanned = no_slot_where chart v s y
 row_right chart v s y Stays = stays_label y
 row_right chart v s y (Sails slot) = sailing_parts chart v s slot y
 

@@ -1,5 +1,5 @@
 -- The tide at each waypoint.
-use Rattle.std.specs.Prelude.{ℕ, ◌+◌, ◌*◌, zero, suc, ℤ, pos, ◌-ℤ◌, List, [], ◌∷◌, ◌++◌, codes, length, slice_index_or, unsigned_abs}
+use Rattle.std.specs.Prelude.{ℕ, ◌+◌, ◌*◌, zero, suc, ℤ, pos, ◌-ℤ◌, ◌-◌, List, [], ◌∷◌, ◌++◌, codes, length, slice_index_or, unsigned_abs}
 use Rattle.std.specs.Int.{int_max, int_min}
 use Rattle.hw_svg.specs.Figures.{steps}
 use Rattle.hw_svg.specs.Joined.{joined}
@@ -10,9 +10,12 @@ use Rattle.hw_port.specs.declared.parts.Waypoint.{Waypoint}
 use Rattle.hw_tide.specs.Levels.{TideParts, height_at}
 use Rattle.hw_port_rules.specs.Numbers.{whole}
 use Rattle.hw_chart.specs.Layout.{plot}
+use Rattle.hw_waters.specs.declared.stand.WaterKind.TheVariants.{High, Low}
+use Rattle.hw_waters.specs.Columns.{ColumnParts}
+use Rattle.hw_waters.specs.Labels.{waters_text}
 use Rattle.hw_port_chart.specs.declared.passing.Strip.{Strip}
 use Rattle.hw_port_chart.specs.declared.heights.Heights.{Heights}
-use Rattle.hw_port_chart.specs.Charts.{ChartParts, shown, tall_between}
+use Rattle.hw_port_chart.specs.Charts.{ChartParts, midnight_of, shown, tall_between}
 use Rattle.hw_port_chart.specs.Passings.{marks_from}
 
 -- the least of the first few heights, and of the first one
@@ -42,9 +45,9 @@ water_level h place high slot = unsigned_abs (high -ℤ height_in h place slot)
 abbrev pub strip_of : Heights → ℕ → Waypoint → Strip
 strip_of heights place w = record { place = place; depth = whole w.depth; low = heights.low; high = heights.high }
 
--- where the strip of the waypoint at a place stands
+-- where the window of the waypoint at a place stands: over it is a line of text, and below it another one
 abbrev pub place_y : ℕ → ℕ
-place_y place = 50 * place + 124
+place_y place = 72 * place + 138
 
 abbrev pub strip_y : Strip → ℕ
 strip_y strip = place_y strip.place
@@ -66,8 +69,16 @@ water_steps chart strip = tide_steps chart.tide strip (shown chart)
 abbrev pub strip_heights : ChartParts → Strip → List ℕ
 strip_heights chart strip = line (codes "m") 900 (strip_y strip + 16) (joined (codes "tide " ∷ height_text (least_height (height_in chart.tide strip.place) (shown chart)) ∷ codes " to " ∷ height_text (greatest_of (height_in chart.tide strip.place) (shown chart)) ∷ codes " m" ∷ []))
 
+-- the rows that are shown at a waypoint, and the times at which they begin
+abbrev pub column_of : ChartParts → Strip → ColumnParts
+column_of chart strip = record { tide = chart.tide; place = strip.place; rows = shown chart; span = chart.span; minutes = whole chart.port.slot_minutes; midnight = midnight_of chart.port.start }
+
+-- its high waters in the line over the window, its low ones in that below
+abbrev pub strip_waters : ChartParts → Strip → List ℕ
+strip_waters chart strip = waters_text (column_of chart strip) High (strip_y strip - 4) ++ waters_text (column_of chart strip) Low (strip_y strip + 51)
+
 abbrev pub strip_text : ChartParts → Strip → List ℕ → List ℕ
-strip_text chart strip name = joined (strip_label strip name ∷ strip_window chart strip ∷ water_steps chart strip ∷ marks_from chart strip 0 chart.port.ships ∷ svg_end ∷ strip_heights chart strip ∷ [])
+strip_text chart strip name = joined (strip_label strip name ∷ strip_window chart strip ∷ water_steps chart strip ∷ marks_from chart strip 0 chart.port.ships ∷ svg_end ∷ strip_heights chart strip ∷ strip_waters chart strip ∷ [])
 
 -- the strip of the waypoint at a place
 unfoldable pub strip_at_place : ChartParts → Heights → ℕ → Waypoint → List ℕ

@@ -27,7 +27,7 @@ fn outgoing_of(chart: &Chart, pair: &BerthPair) -> ShipId
 }
 
 /// The number of the ship that takes the berth of a pair.
-fn incoming_of(chart: &Chart, pair: &BerthPair) -> ShipId
+pub fn incoming_of(chart: &Chart, pair: &BerthPair) -> ShipId
     requires { BerthKept chart.now.port.ships pair.now }
     ensures { result ≡ whole pair.now.incoming }
 {
@@ -97,7 +97,7 @@ fn job_of(chart: &Chart, ship: &Ship) -> u64
 }
 
 /// How many tugs a ship takes.
-fn tugs_of(chart: &Chart, ship: &Ship) -> u32
+pub fn tugs_of(chart: &Chart, ship: &Ship) -> u32
     requires { ShipKept chart.now.port ship.now }
     ensures { result ≡ whole ship.now.tugs }
 {

@@ -4,7 +4,7 @@ ghost use Rattle.std.specs.Prelude.{◌≡◌, ◌≤◌, ◌<◌, ◌≤ℤ◌,
 ghost use Rattle.std.specs.Option.{option_map_or};
 ghost use Rattle.hw_port.specs.Kept.{PortKept, ShipKept, WaypointKept};
 ghost use Rattle.hw_port_rules.specs.Numbers.{horizon_of, whole};
-ghost use Rattle.hw_port_rules.specs.Drafts.{sailing as sailing_draft};
+ghost use Rattle.hw_port_rules.specs.Drafts.{allowed, sailing as sailing_draft};
 ghost use Rattle.hw_chart.specs.Courses.{SailsBefore};
 ghost use Rattle.hw_tide.specs.Levels.{height_at};
 ghost use Rattle.hw_port_chart.specs.Charts.{allowed_in, cargo_in, course as course_of_ship, depth_in, draft_in, judging_height as judged_height, midnight_of, minutes_to, slot_in_chart as slot_or_0, shown, slot_in, charted_waypoint_name};
@@ -111,7 +111,7 @@ impl Chart<'_> {
     }
 
     /// The minutes from midnight to the beginning of slot 0, where that has a date.
-    fn midnight(&self) -> u32
+    pub fn midnight(&self) -> u32
         ensures value { result ≡ midnight_of self.now.port.start }
         ensures few { result < 1_440 }
     {
@@ -214,6 +214,15 @@ impl Chart<'_> {
         hw_draft::draft(self.port, self.tide, ship, slot).unwrap_or(0)
     }
 
+    /// Whether a slot allows a ship any draft: whether it makes no pass outside the tide.
+    pub fn has_draft(&self, ship: ShipId, slot: Slot) -> bool
+        requires ship_in { ship < length self.now.port.ships }
+        requires slot_in { slot < horizon_of self.now.port }
+        ensures { result ≡ is_some (allowed self.now.port self.now.tide ship slot) }
+    {
+        hw_draft::draft(self.port, self.tide, ship, slot).is_some()
+    }
+
     /// The cargo of a ship in a slot, 0 where it may not sail.
     pub fn cargo(&self, ship: ShipId, slot: Slot) -> u64
         requires ship_in { ship < length self.now.port.ships }
@@ -274,6 +283,7 @@ impl Chart<'_> {
     pub fn shown(&self) -> u32
         ensures value { result ≡ shown self.now }
         ensures inside { result ≤ self.now.tide.rows }
+        ensures within { result ≤ self.now.span }
     {
         let tide = self.tide;
         self.span.min(tide.rows)

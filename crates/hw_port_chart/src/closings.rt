@@ -14,7 +14,7 @@ use hw_model::{ShipId, Slot};
 use hw_svg::{Area, Piece, put_titled};
 
 /// Whether a slot is closed for a ship.
-fn is_closed(chart: &Chart, number: ShipId, slot: Slot) -> bool
+pub fn is_closed(chart: &Chart, number: ShipId, slot: Slot) -> bool
     requires ship_in { number < length chart.now.port.ships }
     requires slot_in { slot < horizon_of chart.now.port }
     ensures { result ≡ closed_in chart.now.port number slot }

@@ -84,8 +84,8 @@ fn put_allowed<W: Writer>(out: &mut W, chart: &Chart, sailing: Sailing, y: u32)
 {
     let y = u64::from(y);
     let allowed = Piece::Metres(sailing.allowed);
-    put_line(out, tight(sailing), 1108, y + 17, &[allowed]);
-    put_name_line(out, b"r m", 1108, y + 33, chart.waypoint(sailing.by), 80);
+    put_line(out, tight(sailing), 1100, y + 17, &[allowed]);
+    put_name_line(out, b"r m", 1100, y + 33, chart.waypoint(sailing.by), 72);
 }
 
 /// The water under the keel where the draft is decided.

@@ -3,16 +3,18 @@
 ghost use Rattle.std.specs.Prelude.{◌≡◌, ◌≤◌, ◌*◌, length, All, sum_by, zip};
 ghost use Rattle.hw_desk.specs.Writers.{Puts};
 ghost use Rattle.hw_port.specs.Kept.{PortKept, ShipKept};
-ghost use Rattle.hw_port_rules.specs.Numbers.{horizon_of};
+ghost use Rattle.hw_port_rules.specs.Numbers.{horizon_of, whole};
 ghost use Rattle.hw_port_rules.specs.Permitted.{tugs_held};
+ghost use Rattle.hw_chart.specs.Figures.{is_reached};
 ghost use Rattle.hw_chart.specs.Panels.{planned_panel, unplanned_panel};
 ghost use Rattle.hw_port_chart.specs.Fleets.{fleet_panel, tugs_held_in, panel_of};
+ghost use Rattle.hw_port_chart.specs.Marks.{is_fleet_held as whole_fleet_held};
 
 use crate::chart::Chart;
 use crate::numbers::natural;
 use crate::places::places_of;
 use crate::span::hold;
-use hw_chart::{Panel, put_planned_panel, put_unplanned_panel};
+use hw_chart::{Panel, put_planned_panel, put_unplanned_panel, reaches};
 use hw_desk::Writer;
 use hw_model::{MOST_SHIPS, MOST_TUGS, Slot};
 use hw_port::{PortParts, Ship};
@@ -104,5 +106,24 @@ pub fn put_fleet<W: Writer>(out: &mut W, chart: &Chart)
     match chart.table() {
         Some(table) => put_planned(out, chart, table),
         None => put_unplanned(out, chart),
+    }
+}
+
+/// Whether these slots hold the whole fleet in some slot.
+fn is_held_by(chart: &Chart, table: &[Slot]) -> bool
+    ensures { result ≡ is_reached (tugs_held_in chart.now.port table.now) (whole chart.now.port.fleet) (horizon_of chart.now.port) }
+{
+    let held = Held { chart, table };
+    let fleet = u64::from(natural(chart.parts().fleet));
+    reaches(&held, fleet, chart.horizon())
+}
+
+/// Whether the timetable holds the whole fleet in some slot.
+pub fn is_fleet_held(chart: &Chart) -> bool
+    ensures { result ≡ whole_fleet_held chart.now chart.now.table }
+{
+    match chart.table() {
+        Some(table) => is_held_by(chart, table),
+        None => false,
     }
 }

@@ -1,115 +1,26 @@
 //! The head of a picture, and the heads of its columns.
 
-ghost use Rattle.std.specs.Prelude.{◌≡◌};
+ghost use Rattle.std.specs.Prelude.{◌≡◌, ◌≤◌, ◌++◌, [], All, length};
 ghost use Rattle.hw_desk.specs.Writers.{Puts};
 ghost use Rattle.hw_svg.specs.Pieces.{picture_pieces_text};
 ghost use Rattle.hw_port.specs.Kept.{PortKept};
-ghost use Rattle.hw_port_chart.specs.Heads.{columns, columns_where, legend, other_entries, sailing_entries, way_entries, sizes as sizes_of, sizes_text};
+ghost use Rattle.hw_chart.specs.Legends.{HasShortWords, legend_parts};
+ghost use Rattle.hw_port_chart.specs.Heads.{columns, columns_where, sizes as sizes_of, sizes_text};
 ghost use Rattle.hw_port_chart.specs.Pictures.{head, legend_of};
+ghost use Rattle.hw_port_chart.specs.Reasons.{hint_by};
+ghost use Rattle.hw_port_chart.specs.Signs.{hatch_where};
 
 use crate::chart::Chart;
+use crate::legend::put_port_legend;
 use crate::numbers::natural;
 use crate::places::places_of;
-use crate::signs::put_signs;
-use hw_chart::{CargoUnit, Entry, Outcome, put_heading, put_legend};
+use crate::reasons::put_hint;
+use crate::signs::put_hatch_where;
+use hw_chart::{CargoUnit, Entry, Outcome, put_heading};
 use hw_desk::Writer;
+use hw_lines::Verdict;
 use hw_port::PortParts;
 use hw_svg::{Piece, put_line};
-
-/// Puts what the colours of sailings say.
-#[tactic(auto, unfolding(crate::specs::Heads::sailing_entries))]
-fn put_sailing_entries<W: Writer>(out: &mut W)
-    ensures { Puts sailing_entries (W.state out.old) (W.state out.new) }
-{
-    put_legend(
-        out,
-        &[
-            Entry {
-                class: b"wa",
-                x: 16,
-                says: b"tide",
-            },
-            Entry {
-                class: b"dr",
-                x: 70,
-                says: b"may sail: the higher, the deeper",
-            },
-            Entry {
-                class: b"fl",
-                x: 274,
-                says: b"with full draft",
-            },
-            Entry {
-                class: b"pl",
-                x: 374,
-                says: b"could move there alone",
-            },
-        ],
-    );
-}
-
-/// Puts what the colours of directions and of tugs say.
-#[tactic(auto, unfolding(crate::specs::Heads::way_entries))]
-fn put_way_entries<W: Writer>(out: &mut W)
-    ensures { Puts way_entries (W.state out.old) (W.state out.new) }
-{
-    put_legend(
-        out,
-        &[
-            Entry {
-                class: b"ou",
-                x: 532,
-                says: b"sails out",
-            },
-            Entry {
-                class: b"in",
-                x: 604,
-                says: b"comes in",
-            },
-            Entry {
-                class: b"tu",
-                x: 680,
-                says: b"holds tugs",
-            },
-        ],
-    );
-}
-
-/// Puts what the other colours say.
-#[tactic(auto, unfolding(crate::specs::Heads::other_entries))]
-fn put_other_entries<W: Writer>(out: &mut W)
-    ensures { Puts other_entries (W.state out.old) (W.state out.new) }
-{
-    put_legend(
-        out,
-        &[
-            Entry {
-                class: b"ba",
-                x: 764,
-                says: b"tugs turn round",
-            },
-            Entry {
-                class: b"be",
-                x: 876,
-                says: b"berth not yet clear",
-            },
-            Entry {
-                class: b"fu",
-                x: 1006,
-                says: b"whole fleet held",
-            },
-        ],
-    );
-}
-
-/// Puts what the colours say.
-fn put_all_entries<W: Writer>(out: &mut W)
-    ensures { Puts legend (W.state out.old) (W.state out.new) }
-{
-    put_sailing_entries(out);
-    put_way_entries(out);
-    put_other_entries(out);
-}
 
 /// The sizes of a port, in pieces.
 #[tactic(auto, unfolding(crate::specs::Heads::sizes_text))]
@@ -129,19 +40,29 @@ pub fn sizes(parts: &PortParts) -> [Piece<'static>; 8]
     ]
 }
 
-/// Puts what the colours say, also of what only some ports show.
-fn put_legend_of<W: Writer>(out: &mut W, parts: &PortParts)
-    ensures { Puts (legend_of parts.now) (W.state out.old) (W.state out.new) }
+/// Puts what hatched shapes look like, where slots are closed.
+fn put_hatch_of<W: Writer>(out: &mut W, chart: &Chart)
+    ensures { Puts (hatch_where chart.now.port) (W.state out.old) (W.state out.new) }
 {
-    put_all_entries(out);
-    put_signs(out, parts);
+    put_hatch_where(out, chart.parts());
 }
 
-/// Puts what the colours of a chart say.
-pub fn put_chart_legend<W: Writer>(out: &mut W, chart: &Chart)
-    ensures { Puts (legend_of chart.now.port) (W.state out.old) (W.state out.new) }
+/// Puts the legend, with these entries after its own, and what hatched shapes look like.
+pub fn put_chart_legend<W: Writer>(out: &mut W, chart: &Chart, more: &[Entry])
+    requires few { length more.now ≤ 30 }
+    requires words { All HasShortWords more.now }
+    ensures { Puts (legend_of chart.now (legend_parts more.now)) (W.state out.old) (W.state out.new) }
 {
-    put_legend_of(out, chart.parts());
+    put_port_legend(out, chart, more);
+    put_hatch_of(out, chart);
+}
+
+/// Puts how to find out more where nothing fits, and the legend.
+fn put_head_end<W: Writer>(out: &mut W, chart: &Chart, verdict: Verdict)
+    ensures { Puts (hint_by chart.now verdict ++ legend_of chart.now []) (W.state out.old) (W.state out.new) }
+{
+    put_hint(out, chart, verdict);
+    put_chart_legend(out, chart, &[]);
 }
 
 /// Puts the head of a picture: what was proved, the sizes of the port, and what the colours say.
@@ -151,7 +72,7 @@ pub fn put_head<W: Writer>(out: &mut W, chart: &Chart, outcome: Outcome)
     let parts = chart.parts();
     let height = u64::from(places_of(parts).bottom) + 28;
     put_heading(out, CargoUnit::Tonnes, outcome, height, &sizes(parts));
-    put_chart_legend(out, chart);
+    put_head_end(out, chart, outcome.verdict);
 }
 
 /// Puts the heads of the columns.
@@ -160,7 +81,7 @@ fn put_columns<W: Writer>(out: &mut W, y: u64)
 {
     put_line(out, b"m r", 956, y, &[Piece::Word(b"sails")]);
     put_line(out, b"m r", 1020, y, &[Piece::Word(b"draft m")]);
-    put_line(out, b"m r", 1108, y, &[Piece::Word(b"allowed m")]);
+    put_line(out, b"m r", 1100, y, &[Piece::Word(b"allowed m")]);
     put_line(out, b"m r", 1186, y, &[Piece::Word(b"under keel m")]);
     put_line(out, b"m r", 1268, y, &[Piece::Word(b"cargo t")]);
 }

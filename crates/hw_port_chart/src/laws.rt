@@ -1,5 +1,6 @@
 //! What a port's picture says.
 
+ghost use Rattle.hw_port_chart.specs.Legends.{LegendsFit};
 ghost use Rattle.hw_port_chart.specs.Laws.{FleetAlwaysSuffices, MovesArePermitted, SailsBetween};
 
 /// A sailing draft lies between the light and the full one, so that a level lies in its window.
@@ -15,4 +16,9 @@ pub fn moves_are_permitted()
 /// Where the port permits the timetable, its ships never hold more tugs than there are.
 pub fn fleet_suffices()
     ensures { FleetAlwaysSuffices }
+{}
+
+/// The legend has two lines at most, whatever marks it names, if those after its own take no more than their room.
+pub fn legends_fit()
+    ensures { LegendsFit }
 {}

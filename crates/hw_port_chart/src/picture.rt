@@ -114,8 +114,9 @@ fn put_picture<W: Writer>(out: &mut W, chart: &Chart, outcome: Outcome)
 
 /// Puts the picture of a port with its tide, a timetable of its flat problem or none, and what a certificate proves.
 ///
-/// The picture is one SVG, below 3,000,000 bytes, each a line feed or from the space to the tilde. The timetable need not
-/// be permitted, nor the outcome be true of it: what is printed is the picture of these. It takes no memory.
+/// The picture is one SVG, below 3,000,000 bytes, each a line feed, from the space to the tilde, or one of the three of an
+/// ellipsis. The timetable need not be permitted, nor the outcome be true of it: what is printed is the picture of these. It
+/// takes no memory.
 pub fn put_port_picture<W: Writer>(
     out: &mut W,
     port: &Port,

@@ -24,10 +24,10 @@ fn places_for(waypoints: u32, ships: u32, sections: u32) -> Places
     ensures { result ≡ places_of waypoints ships sections }
 {
     Places {
-        rows: 50 * waypoints + 146,
-        lanes: 50 * waypoints + 42 * ships + 156,
-        tugs: 50 * waypoints + 42 * ships + 28 * sections + 156,
-        bottom: 50 * waypoints + 42 * ships + 28 * sections + 212,
+        rows: 72 * waypoints + 146,
+        lanes: 72 * waypoints + 42 * ships + 156,
+        tugs: 72 * waypoints + 42 * ships + 28 * sections + 156,
+        bottom: 72 * waypoints + 42 * ships + 28 * sections + 212,
     }
 }
 
@@ -35,9 +35,9 @@ fn places_for(waypoints: u32, ships: u32, sections: u32) -> Places
 pub fn places_of(parts: &PortParts) -> Places
     requires { PortKept parts.now }
     ensures value { result ≡ places_of_port parts.now }
-    ensures rows { result.rows ≤ 946 }
-    ensures lanes { result.lanes ≤ 2_636 }
-    ensures bottom { result.bottom ≤ 2_916 }
+    ensures rows { result.rows ≤ 1_298 }
+    ensures lanes { result.lanes ≤ 2_988 }
+    ensures bottom { result.bottom ≤ 3_268 }
 {
     places_for(
         parts.waypoints.len() as u32,

@@ -1,11 +1,9 @@
 //! The row of a ship.
 
-ghost use Rattle.std.specs.Prelude.{◌≡◌, ◌≤◌, ◌<◌, ◌+◌, length, All, is_none};
-ghost use Rattle.std.specs.List.{list_all, range_with_len};
+ghost use Rattle.std.specs.Prelude.{◌≡◌, ◌≤◌, ◌<◌, ◌+◌, length, All};
 ghost use Rattle.hw_desk.specs.Writers.{Puts};
 ghost use Rattle.hw_port.specs.Kept.{ShipKept};
 ghost use Rattle.hw_port_rules.specs.Numbers.{horizon_of};
-ghost use Rattle.hw_port_rules.specs.Drafts.{sailing as sailing_draft};
 ghost use Rattle.hw_chart.specs.Courses.{SailsBefore};
 ghost use Rattle.hw_chart.specs.Layout.{pin, stripe};
 ghost use Rattle.hw_port_chart.specs.Charts.{course, way as way_of};
@@ -14,7 +12,7 @@ ghost use Rattle.hw_port_chart.specs.Drafts.{drafts_text, window_of};
 ghost use Rattle.hw_port_chart.specs.Figures.{figures};
 ghost use Rattle.hw_port_chart.specs.Sailings.{sailing_of as sailing_numbers};
 ghost use Rattle.hw_port_chart.specs.Titles.{row_title};
-ghost use Rattle.hw_port_chart.specs.Rows.{arrow, arrow_in, arrow_out, arrow_path, full_draft_word, no_slot_where, rank_in, ranked_row, ship_row_at, row_begin, row_label, row_left, row_name, row_number, row_rest, row_right, row_windows, row_y, rows_from, sailing_parts, ship_list};
+ghost use Rattle.hw_port_chart.specs.Rows.{arrow, arrow_in, arrow_out, arrow_path, full_draft_word, rank_in, ranked_row, ship_row_at, row_begin, row_label, row_left, row_name, row_number, row_rest, row_right, row_windows, row_y, rows_from, sailing_parts, ship_list};
 
 use crate::bars::put_bars;
 use crate::chart::Chart;
@@ -23,9 +21,10 @@ use crate::drafts::{put_drafts, put_moves, window};
 use crate::figures::put_figures;
 use crate::numbers::{natural_full, way};
 use crate::places::places_of;
+use crate::reasons::put_no_slot_where;
 use crate::sailing::sailing_of;
 use crate::title::put_row_title;
-use hw_chart::{Course, put_no_slot, put_pin, put_stays, put_stripe, rank};
+use hw_chart::{Course, put_pin, put_stays, put_stripe, rank};
 use hw_desk::Writer;
 use hw_model::{MOST_SHIPS, ShipId, Slot};
 use hw_port::Ship;
@@ -238,26 +237,6 @@ fn put_windows<W: Writer>(out: &mut W, chart: &Chart, number: ShipId, ship: &Shi
     put_closed(out, chart, number, ship, y);
 }
 
-/// Whether there is no slot in which a ship may sail.
-fn is_kept_in(chart: &Chart, number: ShipId) -> bool
-    requires { number < length chart.now.port.ships }
-    ensures { result ≡ list_all (λ slot. is_none (sailing_draft chart.now.port chart.now.tide number slot)) (range_with_len 0 (horizon_of chart.now.port)) }
-{
-    (0..chart.horizon()).all(|slot| chart.sailing(number, slot).is_none())
-}
-
-/// Puts that there is no slot in which a ship may sail, where that is so.
-fn put_no_slot_where<W: Writer>(out: &mut W, chart: &Chart, number: ShipId, y: u32)
-    requires { number < length chart.now.port.ships }
-    ensures { Puts (no_slot_where chart.now number y) (W.state out.old) (W.state out.new) }
-{
-    if is_kept_in(chart, number) {
-        put_no_slot(out, y);
-    } else {
-        out.put(b"");
-    }
-}
-
 /// Puts the pin of a sailing.
 fn put_pin_of<W: Writer>(out: &mut W, chart: &Chart, ship: &Ship, slot: Slot, y: u32)
     ensures { Puts (pin (way_of ship.now) slot chart.now.span y) (W.state out.old) (W.state out.new) }
@@ -317,7 +296,7 @@ fn put_right<W: Writer>(
     ensures { Puts (row_right chart.now number ship.now y course) (W.state out.old) (W.state out.new) }
 {
     match course {
-        Course::Unplanned => put_no_slot_where(out, chart, number, y),
+        Course::Unplanned => put_no_slot_where(out, chart, number, ship, y),
         Course::Stays => put_stays(out, y),
         Course::Sails(slot) => put_sailing_parts(out, chart, number, ship, slot, y),
     }

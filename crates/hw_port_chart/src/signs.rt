@@ -1,11 +1,11 @@
-//! What only some ports show.
+//! The hatch of closed slots, which only some ports have.
 
 ghost use Rattle.std.specs.Prelude.{◌≡◌};
 ghost use Rattle.std.specs.List.{list_any};
 ghost use Rattle.hw_desk.specs.Writers.{Puts};
-ghost use Rattle.hw_port_chart.specs.Signs.{are_some as some_are, closed_sign, closed_sign_where, has_closings as closings_there, signs, stay_signs, stay_signs_where};
+ghost use Rattle.hw_port_chart.specs.Signs.{are_some as some_are, has_closings as closings_there, hatch_where};
 
-use hw_chart::{Entry, put_entry_below, put_hatch};
+use hw_chart::put_hatch;
 use hw_desk::Writer;
 use hw_port::{Closing, PortParts, Ship, Waypoint};
 
@@ -45,69 +45,13 @@ fn has_closings(parts: &PortParts) -> bool
         || (is_some_ship_closed(&parts.ships) || is_some_waypoint_closed(&parts.waypoints))
 }
 
-/// Puts the hatch, and what it says.
-fn put_closed_sign<W: Writer>(out: &mut W)
-    ensures { Puts closed_sign (W.state out.old) (W.state out.new) }
-{
-    put_hatch(out);
-    put_entry_below(
-        out,
-        Entry {
-            class: b"ha",
-            x: 16,
-            says: b"closed",
-        },
-    );
-}
-
-/// Puts what the bars of stays say.
-fn put_stay_signs<W: Writer>(out: &mut W)
-    ensures { Puts stay_signs (W.state out.old) (W.state out.new) }
-{
-    put_entry_below(
-        out,
-        Entry {
-            class: b"be",
-            x: 70,
-            says: b"must wait for the ship before",
-        },
-    );
-    put_entry_below(
-        out,
-        Entry {
-            class: b"wi",
-            x: 258,
-            says: b"waits on",
-        },
-    );
-}
-
-/// Puts the hatch and what it says, where slots are closed.
-fn put_closed_sign_where<W: Writer>(out: &mut W, parts: &PortParts)
-    ensures { Puts (closed_sign_where parts.now) (W.state out.old) (W.state out.new) }
+/// Puts what hatched shapes look like, where slots are closed.
+pub fn put_hatch_where<W: Writer>(out: &mut W, parts: &PortParts)
+    ensures { Puts (hatch_where parts.now) (W.state out.old) (W.state out.new) }
 {
     if has_closings(parts) {
-        put_closed_sign(out);
+        put_hatch(out);
     } else {
         out.put(b"");
     }
-}
-
-/// Puts what the bars of stays say, where a ship sails after another one.
-fn put_stay_signs_where<W: Writer>(out: &mut W, parts: &PortParts)
-    ensures { Puts (stay_signs_where parts.now) (W.state out.old) (W.state out.new) }
-{
-    if parts.after.len() > 0 {
-        put_stay_signs(out);
-    } else {
-        out.put(b"");
-    }
-}
-
-/// Puts what the legend says only of some ports.
-pub fn put_signs<W: Writer>(out: &mut W, parts: &PortParts)
-    ensures { Puts (signs parts.now) (W.state out.old) (W.state out.new) }
-{
-    put_closed_sign_where(out, parts);
-    put_stay_signs_where(out, parts);
 }

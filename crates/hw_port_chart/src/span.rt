@@ -38,7 +38,7 @@ fn last_leave(sections: usize, channel: &[Stretch]) -> u32
 }
 
 /// For how many slots a ship's tugs turn round.
-fn turnaround(parts: &PortParts, ship: &Ship) -> u32
+pub fn turnaround(parts: &PortParts, ship: &Ship) -> u32
     requires { PortKept parts.now }
     ensures value { result ≡ turnaround_of parts.now ship.now }
     ensures few { result ≤ 512 }

@@ -27,7 +27,7 @@ pub struct Wait {
 }
 
 /// The number of a pair's second ship.
-fn second_of(chart: &Chart, pair: &AfterPair) -> ShipId
+pub fn second_of(chart: &Chart, pair: &AfterPair) -> ShipId
     requires { AfterKept (pos (length chart.now.port.ships)) pair.now }
     ensures { result ≡ whole pair.now.second }
 {
@@ -36,7 +36,7 @@ fn second_of(chart: &Chart, pair: &AfterPair) -> ShipId
 }
 
 /// The number of a pair's first ship.
-fn first_of(chart: &Chart, pair: &AfterPair) -> ShipId
+pub fn first_of(chart: &Chart, pair: &AfterPair) -> ShipId
     requires { AfterKept (pos (length chart.now.port.ships)) pair.now }
     ensures { result ≡ whole pair.now.first }
 {

@@ -10,6 +10,7 @@ use crate::chart::Chart;
 use crate::heights::{Heights, heights_at, heights_of};
 use crate::numbers::natural;
 use crate::passing::{Strip, put_marks, tall};
+use crate::waters::put_strip_waters;
 use hw_chart::plot;
 use hw_desk::Writer;
 use hw_port::Waypoint;
@@ -50,10 +51,10 @@ fn strip_at(heights: Heights, place: u32, waypoint: &Waypoint) -> Strip
 }
 
 /// How far down a strip begins.
-fn y(strip: Strip) -> u64
+pub fn y(strip: Strip) -> u64
     ensures { result ≡ strip_y strip }
 {
-    50 * u64::from(strip.place) + 124
+    72 * u64::from(strip.place) + 138
 }
 
 /// Puts the name of a waypoint and its charted depth.
@@ -146,6 +147,7 @@ fn put_strip<W: Writer>(out: &mut W, chart: &Chart, strip: Strip, name: &[u8])
     put_all_marks(out, chart, strip);
     put_svg_end(out);
     put_heights(out, chart, strip);
+    put_strip_waters(out, chart, strip);
 }
 
 /// Puts the strip of the waypoint at a place.

@@ -1,2 +1,3 @@
 mod Titles
 mod Told
+mod TwoLines

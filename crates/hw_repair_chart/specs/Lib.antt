@@ -1,6 +1,6 @@
 pub mod Heads
-pub mod Legends
 pub mod Times
 pub mod Marks
 pub mod Sheets
+pub mod Legends
 pub mod Laws

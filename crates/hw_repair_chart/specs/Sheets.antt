@@ -6,7 +6,6 @@ use Rattle.hw_svg.specs.Sheets.{svg_end}
 use Rattle.hw_chart.specs.Layout.{rank_of}
 use Rattle.hw_repair.specs.Wishes.{wished}
 use Rattle.hw_repair.specs.declared.plan.Wish.{Wish}
-use Rattle.hw_repair_chart.specs.Legends.{marks_legend}
 use Rattle.hw_repair_chart.specs.Marks.{mark_of_wish}
 use Rattle.hw_repair_chart.specs.declared.mark.Spot.{Spot}
 use Rattle.hw_repair_chart.specs.declared.marks.Sheet.{Sheet}
@@ -35,6 +34,6 @@ abbrev pub wish_marks_from : Problem → Sheet → Option (List ℕ) → ℕ →
 wish_marks_from f sheet table ship [] = []
 wish_marks_from f sheet table ship (wish ∷ more) = mark_for_wish f sheet table ship wish ++ wish_marks_from f sheet table (ship + 1) more
 
--- what the marks say, the marks, and the end of the picture
+-- the marks, and the end of the picture
 unfoldable pub marked_end : Problem → Sheet → Option (List ℕ) → List Wish → List ℕ
-marked_end f sheet table wishes = joined (marks_legend ∷ wish_marks_from f sheet table 0 wishes ∷ svg_end ∷ [])
+marked_end f sheet table wishes = joined (wish_marks_from f sheet table 0 wishes ∷ svg_end ∷ [])

@@ -1,5 +1,6 @@
 //! What the marks say: functions without a body.
 
+ghost use Rattle.hw_repair_chart.specs.Legends.{RepairEntriesFit};
 ghost use Rattle.hw_repair_chart.specs.Laws.{GhostsAreMoved, HatchedIsNotGranted, MarkedHaveSailed};
 
 /// An old slot is marked exactly where the ship was planned for it and has another slot now.
@@ -15,4 +16,9 @@ pub fn marked_have_sailed()
 /// The striped slots of a ship are exactly those before the earliest one that the plan leaves it.
 pub fn hatched_is_not_granted()
     ensures { HatchedIsNotGranted }
+{}
+
+/// The entries of a repair's marks have room on the legend's second line.
+pub fn repair_entries_fit()
+    ensures { RepairEntriesFit }
 {}

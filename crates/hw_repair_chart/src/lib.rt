@@ -14,7 +14,8 @@ mod sheet;
 mod time;
 
 pub use heading::{own_outcome, put_repair_head};
-pub use laws::{ghosts_are_moved, hatched_is_not_granted, marked_have_sailed};
+pub use laws::{ghosts_are_moved, hatched_is_not_granted, marked_have_sailed, repair_entries_fit};
+pub use legend::repair_entries;
 pub use mark::Spot;
 pub use marks::{Sheet, put_marked_end};
 pub use sheet::MARKS;

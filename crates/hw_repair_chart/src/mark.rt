@@ -26,7 +26,7 @@ pub struct Spot {
 }
 
 /// The end of the slots before the earliest one that the plan leaves a ship, 0 where it has sailed.
-fn hatch_end(wish: Wish) -> Slot
+pub fn hatch_end(wish: Wish) -> Slot
     ensures { result ≡ hatch_end wish }
 {
     match wish {

@@ -5,7 +5,6 @@ ghost use Rattle.hw_desk.specs.Writers.{Puts};
 ghost use Rattle.hw_model.specs.Problem.{IsTimetable};
 ghost use Rattle.hw_repair_chart.specs.Sheets.{mark_for_wish, marked_end, wish_marks_from, sheet_rank_in, slot_by, slot_in, spot_of};
 
-use crate::legend::put_marks_legend;
 use crate::mark::{Spot, put_mark};
 use hw_chart::{Scale, rank};
 use hw_desk::Writer;
@@ -46,7 +45,7 @@ fn rank_of(table: Option<&Timetable>, ship: ShipId) -> u32
 fn spot_of(sheet: Sheet, table: Option<&Timetable>, ship: ShipId) -> Spot
     requires listed { IfSome table (λ t. ship < length t.now) }
     requires ship_in { ship < MOST_SHIPS }
-    requires rows { sheet.rows ≤ 1_000 }
+    requires rows { sheet.rows ≤ 1_298 }
     ensures { result ≡ spot_of sheet (option_map (λ t. t.now) table.entry) ship }
 {
     Spot {
@@ -67,7 +66,7 @@ fn slot_in(table: Option<&Timetable>, ship: ShipId) -> Option<Slot>
 }
 
 /// The slot of a ship, or where there is no timetable that of its wish.
-fn slot_by(table: Option<&Timetable>, ship: ShipId, wish: Wish) -> Slot
+pub fn slot_by(table: Option<&Timetable>, ship: ShipId, wish: Wish) -> Slot
     ensures { result ≡ slot_by (option_map (λ t. t.now) table.entry) ship wish }
 {
     slot_in(table, ship).unwrap_or(wished(wish))
@@ -85,7 +84,7 @@ fn put_mark_of<W: Writer>(
 )
     requires listed { IfSome table (λ t. ship < length t.now) }
     requires ship_in { ship < MOST_SHIPS }
-    requires rows { sheet.rows ≤ 1_000 }
+    requires rows { sheet.rows ≤ 1_298 }
     requires some { 0 < sheet.span }
     ensures { Puts (mark_for_wish flat.now sheet (option_map (λ t. t.now) table.entry) ship wish) (W.state out.old) (W.state out.new) }
 {
@@ -105,7 +104,7 @@ fn put_marks<W: Writer>(
 )
     requires listed { IfSome table (λ t. ship + length wishes.now ≤ length t.now) }
     requires ships { ship + length wishes.now ≤ MOST_SHIPS }
-    requires rows { sheet.rows ≤ 1_000 }
+    requires rows { sheet.rows ≤ 1_298 }
     requires some { 0 < sheet.span }
     ensures { Puts (wish_marks_from flat.now sheet (option_map (λ t. t.now) table.entry) ship wishes.now) (W.state out.old) (W.state out.new) }
 {
@@ -115,7 +114,7 @@ fn put_marks<W: Writer>(
     }
 }
 
-/// Puts what the marks say, the marks of all ships, and the end of the picture.
+/// Puts the marks of all ships, and the end of the picture.
 #[tactic(auto, unfolding(crate::specs::Sheets::marked_end))]
 pub fn put_marked_end<W: Writer>(
     out: &mut W,
@@ -126,12 +125,11 @@ pub fn put_marked_end<W: Writer>(
 )
     requires each { length wishes.now ≡ flat.now.ships }
     requires listed { IfSome table (λ t. IsTimetable flat.now t.now) }
-    requires rows { sheet.rows ≤ 1_000 }
+    requires rows { sheet.rows ≤ 1_298 }
     requires some { 0 < sheet.span }
     ensures { Puts (marked_end flat.now sheet (option_map (λ t. t.now) table.entry) wishes.now) (W.state out.old) (W.state out.new) }
 {
     let _shape = flat.shape();
-    put_marks_legend(out);
     put_marks(out, flat, sheet, table, 0, wishes);
     put_svg_end(out);
 }

@@ -1,4 +1,5 @@
 pub mod Onward
+pub mod Shortened
 pub mod Digits
 pub mod Words
 pub mod Paths

@@ -1,11 +1,12 @@
 -- Elements with words or elements in them, as texts one after another.
 use Rattle.std.proofs.Common.{◌≡◌, ◌++◌, ◌∙◌, ℕ, Bool, true, false, if◌then◌else◌, List, [], ◌∷◌, codes, decimal, refl, ap, sym, append_assoc, append-nil}
 use Rattle.hw_svg.specs.Joined.{joined}
-use Rattle.hw_svg.specs.Lettering.{squeezed, text_begin}
+use Rattle.hw_svg.specs.Lettering.{line, text_begin}
+use Rattle.hw_svg.specs.Names.{byte_text, escaped}
 use Rattle.hw_svg.specs.Shapes.{shape_begin}
 use Rattle.hw_svg.specs.Sheets.{picture, size_begin, svg_end, title_end}
-use Rattle.hw_svg.specs.Trees.{Attribute, attributes_text}
-use Rattle.hw_svg.specs.WellFormed.{attribute, picture_attributes, place_attributes}
+use Rattle.hw_svg.specs.Trees.{Attribute, words, element, no_more, node, attributes_text, nodes_text}
+use Rattle.hw_svg.specs.WellFormed.{attribute, on_a_line, picture_attributes, place_attributes, title_node}
 
 joined-append : (a b : List (List ℕ)) → joined a ++ joined b ≡ joined (a ++ b)
 joined-append [] b = refl
@@ -62,24 +63,30 @@ titled_nested class path title =
     let whole = ap (λ (l : List ℕ). element_text (codes "path") (shape_attributes class path) l ++ (codes "\n" ++ [])) inside ∙ on_line (codes "path") (shape_attributes class path) (title_pieces title) in
     among [] (codes "<path class=\"" ∷ class ∷ codes "\" d=\"" ∷ []) (path ∷ codes "\"><title>" ∷ title ∷ codes "</title></path>\n" ∷ []) ∙ sym whole
 
-abbrev squeezing : Bool → ℕ → List Attribute
-squeezing b place = if b then attribute (codes "textLength") (decimal place) ∷ attribute (codes "lengthAdjust") (codes "spacingAndGlyphs") ∷ [] else []
-
 abbrev begin_pieces : List ℕ → ℕ → ℕ → List (List ℕ)
 begin_pieces class x y = codes "<text class=\"" ∷ class ∷ codes "\" x=\"" ∷ decimal x ∷ codes "\" y=\"" ∷ decimal y ∷ codes "\"" ∷ []
 
 abbrev end_pieces : List ℕ → List (List ℕ)
 end_pieces name = codes ">" ∷ name ∷ codes "</text>\n" ∷ []
 
-pub name_nested : (class : List ℕ) (x y : ℕ) (name : List ℕ) (place : ℕ) (b : Bool) → joined (text_begin class x y ∷ (if b then squeezed place else []) ∷ codes ">" ∷ name ∷ codes "</text>\n" ∷ []) ≡ element_text (codes "text") (place_attributes class x y ++ squeezing b place) (name ++ []) ++ (codes "\n" ++ [])
-unfolding squeezed text_begin
-name_nested class x y name place true =
-    among [] (begin_pieces class x y) (squeezed place ∷ end_pieces name)
-    ∙ among (begin_pieces class x y) (codes " textLength=\"" ∷ decimal place ∷ codes "\" lengthAdjust=\"spacingAndGlyphs\"" ∷ []) (end_pieces name)
-    ∙ sym (on_line (codes "text") (place_attributes class x y ++ squeezing true place) (name ∷ []))
-name_nested class x y name place false =
-    among [] (begin_pieces class x y) ([] ∷ end_pieces name)
-    ∙ sym (on_line (codes "text") (place_attributes class x y ++ squeezing false place) (name ∷ []))
+line_nested : (class : List ℕ) (x y : ℕ) (text : List ℕ) → joined (text_begin class x y ∷ codes ">" ∷ text ∷ codes "</text>\n" ∷ []) ≡ element_text (codes "text") (place_attributes class x y) (text ++ []) ++ (codes "\n" ++ [])
+unfolding text_begin
+line_nested class x y text =
+    among [] (begin_pieces class x y) (end_pieces text)
+    ∙ sym (on_line (codes "text") (place_attributes class x y) (text ∷ []))
+
+shortened_nested : (class : List ℕ) (x y : ℕ) (whole shown : List ℕ) → joined (text_begin class x y ∷ codes "><title>" ∷ whole ∷ codes "</title>" ∷ shown ∷ codes "</text>\n" ∷ []) ≡ element_text (codes "text") (place_attributes class x y) (element_text (codes "title") [] (whole ++ []) ++ (shown ++ [])) ++ (codes "\n" ++ [])
+unfolding text_begin
+shortened_nested class x y whole shown =
+    let inside : element_text (codes "title") [] (whole ++ []) ++ (shown ++ []) ≡ joined (title_pieces whole ++ (shown ∷ [])) = ap (λ (l : List ℕ). l ++ (shown ++ [])) (element_joined (codes "title") [] (whole ∷ [])) ∙ joined-append (title_pieces whole) (shown ∷ []) in
+    let all = ap (λ (l : List ℕ). element_text (codes "text") (place_attributes class x y) l ++ (codes "\n" ++ [])) inside ∙ on_line (codes "text") (place_attributes class x y) (title_pieces whole ++ (shown ∷ [])) in
+    among [] (begin_pieces class x y) (codes "><title>" ∷ whole ∷ codes "</title>" ∷ shown ∷ codes "</text>\n" ∷ []) ∙ sym all
+
+-- a name with as much of it as is shown, where that isn't the whole
+pub name_nested : (class : List ℕ) (x y : ℕ) (name shown : List ℕ) (b : Bool) → (if b then joined (text_begin class x y ∷ codes "><title>" ∷ escaped name ∷ codes "</title>" ∷ escaped shown ∷ codes "</text>\n" ∷ []) else line class x y (escaped name)) ≡ nodes_text (on_a_line (element (codes "text") (place_attributes class x y) (if b then node (title_node name) (node (words shown) no_more) else node (words name) no_more)))
+unfolding byte_text
+name_nested class x y name shown true = shortened_nested class x y (escaped name) (escaped shown)
+name_nested class x y name shown false = line_nested class x y (escaped name)
 
 -- the attributes of a picture, and of these the numbers of its view
 abbrev attributes_with : ℕ → ℕ → List ℕ → List ℕ → List Attribute

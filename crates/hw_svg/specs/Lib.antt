@@ -1,6 +1,7 @@
 pub mod Joined
 pub mod Names
 pub mod Widths
+pub mod Shortened
 pub mod Numbers
 pub mod Pieces
 pub mod Shapes

@@ -1,6 +1,7 @@
 -- The elements of a picture are those of a tree.
 use Rattle.std.specs.Prelude.{◌≡◌, ℕ, List, [], ◌∷◌, ◌++◌, codes, decimal, if◌then◌else◌, nat_lt}
 use Rattle.hw_svg.specs.Names.{escaped}
+use Rattle.hw_svg.specs.Shortened.{shortened}
 use Rattle.hw_svg.specs.Widths.{width_of}
 use Rattle.hw_svg.specs.Shapes.{area_path, block, titled}
 use Rattle.hw_svg.specs.Figures.{steps, steps_path}
@@ -40,13 +41,14 @@ place_attributes class x y = attribute (codes "class") class ∷ attribute (code
 abbrev pub LinesAreElements : Type 0
 LinesAreElements = (class : List ℕ) (x y : ℕ) (text : List ℕ) → line class x y (escaped text) ≡ nodes_text (on_a_line (element (codes "text") (place_attributes class x y) (node (words text) no_more)))
 
-abbrev pub squeeze_attributes : List ℕ → ℕ → List Attribute
-squeeze_attributes name place =
-    if nat_lt place (width_of name) then attribute (codes "textLength") (decimal place) ∷ attribute (codes "lengthAdjust") (codes "spacingAndGlyphs") ∷ []
-    else []
+-- a name in its place: the whole of it, or as the title of what is shown of it
+abbrev pub name_nodes : List ℕ → ℕ → Nodes
+name_nodes name place =
+    if nat_lt place (width_of name) then node (title_node name) (node (words (shortened name place)) no_more)
+    else node (words name) no_more
 
 abbrev pub NameLinesAreElements : Type 0
-NameLinesAreElements = (class : List ℕ) (x y : ℕ) (name : List ℕ) (place : ℕ) → name_line class x y name place ≡ nodes_text (on_a_line (element (codes "text") (place_attributes class x y ++ squeeze_attributes name place) (node (words name) no_more)))
+NameLinesAreElements = (class : List ℕ) (x y : ℕ) (name : List ℕ) (place : ℕ) → name_line class x y name place ≡ nodes_text (on_a_line (element (codes "text") (place_attributes class x y) (name_nodes name place)))
 
 abbrev pub window_attributes : Window → List Attribute
 window_attributes w = attribute (codes "x") (decimal w.x) ∷ attribute (codes "y") (decimal w.y) ∷ attribute (codes "width") (decimal w.width) ∷ attribute (codes "height") (decimal w.height) ∷ attribute (codes "viewBox") (codes "0 0 " ++ (decimal w.across ++ (codes " " ++ decimal w.down))) ∷ attribute (codes "preserveAspectRatio") (codes "none") ∷ []

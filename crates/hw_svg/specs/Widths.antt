@@ -1,5 +1,6 @@
 -- How wide a name is at most: in DejaVu Sans Bold of size 12, the widest type in which names are seen.
-use Rattle.std.specs.Prelude.{ℕ, Bool, List, codes, if◌then◌else◌, nat_eq, sum_by}
+use Rattle.std.specs.Prelude.{ℕ, ◌*◌, Bool, List, codes, if◌then◌else◌, nat_eq, sum_by}
+use Rattle.std.specs.Int.{div_ceil}
 use Rattle.std.specs.List.{list_any}
 
 abbrev pub is_one_of : List ℕ → ℕ → Bool
@@ -16,3 +17,7 @@ advance b =
 
 abbrev pub width_of : List ℕ → ℕ
 width_of name = sum_by advance name
+
+-- the same of a text of the small type, which is as large as 6/7 of that one at most
+abbrev pub small_width : List ℕ → ℕ
+small_width text = div_ceil (6 * width_of text) 7

@@ -1,5 +1,7 @@
 //! What the texts of elements are.
 
+ghost use Rattle.hw_svg.specs.Lettering.{NameLinesReadBack};
+ghost use Rattle.hw_svg.specs.Shortened.{BeginningsAreLongest};
 ghost use Rattle.hw_svg.specs.Marks.{AreasHaveNoMarks, NamesAreWords, NamesReadBack, SameTextSameLevels, StepsHaveNoMarks};
 ghost use Rattle.hw_svg.specs.WellFormed.{BlocksAreElements, ItemsAreElements, LinesAreElements, ListsAreElements, NameLinesAreElements, PicturesAreElements, StepsAreElements, TitledAreElements, WindowsAreElements};
 
@@ -30,6 +32,16 @@ pub fn lines_are_elements()
 /// A name at a place is an element of a tree, whatever the name is.
 pub fn name_lines_are_elements()
     ensures { NameLinesAreElements }
+{}
+
+/// The name of a line can be read back from it, whether it is whole there or ends in an ellipsis.
+pub fn name_lines_read_back()
+    ensures { NameLinesReadBack }
+{}
+
+/// As much of a name is shown as there is room for.
+pub fn beginnings_are_longest()
+    ensures { BeginningsAreLongest }
 {}
 
 /// A window is an element of a tree if what is seen in it is elements.

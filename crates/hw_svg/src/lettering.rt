@@ -2,9 +2,11 @@
 
 ghost use Rattle.hw_desk.specs.Writers.{Puts};
 ghost use Rattle.hw_svg.specs.Pieces.{picture_pieces_text};
-ghost use Rattle.hw_svg.specs.Lettering.{line, name_line, squeeze, squeezed, text_begin};
+ghost use Rattle.hw_svg.specs.Lettering.{line, name_line, shortened_line, text_begin};
+ghost use Rattle.hw_svg.specs.Names.{escaped};
+ghost use Rattle.hw_svg.specs.Shortened.{shortened};
 
-use crate::name::{is_wider, put_name};
+use crate::name::{ELLIPSIS_WIDTH, fitting, is_wider, put_name};
 use crate::piece::{Piece, put_pieces};
 use hw_desk::Writer;
 
@@ -37,39 +39,35 @@ pub fn put_line<W: Writer>(out: &mut W, class: &[u8], x: u64, y: u64, text: &[Pi
     out.put(b"</text>\n");
 }
 
-/// Puts the attributes that squeeze a text to the width of its place.
-#[tactic(auto, unfolding(crate::specs::Lettering::squeezed))]
-fn put_squeezed<W: Writer>(out: &mut W, place: u64)
-    ensures { Puts (squeezed place) (W.state out.old) (W.state out.new) }
+/// Puts as much of a name as its place shows: a beginning and an ellipsis.
+fn put_shortened<W: Writer>(out: &mut W, name: &[u8], place: u64)
+    ensures { Puts (escaped (shortened name.now place)) (W.state out.old) (W.state out.new) }
 {
-    put_pieces(
-        out,
-        &[
-            Piece::Word(b" textLength=\""),
-            Piece::Number(place),
-            Piece::Word(b"\" lengthAdjust=\"spacingAndGlyphs\""),
-        ],
-    );
+    let count = fitting(name, place.saturating_sub(ELLIPSIS_WIDTH));
+    put_name(out, &name[..count]);
+    put_name(out, &[226, 128, 166]);
 }
 
-/// Puts the attributes that squeeze a name, if it may be wider than its place.
-fn put_squeeze<W: Writer>(out: &mut W, name: &[u8], place: u64)
-    ensures { Puts (squeeze name.now place) (W.state out.old) (W.state out.new) }
+/// Puts a name that is too wide for its place, with the whole of it as the title.
+fn put_shortened_line<W: Writer>(out: &mut W, class: &[u8], x: u64, y: u64, name: &[u8], place: u64)
+    ensures { Puts (shortened_line class.now x y name.now place) (W.state out.old) (W.state out.new) }
 {
-    if is_wider(name, place) {
-        put_squeezed(out, place);
-    } else {
-        out.put(b"");
-    }
+    put_text_begin(out, class, x, y);
+    out.put(b"><title>");
+    put_name(out, name);
+    out.put(b"</title>");
+    put_shortened(out, name, place);
+    out.put(b"</text>\n");
 }
 
-/// Puts a name of a class into a place of `place` units of width.
+/// Puts a name of a class into a place of `place` units of width. A name that may be wider ends in an ellipsis, and viewers
+/// show the whole of it on request.
 pub fn put_name_line<W: Writer>(out: &mut W, class: &[u8], x: u64, y: u64, name: &[u8], place: u64)
     ensures { Puts (name_line class.now x y name.now place) (W.state out.old) (W.state out.new) }
 {
-    put_text_begin(out, class, x, y);
-    put_squeeze(out, name, place);
-    out.put(b">");
-    put_name(out, name);
-    out.put(b"</text>\n");
+    if is_wider(name, place) {
+        put_shortened_line(out, class, x, y, name, place);
+    } else {
+        put_line(out, class, x, y, &[Piece::Name(name)]);
+    }
 }

@@ -17,13 +17,13 @@ mod sheet;
 pub use area::Area;
 pub use figure::{Levels, put_steps};
 pub use laws::{
-    areas_have_no_marks, blocks_are_elements, items_are_elements, lines_are_elements,
-    lists_are_elements, name_lines_are_elements, names_are_words, names_read_back,
-    pictures_are_elements, same_text_same_levels, steps_are_elements, steps_have_no_marks,
-    titled_are_elements, windows_are_elements,
+    areas_have_no_marks, beginnings_are_longest, blocks_are_elements, items_are_elements,
+    lines_are_elements, lists_are_elements, name_lines_are_elements, name_lines_read_back,
+    names_are_words, names_read_back, pictures_are_elements, same_text_same_levels,
+    steps_are_elements, steps_have_no_marks, titled_are_elements, windows_are_elements,
 };
 pub use lettering::{put_line, put_name_line};
-pub use name::{is_wider, put_name};
+pub use name::{ELLIPSIS_WIDTH, is_wider, put_name, small_width, width};
 pub use number::{put_clock, put_height, put_metres, put_tenths};
 pub use piece::{Piece, put_pieces};
 pub use shape::{put_block, put_shape, put_shape_begin, put_titled};

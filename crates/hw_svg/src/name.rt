@@ -1,11 +1,15 @@
 //! Names as the text of an element.
 
-ghost use Rattle.std.specs.Prelude.{◌≡◌, nat_lt, sum_by};
+ghost use Rattle.std.specs.Prelude.{◌≡◌, ◌≤◌, ◌*◌, nat_lt, length, sum_by};
 ghost use Rattle.hw_desk.specs.Writers.{Puts};
 ghost use Rattle.hw_svg.specs.Names.{byte_text, escaped};
-ghost use Rattle.hw_svg.specs.Widths.{advance, width_of};
+ghost use Rattle.hw_svg.specs.Shortened.{beginning_within};
+ghost use Rattle.hw_svg.specs.Widths.{advance, small_width, width_of};
 
 use hw_desk::Writer;
+
+/// How wide an ellipsis is at most in the type of a name.
+pub const ELLIPSIS_WIDTH: u64 = 12;
 
 /// Puts a byte of a name, spelled out where it is a mark of the text around it.
 #[tactic(auto, unfolding(crate::specs::Names::byte_text))]
@@ -34,7 +38,8 @@ pub fn put_name<W: Writer>(out: &mut W, name: &[u8])
 /// The most that a byte is wide in the type of a name.
 #[tactic(auto, unfolding(crate::specs::Widths::advance))]
 fn advance(byte: u8) -> u64
-    ensures { result ≡ advance byte }
+    ensures value { result ≡ advance byte }
+    ensures few { result ≤ 14 }
 {
     if b" ',-./:;IJ\\ijl|".contains(&byte) {
         5
@@ -62,4 +67,43 @@ pub fn is_wider(name: &[u8], place: u64) -> bool
         left -= width;
     }
     false
+}
+
+/// The most that a text is wide in the type of a name, in units of the picture.
+pub fn width(text: &[u8]) -> u64
+    requires { length text.now ≤ 10_000 }
+    ensures value { result ≡ width_of text.now }
+    ensures few { result ≤ 14 * length text.now }
+{
+    match text {
+        [] => 0,
+        [byte, more @ ..] => advance(*byte) + width(more),
+    }
+}
+
+/// The most that a text is wide in the small type, in units of the picture.
+pub fn small_width(text: &[u8]) -> u64
+    requires { length text.now ≤ 10_000 }
+    ensures value { result ≡ small_width text.now }
+    ensures few { result ≤ 12 * length text.now }
+{
+    (6 * width(text)).div_ceil(7)
+}
+
+/// How many bytes the longest beginning of a name has that is at most this wide.
+pub(crate) fn fitting(name: &[u8], room: u64) -> usize
+    ensures value { result ≡ length (beginning_within room name.now) }
+    ensures few { result ≤ length name.now }
+{
+    let mut left = room;
+    let mut count = 0;
+    for byte in name {
+        let width = advance(*byte);
+        if width > left {
+            return count;
+        }
+        left -= width;
+        count += 1;
+    }
+    count
 }

@@ -1,4 +1,5 @@
 use Rattle.std.proofs.Common.{option_map}
+use Rattle.hw_chart.specs.Legends.{legend_parts}
 use Rattle.hw_port_chart.proofs.Drawn.{rest_drawn}
 use Rattle.hw_port_chart.proofs.Openings.{listed_by}
 use Rattle.hw_port_chart.proofs.rest.put_port_rest.Goals as goal
@@ -16,4 +17,4 @@ invariant_of-chart g c = (
 )
 
 pub returns : goal.returns
-returns g c = rest_drawn c.args.port.now c.args.tide.now (option_map (λ plan. plan.now.table) c.args.plan) c.span.result _ _ c.span.ensures.value c.put_rest.ensures
+returns g c = rest_drawn c.args.port.now c.args.tide.now (option_map (λ plan. plan.now.table) c.args.plan) (legend_parts c.args.more.now) c.span.result _ _ c.span.ensures.value c.put_rest.ensures

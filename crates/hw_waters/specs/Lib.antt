@@ -1,0 +1,5 @@
+pub mod Columns
+pub mod Stands
+pub mod Labels
+pub mod Laws
+pub mod Rows
