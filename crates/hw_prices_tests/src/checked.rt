@@ -6,8 +6,9 @@ ghost use Rattle.hw_lines.specs.Valid.{LineFits};
 use hw_cert::{Line, Verdict};
 use hw_check::{CheckStop, Checker};
 use hw_flat::{Flat, Timetable};
+use hw_proving::Proved;
 use hw_rules::cargo;
-use hw_search::{Proved, Solved};
+use hw_search::Solved;
 use std::alloc::Global;
 
 /// A verdict, and a bound of what any permitted timetable carries.

@@ -11,7 +11,7 @@ use hw_cert::{Line, MemoryLog};
 use hw_flat::{Flat, Timetable};
 use hw_model::{Lit, NoMemory};
 use hw_prices::PricingAdviser;
-use hw_search::{Proved, prove};
+use hw_proving::{Proved, prove};
 use std::alloc::Global;
 
 /// The adviser that finds prices, some lemmas ahead of its search.

@@ -16,7 +16,8 @@ use hw_cert::MemoryLog;
 use hw_flat::{Flat, Timetable};
 use hw_lines::Line;
 use hw_progress::MOST_BUDGET;
-use hw_search::{Solved, prove};
+use hw_proving::prove;
+use hw_search::Solved;
 use std::alloc::Global;
 
 /// Searches on from the lines of a start until as many new lemmas are found as the budget says, with an

@@ -1,6 +1,6 @@
 -- What is heeded line by line, and where that stops.
-use Rattle.std.proofs.Common.{◌≡◌, ℕ, zero, suc, ◌≤◌, List, [], ◌∷◌, ◌++◌, Some, All, IsSome, length, refl, sym, ap, ◌∙◌, subst, arith, append-nil, length-append}
-use Rattle.std.specs.Prelude.{AllPairs, Result, Ok, Err}
+use Rattle.std.proofs.Common.{◌≡◌, ℕ, zero, suc, ◌≤◌, List, [], ◌∷◌, ◌++◌, Some, All, IsSome, refl, sym, ap, ◌∙◌, subst, arith, append-nil}
+use Rattle.std.specs.Prelude.{AllPairs}
 use Rattle.std.specs.List.{cons_option}
 use Rattle.std.proofs.lemmas.List.Elements.{All-nil, All-push}
 use Rattle.hw_model.specs.declared.lit.Lit.{Lit}
@@ -15,33 +15,17 @@ use Rattle.hw_story.specs.declared.event.Why.TheVariants as whys
 use Rattle.hw_cert.specs.declared.log.LogStop.{LogStop}
 use Rattle.hw_cert.specs.declared.log.LogStop.TheVariants as stops
 use Rattle.hw_cert.specs.Logs.{LogTold, LogModel, WhereTold, Grows, IsBegunLine}
-use Rattle.hw_story.specs.Trails.{TrailModel}
 use Rattle.hw_progress.specs.Prices.{PriceModel}
 use Rattle.hw_progress.specs.Searches.{SearchModel, IsSearch, FitsOpen, LiveKept, LogFits}
 use Rattle.hw_progress.specs.Settling.{with_events}
 use Rattle.hw_progress.specs.Laws.{PriceLine, PriceMeets}
-use Rattle.hw_progress.specs.Advised.{HeedWrites, Heeds, IsCutOff, StopsBy, with_priced}
-use Rattle.hw_progress.proofs.Heeded.{heeds_none, heeds_both}
+use Rattle.hw_progress.specs.Advised.{HeedWrites, Heeds, IsCutOff, with_priced}
+use Rattle.hw_progress.proofs.Heeded.{heeds_none}
 use Rattle.hw_progress.proofs.Lines.{same_lemmas}
 use Rattle.hw_progress.proofs.Told.{grown}
-use Rattle.hw_search.specs.declared.settling.Asked.{Asked}
-use Rattle.hw_search.specs.declared.settling.Asked.TheVariants as asked
-use Rattle.hw_search.specs.Handing.{TakesAll, StopsAfter, StopsWithin}
-use Rattle.hw_search.specs.Heeding.{HeedStops, HeedGains, ConsultMeets}
-use Rattle.hw_search.specs.Turning.{turn_of}
-use Rattle.hw_search.proofs.Handed.{grown_with, grown_to, grows_by}
-
--- ---- what was heeded
-
--- the log fits afterwards
-pub heeds_fit : (s after : SearchModel) (old new : LogModel) → Heeds s after old new → WhereTold new (λ told. LogFits told after)
-heeds_fit s after old new h = grown_to old new (HeedWrites s after) (λ now. LogFits now after) (λ was now w. w.fits) h.writes
-
-pub same_problem : (s after : SearchModel) (old new : LogModel) → Heeds s after old new → after.problem ≡ s.problem
-same_problem s after old new h = ap (λ (x : SearchModel). x.problem) h.same
-
-pub no_fewer : (s after : SearchModel) (old new : LogModel) → Heeds s after old new → length s.trail.events ≤ length after.trail.events
-no_fewer s after old new h = omega (arith, ap (λ (t : TrailModel). length t.events) h.trail, length-append s.trail.events h.more)
+use Rattle.hw_ledger.specs.Handing.{TakesAll, StopsAfter, StopsWithin}
+use Rattle.hw_search.specs.Pricing.{HeedStops}
+use Rattle.hw_ledger.proofs.Handed.{grown_with, grows_by}
 
 -- ---- a line that was taken
 
@@ -162,22 +146,3 @@ line_stops s line stops.NoMemory old new is fits good t =
 -- memory ran out before a line
 pub memory_stops : (s : SearchModel) (log : LogModel) → IsSearch s → WhereTold log (λ told. LogFits told s) → HeedStops s s log stops.NoMemory log
 memory_stops s log is fits = record { then = log; heeds = heeds_none s log is fits; later = omega arith; cause = refl }
-
--- ---- one part after another
-
-pub stops_on : (s mid after : SearchModel) (stop : LogStop) (old here new : LogModel) → Heeds s mid old here → HeedStops mid after here stop new → HeedStops s after old stop new
-stops_on s mid after stop old here new a h = record {
-  then = h.then;
-  heeds = heeds_both s mid after old here h.then a h.heeds;
-  later = h.later;
-  cause = subst (λ f. StopsBy f (turn_of stop) h.then new) (same_problem s mid old here a) h.cause;
-}
-
-pub gains_on : (s mid after : SearchModel) (old here new : LogModel) → Heeds s mid old here → HeedGains mid after here new → HeedGains s after old new
-gains_on s mid after old here new a h = record { heeds = heeds_both s mid after old here new a h.heeds; more = omega (arith, no_fewer s mid old here a, h.more) }
-
-pub consult_on : (s mid after : SearchModel) (old here new : LogModel) (result : Result Asked LogStop) → Heeds s mid old here → ConsultMeets ⊥ mid after here new result → ConsultMeets ⊥ s after old new result
-consult_on s mid after old here new (Ok asked.Quiet) a h = h
-consult_on s mid after old here new (Ok asked.Cut) a h = gains_on s mid after old here new a h
-consult_on s mid after old here new (Ok (asked.Conflict why)) a h = record { heeds = heeds_both s mid after old here new a h.heeds; conflict = h.conflict }
-consult_on s mid after old here new (Err stop) a h = stops_on s mid after stop old here new a h

@@ -11,7 +11,7 @@ use Rattle.hw_progress.specs.declared.outcome.Turn.TheVariants as turns
 use Rattle.hw_progress.specs.Searches.{SearchModel}
 use Rattle.hw_progress.specs.Settling.{Settles}
 use Rattle.hw_progress.specs.Turns.{why_lines, TurnMeets}
-use Rattle.hw_search.specs.Handing.{TakesAll, StopsWithin}
+use Rattle.hw_ledger.specs.Handing.{TakesAll, StopsWithin}
 use Rattle.hw_search.specs.Turning.{TurnBegins, turn_of, halted}
 use Rattle.hw_search.proofs.Answering.{same_mid, end_stops, end_meets}
 

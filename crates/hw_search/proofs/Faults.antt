@@ -9,7 +9,7 @@ use Rattle.hw_progress.specs.declared.outcome.Turn.TheVariants as turns
 use Rattle.hw_progress.specs.declared.outcome.Solved.{Solved}
 use Rattle.hw_progress.specs.Proving.{IsEndOf}
 use Rattle.hw_progress.specs.Turns.{is_last}
-use Rattle.hw_search.specs.Handing.{StopCause}
+use Rattle.hw_ledger.specs.Handing.{StopCause}
 use Rattle.hw_search.specs.Turning.{turn_of}
 use Rattle.hw_search.specs.Faults.{TurnKeepsFaults, SolvedKeepsFaults}
 

@@ -1,7 +1,7 @@
 -- Advice that an engine heeds, in the words of its calls. `e` is what the fields say, `u` what the call sees.
-use Rattle.std.proofs.Common.{◌≡◌, ℕ, ◌+◌, ◌<◌, ◌≤◌, ◌^◌, true, false, List, [], ◌∷◌, ◌++◌, Some, All, length, get_or, refl, sym, ap, ◌∙◌, subst, arith, append-nil, append_assoc, length-append}
+use Rattle.std.proofs.Common.{◌≡◌, ℕ, ◌+◌, ◌<◌, ◌≤◌, ◌^◌, true, false, List, [], ◌∷◌, ◌++◌, Some, length, refl, sym, ap, ◌∙◌, subst, arith, append-nil, Option}
 use Rattle.hw_model.specs.declared.lit.Lit.{Lit}
-use Rattle.hw_model.specs.declared.lit.LitTruth.TheVariants.{Free, False}
+use Rattle.hw_model.specs.declared.lit.LitTruth.TheVariants.{Free}
 use Rattle.hw_model.specs.declared.narrowing.Narrowed.TheVariants.{Cut}
 use Rattle.hw_model.specs.Lits.{lit_fits, IsClause}
 use Rattle.hw_model.specs.Narrowing.{truth}
@@ -15,20 +15,38 @@ use Rattle.hw_lines.specs.declared.line.Line.TheVariants as lines
 use Rattle.hw_story.specs.declared.event.Why.TheVariants as whys
 use Rattle.hw_story.specs.Trails.{TrailModel, trail_shape, implied}
 use Rattle.hw_cert.specs.declared.log.LogStop.{LogStop}
-use Rattle.hw_cert.specs.Logs.{LogModel, WhereTold}
-use Rattle.hw_progress.specs.Prices.{PriceModel, toll_line, tariff_line, prices_with_toll, with_tariff, DuesAscend}
+use Rattle.hw_cert.specs.Logs.{LogModel, WhereTold, LogTold}
+use Rattle.hw_progress.specs.Prices.{PriceModel, toll_line, tariff_line, prices_with_toll, with_tariff, DuesAscend, with_bound}
 use Rattle.hw_progress.specs.Searches.{SearchModel, IsSearch, LogFits, PricesShow, room_in}
-use Rattle.hw_progress.specs.Advised.{Heeds, with_priced}
+use Rattle.hw_progress.specs.Advised.{Heeds, with_priced, HeedWrites}
 use Rattle.hw_progress.proofs.Bounds.{few_numbers}
-use Rattle.hw_progress.proofs.Priced.{true_reason, priced, priced_good, priced_search}
-use Rattle.hw_progress.proofs.Tolled.{toll, tariff, toll_prices, tariff_prices, price_search}
+use Rattle.hw_progress.proofs.Priced.{priced, priced_good, priced_search}
+use Rattle.hw_progress.proofs.Tolled.{toll, tariff, toll_prices, tariff_prices, price_search, bound}
 use Rattle.hw_store.specs.declared.store.Stored.{Stored}
-use Rattle.hw_progress.proofs.Heeded.{heeds_none}
-use Rattle.hw_search.specs.Engines.{EngineModel}
-use Rattle.hw_search.specs.Handing.{TakesAll, StopsWithin}
-use Rattle.hw_search.specs.Heeding.{with_other_prices, with_tolls, HeedStops, HeedFails}
-use Rattle.hw_search.specs.Ledgers.{LedgerModel}
-use Rattle.hw_search.proofs.Advice.{prices_heeded, priced_heeded, line_stops}
+use Rattle.hw_search.specs.Engines.{EngineModel, KeepsEngine}
+use Rattle.hw_ledger.specs.Handing.{TakesAll, StopsWithin}
+use Rattle.hw_search.specs.Pricing.{with_other_prices, HeedStops, IsBelow, ShowsBound, TellsBound}
+use Rattle.hw_ledger.specs.Ledgers.{LedgerModel}
+use Rattle.hw_search.proofs.Advice.{prices_heeded, priced_heeded, line_stops, one_writes}
+use Rattle.hw_search.specs.Speaking.{SpeakersModel}
+use Rattle.hw_ledger.proofs.Handed.{grown_with, grows_by}
+
+-- ---- other prices
+
+-- what the parts of an engine keep with other prices
+pub kept_prices : (e : EngineModel) (table : SpeakersModel) (goal : ℕ) (worth : Option ℕ) (reserved : ℕ) (p : PriceModel) → KeepsEngine e table goal worth reserved → IsSearch (with_other_prices e.search p) → KeepsEngine (record e { search = with_other_prices e.search p }) table goal worth reserved
+kept_prices e table goal worth reserved p k is = record {
+  search = is;
+  once = k.once;
+  of_problem = k.of_problem;
+  each_mark = k.each_mark;
+  quiet = k.quiet;
+  quiet_below = k.quiet_below;
+  speakers = k.speakers;
+  goal_at = k.goal_at;
+  worth_is = k.worth_is;
+  room = k.room;
+}
 
 -- ---- a toll
 
@@ -57,21 +75,6 @@ declared_heeds s new old log is of fits t = prices_heeded s (prices_with_toll s.
 
 pub declared_stops : (s : SearchModel) (new : Toll) (stop : LogStop) (old log : LogModel) → IsSearch s → IsNewToll s new → WhereTold old (λ told. LogFits told s) → StopsWithin stop (toll_line s.problem new ∷ []) 0 old log → HeedStops s s old stop log
 declared_stops s new stop old log is of fits t = line_stops s (toll_line s.problem new) stop old log is fits (λ before fit. ((toll s new is of.toll of.few).meets before fit).good) t
-
--- ---- tolls one after another
-
--- the search after some of the tolls
-abbrev After : SearchModel → List Toll → SearchModel
-After s tolls = with_other_prices s (with_tolls s.prices tolls)
-
-pub next_toll : (s mid : SearchModel) (all done : List Toll) (new : Toll) → mid ≡ After s done → All (IsToll s.problem) all → (length done < length all) × (new ≡ get_or all (length done) new) → IsToll mid.problem new
-next_toll s mid all done new e of at = subst (λ f. IsToll f new) (sym (ap (λ (x : SearchModel). x.problem) e)) (subst (IsToll s.problem) (sym at.1) (of (length done) new at.0))
-
-pub next_few : (s mid : SearchModel) (all done : List Toll) → mid ≡ After s done → length (s.prices.tolls ++ all) ≤ 10_000 → length done < length all → length mid.prices.tolls < 10_000
-next_few s mid all done e few lt = omega (arith, few, lt, ap (λ (x : SearchModel). length x.prices.tolls) e, length-append s.prices.tolls all, length-append s.prices.tolls done)
-
-pub tolls_then : (s mid after : SearchModel) (done : List Toll) (new : Toll) → mid ≡ After s done → after ≡ with_other_prices mid (prices_with_toll mid.prices new) → after ≡ After s (done ++ new ∷ [])
-tolls_then s mid after done new e f = f ∙ ap (λ (x : SearchModel). with_other_prices x (prices_with_toll x.prices new)) e ∙ ap (λ ts. with_other_prices s (record s.prices { tolls = ts })) (append_assoc s.prices.tolls done (new ∷ []))
 
 -- ---- a tariff
 
@@ -134,10 +137,32 @@ cut_heeds s lit clause old log is of fits t = priced_heeded s lit clause old log
 pub cut_stops : (s : SearchModel) (lit : Lit) (clause : List Lit) (stop : LogStop) (old log : LogModel) → IsSearch s → IsNewCut s lit clause → WhereTold old (λ told. LogFits told s) → StopsWithin stop (lines.Priced clause ∷ []) 0 old log → HeedStops s s old stop log
 cut_stops s lit clause stop old log is of fits t = line_stops s (lines.Priced clause) stop old log is fits (λ before fit. priced_good s before clause fit of.clause_fits of.shows (cut_number s lit clause is of)) t
 
--- ---- a clause without a literal left
+-- ---- a bound
 
-pub priced_fails : (s : SearchModel) (clause : List Lit) (log : LogModel) → IsSearch s → IsClause (shape_of s.problem) clause → PricesShow s clause → All (λ lit. truth (room_in s) lit ≡ False) clause → WhereTold log (λ told. LogFits told s) → HeedFails s s log log (whys.Priced clause)
-priced_fails s clause log is fits shows none told = record {
-  heeds = heeds_none s log is told;
-  conflict = record { fits = fits; all_false = none; holds = true_reason s clause is fits shows; shown = shows };
-}
+-- what a bound must be
+pub record IsNewBound (s : SearchModel) (new : ℕ) : Type 0 where
+  pub small : new ≤ 40_000_000_000_000
+  pub below : IsBelow s new
+  pub shows : ShowsBound s new
+
+pub bound_is : (e u : EngineModel) (p : PriceModel) (new : ℕ) → e ≡ u → p ≡ with_bound e.search.prices new → with_other_prices e.search p ≡ with_other_prices u.search (with_bound u.search.prices new)
+bound_is e u p new same is = ap (λ x. with_other_prices e.search x) is ∙ ap (λ (x : EngineModel). with_other_prices x.search (with_bound x.search.prices new)) same
+
+pub bound_told : (s : SearchModel) (new : ℕ) (old log : LogModel) → IsSearch s → IsNewBound s new → WhereTold old (λ told. LogFits told s) → TakesAll (lines.Bound new ∷ []) old log → TellsBound s new (with_other_prices s (with_bound s.prices new)) old log
+bound_told s new old log is of fits t =
+    let after = with_other_prices s (with_bound s.prices new) in
+    let R : LogTold → LogTold → Type 0 = λ was now. (now.lines ≡ was.lines ++ lines.Bound new ∷ []) × (now.remainder ≡ []) in
+    record {
+      search = refl;
+      kept = (bound s new is of.small of.below of.shows).kept;
+      same_faults = t.faults;
+      line = grows_by old log R (λ was now. now.lines ≡ was.lines ++ lines.Bound new ∷ []) (λ was now h. h.0) t.told;
+      writes = grown_with old log R (HeedWrites s after) (λ told. LogFits told s) (λ was now fit h. one_writes s after (lines.Bound new) was now fit ((bound s new is of.small of.below of.shows).meets was.lines fit.fits) h) fits t.told;
+    }
+
+pub bound_stops : (s : SearchModel) (new : ℕ) (stop : LogStop) (old log : LogModel) → IsSearch s → IsNewBound s new → WhereTold old (λ told. LogFits told s) → StopsWithin stop (lines.Bound new ∷ []) 0 old log → HeedStops s s old stop log
+bound_stops s new stop old log is of fits t = line_stops s (lines.Bound new) stop old log is fits (λ before fit. ((bound s new is of.small of.below of.shows).meets before fit).good) t
+
+-- what the search is then
+pub bound_kept : (s : SearchModel) (p : PriceModel) (new : ℕ) → IsSearch s → IsNewBound s new → p ≡ with_bound s.prices new → IsSearch (with_other_prices s p)
+bound_kept s p new is of same = subst (λ x. IsSearch (with_other_prices s x)) (sym same) (bound s new is of.small of.below of.shows).kept

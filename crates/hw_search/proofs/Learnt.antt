@@ -18,15 +18,16 @@ use Rattle.hw_progress.specs.Searches.{SearchModel, IsSearch, IsReason, why_at}
 use Rattle.hw_progress.specs.Settling.{Settles}
 use Rattle.hw_progress.specs.Turns.{TurnMeets}
 use Rattle.hw_search.specs.Engines.{EngineModel}
-use Rattle.hw_search.specs.GoingBack.{NextLevel, Tidies, TidiesBy}
-use Rattle.hw_search.specs.Handing.{TakesAll}
-use Rattle.hw_search.specs.Ledgers.{LedgerModel, with_events_left}
-use Rattle.hw_search.specs.Naming.{EachOfProblem, HandsLearnt, IsOfProblem, WritesLearnt, own_after, taught, Taught}
+use Rattle.hw_ledger.specs.GoingBack.{Tidies, TidiesBy}
+use Rattle.hw_search.specs.Restarts.{NextLevel}
+use Rattle.hw_ledger.specs.Handing.{TakesAll}
+use Rattle.hw_ledger.specs.Ledgers.{LedgerModel, with_events_left}
+use Rattle.hw_ledger.specs.Naming.{EachOfProblem, HandsLearnt, IsOfProblem, WritesLearnt, own_after, taught, Taught}
 use Rattle.hw_search.specs.Turning.{Teaches, TurnsFrom, turn_of, halted}
-use Rattle.hw_search.specs.declared.writing.WrittenLemma.{WrittenLemma}
+use Rattle.hw_ledger.specs.declared.writing.WrittenLemma.{WrittenLemma}
 use Rattle.hw_search.proofs.Answering.{same_mid}
 use Rattle.hw_search.proofs.Ending.{turned}
-use Rattle.hw_search.proofs.Handed.{all_whole}
+use Rattle.hw_ledger.proofs.Handed.{all_whole}
 use Rattle.hw_search.proofs.Lessons.{places_inside, numbers_left, level_below, lits_here, numbers_below, no_lits}
 use Rattle.hw_search.proofs.Taught.{WentBack, analysed, went, went_search, stopped_past, went_meets, stop_meets_past}
 use Rattle.hw_search.proofs.Teaching.{ended, lemma_stops, last_meets}

@@ -15,9 +15,9 @@ use Rattle.hw_progress.specs.Turns.{WritesWell, FailsAt}
 use Rattle.hw_progress.specs.Offers.{IsBetter, OfferMeets}
 use Rattle.hw_progress.proofs.Told.{grown}
 use Rattle.hw_progress.proofs.Turned.{table}
-use Rattle.hw_search.specs.Handing.{TakesAll, StopsAfter, StopsWithin}
+use Rattle.hw_ledger.specs.Handing.{TakesAll, StopsAfter, StopsWithin}
 use Rattle.hw_search.specs.Turning.{turn_of}
-use Rattle.hw_search.proofs.Handed.{grown_with, grows_by}
+use Rattle.hw_ledger.proofs.Handed.{grown_with, grows_by}
 use Rattle.hw_search.proofs.Answering.{one_well}
 
 -- the same offer in the words of a call

@@ -28,9 +28,9 @@ use Rattle.hw_progress.specs.Turns.{source_line, why_lines, Cited, cite_by, cite
 use Rattle.hw_progress.proofs.Lines.{source_is, source_no_lemma, same_lemmas}
 use Rattle.hw_progress.proofs.Parts.{part_well}
 use Rattle.hw_progress.proofs.Told.{grown}
-use Rattle.hw_search.specs.Handing.{StopCause, StopsAfter}
+use Rattle.hw_ledger.specs.Handing.{StopCause, StopsAfter}
 use Rattle.hw_search.specs.Turning.{TurnBegins, turn_of}
-use Rattle.hw_search.proofs.Handed.{grown_with, take_front, get_front}
+use Rattle.hw_ledger.proofs.Handed.{grown_with, take_front, get_front}
 use Rattle.hw_search.proofs.Plain.{tariff_before}
 
 -- ---- lines that give reasons

@@ -16,12 +16,13 @@ use Rattle.hw_progress.specs.Settling.{Settles}
 use Rattle.hw_progress.specs.Laws.{lemma_lines}
 use Rattle.hw_progress.specs.Turns.{cited, with_lemma, to_level, gone_back, unkept, deletion, Analysed, IsAdded, TurnMeets}
 use Rattle.hw_progress.proofs.Stops.{numbers_kept, past as gone_keeps}
-use Rattle.hw_search.specs.Handing.{TakesAll, StopRemainder, StopsAfter, StopsWithin}
-use Rattle.hw_search.specs.Naming.{own_number, taught, Taught}
-use Rattle.hw_search.specs.Dropped.{line_numbers_kept, IsLeftOver}
-use Rattle.hw_search.specs.GoingBack.{due, NextLevel, Adds}
+use Rattle.hw_ledger.specs.Handing.{TakesAll, StopRemainder, StopsAfter, StopsWithin}
+use Rattle.hw_ledger.specs.Naming.{own_number, taught, Taught}
+use Rattle.hw_ledger.specs.Dropped.{line_numbers_kept, IsLeftOver}
+use Rattle.hw_ledger.specs.GoingBack.{Adds}
+use Rattle.hw_search.specs.Restarts.{due, NextLevel}
 use Rattle.hw_search.specs.Turning.{TurnBegins, Teaches, turn_of}
-use Rattle.hw_search.proofs.Handed.{grows_on, all_on, take_past, get_past, cause_on}
+use Rattle.hw_ledger.proofs.Handed.{grows_on, all_on, take_past, get_past, cause_on}
 use Rattle.hw_search.proofs.Teaching.{gone, past, Known, known, lemma_turned, past_meets}
 use Rattle.hw_search.proofs.Unkept.{DropsRest, drops_unkept}
 

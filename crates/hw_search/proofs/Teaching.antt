@@ -26,10 +26,10 @@ use Rattle.hw_progress.proofs.Citing.{Citing, Prepared, cites, prepared}
 use Rattle.hw_progress.proofs.Told.{grown}
 use Rattle.hw_progress.proofs.Turned.{few_for, lemma_meets, last}
 use Rattle.hw_progress.proofs.Living.{turn_lives}
-use Rattle.hw_search.specs.Handing.{TakesAll, StopCause, StopsAfter, StopsWithin}
-use Rattle.hw_search.specs.Naming.{taught}
+use Rattle.hw_ledger.specs.Handing.{TakesAll, StopCause, StopsAfter, StopsWithin}
+use Rattle.hw_ledger.specs.Naming.{taught}
 use Rattle.hw_search.specs.Turning.{TurnBegins, turn_of, halted}
-use Rattle.hw_search.proofs.Handed.{grows_by, grown_with, told_by, take_front}
+use Rattle.hw_ledger.proofs.Handed.{grows_by, grown_with, told_by, take_front}
 use Rattle.hw_search.proofs.Stopping.{Left, Planned, Stopped, left_sourced, cited_sourced, stop_meets}
 use Rattle.hw_search.proofs.Answering.{Same, same_mid, mid_fits, before_stops, halts, tells}
 

@@ -16,14 +16,14 @@ use Rattle.hw_store.specs.declared.store.Stored.{Stored}
 use Rattle.hw_progress.specs.Searches.{SearchModel, kept_numbers}
 use Rattle.hw_progress.specs.Turns.{source_line, Cited, cite_conflict, unkept}
 use Rattle.hw_progress.specs.Laws.{lemma_lines}
-use Rattle.hw_progress.proofs.Numbers.{contains_here, contains_there, contains_cases, contains_none}
+use Rattle.hw_progress.proofs.Numbers.{contains_here, contains_there, contains_cases, contains_none, numbers_push}
 use Rattle.hw_progress.proofs.Lines.{IsClauseLine, source_is, lemma_is, live_stays, live_back, new_live}
 use Rattle.hw_progress.proofs.Priced.{priced_is}
 use Rattle.hw_progress.proofs.Backs.{contains_any, from_filter, unkept_has, unkept_not, any_contains}
 use Rattle.hw_progress.proofs.Citing.{Citing, Prepared}
-use Rattle.hw_progress.proofs.Numbers.{numbers_push}
-use Rattle.hw_search.specs.Dropped.{number_list, dropped}
-use Rattle.hw_search.specs.Naming.{own_number}
+use Rattle.hw_ledger.specs.Dropped.{number_list, dropped}
+use Rattle.hw_ledger.specs.Naming.{own_number}
+use Rattle.hw_ledger.proofs.Named.{same_conflict}
 
 -- ---- two rising lists of the same members
 
@@ -92,11 +92,6 @@ unkept_is before s ids rises is_live not_kept all =
 
 -- ---- what is dropped
 
-same_written : (c : Cited) (why : Why) → (cite_conflict c why).search.written ≡ c.search.written
-same_written c (whys.Lemma number clause) = refl
-same_written c (whys.Source source clause) = refl
-same_written c (whys.Priced clause) = refl
-
 same_stored : (c : Cited) (why : Why) → (cite_conflict c why).search.stored ≡ c.search.stored
 same_stored c (whys.Lemma number clause) = refl
 same_stored c (whys.Source source clause) = refl
@@ -163,7 +158,7 @@ drops_unkept s u before places c why clause lemma keep ids h p st wr d =
       | inl old ↦ elim (live_conflict s before places c why h n old) [
         | inl k ↦ elim (Contains-append_cases (map (λ (one : Stored). one.number) c.search.stored) (filter_map (λ (w : Option ℕ). w) c.search.written) n k) [
           | inl a ↦ absurd (not_kept (from_stored n (Contains-append_left nums ((e.search.clause_lines + 1) ∷ []) n (subst (λ xs. Contains (map (λ (one : Stored). one.number) xs) n) (sym (same_stored c why)) a))))
-          | inr b ↦ elim (Contains-append_cases (filter_map (λ (w : Option ℕ). w) (take keep ws)) (filter_map (λ (w : Option ℕ). w) (drop keep ws)) n (subst (λ xs. Contains xs n) (split ws keep) (subst (λ xs. Contains (filter_map (λ (w : Option ℕ). w) xs) n) (sym (same_written c why)) b))) [
+          | inr b ↦ elim (Contains-append_cases (filter_map (λ (w : Option ℕ). w) (take keep ws)) (filter_map (λ (w : Option ℕ). w) (drop keep ws)) n (subst (λ xs. Contains xs n) (split ws keep) (subst (λ xs. Contains (filter_map (λ (w : Option ℕ). w) xs) n) (sym (same_conflict c why)) b))) [
             | inl front ↦ absurd (not_kept (from_written n front))
             | inr rest ↦ Contains-append_left (filter_map (λ (w : Option ℕ). w) (drop keep ws)) (number_list own) n rest
           ]

@@ -8,15 +8,16 @@ ghost use Rattle.hw_model.specs.Rooms.{whole_room};
 ghost use Rattle.hw_progress.specs.Searches.{new_search, room_in, IsSearch};
 ghost use Rattle.hw_progress.specs.Starting.{EachSourceOnce};
 
-use crate::ledger::Ledger;
 use crate::marking::Marks;
 use crate::prices::Declared;
 use crate::speakers::Speakers;
 use hw_flat::{Flat, Room, Source, Timetable};
+use hw_ledger::Ledger;
 use hw_model::NoMemory;
 use hw_progress::Branching;
 use hw_prop::Propagator;
 use hw_store::Store;
+use hw_tolls::Tariff;
 use hw_trail::Trail;
 use std::alloc::Global;
 use std::marker::Model;
@@ -186,6 +187,21 @@ impl<'f, S: Store + Drop, P: Propagator + Drop> Engine<'f, S, P> {
         self.prices.bound
     }
 
+    /// The tariff that shows the last bound, where another has come into force since.
+    pub fn older_tariff(&self) -> Option<&Tariff>
+        ensures value { option_copied result ≡ self.now.search.prices.older }
+        ensures search { IsSearch self.now.search }
+    {
+        self.prices.older.as_ref()
+    }
+
+    /// How many literals were implied by clauses of prices.
+    pub fn priced(&self) -> u32
+        ensures value { result ≡ self.now.search.priced }
+    {
+        self.priced
+    }
+
     /// The trail's level.
     pub fn level(&self) -> u32
         ensures value { result ≡ self.now.search.trail.level }
@@ -196,6 +212,7 @@ impl<'f, S: Store + Drop, P: Propagator + Drop> Engine<'f, S, P> {
     /// The trail's room.
     pub fn room(&self) -> &Room
         ensures value { result.now ≡ room_in self.now.search }
+        ensures search { IsSearch self.now.search }
     {
         self.trail.room()
     }

@@ -1,8 +1,9 @@
-//! After how many lemmas a restart comes: Luby's numbers.
+//! After how many lemmas a restart comes: Luby's numbers. What level a turn goes back to.
 
-ghost use Rattle.std.specs.Prelude.{◌≡◌, ◌≤◌, ◌<◌};
+ghost use Rattle.std.specs.Prelude.{◌≡◌, ◌+◌, ◌≤◌, ◌<◌};
 ghost use Rattle.hw_progress.specs.Luby.{luby};
 ghost use Rattle.hw_search.specs.Powers.{IsPowerAbove};
+ghost use Rattle.hw_search.specs.Restarts.{due, NextLevel};
 
 use hw_progress::MOST_BUDGET;
 
@@ -33,4 +34,32 @@ pub fn luby(i: u64) -> u64
         power = power_above(rest);
     }
     power / 2
+}
+
+// Whether a restart comes after one more lemma.
+fn is_due(restarts: u32, since: u32) -> bool
+    requires few { restarts + since < MOST_BUDGET }
+    ensures value { result ≡ due restarts since }
+{
+    let next = since + 1;
+    if next % 32 != 0 {
+        return false;
+    }
+    u64::from(next / 32) == luby(u64::from(restarts) + 1)
+}
+
+/// The level to go back to: 0 where a restart is due, and the restart is then counted; else the one
+/// that was learnt.
+pub fn next_level(restarts: &mut u32, since: &mut u32, back: u32) -> u32
+    requires few { restarts.old + since.old < MOST_BUDGET }
+    ensures next { NextLevel restarts.old since.old back restarts.new since.new result }
+{
+    if is_due(*restarts, *since) {
+        *restarts += 1;
+        *since = 0;
+        0
+    } else {
+        *since += 1;
+        back
+    }
 }

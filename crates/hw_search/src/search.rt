@@ -1,25 +1,43 @@
 //! The search as its callers see it.
 
-ghost use Rattle.std.specs.Prelude.{◌≡◌, ◌<◌, [], false, All, IfOk, map};
+ghost use Rattle.std.specs.Prelude.{◌≡◌, ◌<◌, ◌≤◌, [], true, false, All, IfOk, OnOk, length, map};
 ghost use Rattle.std.specs.Option.{option_copied};
+ghost use Rattle.hw_model.specs.declared.lit.LitTruth.TheVariants.{Free};
+ghost use Rattle.hw_model.specs.declared.narrowing.Narrowed.TheVariants.{Cut as CutBy};
+ghost use Rattle.hw_model.specs.Lits.{lit_fits, IsClause};
+ghost use Rattle.hw_model.specs.Narrowing.{truth};
 ghost use Rattle.hw_model.specs.Problem.{shape_of};
+ghost use Rattle.hw_model.specs.Replay.{narrowing};
 ghost use Rattle.hw_model.specs.Rooms.{IsPoint, whole_room};
-ghost use Rattle.hw_progress.specs.Searches.{LogFits, new_search, room_in, IsSearch};
-ghost use Rattle.hw_cert.specs.Logs.{WhereTold};
-ghost use Rattle.hw_progress.specs.Settling.{SettleMeets};
-ghost use Rattle.hw_progress.specs.Turns.{TurnMeets};
-ghost use Rattle.hw_progress.specs.Offers.{IsBetter, OfferMeets};
 ghost use Rattle.hw_model.specs.Timetables.{Permits};
+ghost use Rattle.hw_story.specs.Trails.{trail_shape};
+ghost use Rattle.hw_tolls.specs.Tolls.{IsToll};
+ghost use Rattle.hw_tolls.specs.Prices.{TariffFits};
+ghost use Rattle.hw_advice.specs.Advisers.{IsOpenIn};
+ghost use Rattle.hw_cert.specs.Logs.{IsWhole, WhereTold};
+ghost use Rattle.hw_progress.specs.declared.outcome.Settled.TheVariants.{Quiet, Conflict};
+ghost use Rattle.hw_progress.specs.Advised.{with_priced};
+ghost use Rattle.hw_progress.specs.Offers.{IsBetter, OfferMeets};
+ghost use Rattle.hw_progress.specs.Prices.{with_tariff, prices_with_toll, DuesAscend};
+ghost use Rattle.hw_progress.specs.Searches.{best_cargo, new_search, room_in, IsSearch, LogFits, PricesShow};
+ghost use Rattle.hw_progress.specs.Settling.{AllQuiet, IsConflict, SettleMeets};
 ghost use Rattle.hw_progress.specs.Starting.{Branches, EachSourceOnce};
+ghost use Rattle.hw_progress.specs.Turns.{TurnMeets};
 ghost use Rattle.hw_search.specs.Faults.{TurnKeepsFaults};
+ghost use Rattle.hw_search.specs.Pricing.{standing_of, with_other_prices, HeedMeets, IsBelow, ShowsBound, TellMeets};
+ghost use Rattle.hw_search.specs.Turning.{decided_by, turn_of, Decides, TurnsFrom};
 
 use crate::engine::Engine;
-use hw_cert::Log;
+use hw_advice::Scene;
+use hw_cert::{Log, LogStop};
 use hw_flat::{Flat, Room, Timetable};
-use hw_model::{Lit, NoMemory};
-use hw_progress::{Branching, MOST_BUDGET, Settled, Turn};
+use hw_lits::Clause;
+use hw_model::{Lit, MOST_CARGO, NoMemory};
+use hw_progress::{Branching, MOST_BUDGET, MOST_PRICED, Settled, Turn};
 use hw_prop::Propagator;
 use hw_store::Store;
+use hw_story::Why;
+use hw_tolls::{MOST_TOLLS, Tariff, Toll};
 use std::alloc::Global;
 use std::marker::Model;
 
@@ -141,7 +159,166 @@ impl<'f, S: Store + Drop, P: Propagator + Drop> Search<'f, S, P> {
     /// The trail's room.
     pub fn room(&self) -> &Room
         ensures value { result.now ≡ room_in self.now }
+        ensures search { IsSearch self.now }
     {
         self.engine.room()
+    }
+
+    /// The allocator by which it grows.
+    pub fn allocator(&self) -> Global {
+        self.engine.alloc
+    }
+
+    /// What an adviser looks at.
+    pub fn scene(&self) -> Scene<'_>
+        ensures flat { result.flat.now ≡ self.now.problem }
+        ensures best { result.best ≡ best_cargo self.now }
+        ensures room { result.room.now ≡ room_in self.now }
+        ensures tolls { result.tolls.now ≡ self.now.prices.tolls }
+        ensures tariff { option_copied result.tariff ≡ self.now.prices.tariff }
+        ensures standing { result.standing ≡ standing_of self.now }
+        ensures search { IsSearch self.now }
+    {
+        self.engine.scene()
+    }
+
+    /// How many literals were implied by clauses of prices.
+    pub fn priced(&self) -> u32
+        ensures value { result ≡ self.now.priced }
+    {
+        self.engine.priced()
+    }
+
+    /// The last bound that was told: no permitted timetable carries more, in tenths of a tonne.
+    pub fn told_bound(&self) -> Option<u64>
+        ensures value { result ≡ self.now.prices.bound }
+    {
+        self.engine.told_bound()
+    }
+
+    /// The tariff that shows the last bound, where another has come into force since.
+    pub fn older_tariff(&self) -> Option<&Tariff>
+        ensures value { option_copied result ≡ self.now.prices.older }
+        ensures search { IsSearch self.now }
+    {
+        self.engine.older_tariff()
+    }
+
+    /// Decides by the branching rule.
+    pub fn decide(&mut self)
+        requires quiet { AllQuiet self.old }
+        requires wide { IsPoint (room_in self.old) → ⊥ }
+        ensures decides { Decides self.old self.new }
+    {
+        self.engine.decide();
+    }
+
+    /// Decides by an open literal.
+    pub fn decide_by(&mut self, lit: Lit)
+        requires quiet { AllQuiet self.old }
+        requires open { IsOpenIn self.old.problem (room_in self.old) lit }
+        ensures search { self.new ≡ decided_by self.old lit }
+        ensures kept { IsSearch self.new }
+    {
+        self.engine.decide_by(lit);
+    }
+
+    /// Writes the timetable of a quiet point room.
+    pub fn improve<L: Log>(&mut self, log: &mut L) -> Turn
+        requires quiet { AllQuiet self.old }
+        requires point { IsPoint (room_in self.old) }
+        requires whole { IsWhole (L.state log.old) }
+        ensures turns { TurnsFrom Quiet self.old (L.state log.old) result self.new (L.state log.new) }
+        ensures kept { TurnKeepsFaults result (L.state log.old) (L.state log.new) }
+        ensures same_reference { L.anchor log.new ≡ L.anchor log.old }
+    {
+        self.engine.improve(log)
+    }
+
+    /// Writes a conflict without literals, and learns from another one.
+    pub fn meet_conflict<L: Log>(&mut self, why: &Why, log: &mut L) -> Turn
+        requires conflict { IsConflict self.old why.now }
+        requires going { self.old.over ≡ false }
+        requires few { self.old.lemmas < MOST_BUDGET }
+        requires whole { IsWhole (L.state log.old) }
+        ensures turns { TurnsFrom (Conflict why.now) self.old (L.state log.old) result self.new (L.state log.new) }
+        ensures kept { TurnKeepsFaults result (L.state log.old) (L.state log.new) }
+        ensures same_reference { L.anchor log.new ≡ L.anchor log.old }
+    {
+        self.engine.meet_conflict(why, log)
+    }
+
+    /// Declares a toll. Its memory is taken before its line is written.
+    pub fn declare<L: Log>(&mut self, toll: Toll, log: &mut L) -> Result<(), LogStop>
+        requires toll { IsToll self.old.problem toll }
+        requires few { length self.old.prices.tolls < MOST_TOLLS }
+        requires fits { WhereTold (L.state log.old) (λ told. LogFits told self.old) }
+        ensures search { OnOk result (self.new ≡ with_other_prices self.old (prices_with_toll self.old.prices toll)) }
+        ensures heeds { HeedMeets self.old self.new (L.state log.old) (L.state log.new) result }
+        ensures same_reference { L.anchor log.new ≡ L.anchor log.old }
+    {
+        self.engine.declare(toll, log)
+    }
+
+    /// Puts a tariff on the declared tolls in force.
+    pub fn put_in_force<L: Log>(&mut self, tariff: Tariff, log: &mut L) -> Result<(), LogStop>
+        requires tariff { TariffFits (length self.old.prices.tolls) tariff }
+        requires ascend { DuesAscend tariff }
+        requires fits { WhereTold (L.state log.old) (λ told. LogFits told self.old) }
+        ensures search { OnOk result (self.new ≡ with_other_prices self.old (with_tariff self.old.prices tariff)) }
+        ensures heeds { HeedMeets self.old self.new (L.state log.old) (L.state log.new) result }
+        ensures same_reference { L.anchor log.new ≡ L.anchor log.old }
+    {
+        self.engine.put_in_force(tariff, log)
+    }
+
+    /// Takes a literal that a clause of the prices in force implies, and writes the clause's line.
+    pub fn imply_priced<L: Log>(
+        &mut self,
+        lit: Lit,
+        clause: Clause,
+        log: &mut L,
+    ) -> Result<(), LogStop>
+        requires clause { IsClause (shape_of self.old.problem) clause }
+        requires shows { PricesShow self.old clause }
+        requires lit { lit_fits (trail_shape self.old.trail) lit ≡ true }
+        requires free { truth (room_in self.old) lit ≡ Free }
+        requires only { narrowing clause (room_in self.old) ≡ CutBy lit }
+        requires going { self.old.over ≡ false }
+        requires few { self.old.lemmas < MOST_BUDGET }
+        requires few_priced { self.old.priced < MOST_PRICED }
+        requires fits { WhereTold (L.state log.old) (λ told. LogFits told self.old) }
+        ensures search { OnOk result (self.new ≡ with_priced self.old lit clause) }
+        ensures heeds { HeedMeets self.old self.new (L.state log.old) (L.state log.new) result }
+        ensures same_reference { L.anchor log.new ≡ L.anchor log.old }
+    {
+        self.engine.imply_priced(lit, clause, log)
+    }
+
+    /// Writes a bound that the prices in force show.
+    pub fn tell_bound<L: Log>(&mut self, bound: u64, log: &mut L) -> Result<(), LogStop>
+        requires small { bound ≤ MOST_CARGO }
+        requires below { IsBelow self.old bound }
+        requires shows { ShowsBound self.old bound }
+        requires fits { WhereTold (L.state log.old) (λ told. LogFits told self.old) }
+        ensures tells { TellMeets self.old bound self.new (L.state log.old) (L.state log.new) result }
+        ensures same_reference { L.anchor log.new ≡ L.anchor log.old }
+    {
+        self.engine.tell_bound(bound, log)
+    }
+
+    /// The search is over.
+    pub fn finish(&mut self)
+        ensures search { self.new ≡ record self.old { over = true } }
+    {
+        self.engine.finish();
+    }
+
+    /// The search is over since a line wasn't taken.
+    pub fn halt(&mut self, stop: LogStop) -> Turn
+        ensures search { self.new ≡ record self.old { over = true } }
+        ensures value { result ≡ turn_of stop }
+    {
+        self.engine.halt(stop)
     }
 }

@@ -18,12 +18,11 @@ ghost use Rattle.hw_search.specs.Turning.{Decides, Teaches, TurnsFrom, decided_b
 use crate::asking::clause_of;
 use crate::branching::branch;
 use crate::engine::{Best, Engine};
-use crate::going_back::next_level;
-use crate::handing::hand_why;
-use crate::writing::{hand_copy, hand_table};
+use crate::restarts::next_level;
 use hw_cert::{Log, LogStop};
 use hw_flat::Timetable;
 use hw_learn::{Learnt, learn};
+use hw_ledger::{hand_copy, hand_table, hand_why};
 use hw_model::Lit;
 use hw_progress::{MOST_BUDGET, Settled, Turn};
 use hw_prop::Propagator;

@@ -19,7 +19,8 @@ use hw_desk::{Desk, Tray};
 use hw_flat::Flat;
 use hw_prices::PricingAdviser;
 use hw_progress::MOST_BUDGET;
-use hw_search::{Proved, Solved, prove, solve};
+use hw_proving::{Proved, prove};
+use hw_search::{Solved, solve};
 use hw_turns::{Crewed, crew};
 use std::alloc::Global;
 

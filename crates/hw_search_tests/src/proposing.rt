@@ -5,7 +5,8 @@ use hw_advice::{Advice, Adviser, Bounding, Scene};
 use hw_cert::MemoryLog;
 use hw_flat::{Flat, Timetable};
 use hw_model::{Lit, NoMemory, Slot};
-use hw_search::{Solved, prove};
+use hw_proving::prove;
+use hw_search::Solved;
 use std::alloc::Global;
 use std::test::Fail;
 

@@ -6,7 +6,8 @@ use crate::problems::{APART, CROWDED, NONE_FITS, TUGS};
 use hw_advice::NoAdvice;
 use hw_cert::MemoryLog;
 use hw_flat::{Flat, make_demo};
-use hw_search::{prove, solve};
+use hw_proving::prove;
+use hw_search::solve;
 use std::alloc::Global;
 use std::test::Fail;
 

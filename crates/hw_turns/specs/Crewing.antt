@@ -10,7 +10,7 @@ use Rattle.hw_cert.specs.declared.log.LogStop.{LogStop}
 use Rattle.hw_cert.specs.declared.log.LogStop.TheVariants.{Failed, NoMemory}
 use Rattle.hw_cert.specs.Logs.{LogModel, WhereTold}
 use Rattle.hw_progress.specs.Turns.{FailsAt}
-use Rattle.hw_search.specs.Handing.{StopCause}
+use Rattle.hw_ledger.specs.Handing.{StopCause}
 use Rattle.hw_crew.specs.Pages.{Page}
 use Rattle.hw_crew.specs.Crews.{Shared}
 use Rattle.hw_turns.specs.declared.board.Board.{Board}

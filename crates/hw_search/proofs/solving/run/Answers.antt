@@ -1,9 +1,7 @@
-use Rattle.std.proofs.Common.{◌≡◌, ◌<◌, false, Option, List, ℕ, refl, sym, ap, ◌∙◌, subst, IfSome, inl, inr, arith}
+use Rattle.std.proofs.Common.{◌<◌, Option, List, ℕ, refl, sym, ◌∙◌, subst, IfSome, arith}
 use Rattle.hw_model.specs.Problem.{Problem}
 use Rattle.hw_model.specs.Timetables.{Permits}
 use Rattle.hw_progress.specs.declared.outcome.Solved.TheVariants as answers
-use Rattle.hw_progress.specs.declared.outcome.Turn.{Turn}
-use Rattle.hw_progress.specs.declared.outcome.Turn.TheVariants as turns
 use Rattle.hw_progress.specs.Proving.{IsEndOf}
 use Rattle.hw_progress.specs.Solving.{SolveMeets}
 use Rattle.hw_search.specs.Going.{Going}

@@ -4,7 +4,7 @@ use Rattle.hw_model.specs.Rooms.{RoomModel, IsRoomOf}
 use Rattle.hw_lits.specs.declared.found.Found.TheVariants as founds
 use Rattle.std.specs.Prelude.{slice_get}
 use Rattle.hw_search.specs.Engines.{EngineModel}
-use Rattle.hw_search.proofs.Asked.{asked_sources, asked_serve, source_there, place_in, found_here, kept_asked, kept_cleared, clause_here, source_reason}
+use Rattle.hw_search.proofs.Askings.{asked_sources, asked_serve, source_there, place_in, found_here, kept_asked, kept_cleared, clause_here, source_reason}
 use Rattle.hw_search.proofs.Kept.{room_here}
 use Rattle.hw_search.proofs.engine.Engine.ask.Goals as goal
 

@@ -5,12 +5,11 @@ use Rattle.hw_progress.specs.Prices.{toll_line}
 use Rattle.hw_progress.specs.Searches.{SearchModel, IsSearch}
 use Rattle.hw_progress.specs.Advised.{Heeds}
 use Rattle.hw_search.specs.Engines.{EngineModel}
-use Rattle.hw_search.specs.Handing.{TakesAll, StopsWithin}
-use Rattle.hw_search.specs.Heeding.{HeedStops}
+use Rattle.hw_ledger.specs.Handing.{TakesAll, StopsWithin}
+use Rattle.hw_search.specs.Pricing.{HeedStops}
 use Rattle.hw_search.proofs.Advice.{memory_stops}
-use Rattle.hw_search.proofs.Closings.{kept_prices}
+use Rattle.hw_search.proofs.Heard.{kept_prices, IsNewToll, declared_kept, held_is, declared_is, declared_heeds, declared_stops}
 use Rattle.hw_search.proofs.Kept.{of_view}
-use Rattle.hw_search.proofs.Heard.{IsNewToll, declared_kept, held_is, declared_is, declared_heeds, declared_stops}
 use Rattle.hw_search.proofs.engine.Engine.declare.Goals as goal
 
 pub invariant_of-self-2 : goal.invariant_of-self-2

@@ -6,7 +6,7 @@ use Rattle.hw_progress.specs.declared.outcome.Turn.TheVariants as turns
 use Rattle.hw_progress.specs.Searches.{IsSearch, room_in, best_cargo}
 use Rattle.hw_progress.proofs.Turned.{point_table}
 use Rattle.hw_search.specs.Engines.{EngineModel}
-use Rattle.hw_search.specs.Handing.{TakesAll, StopsWithin}
+use Rattle.hw_ledger.specs.Handing.{TakesAll, StopsWithin}
 use Rattle.hw_search.specs.Turning.{turn_of, halted}
 use Rattle.hw_search.proofs.Kept.{room_here}
 use Rattle.hw_search.proofs.Answering.{better_meets, table_stops}

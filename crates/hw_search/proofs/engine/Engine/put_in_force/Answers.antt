@@ -3,8 +3,7 @@ use Rattle.std.proofs.lemmas.Result.{err_from_is_err_and}
 use Rattle.hw_progress.specs.Searches.{SearchModel, IsSearch}
 use Rattle.hw_progress.specs.Advised.{Heeds}
 use Rattle.hw_search.specs.Engines.{EngineModel}
-use Rattle.hw_search.proofs.Closings.{kept_prices}
-use Rattle.hw_search.proofs.Heard.{IsNewTariff, forced_is, forced_kept, forced_heeds, forced_stops}
+use Rattle.hw_search.proofs.Heard.{kept_prices, IsNewTariff, forced_is, forced_kept, forced_heeds, forced_stops}
 use Rattle.hw_search.proofs.Kept.{of_view}
 use Rattle.hw_search.proofs.engine.Engine.put_in_force.Goals as goal
 

@@ -2,9 +2,8 @@ use Rattle.std.proofs.Common.{sym, subst}
 use Rattle.std.proofs.lemmas.Result.{err_from_is_err_and}
 use Rattle.hw_progress.specs.Searches.{SearchModel, IsSearch}
 use Rattle.hw_search.specs.Engines.{EngineModel}
-use Rattle.hw_search.specs.Bounding.{TellsBound}
-use Rattle.hw_search.proofs.ToldBounds.{IsNewBound, bound_is, bound_told, bound_stops, bound_kept}
-use Rattle.hw_search.proofs.Closings.{kept_prices}
+use Rattle.hw_search.specs.Pricing.{TellsBound}
+use Rattle.hw_search.proofs.Heard.{IsNewBound, bound_is, bound_told, bound_stops, bound_kept, kept_prices}
 use Rattle.hw_search.proofs.Kept.{of_view}
 use Rattle.hw_search.proofs.engine.Engine.tell_bound.Goals as goal
 

@@ -1,0 +1,5 @@
+pub mod Handed
+pub mod Giving
+pub mod Named
+pub mod Dropping
+pub mod Tidying

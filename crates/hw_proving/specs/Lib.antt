@@ -1,0 +1,5 @@
+pub mod Heeding
+pub mod Bounding
+pub mod Closing
+pub mod Proposing
+pub mod Stepping
