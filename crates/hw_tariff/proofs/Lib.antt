@@ -2,3 +2,5 @@ pub mod Steps
 pub mod Judged
 pub mod Charged
 pub mod Stays
+pub mod Ends
+pub mod Alone

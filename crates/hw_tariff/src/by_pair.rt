@@ -1,11 +1,14 @@
 //! Where the rules on two ships stand: which of them to ask first.
 
-ghost use Rattle.std.specs.Prelude.{◌≡◌, ◌↔◌, IfSome, IsTrue, is_some};
+ghost use Rattle.std.specs.Prelude.{◌≡◌, ◌↔◌, ◌<◌, None, length, IfSome, IsTrue, is_some};
+ghost use Rattle.hw_model.specs.declared.source.Source.TheVariants as sources;
+ghost use Rattle.hw_model.specs.Refuting.{Refutes};
 ghost use Rattle.hw_model.specs.Rooms.{RoomFits};
 ghost use Rattle.hw_tariff.specs.Asked.{PlaceRefutes, SomeRuleRefutes};
 
-use hw_flat::{Flat, Room, ShipId, Slot, Source};
-use hw_model::{Job, NoMemory, Rule};
+use crate::holding::exceeded;
+use hw_flat::{Flat, Room, ShipId, Source};
+use hw_model::{NoMemory, Rule};
 use hw_rules::refuted;
 use std::alloc::Global;
 
@@ -68,10 +71,11 @@ impl RulesByPair {
     /// all their slots.
     ///
     /// The rules on these two ships are asked first, then the rules that were found last among the others,
-    /// for any pair and for a pair with one of these ships, then those on tugs that may refute the room, which
-    /// costs a look at each job. Only where none of these refutes the room, all are asked. A rule that is found
-    /// then needs the slots of one of the two ships at most, and serves each pair with that ship: so among the
-    /// pairs of a line's blocks all rules are asked at most once more than there are ships.
+    /// for any pair and for a pair with one of these ships, then those on tugs. Only where none of these refutes
+    /// the room, all are asked. A rule that is found then names not both of the two ships, so it refutes one of
+    /// the blocks alone, as `named_or_alone` says, and serves each pair with that block: so among the pairs of a line's
+    /// blocks all rules are asked at most once more than there are ships, and those on tugs at most once more
+    /// for each pair.
     pub(crate) fn refute(&mut self, flat: &Flat, room: &Room, v: ShipId, w: ShipId) -> bool
         requires ships { room.now.ships ≡ flat.now.ships }
         requires slots { room.now.slots ≡ flat.now.slots }
@@ -84,7 +88,7 @@ impl RulesByPair {
         if self.last_refutes(flat, room, v, w) {
             return true;
         }
-        match self.another_refuting(flat, room, v, w) {
+        match self.another_refuting(flat, room) {
             None => false,
             Some(place) => {
                 self.keep(v, w, place);
@@ -118,12 +122,12 @@ impl RulesByPair {
     }
 
     /// The place of a rule that refutes the room, one on tugs if such a one is found.
-    fn another_refuting(&self, flat: &Flat, room: &Room, v: ShipId, w: ShipId) -> Option<u32>
+    fn another_refuting(&self, flat: &Flat, room: &Room) -> Option<u32>
         requires room { RoomFits flat.now room.now }
         ensures value { IsTrue (is_some result) ↔ SomeRuleRefutes flat.now room.now }
         ensures place { IfSome result (λ place. PlaceRefutes flat.now place room.now) }
     {
-        match self.tugs_refuting(flat, room, v, w) {
+        match self.tugs_refuting(flat, room) {
             None => first_refuting(flat, room),
             Some(place) => Some(place),
         }
@@ -140,88 +144,19 @@ impl RulesByPair {
         }
     }
 
-    /// The place of a rule on tugs that refutes the room, among those that may do so by the jobs of both
-    /// ships.
-    fn tugs_refuting(&self, flat: &Flat, room: &Room, v: ShipId, w: ShipId) -> Option<u32>
+    /// The place of a rule on tugs that refutes the room.
+    fn tugs_refuting(&self, flat: &Flat, room: &Room) -> Option<u32>
         requires room { RoomFits flat.now room.now }
         ensures sound { IfSome result (λ place. SomeRuleRefutes flat.now room.now) }
         ensures place { IfSome result (λ place. PlaceRefutes flat.now place room.now) }
     {
         for place in &self.tugs {
-            if may_refute(flat, room, *place, v, w) && place_refutes(flat, room, *place) {
+            if place_refutes(flat, room, *place) {
                 return Some(*place);
             }
         }
         None
     }
-}
-
-/// Whether the rule at a place is one on tugs in which both ships surely hold tugs in one slot, and in
-/// which the jobs that surely hold tugs somewhere need more than the fleet.
-fn may_refute(flat: &Flat, room: &Room, place: u32, v: ShipId, w: ShipId) -> bool {
-    match flat.rules().get(place as usize) {
-        Some(Rule::Tugs { fleet, jobs }) => {
-            let (first, second) = (held_by(room, &jobs.items, v), held_by(room, &jobs.items, w));
-            match (first, second) {
-                (Some(first), Some(second)) => {
-                    first.meets(second) && *fleet < surely_held(room, &jobs.items)
-                }
-                _ => false,
-            }
-        }
-        _ => false,
-    }
-}
-
-/// Slots from one on and before another.
-#[derive(Clone, Copy)]
-struct Slots {
-    from: Slot,
-    end: Slot,
-}
-
-impl Slots {
-    fn meets(self, other: Slots) -> bool {
-        self.from.max(other.from) < self.end.min(other.end)
-    }
-
-    fn is_empty(self) -> bool {
-        self.end <= self.from
-    }
-}
-
-/// The slots in which a job holds its tugs wherever its ship sails in its range.
-fn surely(room: &Room, job: Job) -> Option<Slots> {
-    if room.ships() <= job.ship {
-        return None;
-    }
-    Some(Slots {
-        from: room.high(job.ship),
-        end: room.low(job.ship).saturating_add(job.hold),
-    })
-}
-
-/// The slots in which a ship surely holds tugs, if it has a job.
-fn held_by(room: &Room, jobs: &[Job], ship: ShipId) -> Option<Slots> {
-    for job in jobs {
-        if job.ship == ship {
-            return surely(room, *job);
-        }
-    }
-    None
-}
-
-/// The tugs of the jobs that surely hold them in some slot.
-fn surely_held(room: &Room, jobs: &[Job]) -> u32 {
-    let mut tugs: u32 = 0;
-    for job in jobs {
-        if let Some(slots) = surely(room, *job) {
-            if !slots.is_empty() {
-                tugs = tugs.saturating_add(job.tugs);
-            }
-        }
-    }
-    tugs
 }
 
 /// A number of two ships, whichever comes first.
@@ -248,7 +183,20 @@ fn place_refutes(flat: &Flat, room: &Room, place: u32) -> bool
     ensures sound { IsTrue result → SomeRuleRefutes flat.now room.now }
     ensures place { IsTrue result → PlaceRefutes flat.now place room.now }
 {
-    place < flat.shape().rules && refuted(flat, Source::Rule { place }, None, room)
+    place < flat.shape().rules && rule_refutes(flat, room, place)
+}
+
+/// Whether the rule at this place refutes the room. A rule on tugs costs what [`exceeded`] does, and one on
+/// two ships what its holes do, squared.
+fn rule_refutes(flat: &Flat, room: &Room, place: u32) -> bool
+    requires room { RoomFits flat.now room.now }
+    requires place_in { place < length flat.now.rules }
+    ensures value { IsTrue result ↔ Refutes flat.now (sources.Rule place) None room.now }
+{
+    match &flat.rules()[place as usize] {
+        Rule::Pair { .. } | Rule::After { .. } => refuted(flat, Source::Rule { place }, None, room),
+        Rule::Tugs { fleet, jobs } => exceeded(flat, *fleet, &jobs.items, room),
+    }
 }
 
 /// The place of a rule that refutes the room, or none.
@@ -258,7 +206,7 @@ fn first_refuting(flat: &Flat, room: &Room) -> Option<u32>
     ensures place { IfSome result (λ place. PlaceRefutes flat.now place room.now) }
 {
     for place in 0..flat.shape().rules {
-        if refuted(flat, Source::Rule { place }, None, room) {
+        if rule_refutes(flat, room, place) {
             return Some(place);
         }
     }

@@ -5,4 +5,4 @@ pub returns-then-place-shape : goal.returns-then-place-shape
 returns-then-place-shape c =
     let rules : c.shape.result.rules ≡ length c.args.flat.now.rules = ap (λ s. s.rules) c.shape.ensures.value in
     let inside : c.args.place < length c.args.flat.now.rules = omega (arith, c.if-place-shape.true, rules) in
-    record { sound = λ t. (c.args.place, inside, c.refuted.ensures.means.0 t); place = λ t. (inside, c.refuted.ensures.means.0 t) }
+    record { sound = λ t. (c.args.place, inside, c.rule_refutes.ensures.value.0 t); place = λ t. (inside, c.rule_refutes.ensures.value.0 t) }
