@@ -21,6 +21,7 @@ import tempfile
 
 sys.dont_write_bytecode = True
 import chart
+import chart_clash
 import chart_repair
 from compare import flat_drawn, port_drawn, text_of, written
 
@@ -34,10 +35,11 @@ KEPT = {
     "examples/thirty.svg": ("examples", "port thirty.json thirty-tides.csv thirty.cert"),
     "examples/calls.svg": ("examples", "port calls.json day-tides.csv calls.cert"),
     "examples/none.svg": ("examples", "port no-room.json tide.csv none.cert"),
+    "examples/clash.svg": ("examples", "clash port no-room.json tide.csv why.txt clash.cert"),
     "examples/late.svg": ("examples", "repair port late.json day-tides.csv late-plan.txt late.cert"),
 }
 # The script for a form whose words begin so; the others are those of chart.py.
-SCRIPTS = {"repair": chart_repair}
+SCRIPTS = {"clash": chart_clash, "repair": chart_repair}
 
 
 def names_of(words):

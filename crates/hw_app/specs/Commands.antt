@@ -31,6 +31,8 @@ pub data Command : Type 0 where
   renew : Topic → List ℕ → List ℕ → Command
   -- of what a plan is drawn, the certificate
   chart : Topic → List ℕ → Command
+  -- the instance, the tide table, the clash, the certificate
+  chart_clash : List ℕ → List ℕ → List ℕ → List ℕ → Command
   -- of what a plan is put into a table, the certificate
   table : Topic → List ℕ → Command
   -- of what a repair is told, the plan, the certificate
@@ -82,6 +84,7 @@ command_by (Keyword key.Check ∷ Keyword key.Clash ∷ more) form words = check
 command_by (Keyword key.Check ∷ more) form words = check (topic_in form words) (name_in_words form words (Input feed.Certificate))
 command_by (Keyword key.Verify ∷ more) form words = verify (topic_in form words) (name_in_words form words (Input feed.Certificate))
 command_by (Keyword key.Renew ∷ more) form words = renew (topic_in form words) (name_in_words form words (Input feed.Certificate)) (name_in_words form words Proof)
+command_by (Keyword key.Chart ∷ Keyword key.Clash ∷ more) form words = chart_clash (name_in_words form words (Input feed.Instance)) (name_in_words form words (Input feed.Tides)) (name_in_words form words (Input feed.Clash)) (name_in_words form words (Input feed.Certificate))
 command_by (Keyword key.Chart ∷ more) form words = chart (topic_in form words) (name_in_words form words (Input feed.Certificate))
 command_by (Keyword key.Table ∷ more) form words = table (topic_in form words) (name_in_words form words (Input feed.Certificate))
 command_by (Keyword key.Clash ∷ more) form words = clash (topic_in form words) (number_in_words form words counts.Budget) (name_in_words form words Proof)
@@ -128,6 +131,7 @@ command_seen (told.Check subject cert) = check (topic_seen subject) cert.now
 command_seen (told.Verify subject cert) = verify (topic_seen subject) cert.now
 command_seen (told.Renew subject cert proof) = renew (topic_seen subject) cert.now proof.now
 command_seen (told.Chart subject cert) = chart (topic_seen subject) cert.now
+command_seen (told.ChartClash port text cert) = chart_clash port.instance.now port.tides.now text.now cert.now
 command_seen (told.Table subject cert) = table (topic_seen subject) cert.now
 command_seen (told.ExplainRepair source plan cert) = explain_repair (origin_seen source) plan.now cert.now
 command_seen (told.Clash subject budget proof) = clash (topic_seen subject) budget proof.now

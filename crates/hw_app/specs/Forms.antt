@@ -7,7 +7,7 @@ use Rattle.hw_progress.specs.declared.limits.TheConstants.{MOST_BUDGET}
 use Rattle.hw_search_command.specs.Orders.{order_read}
 use Rattle.hw_search_command.specs.Demo.{most_ships, most_slots}
 use Rattle.hw_app.specs.declared.form.Form.{Form}
-use Rattle.hw_app.specs.declared.form.Form.TheVariants.{SolveFlat, SolvePort, ProveFlat, ProvePort, ProveFlatSeed, ProvePortSeed, ResumeFlat, ResumePort, CheckFlat, CheckPort, VerifyFlat, VerifyPort, ChartFlat, ChartPort, ChartRepairFlat, ChartRepairPort, TablePort, TableRepairPort, RenewFlat, RenewPort, CrewFlat, CrewPort, RepairFlat, RepairPort, ProveRepairFlat, ProveRepairPort, ProveRepairFlatSeed, ProveRepairPortSeed, CheckRepair, CheckRepairPort, VerifyRepairFlat, VerifyRepairPort, ExplainRepairFlat, ExplainRepairPort, ClashFlat, ClashPort, ClashRepairFlat, ClashRepairPort, CheckClash, CheckClashPort, CheckClashRepairFlat, CheckClashRepairPort, ExplainPort, WindowsPort, Lint, ModelFlat, ModelPort, OpbFlat, OpbPort, AuditPort, CarryPort, Flatten, Demo}
+use Rattle.hw_app.specs.declared.form.Form.TheVariants.{SolveFlat, SolvePort, ProveFlat, ProvePort, ProveFlatSeed, ProvePortSeed, ResumeFlat, ResumePort, CheckFlat, CheckPort, VerifyFlat, VerifyPort, ChartFlat, ChartPort, ChartRepairFlat, ChartRepairPort, ChartClashPort, TablePort, TableRepairPort, RenewFlat, RenewPort, CrewFlat, CrewPort, RepairFlat, RepairPort, ProveRepairFlat, ProveRepairPort, ProveRepairFlatSeed, ProveRepairPortSeed, CheckRepair, CheckRepairPort, VerifyRepairFlat, VerifyRepairPort, ExplainRepairFlat, ExplainRepairPort, ClashFlat, ClashPort, ClashRepairFlat, ClashRepairPort, CheckClash, CheckClashPort, CheckClashRepairFlat, CheckClashRepairPort, ExplainPort, WindowsPort, Lint, ModelFlat, ModelPort, OpbFlat, OpbPort, AuditPort, CarryPort, Flatten, Demo}
 use Rattle.hw_app.specs.declared.form.Keyword.{Keyword as KeywordOf}
 use Rattle.hw_app.specs.declared.form.Keyword.TheVariants as key
 use Rattle.hw_app.specs.declared.form.Quantity.{Quantity}
@@ -43,7 +43,7 @@ keyword_text key.Demo = codes "demo"
 
 -- the forms that there are
 abbrev pub forms : List Form
-forms = SolveFlat ∷ SolvePort ∷ ProveFlat ∷ ProvePort ∷ ProveFlatSeed ∷ ProvePortSeed ∷ ResumeFlat ∷ ResumePort ∷ CheckFlat ∷ CheckPort ∷ VerifyFlat ∷ VerifyPort ∷ ChartFlat ∷ ChartPort ∷ ChartRepairFlat ∷ ChartRepairPort ∷ TablePort ∷ TableRepairPort ∷ RenewFlat ∷ RenewPort ∷ CrewFlat ∷ CrewPort ∷ RepairFlat ∷ RepairPort ∷ ProveRepairFlat ∷ ProveRepairPort ∷ ProveRepairFlatSeed ∷ ProveRepairPortSeed ∷ CheckRepair ∷ CheckRepairPort ∷ VerifyRepairFlat ∷ VerifyRepairPort ∷ ExplainRepairFlat ∷ ExplainRepairPort ∷ ClashFlat ∷ ClashPort ∷ ClashRepairFlat ∷ ClashRepairPort ∷ CheckClash ∷ CheckClashPort ∷ CheckClashRepairFlat ∷ CheckClashRepairPort ∷ ExplainPort ∷ WindowsPort ∷ Lint ∷ ModelFlat ∷ ModelPort ∷ OpbFlat ∷ OpbPort ∷ AuditPort ∷ CarryPort ∷ Flatten ∷ Demo ∷ []
+forms = SolveFlat ∷ SolvePort ∷ ProveFlat ∷ ProvePort ∷ ProveFlatSeed ∷ ProvePortSeed ∷ ResumeFlat ∷ ResumePort ∷ CheckFlat ∷ CheckPort ∷ VerifyFlat ∷ VerifyPort ∷ ChartFlat ∷ ChartPort ∷ ChartRepairFlat ∷ ChartRepairPort ∷ ChartClashPort ∷ TablePort ∷ TableRepairPort ∷ RenewFlat ∷ RenewPort ∷ CrewFlat ∷ CrewPort ∷ RepairFlat ∷ RepairPort ∷ ProveRepairFlat ∷ ProveRepairPort ∷ ProveRepairFlatSeed ∷ ProveRepairPortSeed ∷ CheckRepair ∷ CheckRepairPort ∷ VerifyRepairFlat ∷ VerifyRepairPort ∷ ExplainRepairFlat ∷ ExplainRepairPort ∷ ClashFlat ∷ ClashPort ∷ ClashRepairFlat ∷ ClashRepairPort ∷ CheckClash ∷ CheckClashPort ∷ CheckClashRepairFlat ∷ CheckClashRepairPort ∷ ExplainPort ∷ WindowsPort ∷ Lint ∷ ModelFlat ∷ ModelPort ∷ OpbFlat ∷ OpbPort ∷ AuditPort ∷ CarryPort ∷ Flatten ∷ Demo ∷ []
 
 -- the limits of a number
 abbrev pub least_of : Quantity → ℕ
@@ -78,6 +78,7 @@ wanted_words ChartFlat = Keyword key.Chart ∷ Keyword key.Flat ∷ Value (Input
 wanted_words ChartPort = Keyword key.Chart ∷ Keyword key.Port ∷ Value (Input feed.Instance) ∷ Value (Input feed.Tides) ∷ Value (Input feed.Certificate) ∷ []
 wanted_words ChartRepairFlat = Keyword key.Chart ∷ Keyword key.Repair ∷ Keyword key.Flat ∷ Value (Input feed.Flat) ∷ Value (Input feed.Plan) ∷ Value (Input feed.Certificate) ∷ []
 wanted_words ChartRepairPort = Keyword key.Chart ∷ Keyword key.Repair ∷ Keyword key.Port ∷ Value (Input feed.Instance) ∷ Value (Input feed.Tides) ∷ Value (Input feed.Plan) ∷ Value (Input feed.Certificate) ∷ []
+wanted_words ChartClashPort = Keyword key.Chart ∷ Keyword key.Clash ∷ Keyword key.Port ∷ Value (Input feed.Instance) ∷ Value (Input feed.Tides) ∷ Value (Input feed.Clash) ∷ Value (Input feed.Certificate) ∷ []
 wanted_words TablePort = Keyword key.Table ∷ Keyword key.Port ∷ Value (Input feed.Instance) ∷ Value (Input feed.Tides) ∷ Value (Input feed.Certificate) ∷ []
 wanted_words TableRepairPort = Keyword key.Table ∷ Keyword key.Repair ∷ Keyword key.Port ∷ Value (Input feed.Instance) ∷ Value (Input feed.Tides) ∷ Value (Input feed.Plan) ∷ Value (Input feed.Certificate) ∷ []
 wanted_words RenewFlat = Keyword key.Renew ∷ Keyword key.Flat ∷ Value (Input feed.Flat) ∷ Value (Input feed.Certificate) ∷ Value Proof ∷ []

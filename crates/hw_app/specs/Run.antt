@@ -17,13 +17,14 @@ use Rattle.hw_chart_command.specs.Charts.{chart_task}
 use Rattle.hw_repair_command.specs.Explains.{explain_repair_task}
 use Rattle.hw_clash_command.specs.Clashes.{clash_task}
 use Rattle.hw_clash_command.specs.CheckClash.{check_clash_task}
+use Rattle.hw_clash_chart_command.specs.Charts.{chart_clash_task}
 use Rattle.hw_listing_command.specs.Listings.{explain_port_task, flatten_task, model_task, windows_task}
 use Rattle.hw_lint_command.specs.Lints.{lint_task}
 use Rattle.hw_listing_command.specs.Tables.{table_task}
 use Rattle.hw_audit_command.specs.AuditPort.{audit_port_task}
 use Rattle.hw_audit_command.specs.CarryPort.{carry_port_task}
 use Rattle.hw_search_command.specs.Demo.{demo_task}
-use Rattle.hw_app.specs.Commands.{Command, search, resume, check, verify, renew, chart, table, explain_repair, clash, check_clash, explain, windows, lint, model, audit, carry, flatten, demo, command_of}
+use Rattle.hw_app.specs.Commands.{Command, search, resume, check, verify, renew, chart, chart_clash, table, explain_repair, clash, check_clash, explain, windows, lint, model, audit, carry, flatten, demo, command_of}
 
 -- what a command has to do
 abbrev pub task_of : Command → Task
@@ -33,6 +34,7 @@ task_of (check topic cert) = check_task (topic_subject topic) Two cert
 task_of (verify topic cert) = check_task (topic_subject topic) Three cert
 task_of (renew topic cert proof) = renew_task (topic_subject topic) cert proof
 task_of (chart topic cert) = chart_task (topic_subject topic) cert
+task_of (chart_clash instance tides text cert) = chart_clash_task instance tides text cert
 task_of (table topic cert) = table_task (topic_subject topic) cert
 task_of (explain_repair origin plan cert) = explain_repair_task (repair_of (origin_subject origin) plan) cert
 task_of (clash topic budget proof) = clash_task (topic_subject topic) budget proof

@@ -37,6 +37,11 @@ pub enum Command<'w> {
         subject: Subject<'w>,
         cert: &'w str,
     },
+    ChartClash {
+        port: PortNames<'w>,
+        clash: &'w str,
+        cert: &'w str,
+    },
     Table {
         subject: Subject<'w>,
         cert: &'w str,

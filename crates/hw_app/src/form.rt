@@ -42,6 +42,8 @@ pub enum Form {
     ChartRepairFlat,
     /// `chart repair port INSTANCE TIDES PLAN CERT` draws the plan that a certificate of the repair of a port's plan shows, against that plan.
     ChartRepairPort,
+    /// `chart clash port INSTANCE TIDES CLASH CERT` marks in the picture of a port the restrictions of a clash that a certificate shows.
+    ChartClashPort,
     /// `table port INSTANCE TIDES CERT` prints the plan that a certificate of a port shows as CSV.
     TablePort,
     /// `table repair port INSTANCE TIDES PLAN CERT` prints the plan that a certificate of the repair of a port's plan shows as CSV.
@@ -181,7 +183,7 @@ pub enum Wanted {
 }
 
 /// The forms that there are.
-pub const FORMS: [Form; 53] = [
+pub const FORMS: [Form; 54] = [
     Form::SolveFlat,
     Form::SolvePort,
     Form::ProveFlat,
@@ -198,6 +200,7 @@ pub const FORMS: [Form; 53] = [
     Form::ChartPort,
     Form::ChartRepairFlat,
     Form::ChartRepairPort,
+    Form::ChartClashPort,
     Form::TablePort,
     Form::TableRepairPort,
     Form::RenewFlat,
@@ -330,6 +333,7 @@ pub fn words_of(form: Form) -> &'static [Wanted]
         Form::ChartPort => &[CHART, PORT, INSTANCE, TIDES, CERT],
         Form::ChartRepairFlat => &[CHART, REPAIR, FLAT, NAME, PLAN, CERT],
         Form::ChartRepairPort => &[CHART, REPAIR, PORT, INSTANCE, TIDES, PLAN, CERT],
+        Form::ChartClashPort => &[CHART, CLASH, PORT, INSTANCE, TIDES, CLASH_TEXT, CERT],
         Form::TablePort => &[TABLE, PORT, INSTANCE, TIDES, CERT],
         Form::TableRepairPort => &[TABLE, REPAIR, PORT, INSTANCE, TIDES, PLAN, CERT],
         Form::RenewFlat => &[RENEW, FLAT, NAME, CERT, PROOF],

@@ -10,6 +10,7 @@ use crate::words::read_command;
 use hw_audit_command::{audit_port, carry_port};
 use hw_chart_command::chart;
 use hw_check_command::{check, renew, verify};
+use hw_clash_chart_command::chart_clash;
 use hw_clash_command::{check_clash, clash};
 use hw_command::{Status, finish};
 use hw_desk::Desk;
@@ -52,6 +53,7 @@ pub fn run<D: Desk>(alloc: Global, words: &[String], desk: &mut D) -> Status
             proof,
         } => renew(alloc, desk, subject, cert, proof),
         Command::Chart { subject, cert } => chart(alloc, desk, subject, cert),
+        Command::ChartClash { port, clash, cert } => chart_clash(alloc, desk, port, clash, cert),
         Command::Table { subject, cert } => list_table(alloc, desk, subject, cert),
         Command::ExplainRepair { source, plan, cert } => {
             explain_repair(alloc, desk, source, plan, cert)

@@ -169,6 +169,11 @@ fn command_by<'w>(wanted: &[Wanted], form: Form, words: &'w [String]) -> Command
             cert: input_in(form, words, Feed::Certificate),
             proof: name_in(form, words, Value::Proof),
         },
+        [CHART, CLASH, ..] => Command::ChartClash {
+            port: port_in(form, words),
+            clash: input_in(form, words, Feed::Clash),
+            cert: input_in(form, words, Feed::Certificate),
+        },
         [CHART, ..] => Command::Chart {
             subject: subject_in(form, words),
             cert: input_in(form, words, Feed::Certificate),

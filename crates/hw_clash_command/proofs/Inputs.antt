@@ -60,11 +60,10 @@ pub no_room : {feed : Feed} {f : Wished} {name : List ℕ} {x y : DeskState} {v 
 no_room h = record { enters = h.enters; stop = inl (record { stop = stops.NoMemory; report = refl; cause = h.answer.1 }) }
 
 -- the part was made
-pub reads_part : {feed : Feed} {f : Wished} {g : Problem} {name : List ℕ} {x y : DeskState} {v : Vec ℕ Global} (clash : Clash) → ReadsInput feed name x y (Ok v) → clash_text f v.items ≡ Ok clash → SaysClash f clash → g ≡ part f clash.kept → IsFlat g → ReadsPart feed f name x y g
+pub reads_part : {feed : Feed} {f : Wished} {g : Problem} {name : List ℕ} {x y : DeskState} {v : Vec ℕ Global} (clash : Clash) → ReadsInput feed name x y (Ok v) → clash_text f v.items ≡ Ok clash → SaysClash f clash → g ≡ part f clash.kept → IsFlat g → ReadsPart feed f name x y (record { clash = clash; flat = g })
 reads_part {f = f} {name = name} {x = x} {v = v} clash h is_text says made limits = record {
   enters = h.enters;
   read_faults = h.answer.1;
-  clash = clash;
   is = record { says = says; reads = of_whole (λ bytes. clash_text f bytes ≡ Ok clash) (x.held name) v.items h.answer.0 is_text };
   made = made;
   limits = limits;

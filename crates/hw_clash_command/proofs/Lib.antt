@@ -6,5 +6,5 @@ mod PortMeans
 mod Worded
 mod Sources
 mod Found
-mod Checked
+pub mod Checked
 pub mod Decided

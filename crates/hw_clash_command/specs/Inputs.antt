@@ -1,7 +1,6 @@
 -- A clash text as an input: as which one it comes, and what it gives, or why it gives nothing.
 use Rattle.std.specs.Prelude.{◌≡◌, ◌≤◌, ◌⊎◌, ℕ, List, Option, Some, None, Ok, Err, IfSome, length, if◌then◌else◌}
 use Rattle.hw_model.specs.Limits.{IsFlat}
-use Rattle.hw_model.specs.Problem.{Problem}
 use Rattle.hw_desk.specs.State.{DeskState}
 use Rattle.hw_desk.specs.declared.desk.Feed.{Feed}
 use Rattle.hw_desk.specs.declared.desk.Feed.TheVariants as feeds
@@ -21,6 +20,7 @@ use Rattle.hw_command.specs.Inputs.{Enters, StopsFor, report_of_stop}
 use Rattle.hw_command.specs.Scope.{feed_is_among}
 use Rattle.hw_command.specs.Values.{most_bytes}
 use Rattle.hw_subject.specs.Subjects.{Subject}
+use Rattle.hw_clash_command.specs.declared.part_input.Part.{Part}
 
 -- as a plan where none is read before it, and otherwise beside that plan
 abbrev pub clash_feed : Subject → Feed
@@ -53,13 +53,12 @@ pub record IsBadClash (text : Option (List ℕ)) (f : Wished) (number : ℕ) (wo
 -- ---- the call
 
 -- the text was begun as this input under its name and no read failed: it keeps restrictions of the problem, and this is the part of them, within the limits
-pub record ReadsPart (feed : Feed) (f : Wished) (name : List ℕ) (old new : DeskState) (g : Problem) : Type 0 where
+pub record ReadsPart (feed : Feed) (f : Wished) (name : List ℕ) (old new : DeskState) (read : Part) : Type 0 where
   pub enters : Enters feed name old new
   pub read_faults : new.read_faults ≡ old.read_faults
-  pub clash : Clash
-  pub is : IsClashOf (old.held name) f clash
-  pub made : g ≡ part f clash.kept
-  pub limits : IsFlat g
+  pub is : IsClashOf (old.held name) f read.clash
+  pub made : read.flat ≡ part f read.clash.kept
+  pub limits : IsFlat read.flat
 
 -- it isn't read to its end, for this cause, or memory ran out for its part
 pub record StopsAtRead (feed : Feed) (text : Option (List ℕ)) (old new : DeskState) (r : Report) : Type 0 where

@@ -4,5 +4,6 @@ pub mod Inputs
 pub mod PortWords
 pub mod Clashes
 pub mod CheckClash
+pub mod Checked
 pub mod Texts
 pub mod Laws

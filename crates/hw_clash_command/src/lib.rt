@@ -11,6 +11,6 @@ mod part_input;
 mod searching;
 mod sending;
 
-pub use checking::check_clash;
+pub use checking::{CheckedClash, check_clash, part_report, read_checked};
 pub use laws::{one_clash_report, texts_decide_clash};
 pub use searching::clash;

@@ -5,12 +5,19 @@ ghost use Rattle.hw_report.specs.Printing.{CanPrint};
 ghost use Rattle.hw_report.specs.Seen.{report_seen};
 ghost use Rattle.hw_clash_command.specs.Inputs.{ReadsPart, StopsAtPart, report_of_clash_fault};
 
-use hw_clash::{ClashFault, WishedFlat, part, read_clash};
+use hw_clash::{ClashFault, ClashText, WishedFlat, part, read_clash};
 use hw_command::{read_input, stopped};
 use hw_desk::{Desk, Feed};
 use hw_flat::Flat;
 use hw_report::Report;
 use std::alloc::Global;
+
+/// A clash that was read, and the part of the problem that keeps its restrictions.
+#[derive(Drop)]
+pub struct Part {
+    pub clash: ClashText,
+    pub flat: Flat,
+}
 
 /// Begins the clash text as this input under its name, reads it to its end, and makes the part of the
 /// problem that keeps its restrictions. An error is the report of why there is none.
@@ -20,7 +27,7 @@ pub fn read_part<D: Desk>(
     wished: &WishedFlat,
     feed: Feed,
     name: &str,
-) -> Result<Flat, Report<'static>>
+) -> Result<Part, Report<'static>>
     requires unread { ((D.state desk.old).feeds feed).begun ≡ false }
     ensures part { IfOk result (λ made. ReadsPart feed wished.now name.now (D.state desk.old) (D.state desk.new) made) }
     ensures no_part { IfErr result (λ report. StopsAtPart feed wished.now name.now (D.state desk.old) (D.state desk.new) (report_seen report)) }
@@ -35,10 +42,10 @@ pub fn read_part<D: Desk>(
         Err(fault) => return Err(bad_clash(feed, fault)),
     };
     match part(alloc, wished, &clash.kept) {
-        Ok(made) => {
+        Ok(flat) => {
             // The call shows that the part is within the limits.
-            let _shape = made.shape();
-            Ok(made)
+            let _shape = flat.shape();
+            Ok(Part { clash, flat })
         }
         Err(_) => Err(Report::Memory),
     }

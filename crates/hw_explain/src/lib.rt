@@ -15,4 +15,4 @@ mod writing;
 pub use laws::{each_is_named, named_by_rule, named_means, told_closes};
 pub use named::{Named, Places};
 pub use naming::name_restrictions;
-pub use writing::explain;
+pub use writing::{explain, explain_one};

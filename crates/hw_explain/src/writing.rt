@@ -152,6 +152,20 @@ fn put_named(
     }
 }
 
+/// The line of a restriction with its number, as in the text that explains them all, without its end.
+pub fn explain_one(
+    alloc: Global,
+    port: &Port,
+    number: u32,
+    named: &Named,
+) -> Result<Vec<u8>, NoMemory>
+    ensures { IfOk result (λ line. line.items ≡ named_line port.now number named.now) }
+{
+    let mut line = Vec::new(alloc);
+    put_named(&mut line, port.parts(), u64::from(number), named)?;
+    Ok(line)
+}
+
 /// Appends the lines of restrictions, the first of which has the number 0.
 fn put_lines(out: &mut Vec<u8>, parts: &PortParts, list: &[Named]) -> Result<(), AllocError>
     requires { PortKept parts.now }

@@ -16,7 +16,7 @@ Commands:
 ";
 
 /// What the commands do, in a line each, in the order of `FORMS`.
-pub const PURPOSES: [&str; 53] = [
+pub const PURPOSES: [&str; 54] = [
     "looks for a best timetable of a flat text, and writes a certificate to PROOF",
     "looks for a best timetable of a port, and writes a certificate to PROOF",
     "looks for a best timetable of a flat text with prices, and writes a certificate to PROOF",
@@ -33,6 +33,7 @@ pub const PURPOSES: [&str; 53] = [
     "prints the plan that a certificate of a port shows, as an SVG picture",
     "prints the repaired plan that a certificate shows, against the plan, as an SVG picture",
     "the same for a port's plan",
+    "marks in a port's picture which restrictions can't be met together, by a clash and its certificate",
     "prints the plan that a certificate of a port shows, as CSV for a spreadsheet",
     "the same of a repaired plan",
     "checks a certificate of a flat text, and writes a leaner one to PROOF",

@@ -1,25 +1,8 @@
-use Rattle.hw_subject.specs.Subjects.{topic_seen, topic_subject}
-use Rattle.hw_clash_command.proofs.Checked.{unread_clash, unread_cert, check_stops, check_clash_stops, check_breaks, check_meets}
-use Rattle.hw_clash_command.proofs.Sources.{fits_in, searched_is}
+use Rattle.hw_clash_command.proofs.Checked.{clash_checked, clash_refused}
 use Rattle.hw_clash_command.proofs.checking.check_clash.Goals as goal
 
+pub returns-in-Ok : goal.returns-in-Ok
+returns-in-Ok g c = clash_checked c.in-Ok.ensures.checked (rw c.part_report.ensures.value at c.finish.ensures)
+
 pub returns-in-Err : goal.returns-in-Err
-returns-in-Err g c = check_stops (topic_seen c.args.subject) c.args.clash.now c.args.cert.now c.in-Err.ensures.stops c.finish.ensures
-
-pub wished_of-wished-requires : goal.wished_of-wished-requires
-wished_of-wished-requires g c = record { searched = searched_is {s = topic_subject (topic_seen c.args.subject)} c.in-Ok.ensures.given; fits = fits_in (topic_seen c.args.subject) c.in-Ok.ensures.given }
-
-pub read_part-requires : goal.read_part-requires
-read_part-requires g c = record { unread = rw c.clash_feed-feed.ensures (unread_clash (topic_seen c.args.subject) c.requires.fresh c.in-Ok.ensures.given) }
-
-pub returns-in-Err-read_part : goal.returns-in-Err-read_part
-returns-in-Err-read_part g c = check_clash_stops (topic_seen c.args.subject) c.args.clash.now c.args.cert.now c.in-Ok.ensures.given (rw c.clash_feed-feed.ensures at (rw c.wished_of-wished.ensures at c.in-Err-read_part.ensures.no_part)) c.finish-in-Err-read_part.ensures
-
-pub read_cert-requires : goal.read_cert-requires
-read_cert-requires g c = record { unread = unread_cert (topic_seen c.args.subject) c.requires.fresh c.in-Ok.ensures.given (rw c.clash_feed-feed.ensures at (rw c.wished_of-wished.ensures at c.in-Ok-read_part.ensures.part)); none = tt }
-
-pub returns-in-Ok-read_cert : goal.returns-in-Ok-read_cert
-returns-in-Ok-read_cert g c = check_meets (topic_seen c.args.subject) c.in-Ok.ensures.given (rw c.clash_feed-feed.ensures at (rw c.wished_of-wished.ensures at c.in-Ok-read_part.ensures.part)) c.in-Ok-read_cert.ensures (rw c.part_report.ensures.value at c.finish-in-Ok-read_cert.ensures)
-
-pub returns : goal.returns
-returns g c = check_breaks (topic_seen c.args.subject) c.in-Err-read_cert.stop c.in-Ok.ensures.given (rw c.clash_feed-feed.ensures at (rw c.wished_of-wished.ensures at c.in-Ok-read_part.ensures.part)) c.in-Err-read_cert.ensures (rw c.check_report.ensures.value at c.finish-in-Err-read_cert.ensures)
+returns-in-Err g c = clash_refused c.in-Err.ensures.stops c.finish-in-Err.ensures

@@ -1,0 +1,2 @@
+mod Charted
+mod Decided

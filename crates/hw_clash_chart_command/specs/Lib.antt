@@ -1,0 +1,3 @@
+pub mod Charts
+pub mod Drawing
+pub mod Laws
