@@ -74,8 +74,8 @@ impl RulesByPair {
     /// for any pair and for a pair with one of these ships, then those on tugs. Only where none of these refutes
     /// the room, all are asked. A rule that is found then names not both of the two ships, so it refutes one of
     /// the blocks alone, as `named_or_alone` says, and serves each pair with that block: so among the pairs of a line's
-    /// blocks all rules are asked at most once more than there are ships, and those on tugs at most once more
-    /// for each pair.
+    /// blocks all rules are asked at most once more than there are ships, beside those on tugs, which each pair
+    /// asks at most once more.
     pub(crate) fn refute(&mut self, flat: &Flat, room: &Room, v: ShipId, w: ShipId) -> bool
         requires ships { room.now.ships ≡ flat.now.ships }
         requires slots { room.now.slots ≡ flat.now.slots }

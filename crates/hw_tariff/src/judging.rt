@@ -29,9 +29,9 @@ pub fn is_toll(alloc: Global, flat: &Flat, toll: &Toll) -> Result<bool, NoMemory
 
 /// The same by an index of the problem's rules, for many tolls of one problem.
 ///
-/// Asks the rules on the two blocks' ships first, then the rule that last separated a pair, then the
-/// tug rules that could, then all. The last pass happens at most once, for a toll that is refused. A
-/// room's memory is taken. An error says that memory ran out.
+/// Asks the rules on the two blocks' ships first, then those that separated a pair last, then those
+/// on tugs, then all: that once for each block at most, and once for a toll that is refused. A room's
+/// memory is taken. An error says that memory ran out.
 pub fn is_toll_by(
     alloc: Global,
     flat: &Flat,
