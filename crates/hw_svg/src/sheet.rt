@@ -2,7 +2,7 @@
 
 ghost use Rattle.hw_desk.specs.Writers.{Puts};
 ghost use Rattle.hw_svg.specs.Pieces.{picture_pieces_text};
-ghost use Rattle.hw_svg.specs.Sheets.{group_end, item_begin, list_begin, picture_begin, size_begin, svg_end, title_end, window_begin};
+ghost use Rattle.hw_svg.specs.Sheets.{group_end, item_begin, list_begin, picture_begin, svg_end, title_end, window_begin};
 
 use crate::piece::{Piece, put_pieces};
 use hw_desk::Writer;
@@ -19,10 +19,9 @@ pub struct Window {
     pub down: u64,
 }
 
-/// Puts the beginning of a picture of a size.
-#[tactic(auto, unfolding(crate::specs::Sheets::size_begin))]
-fn put_size_begin<W: Writer>(out: &mut W, width: u64, height: u64)
-    ensures { Puts (size_begin width height) (W.state out.old) (W.state out.new) }
+/// Puts the beginning of a picture of a size, with a title.
+pub fn put_picture_begin<W: Writer>(out: &mut W, width: u64, height: u64, title: &[Piece])
+    ensures { Puts (picture_begin width height (picture_pieces_text title.now)) (W.state out.old) (W.state out.new) }
 {
     put_pieces(
         out,
@@ -38,13 +37,6 @@ fn put_size_begin<W: Writer>(out: &mut W, width: u64, height: u64)
             Piece::Word(b"\" role=\"graphics-document\" aria-label=\""),
         ],
     );
-}
-
-/// Puts the beginning of a picture of a size, with a title.
-pub fn put_picture_begin<W: Writer>(out: &mut W, width: u64, height: u64, title: &[Piece])
-    ensures { Puts (picture_begin width height (picture_pieces_text title.now)) (W.state out.old) (W.state out.new) }
-{
-    put_size_begin(out, width, height);
     put_pieces(out, title);
     out.put(b"\" xml:lang=\"en\" xml:space=\"preserve\">\n<title>");
     put_pieces(out, title);
