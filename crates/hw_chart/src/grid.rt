@@ -5,7 +5,7 @@ ghost use Rattle.std.specs.Int.{div_ceil};
 ghost use Rattle.std.specs.List.{list_all};
 ghost use Rattle.hw_desk.specs.Writers.{Puts};
 ghost use Rattle.hw_svg.specs.Pieces.{picture_pieces_text};
-ghost use Rattle.hw_chart.specs.Grids.{axis_lines, axis_of, caption_text, grid, line_path, line_paths, mark, axis_mark_class, mark_text, marks, span_end, step_among, step_of, total_of};
+ghost use Rattle.hw_chart.specs.Grids.{axis_of, caption_text, grid, line_path, line_paths, mark, axis_mark_class, mark_text, marks, span_end, step_among, step_of, total_of};
 
 use crate::layout::place;
 use hw_desk::Writer;
@@ -120,16 +120,6 @@ fn put_line_paths<W: Writer>(out: &mut W, axis: Axis)
     }
 }
 
-/// Puts the lines down the picture.
-fn put_axis_lines<W: Writer>(out: &mut W, axis: Axis)
-    requires { 0 < axis.step }
-    ensures { Puts (axis_lines axis) (W.state out.old) (W.state out.new) }
-{
-    put_shape_begin(out, b"ln");
-    put_line_paths(out, axis);
-    out.put(b"\"/>\n");
-}
-
 /// The class of a mark: whole days stand out.
 fn class_of_mark(scale: Scale, at: u32) -> &'static [u8]
     ensures { result.now ≡ axis_mark_class scale at }
@@ -204,7 +194,9 @@ pub fn put_grid<W: Writer>(out: &mut W, scale: Scale, span: u32, bottom: u32)
 {
     let axis = axis_over(scale, span, bottom);
     put_line(out, b"m", 16, 116, &[Piece::Word(caption(scale))]);
-    put_axis_lines(out, axis);
+    put_shape_begin(out, b"ln");
+    put_line_paths(out, axis);
+    out.put(b"\"/>\n");
     put_marks(out, axis);
 }
 

@@ -2,8 +2,7 @@
 
 ghost use Rattle.hw_desk.specs.Writers.{Puts};
 ghost use Rattle.hw_svg.specs.Pieces.{picture_pieces_text};
-ghost use Rattle.hw_chart.specs.Headings.{ground, heading, heading_lines};
-ghost use Rattle.hw_chart.specs.Outcomes.{title_text};
+ghost use Rattle.hw_chart.specs.Headings.{ground, heading};
 
 use crate::outcome::{CargoUnit, Outcome, meaning, put_badge, title};
 use crate::style::put_style;
@@ -11,7 +10,7 @@ use hw_desk::Writer;
 use hw_svg::{Area, Piece, put_block, put_line, put_picture_begin};
 
 /// Puts the ground of a picture of this height.
-fn put_ground<W: Writer>(out: &mut W, height: u64)
+pub fn put_ground<W: Writer>(out: &mut W, height: u64)
     ensures { Puts (ground height) (W.state out.old) (W.state out.new) }
 {
     let area = Area {
@@ -21,15 +20,6 @@ fn put_ground<W: Writer>(out: &mut W, height: u64)
         bottom: height,
     };
     put_block(out, b"gr", area);
-}
-
-/// Puts the title, what it means, and the sizes of the problem.
-fn put_heading_lines<W: Writer>(out: &mut W, unit: CargoUnit, outcome: Outcome, sizes: &[Piece])
-    ensures { Puts (heading_lines unit outcome (picture_pieces_text sizes.now)) (W.state out.old) (W.state out.new) }
-{
-    put_line(out, b"h", 48, 36, &title(unit, outcome));
-    put_line(out, b"m", 48, 56, &meaning(unit, outcome));
-    put_line(out, b"m r", 1268, 36, sizes);
 }
 
 /// Puts the head of a picture of this height: its beginning, title and ground, and a line with the sizes of the problem.
@@ -46,5 +36,7 @@ pub fn put_heading<W: Writer>(
     put_style(out);
     put_ground(out, height);
     put_badge(out, outcome.verdict);
-    put_heading_lines(out, unit, outcome, sizes);
+    put_line(out, b"h", 48, 36, &title(unit, outcome));
+    put_line(out, b"m", 48, 56, &meaning(unit, outcome));
+    put_line(out, b"m r", 1268, 36, sizes);
 }

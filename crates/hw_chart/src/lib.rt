@@ -18,7 +18,7 @@ mod style;
 pub use course::{Course, course_at};
 pub use grid::{Axis, MINUTES, SLOTS, Scale, put_grid, put_line_path, put_span_end, step};
 pub use hatch::{HATCH, put_hatch};
-pub use heading::put_heading;
+pub use heading::{put_ground, put_heading};
 pub use laws::two_lines_hold;
 pub use layout::{place, plot, put_pin, put_stripe, rank};
 pub use legend::{

@@ -3,7 +3,7 @@
 ghost use Rattle.std.specs.Prelude.{◌≡◌, ◌≤◌};
 ghost use Rattle.hw_desk.specs.Writers.{Puts};
 ghost use Rattle.hw_chart.specs.Layout.{plot};
-ghost use Rattle.hw_chart.specs.Panels.{at_most, fleet_label, held_inside, panel_ground, panel_tall, planned_panel, unplanned_panel};
+ghost use Rattle.hw_chart.specs.Panels.{fleet_label, panel_ground, panel_tall, planned_panel, unplanned_panel};
 
 use crate::layout::plot;
 use crate::levels::{Full, Rising, greatest};
@@ -74,13 +74,15 @@ pub fn put_unplanned_panel<W: Writer>(out: &mut W, panel: Panel)
     put_svg_end(out);
 }
 
-/// Puts the ground of a panel, the tugs that are held in each slot, and where all are.
-fn put_held_inside<W: Writer, L: Levels>(out: &mut W, panel: Panel, held: &L)
+/// Puts a panel with the tugs that a timetable holds in each slot, where all are, and how many are held at most.
+pub fn put_planned_panel<W: Writer, L: Levels>(out: &mut W, panel: Panel, held: &L)
     requires { panel.slots ≤ L.end held.now }
-    ensures { Puts (held_inside panel (L.level held.now)) (W.state out.old) (W.state out.new) }
+    ensures { Puts (planned_panel panel (L.level held.now)) (W.state out.old) (W.state out.new) }
 {
-    let tall = tall(panel);
+    put_fleet_label(out, panel);
+    put_window_begin(out, panel_window(panel));
     put_panel_ground(out, panel);
+    let tall = tall(panel);
     let rising = Rising {
         amounts: held,
         tall,
@@ -92,12 +94,8 @@ fn put_held_inside<W: Writer, L: Levels>(out: &mut W, panel: Panel, held: &L)
         tall,
     };
     put_steps(out, b"fu", &full, 0, panel.slots, tall);
-}
-
-/// Puts how many tugs are held at most, right of a panel.
-fn put_at_most<W: Writer>(out: &mut W, panel: Panel, most: u64)
-    ensures { Puts (at_most panel most) (W.state out.old) (W.state out.new) }
-{
+    put_svg_end(out);
+    let most = greatest(held, panel.slots);
     put_line(
         out,
         b"m",
@@ -111,16 +109,4 @@ fn put_at_most<W: Writer>(out: &mut W, panel: Panel, most: u64)
             Piece::Word(b" held at once"),
         ],
     );
-}
-
-/// Puts a panel with the tugs that a timetable holds in each slot.
-pub fn put_planned_panel<W: Writer, L: Levels>(out: &mut W, panel: Panel, held: &L)
-    requires { panel.slots ≤ L.end held.now }
-    ensures { Puts (planned_panel panel (L.level held.now)) (W.state out.old) (W.state out.new) }
-{
-    put_fleet_label(out, panel);
-    put_window_begin(out, panel_window(panel));
-    put_held_inside(out, panel, held);
-    put_svg_end(out);
-    put_at_most(out, panel, greatest(held, panel.slots));
 }

@@ -2,32 +2,18 @@
 
 ghost use Rattle.std.specs.Prelude.{◌≡◌, ◌+◌};
 ghost use Rattle.hw_desk.specs.Writers.{Puts};
-ghost use Rattle.hw_chart.specs.Headings.{ground};
 ghost use Rattle.hw_svg.specs.Pieces.{picture_pieces_text};
 ghost use Rattle.hw_svg.specs.Sheets.{picture_begin};
 ghost use Rattle.hw_port_chart.specs.Heads.{places, sizes as sizes_of};
 ghost use Rattle.hw_clash_chart.specs.Heads.{clash_begin, clash_head, clash_heading_lines, clash_title};
 
 use crate::sheet::put_clash_style;
-use hw_chart::{put_badge, put_style};
+use hw_chart::{put_badge, put_ground, put_style};
 use hw_desk::Writer;
 use hw_lines::Verdict;
 use hw_port::Port;
 use hw_port_chart::{places_of, sizes};
-use hw_svg::{Area, Piece, put_block, put_line, put_picture_begin};
-
-/// Puts the ground of a picture of this height.
-fn put_ground<W: Writer>(out: &mut W, height: u64)
-    ensures { Puts (ground height) (W.state out.old) (W.state out.new) }
-{
-    let area = Area {
-        left: 0,
-        right: 1280,
-        top: 0,
-        bottom: height,
-    };
-    put_block(out, b"gr", area);
-}
+use hw_svg::{Piece, put_line, put_picture_begin};
 
 /// Puts the beginning of a picture of this height, with the title of a clash.
 fn put_titled_begin<W: Writer>(out: &mut W, height: u64)
