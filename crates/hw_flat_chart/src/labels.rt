@@ -4,7 +4,7 @@ ghost use Rattle.std.specs.Prelude.{◌≡◌, ◌≤◌, ◌<◌, unwrap_or};
 ghost use Rattle.hw_model.specs.Problem.{horizon};
 ghost use Rattle.hw_desk.specs.Writers.{Puts};
 ghost use Rattle.hw_chart.specs.Courses.{SailsBefore};
-ghost use Rattle.hw_flat_chart.specs.Rows.{course_text, flat_figures, flat_row_label, flat_row_title, value_figures};
+ghost use Rattle.hw_flat_chart.specs.Rows.{course_text, flat_figures, flat_row_title};
 ghost use Rattle.hw_flat_chart.specs.Values.{cargo_in_slot};
 
 use crate::row::{Row, row_y};
@@ -60,32 +60,19 @@ pub(crate) fn put_row_title<W: Writer>(out: &mut W, flat: &Flat, row: Row)
     put_title_end(out);
 }
 
-/// Puts the ship's number, and the most that it may carry.
-#[tactic(auto, unfolding(crate::specs::Rows::flat_row_label))]
-pub(crate) fn put_row_label<W: Writer>(out: &mut W, flat: &Flat, row: Row)
-    requires ship_in { row.ship < flat.now.ships }
-    requires few { row.rank ≤ MOST_SHIPS }
-    ensures { Puts (flat_row_label flat.now row) (W.state out.old) (W.state out.new) }
-{
-    let y = u64::from(row_y(row));
-    let ship = Piece::Number(u64::from(row.ship));
-    let top = Piece::Number(most(flat, row.ship));
-    put_line(out, b"b", 16, y + 17, &[Piece::Word(b"ship "), ship]);
-    put_line(out, b"m", 16, y + 33, &[Piece::Word(b"most "), top]);
-}
-
-/// Puts what the ship carries, and the most that it may carry, unless that is nothing.
-fn put_value<W: Writer>(out: &mut W, flat: &Flat, row: Row, slot: Slot)
+/// Puts the slot, what the ship carries, and the most that it may carry, unless that is nothing.
+pub(crate) fn put_figures<W: Writer>(out: &mut W, flat: &Flat, row: Row, slot: Slot)
     requires ship_in { row.ship < flat.now.ships }
     requires slot_in { slot < horizon flat.now }
     requires few { row.rank ≤ MOST_SHIPS }
-    ensures { Puts (value_figures flat.now row slot) (W.state out.old) (W.state out.new) }
+    ensures { Puts (flat_figures flat.now row slot) (W.state out.old) (W.state out.new) }
 {
     let y = u64::from(row_y(row));
     let top = most(flat, row.ship);
+    put_line(out, b"r b", 956, y + 17, &[Piece::Number(u64::from(slot))]);
     if top > 0 {
-        let value = Piece::Number(carried(flat, row.ship, slot));
-        put_line(out, b"r b", 1268, y + 17, &[value]);
+        let value = carried(flat, row.ship, slot);
+        put_line(out, b"r b", 1268, y + 17, &[Piece::Number(value)]);
         put_line(
             out,
             b"r m",
@@ -96,17 +83,4 @@ fn put_value<W: Writer>(out: &mut W, flat: &Flat, row: Row, slot: Slot)
     } else {
         out.put(b"");
     }
-}
-
-/// Puts the slot, and what the ship carries.
-#[tactic(auto, unfolding(crate::specs::Rows::flat_figures))]
-pub(crate) fn put_figures<W: Writer>(out: &mut W, flat: &Flat, row: Row, slot: Slot)
-    requires ship_in { row.ship < flat.now.ships }
-    requires slot_in { slot < horizon flat.now }
-    requires few { row.rank ≤ MOST_SHIPS }
-    ensures { Puts (flat_figures flat.now row slot) (W.state out.old) (W.state out.new) }
-{
-    let y = u64::from(row_y(row));
-    put_line(out, b"r b", 956, y + 17, &[Piece::Number(u64::from(slot))]);
-    put_value(out, flat, row, slot);
 }

@@ -2,8 +2,8 @@
 
 ghost use Rattle.std.specs.Prelude.{◌≡◌, ◌≤◌, ◌+◌, ◌*◌, All, IfSome, length, option_map};
 ghost use Rattle.hw_desk.specs.Writers.{Puts};
-ghost use Rattle.hw_chart.specs.Legends.{HasShortWords, entry_parts, legend_parts};
-ghost use Rattle.hw_flat_chart.specs.Legends.{flat_class, flat_entry, flat_legend, flat_legend_from, flat_says};
+ghost use Rattle.hw_chart.specs.Legends.{HasShortWords, entry_parts, legend_parts, patch_entry};
+ghost use Rattle.hw_flat_chart.specs.Legends.{flat_entry, flat_legend, flat_legend_from};
 ghost use Rattle.hw_flat_chart.specs.Moves.{IsPlan};
 
 use crate::marks::{FlatMark, is_marked};
@@ -14,33 +14,17 @@ use hw_chart::{
 use hw_desk::Writer;
 use hw_flat::Flat;
 
-fn class_of(mark: FlatMark) -> &'static [u8]
-    ensures { result.now ≡ flat_class mark }
+/// An entry of a legend with a patch of a class. Its words are 60 bytes at most.
+pub fn patch_entry(class: &'static [u8], says: &'static [u8], stands: bool) -> Entry
+    requires few { length says.now ≤ 60 }
+    ensures value { entry_parts result ≡ patch_entry class.now says.now stands }
+    ensures words { HasShortWords result }
 {
-    match mark {
-        FlatMark::HasValue => b"dr",
-        FlatMark::HasMost => b"fl",
-        FlatMark::CouldMove => b"pl",
-        FlatMark::Sails => b"ou",
-        FlatMark::HoldsTugs => b"tu",
-        FlatMark::MustWait => b"be",
-        FlatMark::WholeFleet => b"fu",
-    }
-}
-
-/// What a mark says.
-fn says(mark: FlatMark) -> &'static [u8]
-    ensures value { result.now ≡ flat_says mark }
-    ensures few { length result.now ≤ 60 }
-{
-    match mark {
-        FlatMark::HasValue => b"may sail: the higher, the more cargo",
-        FlatMark::HasMost => b"with its most cargo",
-        FlatMark::CouldMove => b"could move there alone",
-        FlatMark::Sails => b"sails",
-        FlatMark::HoldsTugs => b"holds tugs",
-        FlatMark::MustWait => b"must wait for another",
-        FlatMark::WholeFleet => b"whole fleet held",
+    Entry {
+        sample: Sample::Patch,
+        class,
+        says,
+        stands,
     }
 }
 
@@ -50,11 +34,15 @@ fn entry_of(flat: &Flat, plan: Option<&Plan>, mark: FlatMark) -> Entry
     ensures value { entry_parts result ≡ flat_entry flat.now (option_map (λ p. p.now.table) plan.entry) mark }
     ensures words { HasShortWords result }
 {
-    Entry {
-        sample: Sample::Patch,
-        class: class_of(mark),
-        says: says(mark),
-        stands: is_marked(flat, plan, mark),
+    let stands = is_marked(flat, plan, mark);
+    match mark {
+        FlatMark::HasValue => patch_entry(b"dr", b"may sail: the higher, the more cargo", stands),
+        FlatMark::HasMost => patch_entry(b"fl", b"with its most cargo", stands),
+        FlatMark::CouldMove => patch_entry(b"pl", b"could move there alone", stands),
+        FlatMark::Sails => patch_entry(b"ou", b"sails", stands),
+        FlatMark::HoldsTugs => patch_entry(b"tu", b"holds tugs", stands),
+        FlatMark::MustWait => patch_entry(b"be", b"must wait for another", stands),
+        FlatMark::WholeFleet => patch_entry(b"fu", b"whole fleet held", stands),
     }
 }
 

@@ -23,7 +23,8 @@ mod values;
 
 pub use fleets::{Fleets, Found};
 pub use laws::{bars_are_values, legends_fit, moves_are_permitted};
-pub use picture::{bottom, put_flat_picture, sizes};
+pub use legend::patch_entry;
+pub use picture::{put_flat_picture, sizes};
 pub use plan::Plan;
-pub use rest::{put_flat_rest, slots_shown};
+pub use rest::{bottom, put_flat_rest, slots_shown};
 pub use row::Row;

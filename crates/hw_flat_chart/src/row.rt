@@ -5,18 +5,18 @@ ghost use Rattle.hw_model.specs.Problem.{horizon, value_at};
 ghost use Rattle.hw_desk.specs.Writers.{Puts};
 ghost use Rattle.hw_chart.specs.Courses.{SailsBefore};
 ghost use Rattle.hw_chart.specs.declared.row.Sailings.{Sailings};
-ghost use Rattle.hw_flat_chart.specs.Rows.{flat_row_begin, row_top, value_mark, value_steps, value_window, values_text};
+ghost use Rattle.hw_flat_chart.specs.Rows.{flat_row_begin, row_top, value_mark, value_window, values_text};
 ghost use Rattle.hw_flat_chart.specs.Values.{most_carried, tall_of};
 
-use crate::labels::{put_row_label, put_row_title};
-use crate::values::{Mosts, Values, most, tall, value, value_level};
+use crate::labels::put_row_title;
+use crate::values::{Values, most, tall, value, value_level};
 use hw_chart::{
     Course, Sailings, put_sailing_mark, put_sailing_steps, put_sailings_begin, put_stripe,
 };
 use hw_desk::Writer;
 use hw_flat::Flat;
 use hw_model::{MOST_SHIPS, ShipId};
-use hw_svg::put_svg_end;
+use hw_svg::{Piece, put_line, put_svg_end};
 
 /// A row: its ship, its place among the rows, how many slots the picture shows, and what the timetable says of the ship.
 #[derive(Clone, Copy)]
@@ -51,19 +51,6 @@ fn value_window(flat: &Flat, row: Row) -> Sailings
     }
 }
 
-/// Puts what the ship may carry in each slot, and where that is the most.
-fn put_value_steps<W: Writer>(out: &mut W, flat: &Flat, row: Row)
-    requires ship_in { row.ship < flat.now.ships }
-    requires few { row.rank ≤ MOST_SHIPS }
-    ensures { Puts (value_steps flat.now row) (W.state out.old) (W.state out.new) }
-{
-    let window = value_window(flat, row);
-    let ship = row.ship;
-    let top = most(flat, ship);
-    put_sailing_steps(out, b"dr", window, &Values { flat, ship, top });
-    put_sailing_steps(out, b"fl", window, &Mosts { flat, ship, top });
-}
-
 /// Puts the mark of the slot in which the ship sails.
 fn put_value_mark<W: Writer>(out: &mut W, flat: &Flat, row: Row)
     requires ship_in { row.ship < flat.now.ships }
@@ -80,7 +67,7 @@ fn put_value_mark<W: Writer>(out: &mut W, flat: &Flat, row: Row)
     }
 }
 
-/// Puts the window of a ship's values.
+/// Puts the window of a ship's values: what it may carry in each slot, where that is the most, and the slot in which it sails.
 #[tactic(auto, unfolding(crate::specs::Rows::values_text))]
 fn put_values<W: Writer>(out: &mut W, flat: &Flat, row: Row)
     requires ship_in { row.ship < flat.now.ships }
@@ -88,13 +75,30 @@ fn put_values<W: Writer>(out: &mut W, flat: &Flat, row: Row)
     requires before { SailsBefore (horizon flat.now) row.course }
     ensures { Puts (values_text flat.now row) (W.state out.old) (W.state out.new) }
 {
-    put_sailings_begin(out, value_window(flat, row));
-    put_value_steps(out, flat, row);
+    let window = value_window(flat, row);
+    let ship = row.ship;
+    let top = most(flat, ship);
+    put_sailings_begin(out, window);
+    let values = Values {
+        flat,
+        ship,
+        top,
+        only_most: false,
+    };
+    let mosts = Values {
+        flat,
+        ship,
+        top,
+        only_most: true,
+    };
+    put_sailing_steps(out, b"dr", window, &values);
+    put_sailing_steps(out, b"fl", window, &mosts);
     put_value_mark(out, flat, row);
     put_svg_end(out);
 }
 
-/// Puts what every row begins with: its title, stripe and label, and the window of the ship's values.
+/// Puts what every row begins with: its title and stripe, the ship's number and the most that it may carry, and the window of
+/// its values.
 #[tactic(auto, unfolding(crate::specs::Rows::flat_row_begin))]
 pub(crate) fn put_row_begin<W: Writer>(out: &mut W, flat: &Flat, row: Row)
     requires ship_in { row.ship < flat.now.ships }
@@ -104,6 +108,22 @@ pub(crate) fn put_row_begin<W: Writer>(out: &mut W, flat: &Flat, row: Row)
 {
     put_row_title(out, flat, row);
     put_stripe(out, row.rank, row_y(row));
-    put_row_label(out, flat, row);
+    let y = u64::from(row_y(row));
+    let top = most(flat, row.ship);
+    let ship = u64::from(row.ship);
+    put_line(
+        out,
+        b"b",
+        16,
+        y + 17,
+        &[Piece::Word(b"ship "), Piece::Number(ship)],
+    );
+    put_line(
+        out,
+        b"m",
+        16,
+        y + 33,
+        &[Piece::Word(b"most "), Piece::Number(top)],
+    );
     put_values(out, flat, row);
 }

@@ -5,10 +5,9 @@ ghost use Rattle.hw_model.specs.Problem.{IsTimetable, horizon};
 ghost use Rattle.hw_desk.specs.Writers.{Puts};
 ghost use Rattle.hw_chart.specs.Courses.{SailsBefore};
 ghost use Rattle.hw_chart.specs.Figures.{is_top_touched};
-ghost use Rattle.hw_chart.specs.Rows.{moves_window};
 ghost use Rattle.hw_flat_chart.specs.Fleets.{picture_span};
 ghost use Rattle.hw_flat_chart.specs.Moves.{IsPlan, flag_place, move_is_open, flat_open_level};
-ghost use Rattle.hw_flat_chart.specs.Rows.{course_parts, nowhere_text, planned_row, planned_row_text, planned_rows, row_top, unplanned_row, unplanned_row_text, unplanned_rows};
+ghost use Rattle.hw_flat_chart.specs.Rows.{course_parts, nowhere_text, planned_row, planned_row_text, planned_rows, unplanned_row, unplanned_row_text, unplanned_rows};
 
 use crate::bars::put_bars;
 use crate::labels::put_figures;
@@ -70,18 +69,6 @@ fn put_course_parts<W: Writer>(out: &mut W, flat: &Flat, table: &Timetable, row:
     }
 }
 
-/// Puts the slots to which a ship alone could move.
-fn put_moves<W: Writer>(out: &mut W, flat: &Flat, plan: &Plan, row: Row)
-    requires planned { IsPlan flat.now plan.now }
-    requires ship_in { row.ship < flat.now.ships }
-    requires few { row.rank ≤ MOST_SHIPS }
-    ensures { Puts (moves_window (row_top row) row.span (flat_open_level flat.now plan.now.table row.ship) (horizon flat.now)) (W.state out.old) (W.state out.new) }
-{
-    let ship = row.ship;
-    let openings = Openings { flat, plan, ship };
-    put_moves_window(out, row_y(row), row.span, &openings, flat.horizon());
-}
-
 /// Whether there is a slot to which a ship alone could move.
 pub(crate) fn could_move(flat: &Flat, plan: &Plan, ship: ShipId) -> bool
     requires planned { IsPlan flat.now plan.now }
@@ -92,7 +79,7 @@ pub(crate) fn could_move(flat: &Flat, plan: &Plan, ship: ShipId) -> bool
     touches_top(&openings, flat.horizon())
 }
 
-/// Puts the row of a ship in a timetable.
+/// Puts the row of a ship in a timetable, with the slots to which the ship alone could move.
 #[tactic(auto, unfolding(crate::specs::Rows::planned_row_text))]
 fn put_planned_row<W: Writer>(out: &mut W, flat: &Flat, plan: &Plan, row: Row)
     requires planned { IsPlan flat.now plan.now }
@@ -103,7 +90,9 @@ fn put_planned_row<W: Writer>(out: &mut W, flat: &Flat, plan: &Plan, row: Row)
     ensures { Puts (planned_row_text flat.now plan.now.table row) (W.state out.old) (W.state out.new) }
 {
     put_row_begin(out, flat, row);
-    put_moves(out, flat, plan, row);
+    let ship = row.ship;
+    let openings = Openings { flat, plan, ship };
+    put_moves_window(out, row_y(row), row.span, &openings, flat.horizon());
     put_course_parts(out, flat, plan.table(), row);
     put_group_end(out);
 }
@@ -153,30 +142,19 @@ fn put_nowhere<W: Writer>(out: &mut W, flat: &Flat, row: Row)
 
 /// Puts the row of a ship where there is no timetable.
 #[tactic(auto, unfolding(crate::specs::Rows::unplanned_row_text))]
-fn put_unplanned_row<W: Writer>(out: &mut W, flat: &Flat, row: Row)
-    requires ship_in { row.ship < flat.now.ships }
-    requires few { row.rank ≤ MOST_SHIPS }
-    requires before { SailsBefore (horizon flat.now) row.course }
-    ensures { Puts (unplanned_row_text flat.now row) (W.state out.old) (W.state out.new) }
-{
-    put_row_begin(out, flat, row);
-    put_nowhere(out, flat, row);
-    put_group_end(out);
-}
-
-/// The row of a ship where there is no timetable.
-fn unplanned_row(flat: &Flat, ship: ShipId) -> Row
+fn put_unplanned_row<W: Writer>(out: &mut W, flat: &Flat, ship: ShipId)
     requires { ship < flat.now.ships }
-    ensures value { result ≡ unplanned_row flat.now ship }
-    ensures few { result.rank ≤ MOST_SHIPS }
-    ensures before { SailsBefore (horizon flat.now) result.course }
+    ensures { Puts (unplanned_row_text flat.now (unplanned_row flat.now ship)) (W.state out.old) (W.state out.new) }
 {
-    Row {
+    let row = Row {
         ship,
         rank: ship,
         span: flat.horizon(),
         course: Course::Unplanned,
-    }
+    };
+    put_row_begin(out, flat, row);
+    put_nowhere(out, flat, row);
+    put_group_end(out);
 }
 
 /// Puts the rows where there is no timetable.
@@ -184,6 +162,6 @@ pub(crate) fn put_unplanned_rows<W: Writer>(out: &mut W, flat: &Flat)
     ensures { Puts (unplanned_rows flat.now 0 flat.now.ships) (W.state out.old) (W.state out.new) }
 {
     for ship in 0..flat.shape().ships {
-        put_unplanned_row(out, flat, unplanned_row(flat, ship));
+        put_unplanned_row(out, flat, ship);
     }
 }

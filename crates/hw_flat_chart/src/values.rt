@@ -1,6 +1,6 @@
 //! What a ship may carry, as the levels of its window.
 
-ghost use Rattle.std.specs.Prelude.{◌≡◌, ◌<◌, ◌≤◌, unwrap_or};
+ghost use Rattle.std.specs.Prelude.{◌≡◌, ◌<◌, ◌≤◌, unwrap_or, if◌then◌else◌};
 ghost use Rattle.hw_model.specs.Problem.{horizon, value_at};
 ghost use Rattle.hw_flat_chart.specs.Values.{cargo_in_slot, most_carried, most_level, sails_nowhere, tall_of, unit_of, value_level};
 
@@ -93,40 +93,27 @@ fn most_level(top: u64, value: Option<u64>) -> u64
     }
 }
 
-/// What a ship may carry in each slot, in a window as tall as the most.
+/// What a ship may carry in each slot, in a window as tall as the most; or only the slots in which it may carry the most.
 #[derive(Drop)]
 pub(crate) struct Values<'f> {
     pub flat: &'f Flat,
     pub ship: ShipId,
     pub top: u64,
+    pub only_most: bool,
     ghost ship_in: { ship < flat.now.ships },
 }
 
 impl Levels for Values<'_> {
-    ghost level = { λ v slot. value_level v.top (value_at v.flat.now v.ship slot) };
+    ghost level = { λ v slot. if v.only_most then most_level v.top (value_at v.flat.now v.ship slot) else value_level v.top (value_at v.flat.now v.ship slot) };
 
     ghost end = { λ v. horizon v.flat.now };
 
     fn level(&self, slot: u32) -> u64 {
-        value_level(self.top, value(self.flat, self.ship, slot))
-    }
-}
-
-/// The slots in which a ship may carry its most.
-#[derive(Drop)]
-pub(crate) struct Mosts<'f> {
-    pub flat: &'f Flat,
-    pub ship: ShipId,
-    pub top: u64,
-    ghost ship_in: { ship < flat.now.ships },
-}
-
-impl Levels for Mosts<'_> {
-    ghost level = { λ m slot. most_level m.top (value_at m.flat.now m.ship slot) };
-
-    ghost end = { λ m. horizon m.flat.now };
-
-    fn level(&self, slot: u32) -> u64 {
-        most_level(self.top, value(self.flat, self.ship, slot))
+        let value = value(self.flat, self.ship, slot);
+        if self.only_most {
+            most_level(self.top, value)
+        } else {
+            value_level(self.top, value)
+        }
     }
 }

@@ -8,7 +8,7 @@ pub loop-ship-preserved : goal.loop-ship-preserved
 loop-ship-preserved g c =
     let many = ap (λ (s : Shape). s.ships) c.shape-ship-end.ensures.value in
     let more : c.loop-ship.ship < c.args.flat.now.ships = omega (arith, many, c.loop-ship-test.true) in
-    λ end h. c.loop-ship.invariant end (puts_same _ (unplanned_next c.args.flat.now c.loop-ship.ship c.args.flat.now.ships more) (puts_on (rw c.unplanned_row.ensures.value at c.put_unplanned_row.ensures) h))
+    λ end h. c.loop-ship.invariant end (puts_same _ (unplanned_next c.args.flat.now c.loop-ship.ship c.args.flat.now.ships more) (puts_on c.put_unplanned_row.ensures h))
 
 pub returns : goal.returns
 returns g c =

@@ -1,6 +1,6 @@
 use Rattle.hw_desk.proofs.Written.{puts_on, puts_nothing}
 use Rattle.hw_flat_chart.specs.Pictures.{unplanned_body}
-use Rattle.hw_flat_chart.proofs.picture.put_unplanned_body.Goals as goal
+use Rattle.hw_flat_chart.proofs.rest.put_unplanned_body.Goals as goal
 
 pub returns : goal.returns
 unfolding unplanned_body

@@ -1,7 +1,9 @@
 use Rattle.std.proofs.Common.{◌<◌, arith}
+use Rattle.hw_desk.proofs.Written.{puts_on, puts_nothing}
 use Rattle.hw_laws.proofs.Horizon.{horizon_le}
+use Rattle.hw_flat_chart.specs.Rows.{planned_row_text}
 use Rattle.hw_flat_chart.proofs.Tested.{same_open}
-use Rattle.hw_flat_chart.proofs.rows.put_moves.Goals as goal
+use Rattle.hw_flat_chart.proofs.rows.put_planned_row.Goals as goal
 
 pub invariant_of-openings-clause-flagged : goal.invariant_of-openings-clause-flagged
 invariant_of-openings-clause-flagged g c = λ slot lt.
@@ -10,4 +12,8 @@ invariant_of-openings-clause-flagged g c = λ slot lt.
     same_open c.args.flat.now plan.table c.args.row.ship slot _ c.requires.planned.listed within (c.requires.planned.flagged c.args.row.ship slot c.requires.ship_in lt)
 
 pub returns : goal.returns
-returns g c = rw (c.row_y.ensures.value, c.horizon.ensures.value) at c.put_moves_window.ensures
+unfolding planned_row_text
+returns g c =
+    let moves = rw (c.row_y.ensures.value, c.horizon.ensures.value) at c.put_moves_window.ensures in
+    let parts = rw c.table.ensures.value at c.put_course_parts.ensures in
+    puts_on c.put_row_begin.ensures (puts_on moves (puts_on parts (puts_on c.put_group_end.ensures (puts_nothing _))))
