@@ -15,7 +15,7 @@ use Rattle.hw_port_chart.specs.Figures.{shortness, tight}
 use Rattle.hw_port_chart.specs.Heads.{sizes, sizes_text}
 use Rattle.hw_port_chart.specs.Lanes.{stay_class, stay_title}
 use Rattle.hw_port_chart.specs.Passings.{passing_title}
-use Rattle.hw_port_chart.specs.Rows.{arrow_in, arrow_out, arrow_path, full_draft_word}
+use Rattle.hw_port_chart.specs.Rows.{arrow_path, full_draft_word}
 use Rattle.hw_port_chart.specs.Sailings.{sailing_of}
 use Rattle.hw_port_chart.specs.Stays.{wait_title}
 use Rattle.hw_port_chart.specs.Titles.{course_title, load_title, row_title, ship_title, time_title}
@@ -35,16 +35,12 @@ plain_stay s = either_plain (is_outgoing s) (letters (codes "ou ga") refl) (lett
 pub plain_tight : (g : Sailing) → Plain (tight g)
 plain_tight g = either_plain (nat_eq g.draft g.allowed) (letters (codes "r q") refl) (letters (codes "r") refl)
 
-plain_out : (y : ℕ) → Plain (arrow_out y)
-unfolding arrow_out
-plain_out y = both (letters (codes "M4 ") refl) (both (number (y + 9)) (both (letters (codes "V") refl) (both (number (y + 17)) (both (letters (codes "L11 ") refl) (both (number (y + 13)) (both (letters (codes "z") refl) no_letters))))))
-
-plain_in : (y : ℕ) → Plain (arrow_in y)
-unfolding arrow_in
-plain_in y = both (letters (codes "M11 ") refl) (both (number (y + 9)) (both (letters (codes "V") refl) (both (number (y + 17)) (both (letters (codes "L4 ") refl) (both (number (y + 13)) (both (letters (codes "z") refl) no_letters))))))
-
 pub plain_arrow : (s : ShipParts) (y : ℕ) → Plain (arrow_path s y)
-plain_arrow s y = either_plain (is_outgoing s) (plain_out y) (plain_in y)
+unfolding arrow_path
+plain_arrow s y =
+    let begins = either_plain (is_outgoing s) (letters (codes "M4 ") refl) (letters (codes "M11 ") refl) in
+    let turns = either_plain (is_outgoing s) (letters (codes "L11 ") refl) (letters (codes "L4 ") refl) in
+    both begins (both (number (y + 9)) (both (letters (codes "V") refl) (both (number (y + 17)) (both turns (both (number (y + 13)) (both (letters (codes "z") refl) no_letters))))))
 
 pub spelled_sizes : (p : Parts) → Spelled (sizes p)
 unfolding sizes_text

@@ -83,13 +83,17 @@ depth_in chart place = option_map_or (λ w. w.depth) (slice_get chart.port.waypo
 abbrev pub judging_height : ChartParts → ℕ → ℕ → ℤ
 judging_height chart slot place = if is_least chart.port then int_min (height_at chart.tide slot place) (height_at chart.tide (slot + 1) place) else height_at chart.tide slot place
 
+-- one text for a ship that goes out, and another one for a ship that comes in
+abbrev pub by_direction : ShipParts → List ℕ → List ℕ → List ℕ
+by_direction s goes_out comes_in = if is_outgoing s then goes_out else comes_in
+
 -- the class of a ship's shapes, by its direction
 abbrev pub way : ShipParts → List ℕ
-way s = if is_outgoing s then codes "ou" else codes "in"
+way s = by_direction s (codes "ou") (codes "in")
 
 -- the class of the marks of a ship's sailing
 abbrev pub mark_class : ShipParts → List ℕ
-mark_class s = if is_outgoing s then codes "ou mk" else codes "in mk"
+mark_class s = by_direction s (codes "ou mk") (codes "in mk")
 
 -- the plan of a port that keeps the meaning rules, with a tide of its waypoints and a span that is not too wide
 pub record IsChart (chart : ChartParts) : Type 0 where

@@ -14,7 +14,7 @@ use Rattle.hw_chart.specs.declared.course.Course.{Course}
 use Rattle.hw_chart.specs.declared.course.Course.TheVariants.{Unplanned, Stays, Sails}
 use Rattle.hw_chart.specs.Layout.{plot}
 use Rattle.hw_port_chart.specs.declared.lane.Stay.{Stay}
-use Rattle.hw_port_chart.specs.Charts.{ChartParts, course, minutes_to}
+use Rattle.hw_port_chart.specs.Charts.{ChartParts, by_direction, course, minutes_to}
 use Rattle.hw_port_chart.specs.Heads.{places}
 
 -- a stretch of a ship that sails in a slot: from when to when it is in the section, and the lane of its direction
@@ -31,7 +31,7 @@ unfoldable pub stay_title : List ℕ → List ℕ → Stay → List ℕ
 stay_title ship section stay = joined (escaped ship ∷ codes " in " ∷ escaped section ∷ codes " from " ∷ clock stay.begins ∷ codes " to " ∷ clock stay.ends ∷ [])
 
 abbrev pub stay_class : ShipParts → List ℕ
-stay_class s = if is_outgoing s then codes "ou ga" else codes "in ga"
+stay_class s = by_direction s (codes "ou ga") (codes "in ga")
 
 abbrev pub stay_mark : ShipParts → List ℕ → Stay → List ℕ
 stay_mark s section stay = titled (stay_class s) (record { left = stay.from; right = stay.until; top = stay.lane; bottom = stay.lane + 1 }) (stay_title s.name section stay)

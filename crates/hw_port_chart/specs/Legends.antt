@@ -1,5 +1,5 @@
 -- What the legend of a picture says.
-use Rattle.std.specs.Prelude.{◌≤◌, ℕ, List, [], ◌∷◌, ◌++◌, codes, if◌then◌else◌}
+use Rattle.std.specs.Prelude.{◌≤◌, ℕ, Bool, List, [], ◌∷◌, ◌++◌, codes, if◌then◌else◌}
 use Rattle.hw_chart.specs.declared.legend.Sample.{Sample}
 use Rattle.hw_chart.specs.declared.legend.Sample.TheVariants.{Patch, Figure}
 use Rattle.hw_chart.specs.Legends.{LegendEntry, legend_begin, legend_text, legend_width, place_after_all}
@@ -86,6 +86,12 @@ sample_of_mark Tide = Patch
 sample_of_mark (OfWindow mark) = Patch
 sample_of_mark (OfSailing mark) = sample_of_sailing mark
 sample_of_mark WholeFleet = Patch
+
+abbrev pub figure_entry : List ℕ → List ℕ → Bool → LegendEntry
+figure_entry class says stands = record { sample = Figure; class = class; says = says; stands = stands }
+
+abbrev pub sailing_entry : ChartParts → SailingMark → Bool → LegendEntry
+sailing_entry chart mark stands = record { sample = sample_of_sailing mark; class = class_of_sailing chart mark; says = sailing_says mark; stands = stands }
 
 abbrev pub mark_entry : ChartParts → Mark → LegendEntry
 mark_entry chart mark = record { sample = sample_of_mark mark; class = class_of_mark chart mark; says = mark_says mark; stands = has_mark chart mark }

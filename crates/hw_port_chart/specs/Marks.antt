@@ -1,12 +1,11 @@
 -- Which marks are in a picture: those that its legend names.
-use Rattle.std.specs.Prelude.{ℕ, ◌+◌, ◌-◌, ℤ, Bool, true, false, ◌&&◌, ◌||◌, not, nat_eq, nat_lt, Option, Some, None, is_some, List, [], ◌∷◌, codes, if◌then◌else◌}
+use Rattle.std.specs.Prelude.{ℕ, ◌+◌, ℤ, Bool, true, false, ◌&&◌, ◌||◌, not, nat_eq, nat_lt, Option, Some, None, List, [], ◌∷◌}
 use Rattle.std.specs.List.{list_any, range_with_len}
 use Rattle.std.specs.Ordering.{int_eq}
 use Rattle.hw_port.specs.declared.parts.AfterPair.{AfterPair}
 use Rattle.hw_port.specs.Parts.{ShipParts}
 use Rattle.hw_port_rules.specs.Drafts.{sailing}
 use Rattle.hw_port_rules.specs.Numbers.{horizon_of, is_outgoing, turnaround_of, whole}
-use Rattle.hw_windows.specs.Closings.{closed_in}
 use Rattle.hw_chart.specs.declared.course.Course.{Course}
 use Rattle.hw_chart.specs.declared.course.Course.TheVariants.{Unplanned, Stays, Sails}
 use Rattle.hw_chart.specs.Figures.{is_reached}
@@ -16,10 +15,12 @@ use Rattle.hw_port_chart.specs.declared.marks.WindowMark.{WindowMark}
 use Rattle.hw_port_chart.specs.declared.marks.WindowMark.TheVariants.{MaySail, FullDraft, CouldMove, Outgoing, Incoming, Closed}
 use Rattle.hw_port_chart.specs.declared.marks.SailingMark.{SailingMark}
 use Rattle.hw_port_chart.specs.declared.marks.SailingMark.TheVariants.{Passes, PassesOut, HoldsTugs, TugsTurn, MustWait, WaitsOn, AtLimit, BelowFull}
+use Rattle.hw_port_chart.specs.declared.reasons.Reason.TheVariants.{Shut}
 use Rattle.hw_port_chart.specs.declared.sailing.Sailing.{Sailing}
 use Rattle.hw_port_chart.specs.Charts.{ChartParts, course, full_of, slot_in_chart}
 use Rattle.hw_port_chart.specs.Fleets.{tugs_held_in}
 use Rattle.hw_port_chart.specs.Moves.{could_move}
+use Rattle.hw_port_chart.specs.Reasons.{has_no_slot, keeps_in}
 use Rattle.hw_port_chart.specs.Sailings.{sailing_of}
 
 -- ---- marks that a ship has with a timetable or without one
@@ -28,23 +29,19 @@ use Rattle.hw_port_chart.specs.Sailings.{sailing_of}
 abbrev pub in_some_slot : ChartParts → (ℕ → Bool) → Bool
 in_some_slot chart test = list_any test (range_with_len 0 (horizon_of chart.port))
 
--- a ship may sail, and with this draft
+-- a ship may sail with this draft
 abbrev pub sails_at : ℤ → Option ℤ → Bool
 sails_at full None = false
 sails_at full (Some draft) = int_eq draft full
 
--- a slot of a ship's window is closed for it
-abbrev pub is_closed_within : ChartParts → ℕ → ShipParts → Bool
-is_closed_within chart v s = list_any (closed_in chart.port v) (range_with_len (whole s.earliest) (whole s.latest + 1 - whole s.earliest))
-
--- a ship has this mark
+-- a ship has this mark; the one of closed slots where closing is a reason against a slot of its window
 abbrev pub window_has : ChartParts → WindowMark → ℕ → ShipParts → Bool
-window_has chart MaySail v s = in_some_slot chart (λ slot. is_some (sailing chart.port chart.tide v slot))
+window_has chart MaySail v s = not (has_no_slot chart v)
 window_has chart FullDraft v s = is_outgoing s && in_some_slot chart (λ slot. sails_at (full_of s) (sailing chart.port chart.tide v slot))
 window_has chart CouldMove v s = in_some_slot chart (could_move chart.port chart.tide chart.table v)
 window_has chart Outgoing v s = is_outgoing s
 window_has chart Incoming v s = not (is_outgoing s)
-window_has chart Closed v s = is_closed_within chart v s
+window_has chart Closed v s = keeps_in chart v s Shut
 
 -- one of the ships from this number on has it
 abbrev pub some_window_has : ChartParts → WindowMark → ℕ → List ShipParts → Bool

@@ -1,17 +1,17 @@
 -- The row of a ship.
-use Rattle.std.specs.Prelude.{ℕ, ◌+◌, ◌*◌, Option, Some, None, List, [], ◌∷◌, ◌++◌, codes, decimal, if◌then◌else◌}
+use Rattle.std.specs.Prelude.{ℕ, ◌+◌, ◌*◌, Option, Some, None, List, [], ◌∷◌, ◌++◌, codes, decimal}
 use Rattle.hw_svg.specs.Joined.{joined}
 use Rattle.hw_svg.specs.Lettering.{line, name_line}
 use Rattle.hw_svg.specs.Numbers.{metres}
 use Rattle.hw_svg.specs.Shapes.{shape}
 use Rattle.hw_svg.specs.Sheets.{group_end, item_begin, list_begin, title_end}
 use Rattle.hw_port.specs.Parts.{ShipParts}
-use Rattle.hw_port_rules.specs.Numbers.{whole, is_outgoing}
+use Rattle.hw_port_rules.specs.Numbers.{whole}
 use Rattle.hw_chart.specs.declared.course.Course.{Course}
 use Rattle.hw_chart.specs.declared.course.Course.TheVariants.{Unplanned, Stays, Sails}
 use Rattle.hw_chart.specs.Layout.{pin, rank_of, stripe}
 use Rattle.hw_chart.specs.Rows.{stays_label}
-use Rattle.hw_port_chart.specs.Charts.{ChartParts, course, full_of, way}
+use Rattle.hw_port_chart.specs.Charts.{ChartParts, by_direction, course, full_of, way}
 use Rattle.hw_port_chart.specs.Heads.{places}
 use Rattle.hw_port_chart.specs.Reasons.{no_slot_where}
 use Rattle.hw_port_chart.specs.Titles.{row_title}
@@ -29,21 +29,15 @@ rank_in (Some table) v = rank_of table v
 abbrev pub row_y : ChartParts → ℕ → ℕ
 row_y chart rank = (places chart.port).rows + 42 * rank
 
-unfoldable pub arrow_out : ℕ → List ℕ
-arrow_out y = joined (codes "M4 " ∷ decimal (y + 9) ∷ codes "V" ∷ decimal (y + 17) ∷ codes "L11 " ∷ decimal (y + 13) ∷ codes "z" ∷ [])
-
-unfoldable pub arrow_in : ℕ → List ℕ
-arrow_in y = joined (codes "M11 " ∷ decimal (y + 9) ∷ codes "V" ∷ decimal (y + 17) ∷ codes "L4 " ∷ decimal (y + 13) ∷ codes "z" ∷ [])
-
 -- an arrow to the right for a ship that goes out, to the left for one that comes in
-abbrev pub arrow_path : ShipParts → ℕ → List ℕ
-arrow_path s y = if is_outgoing s then arrow_out y else arrow_in y
+unfoldable pub arrow_path : ShipParts → ℕ → List ℕ
+arrow_path s y = joined (by_direction s (codes "M4 ") (codes "M11 ") ∷ decimal (y + 9) ∷ codes "V" ∷ decimal (y + 17) ∷ by_direction s (codes "L11 ") (codes "L4 ") ∷ decimal (y + 13) ∷ codes "z" ∷ [])
 
 abbrev pub arrow : ShipParts → ℕ → List ℕ
 arrow s y = shape (way s) (arrow_path s y)
 
 abbrev pub full_draft_word : ShipParts → List ℕ
-full_draft_word s = if is_outgoing s then codes ", full " else codes ", draft "
+full_draft_word s = by_direction s (codes ", full ") (codes ", draft ")
 
 abbrev pub row_name : ShipParts → ℕ → List ℕ
 row_name s y = name_line (codes "b") 16 (y + 17) s.name 148

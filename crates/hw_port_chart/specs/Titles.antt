@@ -1,21 +1,20 @@
 -- The title of a ship's row: the whole row in words.
-use Rattle.std.specs.Prelude.{ℕ, List, [], ◌∷◌, ◌++◌, codes, decimal, if◌then◌else◌}
+use Rattle.std.specs.Prelude.{ℕ, List, [], ◌∷◌, ◌++◌, codes, decimal}
 use Rattle.hw_svg.specs.Joined.{joined}
 use Rattle.hw_svg.specs.Names.{escaped}
 use Rattle.hw_svg.specs.Numbers.{clock, metres, tonnes_label}
 use Rattle.hw_port.specs.Parts.{ShipParts}
-use Rattle.hw_port_rules.specs.Numbers.{is_outgoing}
 use Rattle.hw_chart.specs.declared.course.Course.{Course}
 use Rattle.hw_chart.specs.declared.course.Course.TheVariants.{Unplanned, Stays, Sails}
 use Rattle.hw_port_chart.specs.declared.sailing.Sailing.{Sailing}
-use Rattle.hw_port_chart.specs.Charts.{ChartParts, charted_waypoint_name}
+use Rattle.hw_port_chart.specs.Charts.{ChartParts, by_direction, charted_waypoint_name}
 use Rattle.hw_port_chart.specs.Sailings.{sailing_of}
 
 unfoldable pub ship_title : List ℕ → ℕ → List ℕ
 ship_title name v = joined (escaped name ∷ codes ", ship " ∷ decimal v ∷ [])
 
 abbrev pub way_title : ShipParts → List ℕ
-way_title s = if is_outgoing s then codes ", sails out" else codes ", comes in"
+way_title s = by_direction s (codes ", sails out") (codes ", comes in")
 
 unfoldable pub time_title : Sailing → List ℕ
 time_title g = joined (codes " in slot " ∷ decimal g.slot ∷ codes ", " ∷ clock g.time ∷ [])

@@ -7,7 +7,7 @@ ghost use Rattle.hw_port_rules.specs.Numbers.{horizon_of, whole};
 ghost use Rattle.hw_port_rules.specs.Drafts.{allowed, sailing as sailing_draft};
 ghost use Rattle.hw_chart.specs.Courses.{SailsBefore};
 ghost use Rattle.hw_tide.specs.Levels.{height_at};
-ghost use Rattle.hw_port_chart.specs.Charts.{allowed_in, cargo_in, course as course_of_ship, depth_in, draft_in, judging_height as judged_height, midnight_of, minutes_to, slot_in_chart as slot_or_0, shown, slot_in, charted_waypoint_name};
+ghost use Rattle.hw_port_chart.specs.Charts.{cargo_in, course as course_of_ship, depth_in, draft_in, judging_height as judged_height, midnight_of, minutes_to, slot_in_chart as slot_or_0, shown, charted_waypoint_name};
 ghost use Rattle.hw_port_chart.specs.Moves.{could_move, HasMoves};
 
 use crate::numbers::{natural, product};
@@ -158,18 +158,11 @@ impl Chart<'_> {
         }
     }
 
-    /// The slot that the timetable gives a ship, if there is one.
-    pub fn slot(&self, ship: ShipId) -> Option<Slot>
-        ensures { result ≡ slot_in self.now.table ship }
-    {
-        slot_of(self.plan, ship)
-    }
-
-    /// The slot of a ship, 0 where there is none.
+    /// The slot that the timetable gives a ship, 0 where there is none.
     pub fn slot_at(&self, ship: ShipId) -> Slot
         ensures { result ≡ slot_or_0 self.now ship }
     {
-        self.slot(ship).unwrap_or(0)
+        slot_of(self.plan, ship).unwrap_or(0)
     }
 
     /// What the timetable says of a ship.
@@ -177,7 +170,7 @@ impl Chart<'_> {
         ensures value { result ≡ course_of_ship self.now ship }
         ensures before { SailsBefore (horizon_of self.now.port) result }
     {
-        course_at(self.slot(ship), self.horizon())
+        course_at(slot_of(self.plan, ship), self.horizon())
     }
 
     /// The draft at which a ship sails in a slot, or none where it may not.
@@ -205,22 +198,13 @@ impl Chart<'_> {
         }
     }
 
-    /// The draft that a slot allows a ship, 0 where it passes a waypoint outside the tide.
-    pub fn allowed(&self, ship: ShipId, slot: Slot) -> i64
+    /// The draft that a slot allows a ship, or none where it makes a pass outside the tide.
+    pub fn allowed(&self, ship: ShipId, slot: Slot) -> Option<i64>
         requires ship_in { ship < length self.now.port.ships }
         requires slot_in { slot < horizon_of self.now.port }
-        ensures { result ≡ allowed_in self.now ship slot }
+        ensures { result ≡ allowed self.now.port self.now.tide ship slot }
     {
-        hw_draft::draft(self.port, self.tide, ship, slot).unwrap_or(0)
-    }
-
-    /// Whether a slot allows a ship any draft: whether it makes no pass outside the tide.
-    pub fn has_draft(&self, ship: ShipId, slot: Slot) -> bool
-        requires ship_in { ship < length self.now.port.ships }
-        requires slot_in { slot < horizon_of self.now.port }
-        ensures { result ≡ is_some (allowed self.now.port self.now.tide ship slot) }
-    {
-        hw_draft::draft(self.port, self.tide, ship, slot).is_some()
+        hw_draft::draft(self.port, self.tide, ship, slot)
     }
 
     /// The cargo of a ship in a slot, 0 where it may not sail.

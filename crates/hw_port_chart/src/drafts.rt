@@ -1,66 +1,49 @@
 //! The window of a ship: in which slots it may sail, with which draft, and where it might move.
 
-ghost use Rattle.std.specs.Prelude.{◌≡◌, ◌≤◌, ◌<◌, codes, length};
+ghost use Rattle.std.specs.Prelude.{◌≡◌, ◌≤◌, ◌<◌, length, if◌then◌else◌};
 ghost use Rattle.hw_desk.specs.Writers.{Puts};
 ghost use Rattle.hw_port.specs.Kept.{ShipKept};
 ghost use Rattle.hw_port_rules.specs.Numbers.{horizon_of};
 ghost use Rattle.hw_chart.specs.Courses.{SailsBefore};
-ghost use Rattle.hw_chart.specs.Rows.{sailing_steps};
-ghost use Rattle.hw_port_chart.specs.Drafts.{draft_level, draft_steps, drafts_text, full_sailings, full_steps, fullness_level, moves_text, open_level, sailing_in, sailing_where, window_of};
+ghost use Rattle.hw_port_chart.specs.Drafts.{draft_level, drafts_text, full_steps, fullness_level, moves_text, open_level, sailing_where, window_of};
 
 use crate::chart::Chart;
-use crate::numbers::{full_of, mark_class, natural, tall_over};
+use crate::numbers::{by_direction, full_of, natural, tall_over};
 use hw_chart::{
     Course, Sailings, put_moves_window, put_sailing_mark, put_sailing_steps, put_sailings_begin,
 };
 use hw_desk::Writer;
-use hw_model::{ShipId, Slot};
+use hw_model::ShipId;
 use hw_port::Ship;
 use hw_svg::{Levels, put_svg_end};
 
-/// How much a ship's draft is short of its full one in each slot, in centimetres; the foot of its window where it may not
-/// sail.
+/// How much a ship's draft is short of its full one in each slot, in centimetres; or only the slots in which it might sail with
+/// its full draft, as the top of its window. Otherwise, and where it may not sail, the foot of the window.
 #[derive(Drop)]
 struct Drafts<'c, 'p> {
     chart: &'c Chart<'p>,
     ship: ShipId,
     full: i64,
     tall: u64,
+    only_full: bool,
     ghost ship_in: { ship < length chart.now.port.ships },
 }
 
 impl Levels for Drafts<'_, '_> {
-    ghost level = { λ d slot. draft_level d.chart.now d.ship d.full d.tall slot };
+    ghost level = { λ d slot. if d.only_full then fullness_level d.chart.now d.ship d.full d.tall slot else draft_level d.chart.now d.ship d.full d.tall slot };
 
     ghost end = { λ d. horizon_of d.chart.now.port };
 
     fn level(&self, slot: u32) -> u64 {
         match self.chart.sailing(self.ship, slot) {
-            Some(draft) => self.full.abs_diff(draft),
             None => self.tall,
-        }
-    }
-}
-
-/// The slots in which a ship might sail with its full draft: the top of its window, and otherwise the foot.
-#[derive(Drop)]
-struct FullDrafts<'c, 'p> {
-    chart: &'c Chart<'p>,
-    ship: ShipId,
-    full: i64,
-    tall: u64,
-    ghost ship_in: { ship < length chart.now.port.ships },
-}
-
-impl Levels for FullDrafts<'_, '_> {
-    ghost level = { λ d slot. fullness_level d.chart.now d.ship d.full d.tall slot };
-
-    ghost end = { λ d. horizon_of d.chart.now.port };
-
-    fn level(&self, slot: u32) -> u64 {
-        match self.chart.sailing(self.ship, slot) {
-            Some(draft) if draft == self.full => 0,
-            Some(_) | None => self.tall,
+            Some(draft) => {
+                if self.only_full {
+                    if draft == self.full { 0 } else { self.tall }
+                } else {
+                    self.full.abs_diff(draft)
+                }
+            }
         }
     }
 }
@@ -103,79 +86,7 @@ pub fn window(chart: &Chart, ship: &Ship, y: u32) -> Sailings
     }
 }
 
-/// Draws the sailing draft in each slot, relative to the full draft.
-fn put_draft_steps_by<W: Writer>(
-    out: &mut W,
-    chart: &Chart,
-    number: ShipId,
-    full: i64,
-    window: Sailings,
-)
-    requires ship_in { number < length chart.now.port.ships }
-    requires end { window.end ≤ horizon_of chart.now.port }
-    ensures { Puts (sailing_steps (codes "dr") window (draft_level chart.now number full window.tall)) (W.state out.old) (W.state out.new) }
-{
-    let levels = Drafts {
-        chart,
-        ship: number,
-        full,
-        tall: window.tall,
-    };
-    put_sailing_steps(out, b"dr", window, &levels);
-}
-
-/// Puts with which draft a ship may sail in each slot.
-fn put_draft_steps<W: Writer>(
-    out: &mut W,
-    chart: &Chart,
-    number: ShipId,
-    ship: &Ship,
-    window: Sailings,
-)
-    requires ship_in { number < length chart.now.port.ships }
-    requires end { window.end ≤ horizon_of chart.now.port }
-    ensures { Puts (draft_steps chart.now number ship.now window) (W.state out.old) (W.state out.new) }
-{
-    put_draft_steps_by(out, chart, number, full_of(ship), window);
-}
-
-/// Puts the slots in which a ship might sail with its full draft, by that full draft.
-fn put_full_sailings_by<W: Writer>(
-    out: &mut W,
-    chart: &Chart,
-    number: ShipId,
-    full: i64,
-    window: Sailings,
-)
-    requires ship_in { number < length chart.now.port.ships }
-    requires end { window.end ≤ horizon_of chart.now.port }
-    ensures { Puts (sailing_steps (codes "fl") window (fullness_level chart.now number full window.tall)) (W.state out.old) (W.state out.new) }
-{
-    let levels = FullDrafts {
-        chart,
-        ship: number,
-        full,
-        tall: window.tall,
-    };
-    put_sailing_steps(out, b"fl", window, &levels);
-}
-
-/// Puts the slots in which a ship might sail with its full draft.
-fn put_full_sailings<W: Writer>(
-    out: &mut W,
-    chart: &Chart,
-    number: ShipId,
-    ship: &Ship,
-    window: Sailings,
-)
-    requires ship_in { number < length chart.now.port.ships }
-    requires end { window.end ≤ horizon_of chart.now.port }
-    ensures { Puts (full_sailings chart.now number ship.now window) (W.state out.old) (W.state out.new) }
-{
-    put_full_sailings_by(out, chart, number, full_of(ship), window);
-}
-
-/// Puts the same, where the ship goes out.
+/// Puts the slots in which a ship that goes out might sail with its full draft.
 fn put_full_steps<W: Writer>(
     out: &mut W,
     chart: &Chart,
@@ -188,36 +99,20 @@ fn put_full_steps<W: Writer>(
     ensures { Puts (full_steps chart.now number ship.now window) (W.state out.old) (W.state out.new) }
 {
     if ship.is_outgoing() {
-        put_full_sailings(out, chart, number, ship, window);
+        let levels = Drafts {
+            chart,
+            ship: number,
+            full: full_of(ship),
+            tall: window.tall,
+            only_full: true,
+        };
+        put_sailing_steps(out, b"fl", window, &levels);
     } else {
         out.put(b"");
     }
 }
 
-/// Puts the mark of a ship's sailing in a slot.
-fn put_sailing<W: Writer>(
-    out: &mut W,
-    chart: &Chart,
-    number: ShipId,
-    ship: &Ship,
-    window: Sailings,
-    slot: Slot,
-)
-    requires ship_in { number < length chart.now.port.ships }
-    requires slot_in { slot < horizon_of chart.now.port }
-    ensures { Puts (sailing_in chart.now number ship.now window slot) (W.state out.old) (W.state out.new) }
-{
-    let levels = Drafts {
-        chart,
-        ship: number,
-        full: full_of(ship),
-        tall: window.tall,
-    };
-    let level = levels.level(slot);
-    put_sailing_mark(out, mark_class(ship), window, slot, level);
-}
-
-/// Puts the same, where the ship sails.
+/// Puts the mark of a ship's sailing, where the ship sails.
 fn put_sailing_where<W: Writer>(
     out: &mut W,
     chart: &Chart,
@@ -232,11 +127,22 @@ fn put_sailing_where<W: Writer>(
 {
     match course {
         Course::Unplanned | Course::Stays => out.put(b""),
-        Course::Sails(slot) => put_sailing(out, chart, number, ship, window, slot),
+        Course::Sails(slot) => {
+            let levels = Drafts {
+                chart,
+                ship: number,
+                full: full_of(ship),
+                tall: window.tall,
+                only_full: false,
+            };
+            let level = levels.level(slot);
+            let class = by_direction(ship, b"ou mk", b"in mk");
+            put_sailing_mark(out, class, window, slot, level);
+        }
     }
 }
 
-/// Puts the window of a ship.
+/// Puts the window of a ship: the sailing draft in each slot, relative to the full draft, and the mark of its sailing.
 pub fn put_drafts<W: Writer>(
     out: &mut W,
     chart: &Chart,
@@ -251,7 +157,14 @@ pub fn put_drafts<W: Writer>(
     ensures { Puts (drafts_text chart.now number ship.now window course) (W.state out.old) (W.state out.new) }
 {
     put_sailings_begin(out, window);
-    put_draft_steps(out, chart, number, ship, window);
+    let levels = Drafts {
+        chart,
+        ship: number,
+        full: full_of(ship),
+        tall: window.tall,
+        only_full: false,
+    };
+    put_sailing_steps(out, b"dr", window, &levels);
     put_full_steps(out, chart, number, ship, window);
     put_sailing_where(out, chart, number, ship, window, course);
     put_svg_end(out);

@@ -3,10 +3,8 @@
 ghost use Rattle.std.specs.Prelude.{◌≡◌, ◌≤◌, ◌*◌, length, All, sum_by, zip};
 ghost use Rattle.hw_desk.specs.Writers.{Puts};
 ghost use Rattle.hw_port.specs.Kept.{PortKept, ShipKept};
-ghost use Rattle.hw_port_rules.specs.Numbers.{horizon_of, whole};
+ghost use Rattle.hw_port_rules.specs.Numbers.{horizon_of};
 ghost use Rattle.hw_port_rules.specs.Permitted.{tugs_held};
-ghost use Rattle.hw_chart.specs.Figures.{is_reached};
-ghost use Rattle.hw_chart.specs.Panels.{planned_panel, unplanned_panel};
 ghost use Rattle.hw_port_chart.specs.Fleets.{fleet_panel, tugs_held_in, panel_of};
 ghost use Rattle.hw_port_chart.specs.Marks.{is_fleet_held as whole_fleet_held};
 
@@ -35,8 +33,8 @@ fn tugs_in(parts: &PortParts, ship: &Ship, at: Slot, slot: Slot) -> u64
     }
 }
 
-/// The tugs that ships with these slots hold in a slot.
-fn held_by_all(parts: &PortParts, ships: &[Ship], table: &[Slot], slot: Slot) -> u64
+/// The tugs that ships with these slots hold in a slot. Ships after the last slot of the table hold none.
+pub fn held_by_all(parts: &PortParts, ships: &[Ship], table: &[Slot], slot: Slot) -> u64
     requires kept { PortKept parts.now }
     requires ships { All (ShipKept parts.now) ships.now }
     requires few { length ships.now ≤ MOST_SHIPS }
@@ -84,38 +82,17 @@ fn panel(chart: &Chart) -> Panel
     }
 }
 
-/// Puts the panel with the tugs that these slots hold.
-fn put_planned<W: Writer>(out: &mut W, chart: &Chart, table: &[Slot])
-    ensures { Puts (planned_panel (panel_of chart.now) (tugs_held_in chart.now.port table.now)) (W.state out.old) (W.state out.new) }
-{
-    let held = Held { chart, table };
-    put_planned_panel(out, panel(chart), &held);
-}
-
-/// Puts the panel where there is no timetable.
-fn put_unplanned<W: Writer>(out: &mut W, chart: &Chart)
-    ensures { Puts (unplanned_panel (panel_of chart.now)) (W.state out.old) (W.state out.new) }
-{
-    put_unplanned_panel(out, panel(chart));
-}
-
-/// Puts the panel of the tugs.
+/// Puts the panel of the tugs, with those that the timetable holds, if there is one.
 pub fn put_fleet<W: Writer>(out: &mut W, chart: &Chart)
     ensures { Puts (fleet_panel chart.now chart.now.table) (W.state out.old) (W.state out.new) }
 {
     match chart.table() {
-        Some(table) => put_planned(out, chart, table),
-        None => put_unplanned(out, chart),
+        Some(table) => {
+            let held = Held { chart, table };
+            put_planned_panel(out, panel(chart), &held);
+        }
+        None => put_unplanned_panel(out, panel(chart)),
     }
-}
-
-/// Whether these slots hold the whole fleet in some slot.
-fn is_held_by(chart: &Chart, table: &[Slot]) -> bool
-    ensures { result ≡ is_reached (tugs_held_in chart.now.port table.now) (whole chart.now.port.fleet) (horizon_of chart.now.port) }
-{
-    let held = Held { chart, table };
-    let fleet = u64::from(natural(chart.parts().fleet));
-    reaches(&held, fleet, chart.horizon())
 }
 
 /// Whether the timetable holds the whole fleet in some slot.
@@ -123,7 +100,11 @@ pub fn is_fleet_held(chart: &Chart) -> bool
     ensures { result ≡ whole_fleet_held chart.now chart.now.table }
 {
     match chart.table() {
-        Some(table) => is_held_by(chart, table),
+        Some(table) => {
+            let held = Held { chart, table };
+            let fleet = u64::from(natural(chart.parts().fleet));
+            reaches(&held, fleet, chart.horizon())
+        }
         None => false,
     }
 }

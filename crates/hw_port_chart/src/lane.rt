@@ -3,12 +3,12 @@
 ghost use Rattle.std.specs.Prelude.{◌≡◌, ◌≤◌, ◌<◌, ◌+◌, pos, length, All};
 ghost use Rattle.hw_desk.specs.Writers.{Puts};
 ghost use Rattle.hw_port.specs.Kept.{ShipKept, StretchKept};
-ghost use Rattle.hw_port_rules.specs.Numbers.{horizon_of, whole};
+ghost use Rattle.hw_port_rules.specs.Numbers.{horizon_of};
 ghost use Rattle.hw_chart.specs.Courses.{SailsBefore};
-ghost use Rattle.hw_port_chart.specs.Lanes.{course_stays, lane_begin, lane_end, lane_text, lane_y, lanes_from, stay_class, stay_mark, stay_of, stay_title, stays_from, stretch_mark, stretch_marks};
+ghost use Rattle.hw_port_chart.specs.Lanes.{course_stays, lane_text, lanes_from, stay_mark, stay_of, stay_title, stays_from, stretch_mark, stretch_marks};
 
 use crate::chart::Chart;
-use crate::numbers::natural;
+use crate::numbers::{by_direction, natural};
 use crate::places::places_of;
 use hw_chart::{Course, plot};
 use hw_desk::Writer;
@@ -36,15 +36,6 @@ pub struct Stay {
     pub lane: u32,
 }
 
-/// The place of a stretch's section.
-fn place_of(chart: &Chart, stretch: &Stretch) -> u32
-    requires { StretchKept (pos (length chart.now.port.sections)) stretch.now }
-    ensures { result ≡ whole stretch.now.section }
-{
-    let _few = chart.parts();
-    natural(stretch.section)
-}
-
 /// From when to when a ship that sails in a slot is in the section of a stretch.
 fn stay_of(chart: &Chart, ship: &Ship, slot: Slot, stretch: &Stretch) -> Stay
     requires slot { slot < MOST_SLOTS }
@@ -63,17 +54,6 @@ fn stay_of(chart: &Chart, ship: &Ship, slot: Slot, stretch: &Stretch) -> Stay
     }
 }
 
-/// The class of the marks of a ship in a section.
-fn stay_class(ship: &Ship) -> &'static [u8]
-    ensures { result.now ≡ stay_class ship.now }
-{
-    if ship.is_outgoing() {
-        b"ou ga"
-    } else {
-        b"in ga"
-    }
-}
-
 /// Puts the mark of a ship in a section, with a title.
 #[tactic(auto, unfolding(crate::specs::Lanes::stay_title))]
 fn put_stay<'t, W: Writer>(out: &mut W, ship: &'t Ship, section: &'t [u8], stay: Stay)
@@ -88,7 +68,7 @@ fn put_stay<'t, W: Writer>(out: &mut W, ship: &'t Ship, section: &'t [u8], stay:
     };
     put_titled(
         out,
-        stay_class(ship),
+        by_direction(ship, b"ou ga", b"in ga"),
         area,
         &[
             Piece::Name(&ship.name.items),
@@ -100,22 +80,6 @@ fn put_stay<'t, W: Writer>(out: &mut W, ship: &'t Ship, section: &'t [u8], stay:
             Piece::Clock(stay.ends),
         ],
     );
-}
-
-/// Puts the mark of a stretch.
-fn put_stretch_mark<W: Writer>(
-    out: &mut W,
-    chart: &Chart,
-    lane: Lane,
-    ship: &Ship,
-    slot: Slot,
-    stretch: &Stretch,
-)
-    requires slot { slot < MOST_SLOTS }
-    requires stretch { StretchKept (pos (length chart.now.port.sections)) stretch.now }
-    ensures { Puts (stay_mark ship.now lane.entry.name.now (stay_of chart.now ship.now slot stretch.now)) (W.state out.old) (W.state out.new) }
-{
-    put_stay(out, ship, lane.name, stay_of(chart, ship, slot, stretch));
 }
 
 /// Puts the mark of a stretch, where it is one of this section.
@@ -131,8 +95,9 @@ fn put_stretch<W: Writer>(
     requires stretch { StretchKept (pos (length chart.now.port.sections)) stretch.now }
     ensures { Puts (stretch_mark chart.now lane.entry.place lane.entry.name.now ship.now slot stretch.now) (W.state out.old) (W.state out.new) }
 {
-    if place_of(chart, stretch) == lane.place {
-        put_stretch_mark(out, chart, lane, ship, slot, stretch);
+    let _few = chart.parts();
+    if natural(stretch.section) == lane.place {
+        put_stay(out, ship, lane.name, stay_of(chart, ship, slot, stretch));
     } else {
         out.put(b"");
     }
@@ -182,19 +147,13 @@ fn put_stays_from<W: Writer>(out: &mut W, chart: &Chart, lane: Lane, first: Ship
     }
 }
 
-/// How far down a lane begins.
-fn y_of(chart: &Chart, place: u32) -> u32
+/// Puts the lane of the section at a place: its name and ground, the ships in it, and which way it is used.
+fn put_lane<W: Writer>(out: &mut W, chart: &Chart, place: u32, section: &Section)
     requires { place ≤ 8 }
-    ensures { result ≡ lane_y chart.now place }
+    ensures { Puts (lane_text chart.now place section.now.name) (W.state out.old) (W.state out.new) }
 {
-    places_of(chart.parts()).lanes + 28 * place
-}
-
-/// Puts the name of a section, and the ground of its lane.
-fn put_begin<W: Writer>(out: &mut W, chart: &Chart, name: &[u8], y: u32)
-    ensures { Puts (lane_begin chart.now name.now y) (W.state out.old) (W.state out.new) }
-{
-    let y = u64::from(y);
+    let y = u64::from(places_of(chart.parts()).lanes + 28 * place);
+    let name = section.name.items.as_slice();
     let ground = Area {
         left: 0,
         right: u64::from(chart.span()),
@@ -204,81 +163,24 @@ fn put_begin<W: Writer>(out: &mut W, chart: &Chart, name: &[u8], y: u32)
     put_name_line(out, b"b", 16, y + 13, name, 148);
     put_window_begin(out, plot(y, 18, chart.span(), 2));
     put_block(out, b"wi", ground);
-}
-
-/// Puts the end of a lane, and which way it is used.
-fn put_end<W: Writer>(out: &mut W, y: u32)
-    ensures { Puts (lane_end y) (W.state out.old) (W.state out.new) }
-{
+    put_stays_from(out, chart, Lane { place, name }, 0, chart.ships());
     put_svg_end(out);
     put_line(
         out,
         b"m",
         900,
-        u64::from(y) + 13,
+        y + 13,
         &[Piece::Word(b"one way: out above, in below")],
     );
 }
 
-/// Puts the beginning of the lane of a section.
-fn put_lane_begin<W: Writer>(out: &mut W, chart: &Chart, place: u32, name: &[u8])
-    requires { place ≤ 8 }
-    ensures { Puts (lane_begin chart.now name.now (lane_y chart.now place)) (W.state out.old) (W.state out.new) }
-{
-    put_begin(out, chart, name, y_of(chart, place));
-}
-
-/// Puts when all ships are in a section.
-fn put_all_stays<W: Writer>(out: &mut W, chart: &Chart, lane: Lane)
-    ensures { Puts (stays_from chart.now lane.entry.place lane.entry.name.now 0 chart.now.port.ships) (W.state out.old) (W.state out.new) }
-{
-    put_stays_from(out, chart, lane, 0, chart.ships());
-}
-
-/// Puts the end of the lane of a section.
-fn put_lane_end<W: Writer>(out: &mut W, chart: &Chart, place: u32)
-    requires { place ≤ 8 }
-    ensures { Puts (lane_end (lane_y chart.now place)) (W.state out.old) (W.state out.new) }
-{
-    put_end(out, y_of(chart, place));
-}
-
-/// Puts the lane of a section.
-fn put_lane<W: Writer>(out: &mut W, chart: &Chart, lane: Lane)
-    requires { lane.place ≤ 8 }
-    ensures { Puts (lane_text chart.now lane.entry.place lane.entry.name.now) (W.state out.old) (W.state out.new) }
-{
-    put_lane_begin(out, chart, lane.place, lane.name);
-    put_all_stays(out, chart, lane);
-    put_lane_end(out, chart, lane.place);
-}
-
-/// Puts the lane of the section at a place.
-fn put_lane_at<W: Writer>(out: &mut W, chart: &Chart, place: u32, section: &Section)
-    requires { place ≤ 8 }
-    ensures { Puts (lane_text chart.now place section.now.name) (W.state out.old) (W.state out.new) }
-{
-    let lane = Lane {
-        place,
-        name: &section.name.items,
-    };
-    put_lane(out, chart, lane);
-}
-
 /// Puts the lanes of the sections from a place on.
-fn put_lanes_from<W: Writer>(out: &mut W, chart: &Chart, first: u32, sections: &[Section])
+pub fn put_lanes<W: Writer>(out: &mut W, chart: &Chart, first: u32, sections: &[Section])
     requires { first + length sections.now ≤ 8 }
     ensures { Puts (lanes_from chart.now first sections.now) (W.state out.old) (W.state out.new) }
 {
     if let [section, more @ ..] = sections {
-        put_lane_at(out, chart, first, section);
-        put_lanes_from(out, chart, first + 1, more);
+        put_lane(out, chart, first, section);
+        put_lanes(out, chart, first + 1, more);
     }
-}
-
-/// Puts the lanes of all sections.
-pub fn put_lanes<W: Writer>(out: &mut W, chart: &Chart)
-    ensures { Puts (lanes_from chart.now 0 chart.now.port.sections) (W.state out.old) (W.state out.new) }
-{
-    put_lanes_from(out, chart, 0, &chart.parts().sections);
 }

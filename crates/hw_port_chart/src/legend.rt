@@ -2,8 +2,8 @@
 
 ghost use Rattle.std.specs.Prelude.{◌≡◌, ◌≤◌, ◌+◌, ◌*◌, ◌++◌, All, length};
 ghost use Rattle.hw_desk.specs.Writers.{Puts};
-ghost use Rattle.hw_chart.specs.Legends.{HasShortWords, entry_parts, legend_from, legend_parts};
-ghost use Rattle.hw_port_chart.specs.Legends.{legend_marks, class_of_mark as mark_class_of, class_of_sailing, mark_entries, mark_entry, mark_says, passing_class, port_legend, sailing_says, sample_of_mark, sample_of_sailing, window_class, window_says};
+ghost use Rattle.hw_chart.specs.Legends.{HasShortWords, entry_parts, legend_from, legend_parts, patch_entry};
+ghost use Rattle.hw_port_chart.specs.Legends.{figure_entry, legend_marks, mark_entries, mark_entry, passing_class, port_legend, sailing_entry, window_class, window_says};
 
 use crate::chart::Chart;
 use crate::marks::{Mark, SailingMark, WindowMark, has_mark};
@@ -11,17 +11,34 @@ use hw_chart::{
     Entry, LegendPlace, Sample, legend_begin, next_place, put_entries, put_entry_where,
 };
 use hw_desk::Writer;
+use hw_flat_chart::patch_entry;
 
-fn class_of_window(mark: WindowMark) -> &'static [u8]
-    ensures { result.now ≡ window_class mark }
+/// An entry with a sign in the type of a figure of a class.
+fn figure(class: &'static [u8], says: &'static [u8], stands: bool) -> Entry
+    requires few { length says.now ≤ 60 }
+    ensures value { entry_parts result ≡ figure_entry class.now says.now stands }
+    ensures words { HasShortWords result }
+{
+    Entry {
+        sample: Sample::Figure,
+        class,
+        says,
+        stands,
+    }
+}
+
+/// The entry of a mark that a ship has with a timetable or without one.
+fn window_entry(mark: WindowMark, stands: bool) -> Entry
+    ensures value { entry_parts result ≡ patch_entry (window_class mark) (window_says mark) stands }
+    ensures words { HasShortWords result }
 {
     match mark {
-        WindowMark::MaySail => b"dr",
-        WindowMark::FullDraft => b"fl",
-        WindowMark::CouldMove => b"pl",
-        WindowMark::Outgoing => b"ou",
-        WindowMark::Incoming => b"in",
-        WindowMark::Closed => b"ha",
+        WindowMark::MaySail => patch_entry(b"dr", b"may sail: the higher, the deeper", stands),
+        WindowMark::FullDraft => patch_entry(b"fl", b"with full draft", stands),
+        WindowMark::CouldMove => patch_entry(b"pl", b"could move there alone", stands),
+        WindowMark::Outgoing => patch_entry(b"ou", b"sails out", stands),
+        WindowMark::Incoming => patch_entry(b"in", b"comes in", stands),
+        WindowMark::Closed => patch_entry(b"ha", b"closed", stands),
     }
 }
 
@@ -36,92 +53,24 @@ fn class_of_passes(chart: &Chart) -> &'static [u8]
     }
 }
 
-fn class_of_sailing(chart: &Chart, mark: SailingMark) -> &'static [u8]
-    ensures { result.now ≡ class_of_sailing chart.now mark }
+/// The entry of a mark of a ship that sails: a figure for what figures say.
+fn sailing_entry(chart: &Chart, mark: SailingMark, stands: bool) -> Entry
+    ensures value { entry_parts result ≡ sailing_entry chart.now mark stands }
+    ensures words { HasShortWords result }
 {
     match mark {
-        SailingMark::Passes => class_of_passes(chart),
-        SailingMark::PassesOut => b"ou mk",
-        SailingMark::HoldsTugs => b"tu",
-        SailingMark::TugsTurn => b"ba",
-        SailingMark::MustWait => b"be",
-        SailingMark::WaitsOn => b"wi",
-        SailingMark::AtLimit => b"m q",
-        SailingMark::BelowFull => b"m",
-    }
-}
-
-fn class_of(chart: &Chart, mark: Mark) -> &'static [u8]
-    ensures { result.now ≡ mark_class_of chart.now mark }
-{
-    match mark {
-        Mark::Tide => b"wa",
-        Mark::OfWindow(mark) => class_of_window(mark),
-        Mark::OfSailing(mark) => class_of_sailing(chart, mark),
-        Mark::WholeFleet => b"fu",
-    }
-}
-
-fn window_says(mark: WindowMark) -> &'static [u8]
-    ensures value { result.now ≡ window_says mark }
-    ensures few { length result.now ≤ 60 }
-{
-    match mark {
-        WindowMark::MaySail => b"may sail: the higher, the deeper",
-        WindowMark::FullDraft => b"with full draft",
-        WindowMark::CouldMove => b"could move there alone",
-        WindowMark::Outgoing => b"sails out",
-        WindowMark::Incoming => b"comes in",
-        WindowMark::Closed => b"closed",
-    }
-}
-
-fn sailing_says(mark: SailingMark) -> &'static [u8]
-    ensures value { result.now ≡ sailing_says mark }
-    ensures few { length result.now ≤ 60 }
-{
-    match mark {
-        SailingMark::Passes | SailingMark::PassesOut => b"needed by a ship that passes",
-        SailingMark::HoldsTugs => b"holds tugs",
-        SailingMark::TugsTurn => b"tugs turn round",
-        SailingMark::MustWait => b"must wait for another",
-        SailingMark::WaitsOn => b"waits on",
-        SailingMark::AtLimit => b"draft at its limit",
-        SailingMark::BelowFull => b"short: below full draft",
-    }
-}
-
-/// What a mark says.
-fn says(mark: Mark) -> &'static [u8]
-    ensures value { result.now ≡ mark_says mark }
-    ensures few { length result.now ≤ 60 }
-{
-    match mark {
-        Mark::Tide => b"tide",
-        Mark::OfWindow(mark) => window_says(mark),
-        Mark::OfSailing(mark) => sailing_says(mark),
-        Mark::WholeFleet => b"whole fleet held",
-    }
-}
-
-fn sample_of_sailing(mark: SailingMark) -> Sample
-    ensures { result ≡ sample_of_sailing mark }
-{
-    match mark {
-        SailingMark::Passes | SailingMark::PassesOut => Sample::Patch,
-        SailingMark::HoldsTugs | SailingMark::TugsTurn => Sample::Patch,
-        SailingMark::MustWait | SailingMark::WaitsOn => Sample::Patch,
-        SailingMark::AtLimit | SailingMark::BelowFull => Sample::Figure,
-    }
-}
-
-/// What stands before the words: a sign in the type of a figure for what figures say.
-fn sample_of(mark: Mark) -> Sample
-    ensures { result ≡ sample_of_mark mark }
-{
-    match mark {
-        Mark::Tide | Mark::OfWindow(_) | Mark::WholeFleet => Sample::Patch,
-        Mark::OfSailing(mark) => sample_of_sailing(mark),
+        SailingMark::Passes => patch_entry(
+            class_of_passes(chart),
+            b"needed by a ship that passes",
+            stands,
+        ),
+        SailingMark::PassesOut => patch_entry(b"ou mk", b"needed by a ship that passes", stands),
+        SailingMark::HoldsTugs => patch_entry(b"tu", b"holds tugs", stands),
+        SailingMark::TugsTurn => patch_entry(b"ba", b"tugs turn round", stands),
+        SailingMark::MustWait => patch_entry(b"be", b"must wait for another", stands),
+        SailingMark::WaitsOn => patch_entry(b"wi", b"waits on", stands),
+        SailingMark::AtLimit => figure(b"m q", b"draft at its limit", stands),
+        SailingMark::BelowFull => figure(b"m", b"short: below full draft", stands),
     }
 }
 
@@ -130,11 +79,12 @@ fn entry_of(chart: &Chart, mark: Mark) -> Entry
     ensures value { entry_parts result ≡ mark_entry chart.now mark }
     ensures words { HasShortWords result }
 {
-    Entry {
-        sample: sample_of(mark),
-        class: class_of(chart, mark),
-        says: says(mark),
-        stands: has_mark(chart, mark),
+    let stands = has_mark(chart, mark);
+    match mark {
+        Mark::Tide => patch_entry(b"wa", b"tide", stands),
+        Mark::OfWindow(mark) => window_entry(mark, stands),
+        Mark::OfSailing(mark) => sailing_entry(chart, mark, stands),
+        Mark::WholeFleet => patch_entry(b"fu", b"whole fleet held", stands),
     }
 }
 

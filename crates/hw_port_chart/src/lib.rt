@@ -32,8 +32,10 @@ mod strip;
 mod title;
 mod waters;
 
+pub use fleet::held_by_all;
 pub use head::sizes;
 pub use laws::{fleet_suffices, legends_fit, moves_are_permitted, sails_between};
 pub use picture::put_port_picture;
 pub use places::{Places, places_of};
-pub use rest::{put_port_rest, slots_shown};
+pub use rest::put_port_rest;
+pub use span::slots_shown;

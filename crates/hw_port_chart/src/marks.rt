@@ -1,21 +1,20 @@
 //! Which marks are in a picture: those that its legend names.
 
-ghost use Rattle.std.specs.Prelude.{◌≡◌, ◌≤◌, ◌<◌, ◌+◌, ◌||◌, nat_eq, length, All, pos, is_some};
+ghost use Rattle.std.specs.Prelude.{◌≡◌, ◌≤◌, ◌<◌, ◌+◌, nat_eq, length, All, pos};
 ghost use Rattle.std.specs.List.{list_any, range_with_len};
 ghost use Rattle.hw_port.specs.Kept.{AfterKept, BerthKept, ShipKept};
 ghost use Rattle.hw_port_rules.specs.Drafts.{sailing as sailing_draft};
 ghost use Rattle.hw_port_rules.specs.Numbers.{horizon_of, whole};
-ghost use Rattle.hw_chart.specs.Courses.{SailsBefore};
 ghost use Rattle.hw_port_chart.specs.Charts.{course as course_of_ship};
-ghost use Rattle.hw_port_chart.specs.Marks.{awaits_berth, awaits_ship, course_has, in_some_slot, is_at_limit, is_below_full, is_closed_within, has_mark, sailing_has, sails_at, some_sailing_has, some_window_has, waits_after, waits_for, window_has};
+ghost use Rattle.hw_port_chart.specs.Marks.{course_has, in_some_slot, has_mark, sailing_has, sails_at, some_sailing_has, some_window_has, waits_after, waits_for, window_has};
 ghost use Rattle.hw_port_chart.specs.Moves.{could_move};
 
 use crate::bars::{incoming_of, tugs_of};
 use crate::chart::Chart;
-use crate::closings::is_closed;
 use crate::fleet::is_fleet_held;
 use crate::numbers::{full_of, natural, natural_full};
-use crate::sailing::{Sailing, sailing_of};
+use crate::reasons::{Reason, has_no_slot, is_reason_for};
+use crate::sailing::sailing_of;
 use crate::span::turnaround;
 use crate::stays::{first_of, second_of};
 use hw_chart::Course;
@@ -57,14 +56,6 @@ pub enum SailingMark {
     BelowFull,
 }
 
-/// Whether there is a slot in which a ship may sail.
-fn may_sail(chart: &Chart, number: ShipId) -> bool
-    requires { number < length chart.now.port.ships }
-    ensures { result ≡ in_some_slot chart.now (λ slot. is_some (sailing_draft chart.now.port chart.now.tide number slot)) }
-{
-    (0..chart.horizon()).any(|slot| chart.sailing(number, slot).is_some())
-}
-
 /// Whether a ship may sail in a slot with this draft.
 fn sails_at(chart: &Chart, number: ShipId, full: i64, slot: Slot) -> bool
     requires ship_in { number < length chart.now.port.ships }
@@ -93,18 +84,6 @@ fn could_move(chart: &Chart, number: ShipId) -> bool
     (0..chart.horizon()).any(|slot| chart.is_open(number, slot))
 }
 
-/// Whether a slot of a ship's window is closed for it.
-fn is_closed_within(chart: &Chart, number: ShipId, ship: &Ship) -> bool
-    requires ship_in { number < length chart.now.port.ships }
-    requires ship { ShipKept chart.now.port ship.now }
-    ensures { result ≡ is_closed_within chart.now number ship.now }
-{
-    let _few = chart.horizon();
-    let first = natural(ship.earliest);
-    let end = natural(ship.latest) + 1;
-    (first..end).any(|slot| is_closed(chart, number, slot))
-}
-
 /// Whether a ship has this mark.
 fn window_has(chart: &Chart, mark: WindowMark, number: ShipId, ship: &Ship) -> bool
     requires ship_in { number < length chart.now.port.ships }
@@ -112,14 +91,14 @@ fn window_has(chart: &Chart, mark: WindowMark, number: ShipId, ship: &Ship) -> b
     ensures { result ≡ window_has chart.now mark number ship.now }
 {
     match mark {
-        WindowMark::MaySail => may_sail(chart, number),
+        WindowMark::MaySail => !has_no_slot(chart, number),
         WindowMark::FullDraft => {
             ship.is_outgoing() && sails_somewhere_at(chart, number, full_of(ship))
         }
         WindowMark::CouldMove => could_move(chart, number),
         WindowMark::Outgoing => ship.is_outgoing(),
         WindowMark::Incoming => !ship.is_outgoing(),
-        WindowMark::Closed => is_closed_within(chart, number, ship),
+        WindowMark::Closed => is_reason_for(chart, number, ship, Reason::Shut),
     }
 }
 
@@ -151,74 +130,33 @@ fn awaits_berth(chart: &Chart, number: ShipId, pairs: &[BerthPair]) -> bool
     }
 }
 
-/// Whether this ship is the second one of a pair, and the gap isn't 0.
-fn waits_for(chart: &Chart, number: ShipId, pair: &AfterPair) -> bool
-    requires { AfterKept (pos (length chart.now.port.ships)) pair.now }
-    ensures { result ≡ waits_for number pair.now }
-{
-    second_of(chart, pair) == number && natural(pair.gap) > 0
-}
-
-/// Whether this ship is so in one of these pairs.
+/// Whether this ship is the second one of one of these pairs, and the gap isn't 0.
 fn awaits_ship(chart: &Chart, number: ShipId, pairs: &[AfterPair]) -> bool
     requires { All (AfterKept (pos (length chart.now.port.ships))) pairs.now }
     ensures { result ≡ list_any (waits_for number) pairs.now }
 {
     match pairs {
         [] => false,
-        [pair, more @ ..] => { waits_for(chart, number, pair) || awaits_ship(chart, number, more) }
+        [pair, more @ ..] => {
+            second_of(chart, pair) == number && natural(pair.gap) > 0
+                || awaits_ship(chart, number, more)
+        }
     }
 }
 
-/// Whether this ship is the second one of a pair, and sails in another slot than the first.
-fn waits_after(chart: &Chart, number: ShipId, pair: &AfterPair) -> bool
-    requires { AfterKept (pos (length chart.now.port.ships)) pair.now }
-    ensures { result ≡ waits_after chart.now number pair.now }
-{
-    let second = second_of(chart, pair);
-    second == number && chart.slot_at(first_of(chart, pair)) != chart.slot_at(second)
-}
-
-/// Whether this ship is so in one of these pairs.
+/// Whether this ship is the second one of one of these pairs, and sails in another slot than the first.
 fn waits_on(chart: &Chart, number: ShipId, pairs: &[AfterPair]) -> bool
     requires { All (AfterKept (pos (length chart.now.port.ships))) pairs.now }
     ensures { result ≡ list_any (waits_after chart.now number) pairs.now }
 {
     match pairs {
         [] => false,
-        [pair, more @ ..] => waits_after(chart, number, pair) || waits_on(chart, number, more),
+        [pair, more @ ..] => {
+            second_of(chart, pair) == number
+                && chart.slot_at(first_of(chart, pair)) != chart.slot_at(second_of(chart, pair))
+                || waits_on(chart, number, more)
+        }
     }
-}
-
-/// Whether a ship must wait for another one.
-fn must_wait(chart: &Chart, number: ShipId) -> bool
-    ensures { result ≡ (awaits_berth chart.now number || awaits_ship chart.now number) }
-{
-    let parts = chart.parts();
-    awaits_berth(chart, number, &parts.berths) || awaits_ship(chart, number, &parts.after)
-}
-
-/// Whether the draft of a sailing is the allowed one.
-fn is_at_limit(sailing: Sailing) -> bool
-    ensures { result ≡ is_at_limit sailing }
-{
-    u64::from(sailing.draft) == sailing.allowed
-}
-
-/// Whether the draft of an outgoing ship's sailing is less than its full one.
-fn is_below_full(chart: &Chart, ship: &Ship, sailing: Sailing) -> bool
-    requires { ShipKept chart.now.port ship.now }
-    ensures { result ≡ is_below_full ship.now sailing }
-{
-    ship.is_outgoing() && sailing.draft != natural_full(ship)
-}
-
-/// Whether a ship takes tugs that turn round.
-fn do_tugs_turn(chart: &Chart, ship: &Ship) -> bool
-    requires { ShipKept chart.now.port ship.now }
-    ensures { result ≡ sailing_has chart.now SailingMark.TugsTurn 0 ship.now 0 }
-{
-    tugs_of(chart, ship) > 0 && turnaround(chart.parts(), ship) > 0
 }
 
 /// Whether a ship that sails in a slot has this mark.
@@ -228,40 +166,36 @@ fn sailing_has(chart: &Chart, mark: SailingMark, number: ShipId, ship: &Ship, sl
     requires slot_in { slot < horizon_of chart.now.port }
     ensures { result ≡ sailing_has chart.now mark number ship.now slot }
 {
+    let parts = chart.parts();
     match mark {
         SailingMark::Passes => true,
         SailingMark::PassesOut => ship.is_outgoing(),
         SailingMark::HoldsTugs => tugs_of(chart, ship) > 0,
-        SailingMark::TugsTurn => do_tugs_turn(chart, ship),
-        SailingMark::MustWait => must_wait(chart, number),
-        SailingMark::WaitsOn => waits_on(chart, number, &chart.parts().after),
-        SailingMark::AtLimit => is_at_limit(sailing_of(chart, number, ship, slot)),
+        SailingMark::TugsTurn => tugs_of(chart, ship) > 0 && turnaround(parts, ship) > 0,
+        SailingMark::MustWait => {
+            awaits_berth(chart, number, &parts.berths) || awaits_ship(chart, number, &parts.after)
+        }
+        SailingMark::WaitsOn => waits_on(chart, number, &parts.after),
+        SailingMark::AtLimit => {
+            let sailing = sailing_of(chart, number, ship, slot);
+            u64::from(sailing.draft) == sailing.allowed
+        }
         SailingMark::BelowFull => {
-            is_below_full(chart, ship, sailing_of(chart, number, ship, slot))
+            ship.is_outgoing() && sailing_of(chart, number, ship, slot).draft != natural_full(ship)
         }
     }
 }
 
 /// Whether a ship sails and has this mark.
-fn course_has(chart: &Chart, mark: SailingMark, number: ShipId, ship: &Ship, course: Course) -> bool
-    requires ship_in { number < length chart.now.port.ships }
-    requires ship { ShipKept chart.now.port ship.now }
-    requires before { SailsBefore (horizon_of chart.now.port) course }
-    ensures { result ≡ course_has chart.now mark number ship.now course }
-{
-    match course {
-        Course::Unplanned | Course::Stays => false,
-        Course::Sails(slot) => sailing_has(chart, mark, number, ship, slot),
-    }
-}
-
-/// The same, by the timetable.
 fn ship_has(chart: &Chart, mark: SailingMark, number: ShipId, ship: &Ship) -> bool
     requires ship_in { number < length chart.now.port.ships }
     requires ship { ShipKept chart.now.port ship.now }
     ensures { result ≡ course_has chart.now mark number ship.now (course_of_ship chart.now number) }
 {
-    course_has(chart, mark, number, ship, chart.course(number))
+    match chart.course(number) {
+        Course::Unplanned | Course::Stays => false,
+        Course::Sails(slot) => sailing_has(chart, mark, number, ship, slot),
+    }
 }
 
 /// Whether one of the ships from a number on sails and has this mark.

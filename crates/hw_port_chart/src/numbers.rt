@@ -3,7 +3,7 @@
 ghost use Rattle.std.specs.Prelude.{◌≡◌, ◌≤◌, ◌*◌, ◌≤ℤ◌, pos};
 ghost use Rattle.hw_port.specs.Kept.{Within};
 ghost use Rattle.hw_port_rules.specs.Numbers.{whole};
-ghost use Rattle.hw_port_chart.specs.Charts.{full_of as full_draft, mark_class as class_of_mark, tall_over as tall_of, way as way_of};
+ghost use Rattle.hw_port_chart.specs.Charts.{by_direction, full_of as full_draft, tall_over as tall_of};
 
 use hw_port::Ship;
 
@@ -56,20 +56,13 @@ pub fn natural_full(ship: &Ship) -> u32
     }
 }
 
-/// The class of a ship's shapes.
-pub fn way(ship: &Ship) -> &'static [u8]
-    ensures { result.now ≡ way_of ship.now }
-{
-    if ship.is_outgoing() { b"ou" } else { b"in" }
-}
-
-/// The class of the marks of a ship's sailing.
-pub fn mark_class(ship: &Ship) -> &'static [u8]
-    ensures { result.now ≡ class_of_mark ship.now }
+/// The first of two texts for a ship that goes out, and the second for one that comes in.
+pub fn by_direction(ship: &Ship, goes_out: &'static [u8], comes_in: &'static [u8]) -> &'static [u8]
+    ensures { result.now ≡ by_direction ship.now goes_out.now comes_in.now }
 {
     if ship.is_outgoing() {
-        b"ou mk"
+        goes_out
     } else {
-        b"in mk"
+        comes_in
     }
 }

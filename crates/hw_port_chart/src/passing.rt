@@ -8,10 +8,10 @@ ghost use Rattle.hw_port_rules.specs.Numbers.{horizon_of, whole};
 ghost use Rattle.hw_port_rules.specs.Drafts.{passing_slot};
 ghost use Rattle.hw_chart.specs.Courses.{SailsBefore};
 ghost use Rattle.hw_port_chart.specs.Charts.{tall_between as tall_of, charted_waypoint_name};
-ghost use Rattle.hw_port_chart.specs.Passings.{course_marks, mark_here, marks_from, need as need_of, pass_mark, pass_marks, passing, passing_area, passing_mark, passing_title, water as water_of};
+ghost use Rattle.hw_port_chart.specs.Passings.{course_marks, marks_from, need as need_of, pass_mark, pass_marks, passing, passing_title, water as water_of};
 
 use crate::chart::Chart;
-use crate::numbers::{mark_class, natural, tall_over};
+use crate::numbers::{by_direction, natural, tall_over};
 use hw_chart::Course;
 use hw_desk::Writer;
 use hw_model::{MOST_SHIPS, MOST_SLOTS, ShipId, Slot};
@@ -100,14 +100,6 @@ fn level(strip: Strip, draft: u32, clearance: u32) -> u64
     i64::from(strip.high).abs_diff(need(strip, draft, clearance))
 }
 
-/// The clearance of a pass.
-pub fn clearance(waypoints: usize, pass: &Pass) -> u32
-    requires { PassKept (pos waypoints) pass.now }
-    ensures { result ≡ whole pass.now.clearance }
-{
-    natural(pass.clearance)
-}
-
 /// The place of a pass's waypoint.
 pub fn place_of(chart: &Chart, pass: &Pass) -> u32
     requires { PassKept (pos (length chart.now.port.waypoints)) pass.now }
@@ -126,7 +118,7 @@ fn passing_of(chart: &Chart, strip: Strip, ship: Underway, pass: &Pass) -> Passi
 {
     let waypoints = chart.parts().waypoints.len();
     let slot = slot_of_pass(waypoints, ship.slot, pass);
-    let clearance = clearance(waypoints, pass);
+    let clearance = natural(pass.clearance);
     let water = water(chart, strip, slot);
     Passing {
         slot,
@@ -163,52 +155,7 @@ fn title_of<'t>(ship: &'t Ship, waypoint: &'t [u8], passing: Passing) -> [Piece<
     ]
 }
 
-/// The area of a passing, from the tide that it needs down.
-fn area_of(strip: Strip, passing: Passing) -> Area
-    ensures { result ≡ passing_area strip passing }
-{
-    Area {
-        left: u64::from(passing.slot),
-        right: u64::from(passing.slot) + 1,
-        top: passing.level,
-        bottom: tall(strip),
-    }
-}
-
-/// Puts the mark of a passing, with a title.
-fn put_passing<'t, W: Writer>(
-    out: &mut W,
-    strip: Strip,
-    ship: &'t Ship,
-    waypoint: &'t [u8],
-    passing: Passing,
-)
-    ensures { Puts (passing_mark strip ship.now waypoint.now passing) (W.state out.old) (W.state out.new) }
-{
-    let title = title_of(ship, waypoint, passing);
-    put_titled(out, mark_class(ship), area_of(strip, passing), &title);
-}
-
-/// Puts the mark of a pass.
-fn put_pass_mark<W: Writer>(
-    out: &mut W,
-    chart: &Chart,
-    strip: Strip,
-    underway: Underway,
-    ship: &Ship,
-    pass: &Pass,
-)
-    requires place { strip.place < length chart.now.port.waypoints }
-    requires slot { underway.slot < MOST_SLOTS }
-    requires pass { PassKept (pos (length chart.now.port.waypoints)) pass.now }
-    ensures { Puts (mark_here chart.now strip underway ship.now pass.now) (W.state out.old) (W.state out.new) }
-{
-    let waypoint = chart.waypoint(strip.place);
-    let passing = passing_of(chart, strip, underway, pass);
-    put_passing(out, strip, ship, waypoint, passing);
-}
-
-/// Puts the mark of a pass, where it is one of this waypoint.
+/// Puts the mark of a pass, from the tide that it needs down, with a title, where it is one of this waypoint.
 fn put_pass<W: Writer>(
     out: &mut W,
     chart: &Chart,
@@ -223,7 +170,16 @@ fn put_pass<W: Writer>(
     ensures { Puts (pass_mark chart.now strip underway ship.now pass.now) (W.state out.old) (W.state out.new) }
 {
     if place_of(chart, pass) == strip.place {
-        put_pass_mark(out, chart, strip, underway, ship, pass);
+        let waypoint = chart.waypoint(strip.place);
+        let passing = passing_of(chart, strip, underway, pass);
+        let area = Area {
+            left: u64::from(passing.slot),
+            right: u64::from(passing.slot) + 1,
+            top: passing.level,
+            bottom: tall(strip),
+        };
+        let title = title_of(ship, waypoint, passing);
+        put_titled(out, by_direction(ship, b"ou mk", b"in mk"), area, &title);
     } else {
         out.put(b"");
     }

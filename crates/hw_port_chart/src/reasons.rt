@@ -1,13 +1,12 @@
 //! Why a ship has no slot in which it may sail.
 
-ghost use Rattle.std.specs.Prelude.{◌≡◌, ◌≤◌, ◌<◌, ◌-◌, length, is_none, is_some};
-ghost use Rattle.std.specs.List.{list_all, list_any, range_with_len};
+ghost use Rattle.std.specs.Prelude.{◌≡◌, ◌<◌, length};
 ghost use Rattle.hw_desk.specs.Writers.{Puts};
 ghost use Rattle.hw_port.specs.Kept.{ShipKept};
 ghost use Rattle.hw_port_rules.specs.Numbers.{horizon_of};
 ghost use Rattle.hw_port_rules.specs.Drafts.{allowed};
 ghost use Rattle.hw_windows.specs.Statuses.{reason_in};
-ghost use Rattle.hw_port_chart.specs.Reasons.{clash_hint, clash_hint_where, each_may_sail, has_no_slot, hint_by, is_reason, keeps_in as kept_in_by, no_slot_because, no_slot_where, reasons_words as words_of};
+ghost use Rattle.hw_port_chart.specs.Reasons.{clash_hint_where, each_may_sail, has_no_slot, hint_by, is_reason, keeps_in as kept_in_by, no_slot_where, reasons_words as words_of};
 
 use crate::chart::Chart;
 use crate::closings::is_closed;
@@ -30,7 +29,7 @@ pub enum Reason {
 }
 
 /// Whether there is no slot in which a ship may sail.
-fn is_kept_in(chart: &Chart, number: ShipId) -> bool
+pub fn has_no_slot(chart: &Chart, number: ShipId) -> bool
     requires { number < length chart.now.port.ships }
     ensures { result ≡ has_no_slot chart.now number }
 {
@@ -47,29 +46,21 @@ fn is_kept_by(chart: &Chart, number: ShipId, slot: Slot, reason: Reason) -> bool
     let closed = is_closed(chart, number, slot);
     match reason {
         Reason::Shut => closed,
-        Reason::TableEnds => !closed && !chart.has_draft(number, slot),
-        Reason::TooShallow => !closed && chart.has_draft(number, slot),
+        Reason::TableEnds => !closed && chart.allowed(number, slot).is_none(),
+        Reason::TooShallow => !closed && chart.allowed(number, slot).is_some(),
     }
 }
 
-/// Whether it is the reason against one of these slots.
-fn is_reason_among(chart: &Chart, number: ShipId, first: Slot, end: Slot, reason: Reason) -> bool
-    requires ship_in { number < length chart.now.port.ships }
-    requires end { end ≤ horizon_of chart.now.port }
-    ensures { result ≡ list_any (λ slot. is_reason reason (reason_in chart.now.port chart.now.tide number slot)) (range_with_len first (end - first)) }
-{
-    (first..end).any(|slot| is_kept_by(chart, number, slot, reason))
-}
-
 /// Whether it is the reason against a slot of the ship's window.
-fn is_reason_for(chart: &Chart, number: ShipId, ship: &Ship, reason: Reason) -> bool
+pub fn is_reason_for(chart: &Chart, number: ShipId, ship: &Ship, reason: Reason) -> bool
     requires ship_in { number < length chart.now.port.ships }
     requires ship { ShipKept chart.now.port ship.now }
     ensures { result ≡ kept_in_by chart.now number ship.now reason }
 {
     let _few = chart.horizon();
+    let first = natural(ship.earliest);
     let end = natural(ship.latest) + 1;
-    is_reason_among(chart, number, natural(ship.earliest), end, reason)
+    (first..end).any(|slot| is_kept_by(chart, number, slot, reason))
 }
 
 /// The reasons that there are, in words.
@@ -88,63 +79,47 @@ fn reasons_words(shut: bool, ends: bool, shallow: bool) -> &'static [u8]
     }
 }
 
-/// Puts that there is no slot in which a ship may sail, and why.
-fn put_no_slot_because<W: Writer>(out: &mut W, chart: &Chart, number: ShipId, ship: &Ship, y: u32)
-    requires ship_in { number < length chart.now.port.ships }
-    requires ship { ShipKept chart.now.port ship.now }
-    ensures { Puts (no_slot_because chart.now number ship.now y) (W.state out.old) (W.state out.new) }
-{
-    let words = reasons_words(
-        is_reason_for(chart, number, ship, Reason::Shut),
-        is_reason_for(chart, number, ship, Reason::TableEnds),
-        is_reason_for(chart, number, ship, Reason::TooShallow),
-    );
-    put_line(out, b"q", 900, u64::from(y) + 17, &[Piece::Word(words)]);
-}
-
-/// Puts the same, where it is so.
+/// Puts that there is no slot in which a ship may sail, and why, where it is so.
 pub fn put_no_slot_where<W: Writer>(out: &mut W, chart: &Chart, number: ShipId, ship: &Ship, y: u32)
     requires ship_in { number < length chart.now.port.ships }
     requires ship { ShipKept chart.now.port ship.now }
     ensures { Puts (no_slot_where chart.now number ship.now y) (W.state out.old) (W.state out.new) }
 {
-    if is_kept_in(chart, number) {
-        put_no_slot_because(out, chart, number, ship, y);
+    if has_no_slot(chart, number) {
+        let words = reasons_words(
+            is_reason_for(chart, number, ship, Reason::Shut),
+            is_reason_for(chart, number, ship, Reason::TableEnds),
+            is_reason_for(chart, number, ship, Reason::TooShallow),
+        );
+        put_line(out, b"q", 900, u64::from(y) + 17, &[Piece::Word(words)]);
     } else {
         out.put(b"");
     }
 }
 
 /// Whether each ship has a slot in which it may sail.
-fn is_none_kept_in(chart: &Chart) -> bool
+fn may_each_sail(chart: &Chart) -> bool
     ensures { result ≡ each_may_sail chart.now }
 {
     let ships = chart.ships().len() as u32;
-    (0..ships).all(|number| !is_kept_in(chart, number))
+    (0..ships).all(|number| !has_no_slot(chart, number))
 }
 
-/// Puts how to find what leaves no timetable together.
+/// Puts how to find what leaves no timetable together, where each ship has a slot.
 #[tactic(auto, unfolding(crate::specs::Reasons::clash_hint))]
-fn put_clash_hint<W: Writer>(out: &mut W)
-    ensures { Puts clash_hint (W.state out.old) (W.state out.new) }
-{
-    put_line(
-        out,
-        b"m r",
-        1268,
-        56,
-        &[Piece::Word(
-            b"each ship alone could sail; clash finds which restrictions together leave nothing",
-        )],
-    );
-}
-
-/// Puts the same, where each ship has a slot.
 fn put_clash_hint_where<W: Writer>(out: &mut W, chart: &Chart)
     ensures { Puts (clash_hint_where chart.now) (W.state out.old) (W.state out.new) }
 {
-    if is_none_kept_in(chart) {
-        put_clash_hint(out);
+    if may_each_sail(chart) {
+        put_line(
+            out,
+            b"m r",
+            1268,
+            56,
+            &[Piece::Word(
+                b"each ship alone could sail; clash finds which restrictions together leave nothing",
+            )],
+        );
     } else {
         out.put(b"");
     }

@@ -1,14 +1,14 @@
 //! A sailing in numbers.
 
 ghost use Rattle.std.specs.Prelude.{◌≡◌, ◌≤◌, ◌<◌, ◌≤ℤ◌, ◌+ℤ◌, ◌-ℤ◌, pos, length, All};
-ghost use Rattle.std.specs.Ordering.{int_eq};
 ghost use Rattle.hw_port.specs.Kept.{PassKept, ShipKept, Within};
 ghost use Rattle.hw_port_rules.specs.Numbers.{horizon_of};
 ghost use Rattle.hw_port_rules.specs.Drafts.{draft_at as draft_left};
-ghost use Rattle.hw_port_chart.specs.Sailings.{control_among, control_by, deciding, sailing_of};
+ghost use Rattle.hw_port_chart.specs.Sailings.{control_among, sailing_of};
 
 use crate::chart::Chart;
-use crate::passing::{clearance, place_of, slot_of_pass};
+use crate::numbers::natural;
+use crate::passing::{place_of, slot_of_pass};
 use hw_model::{MOST_SLOTS, ShipId, Slot};
 use hw_port::{Pass, Ship};
 
@@ -54,28 +54,7 @@ fn draft_at(chart: &Chart, slot: Slot, pass: &Pass) -> i64
     left(chart.depth(place), height, pass.clearance)
 }
 
-/// Whether a pass leaves just this draft.
-fn leaves(chart: &Chart, slot: Slot, draft: i64, pass: &Pass) -> bool
-    requires slot { slot < MOST_SLOTS }
-    requires pass { PassKept (pos (length chart.now.port.waypoints)) pass.now }
-    ensures { result ≡ int_eq (draft_left chart.now.port chart.now.tide slot pass.now) draft }
-{
-    draft_at(chart, slot, pass) == draft
-}
-
-/// The waypoint and the clearance of a pass.
-fn control_of(chart: &Chart, pass: &Pass) -> Control
-    requires { PassKept (pos (length chart.now.port.waypoints)) pass.now }
-    ensures { result ≡ control_by pass.now }
-{
-    let clearance = clearance(chart.parts().waypoints.len(), pass);
-    Control {
-        by: place_of(chart, pass),
-        clearance,
-    }
-}
-
-/// The first pass of a route that leaves just this draft.
+/// The waypoint and the clearance of the first pass of a route that leaves just this draft.
 fn control_among(chart: &Chart, slot: Slot, draft: i64, route: &[Pass]) -> Control
     requires slot { slot < MOST_SLOTS }
     requires route { All (PassKept (pos (length chart.now.port.waypoints))) route.now }
@@ -87,24 +66,16 @@ fn control_among(chart: &Chart, slot: Slot, draft: i64, route: &[Pass]) -> Contr
             clearance: 0,
         },
         [pass, more @ ..] => {
-            if leaves(chart, slot, draft, pass) {
-                control_of(chart, pass)
+            if draft_at(chart, slot, pass) == draft {
+                Control {
+                    by: place_of(chart, pass),
+                    clearance: natural(pass.clearance),
+                }
             } else {
                 control_among(chart, slot, draft, more)
             }
         }
     }
-}
-
-/// What decides the allowed draft.
-fn deciding(chart: &Chart, number: ShipId, ship: &Ship, slot: Slot) -> Control
-    requires ship_in { number < length chart.now.port.ships }
-    requires ship { ShipKept chart.now.port ship.now }
-    requires slot_in { slot < horizon_of chart.now.port }
-    ensures { result ≡ deciding chart.now number ship.now slot }
-{
-    let _few = chart.horizon();
-    control_among(chart, slot, chart.allowed(number, slot), &ship.route)
 }
 
 /// A ship's sailing in a slot.
@@ -115,12 +86,14 @@ pub fn sailing_of(chart: &Chart, number: ShipId, ship: &Ship, slot: Slot) -> Sai
     ensures value { result ≡ sailing_of chart.now number ship.now slot }
     ensures fits { result.allowed ≤ 9_223_372_036_854_775_808 }
 {
-    let control = deciding(chart, number, ship, slot);
+    let _few = chart.horizon();
+    let allowed = chart.allowed(number, slot).unwrap_or(0);
+    let control = control_among(chart, slot, allowed, &ship.route);
     Sailing {
         slot,
         time: chart.minutes_to(slot),
         draft: chart.draft(number, slot),
-        allowed: chart.allowed(number, slot).unsigned_abs(),
+        allowed: allowed.unsigned_abs(),
         by: control.by,
         clearance: control.clearance,
         cargo: chart.cargo(number, slot),

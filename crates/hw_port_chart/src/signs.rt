@@ -7,13 +7,7 @@ ghost use Rattle.hw_port_chart.specs.Signs.{are_some as some_are, has_closings a
 
 use hw_chart::put_hatch;
 use hw_desk::Writer;
-use hw_port::{Closing, PortParts, Ship, Waypoint};
-
-fn are_some(closings: &[Closing]) -> bool
-    ensures { result ≡ some_are closings.now }
-{
-    closings.len() > 0
-}
+use hw_port::{PortParts, Ship, Waypoint};
 
 /// Whether slots are closed for one of these ships.
 fn is_some_ship_closed(ships: &[Ship]) -> bool
@@ -21,7 +15,7 @@ fn is_some_ship_closed(ships: &[Ship]) -> bool
 {
     match ships {
         [] => false,
-        [ship, more @ ..] => are_some(&ship.closed.items) || is_some_ship_closed(more),
+        [ship, more @ ..] => ship.closed.items.len() > 0 || is_some_ship_closed(more),
     }
 }
 
@@ -32,7 +26,7 @@ fn is_some_waypoint_closed(waypoints: &[Waypoint]) -> bool
     match waypoints {
         [] => false,
         [waypoint, more @ ..] => {
-            are_some(&waypoint.closed.items) || is_some_waypoint_closed(more)
+            waypoint.closed.items.len() > 0 || is_some_waypoint_closed(more)
         }
     }
 }
@@ -41,7 +35,7 @@ fn is_some_waypoint_closed(waypoints: &[Waypoint]) -> bool
 fn has_closings(parts: &PortParts) -> bool
     ensures { result ≡ closings_there parts.now }
 {
-    are_some(&parts.closed.items)
+    parts.closed.items.len() > 0
         || (is_some_ship_closed(&parts.ships) || is_some_waypoint_closed(&parts.waypoints))
 }
 

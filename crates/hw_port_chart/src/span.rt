@@ -127,8 +127,8 @@ fn ends(parts: &PortParts, plan: Option<&Plan>, first: ShipId, ships: &[Ship]) -
     }
 }
 
-/// How many slots a picture of a port shows.
-pub fn span(port: &Port, plan: Option<&Plan>) -> u32
+/// How many slots the picture of a port shows.
+pub fn slots_shown(port: &Port, plan: Option<&Plan>) -> u32
     ensures value { result ≡ port_picture_span port.now (option_map (λ plan. plan.now.table) plan.entry) }
     ensures some { 0 < result }
     ensures small { result ≤ 1_535 }

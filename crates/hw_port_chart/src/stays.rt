@@ -5,7 +5,7 @@ ghost use Rattle.hw_desk.specs.Writers.{Puts};
 ghost use Rattle.hw_port.specs.Kept.{AfterKept};
 ghost use Rattle.hw_port_rules.specs.Numbers.{whole};
 ghost use Rattle.hw_port_chart.specs.Charts.{slot_in_chart};
-ghost use Rattle.hw_port_chart.specs.Stays.{chart_ship_name as name_of_ship, stay, stay_for, stays_of, wait_bars, wait_of, wait_title};
+ghost use Rattle.hw_port_chart.specs.Stays.{chart_ship_name as name_of_ship, stay_for, stays_of, wait_of};
 
 use crate::chart::Chart;
 use crate::numbers::{natural, product};
@@ -71,70 +71,48 @@ fn name_of<'c>(chart: &'c Chart, number: ShipId) -> &'c [u8]
     }
 }
 
-/// Puts a stay, and over it the time that the ship must wait.
-#[tactic(auto, unfolding(crate::specs::Stays::wait_title))]
-fn put_wait<'w, W: Writer>(out: &mut W, second: &'w [u8], first: &'w [u8], wait: Wait)
-    ensures { Puts (wait_bars second.now first.now wait) (W.state out.old) (W.state out.new) }
-{
-    let area = Area {
-        left: wait.from,
-        right: wait.until,
-        top: 0,
-        bottom: 1,
-    };
-    put_titled(
-        out,
-        b"wi",
-        area,
-        &[
-            Piece::Name(second),
-            Piece::Word(b" after "),
-            Piece::Name(first),
-            Piece::Word(b": "),
-            Piece::Clock(wait.waited),
-            Piece::Word(b", at least "),
-            Piece::Clock(wait.least),
-        ],
-    );
-    put_bar(out, b"be", wait.from, wait.free, 0);
-}
-
-/// Puts the stay of a pair's second ship.
-fn put_stay<W: Writer>(out: &mut W, chart: &Chart, pair: &AfterPair)
-    requires { AfterKept (pos (length chart.now.port.ships)) pair.now }
-    ensures { Puts (stay chart.now pair.now) (W.state out.old) (W.state out.new) }
-{
-    let second = name_of(chart, second_of(chart, pair));
-    let first = name_of(chart, first_of(chart, pair));
-    put_wait(out, second, first, wait_of(chart, pair));
-}
-
-/// Puts the same, where the pair's second ship is this one.
+/// Puts the stay of a pair's second ship, where that is this one, and over it the time that the ship must wait.
 fn put_stay_for<W: Writer>(out: &mut W, chart: &Chart, number: ShipId, pair: &AfterPair)
     requires { AfterKept (pos (length chart.now.port.ships)) pair.now }
     ensures { Puts (stay_for chart.now number pair.now) (W.state out.old) (W.state out.new) }
 {
     if second_of(chart, pair) == number {
-        put_stay(out, chart, pair);
+        let second = name_of(chart, second_of(chart, pair));
+        let first = name_of(chart, first_of(chart, pair));
+        let wait = wait_of(chart, pair);
+        let area = Area {
+            left: wait.from,
+            right: wait.until,
+            top: 0,
+            bottom: 1,
+        };
+        put_titled(
+            out,
+            b"wi",
+            area,
+            &[
+                Piece::Name(second),
+                Piece::Word(b" after "),
+                Piece::Name(first),
+                Piece::Word(b": "),
+                Piece::Clock(wait.waited),
+                Piece::Word(b", at least "),
+                Piece::Clock(wait.least),
+            ],
+        );
+        put_bar(out, b"be", wait.from, wait.free, 0);
     } else {
         out.put(b"");
     }
 }
 
 /// Puts the stays of a ship, by these pairs.
-fn put_stays_of<W: Writer>(out: &mut W, chart: &Chart, number: ShipId, pairs: &[AfterPair])
+pub fn put_stays<W: Writer>(out: &mut W, chart: &Chart, number: ShipId, pairs: &[AfterPair])
     requires { All (AfterKept (pos (length chart.now.port.ships))) pairs.now }
     ensures { Puts (stays_of chart.now number pairs.now) (W.state out.old) (W.state out.new) }
 {
     if let [pair, more @ ..] = pairs {
         put_stay_for(out, chart, number, pair);
-        put_stays_of(out, chart, number, more);
+        put_stays(out, chart, number, more);
     }
-}
-
-/// Puts the stays of a ship, by all pairs.
-pub fn put_stays<W: Writer>(out: &mut W, chart: &Chart, number: ShipId)
-    ensures { Puts (stays_of chart.now number chart.now.port.after) (W.state out.old) (W.state out.new) }
-{
-    put_stays_of(out, chart, number, &chart.parts().after);
 }

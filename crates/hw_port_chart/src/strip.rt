@@ -1,13 +1,12 @@
 //! The tide at each waypoint.
 
-ghost use Rattle.std.specs.Prelude.{◌≡◌, ◌≤◌, ◌<◌, ◌≤◌, ◌+◌, length, All};
+ghost use Rattle.std.specs.Prelude.{◌≡◌, ◌≤◌, ◌<◌, ◌+◌, length, All};
 ghost use Rattle.hw_desk.specs.Writers.{Puts};
 ghost use Rattle.hw_port.specs.Kept.{WaypointKept};
-ghost use Rattle.hw_port_chart.specs.Passings.{marks_from};
-ghost use Rattle.hw_port_chart.specs.Strips.{strip_at_place, strip_heights, strip_label, strip_of, strip_text, strip_window, strip_y, strips, strips_from, tide_steps, water_level, water_steps};
+ghost use Rattle.hw_port_chart.specs.Strips.{strip_at_place, strip_heights, strip_of, strip_text, strip_y, strips_from, tide_steps, water_level};
 
 use crate::chart::Chart;
-use crate::heights::{Heights, heights_at, heights_of};
+use crate::heights::{Heights, heights_at};
 use crate::numbers::natural;
 use crate::passing::{Strip, put_marks, tall};
 use crate::waters::put_strip_waters;
@@ -57,32 +56,6 @@ pub fn y(strip: Strip) -> u64
     72 * u64::from(strip.place) + 138
 }
 
-/// Puts the name of a waypoint and its charted depth.
-fn put_label<W: Writer>(out: &mut W, strip: Strip, name: &[u8])
-    ensures { Puts (strip_label strip name.now) (W.state out.old) (W.state out.new) }
-{
-    let y = y(strip);
-    put_name_line(out, b"b", 16, y + 16, name, 148);
-    put_line(
-        out,
-        b"m",
-        16,
-        y + 32,
-        &[
-            Piece::Word(b"charted "),
-            Piece::Metres(u64::from(strip.depth)),
-            Piece::Word(b" m"),
-        ],
-    );
-}
-
-/// Puts the beginning of a strip's window.
-fn put_window<W: Writer>(out: &mut W, chart: &Chart, strip: Strip)
-    ensures { Puts (strip_window chart.now strip) (W.state out.old) (W.state out.new) }
-{
-    put_window_begin(out, plot(y(strip), 40, chart.span(), tall(strip)));
-}
-
 /// Puts the water at a waypoint, in the first few slots.
 fn put_tide<W: Writer>(out: &mut W, tide: &Tide, strip: Strip, slots: u32)
     requires place { strip.place < tide.now.columns }
@@ -95,15 +68,6 @@ fn put_tide<W: Writer>(out: &mut W, tide: &Tide, strip: Strip, slots: u32)
         high: strip.high,
     };
     put_steps(out, b"wa", &water, 0, slots, tall(strip));
-}
-
-/// Puts the water in the slots of the tide that are shown.
-fn put_water<W: Writer>(out: &mut W, chart: &Chart, strip: Strip)
-    requires { strip.place < length chart.now.port.waypoints }
-    ensures { Puts (water_steps chart.now strip) (W.state out.old) (W.state out.new) }
-{
-    let _columns = chart.parts();
-    put_tide(out, chart.tide(), strip, chart.shown());
 }
 
 /// Puts the least and the greatest height that is shown.
@@ -128,23 +92,25 @@ fn put_heights<W: Writer>(out: &mut W, chart: &Chart, strip: Strip)
     );
 }
 
-/// Puts the marks of all passes at a waypoint.
-fn put_all_marks<W: Writer>(out: &mut W, chart: &Chart, strip: Strip)
-    requires { strip.place < length chart.now.port.waypoints }
-    ensures { Puts (marks_from chart.now strip 0 chart.now.port.ships) (W.state out.old) (W.state out.new) }
-{
-    put_marks(out, chart, strip, 0, chart.ships());
-}
-
-/// Puts the strip of a waypoint: the water in each slot, and the tide that each pass needs.
+/// Puts the strip of a waypoint: its name and charted depth, the water in each slot, and the tide that each pass needs.
 fn put_strip<W: Writer>(out: &mut W, chart: &Chart, strip: Strip, name: &[u8])
     requires { strip.place < length chart.now.port.waypoints }
     ensures { Puts (strip_text chart.now strip name.now) (W.state out.old) (W.state out.new) }
 {
-    put_label(out, strip, name);
-    put_window(out, chart, strip);
-    put_water(out, chart, strip);
-    put_all_marks(out, chart, strip);
+    let _columns = chart.parts();
+    let y = y(strip);
+    let depth = Piece::Metres(u64::from(strip.depth));
+    put_name_line(out, b"b", 16, y + 16, name, 148);
+    put_line(
+        out,
+        b"m",
+        16,
+        y + 32,
+        &[Piece::Word(b"charted "), depth, Piece::Word(b" m")],
+    );
+    put_window_begin(out, plot(y, 40, chart.span(), tall(strip)));
+    put_tide(out, chart.tide(), strip, chart.shown());
+    put_marks(out, chart, strip, 0, chart.ships());
     put_svg_end(out);
     put_heights(out, chart, strip);
     put_strip_waters(out, chart, strip);
@@ -168,7 +134,7 @@ fn put_strip_at<W: Writer>(
 }
 
 /// Puts the strips of the waypoints from a place on.
-fn put_strips_from<W: Writer>(
+pub fn put_strips<W: Writer>(
     out: &mut W,
     chart: &Chart,
     heights: Heights,
@@ -182,14 +148,6 @@ fn put_strips_from<W: Writer>(
 {
     if let [waypoint, more @ ..] = waypoints {
         put_strip_at(out, chart, heights, first, waypoint);
-        put_strips_from(out, chart, heights, first + 1, more);
+        put_strips(out, chart, heights, first + 1, more);
     }
-}
-
-/// Puts the strips of all waypoints.
-pub fn put_strips<W: Writer>(out: &mut W, chart: &Chart)
-    ensures { Puts (strips chart.now) (W.state out.old) (W.state out.new) }
-{
-    let heights = heights_of(chart.tide());
-    put_strips_from(out, chart, heights, 0, &chart.parts().waypoints);
 }
