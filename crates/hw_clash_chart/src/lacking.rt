@@ -1,18 +1,16 @@
 //! The slots in which a timetable holds more tugs than the fleet has.
 
-ghost use Rattle.std.specs.Prelude.{◌≡◌, ◌≤◌, ◌<◌, ◌*◌, ◌≤ℤ◌, pos, length, All, sum_by, zip};
+ghost use Rattle.std.specs.Prelude.{◌≡◌, ◌≤◌, ◌<◌, ◌≤ℤ◌, pos};
 ghost use Rattle.hw_desk.specs.Writers.{Puts};
-ghost use Rattle.hw_port.specs.Kept.{PortKept, ShipKept};
-ghost use Rattle.hw_port_rules.specs.Numbers.{hold_of, horizon_of, turnaround_of, whole};
-ghost use Rattle.hw_port_rules.specs.Permitted.{tugs_held};
+ghost use Rattle.hw_port_rules.specs.Numbers.{horizon_of, whole};
 ghost use Rattle.hw_port_chart.specs.Heads.{places};
 ghost use Rattle.hw_clash_chart.specs.Shapes.{fleet_tall as tall_of_fleet, lacking_level, lacking_mark, lacking_steps};
 
 use hw_chart::plot;
 use hw_desk::Writer;
-use hw_model::{MOST_HOLD, MOST_SHIPS, MOST_SLOTS, MOST_TUGS, Slot};
-use hw_port::{Port, PortParts, Ship};
-use hw_port_chart::{places_of, slots_shown};
+use hw_model::{MOST_SLOTS, Slot};
+use hw_port::Port;
+use hw_port_chart::{held_by_all, places_of, slots_shown};
 use hw_svg::{Levels, put_steps, put_svg_end, put_window_begin};
 
 /// A number of a port that is never negative.
@@ -30,62 +28,6 @@ pub fn horizon(port: &Port) -> u32
     ensures few { result ≤ MOST_SLOTS }
 {
     natural(port.parts().slots)
-}
-
-/// For how many slots a ship's tugs turn round.
-fn turnaround(parts: &PortParts, ship: &Ship) -> u32
-    requires { PortKept parts.now }
-    ensures value { result ≡ turnaround_of parts.now ship.now }
-    ensures few { result ≤ MOST_SLOTS }
-{
-    if ship.is_outgoing() {
-        natural(parts.turnaround.outgoing)
-    } else {
-        natural(parts.turnaround.incoming)
-    }
-}
-
-/// For how many slots a ship holds its tugs.
-fn hold(parts: &PortParts, ship: &Ship) -> u32
-    requires kept { PortKept parts.now }
-    requires ship { ShipKept parts.now ship.now }
-    ensures value { result ≡ hold_of parts.now ship.now }
-    ensures few { result ≤ MOST_HOLD }
-{
-    natural(ship.job) + turnaround(parts, ship)
-}
-
-/// The tugs that a ship with a slot holds in another one.
-fn tugs_in(parts: &PortParts, ship: &Ship, at: Slot, slot: Slot) -> u64
-    requires kept { PortKept parts.now }
-    requires ship { ShipKept parts.now ship.now }
-    ensures value { result ≡ tugs_held parts.now slot (ship.now, at) }
-    ensures few { result ≤ MOST_TUGS }
-{
-    let free = u64::from(at) + u64::from(hold(parts, ship));
-    if at < natural(parts.slots) && at <= slot && u64::from(slot) < free {
-        u64::from(natural(ship.tugs))
-    } else {
-        0
-    }
-}
-
-/// The tugs that ships with these slots hold in a slot.
-fn held_by_all(parts: &PortParts, ships: &[Ship], table: &[Slot], slot: Slot) -> u64
-    requires kept { PortKept parts.now }
-    requires ships { All (ShipKept parts.now) ships.now }
-    requires few { length ships.now ≤ MOST_SHIPS }
-    ensures value { result ≡ sum_by (tugs_held parts.now slot) (zip ships.now table.now) }
-    ensures few { result ≤ MOST_TUGS * length ships.now }
-{
-    match ships {
-        [] => 0,
-        [ship, more @ ..] => match table {
-            [] => 0,
-            [at, rest @ ..] => tugs_in(parts, ship, *at, slot)
-                + held_by_all(parts, more, rest, slot),
-        },
-    }
 }
 
 /// The slots in which a timetable holds more tugs than the fleet has: the top of a window, and otherwise its foot.
