@@ -66,9 +66,8 @@ itself_plain (kinds.Order v w x clause) e = All-cons Plain _ [] e (All-nil Plain
 itself_plain (kinds.Goal clause) e = All-cons Plain _ [] e (All-nil Plain)
 itself_plain (kinds.Lemma clause hints) e = All-cons Plain _ [] e (All-nil Plain)
 itself_plain (kinds.Delete ids) e = All-nil Plain
-itself_plain (kinds.Narrows blocks) e = absurd (cc)
-itself_plain (kinds.Tugs n slot most weights) e = absurd (cc)
-itself_plain (kinds.Tariff scale prices) e = absurd (cc)
+itself_plain (kinds.Toll toll) e = absurd (cc)
+itself_plain (kinds.Tariff tariff) e = absurd (cc)
 itself_plain (kinds.Priced clause) e = absurd (cc)
 itself_plain (kinds.Bound bound) e = absurd (cc)
 

@@ -1,5 +1,6 @@
 -- Bytes have a form exactly where they are the text of a line of that form.
 use Rattle.std.proofs.Common.{◌≡◌, ℕ, List, [], ◌∷◌, Option, Some, None, refl, sym, ap, ◌∙◌, arith}
+use Rattle.hw_tolls.specs.declared.toll.Toll.TheVariants as tolls
 use Rattle.hw_lines.specs.declared.line.Line.{Line}
 use Rattle.hw_lines.specs.declared.line.Line.TheVariants as lines
 use Rattle.hw_text.specs.Parts.{words_of}
@@ -26,12 +27,12 @@ has_words One (lines.Delete []) h = absurd (no_line (spelled One (line_text (lin
 has_words Two (lines.Delete []) h = absurd (no_line (spelled Two (line_text (lines.Delete []))) (lines.Delete []) refl h)
 has_words Three (lines.Delete []) h = absurd (no_line (spelled Three (line_text (lines.Delete []))) (lines.Delete []) refl h)
 has_words version (lines.Delete (id ∷ ids)) h = omega arith
-has_words One (lines.Narrows []) h = absurd (no_line (spelled One (line_text (lines.Narrows []))) (lines.Narrows []) refl h)
-has_words Two (lines.Narrows []) h = absurd (no_line (spelled Two (line_text (lines.Narrows []))) (lines.Narrows []) refl h)
-has_words Three (lines.Narrows []) h = absurd (no_line (spelled Three (line_text (lines.Narrows []))) (lines.Narrows []) refl h)
-has_words version (lines.Narrows (block ∷ blocks)) h = omega arith
-has_words version (lines.Tugs n slot most weights) h = tt
-has_words version (lines.Tariff scale prices) h = tt
+has_words One (lines.Toll (tolls.Narrows [])) h = absurd (no_line (spelled One (line_text (lines.Toll (tolls.Narrows [])))) (lines.Toll (tolls.Narrows [])) refl h)
+has_words Two (lines.Toll (tolls.Narrows [])) h = absurd (no_line (spelled Two (line_text (lines.Toll (tolls.Narrows [])))) (lines.Toll (tolls.Narrows [])) refl h)
+has_words Three (lines.Toll (tolls.Narrows [])) h = absurd (no_line (spelled Three (line_text (lines.Toll (tolls.Narrows [])))) (lines.Toll (tolls.Narrows [])) refl h)
+has_words version (lines.Toll (tolls.Narrows (block ∷ blocks))) h = omega arith
+has_words version (lines.Toll (tolls.Tugs n slot weights most)) h = tt
+has_words version (lines.Tariff tariff) h = tt
 has_words version (lines.Priced clause) h = tt
 has_words version (lines.Bound bound) h = tt
 

@@ -27,9 +27,8 @@ third_forms (lines.Order v w x clause) = refl
 third_forms (lines.Goal clause) = refl
 third_forms (lines.Lemma clause hints) = refl
 third_forms (lines.Delete ids) = refl
-third_forms (lines.Narrows blocks) = refl
-third_forms (lines.Tugs n slot most weights) = refl
-third_forms (lines.Tariff scale prices) = refl
+third_forms (lines.Toll toll) = refl
+third_forms (lines.Tariff tariff) = refl
 third_forms (lines.Priced clause) = refl
 third_forms (lines.Bound bound) = refl
 
@@ -40,9 +39,8 @@ two_has (lines.Order v w x clause) h = refl
 two_has (lines.Goal clause) h = refl
 two_has (lines.Lemma clause hints) h = refl
 two_has (lines.Delete ids) h = refl
-two_has (lines.Narrows blocks) h = h
-two_has (lines.Tugs n slot most weights) h = h
-two_has (lines.Tariff scale prices) h = h
+two_has (lines.Toll toll) h = h
+two_has (lines.Tariff tariff) h = h
 two_has (lines.Priced clause) h = h
 two_has (lines.Bound bound) h = h
 
@@ -63,9 +61,8 @@ plain_forms (lines.Order v w x clause) = refl
 plain_forms (lines.Goal clause) = refl
 plain_forms (lines.Lemma clause hints) = refl
 plain_forms (lines.Delete ids) = refl
-plain_forms (lines.Narrows blocks) = refl
-plain_forms (lines.Tugs n slot most weights) = refl
-plain_forms (lines.Tariff scale prices) = refl
+plain_forms (lines.Toll toll) = refl
+plain_forms (lines.Tariff tariff) = refl
 plain_forms (lines.Priced clause) = refl
 plain_forms (lines.Bound bound) = refl
 

@@ -7,7 +7,8 @@ use Rattle.std.specs.List.{list_all, flat_map}
 use Rattle.hw_text.specs.Parts.{lacks}
 use Rattle.hw_lines.specs.declared.line.Line.{Line}
 use Rattle.hw_lines.specs.declared.line.Line.TheVariants as lines
-use Rattle.hw_lines.specs.declared.line.Price.{Price}
+use Rattle.hw_tolls.specs.declared.tariff.Due.{Due}
+use Rattle.hw_tolls.specs.declared.toll.Toll.TheVariants as tolls
 use Rattle.hw_cert.specs.Texts.{lit_text, block_text, price_text, line_words}
 use Rattle.hw_cert.specs.Laws.{lit_numbers, line_numbers, wide_numbers, is_small, is_wide}
 use Rattle.hw_cert.proofs.WordBytes.{both_on, differs, number_lacks, small_parts, numbers_lack, lits_lack}
@@ -41,8 +42,8 @@ words_lack c (lines.Lemma clause hints) lt h wide =
     (all_append c (map lit_text clause) (codes ";" ∷ map decimal hints) (lits_lack c clause lt p.0)
     (both_on (lacks c (codes ";")) (list_all (lacks c) (map decimal hints)) (letter_lacks c 59 (omega arith)) (numbers_lack c hints lt p.1)))
 words_lack c (lines.Delete ids) lt h wide = both_on (lacks c (codes "d")) (list_all (lacks c) (map decimal ids)) (letter_lacks c 100 (omega arith)) (numbers_lack c ids lt h)
-words_lack c (lines.Narrows blocks) lt h wide = both_on (lacks c (codes "n")) (list_all (lacks c) (map block_text blocks)) (letter_lacks c 110 (omega arith)) (blocks_lack c blocks lt h)
-words_lack c (lines.Tugs n slot most weights) lt h wide =
+words_lack c (lines.Toll (tolls.Narrows blocks)) lt h wide = both_on (lacks c (codes "n")) (list_all (lacks c) (map block_text blocks)) (letter_lacks c 110 (omega arith)) (blocks_lack c blocks lt h)
+words_lack c (lines.Toll (tolls.Tugs n slot weights most)) lt h wide =
     let p = and_parts (is_small n) (list_all is_small (slot ∷ most ∷ weights)) h in
     let q = and_parts (is_small slot) (list_all is_small (most ∷ weights)) p.1 in
     let r = and_parts (is_small most) (list_all is_small weights) q.1 in
@@ -50,9 +51,9 @@ words_lack c (lines.Tugs n slot most weights) lt h wide =
     (both_on (lacks c (decimal n)) (list_all (lacks c) (decimal slot ∷ decimal most ∷ map decimal weights)) (number_lacks c n (omega arith) p.0)
     (both_on (lacks c (decimal slot)) (list_all (lacks c) (decimal most ∷ map decimal weights)) (number_lacks c slot (omega arith) q.0)
     (both_on (lacks c (decimal most)) (list_all (lacks c) (map decimal weights)) (number_lacks c most (omega arith) r.0) (numbers_lack c weights lt r.1))))
-words_lack c (lines.Tariff scale prices) lt h wide =
-    let p = and_parts (is_small scale) (list_all is_small (map (λ (due : Price). due.toll) prices)) h in
-    both_on (lacks c (codes "y")) (list_all (lacks c) (decimal scale ∷ map price_text prices)) (letter_lacks c 121 (omega arith))
-    (both_on (lacks c (decimal scale)) (list_all (lacks c) (map price_text prices)) (number_lacks c scale (omega arith) p.0) (prices_lack c prices lt p.1 wide))
+words_lack c (lines.Tariff tariff) lt h wide =
+    let p = and_parts (is_small tariff.scale) (list_all is_small (map (λ (due : Due). due.toll) tariff.dues)) h in
+    both_on (lacks c (codes "y")) (list_all (lacks c) (decimal tariff.scale ∷ map price_text tariff.dues)) (letter_lacks c 121 (omega arith))
+    (both_on (lacks c (decimal tariff.scale)) (list_all (lacks c) (map price_text tariff.dues)) (number_lacks c tariff.scale (omega arith) p.0) (prices_lack c tariff.dues lt p.1 wide))
 words_lack c (lines.Priced clause) lt h wide = both_on (lacks c (codes "p")) (list_all (lacks c) (map lit_text clause)) (letter_lacks c 112 (omega arith)) (lits_lack c clause lt h)
 words_lack c (lines.Bound bound) lt h wide = both_on (lacks c (codes "b")) (list_all (lacks c) (decimal bound ∷ [])) (letter_lacks c 98 (omega arith)) (both_on (lacks c (decimal bound)) true (wide_lacks c bound (omega arith) (and_parts (is_wide bound) true wide).0) refl)

@@ -14,7 +14,8 @@ use Rattle.hw_lemmas.specs.Operators.{◌or_else◌}
 use Rattle.hw_tolls.specs.declared.toll.Block.{Block}
 use Rattle.hw_tolls.specs.Tolls.{BlockFits}
 use Rattle.hw_lines.specs.Valid.{LineFits}
-use Rattle.hw_lines.specs.declared.line.Price.{Price}
+use Rattle.hw_tolls.specs.declared.tariff.Due.{Due}
+use Rattle.hw_tolls.specs.declared.toll.Toll.TheVariants as tolls
 use Rattle.hw_lines.specs.declared.line.Line.{Line}
 use Rattle.hw_lines.specs.declared.line.Line.TheVariants as lines
 use Rattle.hw_cert.specs.declared.stop.FormWord.{FormWord}
@@ -80,12 +81,12 @@ block_in f block h =
     record { ship_in = ltb-true block.ship f.ships p.0; ordered = leb-true block.low block.high q.0; slot_in = ltb-true block.high f.slots q.1 }
 
 -- numbers from 1 on that ascend
-from_one : (before : ℕ) (prices : List Price) → ascends before (map (λ (due : Price). due.toll) prices) ≡ true → All (λ (due : Price). 0 < due.toll) prices
-from_one before [] h = All-nil (λ (due : Price). 0 < due.toll)
+from_one : (before : ℕ) (prices : List Due) → ascends before (map (λ (due : Due). due.toll) prices) ≡ true → All (λ (due : Due). 0 < due.toll) prices
+from_one before [] h = All-nil (λ (due : Due). 0 < due.toll)
 from_one before (due ∷ prices) h =
-    let p = and_parts (nat_lt before due.toll) (ascends due.toll (map (λ (one : Price). one.toll) prices)) h in
+    let p = and_parts (nat_lt before due.toll) (ascends due.toll (map (λ (one : Due). one.toll) prices)) h in
     let above : before < due.toll = ltb-true before due.toll p.0 in
-    All-cons (λ (one : Price). 0 < one.toll) due prices (omega (arith, above)) (from_one due.toll prices p.1)
+    All-cons (λ (one : Due). 0 < one.toll) due prices (omega (arith, above)) (from_one due.toll prices p.1)
 
 pub fits_problem : (f : Problem) (line : Line) → first_fault (shape_of f) line ≡ None → LineFits f line
 fits_problem f (lines.Table table) h =
@@ -107,7 +108,7 @@ fits_problem f (lines.Delete ids) h =
     let p = and_parts (nat_lt 0 (length ids)) (ascends 0 ids) (kept _ Range h) in
     let some : 0 < length ids = ltb-true 0 (length ids) p.0 in
     (some, first_above ids some p.1, increasing 0 ids p.1)
-fits_problem f (lines.Narrows blocks) h =
+fits_problem f (lines.Toll (tolls.Narrows blocks)) h =
     let ships : List ℕ = map (λ (block : Block). block.ship) blocks in
     let p = and_parts (nat_lt 0 (length blocks)) (nat_le (length blocks) 40 && (list_all (block_fits_shape (shape_of f)) blocks && rises ships)) (kept _ Range h) in
     let q = and_parts (nat_le (length blocks) 40) (list_all (block_fits_shape (shape_of f)) blocks && rises ships) p.1 in
@@ -118,7 +119,7 @@ fits_problem f (lines.Narrows blocks) h =
       each_block = each_passes (block_fits_shape (shape_of f)) (BlockFits f) (block_in f) blocks r.0;
       ascend = rising ships r.1;
     }
-fits_problem f (lines.Tugs n slot most weights) h =
+fits_problem f (lines.Toll (tolls.Tugs n slot weights most)) h =
     let p = neither (word_unless Form (weights_small most weights)) (word_unless Range (nat_le f.ships n && (nat_lt n (f.ships + length f.rules) && (nat_lt slot f.slots && nat_le (length weights) 40)))) h in
     let s = and_parts (nat_le most 2_560) (list_all (λ weight. nat_le weight 64) weights) (kept _ Form p.0) in
     let a = and_parts (nat_le f.ships n) (nat_lt n (f.ships + length f.rules) && (nat_lt slot f.slots && nat_le (length weights) 40)) (kept _ Range p.1) in
@@ -132,16 +133,16 @@ fits_problem f (lines.Tugs n slot most weights) h =
       few_weights = leb-true (length weights) 40 c.1;
       small_weights = each_passes (λ weight. nat_le weight 64) (λ weight. weight ≤ 64) (λ weight e. leb-true weight 64 e) weights s.1;
     }
-fits_problem f (lines.Tariff scale prices) h =
-    let tolls : List ℕ = map (λ (due : Price). due.toll) prices in
-    let p = neither (word_unless Form (prices_small scale prices)) (word_unless Range (ascends 0 tolls)) h in
-    let s = and_parts (nat_le scale 1_000_000) (list_all (λ (due : Price). nat_le due.price 1_000_000_000_000_000_000) prices) (kept _ Form p.0) in
+fits_problem f (lines.Tariff tariff) h =
+    let numbers : List ℕ = map (λ (due : Due). due.toll) tariff.dues in
+    let p = neither (word_unless Form (prices_small tariff.scale tariff.dues)) (word_unless Range (ascends 0 numbers)) h in
+    let s = and_parts (nat_le tariff.scale 1_000_000) (list_all (λ (due : Due). nat_le due.price 1_000_000_000_000_000_000) tariff.dues) (kept _ Form p.0) in
     let up = kept _ Range p.1 in
     record {
-      small_scale = leb-true scale 1_000_000 s.0;
-      from_one = from_one 0 prices up;
-      ascend = increasing 0 tolls up;
-      small_prices = each_passes (λ (due : Price). nat_le due.price 1_000_000_000_000_000_000) (λ (due : Price). due.price ≤ 1_000_000_000_000_000_000) (λ due e. leb-true due.price 1_000_000_000_000_000_000 e) prices s.1;
+      small_scale = leb-true tariff.scale 1_000_000 s.0;
+      from_one = from_one 0 tariff.dues up;
+      ascend = increasing 0 numbers up;
+      small_prices = each_passes (λ (due : Due). nat_le due.price 1_000_000_000_000_000_000) (λ (due : Due). due.price ≤ 1_000_000_000_000_000_000) (λ due e. leb-true due.price 1_000_000_000_000_000_000 e) tariff.dues s.1;
     }
 fits_problem f (lines.Priced clause) h = no_bad (first_bad (shape_of f) clause) h
 fits_problem f (lines.Bound bound) h = leb-true bound 40_000_000_000_000 (kept _ Form h)

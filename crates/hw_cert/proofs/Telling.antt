@@ -11,6 +11,7 @@ use Rattle.hw_desk.specs.State.{DeskState}
 use Rattle.hw_desk.specs.Calls.{Sends, Tells}
 use Rattle.hw_desk.specs.Whole.{SendsText}
 use Rattle.hw_desk.specs.declared.desk.Tray.TheVariants.{Proof}
+use Rattle.hw_tolls.specs.declared.toll.Toll.TheVariants as tolls
 use Rattle.hw_lines.specs.declared.line.Line.{Line}
 use Rattle.hw_lines.specs.declared.line.Line.TheVariants as lines
 use Rattle.hw_cert.specs.declared.version.Version.{Version}
@@ -133,10 +134,10 @@ told_itself (lines.Lemma [] hints) small wide = by_words (lines.Lemma [] hints) 
 told_itself (lines.Lemma (lit ∷ clause) hints) small wide = by_words (lines.Lemma (lit ∷ clause) hints) small wide ∙ line_again Three (lines.Lemma (lit ∷ clause) hints) small wide refl tt
 told_itself (lines.Delete []) small wide = refl
 told_itself (lines.Delete (id ∷ ids)) small wide = by_words (lines.Delete (id ∷ ids)) small wide ∙ line_again Three (lines.Delete (id ∷ ids)) small wide refl (omega arith)
-told_itself (lines.Narrows []) small wide = refl
-told_itself (lines.Narrows (block ∷ blocks)) small wide = by_words (lines.Narrows (block ∷ blocks)) small wide ∙ line_again Three (lines.Narrows (block ∷ blocks)) small wide refl (omega arith)
-told_itself (lines.Tugs n slot most weights) small wide = by_words (lines.Tugs n slot most weights) small wide ∙ line_again Three (lines.Tugs n slot most weights) small wide refl tt
-told_itself (lines.Tariff scale prices) small wide = by_words (lines.Tariff scale prices) small wide ∙ line_again Three (lines.Tariff scale prices) small wide refl tt
+told_itself (lines.Toll (tolls.Narrows [])) small wide = refl
+told_itself (lines.Toll (tolls.Narrows (block ∷ blocks))) small wide = by_words (lines.Toll (tolls.Narrows (block ∷ blocks))) small wide ∙ line_again Three (lines.Toll (tolls.Narrows (block ∷ blocks))) small wide refl (omega arith)
+told_itself (lines.Toll (tolls.Tugs n slot weights most)) small wide = by_words (lines.Toll (tolls.Tugs n slot weights most)) small wide ∙ line_again Three (lines.Toll (tolls.Tugs n slot weights most)) small wide refl tt
+told_itself (lines.Tariff tariff) small wide = by_words (lines.Tariff tariff) small wide ∙ line_again Three (lines.Tariff tariff) small wide refl tt
 told_itself (lines.Priced []) small wide = refl
 told_itself (lines.Priced (lit ∷ clause)) small wide = by_words (lines.Priced (lit ∷ clause)) small wide ∙ line_again Three (lines.Priced (lit ∷ clause)) small wide refl tt
 told_itself (lines.Bound bound) small wide = by_words (lines.Bound bound) small wide ∙ line_again Three (lines.Bound bound) small wide refl tt

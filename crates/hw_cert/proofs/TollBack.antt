@@ -4,10 +4,10 @@ use Rattle.std.specs.Prelude.{codes, option_and_then}
 use Rattle.std.specs.List.{list_all}
 use Rattle.hw_lines.specs.declared.line.Line.{Line}
 use Rattle.hw_lines.specs.declared.line.Line.TheVariants as lines
-use Rattle.hw_lines.specs.declared.line.Price.{Price}
+use Rattle.hw_tolls.specs.declared.tariff.Due.{Due}
 use Rattle.hw_cert.specs.declared.version.Version.{Version}
 use Rattle.hw_cert.specs.declared.version.Version.TheVariants.{One, Two, Three}
-use Rattle.hw_cert.specs.Spelled.{number_word, wide_word, both_values, all_numbers, all_of, some_of, block_word, price_word, only_lits, third, narrows_form, tug_toll_words, tugs_form, tariff_words, tariff_form, priced_form, bound_words, bound_form}
+use Rattle.hw_cert.specs.Spelled.{number_word, wide_word, both_values, all_numbers, all_of, some_of, block_word, price_word, only_lits, third, narrows_line, tugs_line, tariff_line, narrows_form, tug_toll_words, tugs_form, tariff_words, tariff_form, priced_form, bound_words, bound_form}
 use Rattle.hw_cert.specs.Laws.{is_small, is_wide}
 use Rattle.hw_cert.proofs.WordBytes.{both_on}
 use Rattle.hw_cert.proofs.ReadBack.{mapped, chained, paired, number_back, numbers_back}
@@ -29,7 +29,7 @@ some_list_back xs ys h = kept (nat_lt 0 (length xs)) xs ys h
 
 pub narrows_back : (version : Version) (ws : List (List ℕ)) (line : Line) → narrows_form version ws ≡ Some line → Spells version (codes "n") ws line
 narrows_back version ws line h = third_back version _ line (codes "n") ws h (λ e.
-    let p = mapped lines.Narrows (option_and_then some_of (all_of block_word ws)) line e in
+    let p = mapped narrows_line (option_and_then some_of (all_of block_word ws)) line e in
     let q = chained some_of (all_of block_word ws) p.0 p.1 in
     let r = blocks_back ws p.0 (q.1 ∙ ap Some (some_list_back q.0 p.0 q.2)) in
     subst (Spells Three (codes "n") ws) p.2 (record { words_are = ap (λ (vs : List (List ℕ)). codes "n" ∷ vs) r.0; small = r.1; wide = refl; formed = refl }))
@@ -39,7 +39,7 @@ tugs_words_back [] line h = absurd cc
 tugs_words_back (v ∷ []) line h = absurd cc
 tugs_words_back (v ∷ w ∷ []) line h = absurd cc
 tugs_words_back (v ∷ w ∷ x ∷ ws) line h =
-    let p = mapped (λ (s : ℕ × (ℕ × (ℕ × List ℕ))). lines.Tugs s.0 s.1.0 s.1.1.0 s.1.1.1) (both_values (number_word v) (both_values (number_word w) (both_values (number_word x) (all_numbers ws)))) line h in
+    let p = mapped (λ (s : ℕ × (ℕ × (ℕ × List ℕ))). tugs_line s.0 s.1.0 s.1.1.0 s.1.1.1) (both_values (number_word v) (both_values (number_word w) (both_values (number_word x) (all_numbers ws)))) line h in
     let a = paired (number_word v) (both_values (number_word w) (both_values (number_word x) (all_numbers ws))) p.0 p.1 in
     let b = paired (number_word w) (both_values (number_word x) (all_numbers ws)) p.0.1 a.1 in
     let d = paired (number_word x) (all_numbers ws) p.0.1.1 b.1 in
@@ -61,13 +61,13 @@ tugs_back version ws line h = third_back version (tug_toll_words ws) line (codes
 tariff_words_back : (ws : List (List ℕ)) (line : Line) → tariff_words ws ≡ Some line → Spells Three (codes "y") ws line
 tariff_words_back [] line h = absurd cc
 tariff_words_back (v ∷ ws) line h =
-    let p = mapped (λ (q : ℕ × List Price). lines.Tariff q.0 q.1) (both_values (number_word v) (all_of price_word ws)) line h in
+    let p = mapped (λ (q : ℕ × List Due). tariff_line q.0 q.1) (both_values (number_word v) (all_of price_word ws)) line h in
     let q = paired (number_word v) (all_of price_word ws) p.0 p.1 in
     let a = number_back v p.0.0 q.0 in
     let r = prices_back ws p.0.1 q.1 in
     subst (Spells Three (codes "y") (v ∷ ws)) p.2 (record {
       words_are = ap (λ (y : List ℕ). codes "y" ∷ y ∷ ws) a.0 ∙ ap (λ (vs : List (List ℕ)). codes "y" ∷ decimal p.0.0 ∷ vs) r.words;
-      small = both_on (is_small p.0.0) (list_all is_small (map (λ (due : Price). due.toll) p.0.1)) a.1 r.small;
+      small = both_on (is_small p.0.0) (list_all is_small (map (λ (due : Due). due.toll) p.0.1)) a.1 r.small;
       wide = r.wide;
       formed = refl;
     })

@@ -6,7 +6,7 @@ use Rattle.std.specs.List.{list_all, flat_map}
 use Rattle.hw_text.specs.Parts.{lacks}
 use Rattle.hw_text.proofs.Digits.{own}
 use Rattle.hw_tolls.specs.declared.toll.Block.{Block}
-use Rattle.hw_lines.specs.declared.line.Price.{Price}
+use Rattle.hw_tolls.specs.declared.tariff.Due.{Due}
 use Rattle.hw_cert.specs.Texts.{block_text, price_text}
 use Rattle.hw_cert.specs.Laws.{block_numbers, is_small, is_wide}
 use Rattle.hw_cert.proofs.WordBytes.{both_on, differs, digits_lack, number_lacks, lacks_append, two_small, small_parts}
@@ -28,10 +28,10 @@ pub blocks_lack : (c : ℕ) (bs : List Block) → c < 46 → list_all is_small (
 blocks_lack c [] lt h = refl
 blocks_lack c (b ∷ bs) lt h = let p = small_parts (block_numbers b) (flat_map block_numbers bs) h in both_on (lacks c (block_text b)) (list_all (lacks c) (map block_text bs)) (block_lacks c b lt p.0) (blocks_lack c bs lt p.1)
 
-pub prices_lack : (c : ℕ) (dues : List Price) → c < 46 → list_all is_small (map (λ (due : Price). due.toll) dues) ≡ true → list_all is_wide (map (λ (due : Price). due.price) dues) ≡ true → list_all (lacks c) (map price_text dues) ≡ true
+pub prices_lack : (c : ℕ) (dues : List Due) → c < 46 → list_all is_small (map (λ (due : Due). due.toll) dues) ≡ true → list_all is_wide (map (λ (due : Due). due.price) dues) ≡ true → list_all (lacks c) (map price_text dues) ≡ true
 prices_lack c [] lt s w = refl
 prices_lack c (due ∷ dues) lt s w =
-    let p = and_parts (is_small due.toll) (list_all is_small (map (λ (one : Price). one.toll) dues)) s in
-    let q = and_parts (is_wide due.price) (list_all is_wide (map (λ (one : Price). one.price) dues)) w in
+    let p = and_parts (is_small due.toll) (list_all is_small (map (λ (one : Due). one.toll) dues)) s in
+    let q = and_parts (is_wide due.price) (list_all is_wide (map (λ (one : Due). one.price) dues)) w in
     both_on (lacks c (price_text due)) (list_all (lacks c) (map price_text dues))
     (colon_after c (decimal due.toll) (decimal due.price) lt (number_lacks c due.toll (omega arith) p.0) (wide_lacks c due.price (omega arith) q.0)) (prices_lack c dues lt p.1 q.1)

@@ -10,7 +10,7 @@ use Rattle.hw_model.specs.Problem.{Problem, shape_of}
 use Rattle.hw_laws.proofs.Horizon.{few_slots}
 use Rattle.hw_tolls.specs.declared.toll.Block.{Block}
 use Rattle.hw_tolls.specs.Tolls.{BlockFits}
-use Rattle.hw_lines.specs.declared.line.Price.{Price}
+use Rattle.hw_tolls.specs.declared.tariff.Due.{Due}
 use Rattle.hw_cert.specs.Fits.{rises, block_fits_shape}
 use Rattle.hw_cert.specs.Laws.{block_numbers, is_small, is_wide}
 use Rattle.hw_cert.proofs.WordBytes.{both_on}
@@ -43,18 +43,18 @@ blocks_small f flat (block ∷ blocks) all =
     (both_on (is_small block.ship) _ (small block.ship (omega (arith, fit.ship_in, flat.few_ships))) (two_on block.low block.high (omega (arith, low, high, few_slots f flat)) (omega (arith, high, few_slots f flat))))
     (blocks_small f flat blocks (All-tail (BlockFits f) block blocks all))
 
-pub first_toll : (prices : List Price) → All (λ (due : Price). 0 < due.toll) prices → 0 < length (map (λ (due : Price). due.toll) prices) → 0 < slice_index (map (λ (due : Price). due.toll) prices) 0
+pub first_toll : (prices : List Due) → All (λ (due : Due). 0 < due.toll) prices → 0 < length (map (λ (due : Due). due.toll) prices) → 0 < slice_index (map (λ (due : Due). due.toll) prices) 0
 first_toll [] all some = absurd (omega (arith, some))
-first_toll (due ∷ prices) all some = All-head (λ (one : Price). 0 < one.toll) due prices all
+first_toll (due ∷ prices) all some = All-head (λ (one : Due). 0 < one.toll) due prices all
 
-pub tolls_small : (count : ℕ) (prices : List Price) → count ≤ 10_000 → All (λ (due : Price). due.toll ≤ count) prices → list_all is_small (map (λ (due : Price). due.toll) prices) ≡ true
+pub tolls_small : (count : ℕ) (prices : List Due) → count ≤ 10_000 → All (λ (due : Due). due.toll ≤ count) prices → list_all is_small (map (λ (due : Due). due.toll) prices) ≡ true
 tolls_small count [] few all = refl
 tolls_small count (due ∷ prices) few all =
-    let within : due.toll ≤ count = All-head (λ (one : Price). one.toll ≤ count) due prices all in
-    both_on (is_small due.toll) _ (small due.toll (omega (arith, within, few))) (tolls_small count prices few (All-tail (λ (one : Price). one.toll ≤ count) due prices all))
+    let within : due.toll ≤ count = All-head (λ (one : Due). one.toll ≤ count) due prices all in
+    both_on (is_small due.toll) _ (small due.toll (omega (arith, within, few))) (tolls_small count prices few (All-tail (λ (one : Due). one.toll ≤ count) due prices all))
 
-pub prices_wide : (prices : List Price) → All (λ (due : Price). due.price ≤ 1_000_000_000_000_000_000) prices → list_all is_wide (map (λ (due : Price). due.price) prices) ≡ true
+pub prices_wide : (prices : List Due) → All (λ (due : Due). due.price ≤ 1_000_000_000_000_000_000) prices → list_all is_wide (map (λ (due : Due). due.price) prices) ≡ true
 prices_wide [] all = refl
 prices_wide (due ∷ prices) all =
-    let within : due.price ≤ 1_000_000_000_000_000_000 = All-head (λ (one : Price). one.price ≤ 1_000_000_000_000_000_000) due prices all in
-    both_on (is_wide due.price) _ (wide_number due.price (omega (arith, within))) (prices_wide prices (All-tail (λ (one : Price). one.price ≤ 1_000_000_000_000_000_000) due prices all))
+    let within : due.price ≤ 1_000_000_000_000_000_000 = All-head (λ (one : Due). one.price ≤ 1_000_000_000_000_000_000) due prices all in
+    both_on (is_wide due.price) _ (wide_number due.price (omega (arith, within))) (prices_wide prices (All-tail (λ (one : Due). one.price ≤ 1_000_000_000_000_000_000) due prices all))

@@ -14,7 +14,7 @@ use Rattle.hw_text.proofs.Joins.{one_part, part_before}
 use Rattle.hw_text.proofs.Spelled.{is_spelled, reads_back}
 use Rattle.hw_flat.specs.TextForms.{put_first}
 use Rattle.hw_tolls.specs.declared.toll.Block.{Block}
-use Rattle.hw_lines.specs.declared.line.Price.{Price}
+use Rattle.hw_tolls.specs.declared.tariff.Due.{Due}
 use Rattle.hw_cert.specs.Texts.{block_text, price_text}
 use Rattle.hw_cert.specs.Spelled.{number_word, wide_word, both_values, all_of, block_parts, block_word, price_parts, price_word}
 use Rattle.hw_cert.specs.Laws.{block_numbers, is_small, is_wide}
@@ -85,14 +85,14 @@ blocks_back (w ∷ ws) bs h =
     (words ∙ ap (map block_text) (sym p.4), ap (λ (xs : List Block). list_all is_small (flat_map block_numbers xs)) p.4 ∙ small)
 
 -- two words are those of a price
-abbrev ArePrice : List (List ℕ) → Price → Type 0
+abbrev ArePrice : List (List ℕ) → Due → Type 0
 ArePrice ps due = (ps ≡ decimal due.toll ∷ decimal due.price ∷ []) × (is_small due.toll ≡ true) × (is_wide due.price ≡ true)
 
-price_parts_back : (ps : List (List ℕ)) (due : Price) → price_parts ps ≡ Some due → ArePrice ps due
+price_parts_back : (ps : List (List ℕ)) (due : Due) → price_parts ps ≡ Some due → ArePrice ps due
 price_parts_back [] due h = absurd cc
 price_parts_back (x ∷ []) due h = absurd cc
 price_parts_back (x ∷ y ∷ []) due h =
-    let made : ℕ × ℕ → Price = λ q. record { toll = q.0; price = q.1 } in
+    let made : ℕ × ℕ → Due = λ q. record { toll = q.0; price = q.1 } in
     let p = mapped made (both_values (number_word x) (wide_word y)) due h in
     let a = paired (number_word x) (wide_word y) p.0 p.1 in
     let first = number_back x p.0.0 a.0 in
@@ -100,18 +100,18 @@ price_parts_back (x ∷ y ∷ []) due h =
     subst (ArePrice (x ∷ y ∷ [])) p.2 (ap (λ (v : List ℕ). v ∷ y ∷ []) first.0 ∙ ap (λ (v : List ℕ). decimal p.0.0 ∷ v ∷ []) second.0, first.1, second.1)
 price_parts_back (x ∷ y ∷ z ∷ zs) due h = absurd cc
 
-price_back : (w : List ℕ) (due : Price) → price_word w ≡ Some due → (w ≡ price_text due) × (is_small due.toll ≡ true) × (is_wide due.price ≡ true)
+price_back : (w : List ℕ) (due : Due) → price_word w ≡ Some due → (w ≡ price_text due) × (is_small due.toll ≡ true) × (is_wide due.price ≡ true)
 price_back w due h =
     let p = price_parts_back (parts_of 58 w) due h in
     (sym (join_with_byte-slice_split 58 w) ∙ ap (join_with_byte 58) p.0, p.1, p.2)
 
 -- words are those of prices
-pub record ArePrices (ws : List (List ℕ)) (dues : List Price) : Type 0 where
+pub record ArePrices (ws : List (List ℕ)) (dues : List Due) : Type 0 where
   pub words : ws ≡ map price_text dues
-  pub small : list_all is_small (map (λ (due : Price). due.toll) dues) ≡ true
-  pub wide : list_all is_wide (map (λ (due : Price). due.price) dues) ≡ true
+  pub small : list_all is_small (map (λ (due : Due). due.toll) dues) ≡ true
+  pub wide : list_all is_wide (map (λ (due : Due). due.price) dues) ≡ true
 
-pub prices_back : (ws : List (List ℕ)) (dues : List Price) → all_of price_word ws ≡ Some dues → ArePrices ws dues
+pub prices_back : (ws : List (List ℕ)) (dues : List Due) → all_of price_word ws ≡ Some dues → ArePrices ws dues
 prices_back [] dues h = let e : [] ≡ dues = cc in subst (ArePrices []) e (record { words = refl; small = refl; wide = refl })
 prices_back (w ∷ ws) dues h =
     let p = put_back (price_word w) (all_of price_word ws) dues h in
@@ -119,8 +119,8 @@ prices_back (w ∷ ws) dues h =
     let r = prices_back ws p.1 p.3 in
     subst (ArePrices (w ∷ ws)) (sym p.4) (record {
       words = ap (λ (v : List ℕ). v ∷ ws) b.0 ∙ ap (λ (vs : List (List ℕ)). price_text p.0 ∷ vs) r.words;
-      small = both_on (is_small p.0.toll) (list_all is_small (map (λ (due : Price). due.toll) p.1)) b.1 r.small;
-      wide = both_on (is_wide p.0.price) (list_all is_wide (map (λ (due : Price). due.price) p.1)) b.2 r.wide;
+      small = both_on (is_small p.0.toll) (list_all is_small (map (λ (due : Due). due.toll) p.1)) b.1 r.small;
+      wide = both_on (is_wide p.0.price) (list_all is_wide (map (λ (due : Due). due.price) p.1)) b.2 r.wide;
     })
 
 -- ---- the text reads back
@@ -153,9 +153,9 @@ blocks_again (b ∷ bs) h =
     let p = small_parts (block_numbers b) (flat_map block_numbers bs) h in
     ap (λ (o : Option Block). put_first o (all_of block_word (map block_text bs))) (block_again b p.0) ∙ ap (put_first (Some b)) (blocks_again bs p.1)
 
-price_again : (due : Price) → is_small due.toll ≡ true → is_wide due.price ≡ true → price_word (price_text due) ≡ Some due
+price_again : (due : Due) → is_small due.toll ≡ true → is_wide due.price ≡ true → price_word (price_text due) ≡ Some due
 price_again due s w =
-    let made : Option (ℕ × ℕ) → Option Price = option_map (λ q. record { toll = q.0; price = q.1 }) in
+    let made : Option (ℕ × ℕ) → Option Due = option_map (λ q. record { toll = q.0; price = q.1 }) in
     ap price_parts (
     part_before 58 (decimal due.toll) (decimal due.price) (small_uncut due.toll s)
     ∙ ap (λ (ps : List (List ℕ)). decimal due.toll ∷ ps) (one_part 58 (decimal due.price) (wide_uncut due.price w))
@@ -163,9 +163,9 @@ price_again due s w =
     ∙ ap (λ (o : Option ℕ). made (both_values o (wide_word (decimal due.price)))) (number_again due.toll s)
     ∙ ap (λ (o : Option ℕ). made (both_values (Some due.toll) o)) (wide_again due.price w)
 
-pub prices_again : (dues : List Price) → list_all is_small (map (λ (due : Price). due.toll) dues) ≡ true → list_all is_wide (map (λ (due : Price). due.price) dues) ≡ true → all_of price_word (map price_text dues) ≡ Some dues
+pub prices_again : (dues : List Due) → list_all is_small (map (λ (due : Due). due.toll) dues) ≡ true → list_all is_wide (map (λ (due : Due). due.price) dues) ≡ true → all_of price_word (map price_text dues) ≡ Some dues
 prices_again [] s w = refl
 prices_again (due ∷ dues) s w =
-    let p = and_parts (is_small due.toll) (list_all is_small (map (λ (one : Price). one.toll) dues)) s in
-    let q = and_parts (is_wide due.price) (list_all is_wide (map (λ (one : Price). one.price) dues)) w in
-    ap (λ (o : Option Price). put_first o (all_of price_word (map price_text dues))) (price_again due p.0 q.0) ∙ ap (put_first (Some due)) (prices_again dues p.1 q.1)
+    let p = and_parts (is_small due.toll) (list_all is_small (map (λ (one : Due). one.toll) dues)) s in
+    let q = and_parts (is_wide due.price) (list_all is_wide (map (λ (one : Due). one.price) dues)) w in
+    ap (λ (o : Option Due). put_first o (all_of price_word (map price_text dues))) (price_again due p.0 q.0) ∙ ap (put_first (Some due)) (prices_again dues p.1 q.1)

@@ -16,10 +16,11 @@ use Rattle.hw_lines.specs.Valid.{LineFits, ValidAfter, ValidFrom}
 use Rattle.hw_lines.proofs.Pushed.{one_more}
 use Rattle.hw_lines.proofs.Deleted.{live_in}
 use Rattle.hw_lines.proofs.Priced.{AreTolls, tolls_more, no_tolls}
-use Rattle.hw_lines.specs.declared.line.Price.{Price}
+use Rattle.hw_tolls.specs.declared.tariff.Due.{Due}
 use Rattle.hw_lines.specs.Tolled.{tolls_of}
 use Rattle.hw_tolls.specs.declared.toll.Block.{Block}
 use Rattle.hw_tolls.specs.Tolls.{BlockFits}
+use Rattle.hw_tolls.specs.declared.toll.Toll.TheVariants as tolls
 use Rattle.hw_lines.proofs.Live.{live_above}
 use Rattle.hw_cert.specs.declared.stop.FormWord.{FormWord}
 use Rattle.hw_cert.specs.declared.stop.FormWord.TheVariants.{Form, Range}
@@ -63,7 +64,7 @@ all_on p (n ∷ ns) all = both_on (p n) (list_all p ns) (All-head (λ n. p n ≡
 -- lines have few enough clauses and tolls for another line
 pub record IsFew (f : Problem) (before : List Line) : Type 0 where
   pub clauses : clause_count before < 2 ^ 32
-  pub tolls : AreTolls f (tolls_of f before)
+  pub tolls : AreTolls f (tolls_of before)
 
 -- a valid line of a problem, after valid ones, is a line of each version that has its form
 pub is_line : (f : Problem) (version : Version) (before : List Line) (line : Line) → has_form version line ≡ true → IsFlat f → IsFew f before → LineFits f line → ValidAfter f before line → IsLine (shape_of f) version line
@@ -98,7 +99,7 @@ is_line f version before (lines.Delete ids) formed flat few fits valid = record 
   wide = refl;
   formed = formed;
 }
-is_line f version before (lines.Narrows blocks) formed flat few fits valid = record {
+is_line f version before (lines.Toll (tolls.Narrows blocks)) formed flat few fits valid = record {
   fits = holds Range _ (both_on (nat_lt 0 (length blocks)) _ (lt-ltb 0 (length blocks) (omega (arith, fits.some_block))) (both_on (nat_le (length blocks) 40) _ (le-leb (length blocks) 40 fits.few_blocks)
       (both_on (list_all (block_fits_shape (shape_of f)) blocks) _ (all_pass (block_fits_shape (shape_of f)) blocks (All-weaker (BlockFits f) (λ (block : Block). block_fits_shape (shape_of f) block ≡ true) (λ block fit. block_on f block fit) blocks fits.each_block))
       (risen (map (λ (block : Block). block.ship) blocks) fits.ascend))));
@@ -106,7 +107,7 @@ is_line f version before (lines.Narrows blocks) formed flat few fits valid = rec
   wide = refl;
   formed = formed;
 }
-is_line f version before (lines.Tugs n slot most weights) formed flat few fits valid = record {
+is_line f version before (lines.Toll (tolls.Tugs n slot weights most)) formed flat few fits valid = record {
   fits = both_none _ _
       (holds Form _ (both_on (nat_le most 2_560) _ (le-leb most 2_560 fits.small_most) (all_on (λ weight. nat_le weight 64) weights (weaker (λ weight. weight ≤ 64) (λ weight. nat_le weight 64 ≡ true) weights (λ weight le. le-leb weight 64 le) fits.small_weights))))
       (holds Range _ (both_on (nat_le f.ships n) _ (le-leb f.ships n fits.past_ships) (both_on (nat_lt n (f.ships + length f.rules)) _ (lt-ltb n (f.ships + length f.rules) fits.restriction_in)
@@ -116,13 +117,13 @@ is_line f version before (lines.Tugs n slot most weights) formed flat few fits v
   wide = refl;
   formed = formed;
 }
-is_line f version before (lines.Tariff scale prices) formed flat few fits valid = record {
+is_line f version before (lines.Tariff tariff) formed flat few fits valid = record {
   fits = both_none _ _
-      (holds Form _ (both_on (nat_le scale 1_000_000) _ (le-leb scale 1_000_000 fits.small_scale)
-      (all_pass (λ (due : Price). nat_le due.price 1_000_000_000_000_000_000) prices (All-weaker (λ (due : Price). due.price ≤ 1_000_000_000_000_000_000) (λ (due : Price). nat_le due.price 1_000_000_000_000_000_000 ≡ true) (λ due le. le-leb due.price 1_000_000_000_000_000_000 le) prices fits.small_prices))))
-      (holds Range _ (ascending 0 (map (λ (due : Price). due.toll) prices) (λ some. first_toll prices fits.from_one some) fits.ascend));
-  small = both_on (is_small scale) _ (small scale (omega (arith, fits.small_scale))) (tolls_small (length (tolls_of f before)) prices few.tolls.few valid.claim);
-  wide = prices_wide prices fits.small_prices;
+      (holds Form _ (both_on (nat_le tariff.scale 1_000_000) _ (le-leb tariff.scale 1_000_000 fits.small_scale)
+      (all_pass (λ (due : Due). nat_le due.price 1_000_000_000_000_000_000) tariff.dues (All-weaker (λ (due : Due). due.price ≤ 1_000_000_000_000_000_000) (λ (due : Due). nat_le due.price 1_000_000_000_000_000_000 ≡ true) (λ due le. le-leb due.price 1_000_000_000_000_000_000 le) tariff.dues fits.small_prices))))
+      (holds Range _ (ascending 0 (map (λ (due : Due). due.toll) tariff.dues) (λ some. first_toll tariff.dues fits.from_one some) fits.ascend));
+  small = both_on (is_small tariff.scale) _ (small tariff.scale (omega (arith, fits.small_scale))) (tolls_small (length (tolls_of before)) tariff.dues few.tolls.few valid.claim);
+  wide = prices_wide tariff.dues fits.small_prices;
   formed = formed;
 }
 is_line f version before (lines.Priced clause) formed flat few fits valid = record { fits = ap lit_fault fits; small = clause_small f clause flat fits; wide = refl; formed = formed }

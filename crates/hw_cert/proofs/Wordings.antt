@@ -5,7 +5,8 @@ use Rattle.std.specs.List.{flat_map, join_with_byte}
 use Rattle.hw_model.specs.declared.lit.Lit.{Lit}
 use Rattle.hw_tolls.specs.declared.toll.Block.{Block}
 use Rattle.hw_lines.specs.declared.line.Line.{Line}
-use Rattle.hw_lines.specs.declared.line.Price.{Price}
+use Rattle.hw_tolls.specs.declared.tariff.Due.{Due}
+use Rattle.hw_tolls.specs.declared.toll.Toll.TheVariants as tolls
 use Rattle.hw_lines.specs.declared.line.Line.TheVariants as lines
 use Rattle.hw_cert.specs.Texts.{lit_text, block_text, price_text, line_text}
 use Rattle.hw_cert.specs.Worded.{spaced_number, spaced_numbers, lits_text, blocks_text, prices_text, worded}
@@ -26,7 +27,7 @@ blocks_each : (bs : List Block) → flat_map (λ v. 32 ∷ v) (map block_text bs
 blocks_each [] = refl
 blocks_each (b ∷ bs) = ap (λ (t : List ℕ). (32 ∷ block_text b) ++ t) (blocks_each bs)
 
-prices_each : (dues : List Price) → flat_map (λ v. 32 ∷ v) (map price_text dues) ≡ prices_text dues
+prices_each : (dues : List Due) → flat_map (λ v. 32 ∷ v) (map price_text dues) ≡ prices_text dues
 prices_each [] = refl
 prices_each (due ∷ dues) = ap (λ (t : List ℕ). (32 ∷ price_text due) ++ t) (prices_each dues)
 
@@ -42,9 +43,9 @@ line_worded (lines.Goal clause) = joined (codes "g") (map lit_text clause) ∙ a
 line_worded (lines.Lemma clause hints) =
     joined (codes "l") (map lit_text clause ++ codes ";" ∷ map decimal hints) ∙ ap (λ (t : List ℕ). codes "l" ++ t) (lits_then clause (codes ";" ∷ map decimal hints) ∙ ap (λ (t : List ℕ). lits_text clause ++ (codes " ;" ++ t)) (numbers_each hints))
 line_worded (lines.Delete ids) = joined (codes "d") (map decimal ids) ∙ ap (λ (t : List ℕ). codes "d" ++ t) (numbers_each ids)
-line_worded (lines.Narrows blocks) = joined (codes "n") (map block_text blocks) ∙ ap (λ (t : List ℕ). codes "n" ++ t) (blocks_each blocks)
-line_worded (lines.Tugs n slot most weights) =
+line_worded (lines.Toll (tolls.Narrows blocks)) = joined (codes "n") (map block_text blocks) ∙ ap (λ (t : List ℕ). codes "n" ++ t) (blocks_each blocks)
+line_worded (lines.Toll (tolls.Tugs n slot weights most)) =
     joined (codes "u") (decimal n ∷ decimal slot ∷ decimal most ∷ map decimal weights) ∙ ap (λ (t : List ℕ). codes "u" ++ (spaced_number n ++ (spaced_number slot ++ (spaced_number most ++ t)))) (numbers_each weights)
-line_worded (lines.Tariff scale prices) = joined (codes "y") (decimal scale ∷ map price_text prices) ∙ ap (λ (t : List ℕ). codes "y" ++ (spaced_number scale ++ t)) (prices_each prices)
+line_worded (lines.Tariff tariff) = joined (codes "y") (decimal tariff.scale ∷ map price_text tariff.dues) ∙ ap (λ (t : List ℕ). codes "y" ++ (spaced_number tariff.scale ++ t)) (prices_each tariff.dues)
 line_worded (lines.Priced clause) = joined (codes "p") (map lit_text clause) ∙ ap (λ (t : List ℕ). codes "p" ++ t) (lits_each clause)
 line_worded (lines.Bound bound) = joined (codes "b") (decimal bound ∷ []) ∙ ap (λ (t : List ℕ). codes "b" ++ t) (append-nil (spaced_number bound))

@@ -13,6 +13,7 @@ use Rattle.hw_cert.specs.Spelled.{number_word, both_values, number_pair, lettere
 use Rattle.hw_cert.specs.Fits.{ascends, word_unless, first_fault, unless_bad, fitted, line_read}
 use Rattle.hw_cert.specs.Laws.{lit_numbers, line_numbers, wide_numbers, has_form, is_small, is_wide, IsLine}
 use Rattle.hw_cert.specs.Forms.{HasWords}
+use Rattle.hw_tolls.specs.declared.toll.Toll.TheVariants as tolls
 use Rattle.hw_lines.specs.declared.line.Line.{Line}
 use Rattle.hw_lines.specs.declared.line.Line.TheVariants as lines
 use Rattle.hw_cert.specs.declared.stop.FormWord.{FormWord}
@@ -78,9 +79,9 @@ line_again version (lines.Lemma clause hints) h l f w =
     ap (option_and_then (λ (found : Lits). hinted_form found.lits found.remainder)) (lits_again clause (codes ";" ∷ map decimal hints) (Some (map decimal hints)) p.0 refl)
     ∙ ap (option_map (lines.Lemma clause)) (numbers_again hints p.1)
 line_again version (lines.Delete ids) h l f w = deletes_again version ids f w h
-line_again version (lines.Narrows blocks) h l f w = narrows_again version blocks h f w
-line_again version (lines.Tugs n slot most weights) h l f w = tugs_again version n slot most weights h f
-line_again version (lines.Tariff scale prices) h l f w = tariff_again version scale prices h l f
+line_again version (lines.Toll (tolls.Narrows blocks)) h l f w = narrows_again version blocks h f w
+line_again version (lines.Toll (tolls.Tugs n slot weights most)) h l f w = tugs_again version n slot most weights h f
+line_again version (lines.Tariff tariff) h l f w = tariff_again version tariff h l f
 line_again version (lines.Priced clause) h l f w = third_again version _ (lines.Priced clause) (ap (option_map lines.Priced) (only_again clause h)) (priced_third version clause f)
 line_again version (lines.Bound bound) h l f w = bound_again version bound l f
 
@@ -98,9 +99,9 @@ has_words shape (lines.Order v w x clause) some h = tt
 has_words shape (lines.Goal clause) some h = tt
 has_words shape (lines.Lemma clause hints) some h = tt
 has_words shape (lines.Delete ids) some h = ltb-true 0 (length ids) (and_parts (nat_lt 0 (length ids)) (ascends 0 ids) (kept _ Range h)).0
-has_words shape (lines.Narrows blocks) some h = ltb-true 0 (length blocks) (and_parts (nat_lt 0 (length blocks)) _ (kept _ Range h)).0
-has_words shape (lines.Tugs n slot most weights) some h = tt
-has_words shape (lines.Tariff scale prices) some h = tt
+has_words shape (lines.Toll (tolls.Narrows blocks)) some h = ltb-true 0 (length blocks) (and_parts (nat_lt 0 (length blocks)) _ (kept _ Range h)).0
+has_words shape (lines.Toll (tolls.Tugs n slot weights most)) some h = tt
+has_words shape (lines.Tariff tariff) some h = tt
 has_words shape (lines.Priced clause) some h = tt
 has_words shape (lines.Bound bound) some h = tt
 
@@ -111,9 +112,9 @@ word_count (lines.Order v w x clause) = omega arith
 word_count (lines.Goal clause) = omega arith
 word_count (lines.Lemma clause hints) = omega arith
 word_count (lines.Delete ids) = omega arith
-word_count (lines.Narrows blocks) = omega arith
-word_count (lines.Tugs n slot most weights) = omega arith
-word_count (lines.Tariff scale prices) = omega arith
+word_count (lines.Toll (tolls.Narrows blocks)) = omega arith
+word_count (lines.Toll (tolls.Tugs n slot weights most)) = omega arith
+word_count (lines.Tariff tariff) = omega arith
 word_count (lines.Priced clause) = omega arith
 word_count (lines.Bound bound) = omega arith
 

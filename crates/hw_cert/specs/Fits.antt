@@ -10,7 +10,8 @@ use Rattle.hw_tolls.specs.declared.limits.TheConstants.{MOST_PRICE, MOST_SCALE}
 use Rattle.hw_tolls.specs.declared.toll.Block.{Block}
 use Rattle.hw_lines.specs.declared.line.Line.{Line}
 use Rattle.hw_lines.specs.declared.line.Line.TheVariants as lines
-use Rattle.hw_lines.specs.declared.line.Price.{Price}
+use Rattle.hw_tolls.specs.declared.tariff.Due.{Due}
+use Rattle.hw_tolls.specs.declared.toll.Toll.TheVariants as tolls
 use Rattle.hw_cert.specs.declared.stop.FormWord.{FormWord}
 use Rattle.hw_cert.specs.declared.stop.FormWord.TheVariants.{Form, Range, Normal}
 use Rattle.hw_cert.specs.declared.version.Version.{Version}
@@ -57,7 +58,7 @@ abbrev pub weights_fit : Shape → ℕ → ℕ → List ℕ → Bool
 weights_fit shape n slot weights = nat_le shape.ships n && (nat_lt n (shape.ships + shape.rules) && (nat_lt slot shape.slots && nat_le (length weights) MOST_SHIPS))
 
 -- a scale and prices within their limits
-abbrev pub prices_small : ℕ → List Price → Bool
+abbrev pub prices_small : ℕ → List Due → Bool
 prices_small scale prices = nat_le scale MOST_SCALE && list_all (λ due. nat_le due.price MOST_PRICE) prices
 
 -- a number above its limit, which is no form, or else the first bad word from the left, the count of slots last
@@ -68,9 +69,9 @@ first_fault shape (lines.Order v w x clause) = word_unless Range (nat_lt v w && 
 first_fault shape (lines.Goal clause) = clause_fault shape clause
 first_fault shape (lines.Lemma clause hints) = clause_fault shape clause or_else word_unless Range (list_all (λ id. nat_lt 0 id) hints)
 first_fault shape (lines.Delete ids) = word_unless Range (nat_lt 0 (length ids) && ascends 0 ids)
-first_fault shape (lines.Narrows blocks) = word_unless Range (blocks_fit shape blocks)
-first_fault shape (lines.Tugs n slot most weights) = word_unless Form (weights_small most weights) or_else word_unless Range (weights_fit shape n slot weights)
-first_fault shape (lines.Tariff scale prices) = word_unless Form (prices_small scale prices) or_else word_unless Range (ascends 0 (map (λ due. due.toll) prices))
+first_fault shape (lines.Toll (tolls.Narrows blocks)) = word_unless Range (blocks_fit shape blocks)
+first_fault shape (lines.Toll (tolls.Tugs n slot weights most)) = word_unless Form (weights_small most weights) or_else word_unless Range (weights_fit shape n slot weights)
+first_fault shape (lines.Tariff tariff) = word_unless Form (prices_small tariff.scale tariff.dues) or_else word_unless Range (ascends 0 (map (λ due. due.toll) tariff.dues))
 first_fault shape (lines.Priced clause) = clause_fault shape clause
 first_fault shape (lines.Bound bound) = word_unless Form (nat_le bound MOST_CARGO)
 

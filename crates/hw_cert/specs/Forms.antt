@@ -3,6 +3,7 @@ use Rattle.std.specs.Prelude.{◌≡◌, ◌⊎◌, ℕ, ◌<◌, List, All, Som
 use Rattle.std.specs.List.{list_all}
 use Rattle.hw_model.specs.Problem.{Problem, shape_of}
 use Rattle.hw_model.specs.Limits.{IsFlat}
+use Rattle.hw_tolls.specs.declared.toll.Toll.TheVariants as tolls
 use Rattle.hw_lines.specs.declared.line.Line.{Line}
 use Rattle.hw_lines.specs.declared.line.Line.TheVariants as lines
 use Rattle.hw_lines.specs.Valid.{LineFits, Valid}
@@ -22,9 +23,9 @@ HasWords (lines.Order v w x clause) = ⊤
 HasWords (lines.Goal clause) = ⊤
 HasWords (lines.Lemma clause hints) = ⊤
 HasWords (lines.Delete ids) = 0 < length ids
-HasWords (lines.Narrows blocks) = 0 < length blocks
-HasWords (lines.Tugs n slot most weights) = ⊤
-HasWords (lines.Tariff scale prices) = ⊤
+HasWords (lines.Toll (tolls.Narrows blocks)) = 0 < length blocks
+HasWords (lines.Toll (tolls.Tugs n slot weights most)) = ⊤
+HasWords (lines.Tariff tariff) = ⊤
 HasWords (lines.Priced clause) = ⊤
 HasWords (lines.Bound bound) = ⊤
 

@@ -6,6 +6,7 @@ use Rattle.hw_model.specs.declared.lit.Lit.{Lit}
 use Rattle.hw_model.specs.declared.lit.Lit.TheVariants.{AtOrAfter, Before, First, NotFirst}
 use Rattle.hw_model.specs.declared.shape.Shape.{Shape}
 use Rattle.hw_tolls.specs.declared.toll.Block.{Block}
+use Rattle.hw_tolls.specs.declared.toll.Toll.TheVariants as tolls
 use Rattle.hw_lines.specs.declared.line.Line.{Line}
 use Rattle.hw_lines.specs.declared.line.Line.TheVariants as lines
 use Rattle.hw_lines.specs.Tolled.{is_plain}
@@ -36,9 +37,9 @@ line_numbers (lines.Order v w x clause) = v ∷ w ∷ x ∷ flat_map lit_numbers
 line_numbers (lines.Goal clause) = flat_map lit_numbers clause
 line_numbers (lines.Lemma clause hints) = flat_map lit_numbers clause ++ hints
 line_numbers (lines.Delete ids) = ids
-line_numbers (lines.Narrows blocks) = flat_map block_numbers blocks
-line_numbers (lines.Tugs n slot most weights) = n ∷ slot ∷ most ∷ weights
-line_numbers (lines.Tariff scale prices) = scale ∷ map (λ due. due.toll) prices
+line_numbers (lines.Toll (tolls.Narrows blocks)) = flat_map block_numbers blocks
+line_numbers (lines.Toll (tolls.Tugs n slot weights most)) = n ∷ slot ∷ most ∷ weights
+line_numbers (lines.Tariff tariff) = tariff.scale ∷ map (λ due. due.toll) tariff.dues
 line_numbers (lines.Priced clause) = flat_map lit_numbers clause
 line_numbers (lines.Bound bound) = []
 
@@ -50,9 +51,8 @@ wide_numbers (lines.Order v w x clause) = []
 wide_numbers (lines.Goal clause) = []
 wide_numbers (lines.Lemma clause hints) = []
 wide_numbers (lines.Delete ids) = []
-wide_numbers (lines.Narrows blocks) = []
-wide_numbers (lines.Tugs n slot most weights) = []
-wide_numbers (lines.Tariff scale prices) = map (λ due. due.price) prices
+wide_numbers (lines.Toll toll) = []
+wide_numbers (lines.Tariff tariff) = map (λ due. due.price) tariff.dues
 wide_numbers (lines.Priced clause) = []
 wide_numbers (lines.Bound bound) = bound ∷ []
 
@@ -66,15 +66,12 @@ has_form version (lines.Lemma clause hints) = true
 has_form One (lines.Delete ids) = false
 has_form Two (lines.Delete ids) = true
 has_form Three (lines.Delete ids) = true
-has_form One (lines.Narrows blocks) = false
-has_form Two (lines.Narrows blocks) = false
-has_form Three (lines.Narrows blocks) = true
-has_form One (lines.Tugs n slot most weights) = false
-has_form Two (lines.Tugs n slot most weights) = false
-has_form Three (lines.Tugs n slot most weights) = true
-has_form One (lines.Tariff scale prices) = false
-has_form Two (lines.Tariff scale prices) = false
-has_form Three (lines.Tariff scale prices) = true
+has_form One (lines.Toll toll) = false
+has_form Two (lines.Toll toll) = false
+has_form Three (lines.Toll toll) = true
+has_form One (lines.Tariff tariff) = false
+has_form Two (lines.Tariff tariff) = false
+has_form Three (lines.Tariff tariff) = true
 has_form One (lines.Priced clause) = false
 has_form Two (lines.Priced clause) = false
 has_form Three (lines.Priced clause) = true

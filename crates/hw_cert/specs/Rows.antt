@@ -2,6 +2,7 @@
 use Rattle.std.specs.Prelude.{◌≡◌, [], ◌∷◌, Some, None, Ok, Err, codes}
 use Rattle.hw_model.specs.declared.lit.Lit.TheVariants.{AtOrAfter}
 use Rattle.hw_model.specs.declared.shape.Shape.{Shape}
+use Rattle.hw_tolls.specs.declared.toll.Toll.TheVariants as tolls
 use Rattle.hw_lines.specs.declared.line.Line.TheVariants as lines
 use Rattle.hw_cert.specs.declared.stop.FormWord.TheVariants.{Form, Range, Normal}
 use Rattle.hw_cert.specs.declared.version.Version.TheVariants.{Two, Three}
@@ -14,11 +15,11 @@ three_ships_two_rules = record { ships = 3; slots = 4; rules = 2 }
 
 -- what is read of texts of the third version, and why others aren't
 pub record TextRows : Type 0 where
-  pub narrows : line_read three_ships_two_rules Three (codes "n 0:1:3 2:0:0") ≡ Ok (lines.Narrows (record { ship = 0; low = 1; high = 3 } ∷ record { ship = 2; low = 0; high = 0 } ∷ []))
-  pub tugs : line_read three_ships_two_rules Three (codes "u 4 3 2560 64 0") ≡ Ok (lines.Tugs 4 3 2_560 (64 ∷ 0 ∷ []))
-  pub tugs_without_weights : line_read three_ships_two_rules Three (codes "u 3 0 0") ≡ Ok (lines.Tugs 3 0 0 [])
-  pub tariff : line_read three_ships_two_rules Three (codes "y 1000 1:7 3:1000000000000000000") ≡ Ok (lines.Tariff 1_000 (record { toll = 1; price = 7 } ∷ record { toll = 3; price = 1_000_000_000_000_000_000 } ∷ []))
-  pub tariff_without_prices : line_read three_ships_two_rules Three (codes "y 0") ≡ Ok (lines.Tariff 0 [])
+  pub narrows : line_read three_ships_two_rules Three (codes "n 0:1:3 2:0:0") ≡ Ok (lines.Toll (tolls.Narrows (record { ship = 0; low = 1; high = 3 } ∷ record { ship = 2; low = 0; high = 0 } ∷ [])))
+  pub tugs : line_read three_ships_two_rules Three (codes "u 4 3 2560 64 0") ≡ Ok (lines.Toll (tolls.Tugs 4 3 (64 ∷ 0 ∷ []) 2_560))
+  pub tugs_without_weights : line_read three_ships_two_rules Three (codes "u 3 0 0") ≡ Ok (lines.Toll (tolls.Tugs 3 0 [] 0))
+  pub tariff : line_read three_ships_two_rules Three (codes "y 1000 1:7 3:1000000000000000000") ≡ Ok (lines.Tariff (record { scale = 1_000; dues = record { toll = 1; price = 7 } ∷ record { toll = 3; price = 1_000_000_000_000_000_000 } ∷ [] }))
+  pub tariff_without_prices : line_read three_ships_two_rules Three (codes "y 0") ≡ Ok (lines.Tariff (record { scale = 0; dues = [] }))
   pub priced : line_read three_ships_two_rules Three (codes "p a1.3") ≡ Ok (lines.Priced (AtOrAfter 1 3 ∷ []))
   pub priced_without_literals : line_read three_ships_two_rules Three (codes "p") ≡ Ok (lines.Priced [])
   pub bound : line_read three_ships_two_rules Three (codes "b 40000000000000") ≡ Ok (lines.Bound 40_000_000_000_000)

@@ -8,7 +8,8 @@ use Rattle.hw_flat.specs.TextForms.{put_first}
 use Rattle.hw_tolls.specs.declared.toll.Block.{Block}
 use Rattle.hw_lines.specs.declared.line.Line.{Line}
 use Rattle.hw_lines.specs.declared.line.Line.TheVariants as lines
-use Rattle.hw_lines.specs.declared.line.Price.{Price}
+use Rattle.hw_tolls.specs.declared.tariff.Due.{Due}
+use Rattle.hw_tolls.specs.declared.toll.Toll.TheVariants as tolls
 use Rattle.hw_cert.specs.declared.version.Version.{Version}
 use Rattle.hw_cert.specs.declared.version.Version.TheVariants.{One, Two, Three}
 
@@ -59,12 +60,12 @@ abbrev pub block_word : List ℕ → Option Block
 block_word word = block_parts (parts_of 58 word)
 
 -- the price of two words
-abbrev pub price_parts : List (List ℕ) → Option Price
+abbrev pub price_parts : List (List ℕ) → Option Due
 price_parts (toll ∷ price ∷ []) = option_map (λ p. record { toll = p.0; price = p.1 }) (both_values (number_word toll) (wide_word price))
 price_parts _ = None
 
 -- the price that a word spells: a toll and its price with a colon between them
-abbrev pub price_word : List ℕ → Option Price
+abbrev pub price_word : List ℕ → Option Due
 price_word word = price_parts (parts_of 58 word)
 
 -- the literal of this letter: a, b, f or n
@@ -145,12 +146,24 @@ third One o = None
 third Two o = None
 third Three o = o
 
+-- the line that declares narrows of these blocks
+abbrev pub narrows_line : List Block → Line
+narrows_line blocks = lines.Toll (tolls.Narrows blocks)
+
+-- the line that declares a toll of these weights
+abbrev pub tugs_line : ℕ → ℕ → ℕ → List ℕ → Line
+tugs_line n slot most weights = lines.Toll (tolls.Tugs n slot weights most)
+
+-- the line that puts these prices in force
+abbrev pub tariff_line : ℕ → List Due → Line
+tariff_line scale dues = lines.Tariff (record { scale = scale; dues = dues })
+
 -- `SHIP:LOW:HIGH ..`
 abbrev pub narrows_form : Version → List (List ℕ) → Option Line
-narrows_form version words = third version (option_map lines.Narrows (option_and_then some_of (all_of block_word words)))
+narrows_form version words = third version (option_map narrows_line (option_and_then some_of (all_of block_word words)))
 
 abbrev pub tug_toll_words : List (List ℕ) → Option Line
-tug_toll_words (n ∷ slot ∷ most ∷ words) = option_map (λ p. lines.Tugs p.0 p.1.0 p.1.1.0 p.1.1.1) (both_values (number_word n) (both_values (number_word slot) (both_values (number_word most) (all_numbers words))))
+tug_toll_words (n ∷ slot ∷ most ∷ words) = option_map (λ p. tugs_line p.0 p.1.0 p.1.1.0 p.1.1.1) (both_values (number_word n) (both_values (number_word slot) (both_values (number_word most) (all_numbers words))))
 tug_toll_words _ = None
 
 -- `RESTRICTION SLOT MOST WEIGHT ..`
@@ -159,7 +172,7 @@ tugs_form version words = third version (tug_toll_words words)
 
 abbrev pub tariff_words : List (List ℕ) → Option Line
 tariff_words [] = None
-tariff_words (scale ∷ words) = option_map (λ p. lines.Tariff p.0 p.1) (both_values (number_word scale) (all_of price_word words))
+tariff_words (scale ∷ words) = option_map (λ p. tariff_line p.0 p.1) (both_values (number_word scale) (all_of price_word words))
 
 -- `SCALE TOLL:PRICE ..`
 abbrev pub tariff_form : Version → List (List ℕ) → Option Line

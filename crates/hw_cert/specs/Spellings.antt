@@ -5,11 +5,11 @@ use Rattle.hw_model.specs.declared.lit.Lit.{Lit}
 use Rattle.hw_tolls.specs.declared.toll.Block.{Block}
 use Rattle.hw_lines.specs.declared.line.Line.{Line}
 use Rattle.hw_lines.specs.declared.line.Line.TheVariants as lines
-use Rattle.hw_lines.specs.declared.line.Price.{Price}
+use Rattle.hw_tolls.specs.declared.tariff.Due.{Due}
 use Rattle.hw_cert.specs.declared.spelling.Spelling.{Spelling}
 use Rattle.hw_cert.specs.declared.spelling.Spelling.TheVariants as spellings
 use Rattle.hw_cert.specs.declared.spelling.FoundLits.{FoundLits}
-use Rattle.hw_cert.specs.Spelled.{Lits}
+use Rattle.hw_cert.specs.Spelled.{Lits, narrows_line, tugs_line, tariff_line}
 
 abbrev pub numbers_view : Option (Vec ℕ Global) → Option (List ℕ)
 numbers_view o = option_map (λ v. v.items) o
@@ -20,7 +20,7 @@ lits_view o = option_map (λ v. v.items) o
 abbrev pub blocks_view : Option (Vec Block Global) → Option (List Block)
 blocks_view o = option_map (λ v. v.items) o
 
-abbrev pub prices_view : Option (Vec Price Global) → Option (List Price)
+abbrev pub prices_view : Option (Vec Due Global) → Option (List Due)
 prices_view o = option_map (λ v. v.items) o
 
 -- literals, and the words after the `;`, if there is one
@@ -38,8 +38,8 @@ spelling_view (spellings.Order v w x lits) = lines.Order v w x lits.items
 spelling_view (spellings.Goal lits) = lines.Goal lits.items
 spelling_view (spellings.Lemma lits hints) = lines.Lemma lits.items hints.items
 spelling_view (spellings.Delete ids) = lines.Delete ids.items
-spelling_view (spellings.Narrows blocks) = lines.Narrows blocks.items
-spelling_view (spellings.Tugs n slot most weights) = lines.Tugs n slot most weights.items
-spelling_view (spellings.Tariff scale prices) = lines.Tariff scale prices.items
+spelling_view (spellings.Narrows blocks) = narrows_line blocks.items
+spelling_view (spellings.Tugs n slot most weights) = tugs_line n slot most weights.items
+spelling_view (spellings.Tariff scale prices) = tariff_line scale prices.items
 spelling_view (spellings.Priced lits) = lines.Priced lits.items
 spelling_view (spellings.Bound bound) = lines.Bound bound

@@ -6,7 +6,8 @@ use Rattle.hw_text.specs.Parts.{spaced, ended_lines}
 use Rattle.hw_tolls.specs.declared.toll.Block.{Block}
 use Rattle.hw_lines.specs.declared.line.Line.{Line}
 use Rattle.hw_lines.specs.declared.line.Line.TheVariants as lines
-use Rattle.hw_lines.specs.declared.line.Price.{Price}
+use Rattle.hw_tolls.specs.declared.tariff.Due.{Due}
+use Rattle.hw_tolls.specs.declared.toll.Toll.TheVariants as tolls
 use Rattle.hw_cert.specs.declared.version.Version.{Version}
 use Rattle.hw_cert.specs.declared.version.Version.TheVariants.{One, Two, Three}
 
@@ -26,7 +27,7 @@ abbrev pub block_text : Block → List ℕ
 block_text block = decimal block.ship ++ 58 ∷ (decimal block.low ++ 58 ∷ decimal block.high)
 
 -- a toll and its price with a colon between
-abbrev pub price_text : Price → List ℕ
+abbrev pub price_text : Due → List ℕ
 price_text due = decimal due.toll ++ 58 ∷ decimal due.price
 
 -- the words of a line
@@ -37,9 +38,9 @@ line_words (lines.Order v w x clause) = codes "o" ∷ decimal v ∷ decimal w �
 line_words (lines.Goal clause) = codes "g" ∷ map lit_text clause
 line_words (lines.Lemma clause hints) = codes "l" ∷ (map lit_text clause ++ codes ";" ∷ map decimal hints)
 line_words (lines.Delete ids) = codes "d" ∷ map decimal ids
-line_words (lines.Narrows blocks) = codes "n" ∷ map block_text blocks
-line_words (lines.Tugs n slot most weights) = codes "u" ∷ decimal n ∷ decimal slot ∷ decimal most ∷ map decimal weights
-line_words (lines.Tariff scale prices) = codes "y" ∷ decimal scale ∷ map price_text prices
+line_words (lines.Toll (tolls.Narrows blocks)) = codes "n" ∷ map block_text blocks
+line_words (lines.Toll (tolls.Tugs n slot weights most)) = codes "u" ∷ decimal n ∷ decimal slot ∷ decimal most ∷ map decimal weights
+line_words (lines.Tariff tariff) = codes "y" ∷ decimal tariff.scale ∷ map price_text tariff.dues
 line_words (lines.Priced clause) = codes "p" ∷ map lit_text clause
 line_words (lines.Bound bound) = codes "b" ∷ decimal bound ∷ []
 

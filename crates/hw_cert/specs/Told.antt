@@ -6,7 +6,8 @@ use Rattle.hw_desk.specs.State.{DeskState, Rose}
 use Rattle.hw_desk.specs.Calls.{Sends}
 use Rattle.hw_desk.specs.declared.desk.Tray.TheVariants.{Proof}
 use Rattle.hw_lines.specs.declared.line.Line.{Line}
-use Rattle.hw_lines.specs.declared.line.Line.TheVariants.{Table, Delete, Narrows}
+use Rattle.hw_tolls.specs.declared.toll.Toll.TheVariants.{Narrows}
+use Rattle.hw_lines.specs.declared.line.Line.TheVariants.{Table, Delete, Toll}
 use Rattle.hw_cert.specs.declared.version.Version.{Version}
 use Rattle.hw_cert.specs.declared.version.Version.TheVariants.{Two, Three}
 use Rattle.hw_cert.specs.Texts.{certificate_header, cert_text}
@@ -41,7 +42,7 @@ abbrev pub line_told : List ℕ → Option Line
 line_told part =
     if bytes_eq part (codes "t") then Some (Table [])
     else if bytes_eq part (codes "d") then Some (Delete [])
-    else if bytes_eq part (codes "n") then Some (Narrows [])
+    else if bytes_eq part (codes "n") then Some (Toll (Narrows []))
     else spelled Three part
 
 -- a line put before others, where all are told

@@ -5,7 +5,8 @@ use Rattle.hw_model.specs.declared.lit.Lit.{Lit}
 use Rattle.hw_tolls.specs.declared.toll.Block.{Block}
 use Rattle.hw_lines.specs.declared.line.Line.{Line}
 use Rattle.hw_lines.specs.declared.line.Line.TheVariants as lines
-use Rattle.hw_lines.specs.declared.line.Price.{Price}
+use Rattle.hw_tolls.specs.declared.tariff.Due.{Due}
+use Rattle.hw_tolls.specs.declared.toll.Toll.TheVariants as tolls
 use Rattle.hw_cert.specs.Texts.{lit_text, block_text, price_text}
 
 -- a number after a space
@@ -24,7 +25,7 @@ abbrev pub blocks_text : List Block → List ℕ
 blocks_text = flat_map (λ block. 32 ∷ block_text block)
 
 -- prices, each after a space
-abbrev pub prices_text : List Price → List ℕ
+abbrev pub prices_text : List Due → List ℕ
 prices_text = flat_map (λ due. 32 ∷ price_text due)
 
 -- the text of a line
@@ -35,8 +36,8 @@ worded (lines.Order v w x clause) = codes "o" ++ (spaced_number v ++ (spaced_num
 worded (lines.Goal clause) = codes "g" ++ lits_text clause
 worded (lines.Lemma clause hints) = codes "l" ++ (lits_text clause ++ (codes " ;" ++ spaced_numbers hints))
 worded (lines.Delete ids) = codes "d" ++ spaced_numbers ids
-worded (lines.Narrows blocks) = codes "n" ++ blocks_text blocks
-worded (lines.Tugs n slot most weights) = codes "u" ++ (spaced_number n ++ (spaced_number slot ++ (spaced_number most ++ spaced_numbers weights)))
-worded (lines.Tariff scale prices) = codes "y" ++ (spaced_number scale ++ prices_text prices)
+worded (lines.Toll (tolls.Narrows blocks)) = codes "n" ++ blocks_text blocks
+worded (lines.Toll (tolls.Tugs n slot weights most)) = codes "u" ++ (spaced_number n ++ (spaced_number slot ++ (spaced_number most ++ spaced_numbers weights)))
+worded (lines.Tariff tariff) = codes "y" ++ (spaced_number tariff.scale ++ prices_text tariff.dues)
 worded (lines.Priced clause) = codes "p" ++ lits_text clause
 worded (lines.Bound bound) = codes "b" ++ spaced_number bound

@@ -5,16 +5,17 @@ ghost use Rattle.std.specs.List.{list_all};
 ghost use Rattle.hw_cert.specs.declared.fitting.LineFault.TheVariants.{NoMemory};
 ghost use Rattle.hw_cert.specs.Fits.{ascends, rises, block_fits_shape, blocks_fit, weights_small, weights_fit, prices_small, word_unless, clause_fault, first_fault, unless_bad, fitted, line_read};
 ghost use Rattle.hw_cert.specs.Reads.{GivesClause, ReadGives};
+ghost use Rattle.hw_cert.specs.Spelled.{narrows_line, tugs_line, tariff_line};
 ghost use Rattle.hw_cert.specs.Spellings.{spelling_view};
 
 use crate::spelling::{Spelling, spelling_of};
 use crate::stop::FormWord;
 use crate::version::Version;
 use hw_flat::Timetable;
-use hw_lines::{Hints, Line, Price, Prices};
+use hw_lines::{Hints, Line};
 use hw_lits::{Clause, ClauseFault};
 use hw_model::{Lit, MOST_CARGO, MOST_HELD, MOST_SHIPS, MOST_TUGS, NoMemory, Shape};
-use hw_tolls::{Block, Blocks, MOST_PRICE, MOST_SCALE, Weights};
+use hw_tolls::{Block, Blocks, Due, Dues, MOST_PRICE, MOST_SCALE, Tariff, Toll, Weights};
 use std::alloc::{AllocError, Global};
 
 /// Why a line can't be read.
@@ -187,14 +188,15 @@ fn are_blocks(shape: Shape, blocks: &[Block]) -> bool
 }
 
 fn narrows_line(shape: Shape, blocks: Vec<Block>) -> Result<Line, LineFault>
-    ensures { ReadGives result (unless_bad (Line.Narrows blocks.items) (first_fault shape (Line.Narrows blocks.items))) }
+    ensures { ReadGives result (unless_bad (narrows_line blocks.items) (first_fault shape (narrows_line blocks.items))) }
 {
     if !are_blocks(shape, &blocks) {
         return Err(LineFault::Bad(FormWord::Range));
     }
-    Ok(Line::Narrows {
+    let toll = Toll::Narrows {
         blocks: Blocks { items: blocks },
-    })
+    };
+    Ok(Line::Toll { toll })
 }
 
 fn each_light(weights: &[u32]) -> bool
@@ -227,7 +229,7 @@ fn tugs_line(
     most: u32,
     weights: Vec<u32>,
 ) -> Result<Line, LineFault>
-    ensures { ReadGives result (unless_bad (Line.Tugs restriction slot most weights.items) (first_fault shape (Line.Tugs restriction slot most weights.items))) }
+    ensures { ReadGives result (unless_bad (tugs_line restriction slot most weights.items) (first_fault shape (tugs_line restriction slot most weights.items))) }
 {
     if !are_small(most, &weights) {
         return Err(LineFault::Bad(FormWord::Form));
@@ -235,28 +237,29 @@ fn tugs_line(
     if !is_weighed(shape, restriction, slot, &weights) {
         return Err(LineFault::Bad(FormWord::Range));
     }
-    Ok(Line::Tugs {
+    let toll = Toll::Tugs {
         restriction,
         slot,
-        most,
         weights: Weights { items: weights },
-    })
+        most,
+    };
+    Ok(Line::Toll { toll })
 }
 
-fn each_cheap(prices: &[Price]) -> bool
+fn each_cheap(prices: &[Due]) -> bool
     ensures { result ≡ list_all (λ due. nat_le due.price MOST_PRICE) prices.now }
 {
     prices.iter().all(|due| due.price <= MOST_PRICE)
 }
 
-fn are_cheap(scale: u32, prices: &[Price]) -> bool
+fn are_cheap(scale: u32, prices: &[Due]) -> bool
     ensures { result ≡ prices_small scale prices.now }
 {
     scale <= MOST_SCALE && each_cheap(prices)
 }
 
 /// Whether the number of each toll is above the one before it, the first above 0.
-fn tolls_ascend(prices: &[Price]) -> bool
+fn tolls_ascend(prices: &[Due]) -> bool
     ensures { result ≡ ascends 0 (map (λ due. due.toll) prices.now) }
 {
     let mut before = 0;
@@ -269,8 +272,8 @@ fn tolls_ascend(prices: &[Price]) -> bool
     true
 }
 
-fn tariff_line(shape: Shape, scale: u32, prices: Vec<Price>) -> Result<Line, LineFault>
-    ensures { ReadGives result (unless_bad (Line.Tariff scale prices.items) (first_fault shape (Line.Tariff scale prices.items))) }
+fn tariff_line(shape: Shape, scale: u32, prices: Vec<Due>) -> Result<Line, LineFault>
+    ensures { ReadGives result (unless_bad (tariff_line scale prices.items) (first_fault shape (tariff_line scale prices.items))) }
 {
     if !are_cheap(scale, &prices) {
         return Err(LineFault::Bad(FormWord::Form));
@@ -278,10 +281,11 @@ fn tariff_line(shape: Shape, scale: u32, prices: Vec<Price>) -> Result<Line, Lin
     if !tolls_ascend(&prices) {
         return Err(LineFault::Bad(FormWord::Range));
     }
-    Ok(Line::Tariff {
+    let tariff = Tariff {
         scale,
-        prices: Prices { items: prices },
-    })
+        dues: Dues { items: prices },
+    };
+    Ok(Line::Tariff { tariff })
 }
 
 fn priced_line(shape: Shape, lits: Vec<Lit>) -> Result<Line, LineFault>

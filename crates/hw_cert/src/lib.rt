@@ -18,8 +18,8 @@ mod tray_log;
 mod version;
 mod words;
 
-pub use hw_lines::{CheckWord, Hints, Line, Price, Prices, Refusal, Verdict};
-pub use hw_tolls::{Block, Blocks, Weights};
+pub use hw_lines::{CheckWord, Hints, Line, Refusal, Verdict};
+pub use hw_tolls::{Block, Blocks, Due, Dues, Tariff, Toll, Weights};
 pub use laws::{
     cert_spelled, each_text_told, form_spelled, header_spelled, line_spelled, overlong_passes,
     plain_forms, plain_read, read_forms, stream_reads, stream_steps, text_rows, text_told,

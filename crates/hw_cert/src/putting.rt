@@ -3,14 +3,15 @@
 ghost use Rattle.std.specs.Prelude.{◌≡◌, ◌++◌, ◌∷◌, [], true, codes, decimal, map};
 ghost use Rattle.std.specs.List.{list_all, flat_map};
 ghost use Rattle.hw_desk.specs.Writers.{Puts};
+ghost use Rattle.hw_cert.specs.Spelled.{narrows_line, tugs_line};
 ghost use Rattle.hw_cert.specs.Texts.{lit_text, block_text, price_text, line_text, pair_text};
 ghost use Rattle.hw_cert.specs.Worded.{spaced_number, spaced_numbers, lits_text, blocks_text, prices_text, worded};
 ghost use Rattle.hw_cert.specs.Laws.{is_small, is_wide, lit_numbers, block_numbers, line_numbers, wide_numbers};
 
 use hw_desk::Writer;
-use hw_lines::{Hints, Line, Price};
+use hw_lines::{Hints, Line};
 use hw_lits::{Clause, Lit};
-use hw_tolls::Block;
+use hw_tolls::{Block, Due, Tariff, Toll};
 
 /// Puts a number after a space.
 #[tactic(auto, using(hw_desk::proofs::Written::puts_on))]
@@ -155,8 +156,8 @@ fn put_blocks<W: Writer>(out: &mut W, blocks: &[Block])
 
 #[tactic(auto, using(hw_desk::proofs::Written::puts_on))]
 fn put_narrows<W: Writer>(out: &mut W, blocks: &[Block])
-    ensures puts { Puts (worded (Line.Narrows blocks.now)) (W.state out.old) (W.state out.new) }
-    ensures small { list_all is_small (line_numbers (Line.Narrows blocks.now)) ≡ true }
+    ensures puts { Puts (worded (narrows_line blocks.now)) (W.state out.old) (W.state out.new) }
+    ensures small { list_all is_small (line_numbers (narrows_line blocks.now)) ≡ true }
 {
     out.put(b"n");
     put_blocks(out, blocks);
@@ -164,8 +165,8 @@ fn put_narrows<W: Writer>(out: &mut W, blocks: &[Block])
 
 #[tactic(auto, using(hw_desk::proofs::Written::puts_on))]
 fn put_tugs<W: Writer>(out: &mut W, restriction: u32, slot: u32, most: u32, weights: &[u32])
-    ensures puts { Puts (worded (Line.Tugs restriction slot most weights.now)) (W.state out.old) (W.state out.new) }
-    ensures small { list_all is_small (line_numbers (Line.Tugs restriction slot most weights.now)) ≡ true }
+    ensures puts { Puts (worded (tugs_line restriction slot most weights.now)) (W.state out.old) (W.state out.new) }
+    ensures small { list_all is_small (line_numbers (tugs_line restriction slot most weights.now)) ≡ true }
 {
     out.put(b"u");
     put_number(out, restriction);
@@ -174,9 +175,24 @@ fn put_tugs<W: Writer>(out: &mut W, restriction: u32, slot: u32, most: u32, weig
     put_numbers(out, weights);
 }
 
+fn put_toll<W: Writer>(out: &mut W, toll: &Toll)
+    ensures puts { Puts (worded (Line.Toll toll.now)) (W.state out.old) (W.state out.new) }
+    ensures small { list_all is_small (line_numbers (Line.Toll toll.now)) ≡ true }
+{
+    match toll {
+        Toll::Narrows { blocks } => put_narrows(out, &blocks.items),
+        Toll::Tugs {
+            restriction,
+            slot,
+            weights,
+            most,
+        } => put_tugs(out, *restriction, *slot, *most, &weights.items),
+    }
+}
+
 /// Puts a price after a space.
 #[tactic(auto, using(hw_desk::proofs::Written::puts_on))]
-fn put_price<W: Writer>(out: &mut W, due: Price)
+fn put_price<W: Writer>(out: &mut W, due: Due)
     ensures puts { Puts (32 ∷ price_text due) (W.state out.old) (W.state out.new) }
     ensures small { is_small due.toll ≡ true }
     ensures wide { is_wide due.price ≡ true }
@@ -188,7 +204,7 @@ fn put_price<W: Writer>(out: &mut W, due: Price)
 
 /// Puts prices, each after a space.
 #[tactic(auto, using(hw_desk::proofs::Written::puts_on))]
-fn put_prices<W: Writer>(out: &mut W, prices: &[Price])
+fn put_prices<W: Writer>(out: &mut W, prices: &[Due])
     ensures puts { Puts (prices_text prices.now) (W.state out.old) (W.state out.new) }
     ensures small { list_all is_small (map (λ due. due.toll) prices.now) ≡ true }
     ensures wide { list_all is_wide (map (λ due. due.price) prices.now) ≡ true }
@@ -199,14 +215,14 @@ fn put_prices<W: Writer>(out: &mut W, prices: &[Price])
 }
 
 #[tactic(auto, using(hw_desk::proofs::Written::puts_on))]
-fn put_tariff<W: Writer>(out: &mut W, scale: u32, prices: &[Price])
-    ensures puts { Puts (worded (Line.Tariff scale prices.now)) (W.state out.old) (W.state out.new) }
-    ensures small { list_all is_small (line_numbers (Line.Tariff scale prices.now)) ≡ true }
-    ensures wide { list_all is_wide (wide_numbers (Line.Tariff scale prices.now)) ≡ true }
+fn put_tariff<W: Writer>(out: &mut W, tariff: &Tariff)
+    ensures puts { Puts (worded (Line.Tariff tariff.now)) (W.state out.old) (W.state out.new) }
+    ensures small { list_all is_small (line_numbers (Line.Tariff tariff.now)) ≡ true }
+    ensures wide { list_all is_wide (wide_numbers (Line.Tariff tariff.now)) ≡ true }
 {
     out.put(b"y");
-    put_number(out, scale);
-    put_prices(out, prices);
+    put_number(out, tariff.scale);
+    put_prices(out, &tariff.dues.items);
 }
 
 #[tactic(auto, using(hw_desk::proofs::Written::puts_on))]
@@ -242,14 +258,8 @@ fn put_words<W: Writer>(out: &mut W, line: &Line)
         Line::Goal { clause } => put_goal(out, clause),
         Line::Lemma { clause, hints } => put_lemma(out, clause, hints),
         Line::Delete { ids } => put_listed(out, b"d", &ids.items),
-        Line::Narrows { blocks } => put_narrows(out, &blocks.items),
-        Line::Tugs {
-            restriction,
-            slot,
-            most,
-            weights,
-        } => put_tugs(out, *restriction, *slot, *most, &weights.items),
-        Line::Tariff { scale, prices } => put_tariff(out, *scale, &prices.items),
+        Line::Toll { toll } => put_toll(out, toll),
+        Line::Tariff { tariff } => put_tariff(out, tariff),
         Line::Priced { clause } => put_priced(out, clause),
         Line::Bound { bound } => put_bound(out, *bound),
     }

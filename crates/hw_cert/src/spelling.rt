@@ -8,10 +8,9 @@ use crate::tolling::{bound_of, narrows_of, priced_of, tariff_of, tugs_of};
 use crate::version::Version;
 use crate::words::{is_header_word, keywords};
 use hw_lexicon::each_word;
-use hw_lines::Price;
 use hw_model::Lit;
 use hw_text::{Words, is_text, read_number};
-use hw_tolls::Block;
+use hw_tolls::{Block, Due};
 use std::alloc::{AllocError, Global};
 
 /// The numbers and literals of a line that has its form. They may not fit the problem.
@@ -51,7 +50,7 @@ pub enum Spelling {
     },
     Tariff {
         scale: u32,
-        prices: Vec<Price>,
+        prices: Vec<Due>,
     },
     Priced {
         lits: Vec<Lit>,

@@ -6,9 +6,8 @@ ghost use Rattle.hw_cert.specs.Spellings.{blocks_view, prices_view, spelling_vie
 
 use crate::spelling::{Spelling, number_of, numbers_of, only_lits_of};
 use crate::version::Version;
-use hw_lines::Price;
 use hw_text::{Words, read_number};
-use hw_tolls::Block;
+use hw_tolls::{Block, Due};
 use std::alloc::{AllocError, Global};
 
 /// A price or a bound.
@@ -48,7 +47,7 @@ fn blocks_of(alloc: Global, mut words: Words<'_>) -> Result<Option<Vec<Block>>, 
 }
 
 /// The price that a word spells: a toll and its price with a colon between them.
-fn price_of(word: &[u8]) -> Option<Price>
+fn price_of(word: &[u8]) -> Option<Due>
     ensures { result ≡ price_word word.now }
 {
     let mut parts = Words::parted_by(b':', word);
@@ -57,11 +56,11 @@ fn price_of(word: &[u8]) -> Option<Price>
     parts.end()?;
     let toll = number_of(toll)?;
     let price = wide_of(price)?;
-    Some(Price { toll, price })
+    Some(Due { toll, price })
 }
 
 /// The prices that the words spell, where each spells one.
-fn prices_of(alloc: Global, mut words: Words<'_>) -> Result<Option<Vec<Price>>, AllocError>
+fn prices_of(alloc: Global, mut words: Words<'_>) -> Result<Option<Vec<Due>>, AllocError>
     ensures { IfOk result (λ o. prices_view o ≡ all_of price_word words.entry) }
 {
     let mut prices = Vec::new(alloc);

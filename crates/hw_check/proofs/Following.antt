@@ -5,8 +5,7 @@ use Rattle.std.proofs.lemmas.List.{length-map}
 use Rattle.std.proofs.lemmas.List.Elements.{All-nil, All-cons, All-append}
 use Rattle.hw_model.specs.Problem.{Problem}
 use Rattle.hw_model.specs.Limits.{IsFlat}
-use Rattle.hw_tolls.specs.declared.toll.Block.{Block}
-use Rattle.hw_tolls.specs.declared.toll.Toll.TheVariants as tolls
+use Rattle.hw_tolls.specs.declared.toll.Toll.{Toll}
 use Rattle.hw_tolls.specs.Tolls.{IsToll}
 use Rattle.hw_tolls.proofs.Judging.{judged}
 use Rattle.hw_tariff.specs.PriceStates.{PriceState}
@@ -51,11 +50,11 @@ claim_none f kept line e = last kept.closed (is_past kept.next (clause_of line))
     last false true x y z e = absurd cc
     last false false x y z e = e
 
--- narrows that aren't refused are a toll, and there are not too many before
-pub narrows_declared : (f : Problem) (kept : Kept) (blocks : List Block) → kept_refusal f kept (lines.Narrows blocks) ≡ None → (length kept.tolls < 10_000) × IsToll f (tolls.Narrows blocks)
-narrows_declared f kept blocks e =
-    let parts = toll_from _ _ (claim_none f kept (lines.Narrows blocks) e) in
-    (ltb-true _ _ parts.0, judged f (tolls.Narrows blocks) parts.1)
+-- what isn't refused as a toll is one, and there are not too many before
+pub toll_declared : (f : Problem) (kept : Kept) (toll : Toll) → kept_refusal f kept (lines.Toll toll) ≡ None → (length kept.tolls < 10_000) × IsToll f toll
+toll_declared f kept toll e =
+    let parts = toll_from _ _ (claim_none f kept (lines.Toll toll) e) in
+    (ltb-true _ _ parts.0, judged f toll parts.1)
 
 pub followed_refusal : (c : CheckState) (before : List Line) (line : Line) → CheckerFollows c before → refusal c.problem before line ≡ kept_refusal c.problem c.kept line
 followed_refusal c before line follows = ap (λ kept. kept_refusal c.problem kept line) (sym follows.kept)

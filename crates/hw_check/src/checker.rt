@@ -6,7 +6,7 @@ ghost use Rattle.hw_model.specs.Lits.{IsClause};
 ghost use Rattle.hw_lines.specs.declared.line.Line.{Line};
 ghost use Rattle.hw_lines.specs.Lines.{clause_of, live_numbers};
 ghost use Rattle.hw_lines.specs.Valid.{LineFits, PricesFit, verdict, verdict_by};
-ghost use Rattle.hw_lines.specs.Tolled.{bound_of, priced_by};
+ghost use Rattle.hw_lines.specs.Tolled.{bound_of};
 ghost use Rattle.hw_lines.specs.Kept.{kept_after, with_clause, with_toll};
 ghost use Rattle.hw_lines.specs.Refusals.{is_past, first_unknown, kept_refusal};
 ghost use Rattle.hw_tolls.specs.Tolls.{IsToll};
@@ -18,14 +18,13 @@ use crate::clause_list::ClauseList;
 use crate::refusing::{claim, clause_of, refused};
 use crate::space::Space;
 use crate::stop::CheckStop;
-use crate::tolled::{narrows_of, tariff_of, tugs_of};
 use hw_flat::{Flat, Room};
-use hw_lines::{CheckWord, Line, Prices, Refusal, Verdict};
+use hw_lines::{CheckWord, Line, Refusal, Verdict};
 use hw_lits::Clause;
 use hw_model::NoMemory;
 use hw_rules::cargo;
 use hw_tariff::PriceBook;
-use hw_tolls::{MOST_TOLLS, Toll};
+use hw_tolls::{MOST_TOLLS, Tariff, Toll};
 use std::alloc::Global;
 use std::marker::Model;
 
@@ -203,21 +202,11 @@ impl<'f> Checker<'f> {
             Line::Goal { clause } => self.with_clause(clause),
             Line::Lemma { clause, .. } => self.with_clause(clause),
             Line::Delete { ids } => self.without(&ids.items),
-            Line::Narrows { blocks } => {
-                let toll = narrows_of(self.clauses.allocator(), blocks)?;
-                self.with_toll(toll)
+            Line::Toll { toll } => {
+                let copied = toll.copy(self.clauses.allocator())?;
+                self.with_toll(copied)
             }
-            Line::Tugs {
-                restriction,
-                slot,
-                most,
-                weights,
-            } => {
-                let alloc = self.clauses.allocator();
-                let toll = tugs_of(alloc, self.flat, *restriction, *slot, *most, weights)?;
-                self.with_toll(toll)
-            }
-            Line::Tariff { scale, prices } => self.with_tariff(*scale, prices),
+            Line::Tariff { tariff } => self.with_tariff(tariff),
             Line::Priced { clause } => self.with_clause(clause),
             Line::Bound { bound } => {
                 self.prices.set_bound(*bound);
@@ -257,16 +246,16 @@ impl<'f> Checker<'f> {
         Ok(self)
     }
 
-    fn with_tariff(mut self, scale: u32, prices: &Prices) -> Result<Checker<'f>, NoMemory>
-        requires fits { PricesFit scale prices.now }
-        requires known { first_unknown (length self.kept.tolls) prices.now ≡ None }
-        ensures state { IfOk result (λ c. c.kept ≡ record self.entry.kept { tariff = Some (priced_by scale prices.now) }) }
+    fn with_tariff(mut self, tariff: &Tariff) -> Result<Checker<'f>, NoMemory>
+        requires fits { PricesFit tariff.now }
+        requires known { first_unknown (length self.kept.tolls) tariff.now.dues ≡ None }
+        ensures state { IfOk result (λ c. c.kept ≡ record self.entry.kept { tariff = Some tariff.now }) }
         ensures problem { IfOk result (λ c. c.problem ≡ self.entry.problem) }
     {
         let flat = self.flat;
         let alloc = self.clauses.allocator();
-        let tariff = tariff_of(alloc, scale, prices)?;
-        self.prices.put_in_force(alloc, flat, tariff)?;
+        let copied = tariff.copy(alloc)?;
+        self.prices.put_in_force(alloc, flat, copied)?;
         Ok(self)
     }
 }

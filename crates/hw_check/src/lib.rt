@@ -15,7 +15,6 @@ mod renewing;
 mod space;
 mod stop;
 mod stored;
-mod tolled;
 
 pub use checker::Checker;
 pub use hw_lines::{CheckWord, Refusal, Verdict, kept_pushed, kept_verdict};

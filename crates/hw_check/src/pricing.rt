@@ -10,11 +10,11 @@ ghost use Rattle.hw_tariff.specs.PriceStates.{AreGood, tariff_in_force};
 
 use crate::refusing::{deny_in, refused, refused_at};
 use hw_flat::{Flat, Room};
-use hw_lines::{CheckWord, Price, Refusal};
+use hw_lines::{CheckWord, Refusal};
 use hw_lits::Clause;
 use hw_model::NoMemory;
 use hw_tariff::PriceBook;
-use hw_tolls::{MOST_TOLLS, Toll};
+use hw_tolls::{Due, MOST_TOLLS, Toll};
 use std::alloc::Global;
 
 /// Why a line declares no toll after those that are declared. An error says that memory ran out.
@@ -38,20 +38,20 @@ pub(crate) fn toll_refusal(
 }
 
 /// Why prices on these tolls aren't put in force: the first number that no toll has.
-pub(crate) fn tariff_refusal(prices: &PriceBook, on: &[Price]) -> Option<Refusal>
-    ensures value { result ≡ refusals.tariff_refusal (refusals.first_unknown (length prices.now.tolls) on.now) }
+pub(crate) fn tariff_refusal(prices: &PriceBook, dues: &[Due]) -> Option<Refusal>
+    ensures value { result ≡ refusals.tariff_refusal (refusals.first_unknown (length prices.now.tolls) dues.now) }
 {
-    match on_unknown(prices.count(), on) {
+    match on_unknown(prices.count(), dues) {
         None => None,
-        Some(one) => refused_at(CheckWord::Due, one.toll),
+        Some(due) => refused_at(CheckWord::Due, due.toll),
     }
 }
 
 /// The first price on a number that none of this many tolls has.
-fn on_unknown(count: usize, on: &[Price]) -> Option<Price>
-    ensures value { result ≡ find (λ one. nat_lt count one.toll) on.now }
+fn on_unknown(count: usize, dues: &[Due]) -> Option<Due>
+    ensures value { result ≡ find (λ due. nat_lt count due.toll) dues.now }
 {
-    on.iter().copied().find(|one| count < one.toll as usize)
+    dues.iter().copied().find(|due| count < due.toll as usize)
 }
 
 /// Why the prices in force don't refute the denied room of a clause. The room is overwritten.

@@ -16,7 +16,6 @@ ghost use Rattle.hw_check.specs.States.{LitsFit, kept_in};
 
 use crate::clause_list::ClauseList;
 use crate::pricing::{bound_refusal, priced_refusal, tariff_refusal, toll_refusal};
-use crate::tolled::{narrows_of, tugs_of};
 use hw_flat::{Flat, Room, Source, Timetable};
 use hw_lines::{CheckWord, Line, Refusal};
 use hw_lits::{Clause, Narrowed, deny, narrow_lits};
@@ -51,7 +50,7 @@ pub(crate) fn clause_of(line: &Line) -> Option<&Clause>
         Line::Goal { clause } => Some(clause),
         Line::Lemma { clause, .. } => Some(clause),
         Line::Delete { .. } => None,
-        Line::Narrows { .. } | Line::Tugs { .. } => None,
+        Line::Toll { .. } => None,
         Line::Tariff { .. } => None,
         Line::Priced { clause } => Some(clause),
         Line::Bound { .. } => None,
@@ -93,22 +92,8 @@ pub(crate) fn claim(
         Line::Goal { clause } => source_refusal(flat, Source::Goal, best, clause, room),
         Line::Lemma { clause, hints } => lemma_refusal(flat, clauses, clause, &hints.items, room),
         Line::Delete { ids } => delete_refusal(clauses, &ids.items),
-        Line::Narrows { blocks } => {
-            let alloc = clauses.allocator();
-            let toll = narrows_of(alloc, blocks)?;
-            toll_refusal(alloc, flat, prices, &toll)?
-        }
-        Line::Tugs {
-            restriction,
-            slot,
-            most,
-            weights,
-        } => {
-            let alloc = clauses.allocator();
-            let toll = tugs_of(alloc, flat, *restriction, *slot, *most, weights)?;
-            toll_refusal(alloc, flat, prices, &toll)?
-        }
-        Line::Tariff { prices: on, .. } => tariff_refusal(prices, &on.items),
+        Line::Toll { toll } => toll_refusal(clauses.allocator(), flat, prices, toll)?,
+        Line::Tariff { tariff } => tariff_refusal(prices, &tariff.dues.items),
         Line::Priced { clause } => priced_refusal(flat, prices, best, clause, room),
         Line::Bound { bound } => bound_refusal(flat, prices, *bound, room),
     })

@@ -33,9 +33,8 @@ renumbered numbers (lines.Order v w x clause) = lines.Order v w x clause
 renumbered numbers (lines.Goal clause) = lines.Goal clause
 renumbered numbers (lines.Lemma clause hints) = lines.Lemma clause (map (shared_number numbers) hints)
 renumbered numbers (lines.Delete ids) = lines.Delete (map (shared_number numbers) ids)
-renumbered numbers (lines.Narrows blocks) = lines.Narrows blocks
-renumbered numbers (lines.Tugs n slot most weights) = lines.Tugs n slot most weights
-renumbered numbers (lines.Tariff scale prices) = lines.Tariff scale prices
+renumbered numbers (lines.Toll toll) = lines.Toll toll
+renumbered numbers (lines.Tariff tariff) = lines.Tariff tariff
 renumbered numbers (lines.Priced clause) = lines.Priced clause
 renumbered numbers (lines.Bound bound) = lines.Bound bound
 
@@ -47,9 +46,8 @@ is_handed f best (lines.Order v w x clause) = true
 is_handed f best (lines.Goal clause) = true
 is_handed f best (lines.Lemma clause hints) = true
 is_handed f best (lines.Delete ids) = true
-is_handed f best (lines.Narrows blocks) = true
-is_handed f best (lines.Tugs n slot most weights) = true
-is_handed f best (lines.Tariff scale prices) = true
+is_handed f best (lines.Toll toll) = true
+is_handed f best (lines.Tariff tariff) = true
 is_handed f best (lines.Priced clause) = true
 is_handed f best (lines.Bound bound) = true
 

@@ -30,12 +30,13 @@ pub(crate) fn candidates(
 fn add_tugs(alloc: Global, flat: &Flat, place: u32, out: &mut Vec<Toll>) -> Result<(), NoMemory>
     requires inside { place < length flat.now.rules }
 {
+    let restriction = flat.shape().ships + place;
     match &flat.rules()[place as usize] {
         Rule::Tugs { fleet, jobs } => {
             for slot in 0..flat.horizon() {
                 let weights = weights_of(alloc, &jobs.items)?;
                 out.push(Toll::Tugs {
-                    place,
+                    restriction,
                     slot,
                     weights,
                     most: *fleet,

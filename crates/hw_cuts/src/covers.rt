@@ -31,7 +31,8 @@ impl Load {
 /// A rule on tugs in a slot.
 #[derive(Clone, Copy)]
 struct TugSlot<'b> {
-    place: u32,
+    /// The rule's number among the restrictions.
+    restriction: u32,
     slot: Slot,
     fleet: u32,
     jobs: &'b [Job],
@@ -67,11 +68,12 @@ pub(crate) fn find_covers(
     choices: &Choices<'_>,
     finds: &mut Finds,
 ) -> Result<(), NoMemory> {
-    for place in 0..choices.flat.shape().rules {
+    let shape = choices.flat.shape();
+    for place in 0..shape.rules {
         if let Rule::Tugs { fleet, jobs } = &choices.flat.rules()[place as usize] {
             for slot in 0..choices.flat.horizon() {
                 let tug_slot = TugSlot {
-                    place,
+                    restriction: shape.ships + place,
                     slot,
                     fleet: *fleet,
                     jobs: &jobs.items,
@@ -94,7 +96,7 @@ fn covers_at(
     for most in 1..SERVED + 1 {
         if let Some((over, choice)) = best_choice(choices.counts.steps, tug_slot, &loads, most) {
             let toll = Toll::Tugs {
-                place: tug_slot.place,
+                restriction: tug_slot.restriction,
                 slot: tug_slot.slot,
                 weights: weights(alloc, tug_slot.jobs.len(), &loads, choice)?,
                 most,

@@ -3,10 +3,10 @@ use Rattle.std.proofs.Common.{◌≡◌, ℕ, false, ◌||◌, cond, List, [], �
 use Rattle.std.specs.List.{cons_option, list_any}
 use Rattle.hw_model.specs.Problem.{Problem}
 use Rattle.hw_model.specs.Timetables.{cargo}
+use Rattle.hw_tolls.specs.declared.tariff.Tariff.{Tariff}
 use Rattle.hw_tolls.specs.declared.toll.Toll.{Toll}
 use Rattle.hw_lines.specs.declared.line.Line.{Line}
 use Rattle.hw_lines.specs.declared.line.Line.TheVariants as lines
-use Rattle.hw_lines.specs.declared.line.Price.{Price}
 use Rattle.hw_lines.specs.Lines.{clause_of, clause_at, table_after, last_table, is_end, is_closed, deletes}
 use Rattle.hw_lines.specs.Tolled.{toll_of, tolls_of}
 use Rattle.hw_lines.specs.Laws.{ClausesStay, TollAdded, TariffAdded, BoundAdded}
@@ -24,36 +24,30 @@ clauses_stay f before line none same spares =
       closed = more.closed ∙ ap (λ o. is_closed before || is_end o) none ∙ or_false (is_closed before);
     }
 
-pub toll_added : (f : Problem) (before : List Line) (line : Line) (toll : Toll) → toll_of f line ≡ Some toll → TollAdded f before (before ++ line ∷ []) toll
+pub toll_added : (f : Problem) (before : List Line) (line : Line) (toll : Toll) → toll_of line ≡ Some toll → TollAdded f before (before ++ line ∷ []) toll
 toll_added f before (lines.Table table) toll e = absurd cc
 toll_added f before (lines.Explain n clause) toll e = absurd cc
 toll_added f before (lines.Order v w x clause) toll e = absurd cc
 toll_added f before (lines.Goal clause) toll e = absurd cc
 toll_added f before (lines.Lemma clause hints) toll e = absurd cc
 toll_added f before (lines.Delete ids) toll e = absurd cc
-toll_added f before (lines.Narrows blocks) toll e = record {
-  clauses = clauses_stay f before (lines.Narrows blocks) refl refl (λ id. refl);
-  tolls = tolls_push f before (lines.Narrows blocks) ∙ ap (λ o. tolls_of f before ++ cons_option o []) e;
-  tariff = tariff_push before (lines.Narrows blocks);
-  bound = bound_push before (lines.Narrows blocks);
+toll_added f before (lines.Toll own) toll e = record {
+  clauses = clauses_stay f before (lines.Toll own) refl refl (λ id. refl);
+  tolls = tolls_push before (lines.Toll own) ∙ ap (λ o. tolls_of before ++ cons_option o []) e;
+  tariff = tariff_push before (lines.Toll own);
+  bound = bound_push before (lines.Toll own);
 }
-toll_added f before (lines.Tugs n slot most weights) toll e = record {
-  clauses = clauses_stay f before (lines.Tugs n slot most weights) refl refl (λ id. refl);
-  tolls = tolls_push f before (lines.Tugs n slot most weights) ∙ ap (λ o. tolls_of f before ++ cons_option o []) e;
-  tariff = tariff_push before (lines.Tugs n slot most weights);
-  bound = bound_push before (lines.Tugs n slot most weights);
-}
-toll_added f before (lines.Tariff scale prices) toll e = absurd cc
+toll_added f before (lines.Tariff tariff) toll e = absurd cc
 toll_added f before (lines.Priced clause) toll e = absurd cc
 toll_added f before (lines.Bound bound) toll e = absurd cc
 
-pub tariff_added : (f : Problem) (before : List Line) (scale : ℕ) (prices : List Price) → TariffAdded f before (before ++ lines.Tariff scale prices ∷ []) scale prices
-tariff_added f before scale prices =
-    let line = lines.Tariff scale prices in
+pub tariff_added : (f : Problem) (before : List Line) (tariff : Tariff) → TariffAdded f before (before ++ lines.Tariff tariff ∷ []) tariff
+tariff_added f before tariff =
+    let line = lines.Tariff tariff in
     record {
       clauses = clauses_stay f before line refl refl (λ id. refl);
-      tolls = same_tolls f before line refl;
-      tariff = tariff_push before line;
+      tolls = same_tolls before line refl;
+      new_tariff = tariff_push before line;
       bound = bound_push before line;
     }
 
@@ -62,7 +56,7 @@ bound_added f before bound =
     let line = lines.Bound bound in
     record {
       clauses = clauses_stay f before line refl refl (λ id. refl);
-      tolls = same_tolls f before line refl;
+      tolls = same_tolls before line refl;
       tariff = tariff_push before line;
       new_bound = bound_push before line;
     }

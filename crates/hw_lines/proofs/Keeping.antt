@@ -1,10 +1,9 @@
 -- What is kept of lines, one line after another.
-use Rattle.std.proofs.Common.{◌≡◌, ℕ, ◌-◌, Bool, true, false, cond, List, [], ◌∷◌, ◌++◌, Option, Some, None, map, filter, filter_map, find, is_some, is_none, refl, sym, ap, ◌∙◌, inl, inr, arith}
+use Rattle.std.proofs.Common.{◌≡◌, ℕ, Bool, true, false, cond, List, [], ◌∷◌, ◌++◌, Option, Some, None, map, filter, filter_map, find, is_some, is_none, refl, sym, ap, ◌∙◌, inl, inr, arith}
 use Rattle.std.proofs.lemmas.Bool.{cases_lt}
 use Rattle.std.specs.List.{cons_option, list_any, range_with_len}
 use Rattle.hw_model.specs.declared.lit.Lit.{Lit}
 use Rattle.hw_model.specs.Problem.{Problem}
-use Rattle.hw_tolls.specs.declared.toll.Toll.TheVariants as tolls
 use Rattle.hw_lines.specs.declared.line.Line.{Line}
 use Rattle.hw_lines.specs.declared.line.Line.TheVariants as lines
 use Rattle.hw_lines.specs.Lines.{clause_count, deletes, live, live_numbers, DeletesEarlier, best_of}
@@ -72,9 +71,8 @@ kept_pushed f before (lines.Order v w x clause) earlier = clause_kept f before (
 kept_pushed f before (lines.Goal clause) earlier = clause_kept f before (lines.Goal clause) clause earlier refl
 kept_pushed f before (lines.Lemma clause hints) earlier = clause_kept f before (lines.Lemma clause hints) clause earlier refl
 kept_pushed f before (lines.Delete ids) earlier = delete_kept f before ids
-kept_pushed f before (lines.Narrows blocks) earlier = toll_kept f before (lines.Narrows blocks) (tolls.Narrows blocks) refl
-kept_pushed f before (lines.Tugs n slot most weights) earlier = toll_kept f before (lines.Tugs n slot most weights) (tolls.Tugs (n - f.ships) slot weights most) refl
-kept_pushed f before (lines.Tariff scale prices) earlier = tariff_kept f before scale prices
+kept_pushed f before (lines.Toll toll) earlier = toll_kept f before (lines.Toll toll) toll refl
+kept_pushed f before (lines.Tariff tariff) earlier = tariff_kept f before tariff
 kept_pushed f before (lines.Priced clause) earlier = clause_kept f before (lines.Priced clause) clause earlier refl
 kept_pushed f before (lines.Bound bound) earlier = bound_kept f before bound
 

@@ -5,10 +5,10 @@ use Rattle.std.proofs.lemmas.List.Elements.{filter_map-append}
 use Rattle.std.specs.List.{cons_option, list_any, range_with_len}
 use Rattle.hw_model.specs.declared.lit.Lit.{Lit}
 use Rattle.hw_model.specs.Problem.{Problem}
+use Rattle.hw_tolls.specs.declared.tariff.Tariff.{Tariff}
 use Rattle.hw_tolls.specs.declared.toll.Toll.{Toll}
 use Rattle.hw_lines.specs.declared.line.Line.{Line}
 use Rattle.hw_lines.specs.declared.line.Line.TheVariants as lines
-use Rattle.hw_lines.specs.declared.line.Price.{Price}
 use Rattle.hw_lines.specs.Lines.{clause_of, clause_count, live, DeletesEarlier}
 use Rattle.hw_lines.specs.Laws.{ClausesStay}
 use Rattle.hw_lines.specs.Tolled.{toll_of}
@@ -81,17 +81,17 @@ delete_kept f before ids =
 live_stay : (f : Problem) (before after : List Line) → ClausesStay f before after → live_clauses after ≡ live_clauses before
 live_stay f before after more = ap (λ k. numbered (live after) (range_with_len 1 k)) more.count ∙ numbered_same (live after) (live before) 1 (clause_count before) (λ id le lt. more.live_ones id)
 
-pub toll_kept : (f : Problem) (before : List Line) (line : Line) (toll : Toll) → toll_of f line ≡ Some toll → kept_of f (before ++ line ∷ []) ≡ with_toll (kept_of f before) toll
+pub toll_kept : (f : Problem) (before : List Line) (line : Line) (toll : Toll) → toll_of line ≡ Some toll → kept_of f (before ++ line ∷ []) ≡ with_toll (kept_of f before) toll
 toll_kept f before line toll e =
     let more = toll_added f before line toll e in
     let after = before ++ line ∷ [] in
     same_kept (kept_of f after) (with_toll (kept_of f before) toll) (live_stay f before after more.clauses) (ap (λ k. k + 1) more.clauses.count) more.clauses.best more.clauses.closed more.tolls more.tariff more.bound
 
-pub tariff_kept : (f : Problem) (before : List Line) (scale : ℕ) (prices : List Price) → kept_of f (before ++ lines.Tariff scale prices ∷ []) ≡ kept_after f (kept_of f before) (lines.Tariff scale prices)
-tariff_kept f before scale prices =
-    let more = tariff_added f before scale prices in
-    let after = before ++ lines.Tariff scale prices ∷ [] in
-    same_kept (kept_of f after) (kept_after f (kept_of f before) (lines.Tariff scale prices)) (live_stay f before after more.clauses) (ap (λ k. k + 1) more.clauses.count) more.clauses.best more.clauses.closed more.tolls more.tariff more.bound
+pub tariff_kept : (f : Problem) (before : List Line) (tariff : Tariff) → kept_of f (before ++ lines.Tariff tariff ∷ []) ≡ kept_after f (kept_of f before) (lines.Tariff tariff)
+tariff_kept f before tariff =
+    let more = tariff_added f before tariff in
+    let after = before ++ lines.Tariff tariff ∷ [] in
+    same_kept (kept_of f after) (kept_after f (kept_of f before) (lines.Tariff tariff)) (live_stay f before after more.clauses) (ap (λ k. k + 1) more.clauses.count) more.clauses.best more.clauses.closed more.tolls more.new_tariff more.bound
 
 pub bound_kept : (f : Problem) (before : List Line) (bound : ℕ) → kept_of f (before ++ lines.Bound bound ∷ []) ≡ kept_after f (kept_of f before) (lines.Bound bound)
 bound_kept f before bound =

@@ -25,8 +25,8 @@ clauses_push before line = filter_map-append clause_of before (line ∷ [])
 
 -- ---- the tolls, the tariff and the bound
 
-pub tolls_push : (f : Problem) (before : List Line) (line : Line) → tolls_of f (before ++ line ∷ []) ≡ tolls_of f before ++ cons_option (toll_of f line) []
-tolls_push f before line = filter_map-append (toll_of f) before (line ∷ [])
+pub tolls_push : (before : List Line) (line : Line) → tolls_of (before ++ line ∷ []) ≡ tolls_of before ++ cons_option (toll_of line) []
+tolls_push before line = filter_map-append toll_of before (line ∷ [])
 
 pub tariff_push : (before : List Line) (line : Line) → tariff_of (before ++ line ∷ []) ≡ tariff_after (tariff_of before) line
 tariff_push before line = fold_push tariff_after None before line
@@ -34,12 +34,12 @@ tariff_push before line = fold_push tariff_after None before line
 pub bound_push : (before : List Line) (line : Line) → bound_of (before ++ line ∷ []) ≡ bound_after (bound_of before) line
 bound_push before line = fold_push bound_after None before line
 
-pub same_tolls : (f : Problem) (before : List Line) (line : Line) → toll_of f line ≡ None → tolls_of f (before ++ line ∷ []) ≡ tolls_of f before
-same_tolls f before line none = tolls_push f before line ∙ ap (λ o. tolls_of f before ++ cons_option o []) none ∙ append-nil (tolls_of f before)
+pub same_tolls : (before : List Line) (line : Line) → toll_of line ≡ None → tolls_of (before ++ line ∷ []) ≡ tolls_of before
+same_tolls before line none = tolls_push before line ∙ ap (λ o. tolls_of before ++ cons_option o []) none ∙ append-nil (tolls_of before)
 
 -- a line that declares no toll and changes neither tariff nor bound
-pub prices_stay : (f : Problem) (before : List Line) (line : Line) → toll_of f line ≡ None → tariff_after (tariff_of before) line ≡ tariff_of before → bound_after (bound_of before) line ≡ bound_of before → PricesStay f before (before ++ line ∷ [])
-prices_stay f before line toll tariff bound = record { tolls = same_tolls f before line toll; tariff = tariff_push before line ∙ tariff; bound = bound_push before line ∙ bound }
+pub prices_stay : (before : List Line) (line : Line) → toll_of line ≡ None → tariff_after (tariff_of before) line ≡ tariff_of before → bound_after (bound_of before) line ≡ bound_of before → PricesStay before (before ++ line ∷ [])
+prices_stay before line toll tariff bound = record { tolls = same_tolls before line toll; tariff = tariff_push before line ∙ tariff; bound = bound_push before line ∙ bound }
 
 -- ---- any line
 
@@ -62,7 +62,7 @@ one_more f before line = record {
   uncounted = uncounted_by before (before ++ line ∷ []) (clause_of line) (clauses_push before line);
   earlier = λ id le e. still_live before line id le e;
   added = added_by before (before ++ line ∷ []) (clause_of line) (clauses_push before line);
-  tolls = tolls_push f before line;
+  tolls = tolls_push before line;
   tariff = tariff_push before line;
   bound = bound_push before line;
 }
@@ -106,7 +106,7 @@ table_added f before table =
       table = last_push before line;
       best = more.best;
       closed = more.closed ∙ or_false (is_closed before);
-      prices = prices_stay f before line refl refl refl;
+      prices = prices_stay before line refl refl refl;
     }
 
 pub numbers_deleted : (f : Problem) (before : List Line) (ids : List ℕ) → NumbersDeleted f before (before ++ lines.Delete ids ∷ []) ids
@@ -119,7 +119,7 @@ numbers_deleted f before ids =
       table = last_push before line;
       best = more.best;
       closed = more.closed ∙ or_false (is_closed before);
-      prices = prices_stay f before line refl refl refl;
+      prices = prices_stay before line refl refl refl;
     }
 
 -- a clause line deletes nothing and brings no table
@@ -130,9 +130,8 @@ deletes_none (lines.Order v w x lits) clause id e = refl
 deletes_none (lines.Goal lits) clause id e = refl
 deletes_none (lines.Lemma lits hints) clause id e = refl
 deletes_none (lines.Delete ids) clause id e = absurd cc
-deletes_none (lines.Narrows blocks) clause id e = absurd cc
-deletes_none (lines.Tugs n slot most weights) clause id e = absurd cc
-deletes_none (lines.Tariff scale prices) clause id e = absurd cc
+deletes_none (lines.Toll toll) clause id e = absurd cc
+deletes_none (lines.Tariff tariff) clause id e = absurd cc
 deletes_none (lines.Priced lits) clause id e = refl
 deletes_none (lines.Bound bound) clause id e = absurd cc
 
@@ -143,25 +142,23 @@ no_table (lines.Order v w x lits) clause last e = refl
 no_table (lines.Goal lits) clause last e = refl
 no_table (lines.Lemma lits hints) clause last e = refl
 no_table (lines.Delete ids) clause last e = absurd cc
-no_table (lines.Narrows blocks) clause last e = absurd cc
-no_table (lines.Tugs n slot most weights) clause last e = absurd cc
-no_table (lines.Tariff scale prices) clause last e = absurd cc
+no_table (lines.Toll toll) clause last e = absurd cc
+no_table (lines.Tariff tariff) clause last e = absurd cc
 no_table (lines.Priced lits) clause last e = refl
 no_table (lines.Bound bound) clause last e = absurd cc
 
 -- nor does it change tolls, tariff or bound
-pub clause_prices : (f : Problem) (before : List Line) (line : Line) (clause : List Lit) → clause_of line ≡ Some clause → PricesStay f before (before ++ line ∷ [])
-clause_prices f before (lines.Table table) clause e = absurd cc
-clause_prices f before (lines.Explain n lits) clause e = prices_stay f before (lines.Explain n lits) refl refl refl
-clause_prices f before (lines.Order v w x lits) clause e = prices_stay f before (lines.Order v w x lits) refl refl refl
-clause_prices f before (lines.Goal lits) clause e = prices_stay f before (lines.Goal lits) refl refl refl
-clause_prices f before (lines.Lemma lits hints) clause e = prices_stay f before (lines.Lemma lits hints) refl refl refl
-clause_prices f before (lines.Delete ids) clause e = absurd cc
-clause_prices f before (lines.Narrows blocks) clause e = absurd cc
-clause_prices f before (lines.Tugs n slot most weights) clause e = absurd cc
-clause_prices f before (lines.Tariff scale prices) clause e = absurd cc
-clause_prices f before (lines.Priced lits) clause e = prices_stay f before (lines.Priced lits) refl refl refl
-clause_prices f before (lines.Bound bound) clause e = absurd cc
+pub clause_prices : (before : List Line) (line : Line) (clause : List Lit) → clause_of line ≡ Some clause → PricesStay before (before ++ line ∷ [])
+clause_prices before (lines.Table table) clause e = absurd cc
+clause_prices before (lines.Explain n lits) clause e = prices_stay before (lines.Explain n lits) refl refl refl
+clause_prices before (lines.Order v w x lits) clause e = prices_stay before (lines.Order v w x lits) refl refl refl
+clause_prices before (lines.Goal lits) clause e = prices_stay before (lines.Goal lits) refl refl refl
+clause_prices before (lines.Lemma lits hints) clause e = prices_stay before (lines.Lemma lits hints) refl refl refl
+clause_prices before (lines.Delete ids) clause e = absurd cc
+clause_prices before (lines.Toll toll) clause e = absurd cc
+clause_prices before (lines.Tariff tariff) clause e = absurd cc
+clause_prices before (lines.Priced lits) clause e = prices_stay before (lines.Priced lits) refl refl refl
+clause_prices before (lines.Bound bound) clause e = absurd cc
 
 live_added : (before : List Line) (line : Line) (clause : List Lit) (id : ℕ) → DeletesEarlier before → clause_of line ≡ Some clause → clause_count (before ++ line ∷ []) ≡ clause_count before + 1 → live (before ++ line ∷ []) id ≡ cond (id == clause_count before + 1) (Some clause) (live before id)
 live_added before line clause id earlier of counted = elim (cases_lt (clause_count before) id) [
@@ -184,5 +181,5 @@ clause_added f before line clause earlier of =
       table = last_push before line ∙ no_table line clause (last_table before) of;
       best = more.best ∙ ap (option_and_then (cargo f)) (no_table line clause (last_table before) of);
       closed = more.closed ∙ ap (λ o. is_closed before || is_end o) of;
-      prices = clause_prices f before line clause of;
+      prices = clause_prices before line clause of;
     }

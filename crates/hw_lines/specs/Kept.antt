@@ -1,16 +1,15 @@
 -- What is kept of earlier lines: all that validity and verdict of later ones need.
-use Rattle.std.specs.Prelude.{ℕ, ◌+◌, ◌-◌, ◌==◌, Bool, false, ◌||◌, not, List, [], ◌∷◌, ◌++◌, Option, Some, None, filter, filter_map, find, option_map}
+use Rattle.std.specs.Prelude.{ℕ, ◌+◌, ◌==◌, Bool, false, ◌||◌, not, List, [], ◌∷◌, ◌++◌, Option, Some, None, filter, filter_map, find, option_map}
 use Rattle.std.specs.List.{list_any, range_with_len}
 use Rattle.hw_model.specs.declared.lit.Lit.{Lit}
 use Rattle.hw_model.specs.Problem.{Problem}
 use Rattle.hw_model.specs.Timetables.{cargo}
 use Rattle.hw_tolls.specs.declared.tariff.Tariff.{Tariff}
 use Rattle.hw_tolls.specs.declared.toll.Toll.{Toll}
-use Rattle.hw_tolls.specs.declared.toll.Toll.TheVariants as tolls
 use Rattle.hw_lines.specs.declared.line.Line.{Line}
 use Rattle.hw_lines.specs.declared.line.Line.TheVariants as lines
 use Rattle.hw_lines.specs.Lines.{clause_count, live, best_of, is_end, is_closed}
-use Rattle.hw_lines.specs.Tolled.{tolls_of, priced_by, tariff_of, bound_of}
+use Rattle.hw_lines.specs.Tolled.{tolls_of, tariff_of, bound_of}
 
 -- a clause with the number of its line
 pub record NumberedClause : Type 0 where
@@ -42,7 +41,7 @@ live_clauses all = filter_map (λ id. with_number id (live all id)) (range_with_
 
 -- what is kept of these lines
 abbrev pub kept_of : Problem → List Line → Kept
-kept_of f all = record { live = live_clauses all; next = clause_count all + 1; best = best_of f all; closed = is_closed all; tolls = tolls_of f all; tariff = tariff_of all; bound = bound_of all }
+kept_of f all = record { live = live_clauses all; next = clause_count all + 1; best = best_of f all; closed = is_closed all; tolls = tolls_of all; tariff = tariff_of all; bound = bound_of all }
 
 -- what is kept of no lines
 abbrev pub none_kept : Kept
@@ -68,8 +67,7 @@ kept_after f kept (lines.Order v w x clause) = with_clause kept clause
 kept_after f kept (lines.Goal clause) = with_clause kept clause
 kept_after f kept (lines.Lemma clause hints) = with_clause kept clause
 kept_after f kept (lines.Delete ids) = record kept { live = without ids kept.live }
-kept_after f kept (lines.Narrows blocks) = with_toll kept (tolls.Narrows blocks)
-kept_after f kept (lines.Tugs n slot most weights) = with_toll kept (tolls.Tugs (n - f.ships) slot weights most)
-kept_after f kept (lines.Tariff scale prices) = record kept { tariff = Some (priced_by scale prices) }
+kept_after f kept (lines.Toll toll) = with_toll kept toll
+kept_after f kept (lines.Tariff tariff) = record kept { tariff = Some tariff }
 kept_after f kept (lines.Priced clause) = with_clause kept clause
 kept_after f kept (lines.Bound bound) = record kept { bound = Some bound }

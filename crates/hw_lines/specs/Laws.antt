@@ -5,14 +5,14 @@ use Rattle.hw_model.specs.declared.lit.Lit.{Lit}
 use Rattle.hw_model.specs.Problem.{Problem}
 use Rattle.hw_model.specs.Timetables.{cargo}
 use Rattle.hw_tolls.specs.declared.limits.TheConstants.{MOST_TOLLS}
+use Rattle.hw_tolls.specs.declared.tariff.Tariff.{Tariff}
 use Rattle.hw_tolls.specs.declared.toll.Toll.{Toll}
 use Rattle.hw_tolls.specs.Prices.{TariffFits}
 use Rattle.hw_tolls.specs.Tolls.{IsToll}
 use Rattle.hw_lines.specs.declared.line.Line.{Line}
 use Rattle.hw_lines.specs.declared.line.Line.TheVariants as lines
 use Rattle.hw_lines.specs.Lines.{clause_of, clause_count, clause_at, deletes, live, live_numbers, DeletesEarlier, table_after, last_table, best_of, is_end, is_closed, ends}
-use Rattle.hw_lines.specs.declared.line.Price.{Price}
-use Rattle.hw_lines.specs.Tolled.{toll_of, tolls_of, priced_by, tariff_after, tariff_of, bound_after, bound_of}
+use Rattle.hw_lines.specs.Tolled.{toll_of, tolls_of, tariff_after, tariff_of, bound_after, bound_of}
 use Rattle.hw_lines.specs.Valid.{LineFits, Valid, verdict, verdict_by}
 use Rattle.hw_lines.specs.Kept.{clause_under, kept_of, kept_after}
 
@@ -25,7 +25,7 @@ pub record OneMore (f : Problem) (before : List Line) (line : Line) : Type 0 whe
   pub uncounted : clause_of line ≡ None → clause_count (before ++ line ∷ []) ≡ clause_count before
   pub earlier : (id : ℕ) → id ≤ clause_count before → deletes id line ≡ false → live (before ++ line ∷ []) id ≡ live before id
   pub added : IfSome (clause_of line) (λ clause. clause_at (before ++ line ∷ []) (clause_count before + 1) ≡ Some clause)
-  pub tolls : tolls_of f (before ++ line ∷ []) ≡ tolls_of f before ++ cons_option (toll_of f line) []
+  pub tolls : tolls_of (before ++ line ∷ []) ≡ tolls_of before ++ cons_option (toll_of line) []
   pub tariff : tariff_of (before ++ line ∷ []) ≡ tariff_after (tariff_of before) line
   pub bound : bound_of (before ++ line ∷ []) ≡ bound_after (bound_of before) line
 
@@ -34,8 +34,8 @@ abbrev pub LinesPushed : Type 0
 LinesPushed = (f : Problem) (before : List Line) (line : Line) → OneMore f before line
 
 -- the tolls, the tariff in force and the bound stay
-pub record PricesStay (f : Problem) (before after : List Line) : Type 0 where
-  pub tolls : tolls_of f after ≡ tolls_of f before
+pub record PricesStay (before after : List Line) : Type 0 where
+  pub tolls : tolls_of after ≡ tolls_of before
   pub tariff : tariff_of after ≡ tariff_of before
   pub bound : bound_of after ≡ bound_of before
 
@@ -54,7 +54,7 @@ pub record ClauseAdded (f : Problem) (before after : List Line) (clause : List L
   pub table : last_table after ≡ last_table before
   pub best : best_of f after ≡ best_of f before
   pub closed : is_closed after ≡ (is_closed before || is_end (Some clause))
-  pub prices : PricesStay f before after
+  pub prices : PricesStay before after
 
 -- what one more clause line changes, of every problem and line
 abbrev pub ClausePushed : Type 0
@@ -67,7 +67,7 @@ pub record TableAdded (f : Problem) (before after : List Line) (slots : List ℕ
   pub table : last_table after ≡ Some slots
   pub best : best_of f after ≡ cargo f slots
   pub closed : is_closed after ≡ is_closed before
-  pub prices : PricesStay f before after
+  pub prices : PricesStay before after
 
 -- what one more table changes
 abbrev pub TablePushed : Type 0
@@ -80,7 +80,7 @@ pub record NumbersDeleted (f : Problem) (before after : List Line) (ids : List �
   pub table : last_table after ≡ last_table before
   pub best : best_of f after ≡ best_of f before
   pub closed : is_closed after ≡ is_closed before
-  pub prices : PricesStay f before after
+  pub prices : PricesStay before after
 
 -- what one more deletion changes
 abbrev pub DeletionPushed : Type 0
@@ -89,29 +89,29 @@ DeletionPushed = (f : Problem) (before : List Line) (ids : List ℕ) → Numbers
 -- a line that declares a toll is the last one to do so, and changes nothing else
 pub record TollAdded (f : Problem) (before after : List Line) (toll : Toll) : Type 0 where
   pub clauses : ClausesStay f before after
-  pub tolls : tolls_of f after ≡ tolls_of f before ++ toll ∷ []
+  pub tolls : tolls_of after ≡ tolls_of before ++ toll ∷ []
   pub tariff : tariff_of after ≡ tariff_of before
   pub bound : bound_of after ≡ bound_of before
 
 -- what one more toll changes
 abbrev pub TollPushed : Type 0
-TollPushed = (f : Problem) (before : List Line) (line : Line) (toll : Toll) → toll_of f line ≡ Some toll → TollAdded f before (before ++ line ∷ []) toll
+TollPushed = (f : Problem) (before : List Line) (line : Line) (toll : Toll) → toll_of line ≡ Some toll → TollAdded f before (before ++ line ∷ []) toll
 
 -- prices come into force, and nothing else changes
-pub record TariffAdded (f : Problem) (before after : List Line) (scale : ℕ) (prices : List Price) : Type 0 where
+pub record TariffAdded (f : Problem) (before after : List Line) (tariff : Tariff) : Type 0 where
   pub clauses : ClausesStay f before after
-  pub tolls : tolls_of f after ≡ tolls_of f before
-  pub tariff : tariff_of after ≡ Some (priced_by scale prices)
+  pub tolls : tolls_of after ≡ tolls_of before
+  pub new_tariff : tariff_of after ≡ Some tariff
   pub bound : bound_of after ≡ bound_of before
 
 -- what one more tariff changes
 abbrev pub TariffPushed : Type 0
-TariffPushed = (f : Problem) (before : List Line) (scale : ℕ) (prices : List Price) → TariffAdded f before (before ++ lines.Tariff scale prices ∷ []) scale prices
+TariffPushed = (f : Problem) (before : List Line) (tariff : Tariff) → TariffAdded f before (before ++ lines.Tariff tariff ∷ []) tariff
 
 -- a bound is the last one from then on, and changes nothing else
 pub record BoundAdded (f : Problem) (before after : List Line) (bound : ℕ) : Type 0 where
   pub clauses : ClausesStay f before after
-  pub tolls : tolls_of f after ≡ tolls_of f before
+  pub tolls : tolls_of after ≡ tolls_of before
   pub tariff : tariff_of after ≡ tariff_of before
   pub new_bound : bound_of after ≡ Some bound
 
@@ -121,9 +121,9 @@ BoundPushed = (f : Problem) (before : List Line) (bound : ℕ) → BoundAdded f 
 
 -- the tolls are of the problem and at most `MOST_TOLLS`, and the tariff in force fits them where the lines fit
 pub record TollsAreGood (f : Problem) (all : List Line) : Type 0 where
-  pub tolls : All (IsToll f) (tolls_of f all)
-  pub few : length (tolls_of f all) ≤ MOST_TOLLS
-  pub tariff : All (LineFits f) all → IfSome (tariff_of all) (TariffFits (length (tolls_of f all)))
+  pub tolls : All (IsToll f) (tolls_of all)
+  pub few : length (tolls_of all) ≤ MOST_TOLLS
+  pub tariff : All (LineFits f) all → IfSome (tariff_of all) (TariffFits (length (tolls_of all)))
 
 -- valid lines declare tolls of the problem alone, and put prices in force on these alone
 abbrev pub ValidTolls : Type 0

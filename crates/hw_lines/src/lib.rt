@@ -12,4 +12,4 @@ pub use laws::{
     kept_pushed, kept_verdict, lines_pushed, price_line_rows, refusal_rows, table_pushed,
     tariff_pushed, toll_pushed, valid_deletes, valid_tolls,
 };
-pub use line::{Hints, Line, Price, Prices};
+pub use line::{Hints, Line};

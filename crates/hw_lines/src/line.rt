@@ -2,9 +2,9 @@
 
 ghost use Rattle.std.specs.Prelude.{◌≡◌, IfOk};
 
-use hw_flat::{NoMemory, ShipId, Slot, Timetable};
+use hw_flat::{NoMemory, ShipId, Timetable};
 use hw_lits::Clause;
-use hw_tolls::{Blocks, Weights};
+use hw_tolls::{Tariff, Toll};
 use std::alloc::Global;
 use std::marker::Model;
 
@@ -29,40 +29,6 @@ impl Hints {
     {
         let items = Vec::from_slice(alloc, &self.items)?;
         Ok(Hints { items })
-    }
-}
-
-/// A price on a toll that an earlier line declares.
-#[derive(Clone, Copy, Debug)]
-pub struct Price {
-    /// The toll's number, which counts from 1 in the order of the lines that declare tolls.
-    pub toll: u32,
-    /// What one unit costs, at most `MOST_PRICE` parts.
-    pub price: u64,
-}
-
-/// Prices on tolls, seen as their list.
-#[derive(Debug, Drop)]
-pub struct Prices {
-    pub items: Vec<Price>,
-}
-
-impl Model for Prices {
-    ghost use Rattle.std.specs.Prelude.{List};
-    ghost use Rattle.hw_lines.specs.declared.line.Price.{Price};
-
-    ghost Value = { List Price };
-
-    ghost view = { λ p. p.items.items };
-}
-
-impl Prices {
-    /// The same prices.
-    pub fn copy(&self, alloc: Global) -> Result<Prices, NoMemory>
-        ensures value { IfOk result (λ prices. prices ≡ self.now) }
-    {
-        let items = Vec::from_slice(alloc, &self.items)?;
-        Ok(Prices { items })
     }
 }
 
@@ -97,25 +63,13 @@ pub enum Line {
     Delete {
         ids: Hints,
     },
-    /// A toll: at most one of these ships lies in its block.
-    Narrows {
-        blocks: Blocks,
+    /// A toll of the problem. Tolls are numbered from 1, in the order of their lines.
+    Toll {
+        toll: Toll,
     },
-    /// A toll: the jobs that hold their tugs in the slot weigh at most this much together.
-    Tugs {
-        /// The number of the rule on tugs, counted as in an explanation.
-        restriction: u32,
-        slot: Slot,
-        /// At most `MOST_HELD`.
-        most: u32,
-        /// A weight for each job of the rule, at most `MOST_TUGS` each.
-        weights: Weights,
-    },
-    /// These prices are in force from here on.
+    /// These prices, on tolls that earlier lines declare, are in force from here on.
     Tariff {
-        /// How many parts make a tenth of a tonne, at most `MOST_SCALE`.
-        scale: u32,
-        prices: Prices,
+        tariff: Tariff,
     },
     /// The prices in force leave the clause's denied room no more cargo than the best one.
     Priced {
@@ -157,23 +111,11 @@ impl Line {
             Line::Delete { ids } => Line::Delete {
                 ids: ids.copy(alloc)?,
             },
-            Line::Narrows { blocks } => Line::Narrows {
-                blocks: copy_blocks(alloc, blocks)?,
+            Line::Toll { toll } => Line::Toll {
+                toll: toll.copy(alloc)?,
             },
-            Line::Tugs {
-                restriction,
-                slot,
-                most,
-                weights,
-            } => Line::Tugs {
-                restriction: *restriction,
-                slot: *slot,
-                most: *most,
-                weights: copy_weights(alloc, weights)?,
-            },
-            Line::Tariff { scale, prices } => Line::Tariff {
-                scale: *scale,
-                prices: prices.copy(alloc)?,
+            Line::Tariff { tariff } => Line::Tariff {
+                tariff: tariff.copy(alloc)?,
             },
             Line::Priced { clause } => Line::Priced {
                 clause: clause.copy(alloc)?,
@@ -188,18 +130,4 @@ fn copy_table(alloc: Global, table: &Timetable) -> Result<Timetable, NoMemory>
 {
     let _few = table.len();
     Timetable::from_slots(alloc, table.as_slice())
-}
-
-fn copy_blocks(alloc: Global, blocks: &Blocks) -> Result<Blocks, NoMemory>
-    ensures value { IfOk result (λ copied. copied ≡ blocks.now) }
-{
-    let items = Vec::from_slice(alloc, &blocks.items)?;
-    Ok(Blocks { items })
-}
-
-fn copy_weights(alloc: Global, weights: &Weights) -> Result<Weights, NoMemory>
-    ensures value { IfOk result (λ copied. copied ≡ weights.now) }
-{
-    let items = Vec::from_slice(alloc, &weights.items)?;
-    Ok(Weights { items })
 }

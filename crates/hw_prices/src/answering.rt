@@ -5,7 +5,7 @@ ghost use Rattle.hw_model.specs.Rooms.{RoomFits, low_of, high_of};
 ghost use Rattle.hw_tolls.specs.Tolls.{IsToll};
 ghost use Rattle.hw_advice.specs.Advisers.{IsAdviceIn, IsBoundIn, IsOpenIn, IsScene};
 
-use crate::exact::{are_priced, bound_of, copied, joined, tested};
+use crate::exact::{are_priced, bound_of, joined, tested};
 use hw_advice::{Advice, Bounding, Scene};
 use hw_flat::Room;
 use hw_model::{Lit, NoMemory};
@@ -32,7 +32,7 @@ pub(crate) fn advice_in_force(
     let Some(tariff) = scene.tariff else {
         return Ok(None);
     };
-    let tariff = copied(alloc, tariff)?;
+    let tariff = tariff.copy(alloc)?;
     let prices = InForce::new(alloc, scene.flat, scene.tolls, tariff)?;
     match tested(alloc, scene, scene.tolls, &prices, lits)? {
         None => Ok(None),

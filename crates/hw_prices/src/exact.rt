@@ -14,7 +14,6 @@ ghost use Rattle.hw_tariff.specs.InForce.{IsCharged};
 ghost use Rattle.hw_advice.specs.Advisers.{AreFurtherPrices};
 ghost use Rattle.hw_prices.specs.Exact.{IsTariffBound, IsTested};
 
-use crate::rows::copy;
 use hw_advice::Scene;
 use hw_flat::{Flat, Room};
 use hw_lits::{Clause, deny, narrowing};
@@ -22,7 +21,7 @@ use hw_model::{Lit, MOST_CARGO, MOST_HELD, Narrowed, NoMemory};
 use hw_tariff::{
     InForce, RulesByPair, allowance_of, charged_balances, charged_refute, is_toll_by, tariff_fits,
 };
-use hw_tolls::{Balance, Due, Dues, MOST_TOLLS, Tariff, Toll};
+use hw_tolls::{Balance, Due, MOST_TOLLS, Tariff, Toll};
 use std::alloc::Global;
 
 /// The declared tolls and those that come after them.
@@ -39,7 +38,7 @@ fn add_copies(alloc: Global, tolls: &[Toll], all: &mut Vec<Toll>) -> Result<(), 
     ensures value { IfOk result (λ _. all.new.items ≡ all.old.items ++ tolls.now) }
 {
     for toll in tolls {
-        let toll = copy(alloc, toll)?;
+        let toll = toll.copy(alloc)?;
         all.push(toll)?;
     }
     Ok(())
@@ -94,18 +93,6 @@ fn are_tolls(
         }
     }
     Ok(true)
-}
-
-/// A tariff like this one.
-pub(crate) fn copied(alloc: Global, tariff: &Tariff) -> Result<Tariff, NoMemory>
-    ensures value { IfOk result (λ copied. copied ≡ tariff.now) }
-{
-    Ok(Tariff {
-        scale: tariff.scale,
-        dues: Dues {
-            items: Vec::from_slice(alloc, &tariff.dues.items)?,
-        },
-    })
 }
 
 /// The clause of these literals, if it passes all tests under a tariff that was charged on these

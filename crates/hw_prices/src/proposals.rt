@@ -2,7 +2,7 @@
 
 use crate::answering::Offer;
 use crate::pricer::price_at;
-use crate::rows::{Row, copy};
+use crate::rows::Row;
 use crate::settings::SCALE;
 use hw_model::NoMemory;
 use hw_tolls::{Due, Dues, Tariff};
@@ -23,7 +23,7 @@ pub(crate) fn follow(
     declared: usize,
 ) -> Result<(), NoMemory> {
     for row in named.iter().skip(declared) {
-        number_row(rows, *row, None);
+        set_declared(rows, *row, false);
     }
     named.truncate(declared);
     for _other in named.len()..declared {
@@ -32,11 +32,11 @@ pub(crate) fn follow(
     Ok(())
 }
 
-/// Gives the row at a place, if there is one, its number among the declared tolls.
-fn number_row(rows: &mut [Row], place: Option<usize>, number: Option<usize>) {
+/// Notes whether the toll of the row at a place is declared, if there is a row.
+fn set_declared(rows: &mut [Row], place: Option<usize>, is_declared: bool) {
     if let Some(place) = place {
         if let Some(row) = rows.get_mut(place) {
-            row.number = number;
+            row.is_declared = is_declared;
         }
     }
 }
@@ -49,18 +49,18 @@ pub(crate) fn proposal_of(
     prices: &[i64],
 ) -> Result<Proposal, NoMemory> {
     let mut items = Vec::new(alloc);
-    for (number, row) in named.iter().enumerate() {
+    for (before, row) in named.iter().enumerate() {
         if let Some(row) = row {
-            add_due(&mut items, number, price_at(prices, *row))?;
+            add_due(&mut items, before, price_at(prices, *row))?;
         }
     }
     let mut tolls = Vec::new(alloc);
     let mut new_rows = Vec::new(alloc);
     for (place, row) in rows.iter().enumerate() {
         let price = price_at(prices, place);
-        if row.number.is_none() && 0 < price {
+        if !row.is_declared && 0 < price {
             add_due(&mut items, named.len().saturating_add(tolls.len()), price)?;
-            tolls.push(copy(alloc, &row.toll)?)?;
+            tolls.push(row.toll.copy(alloc)?)?;
             new_rows.push(place)?;
         }
     }
@@ -76,25 +76,26 @@ pub(crate) fn proposal_of(
     })
 }
 
-/// Adds a due, if it has a price. The exact tests refuse a toll of too great a number.
-fn add_due(items: &mut Vec<Due>, toll: usize, price: i64) -> Result<(), NoMemory> {
+/// Adds a due on the toll after this many others, if it has a price. The exact tests refuse a toll of too great a
+/// number.
+fn add_due(items: &mut Vec<Due>, before: usize, price: i64) -> Result<(), NoMemory> {
     if 0 < price {
         items.push(Due {
-            toll: u32::try_from(toll).unwrap_or(u32::MAX),
+            toll: u32::try_from(before.saturating_add(1)).unwrap_or(u32::MAX),
             price: price.unsigned_abs(),
         })?;
     }
     Ok(())
 }
 
-/// Numbers rows whose tolls are declared after all others.
+/// Names rows whose tolls are declared after all others.
 pub(crate) fn name_rows(
     named: &mut Vec<Option<usize>>,
     rows: &mut [Row],
     new: &[usize],
 ) -> Result<(), NoMemory> {
     for row in new {
-        number_row(rows, Some(*row), Some(named.len()));
+        set_declared(rows, Some(*row), true);
         named.push(Some(*row))?;
     }
     Ok(())

@@ -1,10 +1,8 @@
 //! A toll as what ships take of it in ranges of their slots.
 
-ghost use Rattle.std.specs.Prelude.{◌≡◌, IfOk};
-
 use hw_flat::{Flat, Slot};
 use hw_model::{Job, NoMemory, Rule};
-use hw_tolls::{Block, Blocks, Charge, Toll, Weights};
+use hw_tolls::{Block, Charge, Toll};
 use std::alloc::Global;
 
 /// A candidate.
@@ -13,8 +11,8 @@ pub(crate) struct Row {
     pub(crate) toll: Toll,
     /// What ships take of it.
     pub(crate) charges: Vec<Charge>,
-    /// Its place among the tolls that the search has declared, if it is one of these.
-    pub(crate) number: Option<usize>,
+    /// Whether the search has declared the toll.
+    pub(crate) is_declared: bool,
     /// What ships take of it in the present room.
     pub(crate) parts: Vec<Part>,
     /// In how many rooms it has had no price since it last had one.
@@ -35,7 +33,7 @@ impl Row {
         Ok(Row {
             toll,
             charges,
-            number: None,
+            is_declared: false,
             parts: Vec::new(alloc),
             idle: 0,
         })
@@ -54,15 +52,21 @@ fn charges(alloc: Global, flat: &Flat, toll: &Toll) -> Result<Vec<Charge>, NoMem
     match toll {
         Toll::Narrows { blocks } => of_blocks(alloc, &blocks.items),
         Toll::Tugs {
-            place,
+            restriction,
             slot,
             weights,
             ..
-        } => match flat.rules().get(*place as usize) {
+        } => match rule_at(flat, *restriction) {
             Some(Rule::Tugs { jobs, .. }) => of_jobs(alloc, &jobs.items, &weights.items, *slot),
             _ => Ok(Vec::new(alloc)),
         },
     }
+}
+
+/// The rule with this number, which counts the ships first. None where it is a ship's.
+fn rule_at(flat: &Flat, restriction: u32) -> Option<&Rule> {
+    let place = restriction.checked_sub(flat.shape().ships)?;
+    flat.rules().get(place as usize)
 }
 
 fn of_blocks(alloc: Global, blocks: &[Block]) -> Result<Vec<Charge>, NoMemory> {
@@ -98,32 +102,6 @@ fn of_jobs(
     Ok(out)
 }
 
-/// A toll like this one.
-pub(crate) fn copy(alloc: Global, toll: &Toll) -> Result<Toll, NoMemory>
-    ensures value { IfOk result (λ copied. copied ≡ toll.now) }
-{
-    match toll {
-        Toll::Narrows { blocks } => Ok(Toll::Narrows {
-            blocks: Blocks {
-                items: Vec::from_slice(alloc, &blocks.items)?,
-            },
-        }),
-        Toll::Tugs {
-            place,
-            slot,
-            weights,
-            most,
-        } => Ok(Toll::Tugs {
-            place: *place,
-            slot: *slot,
-            weights: Weights {
-                items: Vec::from_slice(alloc, &weights.items)?,
-            },
-            most: *most,
-        }),
-    }
-}
-
 /// Whether two tolls are the same.
 pub(crate) fn same(a: &Toll, b: &Toll) -> bool {
     match (a, b) {
@@ -132,19 +110,19 @@ pub(crate) fn same(a: &Toll, b: &Toll) -> bool {
         }
         (
             Toll::Tugs {
-                place,
+                restriction,
                 slot,
                 weights,
                 most,
             },
             Toll::Tugs {
-                place: other_place,
+                restriction: other_restriction,
                 slot: other_slot,
                 weights: others,
                 most: other_most,
             },
         ) => {
-            place == other_place
+            restriction == other_restriction
                 && slot == other_slot
                 && most == other_most
                 && weights.items.as_slice() == others.items.as_slice()

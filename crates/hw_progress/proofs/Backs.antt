@@ -33,8 +33,8 @@ use Rattle.hw_progress.proofs.Lines.{stored_cases, kept_stored, kept_written, if
 
 -- ---- a search that keeps some of the numbers
 
-pub open_less : (before : List Line) (s u : SearchModel) → u.stored ≡ s.stored → u.clause_lines ≡ s.clause_lines → u.best ≡ s.best → u.problem ≡ s.problem → u.prices ≡ s.prices → ((q m : ℕ) → written_at u q ≡ Some m → (written_at s q ≡ Some m) × (reason_at u.trail q ≡ reason_at s.trail q)) → FitsOpen before s → FitsOpen before u
-open_less before s u e c b f p h fit = record {
+pub open_less : (before : List Line) (s u : SearchModel) → u.stored ≡ s.stored → u.clause_lines ≡ s.clause_lines → u.best ≡ s.best → u.prices ≡ s.prices → ((q m : ℕ) → written_at u q ≡ Some m → (written_at s q ≡ Some m) × (reason_at u.trail q ≡ reason_at s.trail q)) → FitsOpen before s → FitsOpen before u
+open_less before s u e c b p h fit = record {
   lemmas = fit.lemmas ∙ ap (λ xs. map (λ (one : Stored). one.clause) xs) (sym e);
   count = fit.count ∙ sym c;
   best = fit.best ∙ sym b;
@@ -48,7 +48,7 @@ open_less before s u e c b f p h fit = record {
     | inr w ↦ fit.kept_live m (kept_written s w.0 m (h w.0 m w.1).0)
   ];
   deletes_earlier = fit.deletes_earlier;
-  prices = subst (λ (problem : Problem). PricesTold problem before u.prices) (sym f) (subst (PricesTold s.problem before) (sym p) fit.prices);
+  prices = subst (PricesTold before) (sym p) fit.prices;
 }
 
 pub kept_more : (before : List Line) (s u : SearchModel) → u.stored ≡ s.stored → ((q m : ℕ) → written_at s q ≡ Some m → written_at u q ≡ Some m) → LiveKept before s → LiveKept before u
@@ -67,7 +67,7 @@ reason_within t more level q clause e = by (slice_get t.events q) refl e
     by (Some event) h e = ap (option_and_then reason) (get_within t.events more q event h) ∙ e
 
 pub events_open : (before : List Line) (s : SearchModel) (more : List Event) → FitsOpen before s → FitsOpen before (with_events s more)
-events_open before s more fit = open_less before s (with_events s more) refl refl refl refl refl (λ q m w.
+events_open before s more fit = open_less before s (with_events s more) refl refl refl refl (λ q m w.
     let old : written_at s q ≡ Some m = sym (flat_past s.written (length more) q) ∙ w in
     let r = some_reason s before fit q m old in
     (old, reason_within s.trail more s.trail.level q r.0 r.1 ∙ sym r.1)) fit
@@ -77,7 +77,7 @@ events_kept before s more kept = kept_more before s (with_events s more) refl (�
 
 -- a decision
 pub decided_open : (before : List Line) (s : SearchModel) (event : Event) → FitsOpen before s → FitsOpen before (record s { trail = record { ships = s.trail.ships; slots = s.trail.slots; events = s.trail.events ++ event ∷ []; level = event.level }; written = s.written ++ None ∷ [] })
-decided_open before s event fit = open_less before s (record s { trail = record { ships = s.trail.ships; slots = s.trail.slots; events = s.trail.events ++ event ∷ []; level = event.level }; written = s.written ++ None ∷ [] }) refl refl refl refl refl (λ q m w.
+decided_open before s event fit = open_less before s (record s { trail = record { ships = s.trail.ships; slots = s.trail.slots; events = s.trail.events ++ event ∷ []; level = event.level }; written = s.written ++ None ∷ [] }) refl refl refl refl (λ q m w.
     let old : written_at s q ≡ Some m = sym (flat_past s.written 1 q) ∙ w in
     let r = some_reason s before fit q m old in
     (old, reason_within s.trail (event ∷ []) event.level q r.0 r.1 ∙ sym r.1)) fit
@@ -99,10 +99,10 @@ front_length t level f = ap length f.first ∙ length-take-le f.count t.events f
 pub reason_front : (t : TrailModel) (level : ℕ) (f : Front t.events level) (q : ℕ) → q < f.count → reason_at (back_to t level) q ≡ reason_at t q
 reason_front t level f q lt = ap (λ es. option_and_then reason (slice_get es q)) f.first ∙ ap (option_and_then reason) (get_front t.events f.count q lt)
 
-pub back_open : (before : List Line) (s u : SearchModel) (level : ℕ) → IsTrail s.trail → u.stored ≡ s.stored → u.clause_lines ≡ s.clause_lines → u.best ≡ s.best → u.problem ≡ s.problem → u.prices ≡ s.prices → u.trail ≡ back_to s.trail level → u.written ≡ take (length (back_to s.trail level).events) s.written → FitsOpen before s → FitsOpen before u
-back_open before s u level is e c b p r t w fit =
+pub back_open : (before : List Line) (s u : SearchModel) (level : ℕ) → IsTrail s.trail → u.stored ≡ s.stored → u.clause_lines ≡ s.clause_lines → u.best ≡ s.best → u.prices ≡ s.prices → u.trail ≡ back_to s.trail level → u.written ≡ take (length (back_to s.trail level).events) s.written → FitsOpen before s → FitsOpen before u
+back_open before s u level is e c b p t w fit =
     let f = front_of s.trail is level in
-    open_less before s u e c b p r (λ q m h.
+    open_less before s u e c b p (λ q m h.
     let at : WrittenAt (take f.count s.written) q m = subst (λ n. WrittenAt (take n s.written) q m) (front_length s.trail level f) (subst (λ ws. WrittenAt ws q m) w h) in
     let front = flat_front s.written f.count q m at in
     (front.0, ap (λ (x : TrailModel). reason_at x q) t ∙ reason_front s.trail level f q front.1)) fit
@@ -211,7 +211,7 @@ deleted_open before s ids e fit =
       deletes_earlier = λ n lt.
           let past : clause_count before < n = omega (arith, lt, o.uncounted refl) in
           any_push n before line (fit.deletes_earlier n past) (subst (λ xs. list_any (λ x. x == n) xs ≡ false) e (unkept_inside before s n past));
-      prices = prices_on s.problem before (before ++ line ∷ []) s.prices (numbers_deleted s.problem before ids).prices fit.prices;
+      prices = prices_on before (before ++ line ∷ []) s.prices (numbers_deleted s.problem before ids).prices fit.prices;
     }
 
 live_split : (f : Problem) (before : List Line) (ids : List ℕ) (n : ℕ) → IsSome (live (before ++ lines.Delete ids ∷ []) n) → (list_any (λ x. x == n) ids ≡ false) × IsSome (live before n)

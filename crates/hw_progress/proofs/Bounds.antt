@@ -130,9 +130,8 @@ lemma_fits f (line ∷ all) h = by line (All-head (LineFits f) line all h) (lemm
     by (lines.Goal clause) fits rest = rest
     by (lines.Lemma clause hints) fits rest = All-cons (IsClause (shape_of f)) clause (lemmas_of all) fits rest
     by (lines.Delete ids) fits rest = rest
-    by (lines.Narrows blocks) fits rest = rest
-    by (lines.Tugs n slot most weights) fits rest = rest
-    by (lines.Tariff scale prices) fits rest = rest
+    by (lines.Toll toll) fits rest = rest
+    by (lines.Tariff tariff) fits rest = rest
     by (lines.Priced clause) fits rest = rest
     by (lines.Bound bound) fits rest = rest
 

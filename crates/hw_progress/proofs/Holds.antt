@@ -115,9 +115,8 @@ plain_stays last (lines.Order v w x clause) e = refl
 plain_stays last (lines.Goal clause) e = refl
 plain_stays last (lines.Lemma clause hints) e = refl
 plain_stays last (lines.Delete ids) e = refl
-plain_stays last (lines.Narrows blocks) e = refl
-plain_stays last (lines.Tugs n slot most weights) e = refl
-plain_stays last (lines.Tariff scale prices) e = absurd cc
+plain_stays last (lines.Toll toll) e = refl
+plain_stays last (lines.Tariff tariff) e = absurd cc
 plain_stays last (lines.Priced clause) e = refl
 plain_stays last (lines.Bound bound) e = refl
 
@@ -131,7 +130,7 @@ plain_tariff before (line ∷ more) all =
 
 pub priced_writes : (f : Problem) (before : List Line) (clause : List Lit) → IsClause (shape_of f) clause → PricedHolds f before clause → SpeaksOnlyOf f sources.Goal clause → is_closed before ≡ false → clause_count before + 1 < 2 ^ 32 → Writes f before (lines.Priced clause)
 priced_writes f before clause is refutes speaks goes few = record {
-  plain = λ none. absurd (some_tariff (tariff_of before) (λ tariff. PricesRefute f (tolls_of f before) tariff (best_of f before) (denied_room f clause)) refutes none);
+  plain = λ none. absurd (some_tariff (tariff_of before) (λ tariff. PricesRefute f (tolls_of before) tariff (best_of f before) (denied_room f clause)) refutes none);
   fits = is;
   valid = record { goes_on = goes; numbered = few; claim = refutes };
   lean = speaks;
@@ -140,7 +139,7 @@ priced_writes f before clause is refutes speaks goes few = record {
 -- what the prices in force show, lines that tell them show too
 pub priced_holds : (s : SearchModel) (before : List Line) (clause : List Lit) → FitsOpen before s → PricesShow s clause → PricedHolds s.problem before clause
 priced_holds s before clause fit show =
-    subst (λ (o : Option Tariff). IsSomeAnd o (λ tariff. PricesRefute s.problem (tolls_of s.problem before) tariff (best_of s.problem before) (denied_room s.problem clause))) (sym fit.prices.tariff)
+    subst (λ (o : Option Tariff). IsSomeAnd o (λ tariff. PricesRefute s.problem (tolls_of before) tariff (best_of s.problem before) (denied_room s.problem clause))) (sym fit.prices.tariff)
     (subst (λ (ts : List Toll). IsSomeAnd s.prices.tariff (λ tariff. PricesRefute s.problem ts tariff (best_of s.problem before) (denied_room s.problem clause))) (sym fit.prices.tolls)
     (subst (λ (best : Option ℕ). IsSomeAnd s.prices.tariff (λ tariff. PricesRefute s.problem s.prices.tolls tariff best (denied_room s.problem clause))) (sym (best_same s before fit)) show.refuted))
 

@@ -82,8 +82,8 @@ gone_open : (before : List Line) (u : SearchModel) (back : ℕ) → IsTrail u.tr
 gone_open before u back is fit = by (restart_is_due u)
   where
     by : (b : Bool) → FitsOpen before (cond b (record (to_level u 0) { restarts = u.restarts + 1; since = 0 }) (record (to_level u back) { since = u.since + 1 }))
-    by true = back_open before u (record (to_level u 0) { restarts = u.restarts + 1; since = 0 }) 0 is refl refl refl refl refl refl refl fit
-    by false = back_open before u (record (to_level u back) { since = u.since + 1 }) back is refl refl refl refl refl refl refl fit
+    by true = back_open before u (record (to_level u 0) { restarts = u.restarts + 1; since = 0 }) 0 is refl refl refl refl refl refl fit
+    by false = back_open before u (record (to_level u back) { since = u.since + 1 }) back is refl refl refl refl refl refl fit
 
 -- ---- and the deletion
 

@@ -128,12 +128,12 @@ still_open f before line clause c some e = (one_more f before line).closed ∙ a
 
 -- ---- the prices that are told
 
-pub prices_on : (f : Problem) (before after : List Line) (p : PriceModel) → PricesStay f before after → PricesTold f before p → PricesTold f after p
-prices_on f before after p stay told = record { tolls = stay.tolls ∙ told.tolls; tariff = stay.tariff ∙ told.tariff; bound = stay.bound ∙ told.bound }
+pub prices_on : (before after : List Line) (p : PriceModel) → PricesStay before after → PricesTold before p → PricesTold after p
+prices_on before after p stay told = record { tolls = stay.tolls ∙ told.tolls; tariff = stay.tariff ∙ told.tariff; bound = stay.bound ∙ told.bound }
 
 -- a clause line changes none
-pub clause_told : (f : Problem) (before : List Line) (line : Line) (clause : List Lit) (p : PriceModel) → IsClauseLine line clause → PricesTold f before p → PricesTold f (before ++ line ∷ []) p
-clause_told f before line clause p c told = prices_on f before (before ++ line ∷ []) p (clause_prices f before line clause c.has) told
+pub clause_told : (before : List Line) (line : Line) (clause : List Lit) (p : PriceModel) → IsClauseLine line clause → PricesTold before p → PricesTold (before ++ line ∷ []) p
+clause_told before line clause p c told = prices_on before (before ++ line ∷ []) p (clause_prices before line clause c.has) told
 
 -- ---- the numbers that a search keeps
 
@@ -224,7 +224,7 @@ written_open s before place line clause fit c no_lemma why none some =
         ]
       ];
       deletes_earlier = earlier_push s.problem before line c.no_delete (omega (arith, counted s.problem before line clause c)) fit.deletes_earlier;
-      prices = clause_told s.problem before line clause s.prices c fit.prices;
+      prices = clause_told before line clause s.prices c fit.prices;
     }
 
 pub written_kept : (s : SearchModel) (before : List Line) (place : ℕ) (line : Line) (clause : List Lit) → FitsOpen before s → IsClauseLine line clause → LiveKept before s → place < length s.written → written_at s place ≡ None → LiveKept (before ++ line ∷ []) (with_written s place)
@@ -261,7 +261,7 @@ line_open s before line clause fit c none some = record {
   reason_stands = λ q. if_some (written_at s q) (λ number. clause_at (before ++ line ∷ []) number ≡ reason_at s.trail q) (λ m e. let r = some_reason s before fit q m e in reason_stays s before line fit q m e r.0 r.1 ∙ sym r.1);
   kept_live = λ m h. live_stays s.problem before line m (c.no_delete m) (fit.kept_live m h);
   deletes_earlier = earlier_push s.problem before line c.no_delete (omega (arith, counted s.problem before line clause c)) fit.deletes_earlier;
-  prices = clause_told s.problem before line clause s.prices c fit.prices;
+  prices = clause_told before line clause s.prices c fit.prices;
 }
 
 -- ---- a lemma's line
@@ -298,7 +298,7 @@ lemma_open s before lemma hints fit some =
         | inr new ↦ subst (λ k. IsSome (live (before ++ line ∷ []) k)) (sym (new ∙ n)) (is_there _ lemma (new_live s.problem before line lemma fit.deletes_earlier c))
       ];
       deletes_earlier = earlier_push s.problem before line c.no_delete (omega (arith, counted s.problem before line lemma c)) fit.deletes_earlier;
-      prices = clause_told s.problem before line lemma s.prices c fit.prices;
+      prices = clause_told before line lemma s.prices c fit.prices;
     }
 
 -- ---- a table's line
@@ -316,7 +316,7 @@ table_open s before table fit =
       reason_stands = λ q. if_some (written_at s q) (λ number. clause_at (before ++ line ∷ []) number ≡ reason_at s.trail q) (λ m e. let r = some_reason s before fit q m e in reason_stays s before line fit q m e r.0 r.1 ∙ sym r.1);
       kept_live = λ m h. live_stays s.problem before line m refl (fit.kept_live m h);
       deletes_earlier = earlier_push s.problem before line (λ id. refl) (omega (arith, o.uncounted refl)) fit.deletes_earlier;
-      prices = prices_on s.problem before (before ++ line ∷ []) s.prices (table_added s.problem before table).prices fit.prices;
+      prices = prices_on before (before ++ line ∷ []) s.prices (table_added s.problem before table).prices fit.prices;
     }
 
 pub table_kept : (s : SearchModel) (before : List Line) (table : List ℕ) → LiveKept before s → LiveKept (before ++ lines.Table table ∷ []) (record s { best = Some table })

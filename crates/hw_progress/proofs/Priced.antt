@@ -112,7 +112,7 @@ pub priced_claim : (s : SearchModel) (before : List Line) (clause : List Lit) �
 priced_claim s before clause fit shown =
     let f = s.problem in
     let best : best_of f before ≡ best_cargo s = ap (option_and_then (cargo f)) fit.best in
-    subst (λ o. IsSomeAnd o (λ tariff. PricesRefute f (tolls_of f before) tariff (best_of f before) (denied_room f clause))) (sym fit.prices.tariff)
+    subst (λ o. IsSomeAnd o (λ tariff. PricesRefute f (tolls_of before) tariff (best_of f before) (denied_room f clause))) (sym fit.prices.tariff)
     (subst (λ (ts : List Toll). IsSomeAnd s.prices.tariff (λ tariff. PricesRefute f ts tariff (best_of f before) (denied_room f clause))) (sym fit.prices.tolls)
     (subst (λ (o : Option ℕ). IsSomeAnd s.prices.tariff (λ tariff. PricesRefute f s.prices.tolls tariff o (denied_room f clause))) (sym best) shown.refuted))
 

@@ -397,7 +397,7 @@ last_told f mid u here now same over h w =
         good = subst (WrittenGood f) (sym v.lines) (good_more f here.lines (last_priced ∷ []) h.good v.good v.few_live);
         best = ap last_table v.lines ∙ last_push here.lines last_priced ∙ fit.best ∙ sym (ap (λ (x : SearchModel). x.best) over);
         lemmas = ap (λ xs. length (lemmas_of xs)) v.lines ∙ ap length (same_lemmas here.lines last_priced refl) ∙ h.lemmas ∙ sym (ap (λ (x : SearchModel). x.lemmas) over);
-        bound = ap bound_of v.lines ∙ (clause_told mid.problem here.lines last_priced [] mid.prices (priced_is []) fit.prices).bound ∙ sym (ap (λ (x : SearchModel). x.prices.bound) over);
+        bound = ap bound_of v.lines ∙ (clause_told here.lines last_priced [] mid.prices (priced_is []) fit.prices).bound ∙ sym (ap (λ (x : SearchModel). x.prices.bound) over);
       },
       ap is_closed v.lines ∙ last_closes f here.lines,
     )

@@ -1,9 +1,9 @@
 -- Lines that change the prices: a toll, a tariff and a bound.
-use Rattle.std.proofs.Common.{◌≡◌, ℕ, zero, suc, ◌+◌, ◌-◌, ◌^◌, ◌<◌, ◌≤◌, false, List, [], ◌∷◌, ◌++◌, Option, Some, None, length, get_or, map, slice_get, All, IfSome, IsSome, IsSomeAnd, refl, sym, ap, ◌∙◌, subst, arith, inl, length-append}
+use Rattle.std.proofs.Common.{◌≡◌, ℕ, zero, suc, ◌+◌, ◌-◌, ◌<◌, ◌≤◌, false, List, [], ◌∷◌, ◌++◌, Option, Some, None, length, map, slice_get, All, IfSome, IsSome, IsSomeAnd, refl, sym, ap, ◌∙◌, subst, arith, inl, length-append}
 use Rattle.std.specs.Prelude.{AllPairs}
 use Rattle.std.specs.List.Sorted.{IsStrictlyIncreasing}
 use Rattle.std.proofs.lemmas.List.{length-map, get_or-map}
-use Rattle.std.proofs.lemmas.List.Elements.{All-push, All-map, All-weaker}
+use Rattle.std.proofs.lemmas.List.Elements.{All-push, All-weaker}
 use Rattle.hw_model.specs.declared.rule.Rule.{Rule}
 use Rattle.hw_model.specs.declared.rule.Rule.TheVariants as rules
 use Rattle.hw_model.specs.Problem.{Problem, shape_of}
@@ -11,22 +11,20 @@ use Rattle.hw_model.specs.Rooms.{whole_room}
 use Rattle.hw_model.specs.Limits.{IsFlat, RuleFits}
 use Rattle.hw_laws.proofs.Counting.{at_place}
 use Rattle.hw_laws.proofs.Horizon.{horizon_le}
-use Rattle.hw_tolls.specs.declared.tariff.Due.{Due}
 use Rattle.hw_tolls.specs.declared.tariff.Tariff.{Tariff}
 use Rattle.hw_tolls.specs.declared.toll.Block.{Block}
 use Rattle.hw_tolls.specs.declared.toll.Toll.{Toll}
 use Rattle.hw_tolls.specs.declared.toll.Toll.TheVariants as tolls
-use Rattle.hw_tolls.specs.Tolls.{Apart, IsToll, WeighsUpTo}
-use Rattle.hw_tolls.specs.Prices.{DueFits, TariffFits, PricesBound}
+use Rattle.hw_tolls.specs.Tolls.{Apart, IsToll, WeighsUpTo, rule_at}
+use Rattle.hw_tolls.specs.Prices.{TariffFits, PricesBound}
 use Rattle.hw_tolls.proofs.More.{fits_more, more_tolls}
 use Rattle.hw_tolls.proofs.Sound.{bounded}
 use Rattle.hw_lines.specs.declared.line.Line.{Line}
 use Rattle.hw_lines.specs.declared.line.Line.TheVariants as lines
-use Rattle.hw_lines.specs.declared.line.Price.{Price}
-use Rattle.hw_lines.specs.Lines.{clause_of, clause_count, clause_at, deletes, table_after, last_table}
-use Rattle.hw_lines.specs.Tolled.{toll_of, tolls_of, due_of, priced_by, tariff_of}
-use Rattle.hw_lines.specs.Valid.{LineFits, Holds, TollHolds}
-use Rattle.hw_lines.specs.Lemmas.{lemma_of, LeanAfter}
+use Rattle.hw_lines.specs.Lines.{clause_of, clause_at, deletes, table_after, last_table}
+use Rattle.hw_lines.specs.Tolled.{tolls_of, tariff_of}
+use Rattle.hw_lines.specs.Valid.{LineFits}
+use Rattle.hw_lines.specs.Lemmas.{lemma_of}
 use Rattle.hw_lines.specs.Laws.{ClausesStay}
 use Rattle.hw_lines.proofs.Added.{clauses_stay, toll_added, tariff_added, bound_added}
 use Rattle.hw_lines.proofs.Pushed.{or_false, same_at, deleted_push}
@@ -35,7 +33,7 @@ use Rattle.hw_story.specs.declared.event.Why.TheVariants as whys
 use Rattle.hw_story.specs.Learning.{reason_at}
 use Rattle.hw_store.specs.declared.store.Stored.{Stored}
 use Rattle.hw_progress.specs.Living.{FewLive}
-use Rattle.hw_progress.specs.Prices.{PriceModel, NoneAbove, HoldsBound, ArePrices, PricesTold, older_or, bound_tariff, prices_with_toll, with_tariff, with_bound, toll_line, price_of, tariff_line, DuesAscend}
+use Rattle.hw_progress.specs.Prices.{PriceModel, NoneAbove, HoldsBound, ArePrices, PricesTold, older_or, bound_tariff, prices_with_toll, with_tariff, with_bound, DuesAscend}
 use Rattle.hw_progress.specs.Searches.{SearchModel, IsReason, IsSearch, FitsOpen, LiveKept, written_at, why_at}
 use Rattle.hw_progress.specs.Laws.{PriceLine, PriceTaken}
 use Rattle.hw_progress.proofs.Lines.{same_lemmas}
@@ -60,7 +58,7 @@ some_weaker : {A : Type 0} (P Q : A → Type 0) → ((x : A) → P x → Q x) �
 some_weaker P Q h None p = tt
 some_weaker P Q h (Some x) p = h x p
 
-price_open : (s : SearchModel) (before : List Line) (line : Line) (p : PriceModel) → IsPriceLine line → PricesTold s.problem (before ++ line ∷ []) p → FitsOpen before s → FitsOpen (before ++ line ∷ []) (with_prices s p)
+price_open : (s : SearchModel) (before : List Line) (line : Line) (p : PriceModel) → IsPriceLine line → PricesTold (before ++ line ∷ []) p → FitsOpen before s → FitsOpen (before ++ line ∷ []) (with_prices s p)
 price_open s before line p q told fit =
     let c = clauses_same s.problem before line q in
     record {
@@ -112,7 +110,7 @@ price_search s p is are = record {
 pub few_fitting : (u : SearchModel) (all : List Line) → IsSearch u → FitsOpen all u → LiveKept all u → FewLive u.problem all
 few_fitting u all is fit kept = live_few u all 0 (few_reasons u is).0 fit (λ number h. inl (kept number h))
 
-price_taken : (s : SearchModel) (line : Line) (p : PriceModel) → IsSearch s → IsPriceLine line → ArePrices s.problem p → ((before : List Line) → FitsOpen before s → PriceLine s.problem before line × PricesTold s.problem (before ++ line ∷ []) p) → PriceTaken s line (with_prices s p)
+price_taken : (s : SearchModel) (line : Line) (p : PriceModel) → IsSearch s → IsPriceLine line → ArePrices s.problem p → ((before : List Line) → FitsOpen before s → PriceLine s.problem before line × PricesTold (before ++ line ∷ []) p) → PriceTaken s line (with_prices s p)
 price_taken s line p is q are good =
     let is' = price_search s p is are in
     record {
@@ -130,14 +128,8 @@ price_taken s line p is q are good =
 
 -- ---- a toll
 
-toll_is : (f : Problem) (toll : Toll) → IsPriceLine (toll_line f toll)
-toll_is f (tolls.Narrows blocks) = record { none = refl; no_table = λ last. refl; no_delete = λ id. refl; no_lemma = refl }
-toll_is f (tolls.Tugs place slot weights most) = record { none = refl; no_table = λ last. refl; no_delete = λ id. refl; no_lemma = refl }
-
--- the line tells the toll
-toll_back : (f : Problem) (toll : Toll) → toll_of f (toll_line f toll) ≡ Some toll
-toll_back f (tolls.Narrows blocks) = refl
-toll_back f (tolls.Tugs place slot weights most) = let e : f.ships + place - f.ships ≡ place = omega arith in ap (λ n. Some (tolls.Tugs n slot weights most)) e
+toll_is : (toll : Toll) → IsPriceLine (lines.Toll toll)
+toll_is toll = record { none = refl; no_table = λ last. refl; no_delete = λ id. refl; no_lemma = refl }
 
 ships_ascend : (f : Problem) (blocks : List Block) → AllPairs (Apart f) blocks → IsStrictlyIncreasing (map (λ (block : Block). block.ship) blocks)
 ships_ascend f [] apart k lt = absurd (omega (arith, lt))
@@ -164,28 +156,16 @@ few_weights ships weights most (Some (rules.Pair v w holes)) fits h = absurd h
 few_weights ships weights most (Some (rules.After v w gap)) fits h = absurd h
 few_weights ships weights most (Some (rules.Tugs fleet jobs)) fits h = omega (arith, h.0, fits.few_jobs)
 
-toll_fits : (f : Problem) (toll : Toll) → IsFlat f → IsToll f toll → LineFits f (toll_line f toll)
+toll_fits : (f : Problem) (toll : Toll) → IsFlat f → IsToll f toll → LineFits f (lines.Toll toll)
 toll_fits f (tolls.Narrows blocks) flat is = record { some_block = is.some_block; few_blocks = is.few_blocks; each_block = is.each_block; ascend = ships_ascend f blocks is.apart }
-toll_fits f (tolls.Tugs place slot weights most) flat is = record {
-  past_ships = omega arith;
-  restriction_in = omega (arith, place_in f place (WeighsUpTo weights most) is.weighed);
+toll_fits f (tolls.Tugs n slot weights most) flat is = record {
+  past_ships = is.past_ships;
+  restriction_in = omega (arith, is.past_ships, place_in f (n - f.ships) (WeighsUpTo weights most) is.weighed);
   slot_in = omega (arith, is.slot_in, horizon_le f);
   small_most = is.small_most;
-  few_weights = few_weights f.ships weights most (slice_get f.rules place) (at_place (RuleFits f.ships) f.rules place flat.each_rule) is.weighed;
+  few_weights = few_weights f.ships weights most (rule_at f n) (at_place (RuleFits f.ships) f.rules (n - f.ships) flat.each_rule) is.weighed;
   small_weights = is.small_weights;
 }
-
--- the line's claim and its being lean, whatever it tells
-toll_holds : (f : Problem) (before : List Line) (toll : Toll) → TollHolds f before (toll_of f (toll_line f toll)) → Holds f before (toll_line f toll)
-toll_holds f before (tolls.Narrows blocks) h = h
-toll_holds f before (tolls.Tugs place slot weights most) h = h
-
-toll_lean : (f : Problem) (before : List Line) (toll : Toll) → LeanAfter f before (toll_line f toll)
-toll_lean f before (tolls.Narrows blocks) = tt
-toll_lean f before (tolls.Tugs place slot weights most) = tt
-
-numbered : (before : List Line) (line : Line) → IsPriceLine line → IfSome (clause_of line) (λ clause. clause_count before + 1 < 2 ^ 32)
-numbered before line q = subst (λ o. IfSome o (λ clause. clause_count before + 1 < 2 ^ 32)) (sym q.none) tt
 
 tariff_more : (ts : List Toll) (toll : Toll) (o : Option Tariff) → IfSome o (TariffFits (length ts)) → IfSome o (TariffFits (length (ts ++ toll ∷ [])))
 tariff_more ts toll None h = tt
@@ -215,21 +195,19 @@ toll_prices f p new are of few = record {
 }
 
 pub toll : (s : SearchModel) (toll : Toll) → IsSearch s → IsToll s.problem toll → length s.prices.tolls < 10_000
-    → PriceTaken s (toll_line s.problem toll) (record s { prices = prices_with_toll s.prices toll })
+    → PriceTaken s (lines.Toll toll) (record s { prices = prices_with_toll s.prices toll })
 toll s new is of few =
     let f = s.problem in
-    let line = toll_line f new in
-    let q = toll_is f new in
-    price_taken s line (prices_with_toll s.prices new) is q
+    let line = lines.Toll new in
+    price_taken s line (prices_with_toll s.prices new) is (toll_is new)
     (toll_prices f s.prices new is.prices of few)
     (λ before fit.
-    let added = toll_added f before line new (toll_back f new) in
-    let room : length (tolls_of f before) < 10_000 = omega (arith, few, ap length fit.prices.tolls) in
-    let claim : TollHolds f before (toll_of f line) = (room, subst (λ o. IsSomeAnd o (IsToll f)) (sym (toll_back f new)) of) in (
+    let added = toll_added f before line new refl in
+    let room : length (tolls_of before) < 10_000 = omega (arith, few, ap length fit.prices.tolls) in (
       record {
         fits = toll_fits f new is.flat of;
-        valid = record { goes_on = fit.none_empty; numbered = numbered before line q; claim = toll_holds f before new claim };
-        lean = toll_lean f before new;
+        valid = record { goes_on = fit.none_empty; numbered = tt; claim = (room, of) };
+        lean = tt;
       },
       record {
         tolls = added.tolls ∙ ap (λ ts. ts ++ new ∷ []) fit.prices.tolls;
@@ -240,38 +218,8 @@ toll s new is of few =
 
 -- ---- a tariff
 
-tariff_is : (scale : ℕ) (prices : List Price) → IsPriceLine (lines.Tariff scale prices)
-tariff_is scale prices = record { none = refl; no_table = λ last. refl; no_delete = λ id. refl; no_lemma = refl }
-
--- the line tells the tariff
-dues_back : (dues : List Due) → map due_of (map price_of dues) ≡ dues
-dues_back [] = refl
-dues_back (due ∷ dues) =
-    let e : due.toll + 1 - 1 ≡ due.toll = omega arith in
-    ap (λ n. record { toll = n; price = due.price } ∷ map due_of (map price_of dues)) e ∙ ap (λ ds. due ∷ ds) (dues_back dues)
-
-tariff_back : (tariff : Tariff) → priced_by tariff.scale (map price_of tariff.dues) ≡ tariff
-tariff_back tariff = ap (λ ds. record { scale = tariff.scale; dues = ds }) (dues_back tariff.dues)
-
--- ascending places have ascending numbers
-numbers_ascend : (dues : List Due) → IsStrictlyIncreasing (map (λ (due : Due). due.toll) dues) → IsStrictlyIncreasing (map (λ (one : Price). one.toll) (map price_of dues))
-numbers_ascend [] rises k lt = absurd (omega (arith, lt))
-numbers_ascend (d ∷ dues) rises k lt =
-    let all = d ∷ dues in
-    let a = length-map (map price_of all) (λ (one : Price). one.toll) in
-    let b = length-map all price_of in
-    let c = length-map all (λ (due : Due). due.toll) in
-    let n : k + 1 < length all = omega (arith, lt, a, b) in
-    let m : k < length all = omega (arith, n) in
-    let one = number_at all k d m in
-    let two = number_at all (k + 1) d n in
-    let less = rises k (omega (arith, n, c)) in
-    omega (arith, one, two, less)
-  where
-    number_at : (all : List Due) (k : ℕ) (d : Due) → k < length all → get_or (map (λ (one : Price). one.toll) (map price_of all)) k 0 ≡ get_or (map (λ (due : Due). due.toll) all) k 0 + 1
-    number_at all k d lt =
-        let a : k < length (map price_of all) = omega (arith, lt, length-map all price_of) in
-        get_or-map (λ (one : Price). one.toll) (map price_of all) k (price_of d) 0 a ∙ ap (λ (one : Price). one.toll) (get_or-map price_of all k d (price_of d) lt) ∙ ap (λ n. n + 1) (sym (get_or-map (λ (due : Due). due.toll) all k d 0 lt))
+tariff_is : (tariff : Tariff) → IsPriceLine (lines.Tariff tariff)
+tariff_is tariff = record { none = refl; no_table = λ last. refl; no_delete = λ id. refl; no_lemma = refl }
 
 -- the tariff that shows the last bound stays
 older_stays : (P : Tariff → Type 0) (o new : Option Tariff) → IsSomeAnd o P → IsSomeAnd (older_or o new) P
@@ -289,33 +237,31 @@ tariff_prices f p new are fits ascend = record {
 }
 
 pub tariff : (s : SearchModel) (tariff : Tariff) → IsSearch s → TariffFits (length s.prices.tolls) tariff → DuesAscend tariff
-    → PriceTaken s (tariff_line tariff) (record s { prices = with_tariff s.prices tariff })
+    → PriceTaken s (lines.Tariff tariff) (record s { prices = with_tariff s.prices tariff })
 tariff s new is fits ascend =
     let f = s.problem in
-    let prices = map price_of new.dues in
-    let line = tariff_line new in
-    price_taken s line (with_tariff s.prices new) is (tariff_is new.scale prices)
+    price_taken s (lines.Tariff new) (with_tariff s.prices new) is (tariff_is new)
     (tariff_prices f s.prices new is.prices fits ascend)
     (λ before fit.
-    let added = tariff_added f before new.scale prices in
-    let e : length (tolls_of f before) ≡ length s.prices.tolls = ap length fit.prices.tolls in (
+    let added = tariff_added f before new in
+    let e : length (tolls_of before) ≡ length s.prices.tolls = ap length fit.prices.tolls in (
       record {
         fits = record {
           small_scale = fits.small_scale;
-          from_one = All-map (λ (one : Price). 0 < one.toll) price_of new.dues (λ k d lt. omega arith);
-          ascend = numbers_ascend new.dues ascend;
-          small_prices = All-map (λ (one : Price). one.price ≤ 1_000_000_000_000_000_000) price_of new.dues (All-weaker (DueFits (length s.prices.tolls)) (λ (due : Due). due.price ≤ 1_000_000_000_000_000_000) (λ due h. h.small_price) new.dues fits.each_due);
+          from_one = λ i d lt. (fits.each_due i d lt).from_one;
+          ascend = ascend;
+          small_prices = λ i d lt. (fits.each_due i d lt).small_price;
         };
         valid = record {
           goes_on = fit.none_empty;
           numbered = tt;
-          claim = All-map (λ (one : Price). one.toll ≤ length (tolls_of f before)) price_of new.dues (All-weaker (DueFits (length s.prices.tolls)) (λ (due : Due). due.toll + 1 ≤ length (tolls_of f before)) (λ due h. omega (arith, h.toll_in, e)) new.dues fits.each_due);
+          claim = λ i d lt. omega (arith, (fits.each_due i d lt).toll_in, e);
         };
         lean = tt;
       },
       record {
         tolls = added.tolls ∙ fit.prices.tolls;
-        tariff = added.tariff ∙ ap (λ t. Some t) (tariff_back new);
+        tariff = added.new_tariff;
         bound = added.bound ∙ fit.prices.bound;
       },
     ))
@@ -353,8 +299,8 @@ bound s new is small below shown =
     (bound_prices f s.prices new is.flat is.prices shown)
     (λ before fit.
     let added = bound_added f before new in
-    let bounds : IsSomeAnd (tariff_of before) (λ tariff. (1 ≤ tariff.scale) × PricesBound f (tolls_of f before) tariff new) =
-    subst (λ o. IsSomeAnd o (λ tariff. (1 ≤ tariff.scale) × PricesBound f (tolls_of f before) tariff new)) (sym fit.prices.tariff)
+    let bounds : IsSomeAnd (tariff_of before) (λ tariff. (1 ≤ tariff.scale) × PricesBound f (tolls_of before) tariff new) =
+    subst (λ o. IsSomeAnd o (λ tariff. (1 ≤ tariff.scale) × PricesBound f (tolls_of before) tariff new)) (sym fit.prices.tariff)
     (subst (λ ts. IsSomeAnd s.prices.tariff (λ tariff. (1 ≤ tariff.scale) × PricesBound f ts tariff new)) (sym fit.prices.tolls) shown) in (
       record {
         fits = small;

@@ -131,7 +131,7 @@ fit_changes s before is fit = record {
     opened = decided_open before s (record { lit = lit; level = s.trail.level + 1; why = None }) fit;
     kept = decided_live before s (record { lit = lit; level = s.trail.level + 1; why = None });
   };
-  back = λ level. back_open before s (to_level s level) level is.trail refl refl refl refl refl refl refl fit;
+  back = λ level. back_open before s (to_level s level) level is.trail refl refl refl refl refl refl fit;
 }
 
 -- ---- a turn with a lemma

@@ -42,7 +42,7 @@ use Rattle.hw_tolls.specs.declared.tariff.Tariff.{Tariff}
 use Rattle.hw_tolls.specs.declared.toll.Toll.{Toll}
 use Rattle.hw_tolls.specs.Tolls.{IsToll}
 use Rattle.hw_tolls.specs.Prices.{TariffFits, PricesBound}
-use Rattle.hw_progress.specs.Prices.{toll_line, tariff_line, bound_tariff, prices_with_toll, with_tariff, with_bound, DuesAscend}
+use Rattle.hw_progress.specs.Prices.{bound_tariff, prices_with_toll, with_tariff, with_bound, DuesAscend}
 use Rattle.hw_progress.specs.Advised.{Heeds, HeedsLine, AdvisedMeets, BoundMeets, with_priced}
 use Rattle.hw_progress.specs.Living.{FewLive, FewLiveThroughout, FewLiveFrom}
 use Rattle.hw_progress.specs.Closing.{IsReached, last_priced, Closes}
@@ -108,12 +108,12 @@ pub record PriceTaken (s : SearchModel) (line : Line) (after : SearchModel) : Ty
 -- a toll of the problem is declared
 abbrev pub TollLine : Type 0
 TollLine = (s : SearchModel) (toll : Toll) → IsSearch s → IsToll s.problem toll → length s.prices.tolls < MOST_TOLLS
-    → PriceTaken s (toll_line s.problem toll) (record s { prices = prices_with_toll s.prices toll })
+    → PriceTaken s (lines.Toll toll) (record s { prices = prices_with_toll s.prices toll })
 
 -- a tariff on the declared tolls comes into force
 abbrev pub TariffLine : Type 0
 TariffLine = (s : SearchModel) (tariff : Tariff) → IsSearch s → TariffFits (length s.prices.tolls) tariff → DuesAscend tariff
-    → PriceTaken s (tariff_line tariff) (record s { prices = with_tariff s.prices tariff })
+    → PriceTaken s (lines.Tariff tariff) (record s { prices = with_tariff s.prices tariff })
 
 -- a bound of the whole problem below the last one, by the tariff in force
 abbrev pub BoundLine : Type 0

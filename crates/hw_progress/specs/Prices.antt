@@ -1,18 +1,14 @@
--- What a search keeps of tolls and prices, and the lines that tell them.
-use Rattle.std.specs.Prelude.{◌≡◌, ℕ, ◌+◌, ◌≤◌, List, [], ◌∷◌, ◌++◌, Option, Some, None, All, IfSome, IsSomeAnd, length, map}
+-- What a search keeps of tolls and prices, and the lines that tell it.
+use Rattle.std.specs.Prelude.{◌≡◌, ℕ, ◌≤◌, List, [], ◌∷◌, ◌++◌, Option, Some, None, All, IfSome, IsSomeAnd, length, map}
 use Rattle.std.specs.List.Sorted.{IsStrictlyIncreasing}
 use Rattle.hw_model.specs.Problem.{Problem}
 use Rattle.hw_model.specs.Timetables.{Permits, cargo}
 use Rattle.hw_tolls.specs.declared.limits.TheConstants.{MOST_TOLLS}
-use Rattle.hw_tolls.specs.declared.tariff.Due.{Due}
 use Rattle.hw_tolls.specs.declared.tariff.Tariff.{Tariff}
 use Rattle.hw_tolls.specs.declared.toll.Toll.{Toll}
-use Rattle.hw_tolls.specs.declared.toll.Toll.TheVariants as tolls
 use Rattle.hw_tolls.specs.Tolls.{IsToll}
 use Rattle.hw_tolls.specs.Prices.{TariffFits, PricesBound}
 use Rattle.hw_lines.specs.declared.line.Line.{Line}
-use Rattle.hw_lines.specs.declared.line.Line.TheVariants as lines
-use Rattle.hw_lines.specs.declared.line.Price.{Price}
 use Rattle.hw_lines.specs.Tolled.{tolls_of, tariff_of, bound_of}
 
 -- the tolls that were declared, the tariff in force, the last bound in tenths of a tonne, and an older tariff, which shows that bound, where the one in force need not
@@ -39,7 +35,7 @@ bound_tariff p = older_or p.older p.tariff
 abbrev pub NoneAbove : Problem → ℕ → Type 0
 NoneAbove f bound = (table : List ℕ) (c : ℕ) → Permits f table → cargo f table ≡ Some c → c ≤ bound
 
--- the dues are on tolls of ascending places
+-- the dues are on tolls of ascending numbers
 abbrev pub DuesAscend : Tariff → Type 0
 DuesAscend tariff = IsStrictlyIncreasing (map (λ due. due.toll) tariff.dues)
 
@@ -60,8 +56,8 @@ pub record ArePrices (f : Problem) (p : PriceModel) : Type 0 where
   pub shown : IfSome p.bound (λ bound. IsSomeAnd (bound_tariff p) (HoldsBound f p.tolls bound))
 
 -- lines tell these prices
-pub record PricesTold (f : Problem) (all : List Line) (p : PriceModel) : Type 0 where
-  pub tolls : tolls_of f all ≡ p.tolls
+pub record PricesTold (all : List Line) (p : PriceModel) : Type 0 where
+  pub tolls : tolls_of all ≡ p.tolls
   pub tariff : tariff_of all ≡ p.tariff
   pub bound : bound_of all ≡ p.bound
 
@@ -78,18 +74,3 @@ with_tariff p tariff = record p { tariff = Some tariff; older = bound_tariff p }
 -- another bound, which the tariff in force shows
 abbrev pub with_bound : PriceModel → ℕ → PriceModel
 with_bound p bound = record p { bound = Some bound; older = None }
-
--- ---- the lines
-
--- the line that declares a toll; the numbers of rules follow those of the ships
-abbrev pub toll_line : Problem → Toll → Line
-toll_line f (tolls.Narrows blocks) = lines.Narrows blocks
-toll_line f (tolls.Tugs place slot weights most) = lines.Tugs (f.ships + place) slot most weights
-
--- a price on the toll of a place by its number, which counts from 1
-abbrev pub price_of : Due → Price
-price_of due = record { toll = due.toll + 1; price = due.price }
-
--- the line that puts a tariff in force
-abbrev pub tariff_line : Tariff → Line
-tariff_line tariff = lines.Tariff tariff.scale (map price_of tariff.dues)

@@ -131,7 +131,7 @@ pub record FitsOpen (lines : List Line) (s : SearchModel) : Type 0 where
   pub reason_stands : (place : ℕ) → IfSome (written_at s place) (λ number. clause_at lines number ≡ reason_at s.trail place)
   pub kept_live : (number : ℕ) → Contains (kept_numbers s) number → IsSome (live lines number)
   pub deletes_earlier : DeletesEarlier lines
-  pub prices : PricesTold s.problem lines s.prices
+  pub prices : PricesTold lines s.prices
 
 -- no other line is live
 abbrev pub LiveKept : List Line → SearchModel → Type 0

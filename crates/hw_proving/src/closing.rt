@@ -15,7 +15,7 @@ use hw_progress::{Closed, MOST_BUDGET};
 use hw_prop::Propagator;
 use hw_search::Search;
 use hw_store::Store;
-use hw_tolls::{Dues, Tariff};
+use hw_tolls::Tariff;
 use std::alloc::Global;
 
 /// The answer where a line wasn't taken. It takes no memory.
@@ -33,13 +33,10 @@ fn copy(alloc: Global, tariff: &Tariff) -> Result<Tariff, LogStop>
     ensures value { IfOk result (λ copied. copied ≡ tariff.now) }
     ensures stop { IfErr result (λ stop. stop ≡ LogStop.NoMemory) }
 {
-    let Ok(items) = Vec::from_slice(alloc, &tariff.dues.items) else {
+    let Ok(copied) = tariff.copy(alloc) else {
         return Err(LogStop::NoMemory);
     };
-    Ok(Tariff {
-        scale: tariff.scale,
-        dues: Dues { items },
-    })
+    Ok(copied)
 }
 
 // Whether the best timetable reaches the last bound.

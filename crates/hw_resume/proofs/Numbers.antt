@@ -7,9 +7,10 @@ use Rattle.std.proofs.lemmas.List.Elements.{All-map}
 use Rattle.std.proofs.lemmas.Simd.{map-map}
 use Rattle.hw_model.specs.Problem.{Problem}
 use Rattle.hw_tolls.specs.declared.limits.TheConstants.{MOST_PRICE}
+use Rattle.hw_tolls.specs.declared.tariff.Due.{Due}
+use Rattle.hw_tolls.specs.declared.tariff.Tariff.{Tariff}
 use Rattle.hw_lines.specs.declared.line.Line.{Line}
-use Rattle.hw_lines.specs.declared.line.Line.TheVariants.{Delete, Tariff}
-use Rattle.hw_lines.specs.declared.line.Price.{Price}
+use Rattle.hw_lines.specs.declared.line.Line.TheVariants as lines
 use Rattle.hw_lines.specs.Valid.{LineFits}
 use Rattle.hw_resume.specs.Raising.{KeepsFit, raised_numbers, raised_prices}
 
@@ -29,7 +30,7 @@ still_rises by ids h k lt =
     let less = h k next in
     omega (arith, a, b, less)
 
-pub raised_delete : (f : Problem) (by : ℕ) (ids : List ℕ) → LineFits f (Delete ids) → LineFits f (Delete (raised_numbers by ids))
+pub raised_delete : (f : Problem) (by : ℕ) (ids : List ℕ) → LineFits f (lines.Delete ids) → LineFits f (lines.Delete (raised_numbers by ids))
 raised_delete f by ids h =
     let same = same_length by ids in
     let some : 0 < length (raised_numbers by ids) = omega (arith, same, h.0) in
@@ -37,21 +38,21 @@ raised_delete f by ids h =
     let above : 0 < slice_index (raised_numbers by ids) 0 = omega (arith, first, h.1) in
     (some, above, still_rises by ids h.2)
 
-pub raised_tariff : (f : Problem) (by scale : ℕ) (prices : List Price) → LineFits f (Tariff scale prices) → LineFits f (Tariff scale (raised_prices by prices))
-raised_tariff f by scale prices h = record {
+pub raised_tariff : (f : Problem) (by : ℕ) (tariff : Tariff) → LineFits f (lines.Tariff tariff) → LineFits f (lines.Tariff (record { scale = tariff.scale; dues = raised_prices by tariff.dues }))
+raised_tariff f by tariff h = record {
   small_scale = h.small_scale;
-  from_one = All-map (λ (one : Price). 0 < one.toll) (λ (one : Price). record { toll = one.toll + by; price = one.price }) prices (λ i x lt. omega (arith, h.from_one i x lt));
-  ascend = subst IsStrictlyIncreasing tolls (still_rises by (map (λ one. one.toll) prices) h.ascend);
-  small_prices = All-map (λ (one : Price). one.price ≤ MOST_PRICE) (λ (one : Price). record { toll = one.toll + by; price = one.price }) prices h.small_prices;
+  from_one = All-map (λ (one : Due). 0 < one.toll) (λ (one : Due). record { toll = one.toll + by; price = one.price }) tariff.dues (λ i x lt. omega (arith, h.from_one i x lt));
+  ascend = subst IsStrictlyIncreasing tolls (still_rises by (map (λ one. one.toll) tariff.dues) h.ascend);
+  small_prices = All-map (λ (one : Due). one.price ≤ MOST_PRICE) (λ (one : Due). record { toll = one.toll + by; price = one.price }) tariff.dues h.small_prices;
 }
   where
-    tolls : raised_numbers by (map (λ one. one.toll) prices) ≡ map (λ one. one.toll) (raised_prices by prices)
-    tolls = map-map (λ id. id + by) (λ (one : Price). one.toll) prices ∙ sym (map-map (λ (one : Price). one.toll) (λ (one : Price). record { toll = one.toll + by; price = one.price }) prices)
+    tolls : raised_numbers by (map (λ one. one.toll) tariff.dues) ≡ map (λ one. one.toll) (raised_prices by tariff.dues)
+    tolls = map-map (λ id. id + by) (λ (one : Due). one.toll) tariff.dues ∙ sym (map-map (λ (one : Due). one.toll) (λ (one : Due). record { toll = one.toll + by; price = one.price }) tariff.dues)
 
 -- ---- by what the line is
 
-pub delete_as : (line : Line) (ids items : List ℕ) (by : ℕ) → line ≡ Delete ids → items ≡ raised_numbers by ids → KeepsFit line (Delete items)
-delete_as line ids items by is same f h = subst (λ (xs : List ℕ). LineFits f (Delete xs)) (sym same) (raised_delete f by ids (subst (LineFits f) is h))
+pub delete_as : (line : Line) (ids items : List ℕ) (by : ℕ) → line ≡ lines.Delete ids → items ≡ raised_numbers by ids → KeepsFit line (lines.Delete items)
+delete_as line ids items by is same f h = subst (λ (xs : List ℕ). LineFits f (lines.Delete xs)) (sym same) (raised_delete f by ids (subst (LineFits f) is h))
 
-pub tariff_as : (line : Line) (scale by : ℕ) (prices items : List Price) → line ≡ Tariff scale prices → items ≡ raised_prices by prices → KeepsFit line (Tariff scale items)
-tariff_as line scale by prices items is same f h = subst (λ (xs : List Price). LineFits f (Tariff scale xs)) (sym same) (raised_tariff f by scale prices (subst (LineFits f) is h))
+pub tariff_as : (line : Line) (tariff : Tariff) (by : ℕ) (items : List Due) → line ≡ lines.Tariff tariff → items ≡ raised_prices by tariff.dues → KeepsFit line (lines.Tariff (record { scale = tariff.scale; dues = items }))
+tariff_as line tariff by items is same f h = subst (λ (xs : List Due). LineFits f (lines.Tariff (record { scale = tariff.scale; dues = xs }))) (sym same) (raised_tariff f by tariff (subst (LineFits f) is h))

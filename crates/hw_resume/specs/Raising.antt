@@ -2,7 +2,7 @@
 use Rattle.std.specs.Prelude.{◌≡◌, ℕ, ◌+◌, List, Option, Some, None, map}
 use Rattle.hw_model.specs.Problem.{Problem}
 use Rattle.hw_lines.specs.declared.line.Line.{Line}
-use Rattle.hw_lines.specs.declared.line.Price.{Price}
+use Rattle.hw_tolls.specs.declared.tariff.Due.{Due}
 use Rattle.hw_lines.specs.Lemmas.{lemma_of}
 use Rattle.hw_lines.specs.Valid.{LineFits}
 
@@ -11,7 +11,7 @@ abbrev pub raised_numbers : ℕ → List ℕ → List ℕ
 raised_numbers by ids = map (λ id. id + by) ids
 
 -- prices on tolls whose numbers are raised by this much
-abbrev pub raised_prices : ℕ → List Price → List Price
+abbrev pub raised_prices : ℕ → List Due → List Due
 raised_prices by prices = map (λ one. record { toll = one.toll + by; price = one.price }) prices
 
 -- the line that takes the place of one of a problem's shape is one too

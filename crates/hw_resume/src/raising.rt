@@ -6,7 +6,8 @@ ghost use Rattle.hw_lines.specs.Valid.{LineFits};
 ghost use Rattle.hw_resume.specs.Raising.{KeepsFit, KeepsLemma, raised_numbers, raised_prices};
 
 use hw_flat::NoMemory;
-use hw_lines::{Hints, Line, Price, Prices};
+use hw_lines::{Hints, Line};
+use hw_tolls::{Due, Dues, Tariff};
 use std::alloc::Global;
 
 /// By how much numbers are raised.
@@ -37,10 +38,12 @@ pub(crate) fn raised(alloc: Global, by: Raise, line: &Line) -> Result<Option<Lin
             Some(ids) => Ok(Some(Line::Delete { ids })),
             None => Ok(None),
         },
-        Line::Tariff { scale, prices } => match raised_dues(alloc, by.tolls, prices)? {
-            Some(prices) => Ok(Some(Line::Tariff {
-                scale: *scale,
-                prices,
+        Line::Tariff { tariff } => match raised_dues(alloc, by.tolls, &tariff.dues)? {
+            Some(dues) => Ok(Some(Line::Tariff {
+                tariff: Tariff {
+                    scale: tariff.scale,
+                    dues,
+                },
             })),
             None => Ok(None),
         },
@@ -67,12 +70,12 @@ fn raised_ids(alloc: Global, by: u32, ids: &Hints) -> Result<Option<Hints>, NoMe
     }
 }
 
-/// The same of prices, by the numbers of their tolls.
-fn raised_dues(alloc: Global, by: u32, prices: &Prices) -> Result<Option<Prices>, NoMemory>
-    ensures value { IfOk result (λ answer. IfSome answer (λ raised. raised ≡ raised_prices by prices.now)) }
+/// The same of dues, by the numbers of their tolls.
+fn raised_dues(alloc: Global, by: u32, dues: &Dues) -> Result<Option<Dues>, NoMemory>
+    ensures value { IfOk result (λ answer. IfSome answer (λ raised. raised ≡ raised_prices by dues.now)) }
 {
-    match raised_prices(alloc, by, &prices.items)? {
-        Some(items) => Ok(Some(Prices { items })),
+    match raised_prices(alloc, by, &dues.items)? {
+        Some(items) => Ok(Some(Dues { items })),
         None => Ok(None),
     }
 }
@@ -90,13 +93,13 @@ fn raised_numbers(alloc: Global, by: u32, ids: &[u32]) -> Result<Option<Vec<u32>
     Ok(Some(items))
 }
 
-fn raised_prices(alloc: Global, by: u32, prices: &[Price]) -> Result<Option<Vec<Price>>, NoMemory>
+fn raised_prices(alloc: Global, by: u32, prices: &[Due]) -> Result<Option<Vec<Due>>, NoMemory>
     ensures value { IfOk result (λ answer. IfSome answer (λ items. items.items ≡ raised_prices by prices.now)) }
 {
     let mut items = Vec::with_capacity(alloc, prices.len())?;
     for one in prices {
         match one.toll.checked_add(by) {
-            Some(toll) => items.push(Price {
+            Some(toll) => items.push(Due {
                 toll,
                 price: one.price,
             })?,

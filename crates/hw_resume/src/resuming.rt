@@ -76,7 +76,7 @@ fn counted(lines: &[Line]) -> Raise {
             | Line::Goal { .. }
             | Line::Lemma { .. }
             | Line::Priced { .. } => by.clauses = by.clauses.saturating_add(1),
-            Line::Narrows { .. } | Line::Tugs { .. } => by.tolls = by.tolls.saturating_add(1),
+            Line::Toll { .. } => by.tolls = by.tolls.saturating_add(1),
             Line::Table(_) | Line::Delete { .. } | Line::Tariff { .. } | Line::Bound { .. } => {}
         }
     }

@@ -16,7 +16,7 @@ use Rattle.hw_story.specs.declared.event.Why.TheVariants as whys
 use Rattle.hw_story.specs.Trails.{TrailModel, trail_shape, implied}
 use Rattle.hw_cert.specs.declared.log.LogStop.{LogStop}
 use Rattle.hw_cert.specs.Logs.{LogModel, WhereTold, LogTold}
-use Rattle.hw_progress.specs.Prices.{PriceModel, toll_line, tariff_line, prices_with_toll, with_tariff, DuesAscend, with_bound}
+use Rattle.hw_progress.specs.Prices.{PriceModel, prices_with_toll, with_tariff, DuesAscend, with_bound}
 use Rattle.hw_progress.specs.Searches.{SearchModel, IsSearch, LogFits, PricesShow, room_in}
 use Rattle.hw_progress.specs.Advised.{Heeds, with_priced, HeedWrites}
 use Rattle.hw_progress.proofs.Bounds.{few_numbers}
@@ -70,11 +70,11 @@ declared_is e u new held tolls same h t =
 pub declared_kept : (s : SearchModel) (new : Toll) (held tolls : List Toll) → IsSearch s → IsNewToll s new → held ≡ s.prices.tolls → tolls ≡ held ++ new ∷ [] → IsSearch (with_other_prices s (record s.prices { tolls = tolls }))
 declared_kept s new held tolls is of h t = subst (λ ts. IsSearch (with_other_prices s (record s.prices { tolls = ts }))) (sym (t ∙ ap (λ ts. ts ++ new ∷ []) h)) (toll_search s new is of.toll of.few)
 
-pub declared_heeds : (s : SearchModel) (new : Toll) (old log : LogModel) → IsSearch s → IsNewToll s new → WhereTold old (λ told. LogFits told s) → TakesAll (toll_line s.problem new ∷ []) old log → Heeds s (with_other_prices s (prices_with_toll s.prices new)) old log
-declared_heeds s new old log is of fits t = prices_heeded s (prices_with_toll s.prices new) (new ∷ []) (toll_line s.problem new) old log (toll_search s new is of.toll of.few) refl refl (toll s new is of.toll of.few).meets fits t
+pub declared_heeds : (s : SearchModel) (new : Toll) (old log : LogModel) → IsSearch s → IsNewToll s new → WhereTold old (λ told. LogFits told s) → TakesAll (lines.Toll new ∷ []) old log → Heeds s (with_other_prices s (prices_with_toll s.prices new)) old log
+declared_heeds s new old log is of fits t = prices_heeded s (prices_with_toll s.prices new) (new ∷ []) (lines.Toll new) old log (toll_search s new is of.toll of.few) refl refl (toll s new is of.toll of.few).meets fits t
 
-pub declared_stops : (s : SearchModel) (new : Toll) (stop : LogStop) (old log : LogModel) → IsSearch s → IsNewToll s new → WhereTold old (λ told. LogFits told s) → StopsWithin stop (toll_line s.problem new ∷ []) 0 old log → HeedStops s s old stop log
-declared_stops s new stop old log is of fits t = line_stops s (toll_line s.problem new) stop old log is fits (λ before fit. ((toll s new is of.toll of.few).meets before fit).good) t
+pub declared_stops : (s : SearchModel) (new : Toll) (stop : LogStop) (old log : LogModel) → IsSearch s → IsNewToll s new → WhereTold old (λ told. LogFits told s) → StopsWithin stop (lines.Toll new ∷ []) 0 old log → HeedStops s s old stop log
+declared_stops s new stop old log is of fits t = line_stops s (lines.Toll new) stop old log is fits (λ before fit. ((toll s new is of.toll of.few).meets before fit).good) t
 
 -- ---- a tariff
 
@@ -93,11 +93,11 @@ forced_is e u p new same is = ap (λ x. with_other_prices e.search x) is ∙ ap 
 pub forced_kept : (s : SearchModel) (p : PriceModel) (new : Tariff) → IsSearch s → IsNewTariff s new → p ≡ with_tariff s.prices new → IsSearch (with_other_prices s p)
 forced_kept s p new is of same = subst (λ x. IsSearch (with_other_prices s x)) (sym same) (tariff_search s new is of)
 
-pub forced_heeds : (s : SearchModel) (new : Tariff) (old log : LogModel) → IsSearch s → IsNewTariff s new → WhereTold old (λ told. LogFits told s) → TakesAll (tariff_line new ∷ []) old log → Heeds s (with_other_prices s (with_tariff s.prices new)) old log
-forced_heeds s new old log is of fits t = prices_heeded s (with_tariff s.prices new) [] (tariff_line new) old log (tariff_search s new is of) (sym (append-nil s.prices.tolls)) refl (tariff s new is of.fits of.ascend).meets fits t
+pub forced_heeds : (s : SearchModel) (new : Tariff) (old log : LogModel) → IsSearch s → IsNewTariff s new → WhereTold old (λ told. LogFits told s) → TakesAll (lines.Tariff new ∷ []) old log → Heeds s (with_other_prices s (with_tariff s.prices new)) old log
+forced_heeds s new old log is of fits t = prices_heeded s (with_tariff s.prices new) [] (lines.Tariff new) old log (tariff_search s new is of) (sym (append-nil s.prices.tolls)) refl (tariff s new is of.fits of.ascend).meets fits t
 
-pub forced_stops : (s : SearchModel) (new : Tariff) (stop : LogStop) (old log : LogModel) → IsSearch s → IsNewTariff s new → WhereTold old (λ told. LogFits told s) → StopsWithin stop (tariff_line new ∷ []) 0 old log → HeedStops s s old stop log
-forced_stops s new stop old log is of fits t = line_stops s (tariff_line new) stop old log is fits (λ before fit. ((tariff s new is of.fits of.ascend).meets before fit).good) t
+pub forced_stops : (s : SearchModel) (new : Tariff) (stop : LogStop) (old log : LogModel) → IsSearch s → IsNewTariff s new → WhereTold old (λ told. LogFits told s) → StopsWithin stop (lines.Tariff new ∷ []) 0 old log → HeedStops s s old stop log
+forced_stops s new stop old log is of fits t = line_stops s (lines.Tariff new) stop old log is fits (λ before fit. ((tariff s new is of.fits of.ascend).meets before fit).good) t
 
 -- ---- a clause that implies a literal
 

@@ -16,9 +16,8 @@ one_before last (lines.Order v w x clause) e = e
 one_before last (lines.Goal clause) e = e
 one_before last (lines.Lemma clause hints) e = e
 one_before last (lines.Delete ids) e = e
-one_before last (lines.Narrows blocks) e = e
-one_before last (lines.Tugs n slot most weights) e = e
-one_before last (lines.Tariff scale prices) e = absurd cc
+one_before last (lines.Toll toll) e = e
+one_before last (lines.Tariff tariff) e = absurd cc
 one_before last (lines.Priced clause) e = e
 one_before last (lines.Bound bound) e = e
 

@@ -66,7 +66,7 @@ impl<'f, S: Store + Drop, P: Propagator + Drop> Engine<'f, S, P> {
         let Ok(()) = self.prices.tolls.reserve(1) else {
             return Err(LogStop::NoMemory);
         };
-        hand_toll(self.alloc, self.flat, &toll, log)?;
+        hand_toll(self.alloc, &toll, log)?;
         self.prices.tolls.push_reserved(toll);
         Ok(())
     }

@@ -1,5 +1,5 @@
 -- What is added to costs.
-use Rattle.std.proofs.Common.{◌≡◌, ℕ, suc, ◌+◌, ◌*◌, ◌<◌, ◌≤◌, max, Bool, true, false, cond, ◌&&◌, nat_eq, nat_le, nat_lt, List, [], ◌∷◌, Option, Some, None, length, get_or, slice_get, map, drop, sum_by, option_map, IfSome, All, refl, subst, sym, ap, ◌∙◌, arith, le_refl, le_trans, zero-le, drop-cons}
+use Rattle.std.proofs.Common.{◌≡◌, ℕ, suc, ◌+◌, ◌-◌, ◌*◌, ◌<◌, ◌≤◌, max, Bool, true, false, cond, ◌&&◌, nat_eq, nat_le, nat_lt, List, [], ◌∷◌, Option, Some, None, length, get_or, map, drop, sum_by, option_map, IfSome, All, refl, sym, ap, ◌∙◌, arith, le_refl, le_trans, zero-le, drop-cons}
 use Rattle.std.proofs.lemmas.Bool.Decides.{nat_tests}
 use Rattle.std.proofs.lemmas.List.{get_or_default}
 use Rattle.std.proofs.lemmas.List.Elements.{All-nil, All-cons, All-head, All-tail}
@@ -18,10 +18,11 @@ use Rattle.hw_tolls.specs.declared.toll.Block.{Block}
 use Rattle.hw_tolls.specs.declared.toll.Charge.{Charge}
 use Rattle.hw_tolls.specs.declared.toll.Toll.{Toll}
 use Rattle.hw_tolls.specs.declared.toll.Toll.TheVariants.{Narrows, Tugs}
-use Rattle.hw_tolls.specs.Tolls.{IsToll, lies_in, block_charge, job_charge, job_charges, rule_charges}
-use Rattle.hw_tolls.specs.Prices.{DueFits}
+use Rattle.hw_tolls.specs.Tolls.{IsToll, lies_in, block_charge, job_charge, job_charges, rule_at, rule_charges}
+use Rattle.hw_tolls.specs.Prices.{DueFits, toll_at}
 use Rattle.hw_tolls.specs.Computed.{takes, takes_at, pays, balance}
-use Rattle.hw_tariff.proofs.Steps.{due_left, toll_read}
+use Rattle.hw_tolls.proofs.Taken.{at_number}
+use Rattle.hw_tariff.proofs.Steps.{due_left, told_toll}
 
 pub whole_span : (from to k j : ℕ) → from ≤ k → k ≤ max from to → to ≤ k → (nat_le from j && nat_lt j k) ≡ (nat_le from j && nat_lt j to)
 whole_span from to k j a b c = grind (arith, nat_tests)
@@ -119,7 +120,7 @@ rule_small ships slot ship k weights (Some (rules.Tugs fleet jobs)) fits small =
 
 pub toll_small : (f : Problem) (toll : Toll) (ship k : ℕ) → IsFlat f → IsToll f toll → takes_at f (Some toll) ship k ≤ 2_560
 toll_small f (Narrows blocks) ship k flat is = omega (arith, all_small ship k (map block_charge blocks) (blocks_small blocks), few_blocks blocks is.few_blocks)
-toll_small f (Tugs place slot weights most) ship k flat is = rule_small f.ships slot ship k weights (slice_get f.rules place) (at_place (RuleFits f.ships) f.rules place flat.each_rule) is.small_weights
+toll_small f (Tugs n slot weights most) ship k flat is = rule_small f.ships slot ship k weights (rule_at f n) (at_place (RuleFits f.ships) f.rules (n - f.ships) flat.each_rule) is.small_weights
 
 taken_small : (f : Problem) (o : Option Toll) (ship slot : ℕ) → IsFlat f → IfSome o (IsToll f) → takes_at f o ship slot ≤ 2_560
 taken_small f None ship slot flat h = zero-le
@@ -130,25 +131,24 @@ pub pays_small : (f : Problem) (tolls : List Toll) (dues : List Due) (ship slot 
 pays_small f tolls [] ship slot flat all fit = zero-le
 pays_small f tolls (due ∷ dues) ship slot flat all fit =
     let fits : DueFits (length tolls) due = All-head (DueFits (length tolls)) due dues fit in
-    let few : takes_at f (slice_get tolls due.toll) ship slot ≤ 2_560 = taken_small f (slice_get tolls due.toll) ship slot flat (at_place (IsToll f) tolls due.toll all) in
-    let here : due.price * takes_at f (slice_get tolls due.toll) ship slot ≤ 2_560_000_000_000_000_000_000 = times_small due.price (takes_at f (slice_get tolls due.toll) ship slot) fits.small_price few in
+    let few : takes_at f (toll_at tolls due.toll) ship slot ≤ 2_560 = taken_small f (toll_at tolls due.toll) ship slot flat (at_number (IsToll f) tolls due.toll all) in
+    let here : due.price * takes_at f (toll_at tolls due.toll) ship slot ≤ 2_560_000_000_000_000_000_000 = times_small due.price (takes_at f (toll_at tolls due.toll) ship slot) fits.small_price few in
     let rest : pays f tolls dues ship slot ≤ 2_560_000_000_000_000_000_000 * length dues = pays_small f tolls dues ship slot flat all (All-tail (DueFits (length tolls)) due dues fit) in
-    omega (arith, here, rest, sum_by-cons (λ (due : Due). due.price * takes_at f (slice_get tolls due.toll) ship slot) due dues)
+    omega (arith, here, rest, sum_by-cons (λ (due : Due). due.price * takes_at f (toll_at tolls due.toll) ship slot) due dues)
 
 due_small : (b : Bool) (price units : ℕ) → price ≤ 1_000_000_000_000_000_000 → units ≤ 2_560 → cond b (price * units) 0 ≤ 2_560_000_000_000_000_000_000
 due_small true price units cheap few = times_small price units cheap few
 due_small false price units cheap few = zero-le
 
 -- the costs after one more due: they stay small, and what is left is what is left
-pub due_charged : (f : Problem) (tolls : List Toll) (dues : List Due) (ship low high i k old new all : ℕ) (d : Due) (toll : Toll) → IsFlat f → All (IsToll f) tolls → All (DueFits (length tolls)) dues → i < length dues → toll ≡ get_or tolls (get_or dues i d).toll toll
+pub due_charged : (f : Problem) (tolls : List Toll) (dues : List Due) (ship low high i k old new all : ℕ) (d : Due) (toll : Toll) → IsFlat f → All (IsToll f) tolls → All (DueFits (length tolls)) dues → i < length dues → toll_at tolls (get_or dues i d).toll ≡ Some toll
     → new ≡ old + cond (lies_in low high k) ((get_or dues i d).price * takes_at f (Some toll) ship k) 0
     → old + cond (lies_in low high k) (pays f tolls (drop i dues) ship k) 0 ≡ all
     → (new ≤ old + 2_560_000_000_000_000_000_000) × (new + cond (lies_in low high k) (pays f tolls (drop (i + 1) dues) ship k) 0 ≡ all)
-due_charged f tolls dues ship low high i k old new all d toll flat tolls_are fit lt read is told =
-    let at : slice_get tolls (get_or dues i d).toll ≡ Some toll = toll_read tolls dues i d toll fit lt read in
-    let one : IsToll f toll = subst (λ o. IfSome o (IsToll f)) at (at_place (IsToll f) tolls (get_or dues i d).toll tolls_are) in
+due_charged f tolls dues ship low high i k old new all d toll flat tolls_are fit lt at is told =
+    let one : IsToll f toll = told_toll (IsToll f) tolls (get_or dues i d).toll toll tolls_are at in
     let few : takes_at f (Some toll) ship k ≤ 2_560 = toll_small f toll ship k flat one in
-    let left : pays f tolls (drop i dues) ship k ≡ (get_or dues i d).price * takes_at f (Some toll) ship k + pays f tolls (drop (i + 1) dues) ship k = due_left f tolls dues ship k i d toll fit lt read in
+    let left : pays f tolls (drop i dues) ship k ≡ (get_or dues i d).price * takes_at f (Some toll) ship k + pays f tolls (drop (i + 1) dues) ship k = due_left f tolls dues ship k i d toll lt at in
     (omega (arith, is, due_small (lies_in low high k) (get_or dues i d).price (takes_at f (Some toll) ship k) (fit i d lt).small_price few), by (lies_in low high k) is told left)
   where
     by : (b : Bool) → new ≡ old + cond b ((get_or dues i d).price * takes_at f (Some toll) ship k) 0 → old + cond b (pays f tolls (drop i dues) ship k) 0 ≡ all

@@ -6,6 +6,7 @@ ghost use Rattle.hw_tolls.specs.Prices.{DueFits};
 ghost use Rattle.hw_tolls.specs.Computed as computed;
 ghost use Rattle.hw_tariff.specs.Charging.{PaysMore, pays_for};
 
+use crate::taking::toll_at;
 use hw_flat::{Flat, Slot};
 use hw_model::{Job, MOST_HELD, MOST_SHIPS, MOST_SLOTS, MOST_TUGS, Rule};
 use hw_tolls::{Block, Charge, Due, MOST_COST, MOST_DUES, MOST_PRICE, Toll};
@@ -128,14 +129,14 @@ fn charge_toll(costs: &mut [u128], span: Span, flat: &Flat, toll: &Toll)
     match toll {
         Toll::Narrows { blocks } => charge_blocks(costs, span, &blocks.items),
         Toll::Tugs {
-            place,
+            restriction,
             slot,
             weights,
             ..
         } => charge_rule(
             costs,
             span,
-            &flat.rules()[*place as usize],
+            &flat.rules()[(*restriction - flat.shape().ships) as usize],
             &weights.items,
             *slot,
         ),
@@ -161,7 +162,7 @@ pub fn charge(costs: &mut [u128], flat: &Flat, tolls: &[Toll], dues: &[Due], ran
             range,
             price: due.price,
         };
-        charge_toll(costs, span, flat, &tolls[due.toll as usize]);
+        charge_toll(costs, span, flat, toll_at(tolls, due.toll));
     }
 }
 

@@ -9,6 +9,7 @@ ghost use Rattle.hw_tariff.specs.Charging.{AllPayMore, AreRows, CanPay, HasCost,
 ghost use Rattle.hw_tariff.specs.InForce.{AreCosts};
 
 use crate::charging::{add, charge_for, charge_of};
+use crate::taking::toll_at;
 use hw_flat::{Flat, Slot};
 use hw_model::{Job, MOST_HELD, MOST_SLOTS, MOST_TUGS, NoMemory, Rule};
 use hw_tolls::{Block, Charge, Due, MOST_DUES, MOST_PRICE, Toll};
@@ -108,7 +109,7 @@ fn charge_dues(rows: &mut [Costs], flat: &Flat, tolls: &[Toll], dues: &[Due])
 {
     let _shape = flat.shape();
     for due in dues {
-        charge_ships(rows, flat, due.price, &tolls[due.toll as usize]);
+        charge_ships(rows, flat, due.price, toll_at(tolls, due.toll));
     }
 }
 
@@ -123,14 +124,14 @@ fn charge_ships(rows: &mut [Costs], flat: &Flat, price: u64, toll: &Toll)
     match toll {
         Toll::Narrows { blocks } => charge_each_block(rows, price, &blocks.items),
         Toll::Tugs {
-            place,
+            restriction,
             slot,
             weights,
             ..
         } => charge_each_of_rule(
             rows,
             price,
-            &flat.rules()[*place as usize],
+            &flat.rules()[(*restriction - flat.shape().ships) as usize],
             &weights.items,
             *slot,
         ),

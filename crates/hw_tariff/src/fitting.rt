@@ -29,5 +29,5 @@ fn each_due_fits(tolls: usize, dues: &[Due]) -> bool
 fn due_fits(tolls: usize, due: Due) -> bool
     ensures value { IsTrue result ↔ DueFits tolls due }
 {
-    (due.toll as usize) < tolls && due.price <= MOST_PRICE
+    0 < due.toll && due.toll as usize <= tolls && due.price <= MOST_PRICE
 }

@@ -44,33 +44,34 @@ pub fn is_toll_by(
     match toll {
         Toll::Narrows { blocks } => narrows_fit(alloc, flat, &blocks.items, rules),
         Toll::Tugs {
-            place,
+            restriction,
             slot,
             weights,
             most,
-        } => tugs_fit(alloc, flat, *place, *slot, &weights.items, *most),
+        } => tugs_fit(alloc, flat, *restriction, *slot, &weights.items, *most),
     }
 }
 
-/// Whether the weights of the rule at a place are a toll in a slot.
+/// Whether these weights of the rule with this number are a toll in a slot. The number counts the ships first.
 fn tugs_fit(
     alloc: Global,
     flat: &Flat,
-    place: u32,
+    restriction: u32,
     slot: Slot,
     weights: &[u32],
     most: u32,
 ) -> Result<bool, NoMemory>
-    ensures value { IfOk result (λ yes. IsTrue yes ↔ TugsTollFits flat.now place slot weights.now most) }
+    ensures value { IfOk result (λ yes. IsTrue yes ↔ TugsTollFits flat.now restriction slot weights.now most) }
 {
-    if flat.shape().rules <= place
-        || flat.horizon() <= slot
-        || MOST_HELD < most
-        || !are_small(weights)
-    {
+    let shape = flat.shape();
+    if restriction < shape.ships || shape.rules <= restriction - shape.ships {
         return Ok(false);
     }
-    weighs_up_to(alloc, &flat.rules()[place as usize], weights, most)
+    if flat.horizon() <= slot || MOST_HELD < most || !are_small(weights) {
+        return Ok(false);
+    }
+    let rule = &flat.rules()[(restriction - shape.ships) as usize];
+    weighs_up_to(alloc, rule, weights, most)
 }
 
 /// Whether each weight is within its limit.

@@ -1,10 +1,20 @@
 //! How much a permitted timetable takes of a toll, and pays, at most.
-ghost use Rattle.std.specs.Prelude.{◌≡◌, ◌*◌, ◌≤◌, length, All};
+ghost use Rattle.std.specs.Prelude.{◌≡◌, ◌*◌, ◌<◌, ◌≤◌, length, All, Some};
 ghost use Rattle.hw_tolls.specs.Tolls.{capacity};
-ghost use Rattle.hw_tolls.specs.Prices.{DueFits, allowance};
+ghost use Rattle.hw_tolls.specs.Prices.{DueFits, allowance, toll_at};
 
 use hw_model::MOST_HELD;
 use hw_tolls::{Due, MOST_COST, MOST_DUES, MOST_PRICE, Toll};
+
+/// The toll of this number, which counts from 1.
+pub(crate) fn toll_at(tolls: &[Toll], number: u32) -> &Toll
+    requires from_one { 0 < number }
+    requires toll_in { number ≤ length tolls.now }
+    ensures value { toll_at tolls.now number ≡ Some result.now }
+{
+    let place = number as usize - 1;
+    &tolls[place]
+}
 
 /// How much a permitted timetable takes of a toll at most.
 pub fn capacity_of(toll: &Toll) -> u64
@@ -38,7 +48,7 @@ pub fn allowance_of(tolls: &[Toll], dues: &[Due]) -> u128
 {
     let mut sum: u128 = 0;
     for due in dues {
-        sum += priced(due.price, capacity_of(&tolls[due.toll as usize]));
+        sum += priced(due.price, capacity_of(toll_at(tolls, due.toll)));
     }
     sum
 }

@@ -1,9 +1,9 @@
 -- The test of tolls computes which are tolls of a problem.
-use Rattle.std.proofs.Common.{◌≡◌, ℕ, zero, suc, ◌+◌, ◌<◌, ◌≤◌, Bool, true, false, ◌&&◌, ◌==◌, nat_le, nat_lt, List, [], ◌∷◌, Option, None, Some, length, get_or, slice_get, All, AllPairs, IsTrue, IsSomeAnd, refl, arith, eq-eqb}
+use Rattle.std.proofs.Common.{◌≡◌, ℕ, suc, ◌≤◌, Bool, true, ◌&&◌, ◌==◌, nat_le, nat_lt, List, [], ◌∷◌, Option, None, Some, length, All, AllPairs, IsSomeAnd, refl, arith, eq-eqb}
 use Rattle.std.proofs.lemmas.Bool.{ltb-true, lt-ltb, leb-true, le-leb, eqb-true, and_parts, and_from}
 use Rattle.std.proofs.lemmas.List.Elements.{All-nil, All-cons, All-head, All-tail}
 use Rattle.std.proofs.lemmas.List.Kept.{AllPairs-cons}
-use Rattle.std.specs.List.{list_all, list_any, range_with_len}
+use Rattle.std.specs.List.{list_all}
 use Rattle.hw_model.specs.declared.rule.Rule.{Rule}
 use Rattle.hw_model.specs.declared.rule.Rule.TheVariants as rules
 use Rattle.hw_model.specs.declared.source.Source.TheVariants as sources
@@ -14,7 +14,7 @@ use Rattle.hw_laws.proofs.Tested.{tested, tests}
 use Rattle.hw_tolls.specs.declared.toll.Block.{Block}
 use Rattle.hw_tolls.specs.declared.toll.Toll.{Toll}
 use Rattle.hw_tolls.specs.declared.toll.Toll.TheVariants.{Narrows, Tugs}
-use Rattle.hw_tolls.specs.Tolls.{IsToll, NarrowsFit, TugsTollFits, BlockFits, Apart, WeighsUpTo, two_blocks, heaviest}
+use Rattle.hw_tolls.specs.Tolls.{IsToll, NarrowsFit, TugsTollFits, BlockFits, Apart, WeighsUpTo, rule_at, two_blocks}
 use Rattle.hw_tolls.specs.Judged.{is_toll, narrows_fit, tugs_fit, block_fits, are_apart, all_apart, weighs_up_to}
 
 -- ---- tests of each element
@@ -91,30 +91,33 @@ told_weighs weights most (Some (rules.Pair v w holes)) h = absurd h
 told_weighs weights most (Some (rules.After v w gap)) h = absurd h
 told_weighs weights most (Some (rules.Tugs fleet jobs)) h = and_from _ _ (eq-eqb _ _ h.0) (le-leb _ _ h.1)
 
-tugs_told : (f : Problem) (place slot : ℕ) (weights : List ℕ) (most : ℕ) → tugs_fit f place slot weights most ≡ true → TugsTollFits f place slot weights most
-tugs_told f place slot weights most e =
-    let p = and_parts (weighs_up_to weights most (slice_get f.rules place)) _ e in
+tugs_told : (f : Problem) (n slot : ℕ) (weights : List ℕ) (most : ℕ) → tugs_fit f n slot weights most ≡ true → TugsTollFits f n slot weights most
+tugs_told f n slot weights most e =
+    let o = and_parts (nat_le f.ships n) _ e in
+    let p = and_parts (weighs_up_to weights most (rule_at f n)) _ o.1 in
     let q = and_parts (nat_lt slot (horizon f)) _ p.1 in
     let r = and_parts (list_all (λ weight. nat_le weight 64) weights) _ q.1 in
     record {
-      weighed = weighs_told weights most (slice_get f.rules place) p.0;
+      past_ships = leb-true _ _ o.0;
+      weighed = weighs_told weights most (rule_at f n) p.0;
       slot_in = ltb-true _ _ q.0;
       small_weights = all_from (λ weight. nat_le weight 64) (λ weight. weight ≤ 64) weights (λ weight s. leb-true weight 64 s) r.0;
       small_most = leb-true _ _ r.1;
     }
 
-told_tugs : (f : Problem) (place slot : ℕ) (weights : List ℕ) (most : ℕ) → TugsTollFits f place slot weights most → tugs_fit f place slot weights most ≡ true
-told_tugs f place slot weights most h =
-    and_from _ _ (told_weighs weights most (slice_get f.rules place) h.weighed)
+told_tugs : (f : Problem) (n slot : ℕ) (weights : List ℕ) (most : ℕ) → TugsTollFits f n slot weights most → tugs_fit f n slot weights most ≡ true
+told_tugs f n slot weights most h =
+    and_from _ _ (le-leb _ _ h.past_ships)
+    (and_from _ _ (told_weighs weights most (rule_at f n) h.weighed)
     (and_from _ _ (lt-ltb _ _ h.slot_in)
-    (and_from _ _ (from_all (λ weight. nat_le weight 64) (λ weight. weight ≤ 64) weights (λ weight s. le-leb weight 64 s) h.small_weights) (le-leb _ _ h.small_most)))
+    (and_from _ _ (from_all (λ weight. nat_le weight 64) (λ weight. weight ≤ 64) weights (λ weight s. le-leb weight 64 s) h.small_weights) (le-leb _ _ h.small_most))))
 
 -- ---- tolls
 
 pub judged : (f : Problem) (toll : Toll) → is_toll f toll ≡ true → IsToll f toll
 judged f (Narrows blocks) e = narrows_told f blocks e
-judged f (Tugs place slot weights most) e = tugs_told f place slot weights most e
+judged f (Tugs n slot weights most) e = tugs_told f n slot weights most e
 
 pub judges : (f : Problem) (toll : Toll) → IsToll f toll → is_toll f toll ≡ true
 judges f (Narrows blocks) h = told_narrows f blocks h
-judges f (Tugs place slot weights most) h = told_tugs f place slot weights most h
+judges f (Tugs n slot weights most) h = told_tugs f n slot weights most h

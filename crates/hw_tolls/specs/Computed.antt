@@ -1,5 +1,5 @@
 -- The refutation by prices as a test that computes, ship by ship.
-use Rattle.std.specs.Prelude.{ℕ, ◌+◌, ◌-◌, ◌*◌, ◌≤◌, Bool, true, nat_lt, ◌==◌, ◌&&◌, if◌then◌else◌, List, Option, None, Some, fold, sum_by, slice_get, option_map}
+use Rattle.std.specs.Prelude.{ℕ, ◌+◌, ◌-◌, ◌*◌, ◌≤◌, Bool, true, nat_lt, ◌==◌, ◌&&◌, if◌then◌else◌, List, Option, None, Some, fold, sum_by, option_map}
 use Rattle.std.specs.List.{range_with_len}
 use Rattle.hw_model.specs.Problem.{Problem, value_at}
 use Rattle.hw_model.specs.Rooms.{RoomModel, low_of, high_of}
@@ -10,20 +10,20 @@ use Rattle.hw_tolls.specs.declared.tariff.Tariff.{Tariff}
 use Rattle.hw_tolls.specs.declared.toll.Charge.{Charge}
 use Rattle.hw_tolls.specs.declared.toll.Toll.{Toll}
 use Rattle.hw_tolls.specs.Tolls.{charges, lies_in}
-use Rattle.hw_tolls.specs.Prices.{allowance, aim}
+use Rattle.hw_tolls.specs.Prices.{toll_at, allowance, aim}
 
 -- what a ship with this slot takes of a charge
 abbrev pub takes : ℕ → ℕ → Charge → ℕ
 takes ship slot charge = if charge.ship == ship && lies_in charge.low charge.high slot then charge.amount else 0
 
--- what it takes of the toll at a place
+-- what it takes of a toll, nothing where there is none
 abbrev pub takes_at : Problem → Option Toll → ℕ → ℕ → ℕ
 takes_at f None ship slot = 0
 takes_at f (Some toll) ship slot = sum_by (takes ship slot) (charges f toll)
 
 -- what a ship pays in a slot
 abbrev pub pays : Problem → List Toll → List Due → ℕ → ℕ → ℕ
-pays f tolls dues ship slot = sum_by (λ due. due.price * takes_at f (slice_get tolls due.toll) ship slot) dues
+pays f tolls dues ship slot = sum_by (λ due. due.price * takes_at f (toll_at tolls due.toll) ship slot) dues
 
 -- the balance of a ship in a slot, or none where it has no value there
 abbrev pub balance : Problem → List Toll → Tariff → ℕ → ℕ → Option Balance

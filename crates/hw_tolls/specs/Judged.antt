@@ -1,5 +1,5 @@
 -- Whether a toll is one of a problem, as a test that computes.
-use Rattle.std.specs.Prelude.{ℕ, Bool, true, false, nat_le, nat_lt, ◌==◌, ◌&&◌, List, [], ◌∷◌, Option, None, Some, length, slice_get}
+use Rattle.std.specs.Prelude.{ℕ, Bool, true, false, nat_le, nat_lt, ◌==◌, ◌&&◌, List, [], ◌∷◌, Option, None, Some, length}
 use Rattle.std.specs.List.{list_all, list_any, range_with_len}
 use Rattle.hw_model.specs.declared.limits.TheConstants.{MOST_SHIPS, MOST_TUGS, MOST_HELD}
 use Rattle.hw_model.specs.declared.rule.Rule.{Rule}
@@ -10,7 +10,7 @@ use Rattle.hw_model.specs.RefutingComputed.{refutes}
 use Rattle.hw_tolls.specs.declared.toll.Block.{Block}
 use Rattle.hw_tolls.specs.declared.toll.Toll.{Toll}
 use Rattle.hw_tolls.specs.declared.toll.Toll.TheVariants.{Narrows, Tugs}
-use Rattle.hw_tolls.specs.Tolls.{two_blocks, heaviest}
+use Rattle.hw_tolls.specs.Tolls.{rule_at, two_blocks, heaviest}
 
 -- the block is of one of the ships, not empty, and of the problem's slots
 abbrev pub block_fits : Problem → Block → Bool
@@ -36,11 +36,11 @@ weighs_up_to weights most (Some (rules.Pair v w holes)) = false
 weighs_up_to weights most (Some (rules.After v w gap)) = false
 weighs_up_to weights most (Some (rules.Tugs fleet jobs)) = length weights == length jobs && nat_le (heaviest weights jobs fleet) most
 
--- such a rule, a slot of the horizon, and small numbers
+-- the restriction is such a rule, the slot is one of the horizon, and the numbers are small
 abbrev pub tugs_fit : Problem → ℕ → ℕ → List ℕ → ℕ → Bool
-tugs_fit f place slot weights most = weighs_up_to weights most (slice_get f.rules place) && (nat_lt slot (horizon f) && (list_all (λ weight. nat_le weight MOST_TUGS) weights && nat_le most MOST_HELD))
+tugs_fit f n slot weights most = nat_le f.ships n && (weighs_up_to weights most (rule_at f n) && (nat_lt slot (horizon f) && (list_all (λ weight. nat_le weight MOST_TUGS) weights && nat_le most MOST_HELD)))
 
 -- the toll is one of the problem
 abbrev pub is_toll : Problem → Toll → Bool
 is_toll f (Narrows blocks) = narrows_fit f blocks
-is_toll f (Tugs place slot weights most) = tugs_fit f place slot weights most
+is_toll f (Tugs n slot weights most) = tugs_fit f n slot weights most

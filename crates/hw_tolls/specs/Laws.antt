@@ -14,7 +14,7 @@ use Rattle.hw_tolls.specs.declared.tariff.Tariff.{Tariff}
 use Rattle.hw_tolls.specs.declared.toll.Block.{Block}
 use Rattle.hw_tolls.specs.declared.toll.Toll.{Toll}
 use Rattle.hw_tolls.specs.declared.toll.Toll.TheVariants.{Narrows, Tugs}
-use Rattle.hw_tolls.specs.Tolls.{IsToll, usage, capacity, lies_in}
+use Rattle.hw_tolls.specs.Tolls.{IsToll, rule_at, usage, capacity, lies_in}
 use Rattle.hw_tolls.specs.Prices.{TariffFits, PricesRefute, PricesBound}
 use Rattle.hw_tolls.specs.Computed.{pays, best_balance, best_balances, prices_refute}
 use Rattle.hw_tolls.specs.Judged.{is_toll}
@@ -36,13 +36,13 @@ TollJudged = (f : Problem) (toll : Toll) → (IsTrue (is_toll f toll) ↔ IsToll
 -- of narrows it takes the blocks that hold their ships' slots, of tugs the weights of the jobs that hold theirs
 pub record TollUsage : Type 0 where
   pub narrows : (f : Problem) (blocks : List Block) (table : List ℕ) → usage f (Narrows blocks) table ≡ count_by (λ b. lies_in b.low b.high (slice_index table b.ship)) blocks
-  pub tugs : (f : Problem) (place slot most fleet : ℕ) (weights : List ℕ) (jobs : List Job) (table : List ℕ) → slice_get f.rules place ≡ Some (rules.Tugs fleet jobs)
-      → usage f (Tugs place slot weights most) table ≡ sum (held_weights table slot weights jobs)
+  pub tugs : (f : Problem) (n slot most fleet : ℕ) (weights : List ℕ) (jobs : List Job) (table : List ℕ) → rule_at f n ≡ Some (rules.Tugs fleet jobs)
+      → usage f (Tugs n slot weights most) table ≡ sum (held_weights table slot weights jobs)
 
 -- whole teams of this many tugs, counted for each job, are such weights, and so are the tugs themselves
 abbrev pub TeamsAreTolls : Type 0
 TeamsAreTolls = (f : Problem) (place slot team fleet : ℕ) (jobs : List Job) → IsFlat f → slot < horizon f → 1 ≤ team → slice_get f.rules place ≡ Some (rules.Tugs fleet jobs)
-    → IsToll f (Tugs place slot (map (λ job. job.tugs / team) jobs) (fleet / team))
+    → IsToll f (Tugs (f.ships + place) slot (map (λ job. job.tugs / team) jobs) (fleet / team))
 
 -- inside a refuted room a permitted timetable has at most the best cargo, and without a best there is none
 abbrev pub SoundPrices : Type 0

@@ -1,5 +1,5 @@
 -- Prices on tolls, what a room earns under them, and what they refute.
-use Rattle.std.specs.Prelude.{◌≡◌, ℕ, ◌+◌, ◌*◌, ◌<◌, ◌≤◌, List, Option, None, Some, length, sum_by, slice_get, slice_index, All}
+use Rattle.std.specs.Prelude.{◌≡◌, ℕ, zero, suc, ◌+◌, ◌*◌, ◌<◌, ◌≤◌, List, Option, None, Some, length, sum_by, slice_get, slice_index, All}
 use Rattle.hw_model.specs.Problem.{Problem, shape_of}
 use Rattle.hw_model.specs.Timetables.{cargo}
 use Rattle.hw_model.specs.Rooms.{RoomModel, InRange, whole_room}
@@ -9,9 +9,15 @@ use Rattle.hw_tolls.specs.declared.tariff.Tariff.{Tariff}
 use Rattle.hw_tolls.specs.declared.toll.Toll.{Toll}
 use Rattle.hw_tolls.specs.Tolls.{usage, capacity}
 
+-- the toll of this number, counted from 1
+abbrev pub toll_at : List Toll → ℕ → Option Toll
+toll_at tolls zero = None
+toll_at tolls (suc place) = slice_get tolls place
+
 -- the limits of a due; its toll is one of this many
 pub record DueFits (tolls : ℕ) (due : Due) : Type 0 where
-  pub toll_in : due.toll < tolls
+  pub from_one : 0 < due.toll
+  pub toll_in : due.toll ≤ tolls
   pub small_price : due.price ≤ MOST_PRICE
 
 -- the limits of a tariff on this many tolls. A scale of 0 is allowed: then the tolls alone must refute
@@ -20,7 +26,7 @@ pub record TariffFits (tolls : ℕ) (tariff : Tariff) : Type 0 where
   pub few_dues : length tariff.dues ≤ MOST_DUES
   pub each_due : All (DueFits tolls) tariff.dues
 
--- what a timetable takes of the toll at a place, nothing where there is none
+-- what a timetable takes of a toll, nothing where there is none
 abbrev pub usage_at : Problem → Option Toll → List ℕ → ℕ
 usage_at f None table = 0
 usage_at f (Some toll) table = usage f toll table
@@ -32,11 +38,11 @@ capacity_at (Some toll) = capacity toll
 
 -- what a timetable pays for the dues
 abbrev pub paid : Problem → List Toll → List Due → List ℕ → ℕ
-paid f tolls dues table = sum_by (λ due. due.price * usage_at f (slice_get tolls due.toll) table) dues
+paid f tolls dues table = sum_by (λ due. due.price * usage_at f (toll_at tolls due.toll) table) dues
 
 -- what a permitted timetable pays for them at most
 abbrev pub allowance : List Toll → List Due → ℕ
-allowance tolls dues = sum_by (λ due. due.price * capacity_at (slice_get tolls due.toll)) dues
+allowance tolls dues = sum_by (λ due. due.price * capacity_at (toll_at tolls due.toll)) dues
 
 -- a slot of its range for each ship
 pub record InRanges (f : Problem) (room : RoomModel) (table : List ℕ) : Type 0 where

@@ -21,11 +21,11 @@ late = Narrows (record { ship = 0; low = 1; high = 2 } ∷ record { ship = 1; lo
 
 -- in the second slot one of the two jobs at most is served
 abbrev pub one_job : Toll
-one_job = Tugs 1 1 (1 ∷ 1 ∷ []) 1
+one_job = Tugs 3 1 (1 ∷ 1 ∷ []) 1
 
 -- a late slot costs 30 parts, which are 10 tenths of a tonne
 abbrev pub late_costs : Tariff
-late_costs = record { scale = 3; dues = record { toll = 0; price = 30 } ∷ [] }
+late_costs = record { scale = 3; dues = record { toll = 1; price = 30 } ∷ [] }
 
 -- parts that are tenths of a tonne, and no dues
 abbrev pub tariff_without_dues : Tariff
@@ -33,7 +33,7 @@ tariff_without_dues = record { scale = 1; dues = [] }
 
 -- a scale of 0: the toll alone
 abbrev pub tolls_alone : Tariff
-tolls_alone = record { scale = 0; dues = record { toll = 0; price = 1 } ∷ [] }
+tolls_alone = record { scale = 0; dues = record { toll = 1; price = 1 } ∷ [] }
 
 -- both ships in late slots
 abbrev pub both_late : RoomModel
@@ -67,7 +67,8 @@ pub record TollRows : Type 0 where
   pub one_ship_alone : is_toll tolled_ships_apart (Narrows (record { ship = 1; low = 0; high = 2 } ∷ [])) ≡ true
   pub no_block : is_toll tolled_ships_apart (Narrows []) ≡ false
   pub one_job_is_served : is_toll tolled_ships_apart one_job ≡ true
-  pub not_none : is_toll tolled_ships_apart (Tugs 1 1 (1 ∷ 1 ∷ []) 0) ≡ false
-  pub behind_the_horizon : is_toll tolled_ships_apart (Tugs 1 3 (1 ∷ 1 ∷ []) 1) ≡ false
-  pub a_weight_too_few : is_toll tolled_ships_apart (Tugs 1 1 (1 ∷ []) 1) ≡ false
-  pub no_rule_on_tugs : is_toll tolled_ships_apart (Tugs 0 1 (1 ∷ 1 ∷ []) 1) ≡ false
+  pub not_none : is_toll tolled_ships_apart (Tugs 3 1 (1 ∷ 1 ∷ []) 0) ≡ false
+  pub behind_the_horizon : is_toll tolled_ships_apart (Tugs 3 3 (1 ∷ 1 ∷ []) 1) ≡ false
+  pub a_weight_too_few : is_toll tolled_ships_apart (Tugs 3 1 (1 ∷ []) 1) ≡ false
+  pub no_window : is_toll tolled_ships_apart (Tugs 1 1 (1 ∷ 1 ∷ []) 1) ≡ false
+  pub no_rule_on_tugs : is_toll tolled_ships_apart (Tugs 2 1 (1 ∷ 1 ∷ []) 1) ≡ false

@@ -1,11 +1,15 @@
 //! Prices on tolls, and what a ship gains and pays under them.
 
+ghost use Rattle.std.specs.Prelude.{◌≡◌, IfOk};
+
+use hw_model::NoMemory;
+use std::alloc::Global;
 use std::marker::Model;
 
 /// A price on a toll.
 #[derive(Clone, Copy, Debug)]
 pub struct Due {
-    /// The toll's place in a list, counted from 0.
+    /// The toll's number, which counts from 1 in the order in which tolls are declared.
     pub toll: u32,
     /// What one unit costs, at most `MOST_PRICE` parts.
     pub price: u64,
@@ -34,6 +38,19 @@ pub struct Tariff {
     pub scale: u32,
     /// At most `MOST_DUES`.
     pub dues: Dues,
+}
+
+impl Tariff {
+    /// The same tariff. It copies the dues once. An error says that memory ran out.
+    pub fn copy(&self, alloc: Global) -> Result<Tariff, NoMemory>
+        ensures value { IfOk result (λ tariff. tariff ≡ self.now) }
+    {
+        let items = Vec::from_slice(alloc, &self.dues.items)?;
+        Ok(Tariff {
+            scale: self.scale,
+            dues: Dues { items },
+        })
+    }
 }
 
 /// What ships gain in their slots, and what they pay there for what they take, both in parts.

@@ -1,6 +1,9 @@
 //! Tolls, and the charges of which they are made.
 
-use hw_model::{ShipId, Slot};
+ghost use Rattle.std.specs.Prelude.{◌≡◌, IfOk};
+
+use hw_model::{NoMemory, ShipId, Slot};
+use std::alloc::Global;
 use std::marker::Model;
 
 /// A range of slots of a ship, both ends taken in.
@@ -26,6 +29,15 @@ impl Model for Blocks {
     ghost view = { λ s. s.items.items };
 }
 
+impl Blocks {
+    fn copy(&self, alloc: Global) -> Result<Blocks, NoMemory>
+        ensures value { IfOk result (λ blocks. blocks ≡ self.now) }
+    {
+        let items = Vec::from_slice(alloc, &self.items)?;
+        Ok(Blocks { items })
+    }
+}
+
 /// A weight for each job of a rule, seen as their list.
 #[derive(Debug, Drop)]
 pub struct Weights {
@@ -40,6 +52,15 @@ impl Model for Weights {
     ghost view = { λ s. s.items.items };
 }
 
+impl Weights {
+    fn copy(&self, alloc: Global) -> Result<Weights, NoMemory>
+        ensures value { IfOk result (λ weights. weights ≡ self.now) }
+    {
+        let items = Vec::from_slice(alloc, &self.items)?;
+        Ok(Weights { items })
+    }
+}
+
 /// A resource of which every permitted timetable takes at most a given amount.
 #[derive(Debug, Drop)]
 pub enum Toll {
@@ -52,8 +73,8 @@ pub enum Toll {
     /// since any jobs that the fleet can serve together do. The tugs themselves are such weights,
     /// and so are whole teams of tugs.
     Tugs {
-        /// The rule's place among the rules of the problem, counted from 0.
-        place: u32,
+        /// The rule's number among the restrictions, which count from 0, the ships' windows first.
+        restriction: u32,
         /// A slot of the horizon.
         slot: Slot,
         /// At most `MOST_TUGS` each.
@@ -61,6 +82,30 @@ pub enum Toll {
         /// At most `MOST_HELD`.
         most: u32,
     },
+}
+
+impl Toll {
+    /// The same toll. It copies the toll's list. An error says that memory ran out.
+    pub fn copy(&self, alloc: Global) -> Result<Toll, NoMemory>
+        ensures value { IfOk result (λ toll. toll ≡ self.now) }
+    {
+        Ok(match self {
+            Toll::Narrows { blocks } => Toll::Narrows {
+                blocks: blocks.copy(alloc)?,
+            },
+            Toll::Tugs {
+                restriction,
+                slot,
+                weights,
+                most,
+            } => Toll::Tugs {
+                restriction: *restriction,
+                slot: *slot,
+                weights: weights.copy(alloc)?,
+                most: *most,
+            },
+        })
+    }
 }
 
 /// Units that a ship takes where its slot lies in a range, both ends taken in.

@@ -58,8 +58,7 @@ fn renumbered(alloc: Global, numbers: &[u32], line: &Line) -> Result<Line, NoMem
         | Line::Explain { .. }
         | Line::Order { .. }
         | Line::Goal { .. }
-        | Line::Narrows { .. }
-        | Line::Tugs { .. }
+        | Line::Toll { .. }
         | Line::Tariff { .. }
         | Line::Priced { .. }
         | Line::Bound { .. } => line.copy(alloc),
@@ -97,8 +96,7 @@ fn goes_on(flat: &Flat, best: &Option<Timetable>, line: &Line) -> bool
         | Line::Goal { .. }
         | Line::Lemma { .. }
         | Line::Delete { .. }
-        | Line::Narrows { .. }
-        | Line::Tugs { .. }
+        | Line::Toll { .. }
         | Line::Tariff { .. }
         | Line::Priced { .. }
         | Line::Bound { .. } => true,
@@ -112,8 +110,7 @@ fn has_clause(line: &Line) -> bool
     match line {
         Line::Table(_)
         | Line::Delete { .. }
-        | Line::Narrows { .. }
-        | Line::Tugs { .. }
+        | Line::Toll { .. }
         | Line::Tariff { .. }
         | Line::Bound { .. } => false,
         Line::Explain { .. }
@@ -135,8 +132,7 @@ fn is_lemma(line: &Line) -> bool
         | Line::Order { .. }
         | Line::Goal { .. }
         | Line::Delete { .. }
-        | Line::Narrows { .. }
-        | Line::Tugs { .. }
+        | Line::Toll { .. }
         | Line::Tariff { .. }
         | Line::Priced { .. }
         | Line::Bound { .. } => false,

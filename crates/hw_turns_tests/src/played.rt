@@ -101,8 +101,7 @@ fn clause_text(alloc: Global, line: &Line) -> Result<Option<String>, Fail> {
     match line {
         Line::Table(_)
         | Line::Delete { .. }
-        | Line::Narrows { .. }
-        | Line::Tugs { .. }
+        | Line::Toll { .. }
         | Line::Tariff { .. }
         | Line::Bound { .. } => Ok(None),
         Line::Explain { clause, .. }

@@ -4,7 +4,6 @@ use Rattle.std.proofs.lemmas.Bool.{or_from, ne_eqb}
 use Rattle.std.proofs.lemmas.List.Elements.{All-head, All-tail, All-weaker}
 use Rattle.std.proofs.lemmas.List.Folds.{list_any-append, list_any_none}
 use Rattle.std.specs.List.{cons_option, list_any}
-use Rattle.hw_model.specs.Problem.{Problem}
 use Rattle.hw_lines.specs.declared.line.Line.{Line}
 use Rattle.hw_lines.specs.declared.line.Line.TheVariants as lines
 use Rattle.hw_lines.specs.Lines.{clause_of, clauses_of, clause_count, clause_at, deletes, live, table_after, last_table, is_end, is_closed}
@@ -20,22 +19,22 @@ pub record Same (before made : List Line) : Type 0 where
   pub clauses : clauses_of made ≡ clauses_of before
   pub table : last_table made ≡ last_table before
   pub closed : is_closed made ≡ is_closed before
-  pub tolls : (f : Problem) → tolls_of f made ≡ tolls_of f before
+  pub tolls : tolls_of made ≡ tolls_of before
   pub tariff : tariff_of made ≡ tariff_of before
   pub bound : bound_of made ≡ bound_of before
 
 pub same_itself : (made : List Line) → Same made made
-same_itself made = record { clauses = refl; table = refl; closed = refl; tolls = λ f. refl; tariff = refl; bound = refl }
+same_itself made = record { clauses = refl; table = refl; closed = refl; tolls = refl; tariff = refl; bound = refl }
 
 pub same_back : (before made : List Line) → Same before made → Same made before
-same_back before made same = record { clauses = sym same.clauses; table = sym same.table; closed = sym same.closed; tolls = λ f. sym (same.tolls f); tariff = sym same.tariff; bound = sym same.bound }
+same_back before made same = record { clauses = sym same.clauses; table = sym same.table; closed = sym same.closed; tolls = sym same.tolls; tariff = sym same.tariff; bound = sym same.bound }
 
 pub same_chain : (a b c : List Line) → Same a b → Same b c → Same a c
 same_chain a b c first second = record {
   clauses = second.clauses ∙ first.clauses;
   table = second.table ∙ first.table;
   closed = second.closed ∙ first.closed;
-  tolls = λ f. second.tolls f ∙ first.tolls f;
+  tolls = second.tolls ∙ first.tolls;
   tariff = second.tariff ∙ first.tariff;
   bound = second.bound ∙ first.bound;
 }
@@ -48,7 +47,7 @@ same_push before made line same = record {
   clauses = clauses_push made line ∙ ap (λ clauses. clauses ++ cons_option (clause_of line) []) same.clauses ∙ sym (clauses_push before line);
   table = last_push made line ∙ ap (λ last. table_after last line) same.table ∙ sym (last_push before line);
   closed = closed_push made line ∙ ap (λ b. b || is_end (clause_of line)) same.closed ∙ sym (closed_push before line);
-  tolls = λ f. tolls_push f made line ∙ ap (λ held. held ++ cons_option (toll_of f line) []) (same.tolls f) ∙ sym (tolls_push f before line);
+  tolls = tolls_push made line ∙ ap (λ held. held ++ cons_option (toll_of line) []) same.tolls ∙ sym (tolls_push before line);
   tariff = tariff_push made line ∙ ap (λ last. tariff_after last line) same.tariff ∙ sym (tariff_push before line);
   bound = bound_push made line ∙ ap (λ last. bound_after last line) same.bound ∙ sym (bound_push before line);
 }
@@ -58,7 +57,7 @@ same_deleted before ids = record {
   clauses = clauses_push before (lines.Delete ids) ∙ append-nil (clauses_of before);
   table = last_push before (lines.Delete ids);
   closed = closed_push before (lines.Delete ids) ∙ or_false (is_closed before);
-  tolls = λ f. same_tolls f before (lines.Delete ids) refl;
+  tolls = same_tolls before (lines.Delete ids) refl;
   tariff = tariff_push before (lines.Delete ids);
   bound = bound_push before (lines.Delete ids);
 }

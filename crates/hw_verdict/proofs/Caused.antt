@@ -1,5 +1,5 @@
 -- A line that is refused is wrong as its word says.
-use Rattle.std.proofs.Common.{◌≡◌, ℕ, ◌+◌, ◌-◌, ◌^◌, ◌≤◌, Bool, true, false, cond, List, Option, Some, None, find, IsSome, IfSome, IsSomeAnd, is_none, nat_lt, refl, sym, subst, inl}
+use Rattle.std.proofs.Common.{◌≡◌, ℕ, ◌+◌, ◌^◌, ◌≤◌, Bool, true, false, cond, List, Option, Some, None, find, IsSome, IfSome, IsSomeAnd, is_none, nat_lt, refl, sym, subst, inl}
 use Rattle.std.proofs.lemmas.Bool.{ltb-false, not-true}
 use Rattle.hw_model.specs.declared.lit.Lit.{Lit}
 use Rattle.hw_model.specs.declared.source.Source.{Source}
@@ -12,7 +12,6 @@ use Rattle.hw_model.specs.Replay.{replay}
 use Rattle.hw_laws.proofs.Broken.{permits_from, is_first_broken}
 use Rattle.hw_laws.proofs.Permitted.{has_cargo}
 use Rattle.hw_laws.proofs.Tested.{tests}
-use Rattle.hw_tolls.specs.declared.toll.Toll.TheVariants as tolls
 use Rattle.hw_lines.specs.declared.check.CheckWord.TheVariants as words
 use Rattle.hw_lines.specs.declared.line.Line.{Line}
 use Rattle.hw_lines.specs.declared.line.Line.TheVariants as lines
@@ -87,9 +86,8 @@ claim_cause f before (lines.Lemma clause hints) fits can =
     subst (λ o. Caused f before (lines.Lemma clause hints) (lemma_refusal o hints (replay (denied_room f clause) (named (kept_of f before).live hints)))) (sym (same_dead f before hints))
     (subst (λ cs. Caused f before (lines.Lemma clause hints) (lemma_refusal (find (λ id. is_none (live before id)) hints) hints (replay (denied_room f clause) cs))) (sym (same_named f before hints)) (lemma_cause f before clause hints))
 claim_cause f before (lines.Delete ids) fits can = subst (λ o. Caused f before (lines.Delete ids) (delete_refusal o)) (sym (same_dead f before ids)) (delete_cause f before ids)
-claim_cause f before (lines.Narrows blocks) fits can = toll_cause f before (lines.Narrows blocks) (tolls.Narrows blocks) refl
-claim_cause f before (lines.Tugs n slot most weights) fits can = toll_cause f before (lines.Tugs n slot most weights) (tolls.Tugs (n - f.ships) slot weights most) refl
-claim_cause f before (lines.Tariff scale prices) fits can = tariff_cause f before scale prices
+claim_cause f before (lines.Toll toll) fits can = toll_cause f before (lines.Toll toll) toll refl
+claim_cause f before (lines.Tariff tariff) fits can = tariff_cause f before tariff
 claim_cause f before (lines.Priced clause) fits can = priced_cause f before clause can.0 can.1
 claim_cause f before (lines.Bound bound) fits can = bound_cause f before bound can.0 can.1
 

@@ -80,9 +80,8 @@ any_step f before made later (lines.Order v w x clause) n at keeps valid = claus
 any_step f before made later (lines.Goal clause) n at keeps valid = clause_step f before made later (lines.Goal clause) clause n refl refl at keeps valid
 any_step f before made later (lines.Lemma clause hints) n at keeps valid = clause_step f before made later (lines.Lemma clause hints) clause n refl refl at keeps valid
 any_step f before made later (lines.Delete ids) n at keeps valid = dropped f before made later ids keeps
-any_step f before made later (lines.Narrows blocks) n at keeps valid = bare_step f before made later (lines.Narrows blocks) refl keeps valid
-any_step f before made later (lines.Tugs k slot most weights) n at keeps valid = bare_step f before made later (lines.Tugs k slot most weights) refl keeps valid
-any_step f before made later (lines.Tariff scale prices) n at keeps valid = bare_step f before made later (lines.Tariff scale prices) refl keeps valid
+any_step f before made later (lines.Toll toll) n at keeps valid = bare_step f before made later (lines.Toll toll) refl keeps valid
+any_step f before made later (lines.Tariff tariff) n at keeps valid = bare_step f before made later (lines.Tariff tariff) refl keeps valid
 any_step f before made later (lines.Priced clause) n at keeps valid = clause_step f before made later (lines.Priced clause) clause n refl refl at keeps valid
 any_step f before made later (lines.Bound bound) n at keeps valid = bare_step f before made later (lines.Bound bound) refl keeps valid
 

@@ -86,17 +86,16 @@ in_force : (P : Tariff → Type 0) (o : Option Tariff) → IsSomeAnd o P → (ta
 in_force P None h = absurd h
 in_force P (Some tariff) h = (tariff, h)
 
-pub says_more : (f : Problem) (before : List Line) (line : Line) → IsFlat f → LineFits f line → ValidAfter f before line → All (IsToll f) (tolls_of f before) → Says f before → Says f (before ++ line ∷ [])
+pub says_more : (f : Problem) (before : List Line) (line : Line) → IsFlat f → LineFits f line → ValidAfter f before line → All (IsToll f) (tolls_of before) → Says f before → Says f (before ++ line ∷ [])
 says_more f before (lines.Table table) flat fits valid held says = table_line f before table valid.claim.0 valid.claim.1 says
 says_more f before (lines.Explain n clause) flat fits valid held says = clause_line f before (lines.Explain n clause) clause refl refl fits.1 says (λ table c permits e above. by_source f (source_of f n) (best_of f before) clause table c flat (of_problem f n fits.0) fits.1 valid.claim permits e above)
 says_more f before (lines.Order v w x clause) flat fits valid held says = clause_line f before (lines.Order v w x clause) clause refl refl fits.3 says (λ table c permits e above. by_source f (sources.Order v w x) (best_of f before) clause table c flat (fits.0, fits.1, fits.2) fits.3 valid.claim permits e above)
 says_more f before (lines.Goal clause) flat fits valid held says = clause_line f before (lines.Goal clause) clause refl refl fits says (λ table c permits e above. by_source f sources.Goal (best_of f before) clause table c flat tt fits valid.claim permits e above)
 says_more f before (lines.Lemma clause hints) flat fits valid held says = clause_line f before (lines.Lemma clause hints) clause refl refl fits says (λ table c permits e above. by_replay f before clause hints table fits says.clauses valid.claim.1 permits (says.all_true table c permits e above))
 says_more f before (lines.Delete ids) flat fits valid held says = bare_line f before (lines.Delete ids) refl refl says
-says_more f before (lines.Narrows blocks) flat fits valid held says = bare_line f before (lines.Narrows blocks) refl refl says
-says_more f before (lines.Tugs n slot most weights) flat fits valid held says = bare_line f before (lines.Tugs n slot most weights) refl refl says
-says_more f before (lines.Tariff scale prices) flat fits valid held says = bare_line f before (lines.Tariff scale prices) refl refl says
+says_more f before (lines.Toll toll) flat fits valid held says = bare_line f before (lines.Toll toll) refl refl says
+says_more f before (lines.Tariff tariff) flat fits valid held says = bare_line f before (lines.Tariff tariff) refl refl says
 says_more f before (lines.Priced clause) flat fits valid held says =
-    let prices = in_force (λ tariff. PricesRefute f (tolls_of f before) tariff (best_of f before) (denied_room f clause)) (tariff_of before) valid.claim in
-    clause_line f before (lines.Priced clause) clause refl refl fits says (λ table c permits e above. by_prices f (tolls_of f before) prices.0 (best_of f before) clause table c flat held fits prices.1 permits e above)
+    let prices = in_force (λ tariff. PricesRefute f (tolls_of before) tariff (best_of f before) (denied_room f clause)) (tariff_of before) valid.claim in
+    clause_line f before (lines.Priced clause) clause refl refl fits says (λ table c permits e above. by_prices f (tolls_of before) prices.0 (best_of f before) clause table c flat held fits prices.1 permits e above)
 says_more f before (lines.Bound bound) flat fits valid held says = bare_line f before (lines.Bound bound) refl refl says

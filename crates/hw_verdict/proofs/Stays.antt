@@ -12,7 +12,7 @@ use Rattle.hw_tolls.specs.Prices.{PricesRefute, PricesBound}
 use Rattle.hw_lines.specs.declared.line.Line.{Line}
 use Rattle.hw_lines.specs.declared.line.Line.TheVariants as lines
 use Rattle.hw_lines.specs.Lines.{clause_of, live, best_of}
-use Rattle.hw_lines.specs.declared.line.Price.{Price}
+use Rattle.hw_tolls.specs.declared.tariff.Due.{Due}
 use Rattle.hw_lines.specs.Tolled.{tolls_of, tariff_of, bound_of}
 use Rattle.hw_lines.specs.Valid.{ValidAfter, Holds, denied_room}
 use Rattle.hw_lines.proofs.Deleted.{count_more}
@@ -32,12 +32,12 @@ lemma_holds f before made later clause hints keeps claim =
     (λ k d lt. subst IsSome (sym (alike k d lt)) (claim.0 k d lt), ap (replay (denied_room f clause)) (hinted_same before made hints alike) ∙ claim.1)
 
 -- what is said of the tolls, the tariff, the best and the bound
-alike : (f : Problem) (before made : List Line) (P : List Toll → Option Tariff → Option ℕ → Option ℕ → Type 0) → Same before made → P (tolls_of f before) (tariff_of before) (best_of f before) (bound_of before) → P (tolls_of f made) (tariff_of made) (best_of f made) (bound_of made)
+alike : (f : Problem) (before made : List Line) (P : List Toll → Option Tariff → Option ℕ → Option ℕ → Type 0) → Same before made → P (tolls_of before) (tariff_of before) (best_of f before) (bound_of before) → P (tolls_of made) (tariff_of made) (best_of f made) (bound_of made)
 alike f before made P same h =
-    subst (λ held. P held (tariff_of made) (best_of f made) (bound_of made)) (sym (same.tolls f))
-    (subst (λ tariff. P (tolls_of f before) tariff (best_of f made) (bound_of made)) (sym same.tariff)
-    (subst (λ best. P (tolls_of f before) (tariff_of before) best (bound_of made)) (sym (best_same f before made same))
-    (subst (λ bound. P (tolls_of f before) (tariff_of before) (best_of f before) bound) (sym same.bound) h)))
+    subst (λ held. P held (tariff_of made) (best_of f made) (bound_of made)) (sym same.tolls)
+    (subst (λ tariff. P (tolls_of before) tariff (best_of f made) (bound_of made)) (sym same.tariff)
+    (subst (λ best. P (tolls_of before) (tariff_of before) best (bound_of made)) (sym (best_same f before made same))
+    (subst (λ bound. P (tolls_of before) (tariff_of before) (best_of f before) bound) (sym same.bound) h)))
 
 -- what a line claims holds after the new lines too, unless it is a deletion
 still_holds : (f : Problem) (before made later : List Line) (line : Line) → undeleting line ≡ line ∷ [] → Keeps before made (line ∷ later) → Holds f before line → Holds f made line
@@ -47,9 +47,8 @@ still_holds f before made later (lines.Order v w x clause) stays keeps claim = c
 still_holds f before made later (lines.Goal clause) stays keeps claim = rw (best_same f before made keeps.same) claim
 still_holds f before made later (lines.Lemma clause hints) stays keeps claim = lemma_holds f before made later clause hints keeps claim
 still_holds f before made later (lines.Delete ids) stays keeps claim = absurd cc
-still_holds f before made later (lines.Narrows blocks) stays keeps claim = (subst (λ held. length held < 10_000) (sym (keeps.same.tolls f)) claim.0, claim.1)
-still_holds f before made later (lines.Tugs n slot most weights) stays keeps claim = (subst (λ held. length held < 10_000) (sym (keeps.same.tolls f)) claim.0, claim.1)
-still_holds f before made later (lines.Tariff scale prices) stays keeps claim = subst (λ held. All (λ (one : Price). one.toll ≤ length held) prices) (sym (keeps.same.tolls f)) claim
+still_holds f before made later (lines.Toll toll) stays keeps claim = (subst (λ held. length held < 10_000) (sym keeps.same.tolls) claim.0, claim.1)
+still_holds f before made later (lines.Tariff tariff) stays keeps claim = subst (λ held. All (λ (due : Due). due.toll ≤ length held) tariff.dues) (sym keeps.same.tolls) claim
 still_holds f before made later (lines.Priced clause) stays keeps claim =
     alike f before made (λ held tariff best bound. IsSomeAnd tariff (λ prices. PricesRefute f held prices best (denied_room f clause))) keeps.same claim
 still_holds f before made later (lines.Bound most) stays keeps claim =
@@ -69,9 +68,8 @@ spares_line (lines.Order v w x clause) id stays = refl
 spares_line (lines.Goal clause) id stays = refl
 spares_line (lines.Lemma clause hints) id stays = refl
 spares_line (lines.Delete ids) id stays = absurd cc
-spares_line (lines.Narrows blocks) id stays = refl
-spares_line (lines.Tugs n slot most weights) id stays = refl
-spares_line (lines.Tariff scale prices) id stays = refl
+spares_line (lines.Toll toll) id stays = refl
+spares_line (lines.Tariff tariff) id stays = refl
 spares_line (lines.Priced clause) id stays = refl
 spares_line (lines.Bound bound) id stays = refl
 

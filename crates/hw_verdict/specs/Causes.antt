@@ -15,7 +15,7 @@ use Rattle.hw_lines.specs.declared.check.CheckWord.{CheckWord}
 use Rattle.hw_lines.specs.declared.check.CheckWord.TheVariants as words
 use Rattle.hw_lines.specs.declared.line.Line.{Line}
 use Rattle.hw_lines.specs.declared.line.Line.TheVariants as lines
-use Rattle.hw_lines.specs.declared.line.Price.{Price}
+use Rattle.hw_tolls.specs.declared.tariff.Due.{Due}
 use Rattle.hw_lines.specs.Lines.{clause_of, clause_count, live, best_of, is_closed}
 use Rattle.hw_lines.specs.Tolled.{toll_of, tolls_of, tariff_of, bound_of}
 use Rattle.hw_lines.specs.Valid.{LineFits, denied_room, hinted, Bounds}
@@ -29,9 +29,8 @@ LineExplains f (lines.Order v w x own) source clause = (source ≡ sources.Order
 LineExplains f (lines.Goal own) source clause = (source ≡ sources.Goal) × (clause ≡ own)
 LineExplains f (lines.Lemma own hints) source clause = ⊥
 LineExplains f (lines.Delete ids) source clause = ⊥
-LineExplains f (lines.Narrows blocks) source clause = ⊥
-LineExplains f (lines.Tugs n slot most weights) source clause = ⊥
-LineExplains f (lines.Tariff scale prices) source clause = ⊥
+LineExplains f (lines.Toll toll) source clause = ⊥
+LineExplains f (lines.Tariff tariff) source clause = ⊥
 LineExplains f (lines.Priced own) source clause = ⊥
 LineExplains f (lines.Bound bound) source clause = ⊥
 
@@ -65,22 +64,21 @@ Unshown f before (lines.Order v w x clause) = Unrefuted f before (lines.Order v 
 Unshown f before (lines.Goal clause) = Unrefuted f before (lines.Goal clause)
 Unshown f before (lines.Lemma clause hints) = Unrefuted f before (lines.Lemma clause hints)
 Unshown f before (lines.Delete ids) = Unrefuted f before (lines.Delete ids)
-Unshown f before (lines.Narrows blocks) = ⊥
-Unshown f before (lines.Tugs n slot most weights) = ⊥
-Unshown f before (lines.Tariff scale prices) = ⊥
-Unshown f before (lines.Priced clause) = IsSomeAnd (tariff_of before) (λ tariff. PricesRefute f (tolls_of f before) tariff (best_of f before) (denied_room f clause) → ⊥)
+Unshown f before (lines.Toll toll) = ⊥
+Unshown f before (lines.Tariff tariff) = ⊥
+Unshown f before (lines.Priced clause) = IsSomeAnd (tariff_of before) (λ tariff. PricesRefute f (tolls_of before) tariff (best_of f before) (denied_room f clause) → ⊥)
 Unshown f before (lines.Bound bound) = IsSomeAnd (tariff_of before) (λ tariff. Bounds f before bound tariff → ⊥)
 
 -- the line declares what isn't a toll of the problem
 abbrev pub NoToll : Problem → Line → Type 0
-NoToll f line = IsSomeAnd (toll_of f line) (λ toll. IsToll f toll → ⊥)
+NoToll f line = IsSomeAnd (toll_of line) (λ toll. IsToll f toll → ⊥)
 
 -- the number is that of the first price on a toll past this many
-pub record FirstUnknown (count : ℕ) (prices : List Price) (toll : ℕ) : Type 0 where
+pub record FirstUnknown (count : ℕ) (dues : List Due) (toll : ℕ) : Type 0 where
   pub place : ℕ
-  pub stands : IsSomeAnd (slice_get prices place) (λ one. one.toll ≡ toll)
+  pub stands : IsSomeAnd (slice_get dues place) (λ due. due.toll ≡ toll)
   pub unknown : count < toll
-  pub earlier : (i : ℕ) → i < place → IfSome (slice_get prices i) (λ other. other.toll ≤ count)
+  pub earlier : (i : ℕ) → i < place → IfSome (slice_get dues i) (λ other. other.toll ≤ count)
 
 -- a price is on a toll that isn't declared, and this is the first; or no prices are in force
 abbrev pub DueWrong : Problem → List Line → Line → Option ℕ → Type 0
@@ -90,9 +88,8 @@ DueWrong f before (lines.Order v w x clause) named = ⊥
 DueWrong f before (lines.Goal clause) named = ⊥
 DueWrong f before (lines.Lemma clause hints) named = ⊥
 DueWrong f before (lines.Delete ids) named = ⊥
-DueWrong f before (lines.Narrows blocks) named = ⊥
-DueWrong f before (lines.Tugs n slot most weights) named = ⊥
-DueWrong f before (lines.Tariff scale prices) named = IsSomeAnd named (FirstUnknown (length (tolls_of f before)) prices)
+DueWrong f before (lines.Toll toll) named = ⊥
+DueWrong f before (lines.Tariff tariff) named = IsSomeAnd named (FirstUnknown (length (tolls_of before)) tariff.dues)
 DueWrong f before (lines.Priced clause) named = (named ≡ None) × (tariff_of before ≡ None)
 DueWrong f before (lines.Bound bound) named = (named ≡ None) × (tariff_of before ≡ None)
 
@@ -105,7 +102,7 @@ pub record NotLower (f : Problem) (before : List Line) (line : Line) : Type 0 wh
 
 -- a clause line would have a number past the last one, or 10,000 tolls are declared before a line that declares one
 abbrev pub NoNumber : Problem → List Line → Line → Type 0
-NoNumber f before line = IsSomeAnd (clause_of line) (λ clause. 2 ^ 32 ≤ clause_count before + 1) ⊎ IsSomeAnd (toll_of f line) (λ toll. MOST_TOLLS ≤ length (tolls_of f before))
+NoNumber f before line = IsSomeAnd (clause_of line) (λ clause. 2 ^ 32 ≤ clause_count before + 1) ⊎ IsSomeAnd (toll_of line) (λ toll. MOST_TOLLS ≤ length (tolls_of before))
 
 -- the number is the first of these that isn't live
 pub record FirstDead (before : List Line) (ids : List ℕ) (id : ℕ) : Type 0 where
@@ -168,11 +165,10 @@ CanJudge f before (lines.Order v w x clause) = ⊤
 CanJudge f before (lines.Goal clause) = ⊤
 CanJudge f before (lines.Lemma clause hints) = ⊤
 CanJudge f before (lines.Delete ids) = ⊤
-CanJudge f before (lines.Narrows blocks) = ⊤
-CanJudge f before (lines.Tugs n slot most weights) = ⊤
-CanJudge f before (lines.Tariff scale prices) = ⊤
-CanJudge f before (lines.Priced clause) = IsFlat f × All (IsToll f) (tolls_of f before)
-CanJudge f before (lines.Bound bound) = IsFlat f × All (IsToll f) (tolls_of f before)
+CanJudge f before (lines.Toll toll) = ⊤
+CanJudge f before (lines.Tariff tariff) = ⊤
+CanJudge f before (lines.Priced clause) = IsFlat f × All (IsToll f) (tolls_of before)
+CanJudge f before (lines.Bound bound) = IsFlat f × All (IsToll f) (tolls_of before)
 
 -- a line that is refused is wrong as its word says
 abbrev pub RefusalCauses : Type 0

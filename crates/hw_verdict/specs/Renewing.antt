@@ -17,9 +17,8 @@ hints_of (lines.Order v w x clause) = []
 hints_of (lines.Goal clause) = []
 hints_of (lines.Lemma clause hints) = hints
 hints_of (lines.Delete ids) = []
-hints_of (lines.Narrows blocks) = []
-hints_of (lines.Tugs n slot most weights) = []
-hints_of (lines.Tariff scale prices) = []
+hints_of (lines.Toll toll) = []
+hints_of (lines.Tariff tariff) = []
 hints_of (lines.Priced clause) = []
 hints_of (lines.Bound bound) = []
 
@@ -58,9 +57,8 @@ undeleting (lines.Order v w x clause) = lines.Order v w x clause ∷ []
 undeleting (lines.Goal clause) = lines.Goal clause ∷ []
 undeleting (lines.Lemma clause hints) = lines.Lemma clause hints ∷ []
 undeleting (lines.Delete ids) = []
-undeleting (lines.Narrows blocks) = lines.Narrows blocks ∷ []
-undeleting (lines.Tugs n slot most weights) = lines.Tugs n slot most weights ∷ []
-undeleting (lines.Tariff scale prices) = lines.Tariff scale prices ∷ []
+undeleting (lines.Toll toll) = lines.Toll toll ∷ []
+undeleting (lines.Tariff tariff) = lines.Tariff tariff ∷ []
 undeleting (lines.Priced clause) = lines.Priced clause ∷ []
 undeleting (lines.Bound bound) = lines.Bound bound ∷ []
 
@@ -89,7 +87,7 @@ pub record RenewingKeeps (f : Problem) (all : List Line) : Type 0 where
   pub same_verdict : verdict f (renewed all) ≡ verdict f all
   pub same_clauses : clauses_of (renewed all) ≡ clauses_of all
   pub same_table : last_table (renewed all) ≡ last_table all
-  pub same_tolls : tolls_of f (renewed all) ≡ tolls_of f all
+  pub same_tolls : tolls_of (renewed all) ≡ tolls_of all
   pub same_tariff : tariff_of (renewed all) ≡ tariff_of all
   pub same_bound : bound_of (renewed all) ≡ bound_of all
   pub fit : All (LineFits f) all → All (LineFits f) (renewed all)

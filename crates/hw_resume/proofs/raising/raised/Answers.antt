@@ -5,4 +5,4 @@ pub returns-in-Some-clause-fits : goal.returns-in-Some-clause-fits
 returns-in-Some-clause-fits c = delete_as c.args.line.now c.in-Delete.ids c.in-Some.ids c.args.by.clauses c.in-Delete.is (rw c.in-Some.is at c.in_ok-ids-in-Delete.ensures.value)
 
 pub returns-in-Some-2-clause-fits : goal.returns-in-Some-2-clause-fits
-returns-in-Some-2-clause-fits c = tariff_as c.args.line.now c.in-Tariff.scale c.args.by.tolls c.in-Tariff.prices c.in-Some-2.prices c.in-Tariff.is (rw c.in-Some-2.is at c.in_ok-prices-in-Tariff.ensures.value)
+returns-in-Some-2-clause-fits c = tariff_as c.args.line.now c.in-Tariff.tariff c.args.by.tolls c.in-Some-2.dues c.in-Tariff.is (rw c.in-Some-2.is at c.in_ok-dues-in-Tariff.ensures.value)

@@ -13,6 +13,6 @@ returns-in-Narrows c =
 pub returns-in-Tugs : goal.returns-in-Tugs
 returns-in-Tugs c =
     let told : IfOk c.tugs_fit.result (λ yes. IsTrue yes ↔ IsToll c.args.flat.now c.args.toll.now) =
-    tugs_told c.args.flat.now c.args.toll.now c.in-Tugs.place c.in-Tugs.slot c.in-Tugs.most c.in-Tugs.weights c.deref-in-Tugs.result.now c.tugs_fit.result c.in-Tugs.is (c.deref-in-Tugs.ensures.value ∙ c.weights.view_is) c.tugs_fit.ensures.value
+    tugs_told c.args.flat.now c.args.toll.now c.in-Tugs.restriction c.in-Tugs.slot c.in-Tugs.most c.in-Tugs.weights c.deref-in-Tugs.result.now c.tugs_fit.result c.in-Tugs.is (c.deref-in-Tugs.ensures.value ∙ c.weights.view_is) c.tugs_fit.ensures.value
     in
     record { computed = as_judged c.args.flat.now c.args.toll.now c.tugs_fit.result told; value = told }

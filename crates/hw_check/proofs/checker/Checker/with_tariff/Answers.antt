@@ -1,6 +1,5 @@
 use Rattle.std.proofs.Common.{◌≡◌, None, length, sym, subst}
 use Rattle.hw_lines.specs.Refusals.{first_unknown}
-use Rattle.hw_lines.specs.Tolled.{priced_by}
 use Rattle.hw_lines.proofs.Priced.{tariff_fits}
 use Rattle.hw_tolls.specs.Prices.{TariffFits}
 use Rattle.hw_verdict.proofs.Priced.{known_from}
@@ -9,9 +8,9 @@ use Rattle.hw_check.proofs.checker.Checker.with_tariff.Goals as goal
 pub put_in_force-requires-clause-fits : goal.put_in_force-requires-clause-fits
 put_in_force-requires-clause-fits c =
     let count = length c.self.inside.prices.tolls in
-    let known : first_unknown count c.args.prices.now ≡ None = subst (λ s. first_unknown (length s.kept.tolls) c.args.prices.now ≡ None) (sym c.self.view_is) c.requires.known in
-    let fits : TariffFits count (priced_by c.args.scale c.args.prices.now) = tariff_fits c.args.scale count c.args.prices.now c.self.invariant.good.few c.requires.fits (known_from count c.args.prices.now known) in
-    subst (TariffFits count) (sym c.in_ok-tariff.ensures.value) fits
+    let known : first_unknown count c.args.tariff.now.dues ≡ None = subst (λ s. first_unknown (length s.kept.tolls) c.args.tariff.now.dues ≡ None) (sym c.self.view_is) c.requires.known in
+    let fits : TariffFits count c.args.tariff.now = tariff_fits count c.args.tariff.now c.self.invariant.good.few c.requires.fits (known_from count c.args.tariff.now.dues known) in
+    subst (TariffFits count) (sym c.in_ok-copied.ensures.value) fits
 
 pub invariant_of-self : goal.invariant_of-self
 invariant_of-self c = record {

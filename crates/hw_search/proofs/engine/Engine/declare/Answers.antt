@@ -1,11 +1,9 @@
-use Rattle.std.proofs.Common.{◌∷◌, [], sym, ap, subst}
+use Rattle.std.proofs.Common.{sym, subst}
 use Rattle.std.proofs.lemmas.Result.{err_from_is_err_and}
 use Rattle.hw_cert.specs.declared.log.LogStop.TheVariants as stops
-use Rattle.hw_progress.specs.Prices.{toll_line}
 use Rattle.hw_progress.specs.Searches.{SearchModel, IsSearch}
 use Rattle.hw_progress.specs.Advised.{Heeds}
 use Rattle.hw_search.specs.Engines.{EngineModel}
-use Rattle.hw_ledger.specs.Handing.{TakesAll, StopsWithin}
 use Rattle.hw_search.specs.Pricing.{HeedStops}
 use Rattle.hw_search.proofs.Advice.{memory_stops}
 use Rattle.hw_search.proofs.Heard.{kept_prices, IsNewToll, declared_kept, held_is, declared_is, declared_heeds, declared_stops}
@@ -37,8 +35,7 @@ returns-in_err-hand_toll-clause-heeds g c =
     let stop = c.in_err-hand_toll.field-0.0 in
     let is : IsSearch s = subst (λ (e : EngineModel). IsSearch e.search) c.self.view_is c.self.invariant.0.search in
     let of : IsNewToll s c.args.toll = record { toll = c.requires.toll; few = c.requires.few } in
-    let stopped = subst (λ f. StopsWithin stop (toll_line f c.args.toll ∷ []) 0 old new) (ap (λ (e : EngineModel). e.search.problem) c.self.view_is) c.in_err-hand_toll.ensures.stops in
-    rw (p.1, p.2) (subst (λ (x : SearchModel). HeedStops s x old stop new) (sym (held_is _ _ _ c.self.view_is c.reserve.ensures.items)) (declared_stops s c.args.toll stop old new is of c.requires.fits stopped))
+    rw (p.1, p.2) (subst (λ (x : SearchModel). HeedStops s x old stop new) (sym (held_is _ _ _ c.self.view_is c.reserve.ensures.items)) (declared_stops s c.args.toll stop old new is of c.requires.fits c.in_err-hand_toll.ensures.stops))
 
 pub returns-clause-heeds : goal.returns-clause-heeds
 returns-clause-heeds g c =
@@ -47,5 +44,4 @@ returns-clause-heeds g c =
     let new = g.L.Log.state c.hand_toll.new.log in
     let is : IsSearch s = subst (λ (e : EngineModel). IsSearch e.search) c.self.view_is c.self.invariant.0.search in
     let of : IsNewToll s c.args.toll = record { toll = c.requires.toll; few = c.requires.few } in
-    let taken = subst (λ f. TakesAll (toll_line f c.args.toll ∷ []) old new) (ap (λ (e : EngineModel). e.search.problem) c.self.view_is) c.in_ok-hand_toll.ensures.takes in
-    subst (λ (x : SearchModel). Heeds s x old new) (sym (declared_is _ _ c.args.toll _ _ c.self.view_is c.reserve.ensures.items c.push_reserved.ensures.items)) (declared_heeds s c.args.toll old new is of c.requires.fits taken)
+    subst (λ (x : SearchModel). Heeds s x old new) (sym (declared_is _ _ c.args.toll _ _ c.self.view_is c.reserve.ensures.items c.push_reserved.ensures.items)) (declared_heeds s c.args.toll old new is of c.requires.fits c.in_ok-hand_toll.ensures.takes)
