@@ -14,7 +14,8 @@ use hw_cert::Log;
 use hw_flat::Flat;
 use hw_model::NoMemory;
 use hw_progress::{Branching, MOST_BUDGET, Proved, Solved};
-use hw_search::{propagators, proved};
+use hw_search::proved;
+use hw_sources::propagators;
 use hw_store::WatchStore;
 use std::alloc::Global;
 

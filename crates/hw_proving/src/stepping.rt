@@ -7,7 +7,7 @@ use crate::advised::Advised;
 use hw_advice::Adviser;
 use hw_cert::Log;
 use hw_progress::{Bounded, Closed, MOST_BUDGET, Proposed, Turn};
-use hw_search::AnyPropagator;
+use hw_sources::AnyPropagator;
 use hw_store::WatchStore;
 
 /// The search of which a solution with advice is made.

@@ -16,7 +16,7 @@ use Rattle.hw_prop.specs.Finds.{Finds, Explanation}
 use Rattle.hw_story.specs.declared.event.Why.TheVariants as whys
 use Rattle.hw_progress.specs.Searches.{SearchModel, IsSearch, IsReason, best_cargo, room_in}
 use Rattle.hw_search.specs.Engines.{EngineModel, KeepsEngine, QuietUnmarked}
-use Rattle.hw_search.specs.Speaking.{SpeakersModel}
+use Rattle.hw_sources.specs.Speaking.{SpeakersModel}
 use Rattle.hw_search.proofs.Markings.{written_whole, of_all}
 
 -- ---- propagators that were written through their vector

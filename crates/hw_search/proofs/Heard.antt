@@ -28,7 +28,7 @@ use Rattle.hw_ledger.specs.Handing.{TakesAll, StopsWithin}
 use Rattle.hw_search.specs.Pricing.{with_other_prices, HeedStops, IsBelow, ShowsBound, TellsBound}
 use Rattle.hw_ledger.specs.Ledgers.{LedgerModel}
 use Rattle.hw_search.proofs.Advice.{prices_heeded, priced_heeded, line_stops, one_writes}
-use Rattle.hw_search.specs.Speaking.{SpeakersModel}
+use Rattle.hw_sources.specs.Speaking.{SpeakersModel}
 use Rattle.hw_ledger.proofs.Handed.{grown_with, grows_by}
 
 -- ---- other prices

@@ -32,8 +32,8 @@ use Rattle.hw_progress.proofs.Holds.{room_fits}
 use Rattle.hw_progress.proofs.Keeps.{new_kept, implied_search}
 use Rattle.hw_search.specs.Engines.{EngineModel, KeepsEngine, QuietUnmarked}
 use Rattle.hw_ledger.specs.Ledgers.{LedgerModel}
-use Rattle.hw_search.specs.Marks.{is_place_marked, MarksPlaces}
-use Rattle.hw_search.specs.Speaking.{SpeakersModel, speakers_of, TellsSpeakers}
+use Rattle.hw_sources.specs.Marks.{is_place_marked, MarksPlaces}
+use Rattle.hw_sources.specs.Speaking.{SpeakersModel, speakers_of, TellsSpeakers}
 use Rattle.hw_search.proofs.Levels.{levels_implied}
 use Rattle.hw_search.proofs.Markings.{quiet_cut, quiet_all}
 

@@ -19,7 +19,7 @@ use Rattle.hw_progress.specs.Settling.{Settles}
 use Rattle.hw_progress.specs.Turns.{TurnMeets}
 use Rattle.hw_search.specs.Engines.{EngineModel}
 use Rattle.hw_ledger.specs.GoingBack.{Tidies, TidiesBy}
-use Rattle.hw_search.specs.Restarts.{NextLevel}
+use Rattle.hw_branching.specs.Restarts.{NextLevel}
 use Rattle.hw_ledger.specs.Handing.{TakesAll}
 use Rattle.hw_ledger.specs.Ledgers.{LedgerModel, with_events_left}
 use Rattle.hw_ledger.specs.Naming.{EachOfProblem, HandsLearnt, IsOfProblem, WritesLearnt, own_after, taught, Taught}

@@ -24,10 +24,10 @@ use Rattle.hw_progress.proofs.Citing.{reason_why, why_inside}
 use Rattle.hw_progress.proofs.Stops.{numbers_kept}
 use Rattle.hw_progress.proofs.Turned.{few_for}
 use Rattle.hw_search.specs.Engines.{EngineModel, KeepsEngine, QuietLevels, QuietUnmarked}
-use Rattle.hw_search.specs.Marks.{is_place_marked}
-use Rattle.hw_search.specs.Speaking.{SpeakersModel, TellsSpeakers}
+use Rattle.hw_sources.specs.Marks.{is_place_marked}
+use Rattle.hw_sources.specs.Speaking.{SpeakersModel, TellsSpeakers}
 use Rattle.hw_ledger.specs.Naming.{taught, Taught}
-use Rattle.hw_search.specs.Restarts.{due, NextLevel}
+use Rattle.hw_branching.specs.Restarts.{due, NextLevel}
 use Rattle.hw_search.proofs.Levels.{levels_back, quiet_gone, at_get}
 use Rattle.hw_search.specs.Turning.{Teaches}
 

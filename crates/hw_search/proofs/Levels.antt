@@ -14,7 +14,7 @@ use Rattle.hw_story.specs.Trails.{TrailModel, IsTrail, room_of, back_to, implied
 use Rattle.hw_story.proofs.Kept.{back_back, back_more, back_same}
 use Rattle.hw_progress.proofs.Keeps.{never}
 use Rattle.hw_search.specs.Engines.{QuietLevels, QuietUnmarked}
-use Rattle.hw_search.specs.Marks.{is_place_marked}
+use Rattle.hw_sources.specs.Marks.{is_place_marked}
 use Rattle.hw_search.proofs.Markings.{of_all}
 
 pub levels_implied : (f : Problem) (best : Option ℕ) (t : TrailModel) (lit : Lit) (why : Why) → QuietLevels f best t → QuietLevels f best (implied t lit why)

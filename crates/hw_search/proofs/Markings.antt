@@ -1,10 +1,10 @@
 -- Marks after a cut, and a slice written through its vector.
-use Rattle.std.proofs.Common.{◌≡◌, ℕ, ◌<◌, Bool, true, false, List, ◌++◌, Option, Some, length, get_or, take, drop, map, option_map, slice_get, sym, ap, ◌∙◌, subst, inl, inr}
+use Rattle.std.proofs.Common.{◌≡◌, ℕ, Bool, true, false, List, ◌++◌, Option, Some, length, take, drop, slice_get, sym, ap, ◌∙◌, subst, inl, inr}
 use Rattle.std.specs.Prelude.{All}
 use Rattle.std.proofs.Math.Seq.{take-append_seam}
 use Rattle.std.proofs.lemmas.Bool.{cases_Bool}
 use Rattle.std.proofs.lemmas.List.Elements.{All-get_or}
-use Rattle.std.proofs.lemmas.Option.{slice_get_within, slice_get-get_or, slice_get-map, get_or_from_slice_get}
+use Rattle.std.proofs.lemmas.Option.{slice_get_within, get_or_from_slice_get}
 use Rattle.hw_model.specs.declared.lit.Lit.{Lit}
 use Rattle.hw_model.specs.declared.lit.LitTruth.TheVariants.{Free}
 use Rattle.hw_model.specs.declared.source.Source.{Source}
@@ -18,8 +18,8 @@ use Rattle.hw_model.specs.Rooms.{RoomModel, RoomFits}
 use Rattle.hw_laws.proofs.Quiets.{unspoken}
 use Rattle.hw_progress.proofs.Keeps.{never}
 use Rattle.hw_search.specs.Engines.{QuietUnmarked}
-use Rattle.hw_search.specs.Marks.{is_place_marked, MarksPlaces}
-use Rattle.hw_search.specs.Speaking.{SpeakersModel, speakers_of, TellsSpeakers}
+use Rattle.hw_sources.specs.Marks.{is_place_marked, MarksPlaces}
+use Rattle.hw_sources.specs.Speaking.{SpeakersModel, speakers_of, TellsSpeakers}
 
 -- a whole slice written through its vector is what the vector holds
 pub written_whole : {A : Type 0} (n : ℕ) (new old : List A) → n ≡ length new → take n (new ++ drop (length new) old) ≡ new
@@ -46,10 +46,3 @@ quiet_cut f best room sources table old new lit flat of fits is free tells marks
 -- where all are marked nothing is to be shown
 pub quiet_all : (f : Problem) (best : Option ℕ) (room : RoomModel) (sources : List Source) (marks : List Bool) → ((place : ℕ) → is_place_marked marks place ≡ true) → QuietUnmarked f best room sources marks
 quiet_all f best room sources marks all place source at clear = absurd (never (sym (all place) ∙ clear))
-
-pub some_same : {A : Type 0} (x y : A) → Some x ≡ Some y → x ≡ y
-some_same x y e = cc
-
--- what a list of values has at a place is the value there
-pub mapped_at : {A B : Type 0} (f : A → B) (xs : List A) (place : ℕ) (d : A) (y : B) → place < length xs → slice_get (map f xs) place ≡ Some y → f (get_or xs place d) ≡ y
-mapped_at f xs place d y lt h = some_same (f (get_or xs place d)) y (sym (slice_get-map f xs place ∙ ap (option_map f) (slice_get-get_or xs place d lt)) ∙ h)

@@ -8,8 +8,8 @@ use Rattle.hw_story.specs.Trails.{most_events}
 use Rattle.hw_progress.specs.Searches.{SearchModel}
 use Rattle.hw_search.specs.Askings.{SourcesQuiet, Gains}
 use Rattle.hw_search.specs.Engines.{EngineModel, KeepsEngine}
-use Rattle.hw_search.specs.Marks.{ClearWithin}
-use Rattle.hw_search.specs.Speaking.{SpeakersModel}
+use Rattle.hw_sources.specs.Marks.{ClearWithin}
+use Rattle.hw_sources.specs.Speaking.{SpeakersModel}
 use Rattle.hw_search.proofs.Steps.{left_less}
 
 pub clear_joined : (marks : List Bool) (from upto : ℕ) → ClearWithin marks 0 from → ClearWithin marks from upto → ClearWithin marks 0 upto

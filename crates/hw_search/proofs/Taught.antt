@@ -20,7 +20,7 @@ use Rattle.hw_ledger.specs.Handing.{TakesAll, StopRemainder, StopsAfter, StopsWi
 use Rattle.hw_ledger.specs.Naming.{own_number, taught, Taught}
 use Rattle.hw_ledger.specs.Dropped.{line_numbers_kept, IsLeftOver}
 use Rattle.hw_ledger.specs.GoingBack.{Adds}
-use Rattle.hw_search.specs.Restarts.{due, NextLevel}
+use Rattle.hw_branching.specs.Restarts.{due, NextLevel}
 use Rattle.hw_search.specs.Turning.{TurnBegins, Teaches, turn_of}
 use Rattle.hw_ledger.proofs.Handed.{grows_on, all_on, take_past, get_past, cause_on}
 use Rattle.hw_search.proofs.Teaching.{gone, past, Known, known, lemma_turned, past_meets}

@@ -26,8 +26,8 @@ use Rattle.hw_laws.proofs.Quiets.{best_quiet}
 use Rattle.hw_search.proofs.Levels.{levels_decided, levels_best, at_get, one_place}
 use Rattle.hw_search.specs.Engines.{EngineModel, KeepsEngine, QuietUnmarked}
 use Rattle.hw_ledger.specs.Ledgers.{LedgerModel}
-use Rattle.hw_search.specs.Marks.{is_place_marked, MarksPlaces}
-use Rattle.hw_search.specs.Speaking.{SpeakersModel, speakers_of}
+use Rattle.hw_sources.specs.Marks.{is_place_marked, MarksPlaces}
+use Rattle.hw_sources.specs.Speaking.{SpeakersModel, speakers_of}
 use Rattle.hw_search.proofs.Kept.{lit_here, room_here, few_in}
 use Rattle.hw_search.proofs.Markings.{quiet_cut}
 

@@ -1,14 +1,7 @@
-pub mod Speaking
 pub mod Engines
 pub mod Prices
-pub mod Marks
 pub mod Askings
-pub mod Powers
-pub mod Restarts
 pub mod Turning
-pub mod Branching
-pub mod Any
 pub mod Going
 pub mod Faults
-pub mod MadeFor
 pub mod Pricing

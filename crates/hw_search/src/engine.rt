@@ -1,21 +1,19 @@
 //! What a search works on: its parts, and what they keep together.
 
-ghost use Rattle.std.specs.Prelude.{◌≡◌, [], All, Contains, IfOk, Some, map, slice_get};
+ghost use Rattle.std.specs.Prelude.{◌≡◌, [], All, IfOk, map};
 ghost use Rattle.std.specs.Option.{option_copied};
-ghost use Rattle.hw_model.specs.declared.source.Source.TheVariants.{Goal};
 ghost use Rattle.hw_model.specs.Problem.{shape_of};
 ghost use Rattle.hw_model.specs.Rooms.{whole_room};
 ghost use Rattle.hw_progress.specs.Searches.{new_search, room_in, IsSearch};
 ghost use Rattle.hw_progress.specs.Starting.{EachSourceOnce};
 
-use crate::marking::Marks;
 use crate::prices::Declared;
-use crate::speakers::Speakers;
-use hw_flat::{Flat, Room, Source, Timetable};
+use hw_flat::{Flat, Room, Timetable};
 use hw_ledger::Ledger;
 use hw_model::NoMemory;
 use hw_progress::Branching;
 use hw_prop::Propagator;
+use hw_sources::{Marks, Speakers, goal_of, sources_of};
 use hw_store::Store;
 use hw_tolls::Tariff;
 use hw_trail::Trail;
@@ -82,29 +80,6 @@ impl<'f, S: Store + Drop, P: Propagator + Drop> Model for Engine<'f, S, P> {
         × (S.ships s.store ≡ s.flat.now.ships)
         × S.ready s.store (room_of s.trail)
         × All (λ one. P.serves one s.flat.now) s.props.items };
-}
-
-// The sources of the propagators, in order.
-fn sources_of<P: Propagator>(alloc: Global, props: &[P]) -> Result<Vec<Source>, NoMemory>
-    ensures value { IfOk result (λ sources. sources.items ≡ map P.source props.now) }
-{
-    let mut sources = Vec::with_capacity(alloc, props.len())?;
-    for one in props {
-        sources.push(one.source())?;
-    }
-    Ok(sources)
-}
-
-// The place of the goal.
-fn goal_of(sources: &[Source]) -> usize
-    requires there { Contains sources.now Goal }
-    ensures value { slice_get sources.now result ≡ Some Goal }
-{
-    let mut place = 0;
-    while sources[place] != Source::Goal {
-        place += 1;
-    }
-    place
 }
 
 impl<'f, S: Store + Drop, P: Propagator + Drop> Engine<'f, S, P> {

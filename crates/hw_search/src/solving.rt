@@ -1,44 +1,21 @@
 //! A whole solution: turn after turn of a search, until it ended or the budget is spent.
-ghost use Rattle.std.specs.Prelude.{◌≡◌, ◌≤◌, ◌<◌, [], true, false, All, IfOk, IfSome, map};
+ghost use Rattle.std.specs.Prelude.{◌≡◌, ◌≤◌, ◌<◌, true, false, IfOk, IfSome};
 ghost use Rattle.hw_cert.specs.Logs.{IsEmpty};
-ghost use Rattle.hw_model.specs.Problem.{shape_of};
-ghost use Rattle.hw_model.specs.Rooms.{whole_room};
 ghost use Rattle.hw_model.specs.Timetables.{Permits};
 ghost use Rattle.hw_progress.specs.Proving.{IsEndOf};
 ghost use Rattle.hw_progress.specs.Searches.{new_search};
 ghost use Rattle.hw_progress.specs.Solving.{SolveMeets};
-ghost use Rattle.hw_progress.specs.Starting.{EachSourceOnce};
 ghost use Rattle.hw_search.specs.Faults.{SolvedKeepsFaults};
-ghost use Rattle.hw_search.specs.MadeFor.{IsMadeFor};
-ghost use Rattle.hw_rules.specs.Sources.{AreSourcesOf};
 
-use crate::any::{AnyPropagator, for_source};
 use crate::search::Search;
 use hw_cert::Log;
 use hw_flat::{Flat, Timetable};
 use hw_model::NoMemory;
 use hw_progress::{Branching, MOST_BUDGET, Solved, Turn};
-use hw_prop::Propagator;
-use hw_rules::{cargo, sources};
+use hw_rules::cargo;
+use hw_sources::{AnyPropagator, propagators};
 use hw_store::WatchStore;
 use std::alloc::Global;
-
-/// A propagator for each source, of the kind that is made for it, in the order of the sources, ready
-/// for the whole room.
-pub fn propagators(alloc: Global, flat: &Flat) -> Result<Vec<AnyPropagator>, NoMemory>
-    ensures sources { IfOk result (λ props. EachSourceOnce flat.now (map ⟦<AnyPropagator as Propagator>⟧.source props.items)) }
-    ensures order { IfOk result (λ props. AreSourcesOf flat.now (map ⟦<AnyPropagator as Propagator>⟧.source props.items)) }
-    ensures ready { IfOk result (λ props. All (λ one. ⟦<AnyPropagator as Propagator>⟧.ready one flat.now (whole_room (shape_of flat.now))) props.items) }
-    ensures kinds { IfOk result (λ props. All (λ one. IsMadeFor flat.now (⟦<AnyPropagator as Propagator>⟧.source one) one) props.items) }
-{
-    let list = sources(alloc, flat)?;
-    let mut props = Vec::with_capacity(alloc, list.len())?;
-    for source in &list {
-        let one = for_source(alloc, flat, *source)?;
-        props.push(one)?;
-    }
-    Ok(props)
-}
 
 // A search that has done nothing, of which a solution is made.
 fn start<'f>(

@@ -16,9 +16,8 @@ ghost use Rattle.hw_search.specs.Faults.{TurnKeepsFaults};
 ghost use Rattle.hw_search.specs.Turning.{Decides, Teaches, TurnsFrom, decided_by, turn_of};
 
 use crate::asking::clause_of;
-use crate::branching::branch;
 use crate::engine::{Best, Engine};
-use crate::restarts::next_level;
+use hw_branching::{branch, next_level};
 use hw_cert::{Log, LogStop};
 use hw_flat::Timetable;
 use hw_learn::{Learnt, learn};

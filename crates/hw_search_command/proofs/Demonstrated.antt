@@ -22,7 +22,6 @@ use Rattle.hw_cert.specs.Texts.{cert_text}
 use Rattle.hw_progress.specs.declared.outcome.Solved.{Solved}
 use Rattle.hw_progress.specs.declared.outcome.Solved.TheVariants.{Optimal, Infeasible, Unfinished, NoMemory, LogFailed}
 use Rattle.hw_progress.specs.Solving.{SolveMeets, SolveFails}
-use Rattle.hw_search.proofs.Markings.{some_same}
 use Rattle.hw_report.specs.Reports.{demo, no_memory}
 use Rattle.hw_report.specs.declared.report.Head.{Head}
 use Rattle.hw_report.specs.declared.report.Head.TheVariants as heads
@@ -74,6 +73,9 @@ found {f = f} {budget = budget} {all = all} it v count is_found m is counted =
       spent = told.shows.spent;
       counted = counted;
     }
+
+some_same : (x y : Head) → Some x ≡ Some y → x ≡ y
+some_same x y e = cc
 
 -- by its head
 demonstrates : {f : Problem} {budget : ℕ} {all : List Line} (answer : Solved) (head : Head) (v : Verdict) (count : ℕ)

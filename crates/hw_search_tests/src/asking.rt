@@ -10,7 +10,7 @@ ghost use Rattle.hw_rules.specs.Sources.{AreSourcesOf};
 use hw_flat::{Flat, NoMemory, Source};
 use hw_prop::{Propagator, Shaver};
 use hw_rules::sources;
-use hw_search::{AnyPropagator, for_source};
+use hw_sources::{AnyPropagator, for_source};
 use std::alloc::Global;
 use std::test::Fail;
 

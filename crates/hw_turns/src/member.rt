@@ -17,7 +17,8 @@ use hw_cert::{Log, LogStop, MemoryLog};
 use hw_flat::{Flat, NoMemory, Timetable};
 use hw_progress::MOST_BUDGET;
 use hw_rules::cargo;
-use hw_search::{AnyPropagator, Branching, Search, Turn, propagators};
+use hw_search::{Branching, Search, Turn};
+use hw_sources::{AnyPropagator, propagators};
 use hw_store::WatchStore;
 use std::alloc::Global;
 

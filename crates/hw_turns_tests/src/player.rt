@@ -10,7 +10,8 @@ ghost use Rattle.hw_turns.specs.Members.{Working, Caught, CargoIsAbove, TurnsOwn
 use hw_cert::MemoryLog;
 use hw_flat::{Flat, NoMemory, Timetable};
 use hw_rules::{broken, cargo};
-use hw_search::{AnyPropagator, Branching, Search, Turn, propagators};
+use hw_search::{Branching, Search, Turn};
+use hw_sources::{AnyPropagator, propagators};
 use hw_store::WatchStore;
 use std::alloc::Global;
 

@@ -2,7 +2,7 @@ use Rattle.std.proofs.Common.{◌≡◌, ◌-◌, ◌+◌, ◌≤◌, true, fals
 use Rattle.hw_story.specs.Trails.{most_events}
 use Rattle.hw_search.specs.Askings.{Gains}
 use Rattle.hw_progress.specs.Settling.{Implies}
-use Rattle.hw_search.specs.Marks.{ClearWithin}
+use Rattle.hw_sources.specs.Marks.{ClearWithin}
 use Rattle.hw_search.proofs.engine.Engine.ask_round.Given as goal
 
 abbrev pub invariant-loop-place : goal.invariant-loop-place

@@ -7,7 +7,7 @@ use Rattle.hw_story.specs.Trails.{room_of}
 use Rattle.hw_story.proofs.Kept.{more_room}
 use Rattle.hw_progress.specs.Settling.{AllQuiet}
 use Rattle.hw_search.specs.Engines.{EngineModel}
-use Rattle.hw_search.specs.Marks.{MarksPlaces}
+use Rattle.hw_sources.specs.Marks.{MarksPlaces}
 use Rattle.hw_search.proofs.Kept.{of_view}
 use Rattle.hw_search.proofs.Turns.{open_in, room_to_decide, kept_decided}
 use Rattle.hw_search.proofs.engine.Engine.decide_by.Goals as goal

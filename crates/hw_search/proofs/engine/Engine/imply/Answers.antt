@@ -9,7 +9,7 @@ use Rattle.hw_story.specs.Trails.{trail_shape, reason_clause, room_of}
 use Rattle.hw_story.proofs.Kept.{more_room}
 use Rattle.hw_progress.specs.Searches.{room_in, IsReason}
 use Rattle.hw_search.specs.Engines.{EngineModel}
-use Rattle.hw_search.specs.Marks.{MarksPlaces}
+use Rattle.hw_sources.specs.Marks.{MarksPlaces}
 use Rattle.hw_search.proofs.Kept.{of_view, one_more, kept_implied}
 use Rattle.hw_search.proofs.engine.Engine.imply.Goals as goal
 

@@ -8,7 +8,7 @@ use Rattle.hw_story.proofs.Kept.{more_room}
 use Rattle.hw_progress.specs.Searches.{SearchModel, IsSearch}
 use Rattle.hw_progress.specs.Advised.{Heeds}
 use Rattle.hw_search.specs.Engines.{EngineModel}
-use Rattle.hw_search.specs.Marks.{MarksPlaces}
+use Rattle.hw_sources.specs.Marks.{MarksPlaces}
 use Rattle.hw_search.proofs.Kept.{kept_priced, one_priced}
 use Rattle.hw_search.proofs.Heard.{IsNewCut, cut_here, cut_number, cut_search, cut_is, cut_heeds, cut_stops}
 use Rattle.hw_search.proofs.engine.Engine.imply_priced.Goals as goal

@@ -10,7 +10,7 @@ use Rattle.hw_model.specs.Refuting.{IsSourceOf}
 use Rattle.hw_model.specs.Rooms.{whole_room}
 use Rattle.hw_story.specs.Trails.{TrailModel, room_of, most_events}
 use Rattle.hw_search.specs.Prices.{prices_of}
-use Rattle.hw_search.specs.Speaking.{TellsSpeakers}
+use Rattle.hw_sources.specs.Speaking.{TellsSpeakers}
 use Rattle.hw_search.proofs.Kept.{kept_new}
 use Rattle.hw_search.proofs.engine.Engine.new.Goals as goal
 

@@ -1,0 +1,4 @@
+pub mod Any
+pub mod MadeFor
+pub mod Marks
+pub mod Speaking
