@@ -4,6 +4,7 @@ use Rattle.hw_desk.specs.declared.desk.Feed.TheVariants as feed
 use Rattle.hw_linear.specs.declared.format.Format.{Format}
 use Rattle.hw_linear.specs.declared.format.Format.TheVariants.{Lp, Opb}
 use Rattle.hw_progress.specs.declared.limits.TheConstants.{MOST_BUDGET}
+use Rattle.hw_splitting.specs.declared.chosen.TheConstants.{MOST_PARTS}
 use Rattle.hw_subject.specs.Subjects.{Origin, Topic, flat_text, port_of, origin_seen, plainly, topic_seen}
 use Rattle.hw_search_command.specs.Orders.{order_in}
 use Rattle.hw_search_command.specs.declared.searcher.Search.{Search}
@@ -15,7 +16,7 @@ use Rattle.hw_app.specs.declared.command.Command.TheVariants as told
 use Rattle.hw_app.specs.declared.form.Form.{Form}
 use Rattle.hw_app.specs.declared.form.Keyword.TheVariants as key
 use Rattle.hw_app.specs.declared.form.Quantity.TheVariants as counts
-use Rattle.hw_app.specs.declared.form.Value.TheVariants.{Input, Order, Proof}
+use Rattle.hw_app.specs.declared.form.Value.TheVariants.{Certificates, Input, Order, Proof, SplitMade, Start}
 use Rattle.hw_app.specs.declared.form.Wanted.{Wanted}
 use Rattle.hw_app.specs.declared.form.Wanted.TheVariants.{Keyword}
 
@@ -24,6 +25,12 @@ pub data Command : Type 0 where
   search : Topic → Search → ℕ → List ℕ → Command
   -- what is searched, the certificate that is gone on from, the budget, Proof
   resume : Topic → List ℕ → ℕ → List ℕ → Command
+  -- what is split, how many parts there are at most, the certificate whose best is known, the split that is made
+  split : Topic → ℕ → List ℕ → List ℕ → Command
+  -- what is searched, the split, the number of a part, the certificate that is gone on from, the budget, Proof
+  part : Topic → List ℕ → ℕ → List ℕ → ℕ → List ℕ → Command
+  -- of what certificates are joined, the split, the certificates, Proof
+  join : Topic → List ℕ → List ℕ → List ℕ → Command
   -- of what a certificate is checked, the certificate
   check : Topic → List ℕ → Command
   verify : Topic → List ℕ → Command
@@ -72,6 +79,9 @@ topic_in form words = record { origin = origin_in form words; plan = word_in for
 abbrev pub search_in : Form → List (List ℕ) → Search → Command
 search_in form words how = search (topic_in form words) how (number_in_words form words counts.Budget) (name_in_words form words Proof)
 
+abbrev pub part_in : Form → List (List ℕ) → Command
+part_in form words = part (topic_in form words) (name_in_words form words (Input feed.Split)) (number_in_words form words counts.Part) (name_in_words form words Start) (number_in_words form words counts.Budget) (name_in_words form words Proof)
+
 -- the command of a form, by its keywords
 abbrev pub command_by : List Wanted → Form → List (List ℕ) → Command
 command_by (Keyword key.Solve ∷ more) form words = search_in form words Solve
@@ -79,6 +89,9 @@ command_by (Keyword key.Repair ∷ more) form words = search_in form words Solve
 command_by (Keyword key.Prove ∷ more) form words = search_in form words (Prove (number_in_words form words counts.Seed))
 command_by (Keyword key.Crew ∷ more) form words = search_in form words (Crew (order_in (name_in_words form words Order)))
 command_by (Keyword key.Resume ∷ more) form words = resume (topic_in form words) (name_in_words form words (Input feed.Certificate)) (number_in_words form words counts.Budget) (name_in_words form words Proof)
+command_by (Keyword key.Split ∷ more) form words = split (topic_in form words) (number_in_words form words counts.Parts) (name_in_words form words Start) (name_in_words form words SplitMade)
+command_by (Keyword key.Part ∷ more) form words = part_in form words
+command_by (Keyword key.Join ∷ more) form words = join (topic_in form words) (name_in_words form words (Input feed.Split)) (name_in_words form words Certificates) (name_in_words form words Proof)
 command_by (Keyword key.Check ∷ Keyword key.Clash ∷ Keyword key.Repair ∷ more) form words = check_clash (topic_in form words) (name_in_words form words (Input feed.Clash)) (name_in_words form words (Input feed.Certificate))
 command_by (Keyword key.Check ∷ Keyword key.Clash ∷ more) form words = check_clash (plainly (origin_in form words)) (name_in_words form words (Input feed.Plan)) (name_in_words form words (Input feed.Certificate))
 command_by (Keyword key.Check ∷ more) form words = check (topic_in form words) (name_in_words form words (Input feed.Certificate))
@@ -115,9 +128,14 @@ command_of words = command_or_place (form_of_words words) words
 abbrev pub IsBudget : ℕ → Type 0
 IsBudget budget = (1 ≤ budget) × (budget ≤ MOST_BUDGET)
 
+abbrev pub IsPartCount : ℕ → Type 0
+IsPartCount parts = (1 ≤ parts) × (parts ≤ MOST_PARTS)
+
 abbrev pub KeepsLimits : Command → Type 0
 KeepsLimits (search topic how budget proof) = IsBudget budget
 KeepsLimits (resume topic cert budget proof) = IsBudget budget
+KeepsLimits (split topic parts start made) = IsPartCount parts
+KeepsLimits (part topic split number start budget proof) = IsBudget budget
 KeepsLimits (clash topic budget proof) = IsBudget budget
 KeepsLimits (demo number ships slots budget proof) = CanDraw ships slots × IsBudget budget
 KeepsLimits command = ⊤
@@ -127,6 +145,9 @@ KeepsLimits command = ⊤
 abbrev pub command_seen : Told → Command
 command_seen (told.Search subject how budget proof) = search (topic_seen subject) how budget proof.now
 command_seen (told.Resume subject cert budget proof) = resume (topic_seen subject) cert.now budget proof.now
+command_seen (told.Split subject words parts) = split (topic_seen subject) parts words.start.now words.split.now
+command_seen (told.Part subject words budget) = part (topic_seen subject) words.split.now words.number words.start.now budget words.proof.now
+command_seen (told.Join subject split certs proof) = join (topic_seen subject) split.now certs.now proof.now
 command_seen (told.Check subject cert) = check (topic_seen subject) cert.now
 command_seen (told.Verify subject cert) = verify (topic_seen subject) cert.now
 command_seen (told.Renew subject cert proof) = renew (topic_seen subject) cert.now proof.now

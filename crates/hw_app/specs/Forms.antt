@@ -4,16 +4,17 @@ use Rattle.hw_desk.specs.State.{same_feed}
 use Rattle.hw_desk.specs.declared.desk.Feed.TheVariants as feed
 use Rattle.hw_text.specs.Numbers.{number_from_to}
 use Rattle.hw_progress.specs.declared.limits.TheConstants.{MOST_BUDGET}
+use Rattle.hw_splitting.specs.declared.chosen.TheConstants.{MOST_PARTS}
 use Rattle.hw_search_command.specs.Orders.{order_read}
 use Rattle.hw_search_command.specs.Demo.{most_ships, most_slots}
 use Rattle.hw_app.specs.declared.form.Form.{Form}
-use Rattle.hw_app.specs.declared.form.Form.TheVariants.{SolveFlat, SolvePort, ProveFlat, ProvePort, ProveFlatSeed, ProvePortSeed, ResumeFlat, ResumePort, CheckFlat, CheckPort, VerifyFlat, VerifyPort, ChartFlat, ChartPort, ChartRepairFlat, ChartRepairPort, ChartClashPort, TablePort, TableRepairPort, RenewFlat, RenewPort, CrewFlat, CrewPort, RepairFlat, RepairPort, ProveRepairFlat, ProveRepairPort, ProveRepairFlatSeed, ProveRepairPortSeed, CheckRepair, CheckRepairPort, VerifyRepairFlat, VerifyRepairPort, ExplainRepairFlat, ExplainRepairPort, ClashFlat, ClashPort, ClashRepairFlat, ClashRepairPort, CheckClash, CheckClashPort, CheckClashRepairFlat, CheckClashRepairPort, ExplainPort, WindowsPort, Lint, ModelFlat, ModelPort, OpbFlat, OpbPort, AuditPort, CarryPort, Flatten, Demo}
+use Rattle.hw_app.specs.declared.form.Form.TheVariants.{SolveFlat, SolvePort, ProveFlat, ProvePort, ProveFlatSeed, ProvePortSeed, ResumeFlat, ResumePort, SplitFlat, SplitPort, PartFlat, PartPort, JoinFlat, JoinPort, CheckFlat, CheckPort, VerifyFlat, VerifyPort, ChartFlat, ChartPort, ChartRepairFlat, ChartRepairPort, ChartClashPort, TablePort, TableRepairPort, RenewFlat, RenewPort, CrewFlat, CrewPort, RepairFlat, RepairPort, ProveRepairFlat, ProveRepairPort, ProveRepairFlatSeed, ProveRepairPortSeed, CheckRepair, CheckRepairPort, VerifyRepairFlat, VerifyRepairPort, ExplainRepairFlat, ExplainRepairPort, ClashFlat, ClashPort, ClashRepairFlat, ClashRepairPort, CheckClash, CheckClashPort, CheckClashRepairFlat, CheckClashRepairPort, ExplainPort, WindowsPort, Lint, ModelFlat, ModelPort, OpbFlat, OpbPort, AuditPort, CarryPort, Flatten, Demo}
 use Rattle.hw_app.specs.declared.form.Keyword.{Keyword as KeywordOf}
 use Rattle.hw_app.specs.declared.form.Keyword.TheVariants as key
 use Rattle.hw_app.specs.declared.form.Quantity.{Quantity}
 use Rattle.hw_app.specs.declared.form.Quantity.TheVariants as counts
 use Rattle.hw_app.specs.declared.form.Value.{Value as ValueOf}
-use Rattle.hw_app.specs.declared.form.Value.TheVariants.{Input, Proof, Order, Number}
+use Rattle.hw_app.specs.declared.form.Value.TheVariants.{Input, Start, Certificates, SplitMade, Proof, Order, Number}
 use Rattle.hw_app.specs.declared.form.Wanted.{Wanted}
 use Rattle.hw_app.specs.declared.form.Wanted.TheVariants.{Keyword, Value}
 
@@ -21,6 +22,9 @@ abbrev pub keyword_text : KeywordOf → List ℕ
 keyword_text key.Solve = codes "solve"
 keyword_text key.Prove = codes "prove"
 keyword_text key.Resume = codes "resume"
+keyword_text key.Split = codes "split"
+keyword_text key.Part = codes "part"
+keyword_text key.Join = codes "join"
 keyword_text key.Check = codes "check"
 keyword_text key.Verify = codes "verify"
 keyword_text key.Chart = codes "chart"
@@ -43,7 +47,7 @@ keyword_text key.Demo = codes "demo"
 
 -- the forms that there are
 abbrev pub forms : List Form
-forms = SolveFlat ∷ SolvePort ∷ ProveFlat ∷ ProvePort ∷ ProveFlatSeed ∷ ProvePortSeed ∷ ResumeFlat ∷ ResumePort ∷ CheckFlat ∷ CheckPort ∷ VerifyFlat ∷ VerifyPort ∷ ChartFlat ∷ ChartPort ∷ ChartRepairFlat ∷ ChartRepairPort ∷ ChartClashPort ∷ TablePort ∷ TableRepairPort ∷ RenewFlat ∷ RenewPort ∷ CrewFlat ∷ CrewPort ∷ RepairFlat ∷ RepairPort ∷ ProveRepairFlat ∷ ProveRepairPort ∷ ProveRepairFlatSeed ∷ ProveRepairPortSeed ∷ CheckRepair ∷ CheckRepairPort ∷ VerifyRepairFlat ∷ VerifyRepairPort ∷ ExplainRepairFlat ∷ ExplainRepairPort ∷ ClashFlat ∷ ClashPort ∷ ClashRepairFlat ∷ ClashRepairPort ∷ CheckClash ∷ CheckClashPort ∷ CheckClashRepairFlat ∷ CheckClashRepairPort ∷ ExplainPort ∷ WindowsPort ∷ Lint ∷ ModelFlat ∷ ModelPort ∷ OpbFlat ∷ OpbPort ∷ AuditPort ∷ CarryPort ∷ Flatten ∷ Demo ∷ []
+forms = SolveFlat ∷ SolvePort ∷ ProveFlat ∷ ProvePort ∷ ProveFlatSeed ∷ ProvePortSeed ∷ ResumeFlat ∷ ResumePort ∷ SplitFlat ∷ SplitPort ∷ PartFlat ∷ PartPort ∷ JoinFlat ∷ JoinPort ∷ CheckFlat ∷ CheckPort ∷ VerifyFlat ∷ VerifyPort ∷ ChartFlat ∷ ChartPort ∷ ChartRepairFlat ∷ ChartRepairPort ∷ ChartClashPort ∷ TablePort ∷ TableRepairPort ∷ RenewFlat ∷ RenewPort ∷ CrewFlat ∷ CrewPort ∷ RepairFlat ∷ RepairPort ∷ ProveRepairFlat ∷ ProveRepairPort ∷ ProveRepairFlatSeed ∷ ProveRepairPortSeed ∷ CheckRepair ∷ CheckRepairPort ∷ VerifyRepairFlat ∷ VerifyRepairPort ∷ ExplainRepairFlat ∷ ExplainRepairPort ∷ ClashFlat ∷ ClashPort ∷ ClashRepairFlat ∷ ClashRepairPort ∷ CheckClash ∷ CheckClashPort ∷ CheckClashRepairFlat ∷ CheckClashRepairPort ∷ ExplainPort ∷ WindowsPort ∷ Lint ∷ ModelFlat ∷ ModelPort ∷ OpbFlat ∷ OpbPort ∷ AuditPort ∷ CarryPort ∷ Flatten ∷ Demo ∷ []
 
 -- the limits of a number
 abbrev pub least_of : Quantity → ℕ
@@ -52,6 +56,8 @@ least_of counts.Ships = 1
 least_of counts.Slots = 1
 least_of counts.Budget = 1
 least_of counts.Seed = 0
+least_of counts.Parts = 1
+least_of counts.Part = 1
 
 abbrev pub most_of : Quantity → ℕ
 most_of counts.Demonstration = 4_294_967_295
@@ -59,6 +65,8 @@ most_of counts.Ships = most_ships
 most_of counts.Slots = most_slots
 most_of counts.Budget = MOST_BUDGET
 most_of counts.Seed = 4_294_967_295
+most_of counts.Parts = MOST_PARTS
+most_of counts.Part = 4_294_967_295
 
 -- what the words of a form have to be
 abbrev pub wanted_words : Form → List Wanted
@@ -70,6 +78,12 @@ wanted_words ProveFlatSeed = Keyword key.Prove ∷ Keyword key.Flat ∷ Value (I
 wanted_words ProvePortSeed = Keyword key.Prove ∷ Keyword key.Port ∷ Value (Input feed.Instance) ∷ Value (Input feed.Tides) ∷ Value (Number counts.Budget) ∷ Value Proof ∷ Value (Number counts.Seed) ∷ []
 wanted_words ResumeFlat = Keyword key.Resume ∷ Keyword key.Flat ∷ Value (Input feed.Flat) ∷ Value (Input feed.Certificate) ∷ Value (Number counts.Budget) ∷ Value Proof ∷ []
 wanted_words ResumePort = Keyword key.Resume ∷ Keyword key.Port ∷ Value (Input feed.Instance) ∷ Value (Input feed.Tides) ∷ Value (Input feed.Certificate) ∷ Value (Number counts.Budget) ∷ Value Proof ∷ []
+wanted_words SplitFlat = Keyword key.Split ∷ Keyword key.Flat ∷ Value (Input feed.Flat) ∷ Value (Number counts.Parts) ∷ Value Start ∷ Value SplitMade ∷ []
+wanted_words SplitPort = Keyword key.Split ∷ Keyword key.Port ∷ Value (Input feed.Instance) ∷ Value (Input feed.Tides) ∷ Value (Number counts.Parts) ∷ Value Start ∷ Value SplitMade ∷ []
+wanted_words PartFlat = Keyword key.Part ∷ Keyword key.Flat ∷ Value (Input feed.Flat) ∷ Value (Input feed.Split) ∷ Value (Number counts.Part) ∷ Value Start ∷ Value (Number counts.Budget) ∷ Value Proof ∷ []
+wanted_words PartPort = Keyword key.Part ∷ Keyword key.Port ∷ Value (Input feed.Instance) ∷ Value (Input feed.Tides) ∷ Value (Input feed.Split) ∷ Value (Number counts.Part) ∷ Value Start ∷ Value (Number counts.Budget) ∷ Value Proof ∷ []
+wanted_words JoinFlat = Keyword key.Join ∷ Keyword key.Flat ∷ Value (Input feed.Flat) ∷ Value (Input feed.Split) ∷ Value Certificates ∷ Value Proof ∷ []
+wanted_words JoinPort = Keyword key.Join ∷ Keyword key.Port ∷ Value (Input feed.Instance) ∷ Value (Input feed.Tides) ∷ Value (Input feed.Split) ∷ Value Certificates ∷ Value Proof ∷ []
 wanted_words CheckFlat = Keyword key.Check ∷ Keyword key.Flat ∷ Value (Input feed.Flat) ∷ Value (Input feed.Certificate) ∷ []
 wanted_words CheckPort = Keyword key.Check ∷ Keyword key.Port ∷ Value (Input feed.Instance) ∷ Value (Input feed.Tides) ∷ Value (Input feed.Certificate) ∷ []
 wanted_words VerifyFlat = Keyword key.Verify ∷ Keyword key.Flat ∷ Value (Input feed.Flat) ∷ Value (Input feed.Certificate) ∷ []
@@ -120,6 +134,9 @@ wanted_words Demo = Keyword key.Demo ∷ Value (Number counts.Demonstration) ∷
 -- a name is any word that isn't empty, an order 1 to 64 letters of searchers, and a number one in plain decimal within its limits
 abbrev pub is_value : ValueOf → List ℕ → Bool
 is_value (Input feed) word = nat_lt 0 (length word)
+is_value Start word = nat_lt 0 (length word)
+is_value Certificates word = nat_lt 0 (length word)
+is_value SplitMade word = nat_lt 0 (length word)
 is_value Proof word = nat_lt 0 (length word)
 is_value Order word = is_some (order_read word)
 is_value (Number quantity) word = is_some (number_from_to (least_of quantity) (most_of quantity) word)
@@ -165,10 +182,15 @@ same_quantity counts.Ships counts.Ships = true
 same_quantity counts.Slots counts.Slots = true
 same_quantity counts.Budget counts.Budget = true
 same_quantity counts.Seed counts.Seed = true
+same_quantity counts.Parts counts.Parts = true
+same_quantity counts.Part counts.Part = true
 same_quantity q r = false
 
 abbrev pub same_value : ValueOf → ValueOf → Bool
 same_value (Input f) (Input g) = same_feed f g
+same_value Start Start = true
+same_value Certificates Certificates = true
+same_value SplitMade SplitMade = true
 same_value Proof Proof = true
 same_value Order Order = true
 same_value (Number q) (Number r) = same_quantity q r

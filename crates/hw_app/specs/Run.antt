@@ -9,6 +9,9 @@ use Rattle.hw_command.specs.Ends.{Ends}
 use Rattle.hw_command.specs.declared.status.Status.{Status}
 use Rattle.hw_subject.specs.Subjects.{origin_subject, repair_of, topic_subject}
 use Rattle.hw_search_command.specs.Searchers.{searcher_of}
+use Rattle.hw_search_command.specs.Joining.{join_task}
+use Rattle.hw_search_command.specs.Parting.{part_task}
+use Rattle.hw_search_command.specs.Splitting.{split_task}
 use Rattle.hw_search_command.specs.Resumes.{resume_task}
 use Rattle.hw_search_command.specs.Searches.{search_task}
 use Rattle.hw_subject.specs.Checks.{check_task}
@@ -24,12 +27,15 @@ use Rattle.hw_listing_command.specs.Tables.{table_task}
 use Rattle.hw_audit_command.specs.AuditPort.{audit_port_task}
 use Rattle.hw_audit_command.specs.CarryPort.{carry_port_task}
 use Rattle.hw_search_command.specs.Demo.{demo_task}
-use Rattle.hw_app.specs.Commands.{Command, search, resume, check, verify, renew, chart, chart_clash, table, explain_repair, clash, check_clash, explain, windows, lint, model, audit, carry, flatten, demo, command_of}
+use Rattle.hw_app.specs.Commands.{Command, search, resume, split, part, join, check, verify, renew, chart, chart_clash, table, explain_repair, clash, check_clash, explain, windows, lint, model, audit, carry, flatten, demo, command_of}
 
 -- what a command has to do
 abbrev pub task_of : Command → Task
 task_of (search topic how budget proof) = search_task (topic_subject topic) (searcher_of how) budget proof
 task_of (resume topic cert budget proof) = resume_task (topic_subject topic) cert budget proof
+task_of (split topic parts start made) = split_task (topic_subject topic) parts start made
+task_of (part topic split number start budget proof) = part_task (topic_subject topic) split number start budget proof
+task_of (join topic split certs proof) = join_task (topic_subject topic) split certs proof
 task_of (check topic cert) = check_task (topic_subject topic) Two cert
 task_of (verify topic cert) = check_task (topic_subject topic) Three cert
 task_of (renew topic cert proof) = renew_task (topic_subject topic) cert proof

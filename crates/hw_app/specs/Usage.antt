@@ -7,7 +7,7 @@ use Rattle.hw_app.specs.declared.form.Form.{Form}
 use Rattle.hw_app.specs.declared.form.Quantity.{Quantity}
 use Rattle.hw_app.specs.declared.form.Quantity.TheVariants as counts
 use Rattle.hw_app.specs.declared.form.Value.{Value as ValueOf}
-use Rattle.hw_app.specs.declared.form.Value.TheVariants.{Input, Proof, Order, Number}
+use Rattle.hw_app.specs.declared.form.Value.TheVariants.{Input, Start, Certificates, SplitMade, Proof, Order, Number}
 use Rattle.hw_app.specs.declared.form.Wanted.{Wanted}
 use Rattle.hw_app.specs.declared.form.Wanted.TheVariants.{Keyword, Value}
 
@@ -19,6 +19,7 @@ input_text feeds.Certificate = codes "CERT"
 input_text feeds.Plan = codes "PLAN"
 input_text feeds.Events = codes "EVENTS"
 input_text feeds.Clash = codes "CLASH"
+input_text feeds.Split = codes "SPLIT"
 
 abbrev pub quantity_text : Quantity → List ℕ
 quantity_text counts.Demonstration = codes "NUMBER"
@@ -26,9 +27,14 @@ quantity_text counts.Ships = codes "SHIPS"
 quantity_text counts.Slots = codes "SLOTS"
 quantity_text counts.Budget = codes "BUDGET"
 quantity_text counts.Seed = codes "SEED"
+quantity_text counts.Parts = codes "PARTS"
+quantity_text counts.Part = codes "NUMBER"
 
 abbrev pub usage_value_text : ValueOf → List ℕ
 usage_value_text (Input feed) = input_text feed
+usage_value_text Start = codes "START"
+usage_value_text Certificates = codes "CERTS"
+usage_value_text SplitMade = codes "SPLIT"
 usage_value_text Proof = codes "PROOF"
 usage_value_text Order = codes "ORDER"
 usage_value_text (Number quantity) = quantity_text quantity

@@ -2,7 +2,7 @@
 
 use hw_command::PortNames;
 use hw_linear::Format;
-use hw_search_command::{Draw, Search};
+use hw_search_command::{Draw, PartWords, Search, SplitWords};
 use hw_subject::{Source, Subject};
 
 /// What a run is to do. The names are those of a desk's feeds and of Proof, and a budget is in lemmas.
@@ -18,6 +18,22 @@ pub enum Command<'w> {
         subject: Subject<'w>,
         cert: &'w str,
         budget: u32,
+        proof: &'w str,
+    },
+    Split {
+        subject: Subject<'w>,
+        words: SplitWords<'w>,
+        parts: u32,
+    },
+    Part {
+        subject: Subject<'w>,
+        words: PartWords<'w>,
+        budget: u32,
+    },
+    Join {
+        subject: Subject<'w>,
+        split: &'w str,
+        certs: &'w str,
         proof: &'w str,
     },
     Check {

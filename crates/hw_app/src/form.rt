@@ -6,6 +6,7 @@ ghost use Rattle.hw_app.specs.Forms.{keyword_text, least_of, most_of, wanted_wor
 use hw_desk::Feed;
 use hw_model::{MOST_SHIPS, MOST_SLOTS};
 use hw_progress::MOST_BUDGET;
+use hw_splitting::MOST_PARTS;
 
 /// A form of a command.
 #[derive(Clone, Copy)]
@@ -26,6 +27,18 @@ pub enum Form {
     ResumeFlat,
     /// `resume port INSTANCE TIDES CERT BUDGET PROOF` goes on from a certificate of a port, up to BUDGET new lemmas.
     ResumePort,
+    /// `split flat NAME PARTS START SPLIT` makes a split of a flat text, of at most PARTS parts.
+    SplitFlat,
+    /// `split port INSTANCE TIDES PARTS START SPLIT` makes a split of a port, of at most PARTS parts.
+    SplitPort,
+    /// `part flat NAME SPLIT NUMBER START BUDGET PROOF` goes on from a certificate of a flat text within a part of a split, up to BUDGET new lemmas.
+    PartFlat,
+    /// `part port INSTANCE TIDES SPLIT NUMBER START BUDGET PROOF` goes on from a certificate of a port within a part of a split, up to BUDGET new lemmas.
+    PartPort,
+    /// `join flat NAME SPLIT CERTS PROOF` joins the certificates of the parts of a split of a flat text.
+    JoinFlat,
+    /// `join port INSTANCE TIDES SPLIT CERTS PROOF` joins the certificates of the parts of a split of a port.
+    JoinPort,
     /// `check flat NAME CERT` checks a certificate of a flat text.
     CheckFlat,
     /// `check port INSTANCE TIDES CERT` checks a certificate of a port.
@@ -126,6 +139,9 @@ pub enum Keyword {
     Solve,
     Prove,
     Resume,
+    Split,
+    Part,
+    Join,
     Check,
     Verify,
     Chart,
@@ -160,6 +176,10 @@ pub enum Quantity {
     Budget,
     /// Nothing: it chooses a way through a search.
     Seed,
+    /// How many parts a split has at most.
+    Parts,
+    /// The parts of a split, up to one.
+    Part,
 }
 
 /// A value that a form asks for.
@@ -167,6 +187,12 @@ pub enum Quantity {
 pub enum Value {
     /// The name of an input.
     Input(Feed),
+    /// The name of a certificate from which a search within a part goes on.
+    Start,
+    /// The name of certificates one after another.
+    Certificates,
+    /// The name of a split that is made.
+    SplitMade,
     /// The name under which the proof is made.
     Proof,
     /// The letters of the searchers of a crew, in the order of their turns.
@@ -183,7 +209,7 @@ pub enum Wanted {
 }
 
 /// The forms that there are.
-pub const FORMS: [Form; 54] = [
+pub const FORMS: [Form; 60] = [
     Form::SolveFlat,
     Form::SolvePort,
     Form::ProveFlat,
@@ -192,6 +218,12 @@ pub const FORMS: [Form; 54] = [
     Form::ProvePortSeed,
     Form::ResumeFlat,
     Form::ResumePort,
+    Form::SplitFlat,
+    Form::SplitPort,
+    Form::PartFlat,
+    Form::PartPort,
+    Form::JoinFlat,
+    Form::JoinPort,
     Form::CheckFlat,
     Form::CheckPort,
     Form::VerifyFlat,
@@ -246,6 +278,12 @@ pub const PROVE: Wanted = Wanted::Keyword(Keyword::Prove);
 
 pub const RESUME: Wanted = Wanted::Keyword(Keyword::Resume);
 
+pub const SPLITS: Wanted = Wanted::Keyword(Keyword::Split);
+
+pub const PART: Wanted = Wanted::Keyword(Keyword::Part);
+
+pub const JOIN: Wanted = Wanted::Keyword(Keyword::Join);
+
 pub const CHECK: Wanted = Wanted::Keyword(Keyword::Check);
 
 pub const VERIFY: Wanted = Wanted::Keyword(Keyword::Verify);
@@ -292,6 +330,14 @@ const TIDES: Wanted = Wanted::Value(Value::Input(Feed::Tides));
 
 const CERT: Wanted = Wanted::Value(Value::Input(Feed::Certificate));
 
+const SPLIT: Wanted = Wanted::Value(Value::Input(Feed::Split));
+
+const START: Wanted = Wanted::Value(Value::Start);
+
+const SPLIT_MADE: Wanted = Wanted::Value(Value::SplitMade);
+
+const CERTS: Wanted = Wanted::Value(Value::Certificates);
+
 const PLAN: Wanted = Wanted::Value(Value::Input(Feed::Plan));
 
 const CLASH_TEXT: Wanted = Wanted::Value(Value::Input(Feed::Clash));
@@ -312,6 +358,10 @@ const BUDGET: Wanted = Wanted::Value(Value::Number(Quantity::Budget));
 
 const SEED: Wanted = Wanted::Value(Value::Number(Quantity::Seed));
 
+const PARTS: Wanted = Wanted::Value(Value::Number(Quantity::Parts));
+
+const PART_NUMBER: Wanted = Wanted::Value(Value::Number(Quantity::Part));
+
 /// What the words of a form have to be.
 pub fn words_of(form: Form) -> &'static [Wanted]
     ensures { result.now ≡ wanted_words form }
@@ -325,6 +375,22 @@ pub fn words_of(form: Form) -> &'static [Wanted]
         Form::ProvePortSeed => &[PROVE, PORT, INSTANCE, TIDES, BUDGET, PROOF, SEED],
         Form::ResumeFlat => &[RESUME, FLAT, NAME, CERT, BUDGET, PROOF],
         Form::ResumePort => &[RESUME, PORT, INSTANCE, TIDES, CERT, BUDGET, PROOF],
+        Form::SplitFlat => &[SPLITS, FLAT, NAME, PARTS, START, SPLIT_MADE],
+        Form::SplitPort => &[SPLITS, PORT, INSTANCE, TIDES, PARTS, START, SPLIT_MADE],
+        Form::PartFlat => &[PART, FLAT, NAME, SPLIT, PART_NUMBER, START, BUDGET, PROOF],
+        Form::PartPort => &[
+            PART,
+            PORT,
+            INSTANCE,
+            TIDES,
+            SPLIT,
+            PART_NUMBER,
+            START,
+            BUDGET,
+            PROOF,
+        ],
+        Form::JoinFlat => &[JOIN, FLAT, NAME, SPLIT, CERTS, PROOF],
+        Form::JoinPort => &[JOIN, PORT, INSTANCE, TIDES, SPLIT, CERTS, PROOF],
         Form::CheckFlat => &[CHECK, FLAT, NAME, CERT],
         Form::CheckPort => &[CHECK, PORT, INSTANCE, TIDES, CERT],
         Form::VerifyFlat => &[VERIFY, FLAT, NAME, CERT],
@@ -388,6 +454,9 @@ pub fn keyword_text(keyword: Keyword) -> &'static str
         Keyword::Solve => "solve",
         Keyword::Prove => "prove",
         Keyword::Resume => "resume",
+        Keyword::Split => "split",
+        Keyword::Part => "part",
+        Keyword::Join => "join",
         Keyword::Check => "check",
         Keyword::Verify => "verify",
         Keyword::Chart => "chart",
@@ -416,7 +485,11 @@ pub fn least_of(quantity: Quantity) -> u32
 {
     match quantity {
         Quantity::Demonstration | Quantity::Seed => 0,
-        Quantity::Ships | Quantity::Slots | Quantity::Budget => 1,
+        Quantity::Ships
+        | Quantity::Slots
+        | Quantity::Budget
+        | Quantity::Parts
+        | Quantity::Part => 1,
     }
 }
 
@@ -425,9 +498,10 @@ pub fn most_of(quantity: Quantity) -> u32
     ensures { result ≡ most_of quantity }
 {
     match quantity {
-        Quantity::Demonstration | Quantity::Seed => u32::MAX,
+        Quantity::Demonstration | Quantity::Seed | Quantity::Part => u32::MAX,
         Quantity::Ships => MOST_SHIPS,
         Quantity::Slots => MOST_SLOTS,
         Quantity::Budget => MOST_BUDGET,
+        Quantity::Parts => MOST_PARTS,
     }
 }

@@ -18,7 +18,9 @@ use hw_lint_command::lint_port;
 use hw_listing_command::{explain_port, flatten_port, list_model, list_table, list_windows};
 use hw_repair_command::explain_repair;
 use hw_report::Report;
-use hw_search_command::{demo, resume_subject, search_subject};
+use hw_search_command::{
+    demo, join_subject, part_subject, resume_subject, search_subject, split_subject,
+};
 use std::alloc::Global;
 
 /// Does what the words say over a desk on which nothing was begun or made, and sends its report.
@@ -45,6 +47,22 @@ pub fn run<D: Desk>(alloc: Global, words: &[String], desk: &mut D) -> Status
             budget,
             proof,
         } => resume_subject(alloc, desk, subject, cert, budget, proof),
+        Command::Split {
+            subject,
+            words,
+            parts,
+        } => split_subject(alloc, desk, subject, words, parts),
+        Command::Part {
+            subject,
+            words,
+            budget,
+        } => part_subject(alloc, desk, subject, words, budget),
+        Command::Join {
+            subject,
+            split,
+            certs,
+            proof,
+        } => join_subject(alloc, desk, subject, split, certs, proof),
         Command::Check { subject, cert } => check(alloc, desk, subject, cert),
         Command::Verify { subject, cert } => verify(alloc, desk, subject, cert),
         Command::Renew {

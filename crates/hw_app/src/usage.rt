@@ -43,6 +43,9 @@ fn value_text(value: Value) -> &'static str
 {
     match value {
         Value::Input(feed) => input_text(feed),
+        Value::Start => "START",
+        Value::Certificates => "CERTS",
+        Value::SplitMade => "SPLIT",
         Value::Proof => "PROOF",
         Value::Order => "ORDER",
         Value::Number(quantity) => quantity_text(quantity),
@@ -60,6 +63,7 @@ fn input_text(feed: Feed) -> &'static str
         Feed::Plan => "PLAN",
         Feed::Events => "EVENTS",
         Feed::Clash => "CLASH",
+        Feed::Split => "SPLIT",
     }
 }
 
@@ -72,5 +76,7 @@ fn quantity_text(quantity: Quantity) -> &'static str
         Quantity::Slots => "SLOTS",
         Quantity::Budget => "BUDGET",
         Quantity::Seed => "SEED",
+        Quantity::Parts => "PARTS",
+        Quantity::Part => "NUMBER",
     }
 }

@@ -4,20 +4,21 @@ ghost use Rattle.std.specs.Prelude.{◌≡◌, ◌≤◌, IfOk, length, map, str
 ghost use Rattle.hw_search_command.specs.Orders.{order_in};
 ghost use Rattle.hw_subject.specs.Subjects.{origin_seen, plan_seen, topic_seen};
 ghost use Rattle.hw_search_command.specs.Demo.{CanDraw};
-ghost use Rattle.hw_app.specs.Commands.{KeepsLimits, command_by, command_in, command_of, command_seen, origin_in, read_seen, search_in, topic_in};
+ghost use Rattle.hw_app.specs.Commands.{KeepsLimits, command_by, command_in, command_of, command_seen, origin_in, part_in, read_seen, search_in, topic_in};
 ghost use Rattle.hw_app.specs.Forms.{agreed, first_fitting, form_of_words, furthest, is_value, least_of, most_of, name_in_words, number_in_words, takes_word, word_in, word_where};
 
 use crate::command::Command;
 use crate::form::{
-    AUDIT, CARRY, CHART, CHECK, CLASH, CREW, EXPLAIN, FLATTEN, FORMS, Form, LINT, MODEL, OPB,
-    PROVE, Quantity, RENEW, REPAIR, RESUME, SOLVE, TABLE, VERIFY, Value, WINDOWS, Wanted,
+    AUDIT, CARRY, CHART, CHECK, CLASH, CREW, EXPLAIN, FLATTEN, FORMS, Form, JOIN, LINT, MODEL, OPB,
+    PART, PROVE, Quantity, RENEW, REPAIR, RESUME, SOLVE, SPLITS, TABLE, VERIFY, Value, WINDOWS,
+    Wanted,
     keyword_text, least_of, most_of, words_of,
 };
 use hw_command::PortNames;
 use hw_desk::Feed;
 use hw_linear::Format;
 use hw_search::Branching;
-use hw_search_command::{Draw, Order, Search};
+use hw_search_command::{Draw, Order, PartWords, Search, SplitWords};
 use hw_subject::{Source, Subject};
 use hw_text::read_small;
 
@@ -36,7 +37,11 @@ fn is_value(value: Value, word: &str) -> bool
     ensures { result ≡ is_value value word.now }
 {
     match value {
-        Value::Input(_) | Value::Proof => !word.is_empty(),
+        Value::Input(_)
+        | Value::Start
+        | Value::Certificates
+        | Value::SplitMade
+        | Value::Proof => !word.is_empty(),
         Value::Order => Order::read(word).is_some(),
         Value::Number(quantity) => {
             read_small(word.as_bytes(), least_of(quantity), most_of(quantity)).is_some()
@@ -141,6 +146,21 @@ fn command_by<'w>(wanted: &[Wanted], form: Form, words: &'w [String]) -> Command
             subject: subject_in(form, words),
             cert: input_in(form, words, Feed::Certificate),
             budget: number_in(form, words, Quantity::Budget),
+            proof: name_in(form, words, Value::Proof),
+        },
+        [SPLITS, ..] => Command::Split {
+            subject: subject_in(form, words),
+            words: SplitWords {
+                start: name_in(form, words, Value::Start),
+                split: name_in(form, words, Value::SplitMade),
+            },
+            parts: number_in(form, words, Quantity::Parts),
+        },
+        [PART, ..] => part_in(form, words),
+        [JOIN, ..] => Command::Join {
+            subject: subject_in(form, words),
+            split: input_in(form, words, Feed::Split),
+            certs: name_in(form, words, Value::Certificates),
             proof: name_in(form, words, Value::Proof),
         },
         [CHECK, CLASH, REPAIR, ..] => Command::CheckClash {
@@ -351,5 +371,22 @@ fn search_in(form: Form, words: &[String], how: Search) -> Command<'_>
         how,
         budget: number_in(form, words, Quantity::Budget),
         proof: name_in(form, words, Value::Proof),
+    }
+}
+
+/// A search within a part of the form's subject.
+fn part_in(form: Form, words: &[String]) -> Command<'_>
+    ensures command { command_seen result ≡ part_in form (map string_bytes words.now) }
+    ensures limits { KeepsLimits (command_seen result) }
+{
+    Command::Part {
+        subject: subject_in(form, words),
+        words: PartWords {
+            split: input_in(form, words, Feed::Split),
+            number: number_in(form, words, Quantity::Part),
+            start: name_in(form, words, Value::Start),
+            proof: name_in(form, words, Value::Proof),
+        },
+        budget: number_in(form, words, Quantity::Budget),
     }
 }

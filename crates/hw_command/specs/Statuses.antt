@@ -1,8 +1,8 @@
 -- How a run ends.
-use Rattle.std.specs.Prelude.{ℕ}
+use Rattle.std.specs.Prelude.{ℕ, Bool, true, false}
 use Rattle.hw_lines.specs.declared.check.Verdict.{Verdict}
 use Rattle.hw_lines.specs.declared.check.Verdict.TheVariants as verdicts
-use Rattle.hw_report.specs.Reports.{Report, solved, checked, demo, bad_words, bad_flat, bad_json, bad_field, bad_tides, refused, read_fault, too_long, no_memory, bad_text, clashed, met, spent_step, clash_holds, after, audit_end, whole_text, picture}
+use Rattle.hw_report.specs.Reports.{Report, solved, checked, demo, bad_words, bad_flat, bad_json, bad_field, bad_tides, refused, read_fault, too_long, no_memory, bad_text, clashed, met, spent_step, clash_holds, parts_told, part_told, open_part, after, audit_end, whole_text, picture}
 use Rattle.hw_report.specs.declared.report.Head.{Head}
 use Rattle.hw_report.specs.declared.report.Head.TheVariants.{Optimal, Infeasible, Unfinished, Memory}
 use Rattle.hw_command.specs.declared.status.Status.{Status}
@@ -31,6 +31,10 @@ status_of_verdict (verdicts.Optimal c) = status.Optimal
 status_of_verdict verdicts.Infeasible = status.Infeasible
 status_of_verdict (verdicts.Unfinished best) = status.Unfinished
 
+abbrev pub status_of_part : Bool → Status
+status_of_part true = status.Optimal
+status_of_part false = status.Unfinished
+
 -- the status of a run whose report was sent
 abbrev pub status_of : Report → Status
 status_of (solved head f names table moved bound) = status_of_head head
@@ -50,6 +54,9 @@ status_of (clashed kept drops) = status.Infeasible
 status_of (met table) = status.Optimal
 status_of (spent_step budget step) = status.Unfinished
 status_of clash_holds = status.Infeasible
+status_of (parts_told number) = status.Optimal
+status_of (part_told number is_closed) = status_of_part is_closed
+status_of (open_part number) = status.Unfinished
 status_of (after number broken) = status.Optimal
 status_of audit_end = status.Optimal
 status_of (whole_text text) = status.Optimal

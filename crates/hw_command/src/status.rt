@@ -1,7 +1,7 @@
 //! How a run ends, as a status and as the number that the process ends with.
 
 ghost use Rattle.std.specs.Prelude.{◌≡◌};
-ghost use Rattle.hw_command.specs.Statuses.{code_of, status_of, status_of_head, status_of_verdict};
+ghost use Rattle.hw_command.specs.Statuses.{code_of, status_of, status_of_head, status_of_part, status_of_verdict};
 ghost use Rattle.hw_report.specs.Seen.{report_seen};
 
 use hw_cert::Verdict;
@@ -74,6 +74,16 @@ pub fn status_of_verdict(verdict: Verdict) -> Status
     }
 }
 
+fn status_of_part(is_closed: bool) -> Status
+    ensures { result ≡ status_of_part is_closed }
+{
+    if is_closed {
+        Status::Optimal
+    } else {
+        Status::Unfinished
+    }
+}
+
 /// How a run ends whose report was sent.
 pub fn status_of(report: &Report) -> Status
     ensures { result ≡ status_of (report_seen report.now) }
@@ -92,9 +102,12 @@ pub fn status_of(report: &Report) -> Status
         Report::TooLong { .. } => Status::TooLong,
         Report::Memory => Status::NoMemory,
         Report::Clashed { .. } | Report::ClashHolds => Status::Infeasible,
-        Report::Met { .. } | Report::After { .. } | Report::AuditEnd | Report::WholeText { .. } => {
-            Status::Optimal
-        }
-        Report::Step { .. } => Status::Unfinished,
+        Report::Met { .. }
+        | Report::After { .. }
+        | Report::AuditEnd
+        | Report::Parts { .. }
+        | Report::WholeText { .. } => Status::Optimal,
+        Report::Step { .. } | Report::OpenPart { .. } => Status::Unfinished,
+        Report::Part { is_closed, .. } => status_of_part(is_closed),
     }
 }

@@ -9,7 +9,7 @@ use Rattle.hw_desk.specs.Names.{kept_name}
 use Rattle.hw_desk.specs.Memory.{next_count}
 use Rattle.hw_desk.specs.Places.{place, with_place, map_feeds}
 use Rattle.hw_desk.specs.declared.desk.Feed.{Feed}
-use Rattle.hw_desk.specs.declared.desk.Feed.TheVariants.{Flat, Instance, Tides, Certificate, Plan, Events, Clash}
+use Rattle.hw_desk.specs.declared.desk.Feed.TheVariants.{Flat, Instance, Tides, Certificate, Plan, Events, Clash, Split}
 use Rattle.hw_desk.specs.declared.desk.Tray.{Tray}
 use Rattle.hw_desk.specs.declared.feeds.Feeds.{Feeds}
 use Rattle.hw_desk.specs.declared.slots.NamedBytes.{NamedBytes}
@@ -33,6 +33,7 @@ put_same feeds Certificate s = refl
 put_same feeds Plan s = refl
 put_same feeds Events s = refl
 put_same feeds Clash s = refl
+put_same feeds Split s = refl
 
 -- a count that a desk tells goes on as the count itself does
 pub told_count : {E T : Type 0} (result : Result T E) (a b : ℕ) → MatchResult result (λ _. b ≡ a) (λ _. b ≡ next_count a) → MatchResult result (λ _. bounded_count b ≡ bounded_count a) (λ _. bounded_count b ≡ next_count (bounded_count a))

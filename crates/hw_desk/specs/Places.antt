@@ -1,6 +1,6 @@
 -- A value for each feed.
 use Rattle.hw_desk.specs.declared.desk.Feed.{Feed}
-use Rattle.hw_desk.specs.declared.desk.Feed.TheVariants.{Flat, Instance, Tides, Certificate, Plan, Events, Clash}
+use Rattle.hw_desk.specs.declared.desk.Feed.TheVariants.{Flat, Instance, Tides, Certificate, Plan, Events, Clash, Split}
 use Rattle.hw_desk.specs.declared.feeds.Feeds.{Feeds}
 
 module _ {T : Type 0} where
@@ -13,6 +13,7 @@ module _ {T : Type 0} where
   place v Plan = v.plan
   place v Events = v.events
   place v Clash = v.clash
+  place v Split = v.split
 
   -- the values with another one at a feed
   abbrev pub with_place : Feeds T → Feed → T → Feeds T
@@ -23,11 +24,12 @@ module _ {T : Type 0} where
   with_place v Plan x = record v { plan = x }
   with_place v Events x = record v { events = x }
   with_place v Clash x = record v { clash = x }
+  with_place v Split x = record v { split = x }
 
 -- each value seen another way
 abbrev pub map_feeds : {A B : Type 0} → (A → B) → Feeds A → Feeds B
-map_feeds f v = record { flat = f v.flat; instance = f v.instance; tides = f v.tides; certificate = f v.certificate; plan = f v.plan; events = f v.events; clash = f v.clash }
+map_feeds f v = record { flat = f v.flat; instance = f v.instance; tides = f v.tides; certificate = f v.certificate; plan = f v.plan; events = f v.events; clash = f v.clash; split = f v.split }
 
 -- the same value for each feed
 abbrev pub everywhere : {A : Type 0} → A → Feeds A
-everywhere x = record { flat = x; instance = x; tides = x; certificate = x; plan = x; events = x; clash = x }
+everywhere x = record { flat = x; instance = x; tides = x; certificate = x; plan = x; events = x; clash = x; split = x }

@@ -1,7 +1,7 @@
 -- What a desk is to a contract.
 use Rattle.std.specs.Prelude.{◌≡◌, ◌≤◌, ◌+◌, ◌-◌, ◌^◌, ◌==◌, ℕ, List, [], Bool, true, false, Option, IfSome, cond, min}
 use Rattle.hw_desk.specs.declared.desk.Feed.{Feed}
-use Rattle.hw_desk.specs.declared.desk.Feed.TheVariants.{Flat, Instance, Tides, Certificate, Plan, Events, Clash}
+use Rattle.hw_desk.specs.declared.desk.Feed.TheVariants.{Flat, Instance, Tides, Certificate, Plan, Events, Clash, Split}
 use Rattle.hw_desk.specs.declared.desk.Tray.{Tray}
 use Rattle.hw_desk.specs.declared.desk.Tray.TheVariants.{Report, Proof}
 
@@ -37,6 +37,7 @@ feed_place Certificate = 3
 feed_place Plan = 4
 feed_place Events = 5
 feed_place Clash = 6
+feed_place Split = 7
 
 abbrev pub same_feed : Feed → Feed → Bool
 same_feed f g = feed_place f == feed_place g

@@ -21,6 +21,8 @@ pub enum Feed {
     Events,
     /// A clash to be checked, beside the plan that it is about.
     Clash,
+    /// A split of a problem into parts.
+    Split,
 }
 
 /// An output of the program.
@@ -28,7 +30,7 @@ pub enum Feed {
 pub enum Tray {
     /// What a run prints. It needs no make.
     Report,
-    /// The certificate that a run writes, under the name given at its make.
+    /// The certificate or the split that a run writes, under the name given at its make.
     Proof,
 }
 

@@ -17,6 +17,7 @@ pub struct Feeds<T> {
     pub plan: T,
     pub events: T,
     pub clash: T,
+    pub split: T,
 }
 
 impl<T> Feeds<T> {
@@ -32,6 +33,7 @@ impl<T> Feeds<T> {
             Feed::Plan => &self.plan,
             Feed::Events => &self.events,
             Feed::Clash => &self.clash,
+            Feed::Split => &self.split,
         }
     }
 
@@ -48,6 +50,7 @@ impl<T> Feeds<T> {
             Feed::Plan => &mut self.plan,
             Feed::Events => &mut self.events,
             Feed::Clash => &mut self.clash,
+            Feed::Split => &mut self.split,
         }
     }
 }

@@ -62,6 +62,7 @@ pub fn fresh_slots(alloc: Global) -> Result<Feeds<FeedSlot>, NoMemory>
         plan: FeedSlot::new(alloc)?,
         events: FeedSlot::new(alloc)?,
         clash: FeedSlot::new(alloc)?,
+        split: FeedSlot::new(alloc)?,
     })
 }
 

@@ -31,9 +31,17 @@ IsOpenAs (Open file own) id = own ≡ id
 abbrev pub IsProblem : Feeds HostFile → FileId → Type 0
 IsProblem feeds id = IsOpenAs feeds.flat id ⊎ (IsOpenAs feeds.instance id ⊎ IsOpenAs feeds.tides id)
 
--- a certificate, a plan, events or a clash is read from it
+-- a plan or the events after it are read from it
+abbrev pub IsPlan : Feeds HostFile → FileId → Type 0
+IsPlan feeds id = IsOpenAs feeds.plan id ⊎ IsOpenAs feeds.events id
+
+-- a certificate, a clash or a split is read from it
+abbrev pub IsFound : Feeds HostFile → FileId → Type 0
+IsFound feeds id = IsOpenAs feeds.certificate id ⊎ (IsOpenAs feeds.clash id ⊎ IsOpenAs feeds.split id)
+
+-- another input than those of a problem is read from it
 abbrev pub IsOther : Feeds HostFile → FileId → Type 0
-IsOther feeds id = IsOpenAs feeds.certificate id ⊎ (IsOpenAs feeds.plan id ⊎ (IsOpenAs feeds.events id ⊎ IsOpenAs feeds.clash id))
+IsOther feeds id = IsPlan feeds id ⊎ IsFound feeds id
 
 -- a feed is read from this file of the system
 abbrev pub IsFeed : Feeds HostFile → FileId → Type 0

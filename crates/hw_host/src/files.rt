@@ -2,7 +2,7 @@
 
 ghost use Rattle.std.specs.Prelude.{◌≡◌, ◌≤◌, ◌<◌, ◌↔◌, length, true, IfOk, IsOk, IsErr, IsTrue, OnErr, OnOk, MatchResult};
 ghost use Rattle.hw_desk.specs.State.{Rose};
-ghost use Rattle.hw_host.specs.Opened.{IsApart, IsFeed, IsOpen, IsOpenAs, IsOther, IsProblem, was_opened};
+ghost use Rattle.hw_host.specs.Opened.{IsApart, IsFeed, IsFound, IsOpen, IsOpenAs, IsOther, IsPlan, IsProblem, was_opened};
 
 use crate::output::Output;
 use hw_desk::{DeskFailed, Feeds};
@@ -52,14 +52,25 @@ fn is_problem(feeds: &Feeds<HostFile>, id: FileId) -> bool
     feeds.flat.is_open_as(id) || feeds.instance.is_open_as(id) || feeds.tides.is_open_as(id)
 }
 
+/// Whether a plan or the events after it are read from this file.
+fn is_plan(feeds: &Feeds<HostFile>, id: FileId) -> bool
+    ensures { IsTrue result ↔ IsPlan feeds.now id }
+{
+    feeds.plan.is_open_as(id) || feeds.events.is_open_as(id)
+}
+
+/// Whether something that a search found is read from this file: a certificate, a clash or a split.
+fn is_found(feeds: &Feeds<HostFile>, id: FileId) -> bool
+    ensures { IsTrue result ↔ IsFound feeds.now id }
+{
+    feeds.certificate.is_open_as(id) || feeds.clash.is_open_as(id) || feeds.split.is_open_as(id)
+}
+
 /// Whether one of the other inputs is read from this file.
 fn is_other(feeds: &Feeds<HostFile>, id: FileId) -> bool
     ensures { IsTrue result ↔ IsOther feeds.now id }
 {
-    feeds.certificate.is_open_as(id)
-        || feeds.plan.is_open_as(id)
-        || feeds.events.is_open_as(id)
-        || feeds.clash.is_open_as(id)
+    is_plan(feeds, id) || is_found(feeds, id)
 }
 
 /// Whether one of the feeds is read from this file.

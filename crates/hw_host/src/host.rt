@@ -31,6 +31,7 @@ fn fresh_files() -> Feeds<HostFile>
         plan: HostFile::Fresh,
         events: HostFile::Fresh,
         clash: HostFile::Fresh,
+        split: HostFile::Fresh,
     }
 }
 

@@ -97,7 +97,7 @@ fn a_made_file_holds_what_was_written(rt: HostRuntime) -> Result<(), Fail> {
 
 /// An input, and the name under which a file is made that is the same one: by its name, by another way
 /// to it, and by links.
-const SLIPS: [(Feed, &str, &str); 10] = [
+const SLIPS: [(Feed, &str, &str); 12] = [
     (Feed::Flat, "host-two", "host-two"),
     (Feed::Flat, "host-two", "./host-two"),
     (Feed::Flat, "host-two", "host-soft"),
@@ -108,6 +108,8 @@ const SLIPS: [(Feed, &str, &str); 10] = [
     (Feed::Certificate, "host-two", "host-two"),
     (Feed::Plan, "host-two", "host-two"),
     (Feed::Events, "host-two", "host-two"),
+    (Feed::Clash, "host-two", "host-two"),
+    (Feed::Split, "host-two", "host-two"),
 ];
 
 #[test]

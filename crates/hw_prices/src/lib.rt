@@ -1,4 +1,5 @@
-//! Finds prices on tolls for a search: which tolls are worth a price, and how much.
+//! Finds prices on tolls for a search: which tolls are worth a price, and how much; and by the prices where a problem is
+//! best split.
 //!
 //! In the field's words: the Lagrangian dual of the problem, by a deflected subgradient method with Polyak's steps in whole
 //! numbers. The relaxed constraints, the rows, are valid inequalities (tolls): candidates of `hw_cuts`, and cuts that it
@@ -23,9 +24,11 @@ mod rounds;
 mod row_states;
 mod rows;
 mod settings;
+mod splitting;
 mod subproblems;
 mod table;
 mod variation;
 mod workshop;
 
 pub use adviser::PricingAdviser;
+pub use splitting::{Halves, Side, Splitter};

@@ -178,6 +178,26 @@ impl Pricer {
         Ok(step_rule.best)
     }
 
+    /// Like `improve`, and counts, by ship and slot, how often each slot is chosen.
+    pub(crate) fn improve_counted(
+        &mut self,
+        room: &Room,
+        course: Course,
+        counts: &mut [Vec<u32>],
+    ) -> Result<i64, NoMemory> {
+        self.begin(room)?;
+        let mut step_rule = StepRule::new(course);
+        for _step in 0..course.steps {
+            let goes_on = self.step(&mut step_rule)?;
+            count_choices(counts, &self.subproblems);
+            if !goes_on {
+                break;
+            }
+        }
+        copy_prices(&mut self.prices, &self.best);
+        Ok(step_rule.best)
+    }
+
     /// Takes a step. Whether more of them are worth it.
     fn step(&mut self, step_rule: &mut StepRule) -> Result<bool, NoMemory> {
         self.separator.begin_step();
@@ -374,6 +394,17 @@ pub(crate) fn price_at(prices: &[i64], row: usize) -> i64 {
 fn copy_prices(to: &mut [i64], from: &[i64]) {
     if to.len() == from.len() {
         to.copy_from_slice(from);
+    }
+}
+
+/// Counts the slots that ships chose.
+fn count_choices(counts: &mut [Vec<u32>], subproblems: &[Subproblem]) {
+    for subproblem in subproblems {
+        if let Some(slots) = counts.get_mut(subproblem.ship as usize) {
+            if let Some(count) = slots.get_mut(subproblem.chosen as usize) {
+                *count = count.saturating_add(1);
+            }
+        }
     }
 }
 

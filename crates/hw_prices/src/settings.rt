@@ -119,6 +119,17 @@ pub(crate) const IDLE: u32 = 32;
 /// In one of this many rooms timetables are made. Nothing is known of other values.
 pub(crate) const MADE: u32 = 8;
 
+// Splits.
+
+/// At most this many forks of a room are compared. Of a sketch of splits; nothing is known of other values.
+pub(crate) const FORKS: usize = 8;
+
+/// Steps in a room in which the chosen slots are counted before it is split. Nothing is known of other values.
+pub(crate) const COUNTED_IN_SPLIT: u32 = 200;
+
+/// Steps in each side of a fork. Nothing is known of other values.
+pub(crate) const SIDE_STEPS: u32 = ROOM_STEPS;
+
 // Seeds but 0.
 
 /// Prices are moved for at least this many steps in a room, and for fewer than `MORE_STEPS` more. With both, eight seeds

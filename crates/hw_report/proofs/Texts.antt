@@ -13,7 +13,7 @@ use Rattle.hw_port_rules.specs.Flattened.{flattened}
 use Rattle.hw_tide.specs.declared.fault.TideFault.TheVariants as tide_faults
 use Rattle.hw_report.specs.declared.report.Head.TheVariants.{Optimal, Infeasible, Unfinished, Memory}
 use Rattle.hw_report.specs.declared.report.RefusedWord.TheVariants.{Form, Check}
-use Rattle.hw_report.specs.Reports.{by_number, by_name, solved, checked, demo, bad_words, bad_flat, bad_json, bad_field, bad_tides, refused, read_fault, too_long, no_memory, bad_text, clashed, met, spent_step, clash_holds, after, audit_end}
+use Rattle.hw_report.specs.Reports.{by_number, by_name, solved, checked, demo, bad_words, bad_flat, bad_json, bad_field, bad_tides, refused, read_fault, too_long, no_memory, bad_text, clashed, met, spent_step, clash_holds, parts_told, part_told, open_part, after, audit_end}
 use Rattle.hw_report.specs.Lines.{sail_line}
 use Rattle.hw_report.specs.Texts.{report_text}
 
@@ -228,6 +228,22 @@ a_spent_step = refl
 
 pub a_clash_holds : report_text clash_holds ≡ codes "clash holds\n"
 a_clash_holds = refl
+
+pub a_split : report_text (parts_told 16) ≡ codes "parts 16\n"
+unfolding digits
+a_split = refl
+
+pub a_closed_part : report_text (part_told 12 true) ≡ codes "part 12 closed\n"
+unfolding digits
+a_closed_part = refl
+
+pub an_open_part : report_text (part_told 3 false) ≡ codes "part 3 open\n"
+unfolding digits
+an_open_part = refl
+
+pub the_first_open_part : report_text (open_part 3) ≡ codes "open 3\n"
+unfolding digits
+the_first_open_part = refl
 
 pub nothing_broken : report_text (after 0 []) ≡ codes "after 0 none\n"
 unfolding digits

@@ -1,5 +1,5 @@
 -- What is reported.
-use Rattle.std.specs.Prelude.{ℕ, List, Option}
+use Rattle.std.specs.Prelude.{ℕ, Bool, List, Option}
 use Rattle.hw_model.specs.Problem.{Problem}
 use Rattle.hw_desk.specs.declared.desk.Feed.{Feed}
 use Rattle.hw_flat.specs.declared.fault.FlatWord.{FlatWord}
@@ -42,6 +42,12 @@ pub data Report : Type 0 where
   -- the budget was spent in a step
   spent_step : ℕ → ℕ → Report
   clash_holds : Report
+  -- how many parts a split has that was made
+  parts_told : ℕ → Report
+  -- whether the part of this number is closed
+  part_told : ℕ → Bool → Report
+  -- the first part that a joined certificate leaves open
+  open_part : ℕ → Report
   -- the restrictions broken after this many events
   after : ℕ → List ℕ → Report
   audit_end : Report

@@ -1,5 +1,5 @@
 -- The text of a report, each line ended.
-use Rattle.std.specs.Prelude.{ℕ, List, [], ◌∷◌, Option, Some, None, codes, decimal, option_and_then}
+use Rattle.std.specs.Prelude.{ℕ, Bool, true, false, List, [], ◌∷◌, Option, Some, None, codes, decimal, option_and_then}
 use Rattle.hw_model.specs.Problem.{Problem}
 use Rattle.hw_model.specs.Timetables.{cargo}
 use Rattle.hw_lines.specs.declared.check.CheckWord.TheVariants as checks
@@ -10,7 +10,7 @@ use Rattle.hw_report.specs.declared.report.Head.{Head}
 use Rattle.hw_report.specs.declared.report.Head.TheVariants.{Memory}
 use Rattle.hw_report.specs.declared.report.RefusedWord.{RefusedWord}
 use Rattle.hw_report.specs.declared.report.RefusedWord.TheVariants.{Check}
-use Rattle.hw_report.specs.Reports.{Naming, Report, by_number, solved, checked, demo, bad_words, bad_flat, bad_json, bad_field, bad_tides, refused, read_fault, too_long, no_memory, bad_text, clashed, met, spent_step, clash_holds, after, audit_end, whole_text, picture}
+use Rattle.hw_report.specs.Reports.{Naming, Report, by_number, solved, checked, demo, bad_words, bad_flat, bad_json, bad_field, bad_tides, refused, read_fault, too_long, no_memory, bad_text, clashed, met, spent_step, clash_holds, parts_told, part_told, open_part, after, audit_end, whole_text, picture}
 use Rattle.hw_report.specs.Words.{feed_text, flat_word_text, refused_word_text}
 use Rattle.hw_report.specs.Pieces.{joined}
 use Rattle.hw_port.specs.Places.{path_text, word_text}
@@ -50,6 +50,11 @@ demo_text head best verdict lemmas = summary_text head best verdict lemmas
 abbrev pub solved_text : Problem → Naming → Head → Option (List ℕ) → Option ℕ → Option ℕ → List ℕ
 solved_text f names head table moved bound = joined (head_text names head (option_and_then (cargo f) table) ∷ bound_text names head bound ∷ table_text f names table moved ∷ [])
 
+-- the end of the line on a part
+abbrev pub part_word : Bool → List ℕ
+part_word true = codes " closed\n"
+part_word false = codes " open\n"
+
 -- the whole text of a report, by its kind
 abbrev pub report_text : Report → List ℕ
 report_text (solved head f names table moved bound) = solved_text f names head table moved bound
@@ -69,6 +74,9 @@ report_text (clashed kept drops) = joined (codes "clash 1\nkeep" ∷ numbers_tex
 report_text (met table) = joined (codes "met" ∷ numbers_text table ∷ codes "\n" ∷ [])
 report_text (spent_step budget step) = joined (codes "unfinished " ∷ decimal budget ∷ codes " step " ∷ decimal step ∷ codes "\n" ∷ [])
 report_text clash_holds = codes "clash holds\n"
+report_text (parts_told number) = numbered (codes "parts ") number
+report_text (part_told number is_closed) = joined (codes "part " ∷ decimal number ∷ part_word is_closed ∷ [])
+report_text (open_part number) = numbered (codes "open ") number
 report_text (after number broken) = joined (codes "after " ∷ decimal number ∷ broken_text broken ∷ codes "\n" ∷ [])
 report_text audit_end = codes "end\n"
 report_text (whole_text text) = text

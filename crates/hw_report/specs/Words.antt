@@ -1,7 +1,7 @@
 -- The words of reports.
 use Rattle.std.specs.Prelude.{ℕ, List, codes}
 use Rattle.hw_desk.specs.declared.desk.Feed.{Feed}
-use Rattle.hw_desk.specs.declared.desk.Feed.TheVariants.{Flat, Instance, Tides, Certificate, Plan, Events, Clash}
+use Rattle.hw_desk.specs.declared.desk.Feed.TheVariants.{Flat, Instance, Tides, Certificate, Plan, Events, Clash, Split}
 use Rattle.hw_flat.specs.declared.fault.FlatWord.{FlatWord}
 use Rattle.hw_flat.specs.declared.fault.FlatWord.TheVariants as words
 use Rattle.hw_lines.specs.declared.check.CheckWord.{CheckWord}
@@ -20,6 +20,7 @@ feed_text Certificate = codes "certificate"
 feed_text Plan = codes "plan"
 feed_text Events = codes "events"
 feed_text Clash = codes "clash"
+feed_text Split = codes "split"
 
 -- the word of a bad line of a flat text
 abbrev pub flat_word_text : FlatWord → List ℕ

@@ -6,9 +6,9 @@ ghost use Rattle.hw_model.specs.Timetables.{cargo as cargo_of};
 ghost use Rattle.hw_desk.specs.Writers.{Puts};
 ghost use Rattle.hw_report.specs.Lines.{head_text};
 ghost use Rattle.hw_report.specs.Printing.{IsTableOfProblem};
-ghost use Rattle.hw_report.specs.Reports.{spent_step};
+ghost use Rattle.hw_report.specs.Reports.{part_told, spent_step};
 ghost use Rattle.hw_report.specs.Seen.{names_seen, table_seen};
-ghost use Rattle.hw_report.specs.Texts.{report_text, summary_text, demo_text};
+ghost use Rattle.hw_report.specs.Texts.{demo_text, part_word, report_text, summary_text};
 
 use crate::lines::put_head;
 use crate::piece::{Piece, put_pieces};
@@ -75,6 +75,28 @@ pub fn put_demo<W: Writer>(
         Head::Memory => out.put(b"memory\n"),
         _ => put_summary(out, head, best, verdict, lemmas),
     }
+}
+
+/// Puts whether a part is closed.
+pub fn put_part<W: Writer>(out: &mut W, number: u32, is_closed: bool)
+    ensures { Puts (report_text (part_told number is_closed)) (W.state out.old) (W.state out.new) }
+{
+    let number = u64::from(number);
+    put_pieces(
+        out,
+        &[
+            Piece::Word(b"part "),
+            Piece::Number(number),
+            Piece::Word(part_word(is_closed)),
+        ],
+    );
+}
+
+/// The end of the line on a part.
+fn part_word(is_closed: bool) -> &'static [u8]
+    ensures { result.now ≡ part_word is_closed }
+{
+    if is_closed { b" closed\n" } else { b" open\n" }
 }
 
 /// Puts that the budget was spent in a step.

@@ -58,6 +58,7 @@ pub fn feed_name(feed: Feed) -> &'static [u8]
         Feed::Plan => b"plan",
         Feed::Events => b"events",
         Feed::Clash => b"clash",
+        Feed::Split => b"split",
     }
 }
 

@@ -1,10 +1,11 @@
 //! Lines that were taken, one after another, with the checker that took them.
 
-ghost use Rattle.std.specs.Prelude.{◌≡◌, ◌↔◌, All, IfOk, IsTrue, false};
+ghost use Rattle.std.specs.Prelude.{◌≡◌, ◌↔◌, All, IfOk, IfSome, IsTrue, false};
 ghost use Rattle.hw_lines.specs.Lines.{is_closed, last_table};
 ghost use Rattle.hw_lines.specs.Valid.{LineFits, Valid};
 ghost use Rattle.hw_resume.specs.Courses.{CourseStands, TakeMeets, TellsOf, stop_as};
 ghost use Rattle.hw_resume.specs.Going.{SaysNoMore};
+ghost use Rattle.hw_resume.specs.Joining.{Extends};
 
 use crate::checking::check_all;
 use crate::resumed::{ResumeStop, Resumed};
@@ -64,6 +65,31 @@ impl<'f> Course<'f> {
         }
     }
 
+    /// Takes one more line, unless it says no more than those before it.
+    pub(crate) fn offer(self, line: Line) -> Result<Course<'f>, ResumeStop>
+        requires stands { CourseStands self.flat.now self }
+        requires fits { LineFits self.flat.now line }
+        ensures { Extends self.entry result }
+    {
+        if self.has_no_need_of(&line) {
+            Ok(self)
+        } else {
+            self.take(line)
+        }
+    }
+
+    /// The same of a line, if there is one.
+    pub(crate) fn offer_some(self, line: Option<Line>) -> Result<Course<'f>, ResumeStop>
+        requires stands { CourseStands self.flat.now self }
+        requires fits { IfSome line (LineFits self.flat.now) }
+        ensures { Extends self.entry result }
+    {
+        match line {
+            Some(line) => self.offer(line),
+            None => Ok(self),
+        }
+    }
+
     /// Whether the line says no more than those before it: a timetable that isn't better than the best,
     /// or a bound that isn't lower than the last one.
     pub(crate) fn has_no_need_of(&self, line: &Line) -> bool
@@ -84,7 +110,7 @@ impl<'f> Course<'f> {
     }
 
     /// The best cargo so far.
-    fn best(&self) -> Option<u64>
+    pub(crate) fn best(&self) -> Option<u64>
         ensures { result ≡ self.now.checker.kept.best }
     {
         match self.checker.verdict() {
@@ -144,7 +170,7 @@ pub(crate) fn last_table(alloc: Global, lines: &[Line]) -> Result<Option<Timetab
     Ok(last)
 }
 
-fn copy_table(alloc: Global, table: &Timetable) -> Result<Timetable, NoMemory>
+pub(crate) fn copy_table(alloc: Global, table: &Timetable) -> Result<Timetable, NoMemory>
     ensures value { IfOk result (λ copied. copied ≡ table.now) }
 {
     let _few = table.len();

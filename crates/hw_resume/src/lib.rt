@@ -7,13 +7,26 @@
 #![tactic(auto)]
 
 mod checking;
+mod closed;
+mod closing;
+mod confined;
+mod forks;
 mod going_on;
 mod handing;
+mod joining;
+mod junction;
+mod numbering;
+mod parting;
+mod parts;
 mod raising;
 mod reminder;
 mod resumed;
 mod resuming;
 
+pub use closed::closed_room;
+pub use confined::Confined;
+pub use joining::join;
+pub use parting::part;
 pub use reminder::Reminder;
-pub use resumed::{ResumeStop, Resumed};
+pub use resumed::{Joined, Parted, ResumeStop, Resumed};
 pub use resuming::resume;

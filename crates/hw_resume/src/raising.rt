@@ -19,6 +19,12 @@ pub struct Raise {
     pub tolls: u32,
 }
 
+/// Of lines that have their numbers already.
+pub(crate) const IN_PLACE: Raise = Raise {
+    clauses: 0,
+    tolls: 0,
+};
+
 /// The line with its numbers raised; none where one of them would be too great for a line. A lemma is
 /// always given: a hint that would be too great stays at the greatest number, which no clause has.
 pub(crate) fn raised(alloc: Global, by: Raise, line: &Line) -> Result<Option<Line>, NoMemory>

@@ -20,6 +20,26 @@ pub struct Resumed {
     pub is_spent: bool,
 }
 
+/// The lines of a start with those that a search within a part added.
+#[derive(Drop)]
+pub struct Parted {
+    pub lines: Vec<Line>,
+    /// Whether the lines show that nothing in the part beats the best. If not, the search found as many
+    /// lemmas as its budget.
+    pub is_closed: bool,
+}
+
+/// Certificates that were joined: their lines, and what these show.
+#[derive(Drop)]
+pub struct Joined {
+    pub lines: Vec<Line>,
+    pub verdict: Verdict,
+    /// The last bound, in tenths of a tonne; none where no line shows one.
+    pub bound: Option<u64>,
+    /// The number of the first part, from 1, that the lines don't close; none where they close each.
+    pub first_open: Option<u64>,
+}
+
 /// Why a search that goes on from a start has no answer.
 #[derive(Clone, Copy)]
 pub enum ResumeStop {

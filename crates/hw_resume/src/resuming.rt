@@ -47,7 +47,7 @@ pub fn resume<A: Adviser + Drop>(
 }
 
 /// Searches, and keeps the lines. Whether the budget is spent comes first.
-fn search<A: Adviser + Drop>(
+pub(crate) fn search<A: Adviser + Drop>(
     alloc: Global,
     flat: &Flat,
     budget: u32,
@@ -64,7 +64,7 @@ fn search<A: Adviser + Drop>(
 }
 
 /// By how much numbers of lines after these are raised: by how many clauses and tolls these have.
-fn counted(lines: &[Line]) -> Raise {
+pub(crate) fn counted(lines: &[Line]) -> Raise {
     let mut by = Raise {
         clauses: 0,
         tolls: 0,

@@ -7,3 +7,8 @@ mod Demonstrated
 mod Thirds
 mod Continued
 mod Resumptions
+mod SplitInputs
+mod Partings
+mod Joinings
+mod Splittings
+mod CertBytes

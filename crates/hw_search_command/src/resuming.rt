@@ -102,7 +102,7 @@ fn resume_to<D: Desk>(
 }
 
 /// Whether an outcome is that of a certificate that is refused.
-fn shows_nothing(outcome: CertOutcome) -> bool
+pub(crate) fn shows_nothing(outcome: CertOutcome) -> bool
     ensures { result ≡ shows_nothing outcome }
 {
     match outcome {
@@ -112,7 +112,7 @@ fn shows_nothing(outcome: CertOutcome) -> bool
 }
 
 /// Why there is no answer, told as of a certificate.
-fn stop_outcome(stop: ResumeStop) -> Result<CertOutcome, CertStop>
+pub(crate) fn stop_outcome(stop: ResumeStop) -> Result<CertOutcome, CertStop>
     ensures { result ≡ stop_outcome stop }
 {
     match stop {

@@ -16,7 +16,7 @@ Commands:
 ";
 
 /// What the commands do, in a line each, in the order of `FORMS`.
-pub const PURPOSES: [&str; 54] = [
+pub const PURPOSES: [&str; 60] = [
     "looks for a best timetable of a flat text, and writes a certificate to PROOF",
     "looks for a best timetable of a port, and writes a certificate to PROOF",
     "looks for a best timetable of a flat text with prices, and writes a certificate to PROOF",
@@ -25,6 +25,12 @@ pub const PURPOSES: [&str; 54] = [
     "the same for a port",
     "goes on from a certificate of a flat text, and writes a longer one to PROOF",
     "goes on from a certificate of a port, and writes a longer one to PROOF",
+    "makes a split of a flat text into parts, by its prices and the best timetable of a certificate",
+    "the same for a port",
+    "goes on from a certificate of a flat text within one part of a split, for several machines at once",
+    "the same for a port",
+    "joins the certificates of the parts of a split of a flat text into one, PROOF",
+    "the same for a port",
     "says what a certificate shows of a flat text, or its first bad line",
     "says what a certificate shows of a port, or its first bad line",
     "says what a certificate shows of a flat text, with its bound, or its first bad line",

@@ -1,0 +1,64 @@
+-- What a search within a part leaves.
+use Rattle.std.proofs.Common.{◌≡◌, ◌∙◌, ◌+◌, ◌≤◌, ◌++◌, ℕ, List, [], Bool, true, false, Result, Ok, Err, length, sym, ap, subst, append_assoc, append-nil, arith}
+use Rattle.std.specs.Prelude.{All}
+use Rattle.hw_model.specs.Problem.{Problem}
+use Rattle.hw_model.specs.Rooms.{RoomModel}
+use Rattle.hw_lines.specs.declared.line.Line.{Line}
+use Rattle.hw_lines.specs.Lemmas.{lemmas_of}
+use Rattle.hw_lines.specs.Valid.{LineFits, Valid}
+use Rattle.hw_resume.specs.Closing.{closes_room}
+use Rattle.hw_resume.specs.Courses.{CourseStands, HandsAllToCourse, HandsToCourse, IsSearched}
+use Rattle.hw_resume.specs.Going.{LinesGoOn}
+use Rattle.hw_resume.specs.Narrowings.{AreClosing}
+use Rattle.hw_resume.specs.Parts.{AddsClosing, ClosesCourse, PartGoesOn}
+use Rattle.hw_resume.specs.declared.going_on.Course.{Course}
+use Rattle.hw_resume.specs.declared.resumed.Parted.{Parted}
+use Rattle.hw_resume.specs.declared.resumed.ResumeStop.{ResumeStop}
+use Rattle.hw_resume.proofs.Handed.{lemmas_on, whole_course}
+
+-- ---- closing
+
+pub nothing_added : {course : Course} → CourseStands course.flat.now course → AddsClosing course course
+nothing_added {course = course} h = record { more = []; adds = record { stands = h; parts = sym (append-nil course.lines.items) }; few = omega arith }
+
+pub closing_added : {f : Problem} {course : Course} {lines : List Line} (result : Result Course ResumeStop) → AreClosing f lines → HandsAllToCourse course lines result → ClosesCourse course result
+closing_added (Ok after) few k = record { more = k.more; adds = k.adds; few = omega (arith, k.lemmas, few.few) }
+closing_added (Err stop) few k = k
+
+-- ---- the lines of a course
+
+-- what holds of the lines of a course that goes on from a start
+pub goes_on_from : {f : Problem} {start all : List Line} {course : Course} (more : List Line) → CourseStands f course → all ≡ course.lines.items → course.lines.items ≡ start ++ more → LinesGoOn f start all
+goes_on_from {f = f} more h same parts =
+    let whole = whole_course h in
+    record {
+      more = more;
+      parts = same ∙ parts;
+      fit = subst (λ (ls : List Line). All (LineFits f) ls) (sym same) whole.fit;
+      valid = subst (λ (ls : List Line). Valid f ls) (sym same) whole.valid;
+    }
+
+-- the start closes the part
+pub start_closes : {f : Problem} {budget : ℕ} {start : List Line} {room : RoomModel} {course : Course} {p : Parted} → CourseStands f course → course.lines.items ≡ start → p.lines.items ≡ course.lines.items → p.is_closed ≡ true → closes_room room course.lines.items ≡ true → PartGoesOn f budget start room p
+start_closes {start = start} {room = room} h same lines yes closes = record {
+  goes_on = goes_on_from [] h lines (same ∙ sym (append-nil start));
+  few = omega arith;
+  closed = yes ∙ sym closes ∙ ap (closes_room room) (sym lines);
+  spent = λ e. absurd (cc);
+}
+
+-- the search has ended
+pub went_on_in : {f : Problem} {budget : ℕ} {start found : List Line} {room : RoomModel} {course after last : Course} {p : Parted} {is_spent : Bool} → CourseStands f course → course.lines.items ≡ start → IsSearched f budget is_spent found → HandsToCourse course after found → AddsClosing after last → p.lines.items ≡ last.lines.items → p.is_closed ≡ closes_room room last.lines.items → (p.is_closed ≡ false → is_spent ≡ true) → PartGoesOn f budget start room p
+went_on_in {f = f} {budget = budget} {start = start} {found = found} {room = room} {course = course} {after = after} {last = last} h same s k c lines closes spent =
+    let stands_after : CourseStands f after = subst (λ (g : Problem). CourseStands g after) h.problem k.adds.stands in
+    let stands_last : CourseStands f last = subst (λ (g : Problem). CourseStands g last) stands_after.problem c.adds.stands in
+    let parts : last.lines.items ≡ start ++ (k.more ++ c.more) = c.adds.parts ∙ ap (λ (ls : List Line). ls ++ c.more) (k.adds.parts ∙ ap (λ (ls : List Line). ls ++ k.more) same) ∙ append_assoc start k.more c.more in
+    let count = lemmas_on k.more c.more in
+    record {
+      goes_on = goes_on_from (k.more ++ c.more) stands_last lines parts;
+      few = omega (arith, count, k.lemmas, s.few, c.few);
+      closed = closes ∙ ap (closes_room room) (sym lines);
+      spent = λ e.
+          let all = (s.spent (spent e)).0 in
+          omega (arith, count, k.lemmas, all);
+    }

@@ -1,0 +1,78 @@
+//! A search within a part of a problem, from a start on.
+
+ghost use Rattle.std.specs.Prelude.{◌≡◌, ◌≤◌, All};
+ghost use Rattle.hw_lines.specs.Valid.{LineFits, Valid};
+ghost use Rattle.hw_model.specs.Rooms.{RoomFits};
+ghost use Rattle.hw_resume.specs.Courses.{CourseStands};
+ghost use Rattle.hw_resume.specs.Parts.{ClosesCourse, PartMeets};
+
+use crate::closed::closing_number;
+use crate::closing::closing_lines;
+use crate::confined::Confined;
+use crate::going_on::{Course, begun, last_table};
+use crate::handing::hand_all;
+use crate::raising::IN_PLACE;
+use crate::reminder::Reminder;
+use crate::resumed::{Parted, ResumeStop};
+use crate::resuming::{counted, search};
+use hw_advice::Adviser;
+use hw_flat::{Flat, Room};
+use hw_lines::Line;
+use hw_progress::MOST_BUDGET;
+use std::alloc::Global;
+
+/// Searches within a room from the lines of a start on, with an adviser, until they show that nothing
+/// in the room beats the best, or as many new lemmas are found as the budget says. Every line is one of
+/// the whole problem. Where the start closes the room there is no search.
+pub fn part<A: Adviser + Drop>(
+    alloc: Global,
+    flat: &Flat,
+    start: Vec<Line>,
+    room: &Room,
+    budget: u32,
+    adviser: A,
+) -> Result<Parted, ResumeStop>
+    requires fit { All (LineFits flat.now) start.items }
+    requires valid { Valid flat.now start.items }
+    requires room { RoomFits flat.now room.now }
+    requires least { 1 ≤ budget }
+    requires most { budget ≤ MOST_BUDGET }
+    ensures { PartMeets flat.now budget start.items room.now result }
+{
+    let by = counted(&start);
+    let course = begun(alloc, flat, start)?;
+    if closing_number(flat, &course.lines, room).is_some() {
+        return Ok(Parted {
+            lines: course.lines,
+            is_closed: true,
+        });
+    }
+    let table = last_table(alloc, &course.lines)?;
+    let adviser = Confined::new(room.copy(alloc)?, Reminder::new(table, adviser));
+    let (is_spent, found) = search(alloc, flat, budget, adviser);
+    let course = hand_all(alloc, course, by, &found)?;
+    let course = close(alloc, course, room)?;
+    let is_closed = closing_number(flat, &course.lines, room).is_some();
+    if !is_closed && !is_spent {
+        return Err(ResumeStop::NoMemory);
+    }
+    Ok(Parted {
+        lines: course.lines,
+        is_closed,
+    })
+}
+
+/// Takes the lines that close the room without a decision, if there are some.
+fn close<'f>(alloc: Global, course: Course<'f>, room: &Room) -> Result<Course<'f>, ResumeStop>
+    requires stands { CourseStands course.flat.now course }
+    requires room { RoomFits course.flat.now room.now }
+    ensures { ClosesCourse course.entry result }
+{
+    if closing_number(course.flat, &course.lines, room).is_some() {
+        return Ok(course);
+    }
+    match closing_lines(alloc, course.flat, &course.lines, course.best(), room)? {
+        Some(lines) => hand_all(alloc, course, IN_PLACE, &lines),
+        None => Ok(course),
+    }
+}

@@ -1,0 +1,196 @@
+-- The parts that nodes make.
+use Rattle.std.proofs.Common.{◌≡◌, ◌==◌, inl, inr, ℕ, zero, suc, ◌+◌, ◌-◌, ◌<◌, ◌≤◌, Bool, true, false, not, ◌&&◌, cond, nat_lt, nat_le, List, [], ◌∷◌, ◌++◌, drop, drop-cons, get_or, length, Option, Some, None, slice_get, slice_index, All, count_by, refl, sym, ap, subst, ◌∙◌, arith, add-one}
+use Rattle.std.proofs.Math.ListN.{drop_of_length-le}
+use Rattle.std.proofs.Math.Path.{ap₂}
+use Rattle.std.proofs.lemmas.Bool.{ltb-true, ltb-false, lt-leb, le-leb, cases_Bool, and_parts, ne_eqb}
+use Rattle.std.proofs.lemmas.List.Elements.{All-nil, All-cons, All-head, All-tail, All-push, All-weaker}
+use Rattle.std.proofs.lemmas.List.Folds.{list_all-append}
+use Rattle.std.proofs.lemmas.List.Sums.{sum_by-cons}
+use Rattle.std.proofs.lemmas.Option.{same_Some}
+use Rattle.std.specs.List.{list_all}
+use Rattle.hw_model.specs.declared.lit.Lit.{Lit}
+use Rattle.hw_model.specs.declared.lit.Lit.TheVariants.{AtOrAfter, Before}
+use Rattle.hw_model.specs.declared.shape.Shape.{Shape}
+use Rattle.hw_model.specs.Lits.{lit_fits, lit_holds}
+use Rattle.hw_model.specs.Rooms.{whole_room}
+use Rattle.hw_split.specs.declared.node.Node.{Node}
+use Rattle.hw_split.specs.declared.node.Node.TheVariants.{Fork, Part}
+use Rattle.hw_split.specs.Splits.{Branch, waiting_after, parts_from, split_parts, part_at, is_part, branch_holds, branch_room, fork_fits, is_inside, Completes}
+use Rattle.hw_split.specs.Rooms.{OpenInTurn, HasRoom}
+use Rattle.hw_split.specs.Laws.{LiteralsFit, OnePart, PartRooms, PartsCounted, PartsOpen}
+use Rattle.hw_split.proofs.Rooms.{both_open, has_room}
+
+-- ---- one part holds of a timetable
+
+count_cons : {A : Type 0} (p : A → Bool) (x : A) (xs : List A) → count_by p (x ∷ xs) ≡ cond (p x) 1 0 + count_by p xs
+count_cons {A} p x xs = sum_by-cons (λ (y : A). cond (p y) 1 0) x xs
+
+and_true : (b : Bool) → (b && true) ≡ b
+and_true true = refl
+and_true false = refl
+
+holds_push : (table : List ℕ) (branch : Branch) (lit : Lit) → branch_holds table (branch ++ lit ∷ []) ≡ (branch_holds table branch && lit_holds table lit)
+holds_push table branch lit =
+    list_all-append (lit_holds table) branch (lit ∷ []) ∙ ap (λ (b : Bool). branch_holds table branch && b) (and_true (lit_holds table lit))
+
+other_side : (m n : ℕ) → nat_le m n ≡ not (nat_lt n m)
+other_side m n = elim (cases_Bool (nat_lt n m)) [
+  | inl t ↦ lt-leb m n (ltb-true n m t) ∙ ap not (sym t)
+  | inr f ↦ le-leb m n (ltb-false n m f) ∙ ap not (sym f)
+]
+
+either_side : (h t : Bool) (n : ℕ) → cond (h && t) 1 0 + (cond (h && not t) 1 0 + n) ≡ cond h 1 0 + n
+either_side true true n = omega arith
+either_side true false n = omega arith
+either_side false true n = omega arith
+either_side false false n = omega arith
+
+forked : (table : List ℕ) (branch : Branch) (ship slot : ℕ) (waiting : List Branch)
+    → count_by (branch_holds table) ((branch ++ Before ship slot ∷ []) ∷ (branch ++ AtOrAfter ship slot ∷ []) ∷ waiting) ≡ count_by (branch_holds table) (branch ∷ waiting)
+forked table branch ship slot waiting =
+    let holds : Branch → Bool = branch_holds table in
+    let before : Branch = branch ++ Before ship slot ∷ [] in
+    let after : Branch = branch ++ AtOrAfter ship slot ∷ [] in
+    let first : Bool = nat_lt (slice_index table ship) slot in
+    let later : holds after ≡ (holds branch && not first) =
+    holds_push table branch (AtOrAfter ship slot) ∙ ap (λ (b : Bool). holds branch && b) (other_side slot (slice_index table ship)) in
+    count_cons holds before (after ∷ waiting)
+    ∙ ap (λ (n : ℕ). cond (holds before) 1 0 + n) (count_cons holds after waiting)
+    ∙ ap₂ (λ (a b : Bool). cond a 1 0 + (cond b 1 0 + count_by holds waiting)) (holds_push table branch (Before ship slot)) later
+    ∙ either_side (holds branch) first (count_by holds waiting)
+    ∙ sym (count_cons holds branch waiting)
+
+covered : (shape : Shape) (table : List ℕ) (waiting : List Branch) (nodes : List Node) → Completes shape waiting nodes → count_by (branch_holds table) (parts_from waiting nodes) ≡ count_by (branch_holds table) waiting
+covered shape table waiting [] c = ap (count_by (branch_holds table)) (sym c)
+covered shape table [] (node ∷ nodes) c = absurd c.0
+covered shape table (branch ∷ waiting) (Fork ship slot ∷ nodes) c =
+    covered shape table ((branch ++ Before ship slot ∷ []) ∷ (branch ++ AtOrAfter ship slot ∷ []) ∷ waiting) nodes c.1 ∙ forked table branch ship slot waiting
+covered shape table (branch ∷ waiting) (Part ∷ nodes) c =
+    count_cons (branch_holds table) branch (parts_from waiting nodes)
+    ∙ ap (λ (n : ℕ). cond (branch_holds table branch) 1 0 + n) (covered shape table waiting nodes c.1)
+    ∙ sym (count_cons (branch_holds table) branch waiting)
+
+pub one_part : OnePart
+one_part shape nodes table split = covered shape table ([] ∷ []) nodes split
+
+-- ---- how many parts
+
+counted : (shape : Shape) (waiting : List Branch) (nodes : List Node) → Completes shape waiting nodes → length (parts_from waiting nodes) ≡ count_by is_part nodes
+counted shape waiting [] c = refl
+counted shape [] (node ∷ nodes) c = absurd c.0
+counted shape (branch ∷ waiting) (Fork ship slot ∷ nodes) c =
+    let later = counted shape ((branch ++ Before ship slot ∷ []) ∷ (branch ++ AtOrAfter ship slot ∷ []) ∷ waiting) nodes c.1 in
+    omega (arith, later, count_cons is_part (Fork ship slot) nodes)
+counted shape (branch ∷ waiting) (Part ∷ nodes) c =
+    let later = counted shape waiting nodes c.1 in
+    omega (arith, later, count_cons is_part Part nodes)
+
+pub parts_counted : PartsCounted
+parts_counted shape nodes split = counted shape ([] ∷ []) nodes split
+
+-- ---- what holds of each part
+
+-- what both sides of a fork have from their branch, the parts have from the branches that wait
+each_part : (shape : Shape) (P : Branch → Type 0) → ((branch : Branch) (ship slot : ℕ) → fork_fits shape (branch_room shape branch).ranges ship slot ≡ true → P branch → P (branch ++ Before ship slot ∷ []) × P (branch ++ AtOrAfter ship slot ∷ []))
+    → (waiting : List Branch) (nodes : List Node) → All P waiting → Completes shape waiting nodes → All P (parts_from waiting nodes)
+each_part shape P sides waiting [] all c = All-nil P
+each_part shape P sides [] (node ∷ nodes) all c = absurd c.0
+each_part shape P sides (branch ∷ waiting) (Fork ship slot ∷ nodes) all c =
+    let before : Branch = branch ++ Before ship slot ∷ [] in
+    let after : Branch = branch ++ AtOrAfter ship slot ∷ [] in
+    let both = sides branch ship slot c.0 (All-head P branch waiting all) in
+    each_part shape P sides (before ∷ after ∷ waiting) nodes (All-cons P before (after ∷ waiting) both.0 (All-cons P after waiting both.1 (All-tail P branch waiting all))) c.1
+each_part shape P sides (branch ∷ waiting) (Part ∷ nodes) all c =
+    All-cons P branch (parts_from waiting nodes) (All-head P branch waiting all) (each_part shape P sides waiting nodes (All-tail P branch waiting all) c.1)
+
+abbrev AllFit : Shape → Branch → Type 0
+AllFit shape branch = All (λ lit. lit_fits shape lit ≡ true) branch
+
+pub literals_fit : LiteralsFit
+literals_fit shape nodes split = each_part shape (AllFit shape)
+    (λ branch ship slot fits all.
+        let lit : lit_fits shape (AtOrAfter ship slot) ≡ true = (and_parts (lit_fits shape (AtOrAfter ship slot)) (is_inside (branch_room shape branch).ranges ship slot) fits).0 in
+        (All-push (λ l. lit_fits shape l ≡ true) branch (Before ship slot) all lit, All-push (λ l. lit_fits shape l ≡ true) branch (AtOrAfter ship slot) all lit))
+    ([] ∷ []) nodes (All-cons (AllFit shape) [] [] (All-nil (λ l. lit_fits shape l ≡ true)) (All-nil (AllFit shape))) split
+
+abbrev Opens : Shape → Branch → Type 0
+Opens shape branch = OpenInTurn (whole_room shape) branch
+
+pub parts_open : PartsOpen
+parts_open shape nodes split = each_part shape (Opens shape) (λ branch ship slot fits turn. both_open shape branch ship slot fits turn)
+    ([] ∷ []) nodes (All-cons (Opens shape) [] [] tt (All-nil (Opens shape))) split
+
+pub part_rooms : PartRooms
+part_rooms shape nodes limits split =
+    All-weaker (Opens shape) (HasRoom shape) (λ branch turn. has_room shape branch limits turn) (split_parts nodes) (parts_open shape nodes split)
+
+-- ---- the part of a number, as a loop looks for it
+
+pub record Seeks (split : List Node) (number left : ℕ) (waiting : List Branch) (nodes : List Node) : Type 0 where
+  pub some : 1 ≤ left
+  pub same : slice_get (parts_from waiting nodes) (left - 1) ≡ part_at split number
+
+pub sought : (split : List Node) (number : ℕ) → (number == 0) ≡ false → 1 ≤ number → Seeks split number number ([] ∷ []) split
+sought split number other some = record { some = some; same = rw other refl }
+
+none_wait : (nodes : List Node) → parts_from [] nodes ≡ []
+none_wait [] = refl
+none_wait (node ∷ nodes) = none_wait nodes
+
+next : (nodes : List Node) (i : ℕ) (node : Node) → i < length nodes → drop i nodes ≡ get_or nodes i node ∷ drop (i + 1) nodes
+next nodes i node lt = rw (add-one, drop-cons nodes i node lt) refl
+
+-- no branch waits
+pub ended : (split nodes : List Node) (number left : ℕ) (waiting : List Branch) → Seeks split number left waiting nodes → slice_get waiting 0 ≡ None → None ≡ part_at split number
+ended split nodes number left [] s none = ap (λ (parts : List Branch). slice_get parts (left - 1)) (sym (none_wait nodes)) ∙ s.same
+ended split nodes number left (branch ∷ waiting) s none = absurd cc
+
+pub no_node : (split : List Node) (number left i : ℕ) (waiting : List Branch) → length split ≤ i → Seeks split number left waiting (drop i split) → None ≡ part_at split number
+no_node split number left i waiting le s = ap (λ (nodes : List Node). slice_get (parts_from waiting nodes) (left - 1)) (sym (drop_of_length-le split le)) ∙ s.same
+
+at_node : (branch : Branch) (waiting : List Branch) (node : Node) (nodes : List Node) → is_part node ≡ true → parts_from (branch ∷ waiting) (node ∷ nodes) ≡ branch ∷ parts_from (waiting_after node (branch ∷ waiting)) nodes
+at_node branch waiting (Fork ship slot) nodes part = absurd cc
+at_node branch waiting Part nodes part = refl
+
+at_fork : (branch : Branch) (waiting : List Branch) (node : Node) (nodes : List Node) → is_part node ≡ false → parts_from (branch ∷ waiting) (node ∷ nodes) ≡ parts_from (waiting_after node (branch ∷ waiting)) nodes
+at_fork branch waiting (Fork ship slot) nodes fork = refl
+at_fork branch waiting Part nodes fork = absurd cc
+
+pub found : (split : List Node) (number left : ℕ) (waiting : List Branch) (node : Node) (nodes : List Node) (branch : Branch) → Seeks split number left waiting (node ∷ nodes) → slice_get waiting 0 ≡ Some branch → is_part node ≡ true → left ≡ 1
+    → Some branch ≡ part_at split number
+found split number left [] node nodes branch s first part last = absurd cc
+found split number left (own ∷ waiting) node nodes branch s first part last =
+    sym first
+    ∙ ap (λ (parts : List Branch). slice_get parts 0) (sym (at_node own waiting node nodes part))
+    ∙ ap (λ (n : ℕ). slice_get (parts_from (own ∷ waiting) (node ∷ nodes)) (n - 1)) (sym last)
+    ∙ s.same
+
+past : (branch : Branch) (parts : List Branch) (left : ℕ) → 1 ≤ left → (left ≡ 1 → ⊥) → slice_get (branch ∷ parts) (left - 1) ≡ slice_get parts (left - 1 - 1)
+past branch parts zero some more = absurd (omega (arith, some))
+past branch parts (suc zero) some more = absurd (more (omega arith))
+past branch parts (suc (suc n)) some more =
+    let one : suc (suc n) - 1 ≡ suc n = omega arith in
+    let two : suc (suc n) - 1 - 1 ≡ n = omega arith in
+    ap (slice_get (branch ∷ parts)) one ∙ ap (slice_get parts) (sym two)
+
+pub passed : (split : List Node) (number left : ℕ) (waiting : List Branch) (node : Node) (nodes : List Node) (branch : Branch) → Seeks split number left waiting (node ∷ nodes) → slice_get waiting 0 ≡ Some branch → is_part node ≡ true → (left ≡ 1 → ⊥)
+    → Seeks split number (left - 1) (waiting_after node waiting) nodes
+passed split number left [] node nodes branch s first part more = absurd cc
+passed split number left (own ∷ waiting) node nodes branch s first part more = record {
+  some = omega (arith, s.some, more);
+  same =
+  sym (past own (parts_from (waiting_after node (own ∷ waiting)) nodes) left s.some more)
+  ∙ (ap (λ (parts : List Branch). slice_get parts (left - 1)) (sym (at_node own waiting node nodes part)) ∙ s.same);
+}
+
+pub went_on : (split : List Node) (number left : ℕ) (waiting : List Branch) (node : Node) (nodes : List Node) (branch : Branch) → Seeks split number left waiting (node ∷ nodes) → slice_get waiting 0 ≡ Some branch → is_part node ≡ false
+    → Seeks split number left (waiting_after node waiting) nodes
+went_on split number left [] node nodes branch s first fork = absurd cc
+went_on split number left (own ∷ waiting) node nodes branch s first fork = record {
+  some = s.some;
+  same = ap (λ (parts : List Branch). slice_get parts (left - 1)) (sym (at_fork own waiting node nodes fork)) ∙ s.same;
+}
+
+-- the nodes from a place on, at the node there
+pub here : (split : List Node) (number left i : ℕ) (waiting : List Branch) (node : Node) → i < length split → Seeks split number left waiting (drop i split) → Seeks split number left waiting (get_or split i node ∷ drop (i + 1) split)
+here split number left i waiting node lt s = subst (Seeks split number left waiting) (next split i node lt) s

@@ -1,0 +1,9 @@
+pub mod Splits
+pub mod Ranges
+pub mod Walks
+pub mod Rooms
+pub mod Words
+pub mod Text
+pub mod Written
+pub mod Laws
+pub mod Rows
