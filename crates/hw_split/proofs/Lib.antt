@@ -6,3 +6,4 @@ pub mod Covering
 pub mod Walks
 pub mod Written
 pub mod Spelled
+pub mod Onward
