@@ -29,9 +29,8 @@ line_clause f (lines.Order v w x clause) h = h.3
 line_clause f (lines.Goal clause) h = h
 line_clause f (lines.Lemma clause hints) h = h
 line_clause f (lines.Delete ids) h = tt
-line_clause f (lines.Narrows blocks) h = tt
-line_clause f (lines.Tugs n slot most weights) h = tt
-line_clause f (lines.Tariff scale prices) h = tt
+line_clause f (lines.Toll toll) h = tt
+line_clause f (lines.Tariff tariff) h = tt
 line_clause f (lines.Priced clause) h = h
 line_clause f (lines.Bound bound) h = tt
 

@@ -24,8 +24,7 @@ pub(crate) fn clause_of(line: &Line) -> Option<&Clause>
         | Line::Priced { clause } => Some(clause),
         Line::Table(_)
         | Line::Delete { .. }
-        | Line::Narrows { .. }
-        | Line::Tugs { .. }
+        | Line::Toll { .. }
         | Line::Tariff { .. }
         | Line::Bound { .. } => None,
     }

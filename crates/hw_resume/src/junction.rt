@@ -1,7 +1,7 @@
 //! Certificates that are joined line by line.
 
 ghost use Rattle.std.specs.Prelude.{◌≡◌, IfSome};
-ghost use Rattle.hw_lines.specs.Valid.{LineFits};
+ghost use Rattle.hw_lines.specs.Valid.{LineFits, TollFits};
 ghost use Rattle.hw_resume.specs.Courses.{CourseStands};
 ghost use Rattle.hw_resume.specs.Joining.{ExtendsJunction};
 
@@ -11,6 +11,7 @@ use crate::numbering::{is_same_toll, joined_tariff};
 use crate::raising::{Raise, raised};
 use crate::resumed::ResumeStop;
 use hw_lines::Line;
+use hw_tolls::Toll;
 use std::alloc::Global;
 
 /// The lines that were joined, and how those of the certificate at hand are numbered among them.
@@ -68,9 +69,9 @@ impl<'f> Junction<'f> {
             return Ok(self);
         }
         match line {
-            Line::Narrows { .. } | Line::Tugs { .. } => self.take_toll(alloc, line),
-            Line::Tariff { scale, prices } => {
-                let found = joined_tariff(alloc, *scale, prices, &self.tolls)?;
+            Line::Toll { toll } => self.take_toll(alloc, toll),
+            Line::Tariff { tariff } => {
+                let found = joined_tariff(alloc, tariff, &self.tolls)?;
                 self.offer(found)
             }
             _ => {
@@ -102,14 +103,14 @@ impl<'f> Junction<'f> {
     }
 
     /// Gives a toll the number of an equal one, which the certificate doesn't use yet, or declares it.
-    fn take_toll(self, alloc: Global, line: &Line) -> Result<Junction<'f>, ResumeStop>
+    fn take_toll(self, alloc: Global, toll: &Toll) -> Result<Junction<'f>, ResumeStop>
         requires stands { CourseStands self.course.flat.now self.course }
-        requires fits { LineFits self.course.flat.now line.now }
+        requires fits { TollFits self.course.flat.now toll.now }
         ensures { ExtendsJunction self.entry result }
     {
-        match self.known_toll(line) {
+        match self.known_toll(toll) {
             Some(number) => self.name_toll(number),
-            None => self.declare(alloc, line),
+            None => self.declare(alloc, toll),
         }
     }
 
@@ -134,9 +135,9 @@ impl<'f> Junction<'f> {
     }
 
     /// Declares the certificate's next toll.
-    fn declare(self, alloc: Global, line: &Line) -> Result<Junction<'f>, ResumeStop>
+    fn declare(self, alloc: Global, toll: &Toll) -> Result<Junction<'f>, ResumeStop>
         requires stands { CourseStands self.course.flat.now self.course }
-        requires fits { LineFits self.course.flat.now line.now }
+        requires fits { TollFits self.course.flat.now toll.now }
         ensures { ExtendsJunction self.entry result }
     {
         let Junction {
@@ -147,7 +148,8 @@ impl<'f> Junction<'f> {
         } = self;
         declared.push(course.lines.len())?;
         tolls.push(number_of(declared.len()))?;
-        let course = course.offer(line.copy(alloc)?)?;
+        let toll = toll.copy(alloc)?;
+        let course = course.offer(Line::Toll { toll })?;
         Ok(Junction {
             course,
             declared,
@@ -157,11 +159,11 @@ impl<'f> Junction<'f> {
     }
 
     /// The number of an equal toll that was declared and that the certificate doesn't use yet.
-    fn known_toll(&self, line: &Line) -> Option<u32> {
+    fn known_toll(&self, toll: &Toll) -> Option<u32> {
         for (place, at) in self.declared.iter().enumerate() {
             let number = number_of(place.saturating_add(1));
-            if let Some(other) = self.course.lines.get(*at) {
-                if is_same_toll(other, line) && !self.tolls.contains(&number) {
+            if let Some(Line::Toll { toll: other }) = self.course.lines.get(*at) {
+                if is_same_toll(other, toll) && !self.tolls.contains(&number) {
                     return Some(number);
                 }
             }

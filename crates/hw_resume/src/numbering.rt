@@ -6,28 +6,28 @@ ghost use Rattle.hw_cert.specs.Fits.{ascends, prices_small};
 ghost use Rattle.hw_resume.specs.Numbering.{IsAnyTariff};
 
 use hw_flat::NoMemory;
-use hw_lines::{Line, Price, Prices};
-use hw_tolls::{MOST_PRICE, MOST_SCALE};
+use hw_lines::Line;
+use hw_tolls::{Due, Dues, MOST_PRICE, MOST_SCALE, Tariff, Toll};
 use std::alloc::Global;
 
-/// Whether two lines declare one toll.
-pub(crate) fn is_same_toll(one: &Line, other: &Line) -> bool {
+/// Whether two tolls are one.
+pub(crate) fn is_same_toll(one: &Toll, other: &Toll) -> bool {
     match (one, other) {
-        (Line::Narrows { blocks }, Line::Narrows { blocks: others }) => {
+        (Toll::Narrows { blocks }, Toll::Narrows { blocks: others }) => {
             blocks.items.as_slice() == others.items.as_slice()
         }
         (
-            Line::Tugs {
+            Toll::Tugs {
                 restriction,
                 slot,
-                most,
                 weights,
+                most,
             },
-            Line::Tugs {
+            Toll::Tugs {
                 restriction: other_restriction,
                 slot: other_slot,
-                most: other_most,
                 weights: other_weights,
+                most: other_most,
             },
         ) => {
             *restriction == *other_restriction
@@ -55,48 +55,49 @@ fn joined_number(numbers: &[u32], toll: u32) -> u32 {
 /// number is above its limit.
 pub(crate) fn joined_tariff(
     alloc: Global,
-    scale: u32,
-    prices: &Prices,
+    tariff: &Tariff,
     numbers: &[u32],
 ) -> Result<Option<Line>, NoMemory>
     ensures fits { IfOk result (λ found. IfSome found IsAnyTariff) }
 {
-    let mut items = Vec::with_capacity(alloc, prices.items.len())?;
-    for one in &prices.items {
-        items.push(Price {
+    let mut items = Vec::with_capacity(alloc, tariff.dues.items.len())?;
+    for one in &tariff.dues.items {
+        items.push(Due {
             toll: joined_number(numbers, one.toll),
             price: one.price,
         })?;
     }
     items.sort_by_key(|one| one.toll)?;
-    if !is_tariff(scale, &items) {
+    if !is_tariff(tariff.scale, &items) {
         return Ok(None);
     }
     Ok(Some(Line::Tariff {
-        scale,
-        prices: Prices { items },
+        tariff: Tariff {
+            scale: tariff.scale,
+            dues: Dues { items },
+        },
     }))
 }
 
 /// Whether scale and prices are within their limits, and the numbers of the tolls ascend from 1 on.
-fn is_tariff(scale: u32, prices: &[Price]) -> bool
-    ensures { result ≡ (prices_small scale prices.now && ascends 0 (map (λ one. one.toll) prices.now)) }
+fn is_tariff(scale: u32, dues: &[Due]) -> bool
+    ensures { result ≡ (prices_small scale dues.now && ascends 0 (map (λ one. one.toll) dues.now)) }
 {
-    scale <= MOST_SCALE && each_cheap(prices) && tolls_ascend(prices)
+    scale <= MOST_SCALE && each_cheap(dues) && tolls_ascend(dues)
 }
 
-fn each_cheap(prices: &[Price]) -> bool
-    ensures { result ≡ list_all (λ one. nat_le one.price MOST_PRICE) prices.now }
+fn each_cheap(dues: &[Due]) -> bool
+    ensures { result ≡ list_all (λ one. nat_le one.price MOST_PRICE) dues.now }
 {
-    prices.iter().all(|one| one.price <= MOST_PRICE)
+    dues.iter().all(|one| one.price <= MOST_PRICE)
 }
 
 /// Whether the number of each toll is above the one before it, the first above 0.
-fn tolls_ascend(prices: &[Price]) -> bool
-    ensures { result ≡ ascends 0 (map (λ one. one.toll) prices.now) }
+fn tolls_ascend(dues: &[Due]) -> bool
+    ensures { result ≡ ascends 0 (map (λ one. one.toll) dues.now) }
 {
     let mut before = 0;
-    for one in prices {
+    for one in dues {
         if one.toll <= before {
             return false;
         }
