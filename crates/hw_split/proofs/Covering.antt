@@ -1,13 +1,11 @@
 -- The parts that nodes make.
-use Rattle.std.proofs.Common.{◌≡◌, ◌==◌, inl, inr, ℕ, zero, suc, ◌+◌, ◌-◌, ◌<◌, ◌≤◌, Bool, true, false, not, ◌&&◌, cond, nat_lt, nat_le, List, [], ◌∷◌, ◌++◌, drop, drop-cons, get_or, length, Option, Some, None, slice_get, slice_index, All, count_by, refl, sym, ap, subst, ◌∙◌, arith, add-one}
+use Rattle.std.proofs.Common.{◌≡◌, ◌==◌, inl, inr, ℕ, zero, suc, ◌+◌, ◌-◌, ◌<◌, ◌≤◌, Bool, true, false, not, ◌&&◌, cond, nat_lt, nat_le, List, [], ◌∷◌, ◌++◌, drop, drop-cons, get_or, length, Some, None, slice_get, slice_index, All, count_by, refl, sym, ap, subst, ◌∙◌, arith, add-one}
 use Rattle.std.proofs.Math.ListN.{drop_of_length-le}
 use Rattle.std.proofs.Math.Path.{ap₂}
-use Rattle.std.proofs.lemmas.Bool.{ltb-true, ltb-false, lt-leb, le-leb, cases_Bool, and_parts, ne_eqb}
+use Rattle.std.proofs.lemmas.Bool.{ltb-true, ltb-false, lt-leb, le-leb, cases_Bool, and_parts}
 use Rattle.std.proofs.lemmas.List.Elements.{All-nil, All-cons, All-head, All-tail, All-push, All-weaker}
 use Rattle.std.proofs.lemmas.List.Folds.{list_all-append}
 use Rattle.std.proofs.lemmas.List.Sums.{sum_by-cons}
-use Rattle.std.proofs.lemmas.Option.{same_Some}
-use Rattle.std.specs.List.{list_all}
 use Rattle.hw_model.specs.declared.lit.Lit.{Lit}
 use Rattle.hw_model.specs.declared.lit.Lit.TheVariants.{AtOrAfter, Before}
 use Rattle.hw_model.specs.declared.shape.Shape.{Shape}
@@ -109,8 +107,8 @@ AllFit shape branch = All (λ lit. lit_fits shape lit ≡ true) branch
 pub literals_fit : LiteralsFit
 literals_fit shape nodes split = each_part shape (AllFit shape)
     (λ branch ship slot fits all.
-        let lit : lit_fits shape (AtOrAfter ship slot) ≡ true = (and_parts (lit_fits shape (AtOrAfter ship slot)) (is_inside (branch_room shape branch).ranges ship slot) fits).0 in
-        (All-push (λ l. lit_fits shape l ≡ true) branch (Before ship slot) all lit, All-push (λ l. lit_fits shape l ≡ true) branch (AtOrAfter ship slot) all lit))
+    let lit : lit_fits shape (AtOrAfter ship slot) ≡ true = (and_parts (lit_fits shape (AtOrAfter ship slot)) (is_inside (branch_room shape branch).ranges ship slot) fits).0 in
+    (All-push (λ l. lit_fits shape l ≡ true) branch (Before ship slot) all lit, All-push (λ l. lit_fits shape l ≡ true) branch (AtOrAfter ship slot) all lit))
     ([] ∷ []) nodes (All-cons (AllFit shape) [] [] (All-nil (λ l. lit_fits shape l ≡ true)) (All-nil (AllFit shape))) split
 
 abbrev Opens : Shape → Branch → Type 0
@@ -179,8 +177,8 @@ passed split number left [] node nodes branch s first part more = absurd cc
 passed split number left (own ∷ waiting) node nodes branch s first part more = record {
   some = omega (arith, s.some, more);
   same =
-  sym (past own (parts_from (waiting_after node (own ∷ waiting)) nodes) left s.some more)
-  ∙ (ap (λ (parts : List Branch). slice_get parts (left - 1)) (sym (at_node own waiting node nodes part)) ∙ s.same);
+      sym (past own (parts_from (waiting_after node (own ∷ waiting)) nodes) left s.some more)
+      ∙ (ap (λ (parts : List Branch). slice_get parts (left - 1)) (sym (at_node own waiting node nodes part)) ∙ s.same);
 }
 
 pub went_on : (split : List Node) (number left : ℕ) (waiting : List Branch) (node : Node) (nodes : List Node) (branch : Branch) → Seeks split number left waiting (node ∷ nodes) → slice_get waiting 0 ≡ Some branch → is_part node ≡ false

@@ -1,6 +1,5 @@
 -- What is known of a node that was read, and of all of them.
-use Rattle.std.proofs.Common.{◌≡◌, ℕ, ◌+◌, ◌-◌, ◌<◌, ◌≤◌, Bool, true, false, ◌&&◌, cond, nat_lt, nat_le, List, [], ◌∷◌, ◌++◌, Option, Some, None, Result, Ok, bytes_eq, codes, refl, sym, ap, subst, ◌∙◌, arith}
-use Rattle.std.proofs.lemmas.Bool.{ltb-true, leb-true, and_parts}
+use Rattle.std.proofs.Common.{◌≡◌, ℕ, ◌+◌, ◌-◌, Bool, true, false, cond, List, [], ◌∷◌, Option, Some, None, Result, Ok, bytes_eq, codes, refl, ap, subst}
 use Rattle.std.proofs.lemmas.Option.{same_Some, cond_some}
 use Rattle.hw_lemmas.specs.Operators.{◌>>=◌}
 use Rattle.hw_model.specs.declared.shape.Shape.{Shape}
@@ -13,7 +12,7 @@ use Rattle.hw_split.specs.declared.fault.SplitWord.{SplitWord}
 use Rattle.hw_split.specs.declared.fault.SplitWord.TheVariants as words
 use Rattle.hw_split.specs.declared.node.Node.{Node}
 use Rattle.hw_split.specs.declared.node.Node.TheVariants.{Fork, Part}
-use Rattle.hw_split.specs.Splits.{Branch, waiting_after, fork_fits, node_fits, NextFits, Completes}
+use Rattle.hw_split.specs.Splits.{Branch, waiting_after, fork_fits, node_fits, Completes}
 use Rattle.hw_split.specs.Ranges.{ShipRanges, ranges_of}
 use Rattle.hw_split.specs.Text.{fork_by, fork_words, part_words, node_words, node_form, node_at, nodes_at}
 

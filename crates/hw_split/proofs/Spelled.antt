@@ -1,5 +1,5 @@
 -- A text that reads as a split is the one that is written.
-use Rattle.std.proofs.Common.{◌≡◌, ℕ, ◌+◌, ◌-◌, ◌<◌, ◌≤◌, Bool, true, false, cond, List, [], ◌∷◌, ◌++◌, map, Option, Some, None, Result, Ok, length, bytes_eq, codes, decimal, refl, sym, ap, subst, ◌∙◌, append_assoc, arith}
+use Rattle.std.proofs.Common.{◌≡◌, ℕ, ◌+◌, ◌-◌, ◌≤◌, Bool, true, false, cond, List, [], ◌∷◌, ◌++◌, map, Option, Some, None, Result, Ok, length, bytes_eq, codes, decimal, refl, sym, ap, subst, ◌∙◌, append_assoc, arith}
 use Rattle.std.proofs.Math.Path.{ap₂}
 use Rattle.std.proofs.lemmas.Option.{same_Some, cond_some}
 use Rattle.hw_lemmas.specs.Operators.{◌>>=◌}
@@ -9,7 +9,7 @@ use Rattle.hw_derived.specs.Reading.{MalformedLine, malformed_line, formed_line_
 use Rattle.hw_derived.specs.Slots.{slot_form}
 use Rattle.hw_derived.proofs.Reading.{bind_ok, formed_ok}
 use Rattle.hw_text.specs.Numbers.{number_from_to}
-use Rattle.hw_text.specs.Parts.{words_of, first_part, at_end, parts_of, ended_lines}
+use Rattle.hw_text.specs.Parts.{words_of, first_part, at_end, parts_of}
 use Rattle.hw_text.proofs.Joins.{is_ended_lines}
 use Rattle.hw_text.proofs.Signs.{from_to_is}
 use Rattle.hw_text.proofs.Spelled.{is_spelled}
@@ -20,9 +20,9 @@ use Rattle.hw_split.specs.declared.node.Node.{Node}
 use Rattle.hw_split.specs.declared.node.Node.TheVariants.{Fork, Part}
 use Rattle.hw_split.specs.Splits.{Branch, waiting_after, fork_fits}
 use Rattle.hw_split.specs.Ranges.{ShipRanges, ranges_of}
-use Rattle.hw_split.specs.Text.{fork_by, fork_words, part_words, node_words, node_form, node_at, nodes_at, split_of}
+use Rattle.hw_split.specs.Text.{fork_by, fork_words, part_words, node_words, node_at, nodes_at, split_of}
 use Rattle.hw_split.specs.Laws.{OneText}
-use Rattle.hw_split.proofs.Fitting.{Parts, NodesRead, ReadAs, node_read, after_more, after_node, nodes_same}
+use Rattle.hw_split.proofs.Fitting.{Parts, node_read, after_more, after_node, nodes_same}
 use Rattle.hw_split.proofs.Written.{node_line, split_lines, text_is}
 
 -- ---- words

@@ -1,9 +1,9 @@
 -- The branches that wait beside one, where a node or a literal is passed.
-use Rattle.std.proofs.Common.{◌≡◌, ℕ, true, false, List, [], ◌∷◌, ◌++◌, reverse, refl, sym, ap, ◌∙◌}
+use Rattle.std.proofs.Common.{◌≡◌, ℕ, false, List, [], ◌∷◌, ◌++◌, reverse, sym, ap, ◌∙◌}
 use Rattle.std.proofs.Math.Path.{ap₂}
 use Rattle.hw_model.specs.declared.lit.Lit.{Lit}
-use Rattle.hw_model.specs.declared.lit.Lit.TheVariants.{AtOrAfter, Before, First, NotFirst}
-use Rattle.hw_split.specs.declared.node.Node.TheVariants.{Fork, Part}
+use Rattle.hw_model.specs.declared.lit.Lit.TheVariants.{AtOrAfter, Before}
+use Rattle.hw_split.specs.declared.node.Node.TheVariants.{Fork}
 use Rattle.hw_split.specs.Splits.{Branch, waiting_after}
 use Rattle.hw_split.specs.Walks.{later_side, later_sides, waits}
 use Rattle.hw_split.proofs.Opening.{pushed, turned_back}

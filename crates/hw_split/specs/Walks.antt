@@ -1,5 +1,5 @@
 -- The branches that wait beside one, by the literals of that one.
-use Rattle.std.specs.Prelude.{ℕ, Bool, List, [], ◌∷◌, ◌++◌, reverse, if◌then◌else◌}
+use Rattle.std.specs.Prelude.{Bool, List, [], ◌∷◌, ◌++◌, reverse, if◌then◌else◌}
 use Rattle.hw_model.specs.declared.lit.Lit.{Lit}
 use Rattle.hw_model.specs.declared.lit.Lit.TheVariants.{Before, AtOrAfter}
 use Rattle.hw_split.specs.Splits.{Branch}

@@ -19,8 +19,8 @@ mod writing;
 
 pub use fault::{SplitFault, SplitWord};
 pub use laws::{
-    literals_fit, one_part, one_text, part_rooms, parts_counted, parts_open, split_rows, text_rows, written_reads,
-    written_rows,
+    literals_fit, one_part, one_text, part_rooms, parts_counted, parts_open, split_rows, text_rows,
+    written_reads, written_rows,
 };
 pub use node::{Node, Split};
 pub use parts::{count_parts, literals_of};

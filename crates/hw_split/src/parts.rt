@@ -27,11 +27,7 @@ pub fn count_parts(split: &Split) -> usize
 
 /// The literals of the part of this number, counted from 1, from the root of the tree on; none where the
 /// split has fewer parts, and of the number 0. One pass over the nodes up to that part.
-pub fn literals_of(
-    alloc: Global,
-    split: &Split,
-    number: u32,
-) -> Result<Option<Vec<Lit>>, NoMemory>
+pub fn literals_of(alloc: Global, split: &Split, number: u32) -> Result<Option<Vec<Lit>>, NoMemory>
     ensures { IfOk result (λ found. option_map (λ lits. lits.items) found ≡ part_at split.now number) }
 {
     if number == 0 {

@@ -21,6 +21,7 @@ use std::alloc::Global;
 
 /// The node on the next line, where the ships have these ranges, and the bytes after the line. It
 /// takes no memory.
+#[tactic(auto, unfolding(crate::specs::Text::node_at))]
 fn node_line<'b>(
     bytes: &'b [u8],
     number: u64,
@@ -48,11 +49,7 @@ fn node_line<'b>(
 }
 
 /// The nodes for which the whole problem waits, and the bytes after their lines.
-fn nodes_of(
-    alloc: Global,
-    bytes: &[u8],
-    shape: Shape,
-) -> Result<(Vec<Node>, &[u8]), SplitFault>
+fn nodes_of(alloc: Global, bytes: &[u8], shape: Shape) -> Result<(Vec<Node>, &[u8]), SplitFault>
     requires fits { ShapeFits shape }
     ensures { TextReadGives (λ x. (x.0.items, parts_of 10 x.1.now)) result (nodes_at shape 2 ([] ∷ []) (parts_of 10 bytes.now)) }
 {

@@ -1,4 +1,4 @@
-use Rattle.std.proofs.Common.{◌≡◌, ◌+◌, [], ◌∷◌, length, sym, arith}
+use Rattle.std.proofs.Common.{◌≡◌, [], ◌∷◌, length, sym, arith}
 use Rattle.std.proofs.lemmas.Result.{err_from_is_err_and}
 use Rattle.hw_text.specs.Parts.{parts_of}
 use Rattle.hw_split.specs.Text.{nodes_at}
@@ -15,7 +15,7 @@ node_line-requires-clause-each_ship c =
 
 pub returns-in_err-node : goal.returns-in_err-node
 returns-in_err-node c =
-    let p = err_from_is_err_and c.from_residual.result c.from_residual.ensures.1 in
+    let p = err_from_is_err_and c.from_residual-in_err-node.result c.from_residual-in_err-node.ensures.1 in
     let count : c.len.result ≡ length c.loop-ranges.nodes.items = omega (arith, c.len.ensures) in
     rw (p.1, p.2)
     (faulty c.in_err-node.field-0.0 c.args.shape (nodes_at c.args.shape 2 ([] ∷ []) (parts_of 10 c.args.bytes.now)) c.loop-ranges.nodes.items c.loop-ranges.branches c.loop-ranges.rest.now c.in-Some.ranges.now
@@ -24,8 +24,10 @@ returns-in_err-node c =
 pub pass-requires : goal.pass-requires
 pass-requires c =
     let count : c.len.result ≡ length c.loop-ranges.nodes.items = omega (arith, c.len.ensures) in
-    named_here c.args.shape (nodes_at c.args.shape 2 ([] ∷ []) (parts_of 10 c.args.bytes.now)) c.loop-ranges.nodes.items c.loop-ranges.branches (parts_of 10 c.loop-ranges.rest.now) (parts_of 10 c.in_ok-node.after.now) c.in-Some.ranges.now c.in_ok-node.node
-    c.loop-ranges.invariant (sym c.in-Some.ensures) (rw count at c.in_ok-node.ensures.reads)
+    record {
+      named = named_here c.args.shape (nodes_at c.args.shape 2 ([] ∷ []) (parts_of 10 c.args.bytes.now)) c.loop-ranges.nodes.items c.loop-ranges.branches (parts_of 10 c.loop-ranges.rest.now) (parts_of 10 c.in_ok-node.after.now) c.in-Some.ranges.now c.in_ok-node.node
+          c.loop-ranges.invariant (sym c.in-Some.ensures) (rw count at c.in_ok-node.ensures.reads);
+    }
 
 pub loop-ranges-preserved : goal.loop-ranges-preserved
 loop-ranges-preserved c =

@@ -3,4 +3,4 @@ use Rattle.hw_split.proofs.Rooms.{CutSoFar}
 use Rattle.hw_split.proofs.room.room_of.Given as goal
 
 abbrev pub invariant-loop-lit : goal.invariant-loop-lit
-invariant-loop-lit l = CutSoFar l.shape l.literals l.room (drop l.lit-index l.literals)
+invariant-loop-lit l = CutSoFar l.fn.shape l.literals l.room (drop l.lit-index l.literals)
