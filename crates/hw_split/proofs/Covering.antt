@@ -1,6 +1,5 @@
 -- The parts that nodes make.
-use Rattle.std.proofs.Common.{◌≡◌, ◌==◌, inl, inr, ℕ, zero, suc, ◌+◌, ◌-◌, ◌<◌, ◌≤◌, Bool, true, false, not, ◌&&◌, cond, nat_lt, nat_le, List, [], ◌∷◌, ◌++◌, drop, drop-cons, get_or, length, Some, None, slice_get, slice_index, All, count_by, refl, sym, ap, subst, ◌∙◌, arith, add-one}
-use Rattle.std.proofs.Math.ListN.{drop_of_length-le}
+use Rattle.std.proofs.Common.{◌≡◌, inl, inr, ℕ, ◌+◌, ◌-◌, ◌≤◌, Bool, true, false, not, ◌&&◌, cond, nat_lt, nat_le, List, [], ◌∷◌, ◌++◌, length, None, slice_get, slice_index, All, count_by, refl, sym, ap, ◌∙◌, arith}
 use Rattle.std.proofs.Math.Path.{ap₂}
 use Rattle.std.proofs.lemmas.Bool.{ltb-true, ltb-false, lt-leb, le-leb, cases_Bool, and_parts}
 use Rattle.std.proofs.lemmas.List.Elements.{All-nil, All-cons, All-head, All-tail, All-push, All-weaker}
@@ -13,7 +12,7 @@ use Rattle.hw_model.specs.Lits.{lit_fits, lit_holds}
 use Rattle.hw_model.specs.Rooms.{whole_room}
 use Rattle.hw_split.specs.declared.node.Node.{Node}
 use Rattle.hw_split.specs.declared.node.Node.TheVariants.{Fork, Part}
-use Rattle.hw_split.specs.Splits.{Branch, waiting_after, parts_from, split_parts, part_at, is_part, branch_holds, branch_room, fork_fits, is_inside, Completes}
+use Rattle.hw_split.specs.Splits.{Branch, parts_from, split_parts, part_at, is_part, branch_holds, branch_room, fork_fits, is_inside, Completes}
 use Rattle.hw_split.specs.Rooms.{OpenInTurn, HasRoom}
 use Rattle.hw_split.specs.Laws.{LiteralsFit, OnePart, PartRooms, PartsCounted, PartsOpen}
 use Rattle.hw_split.proofs.Rooms.{both_open, has_room}
@@ -128,67 +127,11 @@ pub record Seeks (split : List Node) (number left : ℕ) (waiting : List Branch)
   pub some : 1 ≤ left
   pub same : slice_get (parts_from waiting nodes) (left - 1) ≡ part_at split number
 
-pub sought : (split : List Node) (number : ℕ) → (number == 0) ≡ false → 1 ≤ number → Seeks split number number ([] ∷ []) split
-sought split number other some = record { some = some; same = rw other refl }
-
 none_wait : (nodes : List Node) → parts_from [] nodes ≡ []
 none_wait [] = refl
 none_wait (node ∷ nodes) = none_wait nodes
-
-next : (nodes : List Node) (i : ℕ) (node : Node) → i < length nodes → drop i nodes ≡ get_or nodes i node ∷ drop (i + 1) nodes
-next nodes i node lt = rw (add-one, drop-cons nodes i node lt) refl
 
 -- no branch waits
 pub ended : (split nodes : List Node) (number left : ℕ) (waiting : List Branch) → Seeks split number left waiting nodes → slice_get waiting 0 ≡ None → None ≡ part_at split number
 ended split nodes number left [] s none = ap (λ (parts : List Branch). slice_get parts (left - 1)) (sym (none_wait nodes)) ∙ s.same
 ended split nodes number left (branch ∷ waiting) s none = absurd cc
-
-pub no_node : (split : List Node) (number left i : ℕ) (waiting : List Branch) → length split ≤ i → Seeks split number left waiting (drop i split) → None ≡ part_at split number
-no_node split number left i waiting le s = ap (λ (nodes : List Node). slice_get (parts_from waiting nodes) (left - 1)) (sym (drop_of_length-le split le)) ∙ s.same
-
-at_node : (branch : Branch) (waiting : List Branch) (node : Node) (nodes : List Node) → is_part node ≡ true → parts_from (branch ∷ waiting) (node ∷ nodes) ≡ branch ∷ parts_from (waiting_after node (branch ∷ waiting)) nodes
-at_node branch waiting (Fork ship slot) nodes part = absurd cc
-at_node branch waiting Part nodes part = refl
-
-at_fork : (branch : Branch) (waiting : List Branch) (node : Node) (nodes : List Node) → is_part node ≡ false → parts_from (branch ∷ waiting) (node ∷ nodes) ≡ parts_from (waiting_after node (branch ∷ waiting)) nodes
-at_fork branch waiting (Fork ship slot) nodes fork = refl
-at_fork branch waiting Part nodes fork = absurd cc
-
-pub found : (split : List Node) (number left : ℕ) (waiting : List Branch) (node : Node) (nodes : List Node) (branch : Branch) → Seeks split number left waiting (node ∷ nodes) → slice_get waiting 0 ≡ Some branch → is_part node ≡ true → left ≡ 1
-    → Some branch ≡ part_at split number
-found split number left [] node nodes branch s first part last = absurd cc
-found split number left (own ∷ waiting) node nodes branch s first part last =
-    sym first
-    ∙ ap (λ (parts : List Branch). slice_get parts 0) (sym (at_node own waiting node nodes part))
-    ∙ ap (λ (n : ℕ). slice_get (parts_from (own ∷ waiting) (node ∷ nodes)) (n - 1)) (sym last)
-    ∙ s.same
-
-past : (branch : Branch) (parts : List Branch) (left : ℕ) → 1 ≤ left → (left ≡ 1 → ⊥) → slice_get (branch ∷ parts) (left - 1) ≡ slice_get parts (left - 1 - 1)
-past branch parts zero some more = absurd (omega (arith, some))
-past branch parts (suc zero) some more = absurd (more (omega arith))
-past branch parts (suc (suc n)) some more =
-    let one : suc (suc n) - 1 ≡ suc n = omega arith in
-    let two : suc (suc n) - 1 - 1 ≡ n = omega arith in
-    ap (slice_get (branch ∷ parts)) one ∙ ap (slice_get parts) (sym two)
-
-pub passed : (split : List Node) (number left : ℕ) (waiting : List Branch) (node : Node) (nodes : List Node) (branch : Branch) → Seeks split number left waiting (node ∷ nodes) → slice_get waiting 0 ≡ Some branch → is_part node ≡ true → (left ≡ 1 → ⊥)
-    → Seeks split number (left - 1) (waiting_after node waiting) nodes
-passed split number left [] node nodes branch s first part more = absurd cc
-passed split number left (own ∷ waiting) node nodes branch s first part more = record {
-  some = omega (arith, s.some, more);
-  same =
-      sym (past own (parts_from (waiting_after node (own ∷ waiting)) nodes) left s.some more)
-      ∙ (ap (λ (parts : List Branch). slice_get parts (left - 1)) (sym (at_node own waiting node nodes part)) ∙ s.same);
-}
-
-pub went_on : (split : List Node) (number left : ℕ) (waiting : List Branch) (node : Node) (nodes : List Node) (branch : Branch) → Seeks split number left waiting (node ∷ nodes) → slice_get waiting 0 ≡ Some branch → is_part node ≡ false
-    → Seeks split number left (waiting_after node waiting) nodes
-went_on split number left [] node nodes branch s first fork = absurd cc
-went_on split number left (own ∷ waiting) node nodes branch s first fork = record {
-  some = s.some;
-  same = ap (λ (parts : List Branch). slice_get parts (left - 1)) (sym (at_fork own waiting node nodes fork)) ∙ s.same;
-}
-
--- the nodes from a place on, at the node there
-pub here : (split : List Node) (number left i : ℕ) (waiting : List Branch) (node : Node) → i < length split → Seeks split number left waiting (drop i split) → Seeks split number left waiting (get_or split i node ∷ drop (i + 1) split)
-here split number left i waiting node lt s = subst (Seeks split number left waiting) (next split i node lt) s
