@@ -2,9 +2,9 @@
 //!
 //! Nothing is promised of it: its text is read like any other.
 
+use crate::splitting::{Halves, Side, Splitter};
 use hw_flat::{Flat, ShipId, Slot};
 use hw_model::NoMemory;
-use hw_prices::{Halves, Side, Splitter};
 use hw_text::put_number;
 use std::alloc::Global;
 use std::mem;
@@ -125,12 +125,14 @@ pub(crate) fn text_of(alloc: Global, tree: &Tree) -> Result<Vec<u8>, NoMemory> {
     left.push(0usize)?;
     while let Some(place) = left.pop() {
         match tree.branches.get(place) {
-            Some(Branch::Fork {
-                ship,
-                slot,
-                earlier,
-                later,
-            }) => {
+            Some(
+                Branch::Fork {
+                    ship,
+                    slot,
+                    earlier,
+                    later,
+                },
+            ) => {
                 put_fork(&mut text, *ship, *slot)?;
                 left.push(*later)?;
                 left.push(*earlier)?;

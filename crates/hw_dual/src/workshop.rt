@@ -7,14 +7,15 @@ use hw_making::{Maker, Ranking};
 use hw_model::{Hole, Job, NoMemory, Rule};
 use std::alloc::Global;
 
-/// Makes timetables, where that doesn't take too long.
+/// Makes timetables, where that doesn't take too long, and keeps the best.
 #[derive(Drop)]
-pub(crate) struct Workshop {
+pub struct Workshop {
     maker: Option<Maker>,
 }
 
 impl Workshop {
-    pub(crate) fn new(alloc: Global, flat: &Flat) -> Result<Workshop, NoMemory> {
+    /// Of a problem, without a timetable yet.
+    pub fn new(alloc: Global, flat: &Flat) -> Result<Workshop, NoMemory> {
         if MOST_EFFORT < effort(flat) {
             return Ok(Workshop { maker: None });
         }
@@ -23,16 +24,17 @@ impl Workshop {
         })
     }
 
-    /// Makes a timetable by what ships carry.
-    pub(crate) fn make(&mut self, alloc: Global, room: &Room) -> Result<(), NoMemory> {
+    /// Makes a timetable in a room by what ships carry.
+    pub fn make(&mut self, alloc: Global, room: &Room) -> Result<(), NoMemory> {
         match &mut self.maker {
             None => Ok(()),
             Some(maker) => maker.make(alloc, room, None, Ranking::Regret, None),
         }
     }
 
-    /// Makes timetables by what ships earn.
-    pub(crate) fn make_by(
+    /// Makes timetables in a room by what ships earn. Keeps one that carries more than the one before, and than `best`, in
+    /// tenths of a tonne.
+    pub fn make_by(
         &mut self,
         alloc: Global,
         room: &Room,
@@ -56,12 +58,8 @@ impl Workshop {
         }
     }
 
-    /// A copy of it, if it carries more than `best`.
-    pub(crate) fn better(
-        &self,
-        alloc: Global,
-        best: Option<u64>,
-    ) -> Result<Option<Timetable>, NoMemory> {
+    /// A copy of the best timetable that was made, if it carries more than `best`, in tenths of a tonne.
+    pub fn better(&self, alloc: Global, best: Option<u64>) -> Result<Option<Timetable>, NoMemory> {
         match &self.maker {
             None => Ok(None),
             Some(maker) => maker.better(alloc, best),
