@@ -1,7 +1,6 @@
 -- A course to which lines were added.
-use Rattle.std.proofs.Common.{◌≡◌, ◌∙◌, ◌++◌, List, [], ◌∷◌, None, Result, Ok, Err, refl, sym, ap, subst, append_assoc, append-nil}
-use Rattle.std.specs.Prelude.{All}
-use Rattle.std.specs.List.{cons_option}
+use Rattle.std.proofs.Common.{◌≡◌, ◌∙◌, ◌++◌, List, [], ◌∷◌, Option, None, Result, Ok, Err, refl, sym, ap, subst, append_assoc, append-nil}
+use Rattle.std.specs.Prelude.{All, option_and_then}
 use Rattle.hw_model.specs.Problem.{Problem}
 use Rattle.hw_lines.specs.declared.line.Line.{Line}
 use Rattle.hw_lines.specs.declared.line.Line.TheVariants as lines
@@ -41,8 +40,11 @@ fits_on ls h fit = subst (λ (f : Problem). All (LineFits f) ls) (sym h.adds.sta
 
 -- ---- a line that is offered
 
-pub nothing_added : {course : Course} → CourseStands course.flat.now course → AddsClause course course None
+nothing_added : {course : Course} → CourseStands course.flat.now course → AddsClause course course None
 nothing_added {course = course} h = record { more = []; adds = record { stands = h; parts = sym (append-nil course.lines.items) }; clauses = refl }
+
+pub none_offered : {course : Course} (line : Option Line) → line ≡ None → CourseStands course.flat.now course → AddsClause course course (option_and_then clause_of line)
+none_offered {course = course} line e h = subst (λ (o : Option Line). AddsClause course course (option_and_then clause_of o)) (sym e) (nothing_added h)
 
 no_clause : (f : Problem) (kept : Kept) (line : Line) → SaysNoMore f kept line → clause_of line ≡ None
 no_clause f kept (lines.Table table) h = refl
@@ -54,6 +56,6 @@ pub not_needed : {course : Course} (line : Line) → CourseStands course.flat.no
 not_needed {course = course} line h no_more = rw (no_clause course.flat.now course.checker.kept line no_more) (nothing_added h)
 
 -- it was taken, or the checker refused it
-pub by_take : {course : Course} (line : Line) (result : Result Course CourseStop) → TakeMeets course line result → OfferMeets course line result
-by_take line (Ok after) h = record { more = line ∷ []; adds = h; clauses = refl }
-by_take line (Err stop) h = h
+pub by_take : (course : Course) (line : Line) (result : Result Course CourseStop) → TakeMeets course line result → OfferMeets course line result
+by_take course line (Ok after) h = record { more = line ∷ []; adds = h; clauses = refl }
+by_take course line (Err stop) h = h
