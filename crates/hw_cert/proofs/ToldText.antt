@@ -8,8 +8,9 @@ use Rattle.std.specs.List.{list_all, join_with_byte}
 use Rattle.hw_lemmas.proofs.Truths.{chosen}
 use Rattle.hw_text.specs.Parts.{parts_of, lacks, ended_lines}
 use Rattle.hw_text.proofs.Joins.{parts_lack}
+use Rattle.hw_tolls.specs.declared.toll.Toll.TheVariants.{Narrows}
 use Rattle.hw_lines.specs.declared.line.Line.{Line}
-use Rattle.hw_lines.specs.declared.line.Line.TheVariants.{Table, Delete, Narrows}
+use Rattle.hw_lines.specs.declared.line.Line.TheVariants.{Table, Delete, Toll}
 use Rattle.hw_cert.specs.declared.version.Version.TheVariants.{Two, Three}
 use Rattle.hw_cert.specs.Texts.{line_text, certificate_header}
 use Rattle.hw_cert.specs.Spelled.{spelled}
@@ -21,12 +22,12 @@ use Rattle.hw_cert.proofs.Telling.{with_both}
 
 -- a part that tells a line is its text
 told_back : (part : List ℕ) (line : Line) → line_told part ≡ Some line → part ≡ line_text line
-told_back part line h = elim (chosen (bytes_eq part (codes "t")) (Some (Table [])) (cond (bytes_eq part (codes "d")) (Some (Delete [])) (cond (bytes_eq part (codes "n")) (Some (Narrows [])) (spelled Three part))) (Some line) h) [
+told_back part line h = elim (chosen (bytes_eq part (codes "t")) (Some (Table [])) (cond (bytes_eq part (codes "d")) (Some (Delete [])) (cond (bytes_eq part (codes "n")) (Some (Toll (Narrows []))) (spelled Three part))) (Some line) h) [
   | inl a ↦ let e : Table [] ≡ line = cc in (bytes_eq-Decides part (codes "t")).0 a.0 ∙ ap line_text e
-  | inr a ↦ elim (chosen (bytes_eq part (codes "d")) (Some (Delete [])) (cond (bytes_eq part (codes "n")) (Some (Narrows [])) (spelled Three part)) (Some line) a.1) [
+  | inr a ↦ elim (chosen (bytes_eq part (codes "d")) (Some (Delete [])) (cond (bytes_eq part (codes "n")) (Some (Toll (Narrows []))) (spelled Three part)) (Some line) a.1) [
     | inl b ↦ let e : Delete [] ≡ line = cc in (bytes_eq-Decides part (codes "d")).0 b.0 ∙ ap line_text e
-    | inr b ↦ elim (chosen (bytes_eq part (codes "n")) (Some (Narrows [])) (spelled Three part) (Some line) b.1) [
-      | inl d ↦ let e : Narrows [] ≡ line = cc in (bytes_eq-Decides part (codes "n")).0 d.0 ∙ ap line_text e
+    | inr b ↦ elim (chosen (bytes_eq part (codes "n")) (Some (Toll (Narrows []))) (spelled Three part) (Some line) b.1) [
+      | inl d ↦ let e : Toll (Narrows []) ≡ line = cc in (bytes_eq-Decides part (codes "n")).0 d.0 ∙ ap line_text e
       | inr d ↦ (form_read Three part line d.1).0
     ]
   ]

@@ -8,11 +8,12 @@ use Rattle.hw_lines.specs.Lemmas.{lemmas_of}
 use Rattle.hw_lines.specs.Valid.{LineFits, Valid, verdict}
 use Rattle.hw_lines.specs.Lines.{is_closed, last_table}
 use Rattle.hw_lines.specs.Tolled.{bound_of}
-use Rattle.hw_resume.specs.Courses.{HandsToCourse, IsSearched, CourseStands, TellsOf}
+use Rattle.hw_course.specs.Courses.{HandsToCourse, CourseStands}
+use Rattle.hw_resume.specs.Searched.{IsSearched, TellsOf}
 use Rattle.hw_resume.specs.Going.{Resumes}
-use Rattle.hw_resume.specs.declared.going_on.Course.{Course}
+use Rattle.hw_course.specs.declared.going_on.Course.{Course}
 use Rattle.hw_resume.specs.declared.resumed.Resumed.{Resumed}
-use Rattle.hw_resume.proofs.Handed.{whole_course}
+use Rattle.hw_course.proofs.Handed.{whole_course}
 
 -- ---- the search
 

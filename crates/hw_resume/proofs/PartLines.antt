@@ -6,22 +6,23 @@ use Rattle.hw_model.specs.Rooms.{RoomModel}
 use Rattle.hw_lines.specs.declared.line.Line.{Line}
 use Rattle.hw_lines.specs.Lemmas.{lemmas_of}
 use Rattle.hw_lines.specs.Valid.{LineFits, Valid}
-use Rattle.hw_resume.specs.Closing.{closes_room}
-use Rattle.hw_resume.specs.Courses.{CourseStands, HandsAllToCourse, HandsToCourse, IsSearched}
-use Rattle.hw_resume.specs.Going.{LinesGoOn}
-use Rattle.hw_resume.specs.Narrowings.{AreClosing}
+use Rattle.hw_parts.specs.Closing.{closes_room}
+use Rattle.hw_course.specs.Courses.{CourseStands, HandsAllToCourse, HandsToCourse}
+use Rattle.hw_resume.specs.Searched.{IsSearched}
+use Rattle.hw_course.specs.Going.{LinesGoOn}
+use Rattle.hw_parts.specs.Narrowings.{AreClosing}
 use Rattle.hw_resume.specs.Parts.{AddsClosing, ClosesCourse, PartGoesOn}
-use Rattle.hw_resume.specs.declared.going_on.Course.{Course}
+use Rattle.hw_course.specs.declared.going_on.Course.{Course}
 use Rattle.hw_resume.specs.declared.resumed.Parted.{Parted}
-use Rattle.hw_resume.specs.declared.resumed.ResumeStop.{ResumeStop}
-use Rattle.hw_resume.proofs.Handed.{lemmas_on, whole_course}
+use Rattle.hw_course.specs.declared.stop.CourseStop.{CourseStop}
+use Rattle.hw_course.proofs.Handed.{lemmas_on, whole_course}
 
 -- ---- closing
 
 pub nothing_added : {course : Course} → CourseStands course.flat.now course → AddsClosing course course
 nothing_added {course = course} h = record { more = []; adds = record { stands = h; parts = sym (append-nil course.lines.items) }; few = omega arith }
 
-pub closing_added : {f : Problem} {course : Course} {lines : List Line} (result : Result Course ResumeStop) → AreClosing f lines → HandsAllToCourse course lines result → ClosesCourse course result
+pub closing_added : {f : Problem} {course : Course} {lines : List Line} (result : Result Course CourseStop) → AreClosing f lines → HandsAllToCourse course lines result → ClosesCourse course result
 closing_added (Ok after) few k = record { more = k.more; adds = k.adds; few = omega (arith, k.lemmas, few.few) }
 closing_added (Err stop) few k = k
 

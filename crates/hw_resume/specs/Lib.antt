@@ -1,9 +1,3 @@
-pub mod Raising
 pub mod Going
-pub mod Courses
-pub mod Closing
-pub mod Narrowings
+pub mod Searched
 pub mod Parts
-pub mod Numbering
-pub mod Climbs
-pub mod Joining

@@ -28,5 +28,5 @@ pub use confined::Confined;
 pub use joining::join;
 pub use parting::part;
 pub use reminder::Reminder;
-pub use resumed::{Joined, Parted, ResumeStop, Resumed};
+pub use resumed::{Joined, Parted, CourseStop, Resumed};
 pub use resuming::resume;

@@ -3,7 +3,7 @@
 ghost use Rattle.std.specs.Prelude.{◌≡◌, ◌≤◌, All};
 ghost use Rattle.hw_lines.specs.Valid.{LineFits, Valid};
 ghost use Rattle.hw_model.specs.Rooms.{RoomFits};
-ghost use Rattle.hw_resume.specs.Courses.{CourseStands};
+ghost use Rattle.hw_course.specs.Courses.{CourseStands};
 ghost use Rattle.hw_resume.specs.Parts.{ClosesCourse, PartMeets};
 
 use crate::closed::closing_number;
@@ -13,7 +13,7 @@ use crate::going_on::{Course, begun, last_table};
 use crate::handing::hand_all;
 use crate::raising::IN_PLACE;
 use crate::reminder::Reminder;
-use crate::resumed::{Parted, ResumeStop};
+use crate::resumed::{Parted, CourseStop};
 use crate::resuming::{counted, search};
 use hw_advice::Adviser;
 use hw_flat::{Flat, Room};
@@ -31,7 +31,7 @@ pub fn part<A: Adviser + Drop>(
     room: &Room,
     budget: u32,
     adviser: A,
-) -> Result<Parted, ResumeStop>
+) -> Result<Parted, CourseStop>
     requires fit { All (LineFits flat.now) start.items }
     requires valid { Valid flat.now start.items }
     requires room { RoomFits flat.now room.now }
@@ -54,7 +54,7 @@ pub fn part<A: Adviser + Drop>(
     let course = close(alloc, course, room)?;
     let is_closed = closing_number(flat, &course.lines, room).is_some();
     if !is_closed && !is_spent {
-        return Err(ResumeStop::NoMemory);
+        return Err(CourseStop::NoMemory);
     }
     Ok(Parted {
         lines: course.lines,
@@ -63,7 +63,7 @@ pub fn part<A: Adviser + Drop>(
 }
 
 /// Takes the lines that close the room without a decision, if there are some.
-fn close<'f>(alloc: Global, course: Course<'f>, room: &Room) -> Result<Course<'f>, ResumeStop>
+fn close<'f>(alloc: Global, course: Course<'f>, room: &Room) -> Result<Course<'f>, CourseStop>
     requires stands { CourseStands course.flat.now course }
     requires room { RoomFits course.flat.now room.now }
     ensures { ClosesCourse course.entry result }

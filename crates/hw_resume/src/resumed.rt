@@ -1,7 +1,7 @@
 //! What comes of a search that goes on from a start.
 
 ghost use Rattle.std.specs.Prelude.{◌≡◌};
-ghost use Rattle.hw_resume.specs.declared.resumed.ResumeStop.TheVariants.{NoMemory};
+ghost use Rattle.hw_course.specs.declared.stop.CourseStop.TheVariants.{NoMemory};
 
 use hw_flat::Timetable;
 use hw_lines::{Line, Refusal, Verdict};
@@ -42,25 +42,25 @@ pub struct Joined {
 
 /// Why a search that goes on from a start has no answer.
 #[derive(Clone, Copy)]
-pub enum ResumeStop {
+pub enum CourseStop {
     /// The checker refused a line of the search, which would have had this number in the certificate,
     /// counted from 1 with the header.
     Refused { number: u64, refusal: Refusal },
     NoMemory,
 }
 
-impl<T: Drop> From<AllocFailed<T>> for ResumeStop {
+impl<T: Drop> From<AllocFailed<T>> for CourseStop {
     ghost from_gives = { λ _ e. e ≡ NoMemory };
 
-    fn from(_e: AllocFailed<T>) -> ResumeStop {
-        ResumeStop::NoMemory
+    fn from(_e: AllocFailed<T>) -> CourseStop {
+        CourseStop::NoMemory
     }
 }
 
-impl From<hw_model::NoMemory> for ResumeStop {
+impl From<hw_model::NoMemory> for CourseStop {
     ghost from_gives = { λ _ e. e ≡ NoMemory };
 
-    fn from(_e: hw_model::NoMemory) -> ResumeStop {
-        ResumeStop::NoMemory
+    fn from(_e: hw_model::NoMemory) -> CourseStop {
+        CourseStop::NoMemory
     }
 }

@@ -3,14 +3,14 @@
 ghost use Rattle.std.specs.Prelude.{◌≡◌, ◌≤◌, All, length};
 ghost use Rattle.hw_lines.specs.Lemmas.{lemmas_of};
 ghost use Rattle.hw_lines.specs.Valid.{LineFits, Valid};
-ghost use Rattle.hw_resume.specs.Courses.{IsSearched};
+ghost use Rattle.hw_resume.specs.Searched.{IsSearched};
 ghost use Rattle.hw_resume.specs.Going.{ResumeMeets};
 
 use crate::going_on::{begun, last_table};
 use crate::handing::hand_all;
 use crate::raising::Raise;
 use crate::reminder::Reminder;
-use crate::resumed::{ResumeStop, Resumed};
+use crate::resumed::{CourseStop, Resumed};
 use hw_advice::Adviser;
 use hw_cert::MemoryLog;
 use hw_flat::{Flat, Timetable};
@@ -28,7 +28,7 @@ pub fn resume<A: Adviser + Drop>(
     start: Vec<Line>,
     budget: u32,
     adviser: A,
-) -> Result<Resumed, ResumeStop>
+) -> Result<Resumed, CourseStop>
     requires fit { All (LineFits flat.now) start.items }
     requires valid { Valid flat.now start.items }
     requires least { 1 ≤ budget }

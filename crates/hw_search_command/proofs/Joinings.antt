@@ -33,11 +33,11 @@ use Rattle.hw_command.proofs.Endings.{all_sent, cut_off, nothing_sent, sent_more
 use Rattle.hw_command.proofs.SentWorks.{broken_works, made, sent_works}
 use Rattle.hw_command.proofs.Stops.{stops_carries}
 use Rattle.hw_split.specs.declared.node.Node.{Node}
-use Rattle.hw_resume.specs.Courses.{CourseStopsFor}
-use Rattle.hw_resume.specs.Joining.{Joins}
-use Rattle.hw_resume.specs.declared.resumed.Joined.{Joined}
-use Rattle.hw_resume.specs.declared.resumed.ResumeStop.{ResumeStop}
-use Rattle.hw_resume.specs.declared.resumed.ResumeStop.TheVariants as stops
+use Rattle.hw_course.specs.Courses.{CourseStopsFor}
+use Rattle.hw_join.specs.Joining.{Joins}
+use Rattle.hw_join.specs.declared.joined.Joined.{Joined}
+use Rattle.hw_course.specs.declared.stop.CourseStop.{CourseStop}
+use Rattle.hw_course.specs.declared.stop.CourseStop.TheVariants as stops
 use Rattle.hw_subject.specs.Meanings.{judged, repair_ships}
 use Rattle.hw_repair.specs.Wishes.{PlanParts}
 use Rattle.hw_subject.specs.Reading.{ReadsSubject, StopsAtSubject, naming_of, plan_in, searched_in}
@@ -156,12 +156,12 @@ unread_meets topic {proof = proof} {w = w} names stopped h k m ends = record {
 
 -- ---- a joined line isn't taken
 
-unjoined_works : (topic : Topic) {split certs proof : List ℕ} (names : Naming) {x y z w : DeskState} {given : Given} {nodes : List Node} {f : Problem} {taken : Vec (Vec Line Global) Global} (stop : ResumeStop) → ReadsSubject (topic_subject topic) x y given → ReadsSplit (searched_in given.flat given.repair) split y z nodes → ReadsCerts f certs z w (Ok taken)
+unjoined_works : (topic : Topic) {split certs proof : List ℕ} (names : Naming) {x y z w : DeskState} {given : Given} {nodes : List Node} {f : Problem} {taken : Vec (Vec Line Global) Global} (stop : CourseStop) → ReadsSubject (topic_subject topic) x y given → ReadsSplit (searched_in given.flat given.repair) split y z nodes → ReadsCerts f certs z w (Ok taken)
     → Works (before (topic_subject topic) split ++ named_feed feeds.Certificate certs ∷ []) (JoinGives (topic_subject topic) split x.held) (Some proof) x w (report_of_check names None None (stop_outcome stop))
 unjoined_works topic {split = split} {certs = certs} {proof = proof} names (stops.Refused number cause) h k m = refuses (Some proof) (before (topic_subject topic) split) (named_feed feeds.Certificate certs) [] _ (sym (append-nil _)) refl (all_entered topic h k m) (give_all topic h k) (m.answer.0 ∙ (k.read_faults ∙ h.read_faults))
 unjoined_works topic {split = split} {certs = certs} {proof = proof} names stops.NoMemory h k m = wants_memory (Some proof) (before (topic_subject topic) split ++ named_feed feeds.Certificate certs ∷ []) [] (sym (append-nil _)) (all_entered topic h k m) (give_all topic h k) (m.answer.0 ∙ (k.read_faults ∙ h.read_faults))
 
-unjoined_says : (topic : Topic) {split certs : List ℕ} (proof : List ℕ) (names : Naming) {x y z w : DeskState} {given : Given} {nodes : List Node} (stop : ResumeStop) → (h : ReadsSubject (topic_subject topic) x y given) → ReadsSplit (searched_in given.flat given.repair) split y z nodes → CourseStopsFor (judged (topic_subject topic) h.value) [] stop → is_common (report_of_check names None None (stop_outcome stop)) ≡ false → JoinSays (topic_subject topic) split certs proof x w (report_of_check names None None (stop_outcome stop) ∷ [])
+unjoined_says : (topic : Topic) {split certs : List ℕ} (proof : List ℕ) (names : Naming) {x y z w : DeskState} {given : Given} {nodes : List Node} (stop : CourseStop) → (h : ReadsSubject (topic_subject topic) x y given) → ReadsSplit (searched_in given.flat given.repair) split y z nodes → CourseStopsFor (judged (topic_subject topic) h.value) [] stop → is_common (report_of_check names None None (stop_outcome stop)) ≡ false → JoinSays (topic_subject topic) split certs proof x w (report_of_check names None None (stop_outcome stop) ∷ [])
 unjoined_says topic proof names (stops.Refused number cause) h k fails own = record { gives = gives_split h k; refused = inr (cause, fails, refl, refl) }
 unjoined_says topic proof names stops.NoMemory h k fails own = absurd (cc)
 

@@ -45,14 +45,14 @@ use Rattle.hw_split.specs.Rooms.{HasRoom, OpenInTurn}
 use Rattle.hw_split.specs.Splits.{Branch, IsSplit, branch_room, part_at, split_parts}
 use Rattle.hw_split.proofs.Covering.{part_rooms, parts_open}
 use Rattle.hw_split.specs.declared.node.Node.{Node}
-use Rattle.hw_resume.specs.Courses.{CourseStopsFor}
-use Rattle.hw_resume.specs.Closing.{closes_room}
-use Rattle.hw_resume.specs.Joining.{closes_branch}
+use Rattle.hw_course.specs.Courses.{CourseStopsFor}
+use Rattle.hw_parts.specs.Closing.{closes_room}
+use Rattle.hw_join.specs.Joining.{closes_branch}
 use Rattle.hw_resume.specs.Parts.{PartGoesOn}
 use Rattle.hw_resume.specs.declared.resumed.Parted.{Parted}
-use Rattle.hw_resume.specs.declared.resumed.ResumeStop.{ResumeStop}
-use Rattle.hw_resume.specs.declared.resumed.ResumeStop.TheVariants as stops
-use Rattle.hw_resume.proofs.Falsified.{room_closed}
+use Rattle.hw_course.specs.declared.stop.CourseStop.{CourseStop}
+use Rattle.hw_course.specs.declared.stop.CourseStop.TheVariants as stops
+use Rattle.hw_parts.proofs.Falsified.{room_closed}
 use Rattle.hw_subject.specs.Meanings.{judged}
 use Rattle.hw_subject.specs.Reading.{ReadsSubject, StopsAtSubject, naming_of, searched_in}
 use Rattle.hw_subject.specs.Subjects.{Subject, Topic, topic_subject}
@@ -264,14 +264,14 @@ unstarted_meets topic {proof = proof} {w = w} names stopped h k p m ends = recor
 }
 
 -- a line that the search added is refused, or memory ran out
-unanswered_says : (topic : Topic) {split start : List ℕ} {number budget : ℕ} (proof : List ℕ) (names : Naming) {x y z w : DeskState} {given : Given} {nodes : List Node} {room : RoomModel} (stop : ResumeStop) → (h : ReadsSubject (topic_subject topic) x y given) → ReadsSplit (searched_in given.flat given.repair) split y z nodes → IsPartRoom (searched_in given.flat given.repair) nodes number room → (m : StartsOn (judged (topic_subject topic) h.value) start z w) → CourseStopsFor (judged (topic_subject topic) h.value) m.read.kept.items stop
+unanswered_says : (topic : Topic) {split start : List ℕ} {number budget : ℕ} (proof : List ℕ) (names : Naming) {x y z w : DeskState} {given : Given} {nodes : List Node} {room : RoomModel} (stop : CourseStop) → (h : ReadsSubject (topic_subject topic) x y given) → ReadsSplit (searched_in given.flat given.repair) split y z nodes → IsPartRoom (searched_in given.flat given.repair) nodes number room → (m : StartsOn (judged (topic_subject topic) h.value) start z w) → CourseStopsFor (judged (topic_subject topic) h.value) m.read.kept.items stop
     → is_common (report_of_check names None None (stop_outcome stop)) ≡ false → PartSays (topic_subject topic) split number start budget proof x w (Some (report_of_check names None None (stop_outcome stop)))
 unanswered_says topic proof names (stops.Refused number cause) h k p m stopped own =
     let s = topic_subject topic in
     inr (record { start = starts topic h k p m; cause = cause; fails = subst (λ (ls : List Line). CourseStopsFor (judged s h.value) ls (stops.Refused number cause)) (kept_lines m) stopped; word_of = refl; hint_of = refl })
 unanswered_says topic proof names stops.NoMemory h k p m stopped own = absurd (cc)
 
-unanswered_works : (topic : Topic) {split start proof : List ℕ} {number : ℕ} (names : Naming) {x y z w : DeskState} {given : Given} {nodes : List Node} {room : RoomModel} {f : Problem} (stop : ResumeStop) → ReadsSubject (topic_subject topic) x y given → ReadsSplit (searched_in given.flat given.repair) split y z nodes → IsPartRoom (searched_in given.flat given.repair) nodes number room → StartsOn f start z w
+unanswered_works : (topic : Topic) {split start proof : List ℕ} {number : ℕ} (names : Naming) {x y z w : DeskState} {given : Given} {nodes : List Node} {room : RoomModel} {f : Problem} (stop : CourseStop) → ReadsSubject (topic_subject topic) x y given → ReadsSplit (searched_in given.flat given.repair) split y z nodes → IsPartRoom (searched_in given.flat given.repair) nodes number room → StartsOn f start z w
     → Works (before (topic_subject topic) split ++ named_feed feeds.Certificate start ∷ []) (PartGives (topic_subject topic) split number x.held) (Some proof) x w (report_of_check names None None (stop_outcome stop))
 unanswered_works topic {split = split} {start = start} {proof = proof} names (stops.Refused number cause) h k p m =
     let s = topic_subject topic in

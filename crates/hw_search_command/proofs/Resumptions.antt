@@ -38,8 +38,8 @@ use Rattle.hw_command.proofs.SentWorks.{broken_works, made, sent_works}
 use Rattle.hw_command.proofs.Stops.{stops_carries}
 use Rattle.hw_resume.specs.Going.{Resumes, ResumingStopsFor}
 use Rattle.hw_resume.specs.declared.resumed.Resumed.{Resumed}
-use Rattle.hw_resume.specs.declared.resumed.ResumeStop.{ResumeStop}
-use Rattle.hw_resume.specs.declared.resumed.ResumeStop.TheVariants as stops
+use Rattle.hw_course.specs.declared.stop.CourseStop.{CourseStop}
+use Rattle.hw_course.specs.declared.stop.CourseStop.TheVariants as stops
 use Rattle.hw_subject.specs.Meanings.{HeadSays, judged, repaired_problem}
 use Rattle.hw_subject.specs.Reading.{ReadsSubject, StopsAtSubject, naming_of, plan_in, searched_in}
 use Rattle.hw_subject.specs.Subjects.{Subject, Topic, topic_subject}
@@ -129,13 +129,13 @@ unstarted_works topic names {cert = cert} {proof = proof} {x = x} {z = z} result
     (cert_works names None None (Some proof) result h.entered h.read_faults (certless topic).unread (before_last (s.Gives x.held) s.inputs (named_feed Certificate cert) h.give) m)
 
 -- a line that the search added is refused, or memory ran out
-unanswered_says : (topic : Topic) (proof : List ℕ) (budget : ℕ) (names : Naming) {cert : List ℕ} {x y z : DeskState} {given : Given} (stop : ResumeStop) → (h : ReadsSubject (topic_subject topic) x y given) → (k : StartsOn (judged (topic_subject topic) h.value) cert y z) → ResumingStopsFor (judged (topic_subject topic) h.value) k.read.kept.items stop → is_common (report_of_check names None None (stop_outcome stop)) ≡ false → ResumeSays (topic_subject topic) cert budget proof x z (Some (report_of_check names None None (stop_outcome stop)))
+unanswered_says : (topic : Topic) (proof : List ℕ) (budget : ℕ) (names : Naming) {cert : List ℕ} {x y z : DeskState} {given : Given} (stop : CourseStop) → (h : ReadsSubject (topic_subject topic) x y given) → (k : StartsOn (judged (topic_subject topic) h.value) cert y z) → ResumingStopsFor (judged (topic_subject topic) h.value) k.read.kept.items stop → is_common (report_of_check names None None (stop_outcome stop)) ≡ false → ResumeSays (topic_subject topic) cert budget proof x z (Some (report_of_check names None None (stop_outcome stop)))
 unanswered_says topic proof budget names (stops.Refused number cause) h k m own =
     let s = topic_subject topic in
     inr (record { start = starts topic h k; cause = cause; refused = subst (λ (ls : List Line). ResumingStopsFor (judged s h.value) ls (stops.Refused number cause)) (kept_lines k) m; word_of = refl; hint_of = refl })
 unanswered_says topic proof budget names stops.NoMemory h k m own = absurd (cc)
 
-unanswered_works : (topic : Topic) (names : Naming) {cert proof : List ℕ} {x y z : DeskState} {given : Given} {f : Problem} (stop : ResumeStop) → ReadsSubject (topic_subject topic) x y given → StartsOn f cert y z → Works ((topic_subject topic).inputs ++ named_feed Certificate cert ∷ []) ((topic_subject topic).Gives x.held) (Some proof) x z (report_of_check names None None (stop_outcome stop))
+unanswered_works : (topic : Topic) (names : Naming) {cert proof : List ℕ} {x y z : DeskState} {given : Given} {f : Problem} (stop : CourseStop) → ReadsSubject (topic_subject topic) x y given → StartsOn f cert y z → Works ((topic_subject topic).inputs ++ named_feed Certificate cert ∷ []) ((topic_subject topic).Gives x.held) (Some proof) x z (report_of_check names None None (stop_outcome stop))
 unanswered_works topic names {cert = cert} {proof = proof} {x = x} (stops.Refused number cause) h k =
     let s = topic_subject topic in
     refuses (Some proof) s.inputs (named_feed Certificate cert) [] _ (sym (append-nil _)) refl (all_entered topic h k.reads) (before_last (s.Gives x.held) s.inputs (named_feed Certificate cert) h.give) (k.reads.reads.0 ∙ h.read_faults)

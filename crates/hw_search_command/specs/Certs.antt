@@ -19,10 +19,10 @@ use Rattle.hw_command.specs.declared.outcome.CertOutcome.{CertOutcome}
 use Rattle.hw_command.specs.declared.outcome.CertOutcome.TheVariants.{Shows, Wrong, TooLong}
 use Rattle.hw_command.specs.declared.outcome.CertStop.{CertStop}
 use Rattle.hw_command.specs.declared.outcome.CertStop.TheVariants.{Fault, NoMemory}
-use Rattle.hw_resume.specs.Courses.{CourseStopsFor}
-use Rattle.hw_resume.specs.Joining.{FitEach, Joins}
-use Rattle.hw_resume.specs.declared.resumed.Joined.{Joined}
-use Rattle.hw_resume.specs.declared.resumed.ResumeStop.{ResumeStop}
+use Rattle.hw_course.specs.Courses.{CourseStopsFor}
+use Rattle.hw_join.specs.Joining.{FitEach, Joins}
+use Rattle.hw_join.specs.declared.joined.Joined.{Joined}
+use Rattle.hw_course.specs.declared.stop.CourseStop.{CourseStop}
 use Rattle.hw_split.specs.declared.node.Node.{Node}
 use Rattle.hw_search_command.specs.Resuming.{stop_outcome}
 use Rattle.hw_search_command.specs.declared.joining.JoinEnd.{JoinEnd}
@@ -114,7 +114,7 @@ pub record Unread (f : Problem) (certs : List ℕ) (old new : DeskState) (stoppe
 pub record Unjoined (f : Problem) (certs : List ℕ) (old new : DeskState) (stopped : Result CertOutcome CertStop) : Type 0 where
   pub taken : Vec (Vec Line Global) Global
   pub reads : ReadsCerts f certs old new (Ok taken)
-  pub stop : ResumeStop
+  pub stop : CourseStop
   pub cause : CourseStopsFor f [] stop
   pub told : stopped ≡ stop_outcome stop
 

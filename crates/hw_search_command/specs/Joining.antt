@@ -19,9 +19,9 @@ use Rattle.hw_command.specs.Sending.{IsCutOf}
 use Rattle.hw_command.specs.Values.{IsLong}
 use Rattle.hw_command.specs.declared.outcome.CertOutcome.{CertOutcome}
 use Rattle.hw_command.specs.declared.outcome.CertOutcome.TheVariants.{TooLong, Wrong}
-use Rattle.hw_resume.specs.Going.{LineFails}
-use Rattle.hw_resume.specs.Joining.{Joins}
-use Rattle.hw_resume.specs.declared.resumed.Joined.{Joined}
+use Rattle.hw_course.specs.Going.{LineFails}
+use Rattle.hw_join.specs.Joining.{Joins}
+use Rattle.hw_join.specs.declared.joined.Joined.{Joined}
 use Rattle.hw_split.specs.declared.node.Node.{Node}
 use Rattle.hw_subject.specs.Meanings.{IsBoundOf, VerdictSays, judged, own_worth, repair_ships}
 use Rattle.hw_subject.specs.Subjects.{Subject}

@@ -21,8 +21,8 @@ use Rattle.hw_command.specs.Sending.{IsCutOf}
 use Rattle.hw_command.specs.Values.{IsLong}
 use Rattle.hw_command.specs.declared.outcome.CertOutcome.TheVariants.{Wrong, TooLong}
 use Rattle.hw_command.specs.declared.outcome.CertOutcome.{CertOutcome}
-use Rattle.hw_resume.specs.Going.{LineFails, LinesGoOn}
-use Rattle.hw_resume.specs.Joining.{closes_branch}
+use Rattle.hw_course.specs.Going.{LineFails, LinesGoOn}
+use Rattle.hw_join.specs.Joining.{closes_branch}
 use Rattle.hw_split.specs.declared.node.Node.{Node}
 use Rattle.hw_split.specs.Splits.{Branch, branch_holds, part_at}
 use Rattle.hw_subject.specs.Meanings.{judged}

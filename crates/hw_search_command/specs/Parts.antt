@@ -10,10 +10,10 @@ use Rattle.hw_report.specs.Reports.{Report, bad_text, no_memory}
 use Rattle.hw_command.specs.Sending.{SendsTo}
 use Rattle.hw_command.specs.declared.outcome.CertOutcome.{CertOutcome}
 use Rattle.hw_command.specs.declared.outcome.CertStop.{CertStop}
-use Rattle.hw_resume.specs.Courses.{CourseStopsFor}
+use Rattle.hw_course.specs.Courses.{CourseStopsFor}
 use Rattle.hw_resume.specs.Parts.{PartGoesOn}
 use Rattle.hw_resume.specs.declared.resumed.Parted.{Parted}
-use Rattle.hw_resume.specs.declared.resumed.ResumeStop.{ResumeStop}
+use Rattle.hw_course.specs.declared.stop.CourseStop.{CourseStop}
 use Rattle.hw_split.specs.declared.node.Node.{Node}
 use Rattle.hw_split.specs.Rooms.{HasRoom}
 use Rattle.hw_split.specs.Splits.{Branch, branch_room, part_at}
@@ -43,7 +43,7 @@ NoPartRoom nodes number r = (r ≡ no_memory) ⊎ LacksRoom nodes number r
 -- the search that went on from the certificate has no answer
 pub record PartUnanswered (f : Problem) (start : List ℕ) (old new : DeskState) (stopped : Result CertOutcome CertStop) : Type 0 where
   pub starts : StartsOn f start old new
-  pub stop : ResumeStop
+  pub stop : CourseStop
   pub cause : CourseStopsFor f starts.read.kept.items stop
   pub told : stopped ≡ stop_outcome stop
 

@@ -24,7 +24,8 @@ use Rattle.hw_command.specs.Scope.{named_feed, MakesProof}
 use Rattle.hw_command.specs.Sending.{IsCutOf}
 use Rattle.hw_command.specs.declared.outcome.CertOutcome.TheVariants.{Wrong, TooLong}
 use Rattle.hw_repair.specs.Wishes.{PlanParts}
-use Rattle.hw_resume.specs.Going.{LinesGoOn, LineIsRefused}
+use Rattle.hw_course.specs.Going.{LinesGoOn}
+use Rattle.hw_resume.specs.Going.{LineIsRefused}
 use Rattle.hw_subject.specs.Meanings.{HeadSays, IsBoundOf, IsPrintedTable, judged, repaired_problem}
 use Rattle.hw_subject.specs.Shown.{Shown, Refused}
 use Rattle.hw_subject.specs.Subjects.{Subject}

@@ -20,8 +20,8 @@ use Rattle.hw_command.specs.declared.outcome.CertStop.{CertStop}
 use Rattle.hw_command.specs.declared.outcome.CertStop.TheVariants as stops
 use Rattle.hw_resume.specs.Going.{Resumes, ResumingStopsFor}
 use Rattle.hw_resume.specs.declared.resumed.Resumed.{Resumed}
-use Rattle.hw_resume.specs.declared.resumed.ResumeStop.{ResumeStop}
-use Rattle.hw_resume.specs.declared.resumed.ResumeStop.TheVariants as resume_stops
+use Rattle.hw_course.specs.declared.stop.CourseStop.{CourseStop}
+use Rattle.hw_course.specs.declared.stop.CourseStop.TheVariants as resume_stops
 use Rattle.hw_search_command.specs.declared.finding.Found.{Found}
 use Rattle.hw_search_command.specs.declared.resuming.Resumption.{Resumption}
 use Rattle.hw_search_command.specs.declared.resuming.Resumption.TheVariants as ends
@@ -39,7 +39,7 @@ abbrev pub resumed_found : ℕ → Resumed → Found
 resumed_found budget r = record { head = verdict_head budget r.is_spent r.verdict; table = r.table; bound = r.bound }
 
 -- why there is no answer, told as of a certificate
-abbrev pub stop_outcome : ResumeStop → Result CertOutcome CertStop
+abbrev pub stop_outcome : CourseStop → Result CertOutcome CertStop
 stop_outcome (resume_stops.Refused number cause) = Ok (Wrong number (Check cause.word) cause.hint)
 stop_outcome resume_stops.NoMemory = Err stops.NoMemory
 
@@ -72,7 +72,7 @@ pub record Unstarted (f : Problem) (cert : List ℕ) (old new : DeskState) (stop
 -- the search that went on from it has no answer
 pub record Unanswered (f : Problem) (cert : List ℕ) (old new : DeskState) (stopped : Result CertOutcome CertStop) : Type 0 where
   pub starts : StartsOn f cert old new
-  pub stop : ResumeStop
+  pub stop : CourseStop
   pub cause : ResumingStopsFor f starts.read.kept.items stop
   pub told : stopped ≡ stop_outcome stop
 

@@ -19,7 +19,7 @@ use hw_flat::Flat;
 use hw_prices::PricingAdviser;
 use hw_progress::MOST_BUDGET;
 use hw_report::{Head, RefusedWord};
-use hw_resume::{ResumeStop, Resumed, resume};
+use hw_resume::{CourseStop, Resumed, resume};
 use hw_subject::{Given, Subject, read_subject};
 use std::alloc::Global;
 
@@ -112,16 +112,16 @@ pub(crate) fn shows_nothing(outcome: CertOutcome) -> bool
 }
 
 /// Why there is no answer, told as of a certificate.
-pub(crate) fn stop_outcome(stop: ResumeStop) -> Result<CertOutcome, CertStop>
+pub(crate) fn stop_outcome(stop: CourseStop) -> Result<CertOutcome, CertStop>
     ensures { result ≡ stop_outcome stop }
 {
     match stop {
-        ResumeStop::Refused { number, refusal } => Ok(CertOutcome::Wrong {
+        CourseStop::Refused { number, refusal } => Ok(CertOutcome::Wrong {
             number,
             word: RefusedWord::Check(refusal.word),
             hint: refusal.hint,
         }),
-        ResumeStop::NoMemory => Err(CertStop::NoMemory),
+        CourseStop::NoMemory => Err(CertStop::NoMemory),
     }
 }
 

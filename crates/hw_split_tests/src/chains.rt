@@ -62,7 +62,9 @@ fn written(alloc: Global, split: &Split) -> Result<Option<Vec<u8>>, NoMemory> {
 
 #[test]
 fn the_deepest_split(rt: HostRuntime) -> Result<(), Fail> {
-    let flat = Flat::read(rt.alloc(), &problem_text(rt.alloc())?).ok().ok_or("flat")?;
+    let flat = Flat::read(rt.alloc(), &problem_text(rt.alloc())?)
+        .ok()
+        .ok_or("flat")?;
     let text = chain_text(rt.alloc())?;
     let split = read_split(rt.alloc(), &text, &flat).ok().ok_or("split")?;
     assert_eq!(rt; count_parts(&split), FORKS + 1);
@@ -72,7 +74,10 @@ fn the_deepest_split(rt: HostRuntime) -> Result<(), Fail> {
     assert_eq!(rt; deepest.len(), FORKS);
     let second = literals_of(rt.alloc(), &split, 2)?.ok_or("part 2")?;
     assert_eq!(rt; second.len(), FORKS);
-    assert_eq!(rt; second.as_slice().last().copied(), Some(Lit::AtOrAfter { ship: 39, slot: 1 }));
+    assert_eq!(rt;
+        second.as_slice().last().copied(),
+        Some(Lit::AtOrAfter { ship: 39, slot: 1 })
+    );
     let last = literals_of(rt.alloc(), &split, 20_481)?.ok_or("last part")?;
     assert!(rt; last.as_slice() == [Lit::AtOrAfter { ship: 0, slot: 512 }].as_slice());
     assert!(rt; literals_of(rt.alloc(), &split, 20_482)?.is_none());

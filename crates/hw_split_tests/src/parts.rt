@@ -33,7 +33,9 @@ const ROWS: [(u32, Option<&[Lit]>); 5] = [
 #[test]
 fn parts_of_a_split(rt: HostRuntime) -> Result<(), Fail> {
     let flat = Flat::read(rt.alloc(), TWO).ok().ok_or("flat")?;
-    let split = read_split(rt.alloc(), THREE_PARTS, &flat).ok().ok_or("split")?;
+    let split = read_split(rt.alloc(), THREE_PARTS, &flat)
+        .ok()
+        .ok_or("split")?;
     for (number, literals) in ROWS {
         let found = literals_of(rt.alloc(), &split, number)?;
         let same = match (&found, literals) {

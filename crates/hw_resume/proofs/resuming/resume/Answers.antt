@@ -1,5 +1,5 @@
 use Rattle.hw_resume.proofs.Answered.{nothing_open, went_on}
-use Rattle.hw_resume.proofs.Handed.{fit_as}
+use Rattle.hw_course.proofs.Handed.{fit_as}
 use Rattle.hw_resume.proofs.resuming.resume.Goals as goal
 
 pub returns-then-not-is_open : goal.returns-then-not-is_open

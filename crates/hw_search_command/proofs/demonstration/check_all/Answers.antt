@@ -1,5 +1,5 @@
 use Rattle.std.proofs.Common.{◌<◌, length, arith}
-use Rattle.hw_resume.proofs.Starting.{next_line, next_fits}
+use Rattle.hw_course.proofs.Starting.{next_line, next_fits}
 use Rattle.hw_search_command.proofs.Demonstrated.{can_take, next_plain, one_taken}
 use Rattle.hw_search_command.proofs.demonstration.check_all.Goals as goal
 

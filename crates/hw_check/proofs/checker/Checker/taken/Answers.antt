@@ -9,4 +9,4 @@ pub with_toll-requires-clause-toll : goal.with_toll-requires-clause-toll
 with_toll-requires-clause-toll c =
     let before = c.args.self in
     let valid : kept_refusal before.problem before.kept (lines.Toll c.in-Toll.toll) ≡ None = subst (λ line. kept_refusal before.problem before.kept line ≡ None) c.in-Toll.is c.requires.valid in
-    subst (IsToll before.problem) (sym c.in_ok-copied.ensures.value) (toll_declared before.problem before.kept c.in-Toll.toll valid).1
+    subst (IsToll before.problem) (sym c.in_ok-copied-in-Toll.ensures.value) (toll_declared before.problem before.kept c.in-Toll.toll valid).1

@@ -1,0 +1,4 @@
+mod Numbers
+pub mod Starting
+pub mod Handed
+pub mod Extended

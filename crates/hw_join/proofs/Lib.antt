@@ -1,0 +1,2 @@
+mod JoinLines
+mod Opened

@@ -1,0 +1,192 @@
+//! Certificates of one problem joined into one, by a split of the problem.
+//!
+//! Their lines are renumbered and handed, one after another, to the checker that has taken all lines
+//! before. Where they close each part, the lemmas of the split's forks follow, and the line without
+//! literals.
+
+ghost use Rattle.std.specs.Prelude.{All, IfSome};
+ghost use Rattle.hw_lines.specs.Valid.{LineFits};
+ghost use Rattle.hw_model.specs.Problem.{IsTimetable, shape_of};
+ghost use Rattle.hw_course.specs.Courses.{CourseStands};
+ghost use Rattle.hw_course.specs.Courses.{Extends};
+ghost use Rattle.hw_join.specs.Joining.{ExtendsJunction, FitEach, JoinMeets, TellsJoined};
+ghost use Rattle.hw_split.specs.Splits.{IsSplit};
+
+use crate::forks::fork_lemmas;
+use crate::joined::Joined;
+use crate::junction::{Junction, none_joined};
+use crate::parts::{Closing, closing_of};
+use hw_course::{Course, CourseStop, IN_PLACE, begun, copy_table, hand_all};
+use hw_flat::{Flat, Timetable};
+use hw_lines::{Hints, Line};
+use hw_lits::Clause;
+use hw_parts::count_clauses;
+use hw_rules::cargo;
+use hw_split::Split;
+use std::alloc::Global;
+
+/// Joins certificates of a problem that was split: the best of their timetables first, then the lines of
+/// each in order, without timetables that are no better, bounds that are no lower and tolls that were
+/// declared before. Where the lines close each part of the split, lines follow that close the problem.
+pub fn join(
+    alloc: Global,
+    flat: &Flat,
+    split: &Split,
+    certs: &[Vec<Line>],
+) -> Result<Joined, CourseStop>
+    requires fit { FitEach flat.now certs.now }
+    requires split { IsSplit (shape_of flat.now) split.now }
+    ensures { JoinMeets flat.now split.now result }
+{
+    let course = begun(alloc, flat, Vec::new(alloc))?;
+    let course = take_best(alloc, course, certs)?;
+    let course = take_all(alloc, course, certs)?;
+    match closing_of(alloc, flat, split, &course.lines)? {
+        Closing::Each(numbers) => {
+            let course = conclude(alloc, course, split, &numbers)?;
+            Ok(joined(course, None))
+        }
+        Closing::FirstOpen(number) => Ok(joined(course, Some(number))),
+    }
+}
+
+/// Takes the lemmas of a split's forks, by the numbers of the clauses that close its parts. Where nothing
+/// is open none is taken.
+fn conclude<'f>(
+    alloc: Global,
+    course: Course<'f>,
+    split: &Split,
+    numbers: &[u32],
+) -> Result<Course<'f>, CourseStop>
+    requires stands { CourseStands course.flat.now course }
+    ensures { Extends course.entry result }
+{
+    if !course.is_open() {
+        return Ok(course);
+    }
+    let clauses = count_clauses(&course.lines);
+    let lemmas = fork_lemmas(alloc, course.flat, split, numbers, clauses)?;
+    hand_all(alloc, course, IN_PLACE, &lemmas)
+}
+
+/// What the lines show.
+fn joined(course: Course<'_>, first_open: Option<u64>) -> Joined
+    requires stands { CourseStands course.flat.now course }
+    ensures { TellsJoined course.entry first_open result }
+{
+    let verdict = course.checker.verdict();
+    let bound = course.checker.bound();
+    Joined {
+        lines: course.lines,
+        verdict,
+        bound,
+        first_open,
+    }
+}
+
+/// Takes the best of all timetables, if there is one.
+fn take_best<'f>(
+    alloc: Global,
+    course: Course<'f>,
+    certs: &[Vec<Line>],
+) -> Result<Course<'f>, CourseStop>
+    requires stands { CourseStands course.flat.now course }
+    requires fit { FitEach course.flat.now certs.now }
+    ensures { Extends course.entry result }
+{
+    match best_of_all(course.flat, certs) {
+        Some(table) => {
+            let line = Line::Table(copy_table(alloc, table)?);
+            course.offer(line)
+        }
+        None => Ok(course),
+    }
+}
+
+/// The timetable of the greatest cargo, the first of several.
+fn best_of_all<'c>(flat: &Flat, certs: &'c [Vec<Line>]) -> Option<&'c Timetable>
+    requires fit { FitEach flat.now certs.now }
+    ensures { IfSome result (λ table. IsTimetable flat.now table.now) }
+{
+    let mut best = None;
+    for cert in certs {
+        best = best_of(flat, cert, best);
+    }
+    best
+}
+
+/// The same among the lines of a certificate and a timetable before them.
+fn best_of<'c>(
+    flat: &Flat,
+    lines: &'c [Line],
+    before: Option<&'c Timetable>,
+) -> Option<&'c Timetable>
+    requires fit { All (LineFits flat.now) lines.now }
+    requires before { IfSome before (λ table. IsTimetable flat.now table.now) }
+    ensures { IfSome result (λ table. IsTimetable flat.now table.now) }
+{
+    let mut best = before;
+    for line in lines {
+        best = better(flat, line, best);
+    }
+    best
+}
+
+/// The line's timetable where it carries more than another one, and else that.
+fn better<'c>(flat: &Flat, line: &'c Line, best: Option<&'c Timetable>) -> Option<&'c Timetable>
+    requires fits { LineFits flat.now line.now }
+    requires best { IfSome best (λ table. IsTimetable flat.now table.now) }
+    ensures { IfSome result (λ table. IsTimetable flat.now table.now) }
+{
+    match (line, best) {
+        (Line::Table(table), Some(other)) => {
+            if cargo(flat, other) < cargo(flat, table) {
+                Some(table)
+            } else {
+                Some(other)
+            }
+        }
+        (Line::Table(table), None) => Some(table),
+        _ => best,
+    }
+}
+
+/// Takes the lines of all certificates.
+fn take_all<'f>(
+    alloc: Global,
+    course: Course<'f>,
+    certs: &[Vec<Line>],
+) -> Result<Course<'f>, CourseStop>
+    requires stands { CourseStands course.flat.now course }
+    requires fit { FitEach course.flat.now certs.now }
+    ensures { Extends course.entry result }
+{
+    let mut junction = none_joined(alloc, course);
+    for cert in certs {
+        match take_cert(alloc, junction, cert) {
+            Ok(next) => junction = next,
+            Err(stop) => return Err(stop),
+        }
+    }
+    Ok(junction.course)
+}
+
+/// Takes the lines of a certificate.
+fn take_cert<'f>(
+    alloc: Global,
+    junction: Junction<'f>,
+    cert: &[Line],
+) -> Result<Junction<'f>, CourseStop>
+    requires stands { CourseStands junction.course.flat.now junction.course }
+    requires fit { All (LineFits junction.course.flat.now) cert.now }
+    ensures { ExtendsJunction junction.entry result }
+{
+    let mut junction = junction.turned(alloc);
+    for line in cert {
+        match junction.take(alloc, line) {
+            Ok(next) => junction = next,
+            Err(stop) => return Err(stop),
+        }
+    }
+    Ok(junction)
+}

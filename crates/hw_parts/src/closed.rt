@@ -1,0 +1,114 @@
+//! Whether lines show that nothing in a room beats the best.
+
+ghost use Rattle.std.specs.Prelude.{◌≡◌, All, IfSome, is_some, option_copied};
+ghost use Rattle.hw_lines.specs.Lines as lines;
+ghost use Rattle.hw_lines.specs.Valid.{LineFits};
+ghost use Rattle.hw_model.specs.Lits.{IsLitOf};
+ghost use Rattle.hw_model.specs.Narrowing.{truth};
+ghost use Rattle.hw_parts.specs.Closing.{ClosedRoom, are_false, closes_room, is_clause_false, is_false};
+
+use crate::deletions::is_deleted;
+use hw_flat::{Flat, Room};
+use hw_lines::Line;
+use hw_lits::{Clause, truth};
+use hw_model::{Lit, LitTruth};
+
+/// The clause of a line, if it is a clause line.
+pub(crate) fn clause_of(line: &Line) -> Option<&Clause>
+    ensures { option_copied result ≡ lines.clause_of line.now }
+{
+    match line {
+        Line::Explain { clause, .. }
+        | Line::Order { clause, .. }
+        | Line::Goal { clause }
+        | Line::Lemma { clause, .. }
+        | Line::Priced { clause } => Some(clause),
+        Line::Table(_)
+        | Line::Delete { .. }
+        | Line::Toll { .. }
+        | Line::Tariff { .. }
+        | Line::Bound { .. } => None,
+    }
+}
+
+/// Whether the room makes the literal false.
+fn is_false(lit: Lit, room: &Room) -> bool
+    requires fits { IsLitOf room.now.ships lit }
+    ensures { result ≡ is_false (truth room.now lit) }
+{
+    match truth(lit, room) {
+        LitTruth::False => true,
+        LitTruth::True | LitTruth::Free => false,
+    }
+}
+
+/// Whether the room makes each literal false.
+fn are_false(lits: &[Lit], room: &Room) -> bool
+    requires fit { All (IsLitOf room.now.ships) lits.now }
+    ensures { result ≡ are_false room.now lits.now }
+{
+    for lit in lits {
+        if !is_false(*lit, room) {
+            return false;
+        }
+    }
+    true
+}
+
+/// Whether the line's clause is true of nothing in the room.
+fn is_clause_false(line: &Line, room: &Room) -> bool
+    requires fit { IfSome (lines.clause_of line.now) (All (IsLitOf room.now.ships)) }
+    ensures { result ≡ is_clause_false room.now (lines.clause_of line.now) }
+{
+    match clause_of(line) {
+        Some(clause) => are_false(clause.as_slice(), room),
+        None => false,
+    }
+}
+
+/// The number of the last clause line, among lines of the problem, whose clause is true of nothing in
+/// the room; none where there is none. One that isn't marked as deleted goes before those that are.
+#[tactic(auto, using(crate::proofs::Falsified::line_lits))]
+pub fn closing_number(flat: &Flat, lines: &[Line], deleted: &[bool], room: &Room) -> Option<u32>
+    requires fit { All (LineFits flat.now) lines.now }
+    requires ships { room.now.ships ≡ flat.now.ships }
+    ensures { is_some result ≡ closes_room room.now lines.now }
+{
+    let _shape = flat.shape();
+    let mut number = 0u32;
+    let mut found = None;
+    for line in lines {
+        number = number.saturating_add(clause_lines(line));
+        if is_clause_false(line, room) {
+            found = Some(preferred(found, number, deleted));
+        }
+    }
+    found
+}
+
+/// The later of two numbers, unless that one alone is deleted.
+fn preferred(earlier: Option<u32>, later: u32, deleted: &[bool]) -> u32 {
+    match earlier {
+        Some(number) => {
+            if is_deleted(deleted, later) && !is_deleted(deleted, number) {
+                number
+            } else {
+                later
+            }
+        }
+        None => later,
+    }
+}
+
+/// How many clauses the line has: one, or none.
+pub(crate) fn clause_lines(line: &Line) -> u32 {
+    match clause_of(line) {
+        Some(_) => 1,
+        None => 0,
+    }
+}
+
+/// Where valid lines close a room, nothing permitted in it carries more than their best.
+pub fn closed_room()
+    ensures { ClosedRoom }
+{}

@@ -1,5 +1,0 @@
-use Rattle.hw_resume.specs.Narrowings.{IsUnderWay}
-use Rattle.hw_resume.proofs.closing.narrowed.Given as goal
-
-abbrev pub invariant-passes : goal.invariant-passes
-invariant-passes l = IsUnderWay l.ground.flat.now l.narrowing

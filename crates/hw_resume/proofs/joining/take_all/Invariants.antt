@@ -1,5 +1,0 @@
-use Rattle.hw_resume.specs.Joining.{ExtendsBy}
-use Rattle.hw_resume.proofs.joining.take_all.Given as goal
-
-abbrev pub invariant-loop-cert : goal.invariant-loop-cert
-invariant-loop-cert l = ExtendsBy l.fn.course l.junction.course

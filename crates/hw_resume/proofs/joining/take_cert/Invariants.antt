@@ -1,5 +1,0 @@
-use Rattle.hw_resume.specs.Joining.{ExtendsBy}
-use Rattle.hw_resume.proofs.joining.take_cert.Given as goal
-
-abbrev pub invariant-loop-line : goal.invariant-loop-line
-invariant-loop-line l = ExtendsBy l.fn.junction.course l.junction.course

@@ -1,6 +1,0 @@
-use Rattle.std.proofs.Common.{drop, length}
-use Rattle.hw_resume.proofs.Opened.{PartsAlong}
-use Rattle.hw_resume.proofs.parts.closing_of.Given as goal
-
-abbrev pub invariant-loop-node : goal.invariant-loop-node
-invariant-loop-node l = PartsAlong l.flat l.lines l.nodes (length l.numbers.items) l.walk (drop l.node-index l.nodes)
