@@ -94,18 +94,18 @@ impl Maker {
             return Ok(());
         }
         for number in 0..tries {
-            let by = if number % 2 == 0 { Some(earnings) } else { None };
+            let by = if number % 2 == 0 {
+                Some(earnings)
+            } else {
+                None
+            };
             self.place_anew(alloc, by)?;
         }
         Ok(())
     }
 
     /// Places a few ships of the timetable that is kept anew. Keeps that where it carries as much or more.
-    fn place_anew(
-        &mut self,
-        alloc: Global,
-        earnings: Option<&[Vec<i64>]>,
-    ) -> Result<(), NoMemory> {
+    fn place_anew(&mut self, alloc: Global, earnings: Option<&[Vec<i64>]>) -> Result<(), NoMemory> {
         self.take_up();
         let given = &self.given;
         let amounts = either(&given.gains, earnings);

@@ -178,7 +178,7 @@ fn candidates(alloc: Global, counts: &[Vec<u32>], room: &Room) -> Result<Vec<Can
     let mut out: Vec<Candidate> = Vec::new(alloc);
     for ship in 0..room.ships() {
         if let Some(slots) = counts.get(ship as usize) {
-            if let Some(candidate) = candidate(slots, ship, room.low(ship), room.high(ship)) {
+            if let Some(candidate) = fork_of(slots, ship, room.low(ship), room.high(ship)) {
                 put_candidate(&mut out, candidate)?;
             }
         }
@@ -203,7 +203,7 @@ fn put_candidate(out: &mut Vec<Candidate>, candidate: Candidate) -> Result<(), N
 }
 
 /// The fork of a ship's range: as nearly as may be, half of its choices are on each side.
-fn candidate(counts: &[u32], ship: ShipId, low: Slot, high: Slot) -> Option<Candidate> {
+fn fork_of(counts: &[u32], ship: ShipId, low: Slot, high: Slot) -> Option<Candidate> {
     let total = sum(counts, low, high.saturating_add(1));
     let mut most: u32 = 0;
     let mut before: u32 = 0;
