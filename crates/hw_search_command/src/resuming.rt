@@ -14,12 +14,13 @@ use crate::reporting::found_report;
 use crate::third::send_third;
 use hw_cert::{Verdict, Version};
 use hw_command::{CertOutcome, CertStop, ReadCert, Status, check_report, finish, read_cert};
+use hw_course::CourseStop;
 use hw_desk::Desk;
 use hw_flat::Flat;
 use hw_prices::PricingAdviser;
 use hw_progress::MOST_BUDGET;
 use hw_report::{Head, RefusedWord};
-use hw_resume::{CourseStop, Resumed, resume};
+use hw_resume::{Resumed, resume};
 use hw_subject::{Given, Subject, read_subject};
 use std::alloc::Global;
 
