@@ -22,14 +22,14 @@ use Rattle.hw_course.proofs.Handed.{lemmas_on, whole_course}
 pub nothing_added : {course : Course} → CourseStands course.flat.now course → AddsClosing course course
 nothing_added {course = course} h = record { more = []; adds = record { stands = h; parts = sym (append-nil course.lines.items) }; few = omega arith }
 
-pub closing_added : {f : Problem} {course : Course} {lines : List Line} (result : Result Course CourseStop) → AreClosing f lines → HandsAllToCourse course lines result → ClosesCourse course result
-closing_added (Ok after) few k = record { more = k.more; adds = k.adds; few = omega (arith, k.lemmas, few.few) }
-closing_added (Err stop) few k = k
+pub closing_added : (f : Problem) (course : Course) (lines : List Line) (result : Result Course CourseStop) → AreClosing f lines → HandsAllToCourse course lines result → ClosesCourse course result
+closing_added f course lines (Ok after) few k = record { more = k.more; adds = k.adds; few = omega (arith, k.lemmas, few.few) }
+closing_added f course lines (Err stop) few k = k
 
 -- ---- the lines of a course
 
 -- what holds of the lines of a course that goes on from a start
-pub goes_on_from : {f : Problem} {start all : List Line} {course : Course} (more : List Line) → CourseStands f course → all ≡ course.lines.items → course.lines.items ≡ start ++ more → LinesGoOn f start all
+abbrev pub goes_on_from : {f : Problem} {start all : List Line} {course : Course} (more : List Line) → CourseStands f course → all ≡ course.lines.items → course.lines.items ≡ start ++ more → LinesGoOn f start all
 goes_on_from {f = f} more h same parts =
     let whole = whole_course h in
     record {
@@ -41,10 +41,10 @@ goes_on_from {f = f} more h same parts =
 
 -- the start closes the part
 pub start_closes : {f : Problem} {budget : ℕ} {start : List Line} {room : RoomModel} {course : Course} {p : Parted} → CourseStands f course → course.lines.items ≡ start → p.lines.items ≡ course.lines.items → p.is_closed ≡ true → closes_room room course.lines.items ≡ true → PartGoesOn f budget start room p
-start_closes {start = start} {room = room} h same lines yes closes = record {
+start_closes {start = start} {room = room} h same lines is closes = record {
   goes_on = goes_on_from [] h lines (same ∙ sym (append-nil start));
   few = omega arith;
-  closed = yes ∙ sym closes ∙ ap (closes_room room) (sym lines);
+  closed = is ∙ sym closes ∙ ap (closes_room room) (sym lines);
   spent = λ e. absurd (cc);
 }
 

@@ -86,6 +86,7 @@ fn open_end(flat: &Flat, part: &Room, room: &Room, ship: ShipId) -> Option<Lit>
     ensures open { IfSome result (IsOpenIn flat.now room.now) }
 {
     let _shape = flat.shape();
+    let _ships = part.ships();
     let low = part.low(ship);
     if room.low(ship) < low && low <= room.high(ship) {
         return Some(Lit::AtOrAfter { ship, slot: low });

@@ -6,14 +6,12 @@ ghost use Rattle.hw_lines.specs.Valid.{LineFits, Valid};
 ghost use Rattle.hw_resume.specs.Searched.{IsSearched};
 ghost use Rattle.hw_resume.specs.Going.{ResumeMeets};
 
-use crate::going_on::{begun, last_table};
-use crate::handing::hand_all;
-use crate::raising::Raise;
 use crate::reminder::Reminder;
-use crate::resumed::{CourseStop, Resumed};
+use crate::resumed::{Resumed, told};
 use hw_advice::Adviser;
 use hw_cert::MemoryLog;
-use hw_flat::{Flat, Timetable};
+use hw_course::{CourseStop, Raise, begun, hand_all, last_table};
+use hw_flat::Flat;
 use hw_lines::Line;
 use hw_progress::MOST_BUDGET;
 use hw_proving::prove;
@@ -38,12 +36,12 @@ pub fn resume<A: Adviser + Drop>(
     let by = counted(&start);
     let course = begun(alloc, flat, start)?;
     if !course.is_open() {
-        return Ok(course.told(alloc, false)?);
+        return Ok(told(alloc, course, false)?);
     }
     let table = last_table(alloc, &course.lines)?;
     let (is_spent, found) = search(alloc, flat, budget, Reminder::new(table, adviser));
     let course = hand_all(alloc, course, by, &found)?;
-    Ok(course.told(alloc, is_spent)?)
+    Ok(told(alloc, course, is_spent)?)
 }
 
 /// Searches, and keeps the lines. Whether the budget is spent comes first.
