@@ -23,7 +23,8 @@ use Rattle.hw_command.specs.declared.outcome.CertOutcome.{CertOutcome}
 use Rattle.hw_command.specs.declared.outcome.CertOutcome.TheVariants.{Shows, Wrong, TooLong}
 use Rattle.hw_command.specs.declared.outcome.CertStop.{CertStop}
 use Rattle.hw_command.specs.declared.outcome.CertStop.TheVariants.{Fault, NoMemory}
-use Rattle.hw_search_command.specs.Certs.{AreCerts, CertAnswer, CertsAnswer, CertsComeTo, FitEach, IsCertOf, ReadsCerts, StopsIn, lines_in, most_certs, moved_on, moved_stop}
+use Rattle.hw_join.specs.Joining.{FitEach}
+use Rattle.hw_search_command.specs.Certs.{AreCerts, CertAnswer, CertsAnswer, CertsComeTo, IsCertOf, ReadsCerts, StopsIn, lines_in, most_certs, moved_on, moved_stop}
 use Rattle.hw_search_command.specs.Resuming.{shows_nothing}
 
 -- ---- one of them

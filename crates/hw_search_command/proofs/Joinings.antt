@@ -67,14 +67,14 @@ gives_on s split held feed h given = given
 abbrev gives_split : {s : Subject} {split : List ℕ} {x y z : DeskState} {given : Given} {nodes : List Node} → (h : ReadsSubject s x y given) → ReadsSplit (searched_in given.flat given.repair) split y z nodes → GivesSplit s split x.held
 gives_split {nodes = nodes} h k = record { value = h.value; reads = h.reads; nodes = nodes; is = split_of_judged h k }
 
-give_up_to : {split : List ℕ} {x y : DeskState} {given : Given} (topic : Topic) → ReadsSubject (topic_subject topic) x y given → GiveBefore (JoinGives (topic_subject topic) split x.held) (before (topic_subject topic) split)
-give_up_to {split = split} {x = x} topic h =
+give_up_to : (split : List ℕ) {x y : DeskState} {given : Given} (topic : Topic) → ReadsSubject (topic_subject topic) x y given → GiveBefore (JoinGives (topic_subject topic) split x.held) (before (topic_subject topic) split)
+give_up_to split {x = x} topic h =
     let s = topic_subject topic in
     let G = JoinGives s split x.held in
     before_last G s.inputs (named_feed feeds.Split split) (all_as (s.Gives x.held) G s.inputs (λ feed given. gives_on s split x.held feed (splitless topic) given) h.give)
 
-give_all : {split certs : List ℕ} {x y z : DeskState} {given : Given} {nodes : List Node} (topic : Topic) → ReadsSubject (topic_subject topic) x y given → ReadsSplit (searched_in given.flat given.repair) split y z nodes → GiveBefore (JoinGives (topic_subject topic) split x.held) (before (topic_subject topic) split ++ named_feed feeds.Certificate certs ∷ [])
-give_all {split = split} {certs = certs} {x = x} topic h k =
+give_all : (topic : Topic) (certs : List ℕ) {split : List ℕ} {x y z : DeskState} {given : Given} {nodes : List Node} → ReadsSubject (topic_subject topic) x y given → ReadsSplit (searched_in given.flat given.repair) split y z nodes → GiveBefore (JoinGives (topic_subject topic) split x.held) (before (topic_subject topic) split ++ named_feed feeds.Certificate certs ∷ [])
+give_all topic certs {split = split} {x = x} h k =
     let s = topic_subject topic in
     let G = JoinGives s split x.held in
     before_last G (before s split) (named_feed feeds.Certificate certs) (all_on G s.inputs (named_feed feeds.Split split) (all_as (s.Gives x.held) G s.inputs (λ feed given. gives_on s split x.held feed (splitless topic) given) h.give) (gives_split h k))
@@ -84,8 +84,8 @@ all_entered : (topic : Topic) {split certs : List ℕ} {x y z w : DeskState} {gi
 all_entered topic {split = split} h k m = entered_on (before (topic_subject topic) split) (both_entered topic h k) m.enters ((splitless topic).certless split)
 
 -- in the inputs of the task
-as_task : {s : Subject} {split certs proof : List ℕ} {Gives : Feed → Type 0} {x w : DeskState} {r : Report} → Works (before s split ++ named_feed feeds.Certificate certs ∷ []) Gives (Some proof) x w r → Works (s.inputs ++ (named_feed feeds.Split split ∷ named_feed feeds.Certificate certs ∷ [])) Gives (Some proof) x w r
-as_task {s = s} {split = split} {certs = certs} {proof = proof} {Gives = Gives} {x = x} {w = w} {r = r} works = subst (λ (inputs : List Named). Works inputs Gives (Some proof) x w r) (same_inputs s split certs) works
+as_task : (s : Subject) (split certs : List ℕ) {proof : List ℕ} {Gives : Feed → Type 0} {x w : DeskState} {r : Report} → Works (before s split ++ named_feed feeds.Certificate certs ∷ []) Gives (Some proof) x w r → Works (s.inputs ++ (named_feed feeds.Split split ∷ named_feed feeds.Certificate certs ∷ [])) Gives (Some proof) x w r
+as_task s split certs {proof = proof} {Gives = Gives} {x = x} {w = w} {r = r} works = subst (λ (inputs : List Named). Works inputs Gives (Some proof) x w r) (same_inputs s split certs) works
 
 -- what comes of what was read is what comes of the judged problem
 of_judged : (s : Subject) (certs proof : List ℕ) (z w : DeskState) (nodes : List Node) (end : JoinEnd) {x y : DeskState} {given : Given} → (h : ReadsSubject s x y given) → JoinsTo (searched_in given.flat given.repair) nodes certs proof z w end → JoinsTo (judged s h.value) nodes certs proof z w end
@@ -113,7 +113,7 @@ split_refused topic split certs proof {x = x} {y = y} {z = z} {r = r} h k ends =
     let G = JoinGives s split x.held in
     let Why = λ (r : Report). JoinSays s split certs proof x z (r ∷ []) in
     stops_carries (join_task s split certs proof) (named_feed feeds.Certificate certs ∷ [])
-    (split_stops {Gives = G} Why h.entered h.read_faults (splitless topic).unread (give_up_to topic h)
+    (split_stops {Gives = G} Why h.entered h.read_faults (splitless topic).unread (give_up_to split topic h)
     (λ long. record { value = h.value; reads = h.reads; long = long })
     (λ line word bad. record { value = h.value; reads = h.reads; bad = bad })
     (subst (λ (f : Problem). StopsAtSplit f split y z r) h.searched k))
@@ -125,10 +125,10 @@ split_refused topic split certs proof {x = x} {y = y} {z = z} {r = r} h k ends =
 unread_works : (topic : Topic) {split certs proof : List ℕ} (names : Naming) {x y z w : DeskState} {given : Given} {nodes : List Node} {f : Problem} (stopped : Result CertOutcome CertStop) → ReadsSubject (topic_subject topic) x y given → ReadsSplit (searched_in given.flat given.repair) split y z nodes → ReadsCerts f certs z w (Err stopped)
     → Works (before (topic_subject topic) split ++ named_feed feeds.Certificate certs ∷ []) (JoinGives (topic_subject topic) split x.held) (Some proof) x w (report_of_check names None None stopped)
 unread_works topic names (Ok (Shows v)) h k m = absurd (false≢true m.answer.1)
-unread_works topic {split = split} {certs = certs} {proof = proof} names (Ok (Wrong number word hint)) h k m = refuses (Some proof) (before (topic_subject topic) split) (named_feed feeds.Certificate certs) [] _ (sym (append-nil _)) refl (all_entered topic h k m) (give_all topic h k) (m.answer.0 ∙ (k.read_faults ∙ h.read_faults))
-unread_works topic {split = split} {certs = certs} {proof = proof} names (Ok TooLong) h k m = refuses (Some proof) (before (topic_subject topic) split) (named_feed feeds.Certificate certs) [] _ (sym (append-nil _)) refl (all_entered topic h k m) (give_all topic h k) (m.answer.0 ∙ (k.read_faults ∙ h.read_faults))
-unread_works topic {split = split} {certs = certs} {proof = proof} names (Err Fault) h k m = refuses (Some proof) (before (topic_subject topic) split) (named_feed feeds.Certificate certs) [] _ (sym (append-nil _)) refl (all_entered topic h k m) (give_all topic h k) (rose_on (k.read_faults ∙ h.read_faults) m.answer)
-unread_works topic {split = split} {certs = certs} {proof = proof} names (Err NoMemory) h k m = wants_memory (Some proof) (before (topic_subject topic) split ++ named_feed feeds.Certificate certs ∷ []) [] (sym (append-nil _)) (all_entered topic h k m) (give_all topic h k) (m.answer ∙ (k.read_faults ∙ h.read_faults))
+unread_works topic {split = split} {certs = certs} {proof = proof} names (Ok (Wrong number word hint)) h k m = refuses (Some proof) (before (topic_subject topic) split) (named_feed feeds.Certificate certs) [] _ (sym (append-nil _)) refl (all_entered topic h k m) (give_all topic certs h k) (m.answer.0 ∙ (k.read_faults ∙ h.read_faults))
+unread_works topic {split = split} {certs = certs} {proof = proof} names (Ok TooLong) h k m = refuses (Some proof) (before (topic_subject topic) split) (named_feed feeds.Certificate certs) [] _ (sym (append-nil _)) refl (all_entered topic h k m) (give_all topic certs h k) (m.answer.0 ∙ (k.read_faults ∙ h.read_faults))
+unread_works topic {split = split} {certs = certs} {proof = proof} names (Err Fault) h k m = refuses (Some proof) (before (topic_subject topic) split) (named_feed feeds.Certificate certs) [] _ (sym (append-nil _)) refl (all_entered topic h k m) (give_all topic certs h k) (rose_on (k.read_faults ∙ h.read_faults) m.answer)
+unread_works topic {split = split} {certs = certs} {proof = proof} names (Err NoMemory) h k m = wants_memory (Some proof) (before (topic_subject topic) split ++ named_feed feeds.Certificate certs ∷ []) [] (sym (append-nil _)) (all_entered topic h k m) (give_all topic certs h k) (m.answer ∙ (k.read_faults ∙ h.read_faults))
 
 -- the bytes held at first
 held_certs : (topic : Topic) {split certs : List ℕ} {x y z w : DeskState} {given : Given} {nodes : List Node} {g : Problem} {f : Problem} (outcome : CertOutcome) → ReadsSubject (topic_subject topic) x y given → ReadsSplit g split y z nodes → ReadsCerts f certs z w (Err (Ok outcome)) → IfSome (x.held certs) (CertsStopIn f outcome)
@@ -142,10 +142,10 @@ unread_says topic proof names (Err Fault) h k m own = absurd (cc)
 unread_says topic proof names (Err NoMemory) h k m own = absurd (cc)
 
 unread_meets : (topic : Topic) {split certs proof : List ℕ} {x y z w end : DeskState} {given : Given} {nodes : List Node} {e : Status} (names : Naming) (stopped : Result CertOutcome CertStop) → (h : ReadsSubject (topic_subject topic) x y given) → ReadsSplit (searched_in given.flat given.repair) split y z nodes → Unread (judged (topic_subject topic) h.value) certs z w stopped → Ends (report_of_check names None None stopped ∷ []) w end e → Carries (join_task (topic_subject topic) split certs proof) x end e
-unread_meets topic {proof = proof} {w = w} names stopped h k m ends = record {
+unread_meets topic {split = split} {certs = certs} {proof = proof} {w = w} names stopped h k m ends = record {
   mid = w;
   reports = report_of_check names None None stopped ∷ [];
-  works = as_task (unread_works topic names stopped h k m.reads);
+  works = as_task (topic_subject topic) split certs (unread_works topic names stopped h k m.reads);
   says = λ own. unread_says topic proof names stopped h k m.reads own;
   ends = ends;
 }
@@ -154,19 +154,19 @@ unread_meets topic {proof = proof} {w = w} names stopped h k m ends = record {
 
 unjoined_works : (topic : Topic) {split certs proof : List ℕ} (names : Naming) {x y z w : DeskState} {given : Given} {nodes : List Node} {f : Problem} {taken : Vec (Vec Line Global) Global} (stop : CourseStop) → ReadsSubject (topic_subject topic) x y given → ReadsSplit (searched_in given.flat given.repair) split y z nodes → ReadsCerts f certs z w (Ok taken)
     → Works (before (topic_subject topic) split ++ named_feed feeds.Certificate certs ∷ []) (JoinGives (topic_subject topic) split x.held) (Some proof) x w (report_of_check names None None (stop_outcome stop))
-unjoined_works topic {split = split} {certs = certs} {proof = proof} names (stops.Refused number cause) h k m = refuses (Some proof) (before (topic_subject topic) split) (named_feed feeds.Certificate certs) [] _ (sym (append-nil _)) refl (all_entered topic h k m) (give_all topic h k) (m.answer.0 ∙ (k.read_faults ∙ h.read_faults))
-unjoined_works topic {split = split} {certs = certs} {proof = proof} names stops.NoMemory h k m = wants_memory (Some proof) (before (topic_subject topic) split ++ named_feed feeds.Certificate certs ∷ []) [] (sym (append-nil _)) (all_entered topic h k m) (give_all topic h k) (m.answer.0 ∙ (k.read_faults ∙ h.read_faults))
+unjoined_works topic {split = split} {certs = certs} {proof = proof} names (stops.Refused number cause) h k m = refuses (Some proof) (before (topic_subject topic) split) (named_feed feeds.Certificate certs) [] _ (sym (append-nil _)) refl (all_entered topic h k m) (give_all topic certs h k) (m.answer.0 ∙ (k.read_faults ∙ h.read_faults))
+unjoined_works topic {split = split} {certs = certs} {proof = proof} names stops.NoMemory h k m = wants_memory (Some proof) (before (topic_subject topic) split ++ named_feed feeds.Certificate certs ∷ []) [] (sym (append-nil _)) (all_entered topic h k m) (give_all topic certs h k) (m.answer.0 ∙ (k.read_faults ∙ h.read_faults))
 
-unjoined_says : (topic : Topic) {split certs : List ℕ} (proof : List ℕ) (names : Naming) {x y z w : DeskState} {given : Given} {nodes : List Node} (stop : CourseStop) → (h : ReadsSubject (topic_subject topic) x y given) → ReadsSplit (searched_in given.flat given.repair) split y z nodes → CourseStopsFor (judged (topic_subject topic) h.value) [] stop → is_common (report_of_check names None None (stop_outcome stop)) ≡ false → JoinSays (topic_subject topic) split certs proof x w (report_of_check names None None (stop_outcome stop) ∷ [])
-unjoined_says topic proof names (stops.Refused number cause) h k fails own = record { gives = gives_split h k; refused = inr (cause, fails, refl, refl) }
-unjoined_says topic proof names stops.NoMemory h k fails own = absurd (cc)
+unjoined_says : (topic : Topic) {split : List ℕ} (certs proof : List ℕ) (names : Naming) {x y z : DeskState} (w : DeskState) {given : Given} {nodes : List Node} (stop : CourseStop) → (h : ReadsSubject (topic_subject topic) x y given) → ReadsSplit (searched_in given.flat given.repair) split y z nodes → CourseStopsFor (judged (topic_subject topic) h.value) [] stop → is_common (report_of_check names None None (stop_outcome stop)) ≡ false → JoinSays (topic_subject topic) split certs proof x w (report_of_check names None None (stop_outcome stop) ∷ [])
+unjoined_says topic certs proof names w (stops.Refused number cause) h k fails own = record { gives = gives_split h k; refused = inr (cause, fails, refl, refl) }
+unjoined_says topic certs proof names w stops.NoMemory h k fails own = absurd (cc)
 
 unjoined_meets : (topic : Topic) {split certs proof : List ℕ} {x y z w end : DeskState} {given : Given} {nodes : List Node} {e : Status} (names : Naming) (stopped : Result CertOutcome CertStop) → (h : ReadsSubject (topic_subject topic) x y given) → ReadsSplit (searched_in given.flat given.repair) split y z nodes → Unjoined (judged (topic_subject topic) h.value) certs z w stopped → Ends (report_of_check names None None stopped ∷ []) w end e → Carries (join_task (topic_subject topic) split certs proof) x end e
-unjoined_meets topic {proof = proof} {w = w} {end = end} {e = e} names stopped h k m ends = record {
+unjoined_meets topic {split = split} {certs = certs} {proof = proof} {w = w} {end = end} {e = e} names stopped h k m ends = record {
   mid = w;
   reports = report_of_check names None None (stop_outcome m.stop) ∷ [];
-  works = as_task (unjoined_works topic names m.stop h k m.reads);
-  says = λ own. unjoined_says topic proof names m.stop h k m.cause own;
+  works = as_task (topic_subject topic) split certs (unjoined_works topic names m.stop h k m.reads);
+  says = λ own. unjoined_says topic certs proof names w m.stop h k m.cause own;
   ends = subst (λ (o : Result CertOutcome CertStop). Ends (report_of_check names None None o ∷ []) w end e) m.told ends;
 }
 
@@ -218,7 +218,7 @@ sent_meets topic {split = split} {certs = certs} {proof = proof} {x = x} {w = w}
     record {
       mid = w;
       reports = joined_reports names ships j;
-      works = as_task (joined_works names ships j j.first_open (all_entered topic h k m.reads) (give_all topic h k) m.sends (m.sends.only.read_faults ∙ (m.reads.answer.0 ∙ (k.read_faults ∙ h.read_faults))));
+      works = as_task s split certs (joined_works names ships j j.first_open (all_entered topic h k m.reads) (give_all topic certs h k) m.sends (m.sends.only.read_faults ∙ (m.reads.answer.0 ∙ (k.read_faults ∙ h.read_faults))));
       says = λ own. joined_says s split certs proof x w names ships j j.first_open (joined_done topic j h k m);
       ends = ends;
     }
@@ -229,7 +229,7 @@ broke_meets topic {split = split} {certs = certs} {proof = proof} {x = x} {w = w
     record {
       mid = w;
       reports = [];
-      works = subst (λ (inputs : List Named). Breaks inputs (JoinGives s split x.held) (Some proof) x w) (same_inputs s split certs) (broken_works (all_entered topic h k m.reads) (give_all topic h k) (m.reads.answer.0 ∙ (k.read_faults ∙ h.read_faults)) m.sends);
+      works = subst (λ (inputs : List Named). Breaks inputs (JoinGives s split x.held) (Some proof) x w) (same_inputs s split certs) (broken_works (all_entered topic h k m.reads) (give_all topic certs h k) (m.reads.answer.0 ∙ (k.read_faults ∙ h.read_faults)) m.sends);
       says = λ own. record { joins = joins_certs topic j h k m; cut = m.sends.answer.1 };
       ends = ends;
     }

@@ -17,7 +17,7 @@ returns-in-Ok-send_split g c =
     let shows : shows_nothing c.in-Ok.read.outcome ≡ false = sym c.shows_nothing.ensures ∙ c.if-shows_nothing.false in
     (c.in-Ok-chosen_by.chosen.split, c.count_parts.ensures, sent_whole c.in-Ok.read c.in-Ok.ensures shows (made_split c.in-Ok-chosen_by.ensures) (rw c.deref.ensures.value at c.in-Ok-send_split.ensures))
 
-pub returns-in-Err-send_split : goal.returns-in-Err-send_split
-returns-in-Err-send_split g c =
+pub returns : goal.returns
+returns g c =
     let shows : shows_nothing c.in-Ok.read.outcome ≡ false = sym c.shows_nothing.ensures ∙ c.if-shows_nothing.false in
     (c.in-Ok-chosen_by.chosen.split, sent_short c.in-Ok.read c.in-Ok.ensures shows (made_split c.in-Ok-chosen_by.ensures) (rw c.deref.ensures.value at c.in-Err-send_split.ensures))
