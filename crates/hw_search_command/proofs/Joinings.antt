@@ -34,7 +34,7 @@ use Rattle.hw_command.proofs.SentWorks.{broken_works, made, sent_works}
 use Rattle.hw_command.proofs.Stops.{stops_carries}
 use Rattle.hw_split.specs.declared.node.Node.{Node}
 use Rattle.hw_course.specs.Courses.{CourseStopsFor}
-use Rattle.hw_join.specs.Joining.{Joins}
+use Rattle.hw_join.specs.Joining.{JoinsLines}
 use Rattle.hw_join.specs.declared.joined.Joined.{Joined}
 use Rattle.hw_course.specs.declared.stop.CourseStop.{CourseStop}
 use Rattle.hw_course.specs.declared.stop.CourseStop.TheVariants as stops

@@ -20,7 +20,7 @@ use Rattle.hw_command.specs.declared.outcome.CertOutcome.TheVariants.{Shows, Wro
 use Rattle.hw_command.specs.declared.outcome.CertStop.{CertStop}
 use Rattle.hw_command.specs.declared.outcome.CertStop.TheVariants.{Fault, NoMemory}
 use Rattle.hw_course.specs.Courses.{CourseStopsFor}
-use Rattle.hw_join.specs.Joining.{FitEach, Joins}
+use Rattle.hw_join.specs.Joining.{FitEach, JoinsLines}
 use Rattle.hw_join.specs.declared.joined.Joined.{Joined}
 use Rattle.hw_course.specs.declared.stop.CourseStop.{CourseStop}
 use Rattle.hw_split.specs.declared.node.Node.{Node}
@@ -123,7 +123,7 @@ pub record SendsJoined {E : Type 0} (f : Problem) (nodes : List Node) (certs pro
   pub mid : DeskState
   pub taken : Vec (Vec Line Global) Global
   pub reads : ReadsCerts f certs old mid (Ok taken)
-  pub joins : Joins f nodes j
+  pub joins : JoinsLines f nodes j
   pub sends : SendsTo proof (cert_text Three j.lines.items) mid new sent
 
 -- what comes of certificates

@@ -20,7 +20,7 @@ use Rattle.hw_command.specs.Values.{IsLong}
 use Rattle.hw_command.specs.declared.outcome.CertOutcome.{CertOutcome}
 use Rattle.hw_command.specs.declared.outcome.CertOutcome.TheVariants.{TooLong, Wrong}
 use Rattle.hw_course.specs.Going.{LineFails}
-use Rattle.hw_join.specs.Joining.{Joins}
+use Rattle.hw_join.specs.Joining.{JoinsLines}
 use Rattle.hw_join.specs.declared.joined.Joined.{Joined}
 use Rattle.hw_split.specs.declared.node.Node.{Node}
 use Rattle.hw_subject.specs.Meanings.{IsBoundOf, VerdictSays, judged, own_worth, repair_ships}
@@ -46,7 +46,7 @@ pub record JoinDone (s : Subject) (split : List ℕ) (proof : List ℕ) (old new
   pub counted : ships ≡ repair_ships (s.problem gives.value) (s.plan gives.value)
   pub made : MakesProof proof old new
   pub joined : Joined
-  pub joins : Joins (judged s gives.value) gives.nodes joined
+  pub joins : JoinsLines (judged s gives.value) gives.nodes joined
   pub verdict : v ≡ joined.verdict
   pub last_bound : bound ≡ joined.bound
   pub first_open : first ≡ joined.first_open
@@ -67,7 +67,7 @@ pub record RefusesCerts (s : Subject) (split certs : List ℕ) (held : List ℕ 
 pub record JoinBreaks (s : Subject) (split : List ℕ) (old new : DeskState) : Type 0 where
   pub gives : GivesSplit s split old.held
   pub joined : Joined
-  pub joins : Joins (judged s gives.value) gives.nodes joined
+  pub joins : JoinsLines (judged s gives.value) gives.nodes joined
   pub cut : IfSome (new.trays tray.Proof).sent (IsCutOf (cert_text Three joined.lines.items))
 
 -- what is read of the inputs, of which the split has this first bad line

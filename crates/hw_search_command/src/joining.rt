@@ -22,7 +22,7 @@ use hw_command::{CertOutcome, CertStop, Status, check_report, finish, status_of}
 use hw_desk::Desk;
 use hw_flat::Flat;
 use hw_report::{Names, Report, print_report};
-use hw_resume::{Joined, join};
+use hw_join::{Joined, join};
 use hw_split::Split;
 use hw_subject::{Subject, read_subject};
 use std::alloc::Global;

@@ -19,7 +19,8 @@ use hw_flat::Flat;
 use hw_prices::PricingAdviser;
 use hw_progress::MOST_BUDGET;
 use hw_report::{Head, RefusedWord};
-use hw_resume::{CourseStop, Resumed, resume};
+use hw_course::CourseStop;
+use hw_resume::{Resumed, resume};
 use hw_subject::{Given, Subject, read_subject};
 use std::alloc::Global;
 
