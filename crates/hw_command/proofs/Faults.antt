@@ -1,18 +1,18 @@
 -- Faults have their causes.
-use Rattle.std.proofs.Common.{◌≡◌, ◌∙◌, ℕ, List, [], ◌∷◌, Option, inl, inr, sym, arith}
+use Rattle.std.proofs.Common.{◌≡◌, ◌∙◌, ℕ, Bool, true, false, List, [], ◌∷◌, Option, inl, inr, sym, arith}
 use Rattle.hw_desk.specs.State.{DeskState, Rose}
 use Rattle.hw_desk.specs.declared.desk.Feed.{Feed}
 use Rattle.hw_desk.proofs.Chain.{rose_past}
 use Rattle.hw_lines.specs.declared.check.Verdict.{Verdict}
 use Rattle.hw_lines.specs.declared.check.Verdict.TheVariants as verdicts
-use Rattle.hw_report.specs.Reports.{Report, solved, checked, demo, read_fault, picture}
+use Rattle.hw_report.specs.Reports.{Report, solved, checked, demo, read_fault, part_told, picture}
 use Rattle.hw_report.specs.declared.report.Head.{Head}
 use Rattle.hw_report.specs.declared.report.Head.TheVariants as heads
 use Rattle.hw_command.specs.Carries.{Task, Carries}
 use Rattle.hw_command.specs.Causes.{FaultsCaused}
 use Rattle.hw_command.specs.Ends.{Ends}
 use Rattle.hw_command.specs.Scope.{Named}
-use Rattle.hw_command.specs.Statuses.{status_of, status_of_head, status_of_verdict}
+use Rattle.hw_command.specs.Statuses.{status_of, status_of_head, status_of_part, status_of_verdict}
 use Rattle.hw_command.specs.Works.{ReadCauseOf, WorksTo, last_report}
 use Rattle.hw_command.specs.declared.status.Status.{Status}
 use Rattle.hw_command.specs.declared.status.Status.TheVariants.{ReadFault, WriteFault}
@@ -39,6 +39,14 @@ no_write_verdict (verdicts.Optimal c) e = cc
 no_write_verdict verdicts.Infeasible e = cc
 no_write_verdict (verdicts.Unfinished n) e = cc
 
+no_fault_part : (is_closed : Bool) → ReadFault ≡ status_of_part is_closed → ⊥
+no_fault_part true e = cc
+no_fault_part false e = cc
+
+no_write_part : (is_closed : Bool) → WriteFault ≡ status_of_part is_closed → ⊥
+no_write_part true e = cc
+no_write_part false e = cc
+
 -- a report of a read fault alone has its status, and then its cause
 read_cause : (x y : DeskState) (r : Report) → ReadFault ≡ status_of r → ReadCauseOf x y r → Rose x.read_faults y.read_faults
 read_cause x y (read_fault feed) e h = h
@@ -46,6 +54,7 @@ read_cause x y (solved head f names table moved bound) e h = absurd (no_fault_he
 read_cause x y (demo head best verdict lemmas) e h = absurd (no_fault_head head e)
 read_cause x y (checked v bound ships names) e h = absurd (no_fault_verdict v e)
 read_cause x y (picture v text) e h = absurd (no_fault_verdict v e)
+read_cause x y (part_told number is_closed) e h = absurd (no_fault_part is_closed e)
 read_cause x y _ e h = absurd (cc)
 
 -- no report has the status of a write fault
@@ -54,6 +63,7 @@ no_write (solved head f names table moved bound) e = no_write_head head e
 no_write (demo head best verdict lemmas) e = no_write_head head e
 no_write (checked v bound ships names) e = no_write_verdict v e
 no_write (picture v text) e = no_write_verdict v e
+no_write (part_told number is_closed) e = no_write_part is_closed e
 no_write _ e = cc
 
 rose_before : (a b c : ℕ) → c ≡ b → Rose a b → Rose a c

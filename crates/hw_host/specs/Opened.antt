@@ -32,16 +32,16 @@ abbrev pub IsProblem : Feeds HostFile → FileId → Type 0
 IsProblem feeds id = IsOpenAs feeds.flat id ⊎ (IsOpenAs feeds.instance id ⊎ IsOpenAs feeds.tides id)
 
 -- a plan or the events after it are read from it
-abbrev pub IsPlan : Feeds HostFile → FileId → Type 0
-IsPlan feeds id = IsOpenAs feeds.plan id ⊎ IsOpenAs feeds.events id
+abbrev pub IsPlanFeed : Feeds HostFile → FileId → Type 0
+IsPlanFeed feeds id = IsOpenAs feeds.plan id ⊎ IsOpenAs feeds.events id
 
 -- a certificate, a clash or a split is read from it
-abbrev pub IsFound : Feeds HostFile → FileId → Type 0
-IsFound feeds id = IsOpenAs feeds.certificate id ⊎ (IsOpenAs feeds.clash id ⊎ IsOpenAs feeds.split id)
+abbrev pub IsFoundFeed : Feeds HostFile → FileId → Type 0
+IsFoundFeed feeds id = IsOpenAs feeds.certificate id ⊎ (IsOpenAs feeds.clash id ⊎ IsOpenAs feeds.split id)
 
 -- another input than those of a problem is read from it
 abbrev pub IsOther : Feeds HostFile → FileId → Type 0
-IsOther feeds id = IsPlan feeds id ⊎ IsFound feeds id
+IsOther feeds id = IsPlanFeed feeds id ⊎ IsFoundFeed feeds id
 
 -- a feed is read from this file of the system
 abbrev pub IsFeed : Feeds HostFile → FileId → Type 0

@@ -2,7 +2,7 @@
 
 ghost use Rattle.std.specs.Prelude.{◌≡◌, ◌≤◌, ◌<◌, ◌↔◌, length, true, IfOk, IsOk, IsErr, IsTrue, OnErr, OnOk, MatchResult};
 ghost use Rattle.hw_desk.specs.State.{Rose};
-ghost use Rattle.hw_host.specs.Opened.{IsApart, IsFeed, IsFound, IsOpen, IsOpenAs, IsOther, IsPlan, IsProblem, was_opened};
+ghost use Rattle.hw_host.specs.Opened.{IsApart, IsFeed, IsFoundFeed, IsOpen, IsOpenAs, IsOther, IsPlanFeed, IsProblem, was_opened};
 
 use crate::output::Output;
 use hw_desk::{DeskFailed, Feeds};
@@ -54,14 +54,14 @@ fn is_problem(feeds: &Feeds<HostFile>, id: FileId) -> bool
 
 /// Whether a plan or the events after it are read from this file.
 fn is_plan(feeds: &Feeds<HostFile>, id: FileId) -> bool
-    ensures { IsTrue result ↔ IsPlan feeds.now id }
+    ensures { IsTrue result ↔ IsPlanFeed feeds.now id }
 {
     feeds.plan.is_open_as(id) || feeds.events.is_open_as(id)
 }
 
 /// Whether something that a search found is read from this file: a certificate, a clash or a split.
 fn is_found(feeds: &Feeds<HostFile>, id: FileId) -> bool
-    ensures { IsTrue result ↔ IsFound feeds.now id }
+    ensures { IsTrue result ↔ IsFoundFeed feeds.now id }
 {
     feeds.certificate.is_open_as(id) || feeds.clash.is_open_as(id) || feeds.split.is_open_as(id)
 }

@@ -4,9 +4,9 @@ use crate::answering::open_bound;
 use crate::relaxation::Relaxation;
 use crate::settings::FIRST;
 use crate::variation::Variation;
-use crate::workshop::Workshop;
 use hw_advice::{Advice, Adviser, Bounding, Scene};
-use hw_flat::Timetable;
+use hw_dual::Workshop;
+use hw_flat::{Room, Timetable};
 use hw_model::{Lit, NoMemory};
 use std::alloc::Global;
 
@@ -58,9 +58,17 @@ impl PricingAdviser {
     /// Gets ready to make timetables.
     fn get_ready(&mut self, alloc: Global, scene: &Scene<'_>) -> Result<(), NoMemory> {
         if self.shop.is_none() {
-            self.shop = Some(Workshop::new(alloc, scene.flat)?);
+            self.shop = Some(Workshop::new(alloc, scene.flat, self.variation.seed)?);
         }
         Ok(())
+    }
+
+    /// Remembers the timetable of a point room, to vary it.
+    fn take(&mut self, point: &Room) -> Result<(), NoMemory> {
+        match &mut self.shop {
+            None => Ok(()),
+            Some(shop) => shop.take(point),
+        }
     }
 
     /// Makes a timetable without prices, where none is known: once after each of the first lemmas.
@@ -80,7 +88,11 @@ impl PricingAdviser {
 
 impl Adviser for PricingAdviser {
     fn advise(&mut self, alloc: Global, scene: &Scene<'_>) -> Result<Option<Advice>, NoMemory> {
-        if scene.standing.lemmas < FIRST || scene.room.is_point() {
+        if scene.room.is_point() {
+            self.take(scene.room)?;
+            return Ok(None);
+        }
+        if scene.standing.lemmas < FIRST {
             return Ok(None);
         }
         self.look(alloc, scene)?;

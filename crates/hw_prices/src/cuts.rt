@@ -1,6 +1,6 @@
 //! The ends of ranges that prices cut: bounds of slots, tightened by reduced profits.
 
-use crate::table::{Table, greatest};
+use hw_dual::Table;
 use hw_flat::{Room, ShipId, Slot};
 use hw_model::NoMemory;
 use std::alloc::Global;
@@ -31,7 +31,7 @@ pub(crate) fn cuts(
         // What a slot must earn more than, beside the best slots of the others.
         let least = limit
             .wrapping_sub(total)
-            .wrapping_add(greatest(row, low, high));
+            .wrapping_add(table.greatest(ship, low, high));
         if let Some(last) = lower_end(row, low, high, least) {
             out.push(Cut {
                 ship,

@@ -2,7 +2,7 @@
 //! explanation made general.
 
 use crate::cuts::Cut;
-use crate::table::{Table, greatest};
+use hw_dual::Table;
 use hw_flat::{Room, ShipId, Slot};
 use hw_model::{Lit, NoMemory};
 use std::alloc::Global;
@@ -86,7 +86,7 @@ fn cut_to(reach: Reach, cut: Option<Cut>) -> Reach {
 
 fn measured(table: &Table, reach: Reach) -> Reach {
     Reach {
-        most: greatest(table.row(reach.ship), reach.low, reach.high),
+        most: table.greatest(reach.ship, reach.low, reach.high),
         ..reach
     }
 }

@@ -1,7 +1,7 @@
 //! The literal by which to decide.
 
-use crate::table::Table;
 use crate::variation::Variation;
+use hw_dual::Table;
 use hw_flat::{Flat, Room, ShipId, Slot};
 use hw_model::Lit;
 

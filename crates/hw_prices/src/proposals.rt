@@ -1,9 +1,7 @@
 //! Proposals: tariffs of prices, and the rows whose tolls are declared.
 
 use crate::answering::Offer;
-use crate::pricer::price_at;
-use crate::rows::Row;
-use crate::settings::SCALE;
+use hw_dual::{Row, SCALE, price_at};
 use hw_model::NoMemory;
 use hw_tolls::{Due, Dues, Tariff};
 use std::alloc::Global;

@@ -6,21 +6,17 @@ ghost use Rattle.hw_tolls.specs.Tolls.{IsToll};
 ghost use Rattle.hw_advice.specs.Advisers.{IsAdviceIn, IsBoundIn, IsScene};
 
 use crate::answering::{advice_anew, advice_in_force, bounding};
-use crate::course::{Course, goal};
 use crate::cuts::cuts;
 use crate::loosening::loosened;
 use crate::preferring::{by_earnings, by_regret};
-use crate::pricer::{Pricer, price_at};
 use crate::proposals::{Proposal, follow, name_rows, proposal_of};
-use crate::rounds::{add_tolls, find_prices};
 use crate::settings::{
-    CUTS, DEEPEST, ENOUGH, EXPLORED, IDLE, LAST_PACE, LAST_STEPS, MADE, ROOM_PACE, ROOM_STEPS,
-    SEARCHED,
+    CUTS, DEEPEST, ENOUGH, EXPLORED, IDLE, LAST_PACE, LAST_STEPS, MADE, ROOM_STEPS, SEARCHED,
+    VARIED,
 };
-use crate::table::Table;
 use crate::variation::Variation;
-use crate::workshop::Workshop;
 use hw_advice::{Advice, Bounding, Scene, Standing};
+use hw_dual::{Course, Pricer, ROOM_PACE, Table, Workshop, add_tolls, find_prices, goal, price_at};
 use hw_flat::Room;
 use hw_model::{Lit, NoMemory};
 use hw_tariff::RulesByPair;
@@ -133,12 +129,7 @@ impl Relaxation {
 
     /// What ships earn under the prices that stand.
     fn present(&self, alloc: Global) -> Result<Table, NoMemory> {
-        Table::new(
-            alloc,
-            &self.pricer.subproblems,
-            &self.pricer.rows,
-            &self.pricer.prices,
-        )
+        self.pricer.table(alloc, &self.pricer.prices)
     }
 
     /// The literals of a clause under the tariff in force.
@@ -176,6 +167,7 @@ impl Relaxation {
         let table = self.present(alloc)?;
         if self.rooms % MADE == 0 {
             shop.make_by(alloc, scene.room, &table, scene.best)?;
+            shop.vary(alloc, &table, VARIED)?;
         }
         let limit = table.limit(best);
         if table.total(scene.room) <= limit {
@@ -292,12 +284,7 @@ impl Relaxation {
         self.tried = true;
         let declared = scene.tolls.len();
         follow(&mut self.named, &mut self.pricer.rows, declared)?;
-        let table = Table::new(
-            alloc,
-            &self.pricer.subproblems,
-            &self.pricer.rows,
-            &self.root,
-        )?;
+        let table = self.pricer.table(alloc, &self.root)?;
         let Proposal { offer, rows } = proposal_of(
             alloc,
             &self.pricer.rows,

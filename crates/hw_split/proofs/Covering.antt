@@ -3,6 +3,7 @@ use Rattle.std.proofs.Common.{◌≡◌, inl, inr, ℕ, ◌+◌, ◌-◌, ◌≤
 use Rattle.std.proofs.Math.Path.{ap₂}
 use Rattle.std.proofs.lemmas.Bool.{ltb-true, ltb-false, lt-leb, le-leb, cases_Bool, and_parts}
 use Rattle.std.proofs.lemmas.List.Elements.{All-nil, All-cons, All-head, All-tail, All-push, All-weaker}
+use Rattle.std.specs.List.{list_all}
 use Rattle.std.proofs.lemmas.List.Folds.{list_all-append}
 use Rattle.std.proofs.lemmas.List.Sums.{sum_by-cons}
 use Rattle.hw_model.specs.declared.lit.Lit.{Lit}
@@ -22,13 +23,15 @@ use Rattle.hw_split.proofs.Rooms.{both_open, has_room}
 count_cons : {A : Type 0} (p : A → Bool) (x : A) (xs : List A) → count_by p (x ∷ xs) ≡ cond (p x) 1 0 + count_by p xs
 count_cons {A} p x xs = sum_by-cons (λ (y : A). cond (p y) 1 0) x xs
 
-and_true : (b : Bool) → (b && true) ≡ b
-and_true true = refl
-and_true false = refl
+one_holds : (table : List ℕ) (lit : Lit) → list_all (lit_holds table) (lit ∷ []) ≡ lit_holds table lit
+one_holds table lit = elim (cases_Bool (lit_holds table lit)) [
+  | inl t ↦ rw t refl
+  | inr f ↦ rw f refl
+]
 
 holds_push : (table : List ℕ) (branch : Branch) (lit : Lit) → branch_holds table (branch ++ lit ∷ []) ≡ (branch_holds table branch && lit_holds table lit)
 holds_push table branch lit =
-    list_all-append (lit_holds table) branch (lit ∷ []) ∙ ap (λ (b : Bool). branch_holds table branch && b) (and_true (lit_holds table lit))
+    list_all-append (lit_holds table) branch (lit ∷ []) ∙ ap (λ (b : Bool). branch_holds table branch && b) (one_holds table lit)
 
 other_side : (m n : ℕ) → nat_le m n ≡ not (nat_lt n m)
 other_side m n = elim (cases_Bool (nat_lt n m)) [

@@ -8,6 +8,7 @@ use Rattle.std.specs.List.{list_all}
 use Rattle.hw_laws.proofs.Bounds.{cut_room_is}
 use Rattle.hw_laws.proofs.Cuts.{same_ships, into_cut, out_of_cut, no_order_set, full_room}
 use Rattle.hw_laws.proofs.Denying.{denied_is}
+use Rattle.hw_laws.proofs.Quiets.{same_slots as cut_slots}
 use Rattle.hw_model.specs.declared.lit.Lit.{Lit}
 use Rattle.hw_model.specs.declared.lit.Lit.TheVariants.{AtOrAfter, Before, First, NotFirst}
 use Rattle.hw_model.specs.declared.lit.LitTruth.TheVariants.{Free}
@@ -101,12 +102,6 @@ record Leaves (room : RoomModel) (lits : List Lit) : Type 0 where
   is_room : IsRoom (cut_by lits room)
   same_slots : (cut_by lits room).slots ≡ room.slots
   inside : (table : List ℕ) → (Inside table (cut_by lits room) ↔ (Inside table room × IsTrue (list_all (lit_holds table) lits)))
-
-cut_slots : (room : RoomModel) (lit : Lit) → (cut lit room).slots ≡ room.slots
-cut_slots room (AtOrAfter ship slot) = refl
-cut_slots room (Before ship slot) = refl
-cut_slots room (First v w) = refl
-cut_slots room (NotFirst v w) = refl
 
 leaves : (room : RoomModel) (lits : List Lit) → IsRoom room → OpenInTurn room lits → Leaves room lits
 leaves room [] is turn = record { is_room = is; same_slots = refl; inside = λ table. ((λ h. (h, refl)), (λ h. h.0)) }

@@ -21,7 +21,7 @@ use Rattle.hw_split.specs.declared.node.Node.TheVariants.{Fork, Part}
 use Rattle.hw_split.specs.Splits.{Branch, waiting_after, fork_fits}
 use Rattle.hw_split.specs.Ranges.{ShipRanges, ranges_of}
 use Rattle.hw_split.specs.Text.{fork_by, fork_words, part_words, node_words, node_at, nodes_at, split_of}
-use Rattle.hw_split.specs.Laws.{OneText}
+use Rattle.hw_split.specs.Laws.{OneSplitText}
 use Rattle.hw_split.proofs.Fitting.{Parts, node_read, after_more, after_node, nodes_same}
 use Rattle.hw_split.proofs.Written.{node_line, split_lines, text_is}
 
@@ -164,5 +164,5 @@ lines_are shape parts nodes limits e =
     ∙ ap (λ (ps : Parts). codes "split 1" ∷ ps) body
     ∙ ap (λ (ns : List Node). split_lines ns ++ [] ∷ []) last.0
 
-pub one_text : OneText
+pub one_text : OneSplitText
 one_text shape nodes bytes limits e = is_ended_lines (split_lines nodes) bytes (lines_are shape (parts_of 10 bytes) nodes limits e) ∙ sym (text_is nodes)

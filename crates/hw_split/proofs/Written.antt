@@ -18,8 +18,8 @@ use Rattle.hw_split.specs.declared.node.Node.TheVariants.{Fork, Part}
 use Rattle.hw_split.specs.Splits.{Branch, waiting_after, branch_room, is_inside, node_fits, Completes, IsSplit}
 use Rattle.hw_split.specs.Ranges.{ShipRanges, ranges_of}
 use Rattle.hw_split.specs.Text.{node_words, node_form, node_at, nodes_at, split_of}
-use Rattle.hw_split.specs.Written.{node_text, nodes_text, written_split}
-use Rattle.hw_split.specs.Laws.{WrittenReads}
+use Rattle.hw_split.specs.Written.{node_written, nodes_written, written_split}
+use Rattle.hw_split.specs.Laws.{WrittenSplitReads}
 use Rattle.hw_split.proofs.Fitting.{Parts}
 
 -- ---- the lines of the text
@@ -31,18 +31,18 @@ node_line Part = codes "p"
 abbrev pub split_lines : List Node → Parts
 split_lines nodes = codes "split 1" ∷ (map node_line nodes ++ codes "end" ∷ [])
 
-node_is : (node : Node) (rest : List ℕ) → node_text node ++ rest ≡ node_line node ++ 10 ∷ rest
+node_is : (node : Node) (rest : List ℕ) → node_written node ++ rest ≡ node_line node ++ 10 ∷ rest
 node_is (Fork ship slot) rest = ap (λ (xs : List ℕ). 115 ∷ 32 ∷ xs)
     (append_assoc (decimal ship) (32 ∷ (decimal slot ++ 10 ∷ [])) rest
     ∙ (ap (λ (xs : List ℕ). decimal ship ++ 32 ∷ xs) (append_assoc (decimal slot) (10 ∷ []) rest)
     ∙ sym (append_assoc (decimal ship) (32 ∷ decimal slot) (10 ∷ rest))))
 node_is Part rest = refl
 
-nodes_are : (nodes : List Node) → nodes_text nodes ++ codes "end\n" ≡ ended_lines (map node_line nodes ++ codes "end" ∷ [])
+nodes_are : (nodes : List Node) → nodes_written nodes ++ codes "end\n" ≡ ended_lines (map node_line nodes ++ codes "end" ∷ [])
 nodes_are [] = refl
 nodes_are (node ∷ nodes) =
-    append_assoc (node_text node) (nodes_text nodes) (codes "end\n")
-    ∙ (node_is node (nodes_text nodes ++ codes "end\n")
+    append_assoc (node_written node) (nodes_written nodes) (codes "end\n")
+    ∙ (node_is node (nodes_written nodes ++ codes "end\n")
     ∙ ap (λ (xs : List ℕ). node_line node ++ 10 ∷ xs) (nodes_are nodes))
 
 pub text_is : (nodes : List Node) → written_split nodes ≡ ended_lines (split_lines nodes)
@@ -141,7 +141,7 @@ lines_lack shape nodes limits split =
 
 -- ---- the text
 
-pub written_reads : WrittenReads
+pub written_reads : WrittenSplitReads
 written_reads shape nodes limits split =
     let lines : parts_of 10 (written_split nodes) ≡ codes "split 1" ∷ (map node_line nodes ++ codes "end" ∷ [] ∷ []) =
     ap (parts_of 10) (text_is nodes)

@@ -31,9 +31,9 @@ abbrev pub PartRooms : Type 0
 PartRooms = (shape : Shape) (nodes : List Node) → ShapeFits shape → IsSplit shape nodes → All (HasRoom shape) (split_parts nodes)
 
 -- a split is what its written text says
-abbrev pub WrittenReads : Type 0
-WrittenReads = (shape : Shape) (nodes : List Node) → ShapeFits shape → IsSplit shape nodes → split_text shape (written_split nodes) ≡ Ok nodes
+abbrev pub WrittenSplitReads : Type 0
+WrittenSplitReads = (shape : Shape) (nodes : List Node) → ShapeFits shape → IsSplit shape nodes → split_text shape (written_split nodes) ≡ Ok nodes
 
 -- a text says these nodes only if it is their written text
-abbrev pub OneText : Type 0
-OneText = (shape : Shape) (nodes : List Node) (bytes : List ℕ) → ShapeFits shape → split_text shape bytes ≡ Ok nodes → bytes ≡ written_split nodes
+abbrev pub OneSplitText : Type 0
+OneSplitText = (shape : Shape) (nodes : List Node) (bytes : List ℕ) → ShapeFits shape → split_text shape bytes ≡ Ok nodes → bytes ≡ written_split nodes

@@ -26,7 +26,7 @@ pub record SplitRows : Type 0 where
   pub fourth : part_at three_parts 4 ≡ None
 
 -- what texts of splits say
-pub record TextRows : Type 0 where
+pub record SplitTextRows : Type 0 where
   pub one_part : split_text two_ships (codes "split 1\np\nend\n") ≡ Ok (Part ∷ [])
   pub three : split_text two_ships (codes "split 1\ns 0 1\np\ns 1 2\np\np\nend\n") ≡ Ok three_parts
   pub no_byte : split_text two_ships [] ≡ Err (record { number = 1; word = words.Header })
@@ -48,6 +48,6 @@ pub record TextRows : Type 0 where
   pub a_byte_after : split_text two_ships (codes "split 1\np\nend\n\n") ≡ Err (record { number = 4; word = words.Tail })
 
 -- the texts of splits
-pub record WrittenRows : Type 0 where
+pub record WrittenSplitRows : Type 0 where
   pub one_part : written_split (Part ∷ []) ≡ codes "split 1\np\nend\n"
   pub three : written_split three_parts ≡ codes "split 1\ns 0 1\np\ns 1 2\np\np\nend\n"

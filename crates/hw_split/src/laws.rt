@@ -1,7 +1,7 @@
 //! The laws of splits, each a function without a body whose clause is the law.
 
-ghost use Rattle.hw_split.specs.Laws.{LiteralsFit, OnePart, OneText, PartRooms, PartsCounted, PartsOpen, WrittenReads};
-ghost use Rattle.hw_split.specs.Rows.{SplitRows, TextRows, WrittenRows};
+ghost use Rattle.hw_split.specs.Laws.{LiteralsFit, OnePart, OneSplitText, PartRooms, PartsCounted, PartsOpen, WrittenSplitReads};
+ghost use Rattle.hw_split.specs.Rows.{SplitRows, SplitTextRows, WrittenSplitRows};
 
 /// The parts cover the whole problem, and no two of them share a timetable: the literals of exactly one
 /// part are all true of it.
@@ -32,12 +32,12 @@ pub fn part_rooms()
 
 /// A split that is written reads as itself.
 pub fn written_reads()
-    ensures { WrittenReads }
+    ensures { WrittenSplitReads }
 {}
 
 /// A text that reads as a split is the one that is written.
 pub fn one_text()
-    ensures { OneText }
+    ensures { OneSplitText }
 {}
 
 /// Worked rows: the parts of splits.
@@ -47,10 +47,10 @@ pub fn split_rows()
 
 /// Worked rows: what texts of splits say.
 pub fn text_rows()
-    ensures { TextRows }
+    ensures { SplitTextRows }
 {}
 
 /// Worked rows: the texts of splits.
 pub fn written_rows()
-    ensures { WrittenRows }
+    ensures { WrittenSplitRows }
 {}

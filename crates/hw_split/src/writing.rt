@@ -1,14 +1,14 @@
 //! Writing a split, line by line.
 
 ghost use Rattle.hw_desk.specs.Writers.{Puts};
-ghost use Rattle.hw_split.specs.Written.{node_text, nodes_text, written_split};
+ghost use Rattle.hw_split.specs.Written.{node_written, nodes_written, written_split};
 
 use crate::node::{Node, Split};
 use hw_desk::Writer;
 
 /// Puts the line of a node.
 fn put_node<W: Writer>(out: &mut W, node: Node)
-    ensures { Puts (node_text node) (W.state out.old) (W.state out.new) }
+    ensures { Puts (node_written node) (W.state out.old) (W.state out.new) }
 {
     match node {
         Node::Fork { ship, slot } => {
@@ -24,7 +24,7 @@ fn put_node<W: Writer>(out: &mut W, node: Node)
 
 /// Puts the lines of the nodes.
 fn put_nodes<W: Writer>(out: &mut W, nodes: &[Node])
-    ensures { Puts (nodes_text nodes.now) (W.state out.old) (W.state out.new) }
+    ensures { Puts (nodes_written nodes.now) (W.state out.old) (W.state out.new) }
 {
     for node in nodes {
         put_node(out, *node);

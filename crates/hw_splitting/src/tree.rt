@@ -2,9 +2,9 @@
 //!
 //! Nothing is promised of it: its text is read like any other.
 
+use crate::splitting::{Halves, Side, Splitter};
 use hw_flat::{Flat, ShipId, Slot};
 use hw_model::NoMemory;
-use hw_prices::{Halves, Side, Splitter};
 use hw_text::put_number;
 use std::alloc::Global;
 use std::mem;
@@ -49,7 +49,11 @@ pub(crate) fn grown(
     let whole = splitter.whole(alloc, flat, best)?;
     tree.branches.push(Branch::Open(whole))?;
     let mut leaves: u32 = 1;
-    'growing: while leaves < parts {
+    // Each turn splits a leaf or marks one as done: fewer than `parts` of the first kind, at most as many of the second.
+    for _turn in 0..parts.saturating_mul(2) {
+        if parts <= leaves {
+            return Ok(tree);
+        }
         let Some(place) = greatest(&tree, &splitter) else {
             return Ok(tree);
         };
@@ -123,14 +127,20 @@ pub(crate) fn text_of(alloc: Global, tree: &Tree) -> Result<Vec<u8>, NoMemory> {
     let mut text = Vec::from_slice(alloc, b"split 1\n")?;
     let mut left = Vec::new(alloc);
     left.push(0usize)?;
-    while let Some(place) = left.pop() {
+    // Each branch is met once, and the part of a tree without branches.
+    for _branch in 0..tree.branches.len().max(1) {
+        let Some(place) = left.pop() else {
+            break;
+        };
         match tree.branches.get(place) {
-            Some(Branch::Fork {
-                ship,
-                slot,
-                earlier,
-                later,
-            }) => {
+            Some(
+                Branch::Fork {
+                    ship,
+                    slot,
+                    earlier,
+                    later,
+                },
+            ) => {
                 put_fork(&mut text, *ship, *slot)?;
                 left.push(*later)?;
                 left.push(*earlier)?;

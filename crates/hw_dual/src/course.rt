@@ -2,10 +2,10 @@
 //! direction's length, with a pace that falls where nothing is gained. See M. Held, P. Wolfe and H. P. Crowder,
 //! "Validation of Subgradient Optimization", Mathematical Programming 6, 1974.
 
-use crate::settings::{DISTANCE, LENGTH, PATIENCE, PROGRESS, SCALE, SLOWED};
+use crate::settings::{COUNTED_PACE, DISTANCE, LENGTH, NEAR, PATIENCE, PROGRESS, SCALE, SLOWED};
 
-/// What a room may earn at most to be refuted under a best, in parts.
-pub(crate) fn goal(best: u64) -> i64 {
+/// What a room may earn at most, in parts, so that nothing in it carries more than this, in tenths of a tonne.
+pub fn goal(best: u64) -> i64 {
     i64::try_from(best)
         .unwrap_or(i64::MAX)
         .saturating_add(1)
@@ -13,27 +13,42 @@ pub(crate) fn goal(best: u64) -> i64 {
         .saturating_sub(1)
 }
 
+/// A little less than what a room earns, both in parts: a target that is met soon.
+pub fn near(earned: i64) -> i64 {
+    earned.saturating_sub(earned.saturating_abs() / NEAR)
+}
+
 /// What to do in a room.
 #[derive(Clone, Copy)]
-pub(crate) struct Course {
+pub struct Course {
     /// How many steps at most.
     pub(crate) steps: u32,
     /// How fast they begin, in parts of `FULL_PACE`.
-    pub(crate) pace: i64,
+    pace: i64,
     /// What the room may earn in the end, in parts.
-    pub(crate) target: i64,
+    target: i64,
     /// It is enough if the room earns no more than this.
-    pub(crate) stop: i64,
+    stop: i64,
 }
 
 impl Course {
-    /// The course to a goal, with which it ends; without a goal it takes all its steps.
-    pub(crate) fn towards(goal: Option<i64>, steps: u32, pace: i64) -> Course {
+    /// The course to a goal, in parts, with which it ends; without a goal it takes all its steps. The pace with which it
+    /// begins is in parts of `FULL_PACE`.
+    pub fn towards(goal: Option<i64>, steps: u32, pace: i64) -> Course {
         Course {
             steps,
             pace,
             target: goal.unwrap_or(i64::MAX),
             stop: goal.unwrap_or(i64::MIN),
+        }
+    }
+
+    /// A slow course to a goal, on which it is counted what ships choose. It goes towards a target of its own, in parts
+    /// like the goal.
+    pub fn counting(goal: Option<i64>, steps: u32, target: i64) -> Course {
+        Course {
+            target,
+            ..Course::towards(goal, steps, COUNTED_PACE)
         }
     }
 }

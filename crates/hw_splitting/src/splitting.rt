@@ -2,36 +2,33 @@
 //!
 //! Nothing is promised of it: a split is good or bad, but not wrong.
 
-use crate::course::{Course, goal};
-use crate::pricer::Pricer;
-use crate::rounds::find_prices;
-use crate::settings::{COUNTED_IN_SPLIT, COUNTED_PACE, FORKS, NEAR, ROOM_PACE, SIDE_STEPS};
-use crate::workshop::Workshop;
+use crate::settings::{COUNTED, FORKS, SIDE_STEPS};
+use hw_dual::{Course, Pricer, ROOM_PACE, Workshop, find_prices, goal, near};
 use hw_flat::{Flat, Room, ShipId, Slot};
 use hw_model::NoMemory;
 use std::alloc::Global;
 
 /// A room with its prices.
 #[derive(Drop)]
-pub struct Side {
-    pub room: Room,
+pub(crate) struct Side {
+    room: Room,
     /// What ships earn in it under the prices, with what these give back, in parts.
-    pub earns: i64,
+    pub(crate) earns: i64,
     prices: Vec<i64>,
 }
 
 /// A room that is split: the ship's slot is before this one, or it is this or a later one.
 #[derive(Drop)]
-pub struct Halves {
-    pub ship: ShipId,
-    pub slot: Slot,
-    pub earlier: Side,
-    pub later: Side,
+pub(crate) struct Halves {
+    pub(crate) ship: ShipId,
+    pub(crate) slot: Slot,
+    pub(crate) earlier: Side,
+    pub(crate) later: Side,
 }
 
 /// Splits the rooms of a problem by prices.
 #[derive(Drop)]
-pub struct Splitter {
+pub(crate) struct Splitter {
     pricer: Pricer,
     /// A room that earns no more than this is not worth splitting, in parts; none without a best.
     goal: Option<i64>,
@@ -49,7 +46,7 @@ struct Candidate {
 
 impl Splitter {
     /// A splitter of a problem, whose best timetable known carries this, in tenths of a tonne.
-    pub fn new(alloc: Global, flat: &Flat, best: Option<u64>) -> Result<Splitter, NoMemory> {
+    pub(crate) fn new(alloc: Global, flat: &Flat, best: Option<u64>) -> Result<Splitter, NoMemory> {
         Ok(Splitter {
             pricer: Pricer::new(alloc, flat)?,
             goal: best.map(goal),
@@ -58,13 +55,13 @@ impl Splitter {
     }
 
     /// The whole room, with its prices and the tolls that these take.
-    pub fn whole(
+    pub(crate) fn whole(
         &mut self,
         alloc: Global,
         flat: &Flat,
         best: Option<u64>,
     ) -> Result<Side, NoMemory> {
-        let mut shop = Workshop::new(alloc, flat)?;
+        let mut shop = Workshop::new(alloc, flat, 0)?;
         let room = Room::whole(alloc, flat.shape())?;
         let earns = find_prices(alloc, flat, &mut self.pricer, &room, best, &mut shop)?;
         let prices = Vec::from_slice(alloc, &self.pricer.prices)?;
@@ -76,7 +73,7 @@ impl Splitter {
     }
 
     /// Whether a room may hold something better than the best known.
-    pub fn is_open(&self, side: &Side) -> bool {
+    pub(crate) fn is_open(&self, side: &Side) -> bool {
         match self.goal {
             Some(goal) => goal < side.earns,
             None => true,
@@ -85,7 +82,7 @@ impl Splitter {
 
     /// Splits a room at one of a few forks, that for which the product of what each side earns less is
     /// greatest. None where each ship has one slot.
-    pub fn halve(&mut self, alloc: Global, side: &Side) -> Result<Option<Halves>, NoMemory> {
+    pub(crate) fn halve(&mut self, alloc: Global, side: &Side) -> Result<Option<Halves>, NoMemory> {
         self.count(side)?;
         let candidates = candidates(alloc, &self.counts, &side.room)?;
         let mut best: Option<Halves> = None;
@@ -109,12 +106,9 @@ impl Splitter {
             }
         }
         self.pricer.take_prices(&side.prices);
-        let near = side.earns.saturating_sub(side.earns.saturating_abs() / NEAR);
-        let course = Course::towards(self.goal, COUNTED_IN_SPLIT, COUNTED_PACE);
-        let counting = Course {
-            target: self.goal.unwrap_or(near).max(near),
-            ..course
-        };
+        let near = near(side.earns);
+        let target = self.goal.unwrap_or(near).max(near);
+        let counting = Course::counting(self.goal, COUNTED, target);
         self.pricer
             .improve_counted(&side.room, counting, &mut self.counts)?;
         Ok(())
@@ -180,15 +174,11 @@ fn no_counts(alloc: Global, flat: &Flat) -> Result<Vec<Vec<u32>>, NoMemory> {
 }
 
 /// The forks of those ships whose choices are spread most, a few of them; of equal ones the lower ship.
-fn candidates(
-    alloc: Global,
-    counts: &[Vec<u32>],
-    room: &Room,
-) -> Result<Vec<Candidate>, NoMemory> {
+fn candidates(alloc: Global, counts: &[Vec<u32>], room: &Room) -> Result<Vec<Candidate>, NoMemory> {
     let mut out: Vec<Candidate> = Vec::new(alloc);
     for ship in 0..room.ships() {
         if let Some(slots) = counts.get(ship as usize) {
-            if let Some(candidate) = candidate(slots, ship, room.low(ship), room.high(ship)) {
+            if let Some(candidate) = fork_of(slots, ship, room.low(ship), room.high(ship)) {
                 put_candidate(&mut out, candidate)?;
             }
         }
@@ -213,7 +203,7 @@ fn put_candidate(out: &mut Vec<Candidate>, candidate: Candidate) -> Result<(), N
 }
 
 /// The fork of a ship's range: as nearly as may be, half of its choices are on each side.
-fn candidate(counts: &[u32], ship: ShipId, low: Slot, high: Slot) -> Option<Candidate> {
+fn fork_of(counts: &[u32], ship: ShipId, low: Slot, high: Slot) -> Option<Candidate> {
     let total = sum(counts, low, high.saturating_add(1));
     let mut most: u32 = 0;
     let mut before: u32 = 0;

@@ -1,13 +1,12 @@
 //! The prices of the whole room, with tolls that are found on the way, and tolls for other rooms.
 
-use crate::course::{Course, goal};
+use crate::course::{Course, goal, near};
 use crate::pricer::Pricer;
 use crate::rows::{Row, same};
 use crate::settings::{
-    COUNTED, COUNTED_IN_ROOM, COUNTED_PACE, FOUND, FOUND_IN_ROOM, FULL_PACE, NEAR, ROOM_PACE,
-    ROOT_STEPS, ROUND_PACE, ROUNDS, SAMPLED,
+    COUNTED, COUNTED_IN_ROOM, FOUND, FOUND_IN_ROOM, FULL_PACE, ROOM_PACE, ROOT_STEPS, ROUND_PACE,
+    ROUNDS, SAMPLED,
 };
-use crate::table::Table;
 use crate::workshop::Workshop;
 use hw_flat::{Flat, Room};
 use hw_model::NoMemory;
@@ -15,9 +14,10 @@ use hw_tolls::Toll;
 use std::alloc::Global;
 
 /// Finds prices for a room from nothing, adds tolls that help, and makes timetables by the prices that
-/// it meets. It ends once the room earns no more than the best timetable carries, if there is one.
-/// Returns what the room earns under the prices, with what they give back, in parts.
-pub(crate) fn find_prices(
+/// it meets. It ends once the room earns no more than the best timetable carries, if there is one:
+/// `best`, in tenths of a tonne, or one that was made. Returns what the room earns under the prices,
+/// with what they give back, in parts.
+pub fn find_prices(
     alloc: Global,
     flat: &Flat,
     pricer: &mut Pricer,
@@ -34,12 +34,8 @@ pub(crate) fn find_prices(
             break;
         }
         pricer.separator.forget();
-        let near = least.saturating_sub(least.saturating_abs() / NEAR);
-        let course = Course::towards(aim, COUNTED, COUNTED_PACE);
-        let counting = Course {
-            target: course.target.max(near),
-            ..course
-        };
+        let target = aim.unwrap_or(i64::MAX).max(near(least));
+        let counting = Course::counting(aim, COUNTED, target);
         least = least.min(pricer.improve_sampled(alloc, room, counting, SAMPLED)?);
         make_by_samples(alloc, pricer, room, shop)?;
         if !add_found(alloc, flat, pricer, FOUND)? {
@@ -69,15 +65,15 @@ fn make_by_samples(
     shop: &mut Workshop,
 ) -> Result<(), NoMemory> {
     for prices in pricer.samples.iter() {
-        let table = Table::new(alloc, &pricer.subproblems, &pricer.rows, prices)?;
+        let table = pricer.table(alloc, prices)?;
         shop.make_by(alloc, room, &table, None)?;
     }
     Ok(())
 }
 
 /// Adds a few tolls that are overfilled in a room, under prices that were moved for it. Whether there
-/// are any.
-pub(crate) fn add_tolls(
+/// are any. The goal is in parts.
+pub fn add_tolls(
     alloc: Global,
     flat: &Flat,
     pricer: &mut Pricer,

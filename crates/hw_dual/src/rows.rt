@@ -5,14 +5,14 @@ use hw_model::{Job, NoMemory, Rule};
 use hw_tolls::{Block, Charge, Toll};
 use std::alloc::Global;
 
-/// A candidate.
+/// A toll that may have a price.
 #[derive(Drop)]
-pub(crate) struct Row {
-    pub(crate) toll: Toll,
+pub struct Row {
+    pub toll: Toll,
     /// What ships take of it.
     pub(crate) charges: Vec<Charge>,
-    /// Whether the search has declared the toll.
-    pub(crate) is_declared: bool,
+    /// Whether a search has declared the toll. It is not at first, and whoever declares it says so here.
+    pub is_declared: bool,
     /// What ships take of it in the present room.
     pub(crate) parts: Vec<Part>,
     /// In how many rooms it has had no price since it last had one.

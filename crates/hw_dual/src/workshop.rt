@@ -7,32 +7,34 @@ use hw_making::{Maker, Ranking};
 use hw_model::{Hole, Job, NoMemory, Rule};
 use std::alloc::Global;
 
-/// Makes timetables, where that doesn't take too long.
+/// Makes timetables, where that doesn't take too long, and keeps the best.
 #[derive(Drop)]
-pub(crate) struct Workshop {
+pub struct Workshop {
     maker: Option<Maker>,
 }
 
 impl Workshop {
-    pub(crate) fn new(alloc: Global, flat: &Flat) -> Result<Workshop, NoMemory> {
+    /// Of a problem, without a timetable yet. The seed chooses how a timetable is varied.
+    pub fn new(alloc: Global, flat: &Flat, seed: u32) -> Result<Workshop, NoMemory> {
         if MOST_EFFORT < effort(flat) {
             return Ok(Workshop { maker: None });
         }
         Ok(Workshop {
-            maker: Some(Maker::new(alloc, flat)?),
+            maker: Some(Maker::new(alloc, flat, seed)?),
         })
     }
 
-    /// Makes a timetable by what ships carry.
-    pub(crate) fn make(&mut self, alloc: Global, room: &Room) -> Result<(), NoMemory> {
+    /// Makes a timetable in a room by what ships carry.
+    pub fn make(&mut self, alloc: Global, room: &Room) -> Result<(), NoMemory> {
         match &mut self.maker {
             None => Ok(()),
             Some(maker) => maker.make(alloc, room, None, Ranking::Regret, None),
         }
     }
 
-    /// Makes timetables by what ships earn.
-    pub(crate) fn make_by(
+    /// Makes timetables in a room by what ships earn. Keeps one that carries more than the one before, and than `best`, in
+    /// tenths of a tonne.
+    pub fn make_by(
         &mut self,
         alloc: Global,
         room: &Room,
@@ -48,6 +50,22 @@ impl Workshop {
         }
     }
 
+    /// Keeps the timetable of a point room, if it carries more than the one before.
+    pub fn take(&mut self, point: &Room) -> Result<(), NoMemory> {
+        match &mut self.maker {
+            None => Ok(()),
+            Some(maker) => maker.take(point),
+        }
+    }
+
+    /// Places a few ships of the best timetable anew, by what ships earn and carry, so many times.
+    pub fn vary(&mut self, alloc: Global, table: &Table, tries: u32) -> Result<(), NoMemory> {
+        match &mut self.maker {
+            None => Ok(()),
+            Some(maker) => maker.vary(alloc, table.rows(), tries),
+        }
+    }
+
     /// What the best timetable that was made carries, in tenths of a tonne.
     pub(crate) fn cargo(&self) -> Option<u64> {
         match &self.maker {
@@ -56,12 +74,8 @@ impl Workshop {
         }
     }
 
-    /// A copy of it, if it carries more than `best`.
-    pub(crate) fn better(
-        &self,
-        alloc: Global,
-        best: Option<u64>,
-    ) -> Result<Option<Timetable>, NoMemory> {
+    /// A copy of the best timetable that was made, if it carries more than `best`, in tenths of a tonne.
+    pub fn better(&self, alloc: Global, best: Option<u64>) -> Result<Option<Timetable>, NoMemory> {
         match &self.maker {
             None => Ok(None),
             Some(maker) => maker.better(alloc, best),

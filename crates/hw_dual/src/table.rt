@@ -3,13 +3,13 @@
 use crate::course::goal;
 use crate::rows::{Row, capacity};
 use crate::subproblems::Subproblem;
-use hw_flat::{Room, ShipId};
+use hw_flat::{Room, ShipId, Slot};
 use hw_model::NoMemory;
 use std::alloc::Global;
 
 /// What ships earn under some prices, in parts.
 #[derive(Drop)]
-pub(crate) struct Table {
+pub struct Table {
     /// By ship and slot.
     earnings: Vec<Vec<i64>>,
     /// What the prices give back.
@@ -47,8 +47,8 @@ impl Table {
         }
     }
 
-    /// What a ship earns in each slot.
-    pub(crate) fn row(&self, ship: ShipId) -> &[i64] {
+    /// What a ship earns in each slot, in parts; nothing where there is no such ship.
+    pub fn row(&self, ship: ShipId) -> &[i64] {
         match self.earnings.get(ship as usize) {
             None => &[],
             Some(row) => row,
@@ -60,20 +60,33 @@ impl Table {
         &self.earnings
     }
 
-    /// A room is refuted where the ships' greatest earnings in their ranges are at most this
-    /// together.
-    pub(crate) fn limit(&self, best: u64) -> i64 {
+    /// In a room where the ships' greatest earnings in their ranges are at most this together, in parts, nothing carries
+    /// more than `best`, in tenths of a tonne.
+    pub fn limit(&self, best: u64) -> i64 {
         goal(best).saturating_sub(self.allowance)
     }
 
-    /// The sum of the ships' greatest earnings in their ranges.
-    pub(crate) fn total(&self, room: &Room) -> i64 {
+    /// The sum of the ships' greatest earnings in their ranges of a room, in parts.
+    pub fn total(&self, room: &Room) -> i64 {
         let mut total: i64 = 0;
         for ship in 0..room.ships() {
-            let most = greatest(self.row(ship), room.low(ship), room.high(ship));
+            let most = self.greatest(ship, room.low(ship), room.high(ship));
             total = total.wrapping_add(most);
         }
         total
+    }
+
+    /// The greatest earnings of a ship in a range of slots, from the first to the last, in parts; less than any where there are
+    /// none.
+    pub fn greatest(&self, ship: ShipId, low: Slot, high: Slot) -> i64 {
+        let row = self.row(ship);
+        let mut most = i64::MIN;
+        for slot in low..high.saturating_add(1) {
+            if let Some(earned) = row.get(slot as usize) {
+                most = most.max(*earned);
+            }
+        }
+        most
     }
 }
 
@@ -91,15 +104,4 @@ fn pay(earnings: &mut [i64], low: u32, high: u32, paid: i64) {
             *earned = earned.wrapping_sub(paid);
         }
     }
-}
-
-/// The greatest earnings of a range of slots.
-pub(crate) fn greatest(row: &[i64], low: u32, high: u32) -> i64 {
-    let mut most = i64::MIN;
-    for slot in low..high.saturating_add(1) {
-        if let Some(earned) = row.get(slot as usize) {
-            most = most.max(*earned);
-        }
-    }
-    most
 }

@@ -5,6 +5,7 @@ use crate::row_states::{RowState, aimed, take_up};
 use crate::rows::{Part, Row, capacity};
 use crate::settings::FULL_PACE;
 use crate::subproblems::{Share, Subproblem, begin_subproblems, subproblems};
+use crate::table::Table;
 use hw_cuts::Separator;
 use hw_flat::{Flat, Room};
 use hw_model::NoMemory;
@@ -17,15 +18,16 @@ const DEAREST: i64 = 1_000_000_000_000_000;
 
 /// Candidates with prices, and what moving these takes.
 #[derive(Drop)]
-pub(crate) struct Pricer {
+pub struct Pricer {
     pub(crate) separator: Separator,
-    pub(crate) subproblems: Vec<Subproblem>,
+    subproblems: Vec<Subproblem>,
     /// By how much what is paid in a slot exceeds what is paid in the slot before: for each slot of
     /// each ship, and after its last one.
     rises: Vec<i64>,
-    pub(crate) rows: Vec<Row>,
+    /// The candidates, in the order in which they were added.
+    pub rows: Vec<Row>,
     /// The price of each row's unit, in parts.
-    pub(crate) prices: Vec<i64>,
+    pub prices: Vec<i64>,
     /// The best prices of a course.
     best: Vec<i64>,
     row_states: Vec<RowState>,
@@ -42,7 +44,7 @@ pub(crate) struct Pricer {
 
 impl Pricer {
     /// The candidates of a problem, without prices.
-    pub(crate) fn new(alloc: Global, flat: &Flat) -> Result<Pricer, NoMemory> {
+    pub fn new(alloc: Global, flat: &Flat) -> Result<Pricer, NoMemory> {
         let separator = Separator::new(alloc, flat)?;
         let tolls = separator.candidates(alloc, flat)?;
         let shape = flat.shape();
@@ -93,7 +95,7 @@ impl Pricer {
     }
 
     /// Counts a room in which rows had a price or none. One that was held back is a price.
-    pub(crate) fn count_idle(&mut self) {
+    pub fn count_idle(&mut self) {
         for (row, price) in self.rows.iter_mut().zip(&self.prices) {
             row.idle = if 0 < *price {
                 0
@@ -112,7 +114,7 @@ impl Pricer {
     /// place of each row, none where it was dropped.
     ///
     /// It takes a step for each slot of each row that stays.
-    pub(crate) fn drop_idle(
+    pub fn drop_idle(
         &mut self,
         alloc: Global,
         rooms: u32,
@@ -141,7 +143,7 @@ impl Pricer {
 
     /// Runs the subgradient method in a room. Leaves the best prices met and returns their bound, in
     /// parts.
-    pub(crate) fn improve(&mut self, room: &Room, course: Course) -> Result<i64, NoMemory> {
+    pub fn improve(&mut self, room: &Room, course: Course) -> Result<i64, NoMemory> {
         self.begin(room)?;
         let mut step_rule = StepRule::new(course);
         for _step in 0..course.steps {
@@ -179,7 +181,7 @@ impl Pricer {
     }
 
     /// Like `improve`, and counts, by ship and slot, how often each slot is chosen.
-    pub(crate) fn improve_counted(
+    pub fn improve_counted(
         &mut self,
         room: &Room,
         course: Course,
@@ -187,7 +189,7 @@ impl Pricer {
     ) -> Result<i64, NoMemory> {
         self.begin(room)?;
         let mut step_rule = StepRule::new(course);
-        for _step in 0..course.steps {
+        for _counted in 0..course.steps {
             let goes_on = self.step(&mut step_rule)?;
             count_choices(counts, &self.subproblems);
             if !goes_on {
@@ -216,11 +218,16 @@ impl Pricer {
 
     /// Takes other prices, with none for rows that were added since, and forgets those that were held
     /// back.
-    pub(crate) fn take_prices(&mut self, prices: &[i64]) {
+    pub fn take_prices(&mut self, prices: &[i64]) {
         self.held.clear();
         for (place, price) in self.prices.iter_mut().enumerate() {
             *price = price_at(prices, place);
         }
+    }
+
+    /// What ships earn under a price for each row, in parts.
+    pub fn table(&self, alloc: Global, prices: &[i64]) -> Result<Table, NoMemory> {
+        Table::new(alloc, &self.subproblems, &self.rows, prices)
     }
 
     /// Starts in a room with the prices that stand, those that were held back among them.
@@ -385,8 +392,8 @@ impl Pricer {
     }
 }
 
-/// A row's price among these.
-pub(crate) fn price_at(prices: &[i64], row: usize) -> i64 {
+/// A row's price among these, 0 where it has none.
+pub fn price_at(prices: &[i64], row: usize) -> i64 {
     prices.get(row).copied().unwrap_or(0)
 }
 
