@@ -13,9 +13,9 @@ returns-in-Err-join g c = inr (record { taken = c.in-Ok.certs; reads = c.in-Ok.e
 pub returns-in-Ok-send_third : goal.returns-in-Ok-send_third
 returns-in-Ok-send_third g c =
     let sends = rw c.deref-2.ensures.value at c.in-Ok-send_third.ensures in
-    record { mid = g.D.Desk.state c.read_certs.new.desk; taken = c.in-Ok.certs; reads = c.in-Ok.ensures; joins = c.in-Ok-join.ensures.joins; sends = record { only = sends.only; made = sends.made; named = sends.named; answer = sends.answer } }
+    record { mid = g.D.Desk.state c.read_certs.new.desk; taken = c.in-Ok.certs; reads = c.in-Ok.ensures; joins = c.in-Ok-join.ensures; sends = record { only = sends.only; made = sends.made; named = sends.named; answer = sends.answer } }
 
 pub returns-in-Err-send_third : goal.returns-in-Err-send_third
 returns-in-Err-send_third g c =
     let sends = rw c.deref-2.ensures.value at c.in-Err-send_third.ensures in
-    (c.in-Ok-join.joined, record { mid = g.D.Desk.state c.read_certs.new.desk; taken = c.in-Ok.certs; reads = c.in-Ok.ensures; joins = c.in-Ok-join.ensures.joins; sends = record { only = sends.only; made = sends.made; named = sends.named; answer = sends.answer } })
+    (c.in-Ok-join.joined, record { mid = g.D.Desk.state c.read_certs.new.desk; taken = c.in-Ok.certs; reads = c.in-Ok.ensures; joins = c.in-Ok-join.ensures; sends = record { only = sends.only; made = sends.made; named = sends.named; answer = sends.answer } })
