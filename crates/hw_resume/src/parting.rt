@@ -4,20 +4,17 @@ ghost use Rattle.std.specs.Prelude.{◌≡◌, ◌≤◌, All};
 ghost use Rattle.hw_lines.specs.Valid.{LineFits, Valid};
 ghost use Rattle.hw_model.specs.Rooms.{RoomFits};
 ghost use Rattle.hw_course.specs.Courses.{CourseStands};
-ghost use Rattle.hw_resume.specs.Parts.{ClosesCourse, PartMeets};
+ghost use Rattle.hw_resume.specs.Parts.{ClosesCourse, PartingMeets};
 
-use crate::closed::closing_number;
-use crate::closing::closing_lines;
 use crate::confined::Confined;
-use crate::going_on::{Course, begun, last_table};
-use crate::handing::hand_all;
-use crate::raising::IN_PLACE;
 use crate::reminder::Reminder;
-use crate::resumed::{Parted, CourseStop};
+use crate::resumed::Parted;
 use crate::resuming::{counted, search};
 use hw_advice::Adviser;
+use hw_course::{Course, CourseStop, IN_PLACE, begun, hand_all, last_table};
 use hw_flat::{Flat, Room};
 use hw_lines::Line;
+use hw_parts::{closing_lines, is_room_closed};
 use hw_progress::MOST_BUDGET;
 use std::alloc::Global;
 
@@ -37,11 +34,11 @@ pub fn part<A: Adviser + Drop>(
     requires room { RoomFits flat.now room.now }
     requires least { 1 ≤ budget }
     requires most { budget ≤ MOST_BUDGET }
-    ensures { PartMeets flat.now budget start.items room.now result }
+    ensures { PartingMeets flat.now budget start.items room.now result }
 {
     let by = counted(&start);
     let course = begun(alloc, flat, start)?;
-    if closing_number(flat, &course.lines, room).is_some() {
+    if is_room_closed(flat, &course.lines, room) {
         return Ok(Parted {
             lines: course.lines,
             is_closed: true,
@@ -52,7 +49,7 @@ pub fn part<A: Adviser + Drop>(
     let (is_spent, found) = search(alloc, flat, budget, adviser);
     let course = hand_all(alloc, course, by, &found)?;
     let course = close(alloc, course, room)?;
-    let is_closed = closing_number(flat, &course.lines, room).is_some();
+    let is_closed = is_room_closed(flat, &course.lines, room);
     if !is_closed && !is_spent {
         return Err(CourseStop::NoMemory);
     }
@@ -68,7 +65,7 @@ fn close<'f>(alloc: Global, course: Course<'f>, room: &Room) -> Result<Course<'f
     requires room { RoomFits course.flat.now room.now }
     ensures { ClosesCourse course.entry result }
 {
-    if closing_number(course.flat, &course.lines, room).is_some() {
+    if is_room_closed(course.flat, &course.lines, room) {
         return Ok(course);
     }
     match closing_lines(alloc, course.flat, &course.lines, course.best(), room)? {
