@@ -210,8 +210,8 @@ closed_means f all branch flat fit valid has closes = record {
   best = last_table all;
   permitted = (says_all f all flat fit valid).permitted;
   none_better = λ table c permits holds worth.
-    let inside = (has.inside table).1 (inside_whole f table permits.listed, holds) in
-    not_above (beats c (best_of f all)) (room_closed f all (branch_room (shape_of f) branch) table c flat fit valid has.is_room closes inside permits worth);
+      let inside = (has.inside table).1 (inside_whole f table permits.listed, holds) in
+      not_above (beats c (best_of f all)) (room_closed f all (branch_room (shape_of f) branch) table c flat fit valid has.is_room closes inside permits worth);
 }
 
 -- ---- the certificate isn't gone on from
