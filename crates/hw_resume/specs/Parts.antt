@@ -30,6 +30,6 @@ pub record PartGoesOn (f : Problem) (budget : ℕ) (start : List Line) (room : R
   pub spent : p.is_closed ≡ false → budget ≤ length (lemmas_of goes_on.more)
 
 -- what a search within a part meets. It needs a budget in its limit, valid lines and a room of the problem
-abbrev pub WithinPartMeets : Problem → ℕ → List Line → RoomModel → Result Parted CourseStop → Type 0
-WithinPartMeets f budget start room (Ok p) = PartGoesOn f budget start room p
-WithinPartMeets f budget start room (Err stop) = CourseStopsFor f start stop
+abbrev pub PartingMeets : Problem → ℕ → List Line → RoomModel → Result Parted CourseStop → Type 0
+PartingMeets f budget start room (Ok p) = PartGoesOn f budget start room p
+PartingMeets f budget start room (Err stop) = CourseStopsFor f start stop

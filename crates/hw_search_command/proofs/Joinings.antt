@@ -34,7 +34,6 @@ use Rattle.hw_command.proofs.SentWorks.{broken_works, made, sent_works}
 use Rattle.hw_command.proofs.Stops.{stops_carries}
 use Rattle.hw_split.specs.declared.node.Node.{Node}
 use Rattle.hw_course.specs.Courses.{CourseStopsFor}
-use Rattle.hw_join.specs.Joining.{Joins}
 use Rattle.hw_join.specs.declared.joined.Joined.{Joined}
 use Rattle.hw_course.specs.declared.stop.CourseStop.{CourseStop}
 use Rattle.hw_course.specs.declared.stop.CourseStop.TheVariants as stops
@@ -47,8 +46,8 @@ use Rattle.hw_subject.proofs.Certified.{modelled}
 use Rattle.hw_subject.proofs.Certless.{IsCertless, certless}
 use Rattle.hw_subject.proofs.Shown.{bound_says, verdict_says}
 use Rattle.hw_subject.proofs.Readings.{all_as, all_on, before_last}
-use Rattle.hw_search_command.specs.Certs.{CertsStopIn, JoinsTo, ReadsCerts, SendsJoined, Unjoined, Unread, joined_reports, open_reports}
-use Rattle.hw_search_command.specs.Joining.{GivesSplit, JoinDone, JoinGives, JoinSays, join_task}
+use Rattle.hw_search_command.specs.Certs.{AreCerts, CertsStopIn, JoinsTo, ReadsCerts, SendsJoined, Unjoined, Unread, joined_reports, open_reports}
+use Rattle.hw_search_command.specs.Joining.{GivesSplit, JoinDone, JoinGives, JoinSays, JoinsCerts, join_task}
 use Rattle.hw_search_command.specs.Resuming.{stop_outcome}
 use Rattle.hw_search_command.specs.Splits.{ReadsSplit, StopsAtSplit}
 use Rattle.hw_search_command.specs.declared.joining.JoinEnd.{JoinEnd}
@@ -176,26 +175,35 @@ unjoined_meets topic {proof = proof} {w = w} {end = end} {e = e} names stopped h
 
 -- ---- the lines went to Proof
 
-joined_done : (topic : Topic) {split certs proof : List ℕ} {x y z w : DeskState} {given : Given} {nodes : List Node} (j : Joined) → (h : ReadsSubject (topic_subject topic) x y given) → ReadsSplit (searched_in given.flat given.repair) split y z nodes → SendsJoined {E = Unit} (judged (topic_subject topic) h.value) nodes certs proof z w j (Ok tt) → JoinDone (topic_subject topic) split proof x w j.verdict j.bound (repair_ships ((topic_subject topic).problem h.value) ((topic_subject topic).plan h.value)) ((topic_subject topic).naming h.value) j.first_open
+-- what they were joined to
+abbrev joins_certs : (topic : Topic) {split certs proof : List ℕ} {x y z w : DeskState} {given : Given} {nodes : List Node} {sent : Result Unit Unit} (j : Joined) → (h : ReadsSubject (topic_subject topic) x y given) → ReadsSplit (searched_in given.flat given.repair) split y z nodes → SendsJoined (judged (topic_subject topic) h.value) nodes certs proof z w j sent → JoinsCerts (topic_subject topic) split certs x.held
+joins_certs topic {certs = certs} j h k m = record {
+  gives = gives_split h k;
+  taken = m.taken.items;
+  told = subst (λ (told : Option (List ℕ)). IfSome told (AreCerts (judged (topic_subject topic) h.value) m.taken.items)) (ap (λ held. held certs) (both_entered topic h k).begins.held) m.reads.answer.2;
+  joined = j;
+  joins = m.joins;
+}
+
+joined_done : (topic : Topic) {split certs proof : List ℕ} {x y z w : DeskState} {given : Given} {nodes : List Node} (j : Joined) → (h : ReadsSubject (topic_subject topic) x y given) → ReadsSplit (searched_in given.flat given.repair) split y z nodes → SendsJoined {E = Unit} (judged (topic_subject topic) h.value) nodes certs proof z w j (Ok tt) → JoinDone (topic_subject topic) split certs proof x w j.verdict j.bound (repair_ships ((topic_subject topic).problem h.value) ((topic_subject topic).plan h.value)) ((topic_subject topic).naming h.value) j.first_open
 joined_done topic {w = w} j h k m =
     let s = topic_subject topic in
+    let lines = m.joins.joins in
     record {
-      gives = gives_split h k;
+      joins = joins_certs topic j h k m;
       naming = refl;
       counted = refl;
       made = made (all_entered topic h k m.reads) m.sends;
-      joined = j;
-      joins = m.joins;
       verdict = refl;
       last_bound = refl;
       first_open = refl;
-      means = verdict_says s h.value j.lines.items j.verdict (last_table j.lines.items) (modelled topic h) m.joins.fit m.joins.valid m.joins.verdict refl;
-      bounds = bound_says s h.value j.lines.items j.bound (modelled topic h) m.joins.valid m.joins.bound;
+      means = verdict_says s h.value j.lines.items j.verdict (last_table j.lines.items) (modelled topic h) lines.fit lines.valid lines.verdict refl;
+      bounds = bound_says s h.value j.lines.items j.bound (modelled topic h) lines.valid lines.bound;
       certificate = told_map (w.trays tray.Proof).sent (λ bytes text. text) m.sends.answer.1;
     }
 
 -- what the reports say, by whether a part is open
-joined_says : (s : Subject) (split certs proof : List ℕ) (x w : DeskState) (names : Naming) (ships : Option ℕ) (j : Joined) (first : Option ℕ) → JoinDone s split proof x w j.verdict j.bound ships names first → JoinSays s split certs proof x w (checked j.verdict j.bound ships names ∷ open_reports first)
+joined_says : (s : Subject) (split certs proof : List ℕ) (x w : DeskState) (names : Naming) (ships : Option ℕ) (j : Joined) (first : Option ℕ) → JoinDone s split certs proof x w j.verdict j.bound ships names first → JoinSays s split certs proof x w (checked j.verdict j.bound ships names ∷ open_reports first)
 joined_says s split certs proof x w names ships j None done = done
 joined_says s split certs proof x w names ships j (Some number) done = done
 
@@ -225,7 +233,7 @@ broke_meets topic {split = split} {certs = certs} {proof = proof} {x = x} {w = w
       mid = w;
       reports = [];
       works = subst (λ (inputs : List Named). Breaks inputs (JoinGives s split x.held) (Some proof) x w) (same_inputs s split certs) (broken_works (all_entered topic h k m.reads) (give_all topic h k) (m.reads.answer.0 ∙ (k.read_faults ∙ h.read_faults)) m.sends);
-      says = λ own. record { gives = gives_split h k; joined = j; joins = m.joins; cut = m.sends.answer.1 };
+      says = λ own. record { joins = joins_certs topic j h k m; cut = m.sends.answer.1 };
       ends = ends;
     }
 
