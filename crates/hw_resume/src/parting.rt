@@ -4,7 +4,7 @@ ghost use Rattle.std.specs.Prelude.{◌≡◌, ◌≤◌, All};
 ghost use Rattle.hw_lines.specs.Valid.{LineFits, Valid};
 ghost use Rattle.hw_model.specs.Rooms.{RoomFits};
 ghost use Rattle.hw_course.specs.Courses.{CourseStands};
-ghost use Rattle.hw_resume.specs.Parts.{ClosesCourse, PartingMeets};
+ghost use Rattle.hw_resume.specs.Parts.{ClosesCourse, WithinPartMeets};
 
 use crate::confined::Confined;
 use crate::reminder::Reminder;
@@ -34,7 +34,7 @@ pub fn part<A: Adviser + Drop>(
     requires room { RoomFits flat.now room.now }
     requires least { 1 ≤ budget }
     requires most { budget ≤ MOST_BUDGET }
-    ensures { PartingMeets flat.now budget start.items room.now result }
+    ensures { WithinPartMeets flat.now budget start.items room.now result }
 {
     let by = counted(&start);
     let course = begun(alloc, flat, start)?;

@@ -1,5 +1,5 @@
 -- Certificates among the bytes of one input.
-use Rattle.std.proofs.Common.{◌≡◌, ◌≤◌, ◌+◌, ◌-◌, ◌++◌, ◌∷◌, ◌∙◌, ℕ, List, [], false, Option, Result, Ok, Err, Vec, inl, length, take, drop, append_assoc, append-nil, take-append-drop, refl, sym, ap, subst, arith}
+use Rattle.std.proofs.Common.{◌≡◌, ◌≤◌, ◌+◌, ◌-◌, ◌++◌, ◌∷◌, ◌∙◌, ℕ, List, [], true, false, Option, Result, Ok, Err, Vec, inl, length, take, drop, append_assoc, append-nil, take-append-drop, refl, sym, ap, subst, arith}
 use Rattle.std.proofs.Math.Seq.{take-append-add, take-length}
 use Rattle.std.proofs.lemmas.List.{length-take-le}
 use Rattle.std.proofs.lemmas.List.Elements.{All-cons, All-nil}
@@ -23,7 +23,8 @@ use Rattle.hw_command.specs.declared.outcome.CertOutcome.{CertOutcome}
 use Rattle.hw_command.specs.declared.outcome.CertOutcome.TheVariants.{Shows, Wrong, TooLong}
 use Rattle.hw_command.specs.declared.outcome.CertStop.{CertStop}
 use Rattle.hw_command.specs.declared.outcome.CertStop.TheVariants.{Fault, NoMemory}
-use Rattle.hw_search_command.specs.Certs.{AreCerts, CertAnswer, CertsAnswer, CertsComeTo, FitEach, IsCertOf, IsRefused, ReadsCerts, StopsIn, lines_in, most_certs, moved_on, moved_stop}
+use Rattle.hw_search_command.specs.Certs.{AreCerts, CertAnswer, CertsAnswer, CertsComeTo, FitEach, IsCertOf, ReadsCerts, StopsIn, lines_in, most_certs, moved_on, moved_stop}
+use Rattle.hw_search_command.specs.Resuming.{shows_nothing}
 
 -- ---- one of them
 
@@ -42,15 +43,15 @@ next_part bytes begin end h k =
 pub lines_on : (bytes : List ℕ) (begin end : ℕ) → begin ≤ end → end ≤ length bytes → lines_in (take end bytes) ≡ lines_in (take begin bytes) + lines_in (slice_range bytes begin end)
 lines_on bytes begin end h k = ap lines_in (next_part bytes begin end h k) ∙ sum_by-append _ (take begin bytes) (slice_range bytes begin end)
 
-moved_refused : (lines : ℕ) (o : CertOutcome) → IsRefused o → IsRefused (moved_on lines o)
-moved_refused lines (Shows v) h = absurd h
-moved_refused lines (Wrong number word hint) h = tt
-moved_refused lines TooLong h = tt
+still_refused : (lines : ℕ) (o : CertOutcome) → shows_nothing o ≡ true → shows_nothing (moved_on lines o) ≡ true
+still_refused lines (Shows v) h = h
+still_refused lines (Wrong number word hint) h = h
+still_refused lines TooLong h = h
 
 -- it is refused
 pub stops_among : (f : Problem) (bytes : List ℕ) (before begin end : ℕ) (stopped : Result CertOutcome CertStop) → before ≡ lines_in (take begin bytes) → begin ≤ end → CertAnswer f (slice_range bytes begin end) (Err stopped) → CertsAnswer f bytes (Err (moved_stop before stopped))
 stops_among f bytes before begin end (Ok o) lines le h = (
-  moved_refused before o h.0,
+  still_refused before o h.0,
   record {
     before = take begin bytes;
     cert = slice_range bytes begin end;

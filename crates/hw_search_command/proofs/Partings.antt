@@ -45,10 +45,9 @@ use Rattle.hw_split.specs.Rooms.{HasRoom, OpenInTurn}
 use Rattle.hw_split.specs.Splits.{Branch, IsSplit, branch_room, part_at, split_parts}
 use Rattle.hw_split.proofs.Covering.{part_rooms, parts_open}
 use Rattle.hw_split.specs.declared.node.Node.{Node}
-use Rattle.hw_course.specs.Courses.{CourseStopsFor}
 use Rattle.hw_parts.specs.Closing.{closes_room}
 use Rattle.hw_join.specs.Joining.{closes_branch}
-use Rattle.hw_resume.specs.Parts.{PartGoesOn}
+use Rattle.hw_resume.specs.Parts.{LineIsRefusedIn, PartGoesOn, PartStopsFor}
 use Rattle.hw_resume.specs.declared.resumed.Parted.{Parted}
 use Rattle.hw_course.specs.declared.stop.CourseStop.{CourseStop}
 use Rattle.hw_course.specs.declared.stop.CourseStop.TheVariants as stops
@@ -264,11 +263,15 @@ unstarted_meets topic {split = split} {start = start} {proof = proof} {budget = 
 }
 
 -- a line that the search added is refused, or memory ran out
-unanswered_says : (topic : Topic) {split start : List ℕ} {number : ℕ} (budget : ℕ) (proof : List ℕ) (names : Naming) {x y z w : DeskState} {given : Given} {nodes : List Node} {room : RoomModel} (stop : CourseStop) → (h : ReadsSubject (topic_subject topic) x y given) → ReadsSplit (searched_in given.flat given.repair) split y z nodes → IsPartRoom (searched_in given.flat given.repair) nodes number room → (m : StartsOn (judged (topic_subject topic) h.value) start z w) → CourseStopsFor (judged (topic_subject topic) h.value) m.read.kept.items stop
+unanswered_says : (topic : Topic) {split start : List ℕ} {number : ℕ} (budget : ℕ) (proof : List ℕ) (names : Naming) {x y z w : DeskState} {given : Given} {nodes : List Node} {room : RoomModel} (stop : CourseStop) → (h : ReadsSubject (topic_subject topic) x y given) → ReadsSplit (searched_in given.flat given.repair) split y z nodes → IsPartRoom (searched_in given.flat given.repair) nodes number room → (m : StartsOn (judged (topic_subject topic) h.value) start z w) → PartStopsFor (judged (topic_subject topic) h.value) m.read.kept.items room stop
     → is_common (report_of_check names None None (stop_outcome stop)) ≡ false → PartSays (topic_subject topic) split number start budget proof x w (Some (report_of_check names None None (stop_outcome stop)))
-unanswered_says topic budget proof names (stops.Refused number cause) h k p m stopped own =
+unanswered_says topic budget proof names {room = room} (stops.Refused number cause) h k p m stopped own =
     let s = topic_subject topic in
-    inr (record { starts = starts topic h k p m; cause = cause; fails = subst (λ (ls : List Line). CourseStopsFor (judged s h.value) ls (stops.Refused number cause)) (kept_lines m) stopped; word_of = refl; hint_of = refl })
+    let f = judged s h.value in
+    let there = subst (λ (ls : List Line). LineIsRefusedIn f ls room number cause) (kept_lines m) stopped in
+    let from = starts topic h k p m in
+    let is : room ≡ branch_room (shape_of f) p.branch = subst (λ (f : Problem). room ≡ branch_room (shape_of f) p.branch) h.searched p.is in
+    inr (record { starts = from; unclosed = sym (ap (λ (room : RoomModel). closes_room room from.shown.lines) is) ∙ there.unclosed; cause = cause; fails = there.fails; word_of = refl; hint_of = refl })
 unanswered_says topic budget proof names stops.NoMemory h k p m stopped own = absurd (cc)
 
 unanswered_works : (topic : Topic) {split start proof : List ℕ} {number : ℕ} (names : Naming) {x y z w : DeskState} {given : Given} {nodes : List Node} {room : RoomModel} {f : Problem} (stop : CourseStop) → ReadsSubject (topic_subject topic) x y given → ReadsSplit (searched_in given.flat given.repair) split y z nodes → IsPartRoom (searched_in given.flat given.repair) nodes number room → StartsOn f start z w
@@ -280,7 +283,7 @@ unanswered_works topic {split = split} {start = start} {proof = proof} names sto
     let s = topic_subject topic in
     wants_memory (Some proof) (before s split ++ named_feed feeds.Certificate start ∷ []) [] (sym (append-nil _)) (all_entered topic h k m.reads) (give_all topic start h k p) (m.reads.reads.0 ∙ (k.read_faults ∙ h.read_faults))
 
-unanswered_meets : (topic : Topic) {split start proof : List ℕ} {number budget : ℕ} {x y z w end : DeskState} {given : Given} {nodes : List Node} {room : RoomModel} {e : Status} (names : Naming) (stopped : Result CertOutcome CertStop) → (h : ReadsSubject (topic_subject topic) x y given) → ReadsSplit (searched_in given.flat given.repair) split y z nodes → IsPartRoom (searched_in given.flat given.repair) nodes number room → PartUnanswered (judged (topic_subject topic) h.value) start z w stopped → Ends (report_of_check names None None stopped ∷ []) w end e → Carries (part_task (topic_subject topic) split number start budget proof) x end e
+unanswered_meets : (topic : Topic) {split start proof : List ℕ} {number budget : ℕ} {x y z w end : DeskState} {given : Given} {nodes : List Node} {room : RoomModel} {e : Status} (names : Naming) (stopped : Result CertOutcome CertStop) → (h : ReadsSubject (topic_subject topic) x y given) → ReadsSplit (searched_in given.flat given.repair) split y z nodes → IsPartRoom (searched_in given.flat given.repair) nodes number room → PartUnanswered (judged (topic_subject topic) h.value) room start z w stopped → Ends (report_of_check names None None stopped ∷ []) w end e → Carries (part_task (topic_subject topic) split number start budget proof) x end e
 unanswered_meets topic {split = split} {start = start} {proof = proof} {budget = budget} {w = w} {end = end} {e = e} names stopped h k p m ends = record {
   mid = w;
   reports = report_of_check names None None (stop_outcome m.stop) ∷ [];
@@ -293,11 +296,13 @@ unanswered_meets topic {split = split} {start = start} {proof = proof} {budget =
 
 -- the lines go on in the part's branch
 goes_on_in : {f : Problem} {budget : ℕ} {branch : Branch} {start : List Line} {room : RoomModel} {parted : Parted} → room ≡ branch_room (shape_of f) branch → PartGoesOn f budget start room parted → GoesOnIn f branch budget parted.is_closed start parted.lines.items
-goes_on_in {parted = parted} is h = record {
+goes_on_in {start = start} {parted = parted} is h = record {
   goes_on = h.goes_on;
   few = h.few;
   closed = h.closed ∙ ap (λ (room : RoomModel). closes_room room parted.lines.items) is;
   spent = h.spent;
+  rooms = h.rooms;
+  idle = λ e. h.idle (ap (λ (room : RoomModel). closes_room room start) is ∙ e);
 }
 
 closes : {f : Problem} {budget : ℕ} {branch : Branch} {is_closed : Bool} {start all : List Line} → GoesOnIn f branch budget is_closed start all → is_closed ≡ true → closes_branch f all branch ≡ true
@@ -346,7 +351,7 @@ broke_meets topic {split = split} {start = start} {proof = proof} {number = numb
 
 pub stopped_carries : (topic : Topic) {split start proof : List ℕ} {number budget : ℕ} {x y z end : DeskState} {given : Given} {nodes : List Node} {room : RoomModel} {e : Status} (w : DeskState) (stopped : Result CertOutcome CertStop) → (h : ReadsSubject (topic_subject topic) x y given) → ReadsSplit (searched_in given.flat given.repair) split y z nodes → IsPartRoom (searched_in given.flat given.repair) nodes number room → PartsTo (searched_in given.flat given.repair) room start budget proof z w (outcomes.Stopped stopped) → Ends (report_of_check (naming_of given.named) None None stopped ∷ []) w end e → Carries (part_task (topic_subject topic) split number start budget proof) x end e
 stopped_carries topic {given = given} w stopped h k p (inl m) ends = unstarted_meets topic (naming_of given.named) stopped h k p m ends
-stopped_carries topic {start = start} {z = z} {given = given} w stopped h k p (inr m) ends = unanswered_meets topic (naming_of given.named) stopped h k p (subst (λ (f : Problem). PartUnanswered f start z w stopped) h.searched m) ends
+stopped_carries topic {start = start} {z = z} {given = given} {room = room} w stopped h k p (inr m) ends = unanswered_meets topic (naming_of given.named) stopped h k p (subst (λ (f : Problem). PartUnanswered f room start z w stopped) h.searched m) ends
 
 pub sent_carries : (topic : Topic) {split start proof : List ℕ} {number budget : ℕ} {x y z end : DeskState} {given : Given} {nodes : List Node} {room : RoomModel} {e : Status} (w : DeskState) (is_closed : Bool) → (h : ReadsSubject (topic_subject topic) x y given) → ReadsSplit (searched_in given.flat given.repair) split y z nodes → IsPartRoom (searched_in given.flat given.repair) nodes number room → PartsTo (searched_in given.flat given.repair) room start budget proof z w (outcomes.Sent is_closed) → Ends (part_told number is_closed ∷ []) w end e → Carries (part_task (topic_subject topic) split number start budget proof) x end e
 sent_carries topic {start = start} {proof = proof} {budget = budget} {z = z} {room = room} w is_closed h k p m ends =

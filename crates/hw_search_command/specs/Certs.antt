@@ -1,5 +1,5 @@
 -- Certificates one after another in one input, and what is sent to Proof of them.
-use Rattle.std.specs.Prelude.{◌≡◌, ◌<◌, ◌⊎◌, ℕ, ◌+◌, ◌==◌, List, [], ◌∷◌, ◌++◌, Option, Some, None, IfSome, ⊤, Result, Ok, Err, All, Vec, count_by, length, min}
+use Rattle.std.specs.Prelude.{◌≡◌, ◌<◌, ◌⊎◌, ℕ, ◌+◌, ◌==◌, List, [], ◌∷◌, ◌++◌, Option, Some, None, IfSome, ⊤, Result, Ok, Err, Vec, All, true, count_by, length, min}
 use Rattle.std.specs.declared.alloc.Global.{Global}
 use Rattle.hw_model.specs.Problem.{Problem, shape_of}
 use Rattle.hw_desk.specs.State.{DeskState}
@@ -26,7 +26,7 @@ use Rattle.hw_join.specs.Joining.{FitEach, JoinsEach}
 use Rattle.hw_join.specs.declared.joined.Joined.{Joined}
 use Rattle.hw_course.specs.declared.stop.CourseStop.{CourseStop}
 use Rattle.hw_split.specs.declared.node.Node.{Node}
-use Rattle.hw_search_command.specs.Resuming.{stop_outcome}
+use Rattle.hw_search_command.specs.Resuming.{shows_nothing, stop_outcome}
 use Rattle.hw_search_command.specs.declared.joining.JoinEnd.{JoinEnd}
 use Rattle.hw_search_command.specs.declared.joining.JoinEnd.TheVariants as ends
 
@@ -53,12 +53,6 @@ moved_stop lines (Err stop) = Err stop
 -- how many lines end in the bytes
 abbrev pub lines_in : List ℕ → ℕ
 lines_in bytes = count_by (λ byte. byte == 10) bytes
-
--- the outcome is of a certificate that is refused
-abbrev pub IsRefused : CertOutcome → Type 0
-IsRefused (Shows v) = ⊥
-IsRefused (Wrong number word hint) = ⊤
-IsRefused TooLong = ⊤
 
 -- one of the certificates has this outcome, with its number in all the bytes
 pub record StopsIn (f : Problem) (outcome : CertOutcome) (bytes : List ℕ) : Type 0 where
@@ -98,18 +92,18 @@ AreCerts f (cert ∷ more) bytes = (own : List ℕ) × (rest : List ℕ) × (byt
 -- the lines of a certificate of these bytes, or why there are none
 abbrev pub CertAnswer : Problem → List ℕ → Result (Vec Line Global) (Result CertOutcome CertStop) → Type 0
 CertAnswer f bytes (Ok lines) = IsCertOf f lines.items bytes
-CertAnswer f bytes (Err (Ok outcome)) = IsRefused outcome × (outcome ≡ cert_outcome_to Three f bytes)
+CertAnswer f bytes (Err (Ok outcome)) = (shows_nothing outcome ≡ true) × (outcome ≡ cert_outcome_to Three f bytes)
 CertAnswer f bytes (Err (Err stop)) = stop ≡ NoMemory
 
 -- the lines of each certificate among the bytes, or why there are none
 abbrev pub CertsAnswer : Problem → List ℕ → Result (Vec (Vec Line Global) Global) (Result CertOutcome CertStop) → Type 0
 CertsAnswer f bytes (Ok certs) = AreCerts f certs.items bytes
-CertsAnswer f bytes (Err (Ok outcome)) = IsRefused outcome × StopsIn f outcome bytes
+CertsAnswer f bytes (Err (Ok outcome)) = (shows_nothing outcome ≡ true) × StopsIn f outcome bytes
 CertsAnswer f bytes (Err (Err stop)) = stop ≡ NoMemory
 
 abbrev pub CertsComeTo : Problem → Option (List ℕ) → DeskState → DeskState → Result (Vec (Vec Line Global) Global) (Result CertOutcome CertStop) → Type 0
 CertsComeTo f told old new (Ok certs) = (new.read_faults ≡ old.read_faults) × FitEach f certs.items × IfSome told (AreCerts f certs.items)
-CertsComeTo f told old new (Err (Ok outcome)) = (new.read_faults ≡ old.read_faults) × IsRefused outcome × IfSome told (CertsStopIn f outcome)
+CertsComeTo f told old new (Err (Ok outcome)) = (new.read_faults ≡ old.read_faults) × (shows_nothing outcome ≡ true) × IfSome told (CertsStopIn f outcome)
 CertsComeTo f told old new (Err (Err stop)) = NoOutcome old new stop
 
 -- the certificates were begun under their name
