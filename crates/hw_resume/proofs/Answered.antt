@@ -15,8 +15,6 @@ use Rattle.hw_course.specs.declared.going_on.Course.{Course}
 use Rattle.hw_resume.specs.declared.resumed.Resumed.{Resumed}
 use Rattle.hw_course.proofs.Handed.{whole_course}
 
--- ---- the search
-
 -- ---- what is told
 
 -- what holds of the lines of a course holds of those that are told

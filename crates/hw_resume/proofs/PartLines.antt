@@ -1,30 +1,20 @@
 -- What a search within a part leaves.
-use Rattle.std.proofs.Common.{◌≡◌, ◌∙◌, ◌+◌, ◌≤◌, ◌++◌, ℕ, List, [], Bool, true, false, Result, Ok, Err, length, sym, ap, subst, append_assoc, append-nil, arith}
+use Rattle.std.proofs.Common.{◌≡◌, ◌∙◌, ◌++◌, ℕ, List, [], Bool, true, false, refl, sym, ap, subst, append_assoc, append-nil, arith}
 use Rattle.std.specs.Prelude.{All}
 use Rattle.hw_model.specs.Problem.{Problem}
 use Rattle.hw_model.specs.Rooms.{RoomModel}
 use Rattle.hw_lines.specs.declared.line.Line.{Line}
-use Rattle.hw_lines.specs.Lemmas.{lemmas_of}
 use Rattle.hw_lines.specs.Valid.{LineFits, Valid}
 use Rattle.hw_parts.specs.Closing.{closes_room}
-use Rattle.hw_course.specs.Courses.{CourseStands, HandsAllToCourse, HandsToCourse}
+use Rattle.hw_course.specs.Courses.{CourseStands, CourseStopsFor, HandsToCourse}
 use Rattle.hw_resume.specs.Searched.{IsSearched}
 use Rattle.hw_course.specs.Going.{LinesGoOn}
-use Rattle.hw_parts.specs.Narrowings.{AreClosing}
-use Rattle.hw_resume.specs.Parts.{AddsClosing, ClosesCourse, PartGoesOn}
+use Rattle.hw_resume.specs.Parts.{AddsClosing, PartGoesOn, PartStopsFor}
 use Rattle.hw_course.specs.declared.going_on.Course.{Course}
 use Rattle.hw_resume.specs.declared.resumed.Parted.{Parted}
 use Rattle.hw_course.specs.declared.stop.CourseStop.{CourseStop}
-use Rattle.hw_course.proofs.Handed.{lemmas_on, whole_course}
-
--- ---- closing
-
-pub nothing_added : {course : Course} → CourseStands course.flat.now course → AddsClosing course course
-nothing_added {course = course} h = record { more = []; adds = record { stands = h; parts = sym (append-nil course.lines.items) }; few = omega arith }
-
-pub closing_added : (f : Problem) (course : Course) (lines : List Line) (result : Result Course CourseStop) → AreClosing f lines → HandsAllToCourse course lines result → ClosesCourse course result
-closing_added f course lines (Ok after) few k = record { more = k.more; adds = k.adds; few = omega (arith, k.lemmas, few.few) }
-closing_added f course lines (Err stop) few k = k
+use Rattle.hw_course.specs.declared.stop.CourseStop.TheVariants as stops
+use Rattle.hw_course.proofs.Handed.{lemmas_on, stops_on, whole_course}
 
 -- ---- the lines of a course
 
@@ -46,11 +36,30 @@ start_closes {start = start} {room = room} h same lines is closes = record {
   few = omega arith;
   closed = is ∙ sym closes ∙ ap (closes_room room) (sym lines);
   spent = λ e. absurd (cc);
+  rooms = λ e. absurd (cc);
+  idle = λ e. refl;
 }
 
+-- whether the start closes the part, by what its course says
+pub start_is : (room : RoomModel) (start taken : List Line) (course : Course) (is_closed value : Bool) → is_closed ≡ closes_room room taken → taken ≡ course.lines.items → course.lines.items ≡ start → is_closed ≡ value → closes_room room start ≡ value
+start_is room start taken course is_closed value says is same e = sym (ap (closes_room room) (is ∙ same)) ∙ sym says ∙ e
+
+-- a line was refused, or memory ran out
+stops_in : (f : Problem) (start : List Line) (room : RoomModel) (stop : CourseStop) → closes_room room start ≡ false → CourseStopsFor f start stop → PartStopsFor f start room stop
+stops_in f start room (stops.Refused number cause) unclosed h = record { unclosed = unclosed; fails = h }
+stops_in f start room stops.NoMemory unclosed h = tt
+
+-- the same of a line of the search
+pub search_stops : {f : Problem} {start : List Line} {course : Course} (room : RoomModel) (stop : CourseStop) → CourseStands f course → course.lines.items ≡ start → closes_room room start ≡ false → CourseStopsFor course.flat.now course.lines.items stop → PartStopsFor f start room stop
+search_stops {f = f} {start = start} {course = course} room stop h same unclosed k = stops_in f start room stop unclosed (stops_on f course.flat.now start course.lines.items [] stop h.problem (same ∙ sym (append-nil start)) k)
+
+-- the same of a line that closes the part
+pub closing_stops : {f : Problem} {start found : List Line} {course after : Course} (room : RoomModel) (stop : CourseStop) → CourseStands f course → course.lines.items ≡ start → closes_room room start ≡ false → HandsToCourse course after found → CourseStopsFor after.flat.now after.lines.items stop → PartStopsFor f start room stop
+closing_stops {f = f} {start = start} {after = after} room stop h same unclosed k s = stops_in f start room stop unclosed (stops_on f after.flat.now start after.lines.items k.more stop (k.adds.stands.problem ∙ h.problem) (k.adds.parts ∙ ap (λ (ls : List Line). ls ++ k.more) same) s)
+
 -- the search has ended
-pub went_on_in : {f : Problem} {budget : ℕ} {start found : List Line} {room : RoomModel} {course after last : Course} {p : Parted} {is_spent : Bool} → CourseStands f course → course.lines.items ≡ start → IsSearched f budget is_spent found → HandsToCourse course after found → AddsClosing after last → p.lines.items ≡ last.lines.items → p.is_closed ≡ closes_room room last.lines.items → (p.is_closed ≡ false → is_spent ≡ true) → PartGoesOn f budget start room p
-went_on_in {f = f} {budget = budget} {start = start} {found = found} {room = room} {course = course} {after = after} {last = last} h same s k c lines closes spent =
+pub went_on_in : {f : Problem} {budget : ℕ} {start found : List Line} {room : RoomModel} {course after last : Course} {p : Parted} {is_spent : Bool} → CourseStands f course → course.lines.items ≡ start → closes_room room start ≡ false → IsSearched f budget is_spent found → HandsToCourse course after found → AddsClosing after last → p.lines.items ≡ last.lines.items → p.is_closed ≡ closes_room room last.lines.items → (p.is_closed ≡ false → is_spent ≡ true) → PartGoesOn f budget start room p
+went_on_in {f = f} {budget = budget} {start = start} {found = found} {room = room} {course = course} {after = after} {last = last} h same unclosed s k c lines closes spent =
     let stands_after : CourseStands f after = subst (λ (g : Problem). CourseStands g after) h.problem k.adds.stands in
     let stands_last : CourseStands f last = subst (λ (g : Problem). CourseStands g last) stands_after.problem c.adds.stands in
     let parts : last.lines.items ≡ start ++ (k.more ++ c.more) = c.adds.parts ∙ ap (λ (ls : List Line). ls ++ c.more) (k.adds.parts ∙ ap (λ (ls : List Line). ls ++ k.more) same) ∙ append_assoc start k.more c.more in
@@ -62,4 +71,6 @@ went_on_in {f = f} {budget = budget} {start = start} {found = found} {room = roo
       spent = λ e.
           let all = (s.spent (spent e)).0 in
           omega (arith, count, k.lemmas, all);
+      rooms = λ e. (s.spent (spent e)).1;
+      idle = λ e. absurd (cc);
     }

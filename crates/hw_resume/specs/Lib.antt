@@ -1,3 +1,4 @@
 pub mod Going
 pub mod Searched
 pub mod Parts
+pub mod Confining

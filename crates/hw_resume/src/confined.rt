@@ -1,8 +1,9 @@
 //! The adviser that keeps a search in a part of its problem.
 
-ghost use Rattle.std.specs.Prelude.{◌≡◌, ◌<◌, IfSome};
-ghost use Rattle.hw_advice.specs.Advisers.{IsOpenIn};
+ghost use Rattle.std.specs.Prelude.{◌≡◌, ◌<◌, ◌↔◌, IfOk, IfSome, IsTrue, OnOk};
+ghost use Rattle.hw_advice.specs.Advisers.{IsAdviceIn, IsOpenIn, IsScene};
 ghost use Rattle.hw_model.specs.Rooms.{RoomFits};
+ghost use Rattle.hw_resume.specs.Confining.{RangesMeet};
 
 use hw_advice::{Advice, Adviser, Bounding, Scene};
 use hw_flat::{Flat, Room, Timetable};
@@ -30,8 +31,12 @@ impl<A: Adviser + Drop> Confined<A> {
 }
 
 impl<A: Adviser + Drop> Adviser for Confined<A> {
-    fn advise(&mut self, alloc: Global, scene: &Scene<'_>) -> Result<Option<Advice>, NoMemory> {
-        if has_left(&self.part, scene.room) {
+    fn advise(&mut self, alloc: Global, scene: &Scene<'_>) -> Result<Option<Advice>, NoMemory>
+        requires { IsScene scene.now }
+        ensures advice { IfOk result (λ answer. IfSome answer (IsAdviceIn scene.now)) }
+        ensures confined { OnOk result (RangesMeet self.old.part scene.now.room.now) }
+    {
+        if !ranges_meet(&self.part, scene.room) {
             return Err(NoMemory);
         }
         self.other.advise(alloc, scene)
@@ -53,15 +58,17 @@ impl<A: Adviser + Drop> Adviser for Confined<A> {
     }
 }
 
-/// Whether the ranges of some ship have no slot in common.
-fn has_left(part: &Room, room: &Room) -> bool {
+/// Whether the ranges of each ship have a slot in common.
+fn ranges_meet(part: &Room, room: &Room) -> bool
+    ensures { IsTrue result ↔ RangesMeet part.now room.now }
+{
     let ships = part.ships().min(room.ships());
     for ship in 0..ships {
         if room.high(ship) < part.low(ship) || part.high(ship) < room.low(ship) {
-            return true;
+            return false;
         }
     }
-    false
+    true
 }
 
 /// The first bound of the part, by ship, that the room leaves open.

@@ -1,6 +1,7 @@
 -- `part` of any subject: a certificate is checked as by `verify`, a search goes on from its lines within a part of a split, and all lines are sent to Proof.
 use Rattle.std.specs.Prelude.{◌≡◌, ◌⊎◌, ℕ, ◌+◌, ◌≤◌, Bool, true, false, List, [], ◌∷◌, ◌++◌, Option, Some, None, IfSome, length, option_and_then}
 use Rattle.hw_model.specs.Problem.{Problem}
+use Rattle.hw_model.specs.Rooms.{room_count}
 use Rattle.hw_model.specs.Timetables.{Permits, beats, cargo}
 use Rattle.hw_desk.specs.State.{DeskState}
 use Rattle.hw_desk.specs.declared.desk.Feed.{Feed}
@@ -51,12 +52,14 @@ pub record PartStarts (s : Subject) (split : List ℕ) (number : ℕ) (start : L
 
 -- ---- the lines
 
--- lines that begin with those of a start, with no more new lemmas than the budget and one: whether they close the branch, and if not, that the budget is spent
+-- lines that begin with those of a start, with no more new lemmas than the budget and one: whether they close the branch; if not, the budget is spent, and is no more than rooms; and where the start closes it, no line is new
 pub record GoesOnIn (f : Problem) (branch : Branch) (budget : ℕ) (is_closed : Bool) (start all : List Line) : Type 0 where
   pub goes_on : LinesGoOn f start all
   pub few : length (lemmas_of goes_on.more) ≤ budget + 1
   pub closed : is_closed ≡ closes_branch f all branch
   pub spent : is_closed ≡ false → budget ≤ length (lemmas_of goes_on.more)
+  pub rooms : is_closed ≡ false → budget ≤ room_count f
+  pub idle : closes_branch f start branch ≡ true → goes_on.more ≡ []
 
 -- the bytes are the text of such lines
 pub record IsPartCertificate (f : Problem) (branch : Branch) (budget : ℕ) (is_closed : Bool) (start : List Line) (bytes : List ℕ) : Type 0 where
@@ -74,29 +77,30 @@ pub record IsClosedPart (f : Problem) (branch : Branch) : Type 0 where
 
 -- whether the part is closed; then nothing in it is better than what is known. Proof was made, and holds a certificate that says so, where it is told
 pub record PartDone (s : Subject) (split : List ℕ) (number : ℕ) (start : List ℕ) (budget : ℕ) (proof : List ℕ) (old new : DeskState) (is_closed : Bool) : Type 0 where
-  pub start : PartStarts s split number start old.held
+  pub starts : PartStarts s split number start old.held
   pub made : MakesProof proof old new
-  pub means : is_closed ≡ true → IsClosedPart (judged s start.gives.value) start.gives.branch
-  pub certificate : IfSome (new.trays tray.Proof).sent (IsPartCertificate (judged s start.gives.value) start.gives.branch budget is_closed start.shown.lines)
+  pub means : is_closed ≡ true → IsClosedPart (judged s starts.gives.value) starts.gives.branch
+  pub certificate : IfSome (new.trays tray.Proof).sent (IsPartCertificate (judged s starts.gives.value) starts.gives.branch budget is_closed starts.shown.lines)
 
 -- the certificate is refused
 pub record RefusesStart (s : Subject) (split : List ℕ) (number : ℕ) (start : List ℕ) (held : List ℕ → Option (List ℕ)) (o : CertOutcome) : Type 0 where
   pub gives : GivesPart s split number held
   pub refused : Refused s Three start held o
 
--- the certificate is whole, and a line that the search added isn't valid after those before it; it would have been the one of this number
+-- the certificate is whole and doesn't close the part, and a line that the search added isn't valid after those before it; it would have been the one of this number
 pub record IsNotTakenIn (s : Subject) (split : List ℕ) (part : ℕ) (start : List ℕ) (held : List ℕ → Option (List ℕ)) (number : ℕ) (word : RefusedWord) (hint : Option ℕ) : Type 0 where
-  pub start : PartStarts s split part start held
+  pub starts : PartStarts s split part start held
+  pub unclosed : closes_branch (judged s starts.gives.value) starts.shown.lines starts.gives.branch ≡ false
   pub cause : Refusal
-  pub fails : LineFails (judged s start.gives.value) start.shown.lines number cause
+  pub fails : LineFails (judged s starts.gives.value) starts.shown.lines number cause
   pub word_of : word ≡ Check cause.word
   pub hint_of : hint ≡ cause.hint
 
 -- the certificate is whole, and Proof, of which a make or a write failed, holds a proper prefix of the text of lines that go on from it, where it is told
 pub record PartBreaks (s : Subject) (split : List ℕ) (number : ℕ) (start : List ℕ) (old new : DeskState) : Type 0 where
-  pub start : PartStarts s split number start old.held
+  pub starts : PartStarts s split number start old.held
   pub lines : List Line
-  pub goes_on : LinesGoOn (judged s start.gives.value) start.shown.lines lines
+  pub goes_on : LinesGoOn (judged s starts.gives.value) starts.shown.lines lines
   pub cut : IfSome (new.trays tray.Proof).sent (IsCutOf (cert_text Three lines))
 
 -- what is read of the inputs, of which the split has this first bad line, or lacks the part

@@ -1,5 +1,5 @@
 -- A search within a part that goes on from the lines of a certificate, and a longer certificate that is sent to Proof.
-use Rattle.std.specs.Prelude.{◌≡◌, ◌⊎◌, ℕ, ◌+◌, List, Option, Some, None, Result, Ok, Err, codes, length}
+use Rattle.std.specs.Prelude.{◌≡◌, ◌⊎◌, ℕ, ◌+◌, List, Some, None, Result, Ok, Err, codes, length}
 use Rattle.hw_model.specs.Problem.{Problem, shape_of}
 use Rattle.hw_model.specs.Rooms.{RoomModel}
 use Rattle.hw_desk.specs.State.{DeskState}
@@ -10,8 +10,7 @@ use Rattle.hw_report.specs.Reports.{Report, bad_text, no_memory}
 use Rattle.hw_command.specs.Sending.{SendsTo}
 use Rattle.hw_command.specs.declared.outcome.CertOutcome.{CertOutcome}
 use Rattle.hw_command.specs.declared.outcome.CertStop.{CertStop}
-use Rattle.hw_course.specs.Courses.{CourseStopsFor}
-use Rattle.hw_resume.specs.Parts.{PartGoesOn}
+use Rattle.hw_resume.specs.Parts.{PartGoesOn, PartStopsFor}
 use Rattle.hw_resume.specs.declared.resumed.Parted.{Parted}
 use Rattle.hw_course.specs.declared.stop.CourseStop.{CourseStop}
 use Rattle.hw_split.specs.declared.node.Node.{Node}
@@ -41,10 +40,10 @@ NoPartRoom nodes number r = (r ≡ no_memory) ⊎ LacksRoom nodes number r
 -- ---- over a desk
 
 -- the search that went on from the certificate has no answer
-pub record PartUnanswered (f : Problem) (start : List ℕ) (old new : DeskState) (stopped : Result CertOutcome CertStop) : Type 0 where
+pub record PartUnanswered (f : Problem) (room : RoomModel) (start : List ℕ) (old new : DeskState) (stopped : Result CertOutcome CertStop) : Type 0 where
   pub starts : StartsOn f start old new
   pub stop : CourseStop
-  pub cause : CourseStopsFor f starts.read.kept.items stop
+  pub cause : PartStopsFor f starts.read.kept.items room stop
   pub told : stopped ≡ stop_outcome stop
 
 -- its lines with those that the search added are sent to Proof
@@ -56,6 +55,6 @@ pub record SendsParted {E : Type 0} (f : Problem) (room : RoomModel) (start : Li
 
 -- what comes of a certificate
 abbrev pub PartsTo : Problem → RoomModel → List ℕ → ℕ → List ℕ → DeskState → DeskState → PartEnd → Type 0
-PartsTo f room start budget proof old new (ends.Stopped stopped) = Unstarted f start old new stopped ⊎ PartUnanswered f start old new stopped
+PartsTo f room start budget proof old new (ends.Stopped stopped) = Unstarted f start old new stopped ⊎ PartUnanswered f room start old new stopped
 PartsTo f room start budget proof old new (ends.Sent is_closed) = (p : Parted) × (is_closed ≡ p.is_closed) × SendsParted {E = Unit} f room start budget proof old new p (Ok tt)
 PartsTo f room start budget proof old new ends.WriteFailed = (p : Parted) × SendsParted {E = Unit} f room start budget proof old new p (Err tt)
