@@ -1,13 +1,12 @@
 -- A course to which lines were added.
 use Rattle.std.proofs.Common.{◌≡◌, ◌∙◌, ◌++◌, List, [], ◌∷◌, Option, None, Result, Ok, Err, refl, sym, ap, subst, append_assoc, append-nil}
-use Rattle.std.specs.Prelude.{All, option_and_then}
+use Rattle.std.specs.Prelude.{option_and_then}
 use Rattle.hw_model.specs.Problem.{Problem}
 use Rattle.hw_lines.specs.declared.line.Line.{Line}
 use Rattle.hw_lines.specs.declared.line.Line.TheVariants as lines
 use Rattle.hw_lines.specs.Kept.{Kept}
 use Rattle.hw_lines.specs.Lines.{clause_of}
-use Rattle.hw_lines.specs.Valid.{LineFits}
-use Rattle.hw_course.specs.Courses.{AddsClause, CourseStands, CourseStopsFor, ExtendsBy, OfferMeets, TakeMeets}
+use Rattle.hw_course.specs.Courses.{AddsClause, CourseStands, CourseStopsFor, ExtendsBy, OfferingMeets, TakeMeets}
 use Rattle.hw_course.specs.Going.{SaysNoMore}
 use Rattle.hw_course.specs.declared.going_on.Course.{Course}
 use Rattle.hw_course.specs.declared.stop.CourseStop.{CourseStop}
@@ -30,14 +29,6 @@ extends_on {a = a} {c = c} h k = record {
 pub stops_after : {a b : Course} (stop : CourseStop) → ExtendsBy a b → CourseStopsFor b.flat.now b.lines.items stop → CourseStopsFor a.flat.now a.lines.items stop
 stops_after {a = a} {b = b} stop h k = stops_on a.flat.now b.flat.now a.lines.items b.lines.items h.more stop h.adds.stands.problem h.adds.parts k
 
--- a course whose lines go on stands for the problem of the one before
-pub stands_on : {a b : Course} → ExtendsBy a b → CourseStands b.flat.now b
-stands_on {b = b} h = subst (λ (f : Problem). CourseStands f b) (sym h.adds.stands.problem) h.adds.stands
-
--- it fits the same lines
-pub fits_on : {a b : Course} (ls : List Line) → ExtendsBy a b → All (LineFits a.flat.now) ls → All (LineFits b.flat.now) ls
-fits_on ls h fit = subst (λ (f : Problem). All (LineFits f) ls) (sym h.adds.stands.problem) fit
-
 -- ---- a line that is offered
 
 nothing_added : {course : Course} → CourseStands course.flat.now course → AddsClause course course None
@@ -56,6 +47,6 @@ pub not_needed : {course : Course} (line : Line) → CourseStands course.flat.no
 not_needed {course = course} line h no_more = rw (no_clause course.flat.now course.checker.kept line no_more) (nothing_added h)
 
 -- it was taken, or the checker refused it
-pub by_take : (course : Course) (line : Line) (result : Result Course CourseStop) → TakeMeets course line result → OfferMeets course line result
+pub by_take : (course : Course) (line : Line) (result : Result Course CourseStop) → TakeMeets course line result → OfferingMeets course line result
 by_take course line (Ok after) h = record { more = line ∷ []; adds = h; clauses = refl }
 by_take course line (Err stop) h = h

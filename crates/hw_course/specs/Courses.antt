@@ -65,11 +65,11 @@ pub record AddsClause (before after : Course) (clause : Option (List Lit)) : Typ
   pub clauses : clauses_of more ≡ cons_option clause []
 
 -- a line was taken, or said no more than those before it
-abbrev pub OfferMeets : Course → Line → Result Course CourseStop → Type 0
-OfferMeets course line (Ok after) = AddsClause course after (clause_of line)
-OfferMeets course line (Err stop) = CourseStopsFor course.flat.now course.lines.items stop
+abbrev pub OfferingMeets : Course → Line → Result Course CourseStop → Type 0
+OfferingMeets course line (Ok after) = AddsClause course after (clause_of line)
+OfferingMeets course line (Err stop) = CourseStopsFor course.flat.now course.lines.items stop
 
 -- the same of a line, if there is one
-abbrev pub OfferSomeMeets : Course → Option Line → Result Course CourseStop → Type 0
-OfferSomeMeets course line (Ok after) = AddsClause course after (option_and_then clause_of line)
-OfferSomeMeets course line (Err stop) = CourseStopsFor course.flat.now course.lines.items stop
+abbrev pub OfferingOneMeets : Course → Option Line → Result Course CourseStop → Type 0
+OfferingOneMeets course line (Ok after) = AddsClause course after (option_and_then clause_of line)
+OfferingOneMeets course line (Err stop) = CourseStopsFor course.flat.now course.lines.items stop

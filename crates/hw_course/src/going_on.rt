@@ -3,7 +3,7 @@
 ghost use Rattle.std.specs.Prelude.{◌≡◌, ◌↔◌, All, IfOk, IfSome, IsTrue, false};
 ghost use Rattle.hw_lines.specs.Lines.{is_closed, last_table};
 ghost use Rattle.hw_lines.specs.Valid.{LineFits, Valid};
-ghost use Rattle.hw_course.specs.Courses.{CourseStands, OfferMeets, OfferSomeMeets, TakeMeets, stop_as};
+ghost use Rattle.hw_course.specs.Courses.{CourseStands, OfferingMeets, OfferingOneMeets, TakeMeets, stop_as};
 ghost use Rattle.hw_course.specs.Going.{SaysNoMore};
 
 use crate::checking::check_all;
@@ -68,7 +68,7 @@ impl<'f> Course<'f> {
     pub fn offer(self, line: Line) -> Result<Course<'f>, CourseStop>
         requires stands { CourseStands self.flat.now self }
         requires fits { LineFits self.flat.now line }
-        ensures { OfferMeets self.entry line result }
+        ensures { OfferingMeets self.entry line result }
     {
         if self.has_no_need_of(&line) {
             Ok(self)
@@ -81,7 +81,7 @@ impl<'f> Course<'f> {
     pub fn offer_some(self, line: Option<Line>) -> Result<Course<'f>, CourseStop>
         requires stands { CourseStands self.flat.now self }
         requires fits { IfSome line (LineFits self.flat.now) }
-        ensures { OfferSomeMeets self.entry line result }
+        ensures { OfferingOneMeets self.entry line result }
     {
         match line {
             Some(line) => self.offer(line),

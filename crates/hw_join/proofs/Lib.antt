@@ -1,2 +1,5 @@
+mod Climbing
+mod Covered
 mod JoinLines
 mod Opened
+mod Tariffs

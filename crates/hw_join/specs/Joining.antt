@@ -1,10 +1,11 @@
 -- Certificates that are joined, and what comes of them.
-use Rattle.std.specs.Prelude.{◌≡◌, ℕ, ◌-◌, Bool, true, false, List, [], Option, Some, None, Result, Ok, Err, All, IsSomeAnd, Vec, option_and_then, take}
+use Rattle.std.specs.Prelude.{◌≡◌, ℕ, ◌-◌, Bool, true, false, List, [], Option, Some, None, Result, Ok, Err, All, IsSomeAnd, Vec, take}
 use Rattle.std.specs.declared.alloc.Global.{Global}
+use Rattle.hw_model.specs.declared.lit.Lit.{Lit}
 use Rattle.hw_model.specs.Problem.{Problem, shape_of}
 use Rattle.hw_model.specs.Rooms.{RoomModel}
 use Rattle.hw_lines.specs.declared.line.Line.{Line}
-use Rattle.hw_lines.specs.Lines.{clause_of, is_closed}
+use Rattle.hw_lines.specs.Lines.{is_closed}
 use Rattle.hw_lines.specs.Tolled.{bound_of}
 use Rattle.hw_lines.specs.Valid.{LineFits, Valid, verdict}
 use Rattle.hw_split.specs.declared.node.Node.{Node}
@@ -25,18 +26,18 @@ abbrev pub FitEach : Problem → List (Vec Line Global) → Type 0
 FitEach f certs = All (λ cert. All (LineFits f) cert.items) certs
 
 -- these lines close each room that those close
-abbrev pub Covers : List Line → List Line → Type 0
-Covers all given = (room : RoomModel) → closes_room room given ≡ true → closes_room room all ≡ true
+abbrev pub ClosesWhat : List Line → List Line → Type 0
+ClosesWhat all given = (room : RoomModel) → closes_room room given ≡ true → closes_room room all ≡ true
 
 -- some lines were added, or none, and now each room is closed that these lines close
 pub record TakesOver (before after : Course) (given : List Line) : Type 0 where
   pub extends : ExtendsBy before after
-  pub covers : Covers after.lines.items given
+  pub closes : ClosesWhat after.lines.items given
 
 -- the same of each certificate
 pub record TakesOverEach (before after : Course) (certs : List (Vec Line Global)) : Type 0 where
   pub extends : ExtendsBy before after
-  pub covers : All (λ cert. Covers after.lines.items cert.items) certs
+  pub closes : All (λ cert. ClosesWhat after.lines.items cert.items) certs
 
 abbrev pub TakingMeets : Junction → List Line → Result Junction CourseStop → Type 0
 TakingMeets junction given (Ok after) = TakesOver junction.course after.course given
@@ -46,18 +47,18 @@ abbrev pub TakingAllMeets : Course → List (Vec Line Global) → Result Course 
 TakingAllMeets course certs (Ok after) = TakesOverEach course after certs
 TakingAllMeets course certs (Err stop) = CourseStopsFor course.flat.now course.lines.items stop
 
--- a line was offered, if there is one
-abbrev pub JunctionOffers : Junction → Option Line → Result Junction CourseStop → Type 0
-JunctionOffers junction line (Ok after) = AddsClause junction.course after.course (option_and_then clause_of line)
-JunctionOffers junction line (Err stop) = CourseStopsFor junction.course.flat.now junction.course.lines.items stop
+-- some lines were added, or none, and of clauses this one alone, if there is one
+abbrev pub JunctionAdds : Junction → Option (List Lit) → Result Junction CourseStop → Type 0
+JunctionAdds junction clause (Ok after) = AddsClause junction.course after.course clause
+JunctionAdds junction clause (Err stop) = CourseStopsFor junction.course.flat.now junction.course.lines.items stop
 
 -- some lines were added, or none, and nothing is left open
-pub record Ends (before after : Course) : Type 0 where
+pub record LeavesNoneOpen (before after : Course) : Type 0 where
   pub extends : ExtendsBy before after
   pub closed : is_closed after.lines.items ≡ true
 
 abbrev pub EndingMeets : Course → Result Course CourseStop → Type 0
-EndingMeets course (Ok after) = Ends course after
+EndingMeets course (Ok after) = LeavesNoneOpen course after
 EndingMeets course (Err stop) = CourseStopsFor course.flat.now course.lines.items stop
 
 abbrev pub BestMeets : Course → Result Course CourseStop → Type 0
@@ -91,14 +92,14 @@ ClosingIs f nodes all (closings.FirstOpen number) = IsFirstOpen f nodes all numb
 -- ---- what comes of them
 
 -- what the lines of a course show
-pub record TellsJoined (course : Course) (first : Option ℕ) (j : Joined) : Type 0 where
+pub record TellsJoined (course : Course) (part : Option ℕ) (j : Joined) : Type 0 where
   pub lines : j.lines.items ≡ course.lines.items
   pub verdict : j.verdict ≡ verdict course.flat.now course.lines.items
   pub bound : j.bound ≡ bound_of course.lines.items
-  pub first : j.first_open ≡ first
+  pub first : j.first_open ≡ part
 
 -- lines of the problem, each valid after those before it, what they show, and the first part that they don't close. Where they close each, nothing is left open
-pub record Joins (f : Problem) (nodes : List Node) (j : Joined) : Type 0 where
+pub record JoinsLines (f : Problem) (nodes : List Node) (j : Joined) : Type 0 where
   pub fit : All (LineFits f) j.lines.items
   pub valid : Valid f j.lines.items
   pub verdict : j.verdict ≡ verdict f j.lines.items
@@ -108,8 +109,8 @@ pub record Joins (f : Problem) (nodes : List Node) (j : Joined) : Type 0 where
 
 -- such lines, which close each room that the lines of one certificate close
 pub record JoinsEach (f : Problem) (nodes : List Node) (certs : List (Vec Line Global)) (j : Joined) : Type 0 where
-  pub joins : Joins f nodes j
-  pub covers : All (λ cert. Covers j.lines.items cert.items) certs
+  pub joins : JoinsLines f nodes j
+  pub closes : All (λ cert. ClosesWhat j.lines.items cert.items) certs
 
 -- what joining meets. It needs lines and a split of the problem
 abbrev pub JoinMeets : Problem → List Node → List (Vec Line Global) → Result Joined CourseStop → Type 0

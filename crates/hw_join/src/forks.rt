@@ -2,9 +2,9 @@
 //!
 //! Nothing is promised of them but their form: each is checked before it is taken.
 
-ghost use Rattle.std.specs.Prelude.{◌≡◌, All, IfOk, OnOk};
+ghost use Rattle.std.specs.Prelude.{◌≡◌, All, IfOk, OnOk, length};
 ghost use Rattle.hw_lines.specs.Valid.{LineFits};
-ghost use Rattle.hw_model.specs.Rooms.{RoomFits};
+ghost use Rattle.hw_model.specs.Rooms.{IsRoom, RoomFits};
 ghost use Rattle.hw_join.specs.Climbs.{ClimbFits};
 
 use hw_flat::{Flat, NoMemory, Room};
@@ -154,7 +154,8 @@ fn close(
 ) -> Result<u32, NoMemory>
     requires fits { ClimbFits flat.now climb.old }
     requires room { RoomFits flat.now room.now }
-    ensures { OnOk result (ClimbFits flat.now climb.new) }
+    ensures fits { OnOk result (ClimbFits flat.now climb.new) }
+    ensures forks { length climb.new.forks.items ≡ length climb.old.forks.items }
 {
     let clause = clause_of_room(alloc, room)?;
     let items = Vec::from_slice(alloc, &[sides.0, sides.1])?;
@@ -166,8 +167,9 @@ fn close(
     Ok(climb.clauses)
 }
 
-/// Ends a ship's range before a slot, if both sides of it have slots of the range.
+/// LeavesNoneOpen a ship's range before a slot, if both sides of it have slots of the range.
 fn end_before(room: &mut Room, ship: ShipId, slot: Slot)
+    ensures room { IsRoom room.new }
     ensures ships { room.new.ships ≡ room.old.ships }
     ensures slots { room.new.slots ≡ room.old.slots }
 {
@@ -177,10 +179,12 @@ fn end_before(room: &mut Room, ship: ShipId, slot: Slot)
             room.put(ship, low, slot - 1);
         }
     }
+    let _ships = room.ships();
 }
 
 /// Begins a ship's range at a slot, if both sides of it have slots of the range.
 fn begin_at(room: &mut Room, ship: ShipId, slot: Slot)
+    ensures room { IsRoom room.new }
     ensures ships { room.new.ships ≡ room.old.ships }
     ensures slots { room.new.slots ≡ room.old.slots }
 {
@@ -190,4 +194,5 @@ fn begin_at(room: &mut Room, ship: ShipId, slot: Slot)
             room.put(ship, slot, high);
         }
     }
+    let _ships = room.ships();
 }

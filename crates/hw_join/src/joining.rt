@@ -8,8 +8,7 @@ ghost use Rattle.std.specs.Prelude.{All, IfSome};
 ghost use Rattle.hw_lines.specs.Valid.{LineFits};
 ghost use Rattle.hw_model.specs.Problem.{IsTimetable, shape_of};
 ghost use Rattle.hw_course.specs.Courses.{CourseStands};
-ghost use Rattle.hw_course.specs.Courses.{Extends};
-ghost use Rattle.hw_join.specs.Joining.{ExtendsJunction, FitEach, JoinMeets, TellsJoined};
+ghost use Rattle.hw_join.specs.Joining.{BestMeets, EndingMeets, FitEach, JoinMeets, TakingAllMeets, TakingMeets, TellsJoined};
 ghost use Rattle.hw_split.specs.Splits.{IsSplit};
 
 use crate::forks::fork_lemmas;
@@ -25,7 +24,7 @@ use hw_rules::cargo;
 use hw_split::Split;
 use std::alloc::Global;
 
-/// Joins certificates of a problem that was split: the best of their timetables first, then the lines of
+/// JoinsLines certificates of a problem that was split: the best of their timetables first, then the lines of
 /// each in order, without timetables that are no better, bounds that are no lower and tolls that were
 /// declared before. Where the lines close each part of the split, lines follow that close the problem.
 pub fn join(
@@ -36,7 +35,7 @@ pub fn join(
 ) -> Result<Joined, CourseStop>
     requires fit { FitEach flat.now certs.now }
     requires split { IsSplit (shape_of flat.now) split.now }
-    ensures { JoinMeets flat.now split.now result }
+    ensures { JoinMeets flat.now split.now certs.now result }
 {
     let course = begun(alloc, flat, Vec::new(alloc))?;
     let course = take_best(alloc, course, certs)?;
@@ -50,8 +49,8 @@ pub fn join(
     }
 }
 
-/// Takes the lemmas of a split's forks, by the numbers of the clauses that close its parts. Where nothing
-/// is open none is taken.
+/// Takes the lemmas of a split's forks, by the numbers of the clauses that close its parts, and the line
+/// without literals. Where nothing is open none is taken.
 fn conclude<'f>(
     alloc: Global,
     course: Course<'f>,
@@ -59,14 +58,32 @@ fn conclude<'f>(
     numbers: &[u32],
 ) -> Result<Course<'f>, CourseStop>
     requires stands { CourseStands course.flat.now course }
-    ensures { Extends course.entry result }
+    ensures { EndingMeets course.entry result }
 {
     if !course.is_open() {
         return Ok(course);
     }
     let clauses = count_clauses(&course.lines);
     let lemmas = fork_lemmas(alloc, course.flat, split, numbers, clauses)?;
-    hand_all(alloc, course, IN_PLACE, &lemmas)
+    let course = hand_all(alloc, course, IN_PLACE, &lemmas)?;
+    end(alloc, course)
+}
+
+/// Takes a line without literals, unless one was taken, as the last lemma is one. The checker refuses any
+/// other.
+fn end<'f>(alloc: Global, course: Course<'f>) -> Result<Course<'f>, CourseStop>
+    requires stands { CourseStands course.flat.now course }
+    ensures { EndingMeets course.entry result }
+{
+    if !course.is_open() {
+        return Ok(course);
+    }
+    course.offer(Line::Lemma {
+        clause: Clause::of_normal(Vec::new(alloc)),
+        hints: Hints {
+            items: Vec::new(alloc),
+        },
+    })
 }
 
 /// What the lines show.
@@ -92,7 +109,7 @@ fn take_best<'f>(
 ) -> Result<Course<'f>, CourseStop>
     requires stands { CourseStands course.flat.now course }
     requires fit { FitEach course.flat.now certs.now }
-    ensures { Extends course.entry result }
+    ensures { BestMeets course.entry result }
 {
     match best_of_all(course.flat, certs) {
         Some(table) => {
@@ -159,7 +176,7 @@ fn take_all<'f>(
 ) -> Result<Course<'f>, CourseStop>
     requires stands { CourseStands course.flat.now course }
     requires fit { FitEach course.flat.now certs.now }
-    ensures { Extends course.entry result }
+    ensures { TakingAllMeets course.entry certs.now result }
 {
     let mut junction = none_joined(alloc, course);
     for cert in certs {
@@ -179,7 +196,7 @@ fn take_cert<'f>(
 ) -> Result<Junction<'f>, CourseStop>
     requires stands { CourseStands junction.course.flat.now junction.course }
     requires fit { All (LineFits junction.course.flat.now) cert.now }
-    ensures { ExtendsJunction junction.entry result }
+    ensures { TakingMeets junction.entry cert.now result }
 {
     let mut junction = junction.turned(alloc);
     for line in cert {

@@ -41,13 +41,16 @@ pub(crate) fn closing_of(
     let deleted = deleted(alloc, lines)?;
     let nodes: &[Node] = &split.nodes;
     for node in nodes {
-        if let Node::Part = node {
-            let Some(branch) = walk.branch() else {
-                unreachable!()
-            };
-            match closing_branch(alloc, flat, branch, lines, &deleted)? {
-                Some(number) => numbers.push(number)?,
-                None => return Ok(Closing::FirstOpen(numbers.len() as u64 + 1)),
+        match node {
+            Node::Fork { .. } => {}
+            Node::Part => {
+                let Some(branch) = walk.branch() else {
+                    unreachable!()
+                };
+                match closing_branch(alloc, flat, branch, lines, &deleted)? {
+                    Some(number) => numbers.push(number)?,
+                    None => return Ok(Closing::FirstOpen(numbers.len() as u64 + 1)),
+                }
             }
         }
         walk.pass(*node)?;

@@ -3,6 +3,7 @@ use Rattle.std.proofs.Common.{◌≡◌, ◌∙◌, ◌++◌, ℕ, Bool, true, f
 use Rattle.std.specs.Prelude.{All, IfSome}
 use Rattle.std.specs.List.{cons_option}
 use Rattle.std.proofs.lemmas.Bool.{and_parts}
+use Rattle.std.proofs.lemmas.List.Folds.{list_any-append}
 use Rattle.std.proofs.lemmas.List.Elements.{All-head, All-tail}
 use Rattle.hw_model.specs.declared.lit.Lit.{Lit}
 use Rattle.hw_model.specs.declared.lit.LitTruth.{LitTruth}
@@ -85,14 +86,6 @@ room_closed f all room table c flat fit valid fits closes inside permits worth a
 
 -- ---- more lines
 
-or_on : (b rest longer : Bool) → (rest ≡ true → longer ≡ true) → (b || rest) ≡ true → (b || longer) ≡ true
-or_on true rest longer later e = refl
-or_on false rest longer later e = later e
-
-closes_on : (room : RoomModel) (all more : List Line) → closes_room room all ≡ true → closes_room room (all ++ more) ≡ true
-closes_on room [] more e = absurd cc
-closes_on room (line ∷ all) more e = or_on (is_clause_false room (clause_of line)) (closes_room room all) (closes_room room (all ++ more)) (closes_on room all more) e
-
 -- lines that close a room close it with more lines after them
 pub still_closes : (room : RoomModel) (all before more : List Line) → all ≡ before ++ more → closes_room room before ≡ true → closes_room room all ≡ true
-still_closes room all before more parts e = ap (closes_room room) parts ∙ closes_on room before more e
+still_closes room all before more parts e = ap (closes_room room) parts ∙ list_any-append (λ (line : Line). is_clause_false room (clause_of line)) before more ∙ ap (λ (b : Bool). b || closes_room room more) e

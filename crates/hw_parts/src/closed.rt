@@ -86,6 +86,15 @@ pub fn closing_number(flat: &Flat, lines: &[Line], deleted: &[bool], room: &Room
     found
 }
 
+/// Whether some line, among lines of the problem, has a clause that is true of nothing in the room.
+pub fn is_room_closed(flat: &Flat, lines: &[Line], room: &Room) -> bool
+    requires fit { All (LineFits flat.now) lines.now }
+    requires ships { room.now.ships ≡ flat.now.ships }
+    ensures { result ≡ closes_room room.now lines.now }
+{
+    closing_number(flat, lines, &[], room).is_some()
+}
+
 /// The later of two numbers, unless that one alone is deleted.
 fn preferred(earlier: Option<u32>, later: u32, deleted: &[bool]) -> u32 {
     match earlier {

@@ -9,6 +9,6 @@ mod closed;
 mod closing;
 mod deletions;
 
-pub use closed::{closed_room, closing_number};
+pub use closed::{closed_room, closing_number, is_room_closed};
 pub use closing::{closing_lines, count_clauses};
 pub use deletions::deleted;

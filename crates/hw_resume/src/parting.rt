@@ -1,10 +1,9 @@
 //! A search within a part of a problem, from a start on.
 
-ghost use Rattle.std.specs.Prelude.{◌≡◌, ◌≤◌, All, IfOk};
+ghost use Rattle.std.specs.Prelude.{◌≡◌, ◌≤◌, All};
 ghost use Rattle.hw_lines.specs.Valid.{LineFits, Valid};
 ghost use Rattle.hw_model.specs.Rooms.{RoomFits};
 ghost use Rattle.hw_course.specs.Courses.{CourseStands};
-ghost use Rattle.hw_parts.specs.Closing.{closes_room};
 ghost use Rattle.hw_resume.specs.Parts.{ClosesCourse, WithinPartMeets};
 
 use crate::confined::Confined;
@@ -13,9 +12,9 @@ use crate::resumed::Parted;
 use crate::resuming::{counted, search};
 use hw_advice::Adviser;
 use hw_course::{Course, CourseStop, IN_PLACE, begun, hand_all, last_table};
-use hw_flat::{Flat, NoMemory, Room};
+use hw_flat::{Flat, Room};
 use hw_lines::Line;
-use hw_parts::{closing_lines, closing_number, deleted};
+use hw_parts::{closing_lines, is_room_closed};
 use hw_progress::MOST_BUDGET;
 use std::alloc::Global;
 
@@ -39,7 +38,7 @@ pub fn part<A: Adviser + Drop>(
 {
     let by = counted(&start);
     let course = begun(alloc, flat, start)?;
-    if closes_room(alloc, flat, &course.lines, room)? {
+    if is_room_closed(flat, &course.lines, room) {
         return Ok(Parted {
             lines: course.lines,
             is_closed: true,
@@ -50,7 +49,7 @@ pub fn part<A: Adviser + Drop>(
     let (is_spent, found) = search(alloc, flat, budget, adviser);
     let course = hand_all(alloc, course, by, &found)?;
     let course = close(alloc, course, room)?;
-    let is_closed = closes_room(alloc, flat, &course.lines, room)?;
+    let is_closed = is_room_closed(flat, &course.lines, room);
     if !is_closed && !is_spent {
         return Err(CourseStop::NoMemory);
     }
@@ -66,21 +65,11 @@ fn close<'f>(alloc: Global, course: Course<'f>, room: &Room) -> Result<Course<'f
     requires room { RoomFits course.flat.now room.now }
     ensures { ClosesCourse course.entry result }
 {
-    if closes_room(alloc, course.flat, &course.lines, room)? {
+    if is_room_closed(course.flat, &course.lines, room) {
         return Ok(course);
     }
     match closing_lines(alloc, course.flat, &course.lines, course.best(), room)? {
         Some(lines) => hand_all(alloc, course, IN_PLACE, &lines),
         None => Ok(course),
     }
-}
-
-/// Whether the lines show that nothing in the room beats their best.
-fn closes_room(alloc: Global, flat: &Flat, lines: &[Line], room: &Room) -> Result<bool, NoMemory>
-    requires fit { All (LineFits flat.now) lines.now }
-    requires ships { room.now.ships ≡ flat.now.ships }
-    ensures { IfOk result (λ is_closed. is_closed ≡ closes_room room.now lines.now) }
-{
-    let deleted = deleted(alloc, lines)?;
-    Ok(closing_number(flat, lines, &deleted, room).is_some())
 }

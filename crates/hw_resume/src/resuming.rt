@@ -1,17 +1,17 @@
 //! A search that goes on from a start.
 
-ghost use Rattle.std.specs.Prelude.{◌≡◌, ◌≤◌, All, length};
-ghost use Rattle.hw_lines.specs.Lemmas.{lemmas_of};
+ghost use Rattle.std.specs.Prelude.{◌≤◌, All, IfOk};
 ghost use Rattle.hw_lines.specs.Valid.{LineFits, Valid};
-ghost use Rattle.hw_resume.specs.Searched.{IsSearched};
+ghost use Rattle.hw_course.specs.Courses.{CourseStands};
+ghost use Rattle.hw_resume.specs.Searched.{IsSearched, TellsOf};
 ghost use Rattle.hw_resume.specs.Going.{ResumeMeets};
 
 use crate::reminder::Reminder;
-use crate::resumed::{Resumed, told};
+use crate::resumed::Resumed;
 use hw_advice::Adviser;
 use hw_cert::MemoryLog;
-use hw_course::{CourseStop, Raise, begun, hand_all, last_table};
-use hw_flat::Flat;
+use hw_course::{Course, CourseStop, Raise, begun, hand_all, last_table};
+use hw_flat::{Flat, NoMemory};
 use hw_lines::Line;
 use hw_progress::MOST_BUDGET;
 use hw_proving::prove;
@@ -42,6 +42,24 @@ pub fn resume<A: Adviser + Drop>(
     let (is_spent, found) = search(alloc, flat, budget, Reminder::new(table, adviser));
     let course = hand_all(alloc, course, by, &found)?;
     Ok(told(alloc, course, is_spent)?)
+}
+
+/// What the lines of a course show.
+fn told(alloc: Global, course: Course<'_>, is_spent: bool) -> Result<Resumed, NoMemory>
+    requires stands { CourseStands course.flat.now course }
+    ensures { IfOk result (λ resumed. TellsOf course.entry is_spent resumed) }
+{
+    let is_open = course.is_open();
+    let verdict = course.checker.verdict();
+    let bound = course.checker.bound();
+    let table = last_table(alloc, &course.lines)?;
+    Ok(Resumed {
+        lines: course.lines,
+        verdict,
+        bound,
+        table,
+        is_spent: is_spent && is_open,
+    })
 }
 
 /// Searches, and keeps the lines. Whether the budget is spent comes first.

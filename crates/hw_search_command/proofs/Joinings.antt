@@ -1,10 +1,10 @@
 -- Certificates of the parts of a split of a subject, that are joined.
 use Rattle.std.proofs.Common.{◌≡◌, ◌++◌, ◌∙◌, ℕ, false, List, [], ◌∷◌, Option, Some, None, Result, Ok, Err, Vec, inl, inr, append-nil, append_assoc, ap, refl, subst, sym}
+use Rattle.std.proofs.lemmas.Bool.{false≢true}
 use Rattle.std.specs.declared.alloc.Global.{Global}
 use Rattle.std.specs.Prelude.{IfSome}
 use Rattle.hw_model.specs.Problem.{Problem}
 use Rattle.hw_desk.specs.State.{DeskState}
-use Rattle.hw_desk.specs.Whole.{SendsText}
 use Rattle.hw_desk.specs.declared.desk.Feed.{Feed}
 use Rattle.hw_desk.specs.declared.desk.Feed.TheVariants as feeds
 use Rattle.hw_desk.specs.declared.desk.Tray.TheVariants as tray
@@ -14,13 +14,11 @@ use Rattle.hw_cert.specs.declared.version.Version.TheVariants.{Three}
 use Rattle.hw_cert.specs.Texts.{cert_text}
 use Rattle.hw_cert.proofs.Answered.{told_map}
 use Rattle.hw_report.specs.Reports.{Report, Naming, bad_text, checked, open_part, no_memory, refused, too_long}
-use Rattle.hw_report.specs.Texts.{report_text}
 use Rattle.hw_command.specs.Carries.{Carries}
 use Rattle.hw_command.specs.Certificates.{report_of_check}
 use Rattle.hw_command.specs.Ends.{Ends, EndsWith}
 use Rattle.hw_command.specs.Scope.{Entered, GiveBefore, Named, named_feed}
 use Rattle.hw_command.specs.Sending.{SendsTo}
-use Rattle.hw_command.specs.Statuses.{status_of}
 use Rattle.hw_command.specs.Works.{Breaks, Works, is_common, last_report}
 use Rattle.hw_command.specs.declared.outcome.CertOutcome.{CertOutcome}
 use Rattle.hw_command.specs.declared.outcome.CertOutcome.TheVariants.{Shows, Wrong, TooLong}
@@ -29,12 +27,10 @@ use Rattle.hw_command.specs.declared.outcome.CertStop.TheVariants.{Fault, NoMemo
 use Rattle.hw_command.specs.declared.status.Status.{Status}
 use Rattle.hw_command.specs.declared.status.Status.TheVariants.{WriteFault}
 use Rattle.hw_command.proofs.Begun.{entered_on, refuses, rose_on, wants_memory}
-use Rattle.hw_command.proofs.Endings.{all_sent, cut_off, nothing_sent, sent_more}
 use Rattle.hw_command.proofs.SentWorks.{broken_works, made, sent_works}
 use Rattle.hw_command.proofs.Stops.{stops_carries}
 use Rattle.hw_split.specs.declared.node.Node.{Node}
 use Rattle.hw_course.specs.Courses.{CourseStopsFor}
-use Rattle.hw_join.specs.Joining.{Joins}
 use Rattle.hw_join.specs.declared.joined.Joined.{Joined}
 use Rattle.hw_course.specs.declared.stop.CourseStop.{CourseStop}
 use Rattle.hw_course.specs.declared.stop.CourseStop.TheVariants as stops
@@ -47,8 +43,8 @@ use Rattle.hw_subject.proofs.Certified.{modelled}
 use Rattle.hw_subject.proofs.Certless.{IsCertless, certless}
 use Rattle.hw_subject.proofs.Shown.{bound_says, verdict_says}
 use Rattle.hw_subject.proofs.Readings.{all_as, all_on, before_last}
-use Rattle.hw_search_command.specs.Certs.{CertsStopIn, JoinsTo, ReadsCerts, SendsJoined, Unjoined, Unread, joined_reports, open_reports}
-use Rattle.hw_search_command.specs.Joining.{GivesSplit, JoinDone, JoinGives, JoinSays, join_task}
+use Rattle.hw_search_command.specs.Certs.{AreCerts, CertsStopIn, JoinsTo, ReadsCerts, SendsJoined, Unjoined, Unread, joined_reports, open_reports}
+use Rattle.hw_search_command.specs.Joining.{GivesSplit, JoinDone, JoinGives, JoinSays, JoinsCerts, join_task}
 use Rattle.hw_search_command.specs.Resuming.{stop_outcome}
 use Rattle.hw_search_command.specs.Splits.{ReadsSplit, StopsAtSplit}
 use Rattle.hw_search_command.specs.declared.joining.JoinEnd.{JoinEnd}
@@ -128,7 +124,7 @@ split_refused topic split certs proof {x = x} {y = y} {z = z} {r = r} h k ends =
 -- the work up to it
 unread_works : (topic : Topic) {split certs proof : List ℕ} (names : Naming) {x y z w : DeskState} {given : Given} {nodes : List Node} {f : Problem} (stopped : Result CertOutcome CertStop) → ReadsSubject (topic_subject topic) x y given → ReadsSplit (searched_in given.flat given.repair) split y z nodes → ReadsCerts f certs z w (Err stopped)
     → Works (before (topic_subject topic) split ++ named_feed feeds.Certificate certs ∷ []) (JoinGives (topic_subject topic) split x.held) (Some proof) x w (report_of_check names None None stopped)
-unread_works topic names (Ok (Shows v)) h k m = absurd m.answer.1
+unread_works topic names (Ok (Shows v)) h k m = absurd (false≢true m.answer.1)
 unread_works topic {split = split} {certs = certs} {proof = proof} names (Ok (Wrong number word hint)) h k m = refuses (Some proof) (before (topic_subject topic) split) (named_feed feeds.Certificate certs) [] _ (sym (append-nil _)) refl (all_entered topic h k m) (give_all topic h k) (m.answer.0 ∙ (k.read_faults ∙ h.read_faults))
 unread_works topic {split = split} {certs = certs} {proof = proof} names (Ok TooLong) h k m = refuses (Some proof) (before (topic_subject topic) split) (named_feed feeds.Certificate certs) [] _ (sym (append-nil _)) refl (all_entered topic h k m) (give_all topic h k) (m.answer.0 ∙ (k.read_faults ∙ h.read_faults))
 unread_works topic {split = split} {certs = certs} {proof = proof} names (Err Fault) h k m = refuses (Some proof) (before (topic_subject topic) split) (named_feed feeds.Certificate certs) [] _ (sym (append-nil _)) refl (all_entered topic h k m) (give_all topic h k) (rose_on (k.read_faults ∙ h.read_faults) m.answer)
@@ -139,7 +135,7 @@ held_certs : (topic : Topic) {split certs : List ℕ} {x y z w : DeskState} {giv
 held_certs topic {certs = certs} {f = f} outcome h k m = subst (λ (told : Option (List ℕ)). IfSome told (CertsStopIn f outcome)) (ap (λ held. held certs) (both_entered topic h k).begins.held) m.answer.2
 
 unread_says : (topic : Topic) {split certs : List ℕ} (proof : List ℕ) (names : Naming) {x y z w : DeskState} {given : Given} {nodes : List Node} (stopped : Result CertOutcome CertStop) → (h : ReadsSubject (topic_subject topic) x y given) → ReadsSplit (searched_in given.flat given.repair) split y z nodes → ReadsCerts (judged (topic_subject topic) h.value) certs z w (Err stopped) → is_common (report_of_check names None None stopped) ≡ false → JoinSays (topic_subject topic) split certs proof x w (report_of_check names None None stopped ∷ [])
-unread_says topic proof names (Ok (Shows v)) h k m own = absurd m.answer.1
+unread_says topic proof names (Ok (Shows v)) h k m own = absurd (false≢true m.answer.1)
 unread_says topic proof names (Ok (Wrong number word hint)) h k m own = record { gives = gives_split h k; refused = inl (held_certs topic (Wrong number word hint) h k m) }
 unread_says topic proof names (Ok TooLong) h k m own = record { gives = gives_split h k; refused = inl (held_certs topic TooLong h k m) }
 unread_says topic proof names (Err Fault) h k m own = absurd (cc)
@@ -176,26 +172,35 @@ unjoined_meets topic {proof = proof} {w = w} {end = end} {e = e} names stopped h
 
 -- ---- the lines went to Proof
 
-joined_done : (topic : Topic) {split certs proof : List ℕ} {x y z w : DeskState} {given : Given} {nodes : List Node} (j : Joined) → (h : ReadsSubject (topic_subject topic) x y given) → ReadsSplit (searched_in given.flat given.repair) split y z nodes → SendsJoined {E = Unit} (judged (topic_subject topic) h.value) nodes certs proof z w j (Ok tt) → JoinDone (topic_subject topic) split proof x w j.verdict j.bound (repair_ships ((topic_subject topic).problem h.value) ((topic_subject topic).plan h.value)) ((topic_subject topic).naming h.value) j.first_open
+-- what they were joined to
+abbrev joins_certs : (topic : Topic) {split certs proof : List ℕ} {x y z w : DeskState} {given : Given} {nodes : List Node} {sent : Result Unit Unit} (j : Joined) → (h : ReadsSubject (topic_subject topic) x y given) → ReadsSplit (searched_in given.flat given.repair) split y z nodes → SendsJoined (judged (topic_subject topic) h.value) nodes certs proof z w j sent → JoinsCerts (topic_subject topic) split certs x.held
+joins_certs topic {certs = certs} j h k m = record {
+  gives = gives_split h k;
+  taken = m.taken.items;
+  told = subst (λ (told : Option (List ℕ)). IfSome told (AreCerts (judged (topic_subject topic) h.value) m.taken.items)) (ap (λ held. held certs) (both_entered topic h k).begins.held) m.reads.answer.2;
+  joined = j;
+  joins = m.joins;
+}
+
+joined_done : (topic : Topic) {split certs proof : List ℕ} {x y z w : DeskState} {given : Given} {nodes : List Node} (j : Joined) → (h : ReadsSubject (topic_subject topic) x y given) → ReadsSplit (searched_in given.flat given.repair) split y z nodes → SendsJoined {E = Unit} (judged (topic_subject topic) h.value) nodes certs proof z w j (Ok tt) → JoinDone (topic_subject topic) split certs proof x w j.verdict j.bound (repair_ships ((topic_subject topic).problem h.value) ((topic_subject topic).plan h.value)) ((topic_subject topic).naming h.value) j.first_open
 joined_done topic {w = w} j h k m =
     let s = topic_subject topic in
+    let lines = m.joins.joins in
     record {
-      gives = gives_split h k;
+      joins = joins_certs topic j h k m;
       naming = refl;
       counted = refl;
       made = made (all_entered topic h k m.reads) m.sends;
-      joined = j;
-      joins = m.joins;
       verdict = refl;
       last_bound = refl;
       first_open = refl;
-      means = verdict_says s h.value j.lines.items j.verdict (last_table j.lines.items) (modelled topic h) m.joins.fit m.joins.valid m.joins.verdict refl;
-      bounds = bound_says s h.value j.lines.items j.bound (modelled topic h) m.joins.valid m.joins.bound;
+      means = verdict_says s h.value j.lines.items j.verdict (last_table j.lines.items) (modelled topic h) lines.fit lines.valid lines.verdict refl;
+      bounds = bound_says s h.value j.lines.items j.bound (modelled topic h) lines.valid lines.bound;
       certificate = told_map (w.trays tray.Proof).sent (λ bytes text. text) m.sends.answer.1;
     }
 
 -- what the reports say, by whether a part is open
-joined_says : (s : Subject) (split certs proof : List ℕ) (x w : DeskState) (names : Naming) (ships : Option ℕ) (j : Joined) (first : Option ℕ) → JoinDone s split proof x w j.verdict j.bound ships names first → JoinSays s split certs proof x w (checked j.verdict j.bound ships names ∷ open_reports first)
+joined_says : (s : Subject) (split certs proof : List ℕ) (x w : DeskState) (names : Naming) (ships : Option ℕ) (j : Joined) (first : Option ℕ) → JoinDone s split certs proof x w j.verdict j.bound ships names first → JoinSays s split certs proof x w (checked j.verdict j.bound ships names ∷ open_reports first)
 joined_says s split certs proof x w names ships j None done = done
 joined_says s split certs proof x w names ships j (Some number) done = done
 
@@ -225,7 +230,7 @@ broke_meets topic {split = split} {certs = certs} {proof = proof} {x = x} {w = w
       mid = w;
       reports = [];
       works = subst (λ (inputs : List Named). Breaks inputs (JoinGives s split x.held) (Some proof) x w) (same_inputs s split certs) (broken_works (all_entered topic h k m.reads) (give_all topic h k) (m.reads.answer.0 ∙ (k.read_faults ∙ h.read_faults)) m.sends);
-      says = λ own. record { gives = gives_split h k; joined = j; joins = m.joins; cut = m.sends.answer.1 };
+      says = λ own. record { joins = joins_certs topic j h k m; cut = m.sends.answer.1 };
       ends = ends;
     }
 
@@ -249,20 +254,6 @@ broke_carries topic {certs = certs} {proof = proof} {z = z} {nodes = nodes} w h 
     broke_meets topic there.0 h k there.1 (refl, refl)
 
 -- ---- the reports
-
-pub first_cut : {E : Type 0} {x y : DeskState} {e : E} (a b : Report) → SendsText tray.Report (report_text a) x y (Err e) → Ends (a ∷ b ∷ []) x y WriteFault
-first_cut {x = x} a b cut = cut_off (a ∷ b ∷ []) [] a (b ∷ []) refl (nothing_sent x) refl cut
-
-pub second_cut : {E F : Type 0} {x y z : DeskState} {u : Unit {0}} {e : F} (a b : Report) → SendsText {E = E} tray.Report (report_text a) x y (Ok u) → SendsText tray.Report (report_text b) y z (Err e) → Ends (a ∷ b ∷ []) x z WriteFault
-second_cut {x = x} a b h cut =
-    let sent = sent_more [] a (nothing_sent x) refl h in
-    cut_off (a ∷ b ∷ []) (a ∷ []) b [] refl sent.0 sent.1 cut
-
-pub both_sent : {E F : Type 0} {x y z : DeskState} {u v : Unit {0}} {s : Status} (a b : Report) → s ≡ status_of b → SendsText {E = E} tray.Report (report_text a) x y (Ok u) → SendsText {E = F} tray.Report (report_text b) y z (Ok v) → Ends (a ∷ b ∷ []) x z s
-both_sent {x = x} a b e h k =
-    let one = sent_more [] a (nothing_sent x) refl h in
-    let two = sent_more (a ∷ []) b one.0 one.1 k in
-    all_sent a (b ∷ []) e two.0 two.1
 
 -- of joined certificates, by whether a part is open
 pub told_of : {x y : DeskState} {s : Status} (names : Naming) (ships : Option ℕ) (j : Joined) (first : Option ℕ) → j.first_open ≡ first → Ends (checked j.verdict j.bound ships names ∷ open_reports first) x y s → Ends (joined_reports names ships j) x y s

@@ -1,30 +1,32 @@
 -- Certificates one after another in one input, and what is sent to Proof of them.
-use Rattle.std.specs.Prelude.{◌≡◌, ◌<◌, ◌⊎◌, ℕ, ◌+◌, ◌==◌, List, [], ◌∷◌, ◌++◌, Option, Some, None, IfSome, ⊤, Result, Ok, Err, All, Vec, count_by, length, min}
+use Rattle.std.specs.Prelude.{◌≡◌, ◌<◌, ◌⊎◌, ℕ, ◌+◌, ◌==◌, List, [], ◌∷◌, ◌++◌, Option, Some, None, IfSome, ⊤, Result, Ok, Err, Vec, All, true, count_by, length, min}
 use Rattle.std.specs.declared.alloc.Global.{Global}
-use Rattle.hw_model.specs.Problem.{Problem}
+use Rattle.hw_model.specs.Problem.{Problem, shape_of}
 use Rattle.hw_desk.specs.State.{DeskState}
 use Rattle.hw_desk.specs.declared.desk.Feed.TheVariants.{Certificate}
 use Rattle.hw_desk.specs.declared.whole.ReadStop.{ReadStop}
 use Rattle.hw_desk.specs.declared.whole.ReadStop.TheVariants as reads
 use Rattle.hw_lines.specs.declared.line.Line.{Line}
-use Rattle.hw_lines.specs.Valid.{LineFits}
+use Rattle.hw_lines.specs.Valid.{LineFits, Valid}
 use Rattle.hw_cert.specs.declared.version.Version.TheVariants.{Three}
+use Rattle.hw_cert.specs.Stream.{cert_stream_to}
 use Rattle.hw_cert.specs.Texts.{cert_text}
 use Rattle.hw_report.specs.Reports.{Report, Naming, checked, open_part}
 use Rattle.hw_command.specs.Certificates.{cert_outcome_to}
 use Rattle.hw_command.specs.Checking.{NoOutcome}
 use Rattle.hw_command.specs.Inputs.{Enters}
+use Rattle.hw_command.specs.Keeping.{complete_lines}
 use Rattle.hw_command.specs.Sending.{SendsTo}
 use Rattle.hw_command.specs.declared.outcome.CertOutcome.{CertOutcome}
 use Rattle.hw_command.specs.declared.outcome.CertOutcome.TheVariants.{Shows, Wrong, TooLong}
 use Rattle.hw_command.specs.declared.outcome.CertStop.{CertStop}
 use Rattle.hw_command.specs.declared.outcome.CertStop.TheVariants.{Fault, NoMemory}
 use Rattle.hw_course.specs.Courses.{CourseStopsFor}
-use Rattle.hw_join.specs.Joining.{FitEach, Joins}
+use Rattle.hw_join.specs.Joining.{FitEach, JoinsEach}
 use Rattle.hw_join.specs.declared.joined.Joined.{Joined}
 use Rattle.hw_course.specs.declared.stop.CourseStop.{CourseStop}
 use Rattle.hw_split.specs.declared.node.Node.{Node}
-use Rattle.hw_search_command.specs.Resuming.{stop_outcome}
+use Rattle.hw_search_command.specs.Resuming.{shows_nothing, stop_outcome}
 use Rattle.hw_search_command.specs.declared.joining.JoinEnd.{JoinEnd}
 use Rattle.hw_search_command.specs.declared.joining.JoinEnd.TheVariants as ends
 
@@ -52,12 +54,6 @@ moved_stop lines (Err stop) = Err stop
 abbrev pub lines_in : List ℕ → ℕ
 lines_in bytes = count_by (λ byte. byte == 10) bytes
 
--- the outcome is of a certificate that is refused
-abbrev pub IsRefused : CertOutcome → Type 0
-IsRefused (Shows v) = ⊥
-IsRefused (Wrong number word hint) = ⊤
-IsRefused TooLong = ⊤
-
 -- one of the certificates has this outcome, with its number in all the bytes
 pub record StopsIn (f : Problem) (outcome : CertOutcome) (bytes : List ℕ) : Type 0 where
   pub before : List ℕ
@@ -82,21 +78,32 @@ stop_of_read reads.Fault = Err Fault
 stop_of_read reads.TooLong = Ok TooLong
 stop_of_read reads.NoMemory = Err NoMemory
 
+-- these bytes are a certificate of these lines, each of the problem and valid after those before it
+pub record IsCertOf (f : Problem) (lines : List Line) (bytes : List ℕ) : Type 0 where
+  pub fit : All (LineFits f) lines
+  pub valid : Valid f lines
+  pub reads : cert_stream_to Three (shape_of f) bytes ≡ complete_lines lines
+
+-- the bytes are certificates of these lines, one after another
+abbrev pub AreCerts : Problem → List (Vec Line Global) → List ℕ → Type 0
+AreCerts f [] bytes = bytes ≡ []
+AreCerts f (cert ∷ more) bytes = (own : List ℕ) × (rest : List ℕ) × (bytes ≡ own ++ rest) × IsCertOf f cert.items own × AreCerts f more rest
+
 -- the lines of a certificate of these bytes, or why there are none
 abbrev pub CertAnswer : Problem → List ℕ → Result (Vec Line Global) (Result CertOutcome CertStop) → Type 0
-CertAnswer f bytes (Ok lines) = All (LineFits f) lines.items
-CertAnswer f bytes (Err (Ok outcome)) = IsRefused outcome × (outcome ≡ cert_outcome_to Three f bytes)
+CertAnswer f bytes (Ok lines) = IsCertOf f lines.items bytes
+CertAnswer f bytes (Err (Ok outcome)) = (shows_nothing outcome ≡ true) × (outcome ≡ cert_outcome_to Three f bytes)
 CertAnswer f bytes (Err (Err stop)) = stop ≡ NoMemory
 
 -- the lines of each certificate among the bytes, or why there are none
 abbrev pub CertsAnswer : Problem → List ℕ → Result (Vec (Vec Line Global) Global) (Result CertOutcome CertStop) → Type 0
-CertsAnswer f bytes (Ok certs) = FitEach f certs.items
-CertsAnswer f bytes (Err (Ok outcome)) = IsRefused outcome × StopsIn f outcome bytes
+CertsAnswer f bytes (Ok certs) = AreCerts f certs.items bytes
+CertsAnswer f bytes (Err (Ok outcome)) = (shows_nothing outcome ≡ true) × StopsIn f outcome bytes
 CertsAnswer f bytes (Err (Err stop)) = stop ≡ NoMemory
 
 abbrev pub CertsComeTo : Problem → Option (List ℕ) → DeskState → DeskState → Result (Vec (Vec Line Global) Global) (Result CertOutcome CertStop) → Type 0
-CertsComeTo f told old new (Ok certs) = (new.read_faults ≡ old.read_faults) × FitEach f certs.items
-CertsComeTo f told old new (Err (Ok outcome)) = (new.read_faults ≡ old.read_faults) × IsRefused outcome × IfSome told (CertsStopIn f outcome)
+CertsComeTo f told old new (Ok certs) = (new.read_faults ≡ old.read_faults) × FitEach f certs.items × IfSome told (AreCerts f certs.items)
+CertsComeTo f told old new (Err (Ok outcome)) = (new.read_faults ≡ old.read_faults) × (shows_nothing outcome ≡ true) × IfSome told (CertsStopIn f outcome)
 CertsComeTo f told old new (Err (Err stop)) = NoOutcome old new stop
 
 -- the certificates were begun under their name
@@ -123,7 +130,7 @@ pub record SendsJoined {E : Type 0} (f : Problem) (nodes : List Node) (certs pro
   pub mid : DeskState
   pub taken : Vec (Vec Line Global) Global
   pub reads : ReadsCerts f certs old mid (Ok taken)
-  pub joins : Joins f nodes j
+  pub joins : JoinsEach f nodes taken.items j
   pub sends : SendsTo proof (cert_text Three j.lines.items) mid new sent
 
 -- what comes of certificates

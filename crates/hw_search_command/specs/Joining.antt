@@ -1,5 +1,6 @@
 -- `join` of any subject: the certificates of the parts of a split are checked, joined and sent to Proof.
-use Rattle.std.specs.Prelude.{◌≡◌, ◌⊎◌, ℕ, List, [], ◌∷◌, ◌++◌, Option, Some, None, IfSome}
+use Rattle.std.specs.Prelude.{◌≡◌, ◌⊎◌, ℕ, List, [], ◌∷◌, ◌++◌, Option, Some, None, IfSome, Vec}
+use Rattle.std.specs.declared.alloc.Global.{Global}
 use Rattle.hw_model.specs.Problem.{Problem}
 use Rattle.hw_desk.specs.State.{DeskState}
 use Rattle.hw_desk.specs.declared.desk.Feed.{Feed}
@@ -7,6 +8,7 @@ use Rattle.hw_desk.specs.declared.desk.Feed.TheVariants.{Certificate, Split}
 use Rattle.hw_desk.specs.declared.desk.Tray.TheVariants as tray
 use Rattle.hw_lines.specs.declared.check.Refusal.{Refusal}
 use Rattle.hw_lines.specs.declared.check.Verdict.{Verdict}
+use Rattle.hw_lines.specs.declared.line.Line.{Line}
 use Rattle.hw_lines.specs.Lines.{last_table}
 use Rattle.hw_cert.specs.declared.version.Version.TheVariants.{Three}
 use Rattle.hw_cert.specs.Texts.{cert_text}
@@ -20,12 +22,12 @@ use Rattle.hw_command.specs.Values.{IsLong}
 use Rattle.hw_command.specs.declared.outcome.CertOutcome.{CertOutcome}
 use Rattle.hw_command.specs.declared.outcome.CertOutcome.TheVariants.{TooLong, Wrong}
 use Rattle.hw_course.specs.Going.{LineFails}
-use Rattle.hw_join.specs.Joining.{Joins}
+use Rattle.hw_join.specs.Joining.{JoinsEach}
 use Rattle.hw_join.specs.declared.joined.Joined.{Joined}
 use Rattle.hw_split.specs.declared.node.Node.{Node}
 use Rattle.hw_subject.specs.Meanings.{IsBoundOf, VerdictSays, judged, own_worth, repair_ships}
 use Rattle.hw_subject.specs.Subjects.{Subject}
-use Rattle.hw_search_command.specs.Certs.{CertsStopIn}
+use Rattle.hw_search_command.specs.Certs.{AreCerts, CertsStopIn}
 use Rattle.hw_search_command.specs.Splits.{IsBadSplit, IsSplitOf}
 
 -- ---- the inputs
@@ -39,20 +41,26 @@ pub record GivesSplit (s : Subject) (split : List ℕ) (held : List ℕ → Opti
 
 -- ---- what is said
 
--- the certificates were joined, and Proof was made and holds the joined one, where it is told: each of its lines is valid after those before it, it shows this verdict and this bound, both true of the problem, and this is the first part that it leaves open, or none
-pub record JoinDone (s : Subject) (split : List ℕ) (proof : List ℕ) (old new : DeskState) (v : Verdict) (bound ships : Option ℕ) (names : Naming) (first : Option ℕ) : Type 0 where
-  pub gives : GivesSplit s split old.held
-  pub naming : names ≡ s.naming gives.value
-  pub counted : ships ≡ repair_ships (s.problem gives.value) (s.plan gives.value)
-  pub made : MakesProof proof old new
+-- the certificates, where they are told, and lines that they were joined to: each is valid after those before it, and a room that a line of one certificate closes is closed by one of these
+pub record JoinsCerts (s : Subject) (split certs : List ℕ) (held : List ℕ → Option (List ℕ)) : Type 0 where
+  pub gives : GivesSplit s split held
+  pub taken : List (Vec Line Global)
+  pub told : IfSome (held certs) (AreCerts (judged s gives.value) taken)
   pub joined : Joined
-  pub joins : Joins (judged s gives.value) gives.nodes joined
-  pub verdict : v ≡ joined.verdict
-  pub last_bound : bound ≡ joined.bound
-  pub first_open : first ≡ joined.first_open
-  pub means : VerdictSays s gives.value v (last_table joined.lines.items)
-  pub bounds : IfSome bound (λ b. IsBoundOf s gives.value (own_worth (s.plan gives.value) (s.problem gives.value).ships b))
-  pub certificate : IfSome (new.trays tray.Proof).sent (λ bytes. bytes ≡ cert_text Three joined.lines.items)
+  pub joins : JoinsEach (judged s gives.value) gives.nodes taken joined
+
+-- the certificates were joined, and Proof was made and holds the joined one, where it is told: it shows this verdict and this bound, both true of the problem, and this is the first part that it leaves open, or none
+pub record JoinDone (s : Subject) (split certs proof : List ℕ) (old new : DeskState) (v : Verdict) (bound ships : Option ℕ) (names : Naming) (first : Option ℕ) : Type 0 where
+  pub joins : JoinsCerts s split certs old.held
+  pub naming : names ≡ s.naming joins.gives.value
+  pub counted : ships ≡ repair_ships (s.problem joins.gives.value) (s.plan joins.gives.value)
+  pub made : MakesProof proof old new
+  pub verdict : v ≡ joins.joined.verdict
+  pub last_bound : bound ≡ joins.joined.bound
+  pub first_open : first ≡ joins.joined.first_open
+  pub means : VerdictSays s joins.gives.value v (last_table joins.joined.lines.items)
+  pub bounds : IfSome bound (λ b. IsBoundOf s joins.gives.value (own_worth (s.plan joins.gives.value) (s.problem joins.gives.value).ships b))
+  pub certificate : IfSome (new.trays tray.Proof).sent (λ bytes. bytes ≡ cert_text Three joins.joined.lines.items)
 
 abbrev pub LineFailsAs : Problem → CertOutcome → Type 0
 LineFailsAs f (Wrong number word hint) = (cause : Refusal) × LineFails f [] number cause × (word ≡ Check cause.word) × (hint ≡ cause.hint)
@@ -64,11 +72,9 @@ pub record RefusesCerts (s : Subject) (split certs : List ℕ) (held : List ℕ 
   pub refused : IfSome (held certs) (CertsStopIn (judged s gives.value) o) ⊎ LineFailsAs (judged s gives.value) o
 
 -- Proof, of which a make or a write failed, holds a proper prefix of the text of a joined certificate, where it is told
-pub record JoinBreaks (s : Subject) (split : List ℕ) (old new : DeskState) : Type 0 where
-  pub gives : GivesSplit s split old.held
-  pub joined : Joined
-  pub joins : Joins (judged s gives.value) gives.nodes joined
-  pub cut : IfSome (new.trays tray.Proof).sent (IsCutOf (cert_text Three joined.lines.items))
+pub record JoinBreaks (s : Subject) (split certs : List ℕ) (old new : DeskState) : Type 0 where
+  pub joins : JoinsCerts s split certs old.held
+  pub cut : IfSome (new.trays tray.Proof).sent (IsCutOf (cert_text Three joins.joined.lines.items))
 
 -- what is read of the inputs, of which the split has this first bad line
 pub record BadSplit (s : Subject) (split : List ℕ) (held : List ℕ → Option (List ℕ)) (number : ℕ) (word : List ℕ) : Type 0 where
@@ -83,9 +89,9 @@ pub record LongSplit (s : Subject) (split : List ℕ) (held : List ℕ → Optio
 
 -- what reports say of the inputs, of the split, of the certificates and of Proof, each as far as it is told; none is a write fault on Proof. A verdict is followed by the first open part, if there is one, and nothing else is printed
 abbrev pub JoinSays : Subject → List ℕ → List ℕ → List ℕ → DeskState → DeskState → List Report → Type 0
-JoinSays s split certs proof old new [] = JoinBreaks s split old new
-JoinSays s split certs proof old new (checked v bound ships names ∷ []) = JoinDone s split proof old new v bound ships names None
-JoinSays s split certs proof old new (checked v bound ships names ∷ open_part number ∷ []) = JoinDone s split proof old new v bound ships names (Some number)
+JoinSays s split certs proof old new [] = JoinBreaks s split certs old new
+JoinSays s split certs proof old new (checked v bound ships names ∷ []) = JoinDone s split certs proof old new v bound ships names None
+JoinSays s split certs proof old new (checked v bound ships names ∷ open_part number ∷ []) = JoinDone s split certs proof old new v bound ships names (Some number)
 JoinSays s split certs proof old new (refused number word hint ∷ []) = RefusesCerts s split certs old.held (Wrong number word hint)
 JoinSays s split certs proof old new (too_long Certificate ∷ []) = RefusesCerts s split certs old.held TooLong
 JoinSays s split certs proof old new (bad_text Split number word ∷ []) = BadSplit s split old.held number word

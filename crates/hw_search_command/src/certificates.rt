@@ -1,13 +1,14 @@
 //! Several certificates one after another in one input, as `cat` makes it.
 
-ghost use Rattle.std.specs.Prelude.{◌≡◌, ◌≤◌, IfOk, Some, codes, false, length};
+ghost use Rattle.std.specs.Prelude.{◌≡◌, ◌≤◌, ◌<◌, IfOk, Some, codes, false, length};
 ghost use Rattle.hw_desk.specs.Calm.{calm_state};
 ghost use Rattle.hw_desk.specs.State.{IsNewDesk};
 ghost use Rattle.hw_desk.specs.declared.desk.Feed.TheVariants.{Certificate};
 ghost use Rattle.hw_search_command.specs.Certs.{CertAnswer, CertsAnswer, ReadsCerts, lines_in, moved_stop, stop_of_read};
 
+use crate::resuming::shows_nothing;
 use hw_cert::{Line, Version};
-use hw_command::{CertOutcome, CertStop, read_cert};
+use hw_command::{CertOutcome, CertStop, ReadCert, read_cert};
 use hw_desk::{CalmDesk, Desk, Feed, NamedBytes, ReadStop, read_whole};
 use hw_flat::{Flat, NoMemory};
 use std::alloc::Global;
@@ -61,7 +62,7 @@ fn check_each(
     let mut certs = Vec::new(alloc);
     let mut before = 0u64;
     let mut begin = 0;
-    while begin < bytes.len() || certs.is_empty() {
+    'each: loop {
         let end = begin + first_length(&bytes[begin..]);
         let cert = &bytes[begin..end];
         let lines = match check_one(alloc, flat, cert) {
@@ -71,15 +72,18 @@ fn check_each(
         if certs.push(lines).is_err() {
             return Err(Err(CertStop::NoMemory));
         }
+        if end == bytes.len() {
+            return Ok(certs);
+        }
         before += count_lines(cert);
         begin = end;
     }
-    Ok(certs)
 }
 
 /// How many bytes come before the header of the second certificate, or all of them.
 fn first_length(bytes: &[u8]) -> usize
-    ensures { result ≤ length bytes.now }
+    ensures within { result ≤ length bytes.now }
+    ensures some { 0 < length bytes.now → 0 < result }
 {
     for (place, byte) in bytes.iter().enumerate() {
         if *byte == b'\n' && bytes[place + 1..].starts_with(HEADER) {
@@ -109,13 +113,18 @@ fn check_one(
         Err(_) => return Err(Err(CertStop::NoMemory)),
     };
     let lines = Vec::new(alloc);
-    match read_cert(alloc, &mut desk, flat, NAME, Version::Three, lines) {
-        Ok(read) => match read.outcome {
-            CertOutcome::Shows(_) => Ok(read.kept),
-            CertOutcome::Wrong { .. } | CertOutcome::TooLong => Err(Ok(read.outcome)),
-        },
-        Err(stop) => Err(Err(stop)),
+    let ReadCert {
+        outcome,
+        bound: _,
+        kept: lines,
+    } = match read_cert(alloc, &mut desk, flat, NAME, Version::Three, lines) {
+        Ok(read) => read,
+        Err(stop) => return Err(Err(stop)),
+    };
+    if shows_nothing(outcome) {
+        return Err(Ok(outcome));
     }
+    Ok(lines)
 }
 
 /// The name under which a certificate stands in memory.
