@@ -1,5 +1,5 @@
 -- A demonstration that is solved, checked and sent.
-use Rattle.std.proofs.Common.{◌≡◌, ◌<◌, ◌+◌, ◌∙◌, ◌++◌, ◌∷◌, ℕ, List, [], Bool, true, false, Option, Some, None, Ok, Err, length, get_or, refl, sym, ap, subst, append_assoc, arith}
+use Rattle.std.proofs.Common.{◌≡◌, ◌<◌, ◌∙◌, ◌++◌, ◌∷◌, ℕ, List, [], Bool, true, false, Option, Some, None, Ok, Err, length, get_or, refl, sym, ap, subst, append_assoc, arith}
 use Rattle.std.specs.Prelude.{IfSome, All}
 use Rattle.hw_model.specs.Problem.{Problem}
 use Rattle.hw_model.specs.Rooms.{room_count}

@@ -1,7 +1,7 @@
 -- A search within a part of a split of a subject, that goes on from a certificate.
 use Rattle.std.proofs.Common.{◌≡◌, ◌==◌, ◌++◌, ◌∙◌, ℕ, ◌+◌, ◌-◌, Bool, true, false, List, [], ◌∷◌, Option, Some, None, Result, Ok, Err, Vec, All, IsTrue, inl, inr, append-nil, append_assoc, ap, refl, subst, sym, get_or}
 use Rattle.std.specs.declared.alloc.Global.{Global}
-use Rattle.std.specs.Prelude.{IfSome, codes, length, slice_get, if◌then◌else◌}
+use Rattle.std.specs.Prelude.{codes, length, slice_get, if◌then◌else◌}
 use Rattle.std.proofs.lemmas.List.Elements.{All-get_or}
 use Rattle.std.proofs.lemmas.Option.{get_or_from_slice_get}
 use Rattle.hw_lemmas.proofs.Lists.{get_within}
@@ -87,8 +87,8 @@ gives_on s split number held feed h given = given
 abbrev gives_part : {s : Subject} {split : List ℕ} {number : ℕ} {x y z : DeskState} {given : Given} {nodes : List Node} {room : RoomModel} → (h : ReadsSubject s x y given) → ReadsSplit (searched_in given.flat given.repair) split y z nodes → IsPartRoom (searched_in given.flat given.repair) nodes number room → GivesPart s split number x.held
 gives_part {nodes = nodes} h k p = record { value = h.value; reads = h.reads; nodes = nodes; is = split_of_judged h k; branch = p.branch; part = p.part }
 
-give_all : {split start : List ℕ} {number : ℕ} {x y z : DeskState} {given : Given} {nodes : List Node} {room : RoomModel} (topic : Topic) → ReadsSubject (topic_subject topic) x y given → ReadsSplit (searched_in given.flat given.repair) split y z nodes → IsPartRoom (searched_in given.flat given.repair) nodes number room → GiveBefore (PartGives (topic_subject topic) split number x.held) (before (topic_subject topic) split ++ named_feed feeds.Certificate start ∷ [])
-give_all {split = split} {start = start} {number = number} {x = x} topic h k p =
+give_all : {split : List ℕ} {number : ℕ} {x y z : DeskState} {given : Given} {nodes : List Node} {room : RoomModel} (topic : Topic) (start : List ℕ) → ReadsSubject (topic_subject topic) x y given → ReadsSplit (searched_in given.flat given.repair) split y z nodes → IsPartRoom (searched_in given.flat given.repair) nodes number room → GiveBefore (PartGives (topic_subject topic) split number x.held) (before (topic_subject topic) split ++ named_feed feeds.Certificate start ∷ [])
+give_all {split = split} {number = number} {x = x} topic start h k p =
     let s = topic_subject topic in
     let G = PartGives s split number x.held in
     before_last G (before s split) (named_feed feeds.Certificate start) (all_on G s.inputs (named_feed feeds.Split split) (all_as (s.Gives x.held) G s.inputs (λ feed given. gives_on s split number x.held feed (splitless topic) given) h.give) (gives_part h k p))
@@ -151,13 +151,13 @@ split_refused topic split number start budget proof {x = x} {y = y} {z = z} {r =
 
 -- it has no such part, or memory ran out for its room
 pub part_refused : (topic : Topic) (split : List ℕ) (number : ℕ) (start : List ℕ) (budget : ℕ) (proof : List ℕ) {x y z end : DeskState} {given : Given} {nodes : List Node} {e : Status} (r : Report) → ReadsSubject (topic_subject topic) x y given → ReadsSplit (searched_in given.flat given.repair) split y z nodes → NoPartRoom nodes number r → Ends (r ∷ []) z end e → Carries (part_task (topic_subject topic) split number start budget proof) x end e
-part_refused topic split number start budget proof {x = x} {z = z} {end = end} {nodes = nodes} {e = e} r h k no ends =
+part_refused topic split number start budget proof {x = x} {z = z} {end = end} {nodes = nodes} {e = e} r h k room ends =
     let s = topic_subject topic in
     let task = part_task s split number start budget proof in
     let G = PartGives s split number x.held in
     let give = before_last G s.inputs (named_feed feeds.Split split) (all_as (s.Gives x.held) G s.inputs (λ feed given. gives_on s split number x.held feed (splitless topic) given) h.give) in
     let read = k.read_faults ∙ h.read_faults in
-    elim no [
+    elim room [
       | inl memory ↦ subst (λ (r : Report). Ends (r ∷ []) z end e → Carries task x end e) (sym memory) (λ ends. record {
         mid = z;
         reports = no_memory ∷ [];
@@ -200,8 +200,8 @@ part_room_fits {f = f} p = subst (IsRoomOf (shape_of f)) (sym p.is) p.has.is_roo
 -- ---- what a closed part means
 
 not_above : (b : Bool) → (IsTrue b → ⊥) → b ≡ false
-not_above true no = absurd (no refl)
-not_above false no = refl
+not_above true never = absurd (never refl)
+not_above false never = refl
 
 -- valid lines that close the part leave nothing in it that beats their best
 pub closed_means : (f : Problem) (all : List Line) (branch : Branch) → IsFlat f → All (LineFits f) all → Valid f all → HasRoom (shape_of f) branch → closes_branch f all branch ≡ true → IsClosedPart f branch
@@ -226,24 +226,24 @@ judged_lines topic {start = start} {z = z} {w = w} {read = read} h k m =
     subst (λ (told : Option (List ℕ)). ReadsLines Three KeepsLines f told (cert_outcome_to Three f) (cert_stream_to Three (shape_of f)) read) (ap (λ held. held start) (both_entered topic h k).begins.held) own.reads.1
 
 -- the certificate is refused
-unstarted_says : (topic : Topic) {split start : List ℕ} {number budget : ℕ} (proof : List ℕ) (names : Naming) {x y z w : DeskState} {given : Given} {nodes : List Node} {room : RoomModel} (result : Result (ReadCert (Vec Line Global)) CertStop) (stopped : Result CertOutcome CertStop) → (h : ReadsSubject (topic_subject topic) x y given) → ReadsSplit (searched_in given.flat given.repair) split y z nodes → IsPartRoom (searched_in given.flat given.repair) nodes number room → ReadsCert Three KeepsLines (searched_in given.flat given.repair) start z w result
+unstarted_says : (topic : Topic) {split start : List ℕ} {number : ℕ} (budget : ℕ) (proof : List ℕ) (names : Naming) {x y z w : DeskState} {given : Given} {nodes : List Node} {room : RoomModel} (result : Result (ReadCert (Vec Line Global)) CertStop) (stopped : Result CertOutcome CertStop) → (h : ReadsSubject (topic_subject topic) x y given) → ReadsSplit (searched_in given.flat given.repair) split y z nodes → IsPartRoom (searched_in given.flat given.repair) nodes number room → ReadsCert Three KeepsLines (searched_in given.flat given.repair) start z w result
     → stopped ≡ outcome_in result → ShowsNothing stopped → is_common (report_of_check names None None stopped) ≡ false → PartSays (topic_subject topic) split number start budget proof x w (Some (report_of_check names None None stopped))
-unstarted_says topic proof names (Ok read) (Ok (Shows v)) h k p m is nothing own = absurd (cc)
-unstarted_says topic {start = start} proof names {x = x} (Ok read) (Ok (Wrong number word hint)) h k p m is nothing own =
+unstarted_says topic budget proof names (Ok read) (Ok (Shows v)) h k p m is nothing own = absurd (cc)
+unstarted_says topic {start = start} budget proof names {x = x} (Ok read) (Ok (Wrong number word hint)) h k p m is nothing own =
     let s = topic_subject topic in
     let lines = judged_lines topic h k m in
     inl (record { gives = gives_part h k p; refused = record { value = h.value; reads = h.reads; outcome = (subst (ReadsOf s h.value Three (x.held start) lines.lines) (ok_same (Wrong number word hint) read.outcome is) lines.keeps).comes } })
-unstarted_says topic {start = start} proof names {x = x} (Ok read) (Ok TooLong) h k p m is nothing own =
+unstarted_says topic {start = start} budget proof names {x = x} (Ok read) (Ok TooLong) h k p m is nothing own =
     let s = topic_subject topic in
     let lines = judged_lines topic h k m in
     record { gives = gives_part h k p; refused = record { value = h.value; reads = h.reads; outcome = (subst (ReadsOf s h.value Three (x.held start) lines.lines) (ok_same TooLong read.outcome is) lines.keeps).comes } }
-unstarted_says topic proof names (Err stop) (Ok o) h k p m is nothing own = absurd (cc)
-unstarted_says topic proof names result (Err Fault) h k p m is nothing own = absurd (cc)
-unstarted_says topic proof names result (Err NoMemory) h k p m is nothing own = absurd (cc)
+unstarted_says topic budget proof names (Err stop) (Ok o) h k p m is nothing own = absurd (cc)
+unstarted_says topic budget proof names result (Err Fault) h k p m is nothing own = absurd (cc)
+unstarted_says topic budget proof names result (Err NoMemory) h k p m is nothing own = absurd (cc)
 
 -- in the inputs of the task
-as_task : {s : Subject} {split start proof : List ℕ} {Gives : Feed → Type 0} {x w : DeskState} {r : Report} → Works (before s split ++ named_feed feeds.Certificate start ∷ []) Gives (Some proof) x w r → Works (s.inputs ++ (named_feed feeds.Split split ∷ named_feed feeds.Certificate start ∷ [])) Gives (Some proof) x w r
-as_task {s = s} {split = split} {start = start} {proof = proof} {Gives = Gives} {x = x} {w = w} {r = r} works = subst (λ (inputs : List Named). Works inputs Gives (Some proof) x w r) (same_inputs s split start) works
+as_task : (s : Subject) (split start : List ℕ) {proof : List ℕ} {Gives : Feed → Type 0} {x w : DeskState} {r : Report} → Works (before s split ++ named_feed feeds.Certificate start ∷ []) Gives (Some proof) x w r → Works (s.inputs ++ (named_feed feeds.Split split ∷ named_feed feeds.Certificate start ∷ [])) Gives (Some proof) x w r
+as_task s split start {proof = proof} {Gives = Gives} {x = x} {w = w} {r = r} works = subst (λ (inputs : List Named). Works inputs Gives (Some proof) x w r) (same_inputs s split start) works
 
 -- the work up to it
 unstarted_works : (topic : Topic) {split start proof : List ℕ} {number : ℕ} (names : Naming) {x y z w : DeskState} {given : Given} {nodes : List Node} {room : RoomModel} (result : Result (ReadCert (Vec Line Global)) CertStop) (stopped : Result CertOutcome CertStop) → ReadsSubject (topic_subject topic) x y given → ReadsSplit (searched_in given.flat given.repair) split y z nodes → IsPartRoom (searched_in given.flat given.repair) nodes number room → ReadsCert Three KeepsLines (searched_in given.flat given.repair) start z w result → stopped ≡ outcome_in result
@@ -251,44 +251,44 @@ unstarted_works : (topic : Topic) {split start proof : List ℕ} {number : ℕ} 
 unstarted_works topic {split = split} {start = start} {proof = proof} {number = number} names {x = x} {w = w} result stopped h k p m is =
     let s = topic_subject topic in
     subst (λ (o : Result CertOutcome CertStop). Works (before s split ++ named_feed feeds.Certificate start ∷ []) (PartGives s split number x.held) (Some proof) x w (report_of_check names None None o)) (sym is)
-    (cert_works names None None (Some proof) result (both_entered topic h k) (k.read_faults ∙ h.read_faults) ((splitless topic).certless split) (give_all topic h k p) m)
+    (cert_works names None None (Some proof) result (both_entered topic h k) (k.read_faults ∙ h.read_faults) ((splitless topic).certless split) (give_all topic start h k p) m)
 
 unstarted_meets : (topic : Topic) {split start proof : List ℕ} {number budget : ℕ} {x y z w end : DeskState} {given : Given} {nodes : List Node} {room : RoomModel} {e : Status} (names : Naming) (stopped : Result CertOutcome CertStop) → ReadsSubject (topic_subject topic) x y given → ReadsSplit (searched_in given.flat given.repair) split y z nodes → IsPartRoom (searched_in given.flat given.repair) nodes number room → Unstarted (searched_in given.flat given.repair) start z w stopped → Ends (report_of_check names None None stopped ∷ []) w end e → Carries (part_task (topic_subject topic) split number start budget proof) x end e
-unstarted_meets topic {proof = proof} {w = w} names stopped h k p m ends = record {
+unstarted_meets topic {split = split} {start = start} {proof = proof} {budget = budget} {w = w} names stopped h k p m ends = record {
   mid = w;
   reports = report_of_check names None None stopped ∷ [];
-  works = as_task (unstarted_works topic names m.result stopped h k p m.reads m.told);
-  says = λ own. unstarted_says topic proof names m.result stopped h k p m.reads m.told m.nothing own;
+  works = as_task (topic_subject topic) split start (unstarted_works topic names m.result stopped h k p m.reads m.told);
+  says = λ own. unstarted_says topic budget proof names m.result stopped h k p m.reads m.told m.nothing own;
   ends = ends;
 }
 
 -- a line that the search added is refused, or memory ran out
-unanswered_says : (topic : Topic) {split start : List ℕ} {number budget : ℕ} (proof : List ℕ) (names : Naming) {x y z w : DeskState} {given : Given} {nodes : List Node} {room : RoomModel} (stop : CourseStop) → (h : ReadsSubject (topic_subject topic) x y given) → ReadsSplit (searched_in given.flat given.repair) split y z nodes → IsPartRoom (searched_in given.flat given.repair) nodes number room → (m : StartsOn (judged (topic_subject topic) h.value) start z w) → PartStopsFor (judged (topic_subject topic) h.value) m.read.kept.items room stop
+unanswered_says : (topic : Topic) {split start : List ℕ} {number : ℕ} (budget : ℕ) (proof : List ℕ) (names : Naming) {x y z w : DeskState} {given : Given} {nodes : List Node} {room : RoomModel} (stop : CourseStop) → (h : ReadsSubject (topic_subject topic) x y given) → ReadsSplit (searched_in given.flat given.repair) split y z nodes → IsPartRoom (searched_in given.flat given.repair) nodes number room → (m : StartsOn (judged (topic_subject topic) h.value) start z w) → PartStopsFor (judged (topic_subject topic) h.value) m.read.kept.items room stop
     → is_common (report_of_check names None None (stop_outcome stop)) ≡ false → PartSays (topic_subject topic) split number start budget proof x w (Some (report_of_check names None None (stop_outcome stop)))
-unanswered_says topic proof names {room = room} (stops.Refused number cause) h k p m stopped own =
+unanswered_says topic budget proof names {room = room} (stops.Refused number cause) h k p m stopped own =
     let s = topic_subject topic in
     let f = judged s h.value in
     let there = subst (λ (ls : List Line). LineIsRefusedIn f ls room number cause) (kept_lines m) stopped in
     let from = starts topic h k p m in
     let is : room ≡ branch_room (shape_of f) p.branch = subst (λ (f : Problem). room ≡ branch_room (shape_of f) p.branch) h.searched p.is in
-    inr (record { start = from; unclosed = sym (ap (λ (room : RoomModel). closes_room room from.shown.lines) is) ∙ there.unclosed; cause = cause; fails = there.fails; word_of = refl; hint_of = refl })
-unanswered_says topic proof names stops.NoMemory h k p m stopped own = absurd (cc)
+    inr (record { starts = from; unclosed = sym (ap (λ (room : RoomModel). closes_room room from.shown.lines) is) ∙ there.unclosed; cause = cause; fails = there.fails; word_of = refl; hint_of = refl })
+unanswered_says topic budget proof names stops.NoMemory h k p m stopped own = absurd (cc)
 
 unanswered_works : (topic : Topic) {split start proof : List ℕ} {number : ℕ} (names : Naming) {x y z w : DeskState} {given : Given} {nodes : List Node} {room : RoomModel} {f : Problem} (stop : CourseStop) → ReadsSubject (topic_subject topic) x y given → ReadsSplit (searched_in given.flat given.repair) split y z nodes → IsPartRoom (searched_in given.flat given.repair) nodes number room → StartsOn f start z w
     → Works (before (topic_subject topic) split ++ named_feed feeds.Certificate start ∷ []) (PartGives (topic_subject topic) split number x.held) (Some proof) x w (report_of_check names None None (stop_outcome stop))
 unanswered_works topic {split = split} {start = start} {proof = proof} names (stops.Refused number cause) h k p m =
     let s = topic_subject topic in
-    refuses (Some proof) (before s split) (named_feed feeds.Certificate start) [] _ (sym (append-nil _)) refl (all_entered topic h k m.reads) (give_all topic h k p) (m.reads.reads.0 ∙ (k.read_faults ∙ h.read_faults))
+    refuses (Some proof) (before s split) (named_feed feeds.Certificate start) [] _ (sym (append-nil _)) refl (all_entered topic h k m.reads) (give_all topic start h k p) (m.reads.reads.0 ∙ (k.read_faults ∙ h.read_faults))
 unanswered_works topic {split = split} {start = start} {proof = proof} names stops.NoMemory h k p m =
     let s = topic_subject topic in
-    wants_memory (Some proof) (before s split ++ named_feed feeds.Certificate start ∷ []) [] (sym (append-nil _)) (all_entered topic h k m.reads) (give_all topic h k p) (m.reads.reads.0 ∙ (k.read_faults ∙ h.read_faults))
+    wants_memory (Some proof) (before s split ++ named_feed feeds.Certificate start ∷ []) [] (sym (append-nil _)) (all_entered topic h k m.reads) (give_all topic start h k p) (m.reads.reads.0 ∙ (k.read_faults ∙ h.read_faults))
 
 unanswered_meets : (topic : Topic) {split start proof : List ℕ} {number budget : ℕ} {x y z w end : DeskState} {given : Given} {nodes : List Node} {room : RoomModel} {e : Status} (names : Naming) (stopped : Result CertOutcome CertStop) → (h : ReadsSubject (topic_subject topic) x y given) → ReadsSplit (searched_in given.flat given.repair) split y z nodes → IsPartRoom (searched_in given.flat given.repair) nodes number room → PartUnanswered (judged (topic_subject topic) h.value) room start z w stopped → Ends (report_of_check names None None stopped ∷ []) w end e → Carries (part_task (topic_subject topic) split number start budget proof) x end e
-unanswered_meets topic {proof = proof} {w = w} {end = end} {e = e} names stopped h k p m ends = record {
+unanswered_meets topic {split = split} {start = start} {proof = proof} {budget = budget} {w = w} {end = end} {e = e} names stopped h k p m ends = record {
   mid = w;
   reports = report_of_check names None None (stop_outcome m.stop) ∷ [];
-  works = as_task (unanswered_works topic names m.stop h k p m.starts);
-  says = λ own. unanswered_says topic proof names m.stop h k p m.starts m.cause own;
+  works = as_task (topic_subject topic) split start (unanswered_works topic names m.stop h k p m.starts);
+  says = λ own. unanswered_says topic budget proof names m.stop h k p m.starts m.cause own;
   ends = subst (λ (o : Result CertOutcome CertStop). Ends (report_of_check names None None o ∷ []) w end e) m.told ends;
 }
 
@@ -317,7 +317,7 @@ sent_says topic {budget = budget} {w = w} {room = room} parted h k p m =
     let there = subst (λ (ls : List Line). PartGoesOn f budget ls room parted) (kept_lines m.starts) m.goes_on in
     let goes = goes_on_in is there in
     record {
-      start = starts topic h k p m.starts;
+      starts = starts topic h k p m.starts;
       made = made (all_entered topic h k m.starts.reads) m.sends;
       means = λ e. closed_means f parted.lines.items p.branch (modelled topic h).limits goes.goes_on.fit goes.goes_on.valid has (closes goes e);
       certificate = told_map (w.trays tray.Proof).sent (λ bytes text. record { lines = parted.lines.items; text = text; goes_on = goes }) m.sends.answer.1;
@@ -329,21 +329,21 @@ sent_meets topic {split = split} {start = start} {proof = proof} {number = numbe
     record {
       mid = w;
       reports = part_told number is_closed ∷ [];
-      works = as_task (sent_works (part_told number is_closed) refl (all_entered topic h k m.starts.reads) (give_all topic h k p) m.sends (m.sends.only.read_faults ∙ (m.starts.reads.reads.0 ∙ (k.read_faults ∙ h.read_faults))));
+      works = as_task (topic_subject topic) split start (sent_works (part_told number is_closed) refl (all_entered topic h k m.starts.reads) (give_all topic start h k p) m.sends (m.sends.only.read_faults ∙ (m.starts.reads.reads.0 ∙ (k.read_faults ∙ h.read_faults))));
       says = λ own. (refl, subst (λ (b : Bool). PartDone s split number start budget proof x w b) (sym is) (sent_says topic parted h k p m));
       ends = ends;
     }
 
 -- a make or a write failed
 broke_meets : (topic : Topic) {split start proof : List ℕ} {number budget : ℕ} {x y z w end : DeskState} {given : Given} {nodes : List Node} {room : RoomModel} {e : Status} (parted : Parted) → (h : ReadsSubject (topic_subject topic) x y given) → ReadsSplit (searched_in given.flat given.repair) split y z nodes → IsPartRoom (searched_in given.flat given.repair) nodes number room → SendsParted {E = Unit} (judged (topic_subject topic) h.value) room start budget proof z w parted (Err tt) → EndsWith None w end e → Carries (part_task (topic_subject topic) split number start budget proof) x end e
-broke_meets topic {split = split} {start = start} {budget = budget} {w = w} {room = room} parted h k p m ends =
+broke_meets topic {split = split} {start = start} {proof = proof} {number = number} {budget = budget} {x = x} {w = w} {room = room} parted h k p m ends =
     let s = topic_subject topic in
     let there = subst (λ (ls : List Line). PartGoesOn (judged s h.value) budget ls room parted) (kept_lines m.starts) m.goes_on in
     record {
       mid = w;
       reports = [];
-      works = subst (λ (inputs : List Named). Breaks inputs _ _ _ w) (same_inputs s split start) (broken_works (all_entered topic h k m.starts.reads) (give_all topic h k p) (m.starts.reads.reads.0 ∙ (k.read_faults ∙ h.read_faults)) m.sends);
-      says = λ own. record { start = starts topic h k p m.starts; lines = parted.lines.items; goes_on = there.goes_on; cut = m.sends.answer.1 };
+      works = subst (λ (inputs : List Named). Breaks inputs (PartGives s split number x.held) (Some proof) x w) (same_inputs s split start) (broken_works (all_entered topic h k m.starts.reads) (give_all topic start h k p) (m.starts.reads.reads.0 ∙ (k.read_faults ∙ h.read_faults)) m.sends);
+      says = λ own. record { starts = starts topic h k p m.starts; lines = parted.lines.items; goes_on = there.goes_on; cut = m.sends.answer.1 };
       ends = ends;
     }
 

@@ -1,7 +1,7 @@
 -- A search that goes on from a certificate of a subject.
 use Rattle.std.proofs.Common.{◌≡◌, ◌++◌, ◌∙◌, ℕ, List, [], ◌∷◌, Option, Some, None, Result, Ok, Err, Vec, false, inl, inr, append-nil, ap, refl, subst, sym}
 use Rattle.std.specs.declared.alloc.Global.{Global}
-use Rattle.std.specs.Prelude.{All, IfSome}
+use Rattle.std.specs.Prelude.{IfSome}
 use Rattle.hw_model.specs.Problem.{Problem}
 use Rattle.hw_model.specs.Rooms.{room_count}
 use Rattle.hw_model.specs.Timetables.{Permits}
@@ -11,7 +11,6 @@ use Rattle.hw_desk.specs.declared.desk.Tray.TheVariants as tray
 use Rattle.hw_lines.specs.declared.line.Line.{Line}
 use Rattle.hw_lines.specs.declared.check.Verdict.{Verdict}
 use Rattle.hw_lines.specs.Lines.{last_table}
-use Rattle.hw_lines.specs.Valid.{LineFits, Valid}
 use Rattle.hw_cert.specs.declared.version.Version.TheVariants.{Three}
 use Rattle.hw_cert.specs.Texts.{cert_text}
 use Rattle.hw_cert.proofs.Answered.{told_map}

@@ -25,7 +25,7 @@ use Rattle.hw_split.specs.Text.{split_text}
 use Rattle.hw_split.specs.Words.{split_word_text}
 use Rattle.hw_subject.specs.Meanings.{judged}
 use Rattle.hw_subject.specs.Reading.{ReadsSubject, searched_in}
-use Rattle.hw_subject.specs.Subjects.{Subject, Origin, Topic, flat_text, port_of, origin_subject, repair_of, repaired_by, topic_subject}
+use Rattle.hw_subject.specs.Subjects.{Subject, Origin, Topic, flat_text, port_of, origin_subject, repaired_by, topic_subject}
 use Rattle.hw_subject.specs.declared.subject.Given.{Given}
 use Rattle.hw_search_command.specs.Splits.{IsBadSplit, IsSplitOf, ReadsSplit, SplitIsBad, SplitStops, StopsAtSplit, report_of_split}
 

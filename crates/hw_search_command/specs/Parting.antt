@@ -77,10 +77,10 @@ pub record IsClosedPart (f : Problem) (branch : Branch) : Type 0 where
 
 -- whether the part is closed; then nothing in it is better than what is known. Proof was made, and holds a certificate that says so, where it is told
 pub record PartDone (s : Subject) (split : List ℕ) (number : ℕ) (start : List ℕ) (budget : ℕ) (proof : List ℕ) (old new : DeskState) (is_closed : Bool) : Type 0 where
-  pub start : PartStarts s split number start old.held
+  pub starts : PartStarts s split number start old.held
   pub made : MakesProof proof old new
-  pub means : is_closed ≡ true → IsClosedPart (judged s start.gives.value) start.gives.branch
-  pub certificate : IfSome (new.trays tray.Proof).sent (IsPartCertificate (judged s start.gives.value) start.gives.branch budget is_closed start.shown.lines)
+  pub means : is_closed ≡ true → IsClosedPart (judged s starts.gives.value) starts.gives.branch
+  pub certificate : IfSome (new.trays tray.Proof).sent (IsPartCertificate (judged s starts.gives.value) starts.gives.branch budget is_closed starts.shown.lines)
 
 -- the certificate is refused
 pub record RefusesStart (s : Subject) (split : List ℕ) (number : ℕ) (start : List ℕ) (held : List ℕ → Option (List ℕ)) (o : CertOutcome) : Type 0 where
@@ -89,18 +89,18 @@ pub record RefusesStart (s : Subject) (split : List ℕ) (number : ℕ) (start :
 
 -- the certificate is whole and doesn't close the part, and a line that the search added isn't valid after those before it; it would have been the one of this number
 pub record IsNotTakenIn (s : Subject) (split : List ℕ) (part : ℕ) (start : List ℕ) (held : List ℕ → Option (List ℕ)) (number : ℕ) (word : RefusedWord) (hint : Option ℕ) : Type 0 where
-  pub start : PartStarts s split part start held
-  pub unclosed : closes_branch (judged s start.gives.value) start.shown.lines start.gives.branch ≡ false
+  pub starts : PartStarts s split part start held
+  pub unclosed : closes_branch (judged s starts.gives.value) starts.shown.lines starts.gives.branch ≡ false
   pub cause : Refusal
-  pub fails : LineFails (judged s start.gives.value) start.shown.lines number cause
+  pub fails : LineFails (judged s starts.gives.value) starts.shown.lines number cause
   pub word_of : word ≡ Check cause.word
   pub hint_of : hint ≡ cause.hint
 
 -- the certificate is whole, and Proof, of which a make or a write failed, holds a proper prefix of the text of lines that go on from it, where it is told
 pub record PartBreaks (s : Subject) (split : List ℕ) (number : ℕ) (start : List ℕ) (old new : DeskState) : Type 0 where
-  pub start : PartStarts s split number start old.held
+  pub starts : PartStarts s split number start old.held
   pub lines : List Line
-  pub goes_on : LinesGoOn (judged s start.gives.value) start.shown.lines lines
+  pub goes_on : LinesGoOn (judged s starts.gives.value) starts.shown.lines lines
   pub cut : IfSome (new.trays tray.Proof).sent (IsCutOf (cert_text Three lines))
 
 -- what is read of the inputs, of which the split has this first bad line, or lacks the part

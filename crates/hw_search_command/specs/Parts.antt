@@ -1,5 +1,5 @@
 -- A search within a part that goes on from the lines of a certificate, and a longer certificate that is sent to Proof.
-use Rattle.std.specs.Prelude.{◌≡◌, ◌⊎◌, ℕ, ◌+◌, List, Option, Some, None, Result, Ok, Err, codes, length}
+use Rattle.std.specs.Prelude.{◌≡◌, ◌⊎◌, ℕ, ◌+◌, List, Some, None, Result, Ok, Err, codes, length}
 use Rattle.hw_model.specs.Problem.{Problem, shape_of}
 use Rattle.hw_model.specs.Rooms.{RoomModel}
 use Rattle.hw_desk.specs.State.{DeskState}

@@ -1,5 +1,5 @@
 -- A split that is read, and a part of it.
-use Rattle.std.specs.Prelude.{◌≡◌, ◌⊎◌, ℕ, ◌+◌, ◌≤◌, List, Option, Some, None, Ok, Err, IfSome, codes, length}
+use Rattle.std.specs.Prelude.{◌≡◌, ◌⊎◌, ℕ, ◌+◌, ◌≤◌, List, Option, None, Ok, Err, IfSome, codes, length}
 use Rattle.hw_model.specs.Problem.{Problem, shape_of}
 use Rattle.hw_desk.specs.State.{DeskState}
 use Rattle.hw_desk.specs.declared.desk.Feed.TheVariants.{Split}
@@ -11,10 +11,9 @@ use Rattle.hw_derived.specs.declared.fault.LineFault.{LineFault}
 use Rattle.hw_derived.specs.declared.fault.LineFault.TheVariants as faults
 use Rattle.hw_split.specs.declared.fault.SplitWord.{SplitWord}
 use Rattle.hw_split.specs.declared.node.Node.{Node}
-use Rattle.hw_split.specs.Splits.{Branch, IsSplit, part_at}
+use Rattle.hw_split.specs.Splits.{IsSplit, part_at}
 use Rattle.hw_split.specs.Text.{split_text}
 use Rattle.hw_split.specs.Words.{split_word_text}
-use Rattle.hw_split.specs.declared.node.Split.{Split as SplitOf}
 
 -- the bytes keep the limit and are the text of these nodes
 abbrev pub IsSplitText : Problem → List Node → List ℕ → Type 0

@@ -14,7 +14,7 @@ returns-in-Ok-send_third g c =
     let shows : shows_nothing c.in-Ok.read.outcome ≡ false = sym c.shows_nothing.ensures ∙ c.if-shows_nothing.false in
     (c.in-Ok-part.parted, refl, sent_all c.in-Ok.read c.in-Ok-part.parted c.in-Ok.ensures shows c.in-Ok-part.ensures (rw c.deref.ensures.value at c.in-Ok-send_third.ensures))
 
-pub returns-in-Err-send_third : goal.returns-in-Err-send_third
-returns-in-Err-send_third g c =
+pub returns : goal.returns
+returns g c =
     let shows : shows_nothing c.in-Ok.read.outcome ≡ false = sym c.shows_nothing.ensures ∙ c.if-shows_nothing.false in
     (c.in-Ok-part.parted, sent_part c.in-Ok.read c.in-Ok-part.parted c.in-Ok.ensures shows c.in-Ok-part.ensures (rw c.deref.ensures.value at c.in-Err-send_third.ensures))
