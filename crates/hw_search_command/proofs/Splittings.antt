@@ -140,7 +140,7 @@ none_meets topic {start = start} {proof = proof} {x = x} {z = z} {end = end} {e 
 
 abbrev makes : (topic : Topic) {parts : ℕ} {start proof : List ℕ} {x y z : DeskState} {given : Given} {sent : Result Unit Unit} (nodes : List Node) → (h : ReadsSubject (topic_subject topic) x y given) → SendsSplit (judged (topic_subject topic) h.value) start parts proof y z nodes sent → MakesSplit (topic_subject topic) parts start x.held
 makes topic {parts = parts} nodes h k = record {
-  start = starts topic h k.knows;
+  starts = starts topic h k.knows;
   nodes = nodes;
   is = k.made.is;
   few = subst (λ (n : ℕ). n ≤ parts) (sym (parts_counted (shape_of (judged (topic_subject topic) h.value)) nodes k.made.is)) k.made.few;

@@ -20,9 +20,9 @@ use Rattle.hw_search_command.specs.Resumes.{Starts}
 
 -- what is read, what the certificate shows, and a split of the judged problem of at most this many parts
 pub record MakesSplit (s : Subject) (parts : ℕ) (start : List ℕ) (held : List ℕ → Option (List ℕ)) : Type 0 where
-  pub start : Starts s start held
+  pub starts : Starts s start held
   pub nodes : List Node
-  pub is : IsSplit (shape_of (judged s start.value)) nodes
+  pub is : IsSplit (shape_of (judged s starts.value)) nodes
   pub few : length (split_parts nodes) ≤ parts
 
 -- how many parts the split has; it was made, and holds its text, where it is told
