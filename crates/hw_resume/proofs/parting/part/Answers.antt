@@ -4,7 +4,7 @@ use Rattle.hw_model.specs.Problem.{Problem}
 use Rattle.hw_course.specs.Courses.{CourseStands}
 use Rattle.hw_course.proofs.Handed.{fit_as}
 use Rattle.hw_parts.specs.Closing.{closes_room}
-use Rattle.hw_resume.proofs.PartLines.{closing_stops, search_stops, start_closes, start_is, went_on_in}
+use Rattle.hw_resume.proofs.PartLines.{closing_stops, last_fit, search_stops, start_closes, start_is, went_on_in}
 use Rattle.hw_resume.proofs.parting.part.Goals as goal
 use Rattle.hw_resume.proofs.parting.part.Goals.{else-not-is_closed-via-then-not-is_closed+else-not-is_spent, else-not-is_closed-via-else-not-is_closed}
 
@@ -27,6 +27,9 @@ returns-in_err-course-3 g c =
     let p = err_from_is_err_and c.from_residual-in_err-course-3.result c.from_residual-in_err-course-3.ensures.1 in
     let unclosed = start_is c.args.room.now c.args.start.items c.deref-2.result.now c.in_ok-course.course c.is_room_closed.result false c.is_room_closed.ensures c.deref-2.ensures.value c.in_ok-course.ensures.same c.if-is_room_closed.false in
     rw (p.1, p.2) (closing_stops c.args.room.now c.in_err-course-3.field-0.0 c.in_ok-course.ensures.stands c.in_ok-course.ensures.same unclosed c.in_ok-course-2.ensures c.in_err-course-3.ensures)
+
+pub is_room_closed-is_closed-requires-clause-fit : goal.is_room_closed-is_closed-requires-clause-fit
+is_room_closed-is_closed-requires-clause-fit g c = last_fit c.deref-5.result.now c.in_ok-course.ensures.stands c.in_ok-course-2.ensures c.in_ok-course-3.ensures c.deref-5.ensures.value
 
 pub returns : goal.returns
 returns g c =
