@@ -1,7 +1,5 @@
-use Rattle.std.proofs.Common.{◌≡◌, ◌∙◌, false, true, ap, refl, subst, sym}
+use Rattle.std.proofs.Common.{◌≡◌, ◌∙◌, false, true, ap, refl, sym}
 use Rattle.std.proofs.lemmas.Result.{err_from_is_err_and}
-use Rattle.hw_model.specs.Problem.{Problem}
-use Rattle.hw_course.specs.Courses.{CourseStands}
 use Rattle.hw_course.proofs.Handed.{fit_as}
 use Rattle.hw_parts.specs.Closing.{closes_room}
 use Rattle.hw_resume.proofs.PartLines.{closing_stops, last_fit, search_stops, start_closes, start_is, went_on_in}
@@ -41,10 +39,3 @@ returns g c =
       | else-not-is_closed-via-else-not-is_closed w ↦ absurd (let h = w.if-not-is_closed in cc)
     ] in
     went_on_in c.in_ok-course.ensures.stands c.in_ok-course.ensures.same unclosed c.search-is_spent.ensures (rw c.deref-4.ensures.value at c.in_ok-course-2.ensures) c.in_ok-course-3.ensures refl is spent
-
-pub is_room_closed-is_closed-requires-clause-fit : goal.is_room_closed-is_closed-requires-clause-fit
-is_room_closed-is_closed-requires-clause-fit g c =
-    let first = c.in_ok-course.ensures.stands in
-    let second : CourseStands c.args.flat.now c.in_ok-course-2.course = subst (λ (p : Problem). CourseStands p c.in_ok-course-2.course) first.problem c.in_ok-course-2.ensures.adds.stands in
-    let third : CourseStands c.args.flat.now c.in_ok-course-3.course = subst (λ (p : Problem). CourseStands p c.in_ok-course-3.course) second.problem c.in_ok-course-3.ensures.adds.stands in
-    fit_as c.in_ok-course-3.course.checker.problem c.args.flat.now c.in_ok-course-3.course.lines.items c.deref-5.result.now (sym third.checked) c.deref-5.ensures.value third.follows.fit
