@@ -57,15 +57,22 @@ search_stops {f = f} {start = start} {course = course} room stop h same unclosed
 pub closing_stops : {f : Problem} {start found : List Line} {course after : Course} (room : RoomModel) (stop : CourseStop) → CourseStands f course → course.lines.items ≡ start → closes_room room start ≡ false → HandsToCourse course after found → CourseStopsFor after.flat.now after.lines.items stop → PartStopsFor f start room stop
 closing_stops {f = f} {start = start} {after = after} room stop h same unclosed k s = stops_in f start room stop unclosed (stops_on f after.flat.now start after.lines.items k.more stop (k.adds.stands.problem ∙ h.problem) (k.adds.parts ∙ ap (λ (ls : List Line). ls ++ k.more) same) s)
 
+-- what the search found, and lines that close the part, were taken
+last_stands : {f : Problem} {found : List Line} {course after last : Course} → CourseStands f course → HandsToCourse course after found → AddsClosing after last → CourseStands f last
+last_stands {f = f} {after = after} {last = last} h k c =
+    let there : CourseStands f after = subst (λ (g : Problem). CourseStands g after) h.problem k.adds.stands in
+    subst (λ (g : Problem). CourseStands g last) there.problem c.adds.stands
+
+pub last_fit : {f : Problem} {found : List Line} {course after last : Course} (all : List Line) → CourseStands f course → HandsToCourse course after found → AddsClosing after last → all ≡ last.lines.items → All (LineFits f) all
+last_fit {f = f} all h k c is = subst (λ (ls : List Line). All (LineFits f) ls) (sym is) (whole_course (last_stands h k c)).fit
+
 -- the search has ended
 pub went_on_in : {f : Problem} {budget : ℕ} {start found : List Line} {room : RoomModel} {course after last : Course} {p : Parted} {is_spent : Bool} → CourseStands f course → course.lines.items ≡ start → closes_room room start ≡ false → IsSearched f budget is_spent found → HandsToCourse course after found → AddsClosing after last → p.lines.items ≡ last.lines.items → p.is_closed ≡ closes_room room last.lines.items → (p.is_closed ≡ false → is_spent ≡ true) → PartGoesOn f budget start room p
 went_on_in {f = f} {budget = budget} {start = start} {found = found} {room = room} {course = course} {after = after} {last = last} h same unclosed s k c lines closes spent =
-    let stands_after : CourseStands f after = subst (λ (g : Problem). CourseStands g after) h.problem k.adds.stands in
-    let stands_last : CourseStands f last = subst (λ (g : Problem). CourseStands g last) stands_after.problem c.adds.stands in
     let parts : last.lines.items ≡ start ++ (k.more ++ c.more) = c.adds.parts ∙ ap (λ (ls : List Line). ls ++ c.more) (k.adds.parts ∙ ap (λ (ls : List Line). ls ++ k.more) same) ∙ append_assoc start k.more c.more in
     let count = lemmas_on k.more c.more in
     record {
-      goes_on = goes_on_from (k.more ++ c.more) stands_last lines parts;
+      goes_on = goes_on_from (k.more ++ c.more) (last_stands h k c) lines parts;
       few = omega (arith, count, k.lemmas, s.few, c.few);
       closed = closes ∙ ap (closes_room room) (sym lines);
       spent = λ e.
