@@ -135,7 +135,7 @@ abbrev pub KeepsLimits : Command → Type 0
 KeepsLimits (search topic how budget proof) = IsBudget budget
 KeepsLimits (resume topic cert budget proof) = IsBudget budget
 KeepsLimits (split topic parts start made) = IsPartCount parts
-KeepsLimits (part topic split number start budget proof) = IsBudget budget
+KeepsLimits (part topic tree number start budget proof) = IsBudget budget
 KeepsLimits (clash topic budget proof) = IsBudget budget
 KeepsLimits (demo number ships slots budget proof) = CanDraw ships slots × IsBudget budget
 KeepsLimits command = ⊤
@@ -147,7 +147,7 @@ command_seen (told.Search subject how budget proof) = search (topic_seen subject
 command_seen (told.Resume subject cert budget proof) = resume (topic_seen subject) cert.now budget proof.now
 command_seen (told.Split subject words parts) = split (topic_seen subject) parts words.start.now words.split.now
 command_seen (told.Part subject words budget) = part (topic_seen subject) words.split.now words.number words.start.now budget words.proof.now
-command_seen (told.Join subject split certs proof) = join (topic_seen subject) split.now certs.now proof.now
+command_seen (told.Join subject tree certs proof) = join (topic_seen subject) tree.now certs.now proof.now
 command_seen (told.Check subject cert) = check (topic_seen subject) cert.now
 command_seen (told.Verify subject cert) = verify (topic_seen subject) cert.now
 command_seen (told.Renew subject cert proof) = renew (topic_seen subject) cert.now proof.now

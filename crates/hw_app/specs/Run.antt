@@ -34,8 +34,8 @@ abbrev pub task_of : Command → Task
 task_of (search topic how budget proof) = search_task (topic_subject topic) (searcher_of how) budget proof
 task_of (resume topic cert budget proof) = resume_task (topic_subject topic) cert budget proof
 task_of (split topic parts start made) = split_task (topic_subject topic) parts start made
-task_of (part topic split number start budget proof) = part_task (topic_subject topic) split number start budget proof
-task_of (join topic split certs proof) = join_task (topic_subject topic) split certs proof
+task_of (part topic tree number start budget proof) = part_task (topic_subject topic) tree number start budget proof
+task_of (join topic tree certs proof) = join_task (topic_subject topic) tree certs proof
 task_of (check topic cert) = check_task (topic_subject topic) Two cert
 task_of (verify topic cert) = check_task (topic_subject topic) Three cert
 task_of (renew topic cert proof) = renew_task (topic_subject topic) cert proof

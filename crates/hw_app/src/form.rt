@@ -485,11 +485,8 @@ pub fn least_of(quantity: Quantity) -> u32
 {
     match quantity {
         Quantity::Demonstration | Quantity::Seed => 0,
-        Quantity::Ships
-        | Quantity::Slots
-        | Quantity::Budget
-        | Quantity::Parts
-        | Quantity::Part => 1,
+        Quantity::Ships | Quantity::Slots | Quantity::Budget | Quantity::Parts | Quantity::Part =>
+            1,
     }
 }
 

@@ -11,8 +11,7 @@ use crate::command::Command;
 use crate::form::{
     AUDIT, CARRY, CHART, CHECK, CLASH, CREW, EXPLAIN, FLATTEN, FORMS, Form, JOIN, LINT, MODEL, OPB,
     PART, PROVE, Quantity, RENEW, REPAIR, RESUME, SOLVE, SPLITS, TABLE, VERIFY, Value, WINDOWS,
-    Wanted,
-    keyword_text, least_of, most_of, words_of,
+    Wanted, keyword_text, least_of, most_of, words_of,
 };
 use hw_command::PortNames;
 use hw_desk::Feed;
@@ -37,11 +36,8 @@ fn is_value(value: Value, word: &str) -> bool
     ensures { result ≡ is_value value word.now }
 {
     match value {
-        Value::Input(_)
-        | Value::Start
-        | Value::Certificates
-        | Value::SplitMade
-        | Value::Proof => !word.is_empty(),
+        Value::Input(_) | Value::Start | Value::Certificates | Value::SplitMade | Value::Proof =>
+            !word.is_empty(),
         Value::Order => Order::read(word).is_some(),
         Value::Number(quantity) => {
             read_small(word.as_bytes(), least_of(quantity), most_of(quantity)).is_some()

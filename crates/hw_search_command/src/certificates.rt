@@ -143,10 +143,7 @@ fn desk_of(alloc: Global, bytes: &[u8]) -> Result<CalmDesk, NoMemory>
 }
 
 /// An outcome after this many lines of other certificates.
-fn moved_on(
-    stopped: Result<CertOutcome, CertStop>,
-    before: u64,
-) -> Result<CertOutcome, CertStop>
+fn moved_on(stopped: Result<CertOutcome, CertStop>, before: u64) -> Result<CertOutcome, CertStop>
     ensures { result ≡ moved_stop before stopped }
 {
     match stopped {
