@@ -14,13 +14,13 @@ pub struct Workshop {
 }
 
 impl Workshop {
-    /// Of a problem, without a timetable yet. The seed chooses how a timetable is varied.
-    pub fn new(alloc: Global, flat: &Flat, seed: u32) -> Result<Workshop, NoMemory> {
+    /// Of a problem, without a timetable yet.
+    pub fn new(alloc: Global, flat: &Flat) -> Result<Workshop, NoMemory> {
         if MOST_EFFORT < effort(flat) {
             return Ok(Workshop { maker: None });
         }
         Ok(Workshop {
-            maker: Some(Maker::new(alloc, flat, seed)?),
+            maker: Some(Maker::new(alloc, flat)?),
         })
     }
 
@@ -47,22 +47,6 @@ impl Workshop {
                 maker.make(alloc, room, Some(table.rows()), Ranking::Regret, best)?;
                 maker.make(alloc, room, Some(table.rows()), Ranking::Earnings, best)
             }
-        }
-    }
-
-    /// Keeps the timetable of a point room, if it carries more than the one before.
-    pub fn take(&mut self, point: &Room) -> Result<(), NoMemory> {
-        match &mut self.maker {
-            None => Ok(()),
-            Some(maker) => maker.take(point),
-        }
-    }
-
-    /// Places a few ships of the best timetable anew, by what ships earn and carry, so many times.
-    pub fn vary(&mut self, alloc: Global, table: &Table, tries: u32) -> Result<(), NoMemory> {
-        match &mut self.maker {
-            None => Ok(()),
-            Some(maker) => maker.vary(alloc, table.rows(), tries),
         }
     }
 

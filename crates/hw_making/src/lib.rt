@@ -1,5 +1,5 @@
 //! Timetables made from what ships earn: one ship after another, then better slots for single ships, then
-//! a better slot for one ship with others moved out of its way; and by placing a few ships of the best one anew.
+//! a better slot for one ship with others moved out of its way.
 //!
 //! Nothing is promised of them. Whoever takes one tests it.
 #![tactic(auto)]
@@ -11,7 +11,6 @@ mod given;
 mod holds;
 mod maker;
 mod ranking;
-mod varying;
 
 pub use maker::Maker;
 pub use ranking::Ranking;

@@ -4,10 +4,8 @@ use crate::climbing::{climb, exchange};
 use crate::draft::Draft;
 use crate::given::Given;
 use crate::ranking::{Chooser, Ranking, choosers};
-use crate::varying::replace;
 use hw_flat::{Flat, Room, Timetable};
 use hw_model::{MOST_SHIPS, NoMemory, Slot};
-use rand_pcg::Lcg64Xsh32;
 use std::alloc::Global;
 
 /// Others are pushed away where the cargo is below the best by less than this part of it.
@@ -18,8 +16,6 @@ const NEAR: i64 = 400;
 pub struct Maker {
     given: Given,
     draft: Draft,
-    /// Which ships are placed anew.
-    words: Lcg64Xsh32,
     /// The cargo of the timetable that is kept, in tenths of a tonne; less than 0 before there is one.
     cargo: i64,
     /// Its slots.
@@ -27,12 +23,11 @@ pub struct Maker {
 }
 
 impl Maker {
-    /// A maker that has made none. The seed chooses which ships of a timetable it places anew.
-    pub fn new(alloc: Global, flat: &Flat, seed: u32) -> Result<Maker, NoMemory> {
+    /// A maker that has made none.
+    pub fn new(alloc: Global, flat: &Flat) -> Result<Maker, NoMemory> {
         Ok(Maker {
             given: Given::new(alloc, flat)?,
             draft: Draft::new(alloc, flat)?,
-            words: Lcg64Xsh32::new(u64::from(seed), 1),
             cargo: -1,
             kept: Vec::new(alloc),
         })
@@ -64,68 +59,6 @@ impl Maker {
             self.keep(cargo)?;
         }
         Ok(())
-    }
-
-    /// Keeps the timetable of a point room, where it carries more than the one before.
-    pub fn take(&mut self, point: &Room) -> Result<(), NoMemory> {
-        let mut cargo: i64 = 0;
-        for ship in 0..point.ships() {
-            cargo = cargo.wrapping_add(self.given.gain(ship, point.low(ship)));
-        }
-        if self.cargo < cargo {
-            self.cargo = cargo;
-            self.kept.clear();
-            for ship in 0..point.ships() {
-                self.kept.push(point.low(ship))?;
-            }
-        }
-        Ok(())
-    }
-
-    /// Tries so many times to place a few ships of the timetable that is kept anew, by what they earn in each slot
-    /// and by what they carry there in turn. Keeps what carries as much or more.
-    pub fn vary(
-        &mut self,
-        alloc: Global,
-        earnings: &[Vec<i64>],
-        tries: u32,
-    ) -> Result<(), NoMemory> {
-        if self.kept.is_empty() {
-            return Ok(());
-        }
-        for number in 0..tries {
-            let by = if number % 2 == 0 {
-                Some(earnings)
-            } else {
-                None
-            };
-            self.place_anew(alloc, by)?;
-        }
-        Ok(())
-    }
-
-    /// Places a few ships of the timetable that is kept anew. Keeps that where it carries as much or more.
-    fn place_anew(&mut self, alloc: Global, earnings: Option<&[Vec<i64>]>) -> Result<(), NoMemory> {
-        self.take_up();
-        let given = &self.given;
-        let amounts = either(&given.gains, earnings);
-        if !replace(alloc, given, &mut self.draft, &mut self.words, amounts)? {
-            return Ok(());
-        }
-        climb(&self.given, &mut self.draft);
-        let cargo = self.draft.cargo(&self.given);
-        if self.cargo <= cargo {
-            self.keep(cargo)?;
-        }
-        Ok(())
-    }
-
-    /// Gives each ship its slot in the timetable that is kept.
-    fn take_up(&mut self) {
-        for ship in 0..self.given.ships {
-            let slot = self.kept.get(ship as usize).copied();
-            self.draft.give(&self.given, ship, slot);
-        }
     }
 
     /// The greatest cargo that is known; less than 0 if there is none.

@@ -6,7 +6,7 @@ use crate::settings::FIRST;
 use crate::variation::Variation;
 use hw_advice::{Advice, Adviser, Bounding, Scene};
 use hw_dual::Workshop;
-use hw_flat::{Room, Timetable};
+use hw_flat::Timetable;
 use hw_model::{Lit, NoMemory};
 use std::alloc::Global;
 
@@ -58,17 +58,9 @@ impl PricingAdviser {
     /// Gets ready to make timetables.
     fn get_ready(&mut self, alloc: Global, scene: &Scene<'_>) -> Result<(), NoMemory> {
         if self.shop.is_none() {
-            self.shop = Some(Workshop::new(alloc, scene.flat, self.variation.seed)?);
+            self.shop = Some(Workshop::new(alloc, scene.flat)?);
         }
         Ok(())
-    }
-
-    /// Remembers the timetable of a point room, to vary it.
-    fn take(&mut self, point: &Room) -> Result<(), NoMemory> {
-        match &mut self.shop {
-            None => Ok(()),
-            Some(shop) => shop.take(point),
-        }
     }
 
     /// Makes a timetable without prices, where none is known: once after each of the first lemmas.
@@ -88,11 +80,7 @@ impl PricingAdviser {
 
 impl Adviser for PricingAdviser {
     fn advise(&mut self, alloc: Global, scene: &Scene<'_>) -> Result<Option<Advice>, NoMemory> {
-        if scene.room.is_point() {
-            self.take(scene.room)?;
-            return Ok(None);
-        }
-        if scene.standing.lemmas < FIRST {
+        if scene.standing.lemmas < FIRST || scene.room.is_point() {
             return Ok(None);
         }
         self.look(alloc, scene)?;

@@ -12,7 +12,6 @@ use crate::preferring::{by_earnings, by_regret};
 use crate::proposals::{Proposal, follow, name_rows, proposal_of};
 use crate::settings::{
     CUTS, DEEPEST, ENOUGH, EXPLORED, IDLE, LAST_PACE, LAST_STEPS, MADE, ROOM_STEPS, SEARCHED,
-    VARIED,
 };
 use crate::variation::Variation;
 use hw_advice::{Advice, Bounding, Scene, Standing};
@@ -167,7 +166,6 @@ impl Relaxation {
         let table = self.present(alloc)?;
         if self.rooms % MADE == 0 {
             shop.make_by(alloc, scene.room, &table, scene.best)?;
-            shop.vary(alloc, &table, VARIED)?;
         }
         let limit = table.limit(best);
         if table.total(scene.room) <= limit {

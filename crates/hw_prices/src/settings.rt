@@ -45,10 +45,6 @@ pub(crate) const IDLE: u32 = 32;
 /// In one of this many rooms timetables are made. Nothing is known of other values.
 pub(crate) const MADE: u32 = 8;
 
-/// So often a few ships of the best timetable are placed anew in such a room. 8, 20, 60 and 100 were tried on demo-5-30-192
-/// and tight-1-30-192, and 20 and 60 on thirteen smaller days.
-pub(crate) const VARIED: u32 = 20;
-
 // Seeds but 0.
 
 /// Prices are moved for at least this many steps in a room, and for fewer than `MORE_STEPS` more. With both, eight seeds

@@ -27,7 +27,7 @@ fn is_timetable(flat: &Flat, table: &Timetable) -> bool
 /// What a timetable carries that is made in the whole room by what ships carry, if there is one. An
 /// error where it isn't permitted, or carries something else than the maker says.
 fn made(alloc: Global, flat: &Flat, ranking: Ranking) -> Result<Option<u64>, Fail> {
-    let mut maker = Maker::new(alloc, flat, 0)?;
+    let mut maker = Maker::new(alloc, flat)?;
     let room = Room::whole(alloc, flat.shape())?;
     maker.make(alloc, &room, None, ranking, None)?;
     let Some(table) = maker.better(alloc, None)? else {

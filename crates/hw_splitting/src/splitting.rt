@@ -61,7 +61,7 @@ impl Splitter {
         flat: &Flat,
         best: Option<u64>,
     ) -> Result<Side, NoMemory> {
-        let mut shop = Workshop::new(alloc, flat, 0)?;
+        let mut shop = Workshop::new(alloc, flat)?;
         let room = Room::whole(alloc, flat.shape())?;
         let earns = find_prices(alloc, flat, &mut self.pricer, &room, best, &mut shop)?;
         let prices = Vec::from_slice(alloc, &self.pricer.prices)?;
