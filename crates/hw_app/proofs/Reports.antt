@@ -1,5 +1,5 @@
 -- The laws of reports.
-use Rattle.std.proofs.Common.{◌≡◌, ◌⊎◌, ◌∙◌, ℕ, List, Option, Some, inl, inr, refl, sym, ap}
+use Rattle.std.proofs.Common.{◌≡◌, ◌⊎◌, ◌∙◌, ℕ, List, Option, inl, inr, refl, sym, ap}
 use Rattle.hw_desk.specs.declared.desk.Feed.{Feed}
 use Rattle.hw_model.specs.Problem.{Problem, shape_of}
 use Rattle.hw_lines.specs.Tolled.{bound_of}

@@ -252,14 +252,15 @@ fn each_cheap(prices: &[Due]) -> bool
     prices.iter().all(|due| due.price <= MOST_PRICE)
 }
 
-fn are_cheap(scale: u32, prices: &[Due]) -> bool
+/// Whether scale and prices are within their limits.
+pub fn are_cheap(scale: u32, prices: &[Due]) -> bool
     ensures { result ≡ prices_small scale prices.now }
 {
     scale <= MOST_SCALE && each_cheap(prices)
 }
 
 /// Whether the number of each toll is above the one before it, the first above 0.
-fn tolls_ascend(prices: &[Due]) -> bool
+pub fn tolls_ascend(prices: &[Due]) -> bool
     ensures { result ≡ ascends 0 (map (λ due. due.toll) prices.now) }
 {
     let mut before = 0;

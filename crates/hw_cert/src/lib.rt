@@ -18,6 +18,7 @@ mod tray_log;
 mod version;
 mod words;
 
+pub use fitting::{are_cheap, tolls_ascend};
 pub use hw_lines::{CheckWord, Hints, Line, Refusal, Verdict};
 pub use hw_tolls::{Block, Blocks, Due, Dues, Tariff, Toll, Weights};
 pub use laws::{

@@ -1,5 +1,5 @@
 -- How many lines a legend fills.
-use Rattle.std.proofs.Common.{◌≡◌, ◌≤◌, ◌<◌, ◌+◌, ◌++◌, ◌∙◌, ℕ, Bool, true, false, nat_lt, if◌then◌else◌, List, [], ◌∷◌, refl, ap, subst, sym, arith}
+use Rattle.std.proofs.Common.{◌≡◌, ◌≤◌, ◌+◌, ◌++◌, ℕ, nat_lt, List, [], ◌∷◌, refl, subst, sym, arith}
 use Rattle.std.proofs.lemmas.Bool.{cond_both}
 use Rattle.hw_chart.specs.declared.legend.LegendPlace.{LegendPlace}
 use Rattle.hw_chart.specs.Legends.{LegendEntry, place_of_entry, entry_width, legend_begin, legend_width, next_place, place_after_all, place_beside}

@@ -1,5 +1,5 @@
 -- The legend of a picture: it names the marks that stand there.
-use Rattle.std.specs.Prelude.{◌≤◌, ℕ, ◌+◌, Bool, true, nat_lt, if◌then◌else◌, List, [], ◌∷◌, ◌++◌, codes, length}
+use Rattle.std.specs.Prelude.{◌≤◌, ℕ, ◌+◌, Bool, nat_lt, if◌then◌else◌, List, [], ◌∷◌, ◌++◌, codes, length}
 use Rattle.hw_svg.specs.Lettering.{line}
 use Rattle.hw_svg.specs.Shapes.{block}
 use Rattle.hw_svg.specs.Sheets.{window}

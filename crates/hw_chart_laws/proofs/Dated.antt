@@ -1,5 +1,5 @@
 -- The grid of a port's picture, with dates or without, made of what a picture is written with.
-use Rattle.std.proofs.Common.{◌++◌, ◌+◌, ℕ, zero, suc, Option, Some, None, List, [], codes, refl}
+use Rattle.std.proofs.Common.{◌+◌, ℕ, zero, suc, Option, Some, None, List, codes, refl}
 use Rattle.hw_dates.specs.declared.moment.Moment.{Moment}
 use Rattle.hw_port_rules.specs.Numbers.{whole}
 use Rattle.hw_calendar.specs.Calendars.{day_begins, dated_axis, dated_grid, dated_lines, dated_marks, moment_class, moment_mark, moment_words}

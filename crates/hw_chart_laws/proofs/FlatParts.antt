@@ -24,7 +24,7 @@ use Rattle.hw_chart_laws.proofs.Legends.{AreSound, IsSound, of_legend_from}
 use Rattle.hw_chart_laws.proofs.Plain.{letters}
 use Rattle.hw_chart_laws.proofs.Spelled.{Spelled, also, fixed, of_number, nothing}
 use Rattle.hw_chart_laws.proofs.Writing.{Tags, Writing, group}
-use Rattle.hw_chart_laws.proofs.Shared.{figure, filled, four, if_so, of_bar, of_mark, of_moves, of_no_slot, of_pin, of_planned, of_sailings, of_stays, of_stripe, of_unplanned, says, three}
+use Rattle.hw_chart_laws.proofs.Shared.{figure, four, if_so, of_bar, of_mark, of_moves, of_no_slot, of_pin, of_planned, of_sailings, of_stays, of_stripe, of_unplanned, says, three}
 
 pub spelled_sizes : (f : Problem) → Spelled (flat_picture_sizes f)
 unfolding flat_picture_sizes

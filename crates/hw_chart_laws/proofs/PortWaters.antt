@@ -11,7 +11,7 @@ use Rattle.hw_waters.specs.Labels.{label_of, named_stands, stand_time, water_lab
 use Rattle.hw_port_chart.specs.declared.passing.Strip.{Strip}
 use Rattle.hw_port_chart.specs.declared.reasons.Reason.TheVariants.{Shut, TableEnds, TooShallow}
 use Rattle.hw_port_chart.specs.Charts.{ChartParts}
-use Rattle.hw_port_chart.specs.Reasons.{clash_hint, clash_hint_where, each_may_sail, has_no_slot, hint_by, keeps_in, no_slot_where, reasons_words}
+use Rattle.hw_port_chart.specs.Reasons.{clash_hint, each_may_sail, has_no_slot, hint_by, keeps_in, no_slot_where, reasons_words}
 use Rattle.hw_port_chart.specs.Strips.{column_of, strip_waters, strip_y}
 use Rattle.hw_chart_laws.proofs.Shared.{if_so, says}
 use Rattle.hw_chart_laws.proofs.Spelled.{Spelled, also, fixed, nothing, of_clock, of_height}

@@ -1,5 +1,5 @@
 -- Texts as elements hold them: names are spelled out, and what has no mark stands as it is.
-use Rattle.std.proofs.Common.{◌≡◌, ◌++◌, ◌∙◌, ℕ, ℤ, Bool, true, nat_eq, nat_lt, List, [], ◌∷◌, codes, decimal, refl, ap, sym, unsigned_abs, if◌then◌else◌, arith}
+use Rattle.std.proofs.Common.{◌≡◌, ◌++◌, ℕ, ℤ, Bool, true, nat_eq, nat_lt, List, [], ◌∷◌, codes, decimal, refl, ap, sym, unsigned_abs, if◌then◌else◌, arith}
 use Rattle.std.specs.Int.{is_negative}
 use Rattle.std.specs.List.{list_all}
 use Rattle.std.proofs.lemmas.Bool.{and_parts, cond_both}

@@ -1,5 +1,5 @@
 -- The reasons that a row names are those that `windows` tells of the ship's slots.
-use Rattle.std.proofs.Common.{◌≡◌, ◌↔◌, ◌≤◌, ◌<◌, ◌+◌, ◌-◌, ℕ, ℤ, pos, ◌≤ℤ◌, ◌<ℤ◌, Bool, true, Option, Some, None, is_none, unsigned_abs, refl, sym, subst, arith}
+use Rattle.std.proofs.Common.{◌≡◌, ◌≤◌, ◌<◌, ◌+◌, ◌-◌, ℕ, ℤ, pos, ◌≤ℤ◌, ◌<ℤ◌, Bool, true, Option, Some, None, is_none, unsigned_abs, refl, sym, subst, arith}
 use Rattle.std.proofs.lemmas.Int.{ints}
 use Rattle.hw_laws.proofs.Counting.{all_of_range, any_of_range, range_any}
 use Rattle.hw_port.specs.Kept.{ShipKept}

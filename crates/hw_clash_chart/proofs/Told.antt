@@ -1,5 +1,5 @@
 -- What the marks of a clash say.
-use Rattle.std.proofs.Common.{◌≡◌, ◌≤◌, ◌∙◌, ◌<◌, ℕ, Bool, true, false, List, map, Option, Some, None, option_map, refl, ap, arith}
+use Rattle.std.proofs.Common.{◌≡◌, ◌∙◌, ◌<◌, ℕ, Bool, true, false, List, map, Option, Some, None, option_map, refl, ap, arith}
 use Rattle.std.specs.Prelude.{◌↔◌, if◌then◌else◌, is_some, max, nat_lt, sum_by, zip}
 use Rattle.std.specs.Option.{option_map_or}
 use Rattle.std.proofs.lemmas.Bool.{lt-ltb, ltb-true}

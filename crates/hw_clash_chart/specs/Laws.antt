@@ -1,5 +1,5 @@
 -- What the marks of a clash say, in the words of its restrictions.
-use Rattle.std.specs.Prelude.{◌≡◌, ◌↔◌, ◌<◌, ℕ, List, None, Option, Some, map, slice_get, sum_by, zip}
+use Rattle.std.specs.Prelude.{◌≡◌, ◌↔◌, ◌<◌, ℕ, List, None, Some, map, slice_get, sum_by, zip}
 use Rattle.hw_port.specs.Whole.{Parts}
 use Rattle.hw_tide.specs.Levels.{TideParts}
 use Rattle.hw_port_rules.specs.Drafts.{value}

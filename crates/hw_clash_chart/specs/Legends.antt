@@ -1,5 +1,5 @@
 -- What the legend says of the marks of a clash, as far as there are such.
-use Rattle.std.specs.Prelude.{◌≤◌, ℕ, Bool, true, false, List, [], ◌∷◌, codes}
+use Rattle.std.specs.Prelude.{◌≤◌, Bool, true, false, List, [], ◌∷◌, codes}
 use Rattle.std.specs.List.{list_any}
 use Rattle.hw_chart.specs.Legends.{LegendEntry, legend_width, patch_entry}
 use Rattle.hw_clash_chart.specs.declared.legend.Kind.{Kind}

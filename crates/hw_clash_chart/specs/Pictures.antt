@@ -1,5 +1,5 @@
 -- The whole picture of a clash.
-use Rattle.std.specs.Prelude.{ℕ, List, [], ◌∷◌, Option, None, length}
+use Rattle.std.specs.Prelude.{ℕ, List, [], ◌∷◌, None, length}
 use Rattle.hw_svg.specs.Joined.{joined}
 use Rattle.hw_svg.specs.Sheets.{group_end, list_begin, svg_end}
 use Rattle.hw_port.specs.Whole.{Parts}

@@ -1,5 +1,5 @@
 -- What is drawn of kept restrictions, over a picture without a timetable.
-use Rattle.std.specs.Prelude.{ℕ, ◌+◌, ◌*◌, ◌%◌, max, nat_lt, is_some, if◌then◌else◌, List, [], ◌∷◌, ◌++◌, Option, None, codes, decimal, sum_by, zip}
+use Rattle.std.specs.Prelude.{ℕ, ◌+◌, ◌*◌, ◌%◌, max, nat_lt, is_some, if◌then◌else◌, List, [], ◌∷◌, ◌++◌, None, codes, decimal, sum_by, zip}
 use Rattle.hw_svg.specs.Figures.{steps}
 use Rattle.hw_svg.specs.Joined.{joined}
 use Rattle.hw_svg.specs.Names.{escaped}

@@ -1,9 +1,8 @@
 -- A clash that was read and checked is drawn.
-use Rattle.std.proofs.Common.{◌≡◌, ◌∙◌, ◌+◌, ◌<◌, ◌≤◌, ℕ, List, [], ◌∷◌, Option, None, All, length, append-nil, inl, inr, refl, sym, ap, subst, arith}
+use Rattle.std.proofs.Common.{◌≡◌, ◌∙◌, ◌+◌, ◌<◌, ℕ, List, [], ◌∷◌, Option, None, All, length, append-nil, inl, inr, refl, sym, ap, subst, arith}
 use Rattle.std.specs.Prelude.{◌≢◌}
 use Rattle.hw_desk.specs.State.{DeskState}
 use Rattle.hw_desk.specs.declared.desk.Feed.{Feed}
-use Rattle.hw_lines.specs.declared.check.Verdict.{Verdict}
 use Rattle.hw_lines.specs.declared.check.Verdict.TheVariants as verdicts
 use Rattle.hw_model.specs.Problem.{Problem}
 use Rattle.hw_report.specs.Printing.{AreNamesOf}
@@ -25,7 +24,7 @@ use Rattle.hw_clash_command.specs.Checked.{ReadsChecked, StopsAtClash}
 use Rattle.hw_clash_command.specs.Texts.{report_of_part}
 use Rattle.hw_clash_command.specs.declared.checking.CheckedClash.{CheckedClash}
 use Rattle.hw_clash_command.proofs.Checked.{says}
-use Rattle.hw_clash_chart_command.specs.Charts.{ChartsClash, DrawsClash, chart_clash_task, clash_chart_task, clash_drawn}
+use Rattle.hw_clash_chart_command.specs.Charts.{ChartsClash, clash_chart_task, clash_drawn}
 use Rattle.hw_clash_chart_command.specs.Drawing.{AreLines, EndsUnlessMemory, HasColumns, clash_chart_report}
 
 -- ---- what is drawn

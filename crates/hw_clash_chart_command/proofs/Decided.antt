@@ -1,6 +1,6 @@
 -- The bytes decide what is drawn of a clash.
-use Rattle.std.proofs.Common.{◌≡◌, ◌∙◌, ℕ, List, Option, Some, Ok, ap, refl, subst, sym}
-use Rattle.std.specs.Prelude.{IfSome, IsSome, Result}
+use Rattle.std.proofs.Common.{◌≡◌, ◌∙◌, ℕ, List, Option, Some, Ok, ap, subst, sym}
+use Rattle.std.specs.Prelude.{IfSome, Result}
 use Rattle.hw_lines.specs.declared.check.Verdict.{Verdict}
 use Rattle.hw_report.specs.Reports.{Report, clash_holds, picture}
 use Rattle.hw_clash.specs.Clashes.{Clash}

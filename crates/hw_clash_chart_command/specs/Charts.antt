@@ -2,7 +2,6 @@
 use Rattle.std.specs.Prelude.{◌≡◌, ℕ, List, [], ◌∷◌, ◌++◌, Option, None, Some, map}
 use Rattle.hw_desk.specs.State.{DeskState}
 use Rattle.hw_desk.specs.declared.desk.Feed.TheVariants as feeds
-use Rattle.hw_lines.specs.declared.check.Verdict.{Verdict}
 use Rattle.hw_lines.specs.declared.check.Verdict.TheVariants.{Infeasible}
 use Rattle.hw_report.specs.Reports.{Report, Naming, by_number, by_name, clash_holds, picture}
 use Rattle.hw_command.specs.Carries.{Task, one_report}

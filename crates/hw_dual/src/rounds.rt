@@ -2,7 +2,7 @@
 
 use crate::course::{Course, goal, near};
 use crate::pricer::Pricer;
-use crate::rows::{Row, same};
+use crate::rows::Row;
 use crate::settings::{
     COUNTED, COUNTED_IN_ROOM, FOUND, FOUND_IN_ROOM, FULL_PACE, ROOM_PACE, ROOT_STEPS, ROUND_PACE,
     ROUNDS, SAMPLED,
@@ -113,5 +113,5 @@ fn found(alloc: Global, flat: &Flat, pricer: &Pricer, most: usize) -> Result<Vec
 }
 
 fn is_new(rows: &[Row], tolls: &[Toll], toll: &Toll) -> bool {
-    tolls.iter().all(|other| !same(other, toll)) && rows.iter().all(|row| !same(&row.toll, toll))
+    tolls.iter().all(|other| !other.is_same(toll)) && rows.iter().all(|row| !row.toll.is_same(toll))
 }

@@ -101,32 +101,3 @@ fn of_jobs(
     }
     Ok(out)
 }
-
-/// Whether two tolls are the same.
-pub(crate) fn same(a: &Toll, b: &Toll) -> bool {
-    match (a, b) {
-        (Toll::Narrows { blocks }, Toll::Narrows { blocks: others }) => {
-            blocks.items.as_slice() == others.items.as_slice()
-        }
-        (
-            Toll::Tugs {
-                restriction,
-                slot,
-                weights,
-                most,
-            },
-            Toll::Tugs {
-                restriction: other_restriction,
-                slot: other_slot,
-                weights: others,
-                most: other_most,
-            },
-        ) => {
-            restriction == other_restriction
-                && slot == other_slot
-                && most == other_most
-                && weights.items.as_slice() == others.items.as_slice()
-        }
-        _ => false,
-    }
-}

@@ -8,6 +8,7 @@ use Rattle.hw_model.specs.Problem.{Problem}
 use Rattle.hw_model.specs.declared.lit.Lit.{Lit}
 use Rattle.hw_lines.specs.declared.line.Line.{Line}
 use Rattle.hw_lines.specs.declared.line.Line.TheVariants as lines
+use Rattle.hw_lines.specs.Lines.{source_line}
 use Rattle.hw_story.specs.declared.event.Event.{Event}
 use Rattle.hw_story.specs.declared.event.Why.{Why}
 use Rattle.hw_story.specs.declared.event.Why.TheVariants as whys
@@ -16,7 +17,7 @@ use Rattle.hw_cert.specs.declared.log.LogStop.{LogStop}
 use Rattle.hw_cert.specs.declared.log.LogStop.TheVariants as stops
 use Rattle.hw_cert.specs.Logs.{LogModel, IsWhole, TakesLine}
 use Rattle.hw_progress.specs.Searches.{SearchModel, why_at, written_at}
-use Rattle.hw_progress.specs.Turns.{source_line, why_lines, with_written, Cited, cite_by, cite, cited, cite_conflict}
+use Rattle.hw_progress.specs.Turns.{why_lines, with_written, Cited, cite_by, cite, cited, cite_conflict}
 use Rattle.hw_progress.specs.Laws.{lemma_lines}
 use Rattle.hw_ledger.specs.Handing.{TakesAll, StopsWithin, Hands}
 use Rattle.hw_ledger.specs.Naming.{known_number, search_on, naming, taught, Numbers, NamesBy}

@@ -3,7 +3,8 @@
 ghost use Rattle.std.specs.Prelude.{◌≡◌, ◌∷◌, [], IfErr};
 ghost use Rattle.hw_model.specs.Refuting.{IsSourceOf};
 ghost use Rattle.hw_lines.specs.declared.line.Line.TheVariants.{Priced};
-ghost use Rattle.hw_progress.specs.Turns.{source_line, why_lines};
+ghost use Rattle.hw_lines.specs.Lines.{source_line};
+ghost use Rattle.hw_progress.specs.Turns.{why_lines};
 ghost use Rattle.hw_cert.specs.Logs.{IsWhole};
 ghost use Rattle.hw_ledger.specs.Handing.{StopsWithin, Hands};
 ghost use Rattle.hw_ledger.specs.Naming.{known_number, IsOfProblem};
@@ -14,26 +15,6 @@ use hw_lits::Clause;
 use hw_model::Source;
 use hw_story::Why;
 use std::alloc::Global;
-
-/// The line of a clause that a source gave.
-fn source_line(flat: &Flat, source: Source, clause: Clause) -> Line
-    requires source { IsSourceOf flat.now source }
-    ensures value { result ≡ source_line flat.now source clause }
-{
-    let shape = flat.shape();
-    match source {
-        Source::Window { ship } => Line::Explain {
-            restriction: ship,
-            clause,
-        },
-        Source::Rule { place } => Line::Explain {
-            restriction: shape.ships + place,
-            clause,
-        },
-        Source::Order { v, w, x } => Line::Order { v, w, x, clause },
-        Source::Goal => Line::Goal { clause },
-    }
-}
 
 /// The number by which a clause is named already: that of a stored lemma, or that of the line that
 /// was written for it. It takes no memory.
@@ -75,7 +56,7 @@ fn hand_source<L: Log>(
     ensures same_reference { L.anchor log.new ≡ L.anchor log.old }
 {
     let copied = clause.copy(alloc)?;
-    let line = source_line(flat, source, copied);
+    let line = Line::of_source(flat, source, copied);
     log.line(&line)
 }
 

@@ -1,9 +1,12 @@
 //! The lines of a certificate, without their text.
 
 ghost use Rattle.std.specs.Prelude.{◌≡◌, IfOk};
+ghost use Rattle.hw_model.specs.Refuting.{IsSourceOf};
+ghost use Rattle.hw_lines.specs.Lines.{source_line};
 
-use hw_flat::{NoMemory, ShipId, Timetable};
+use hw_flat::{Flat, NoMemory, ShipId, Timetable};
 use hw_lits::Clause;
+use hw_model::Source;
 use hw_tolls::{Tariff, Toll};
 use std::alloc::Global;
 use std::marker::Model;
@@ -82,6 +85,26 @@ pub enum Line {
 }
 
 impl Line {
+    /// The line of a clause that a source gave.
+    pub fn of_source(flat: &Flat, source: Source, clause: Clause) -> Line
+        requires source { IsSourceOf flat.now source }
+        ensures value { result ≡ source_line flat.now source clause }
+    {
+        let shape = flat.shape();
+        match source {
+            Source::Window { ship } => Line::Explain {
+                restriction: ship,
+                clause,
+            },
+            Source::Rule { place } => Line::Explain {
+                restriction: shape.ships + place,
+                clause,
+            },
+            Source::Order { v, w, x } => Line::Order { v, w, x, clause },
+            Source::Goal => Line::Goal { clause },
+        }
+    }
+
     /// The same line, as a log that keeps its lines needs it. It copies the line's lists once.
     pub fn copy(&self, alloc: Global) -> Result<Line, NoMemory>
         ensures value { IfOk result (λ line. line ≡ self.now) }

@@ -1,5 +1,5 @@
 -- What is listed of a port, in the words of its flat text and of its restrictions.
-use Rattle.std.proofs.Common.{◌≡◌, ◌↔◌, ◌∙◌, ℕ, List, Option, Ok, refl, subst, sym}
+use Rattle.std.proofs.Common.{◌≡◌, ℕ, List, Option, Ok, subst, sym}
 use Rattle.hw_flat.proofs.TextBack.{text_reads_back}
 use Rattle.hw_flat.specs.Text.{flat_text}
 use Rattle.hw_flat.specs.TextWritten.{problem_text}

@@ -10,13 +10,14 @@ use Rattle.hw_lines.specs.declared.line.Line.{Line}
 use Rattle.hw_lines.specs.declared.line.Line.TheVariants as lines
 use Rattle.hw_lines.specs.Tolled.{bound_after, bound_of}
 use Rattle.hw_lines.proofs.Pushed.{bound_push}
+use Rattle.hw_lines.specs.Lines.{source_line}
 use Rattle.hw_story.specs.declared.event.Why.{Why}
 use Rattle.hw_story.specs.declared.event.Why.TheVariants as whys
 use Rattle.hw_cert.specs.Logs.{LogTold, LogModel, Grows}
 use Rattle.hw_progress.specs.declared.outcome.Turn.{Turn}
 use Rattle.hw_progress.specs.declared.outcome.Turn.TheVariants as turns
 use Rattle.hw_progress.specs.Searches.{SearchModel, written_at, why_at}
-use Rattle.hw_progress.specs.Turns.{source_line, why_lines, Cited, cite_by, cite, cited, cite_conflict, deletion, Plans, WritesPart, FailsPart, TurnDoes, is_last}
+use Rattle.hw_progress.specs.Turns.{why_lines, Cited, cite_by, cite, cited, cite_conflict, deletion, Plans, WritesPart, FailsPart, TurnDoes, is_last}
 use Rattle.hw_progress.specs.Turns.DoesEnd.{at_conflict, at_lemma}
 use Rattle.hw_progress.specs.Turns.Plans.{no_line, a_table, an_end, a_lemma}
 use Rattle.hw_progress.proofs.Told.{told_so}

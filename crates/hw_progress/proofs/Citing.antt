@@ -17,7 +17,7 @@ use Rattle.hw_model.specs.Replay.{narrowing}
 use Rattle.hw_lines.specs.declared.line.Line.{Line}
 use Rattle.hw_lines.specs.declared.line.Line.TheVariants as lines
 use Rattle.hw_lines.specs.Tolled.{is_plain, tariff_of}
-use Rattle.hw_lines.specs.Lines.{clause_count, clause_at, live, best_of}
+use Rattle.hw_lines.specs.Lines.{source_line, clause_count, clause_at, live, best_of}
 use Rattle.hw_lines.specs.Valid.{LineFits, PricedHolds, ValidFrom, denied_room, hinted}
 use Rattle.hw_lines.specs.Lemmas.{LeanFrom}
 use Rattle.hw_lines.proofs.Pushed.{one_more}
@@ -34,7 +34,7 @@ use Rattle.hw_store.specs.declared.store.Stored.{Stored}
 use Rattle.hw_verdict.proofs.Naming.{some_live as live_is}
 use Rattle.hw_progress.specs.Searches.{SearchModel, IsReason, HasLine, NumbersStay, PricesShow, IsSearch, FitsOpen, LiveKept, best_cargo, written_at, why_at}
 use Rattle.hw_progress.specs.Settling.{IsConflict}
-use Rattle.hw_progress.specs.Turns.{source_line, why_lines, with_written, Cited, cite_by, cite, cited, cite_conflict}
+use Rattle.hw_progress.specs.Turns.{why_lines, with_written, Cited, cite_by, cite, cited, cite_conflict}
 use Rattle.hw_progress.proofs.Lines.{IsClauseLine, source_is, why_is, why_no_lemma, live_stays, new_live, of_some, kept_stored, kept_written, reason_open, reason_kept, one_line, line_open}
 use Rattle.hw_progress.proofs.Numbers.{contains_here, contains_there, set_stay}
 use Rattle.hw_progress.proofs.Holds.{Writes, source_writes, plain_tariff, priced_writes, priced_holds, valid_push, lean_push, best_same, trail_clause}

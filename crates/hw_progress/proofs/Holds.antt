@@ -20,7 +20,7 @@ use Rattle.hw_laws.proofs.Rises.{rising}
 use Rattle.hw_lines.specs.declared.line.Line.{Line}
 use Rattle.hw_lines.specs.declared.line.Line.TheVariants as lines
 use Rattle.hw_lines.specs.Tolled.{is_plain, tolls_of, tariff_after, tariff_of}
-use Rattle.hw_lines.specs.Lines.{clause_count, clause_at, live, best_of, is_closed}
+use Rattle.hw_lines.specs.Lines.{source_line, clause_count, clause_at, live, best_of, is_closed}
 use Rattle.hw_lines.specs.Valid.{LineFits, PricedHolds, ValidAfter, ValidFrom, denied_room, hinted}
 use Rattle.hw_lines.specs.Lemmas.{IsHinted, LeanAfter, LeanFrom}
 use Rattle.hw_lines.proofs.Pushed.{tariff_push}
@@ -44,7 +44,6 @@ use Rattle.hw_story.specs.Walks.{InClause}
 use Rattle.hw_verdict.proofs.Naming.{some_live as live_is}
 use Rattle.hw_progress.specs.Searches.{SearchModel, IsReason, OfBetter, PricesShow, FitsOpen, room_in, lemmas_in, best_cargo}
 use Rattle.hw_progress.specs.Settling.{AllQuiet}
-use Rattle.hw_progress.specs.Turns.{source_line}
 use Rattle.hw_progress.proofs.Shapes.{denied_same, clause_same}
 
 -- ---- lists of lines

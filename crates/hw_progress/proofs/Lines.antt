@@ -13,7 +13,7 @@ use Rattle.hw_model.specs.declared.source.Source.TheVariants as sources
 use Rattle.hw_model.specs.Problem.{Problem}
 use Rattle.hw_lines.specs.declared.line.Line.{Line}
 use Rattle.hw_lines.specs.declared.line.Line.TheVariants as lines
-use Rattle.hw_lines.specs.Lines.{clause_of, clauses_of, clause_count, clause_at, live, deletes, DeletesEarlier, table_after, last_table, is_end, is_closed}
+use Rattle.hw_lines.specs.Lines.{source_line, clause_of, clauses_of, clause_count, clause_at, live, deletes, DeletesEarlier, table_after, last_table, is_end, is_closed}
 use Rattle.hw_lines.specs.Lemmas.{lemma_of, lemmas_of}
 use Rattle.hw_lines.specs.Laws.{PricesStay}
 use Rattle.hw_lines.proofs.Pushed.{one_more, last_push, clauses_push, clause_prices, table_added}
@@ -26,7 +26,7 @@ use Rattle.hw_story.specs.Learning.{reason_at}
 use Rattle.hw_store.specs.declared.store.Stored.{Stored}
 use Rattle.hw_progress.specs.Prices.{PriceModel, PricesTold}
 use Rattle.hw_progress.specs.Searches.{SearchModel, FitsOpen, LiveKept, written_at, kept_numbers}
-use Rattle.hw_progress.specs.Turns.{source_line, why_lines, with_written, with_lemma}
+use Rattle.hw_progress.specs.Turns.{why_lines, with_written, with_lemma}
 use Rattle.hw_progress.proofs.Numbers.{WrittenAt, written_found, found_written, set_here, set_other, get_within, numbers_push}
 
 -- ---- a clause line

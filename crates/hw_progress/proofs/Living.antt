@@ -10,7 +10,7 @@ use Rattle.hw_model.specs.declared.lit.Lit.{Lit}
 use Rattle.hw_model.specs.Problem.{Problem}
 use Rattle.hw_lines.specs.declared.line.Line.{Line}
 use Rattle.hw_lines.specs.declared.line.Line.TheVariants as lines
-use Rattle.hw_lines.specs.Lines.{clause_count, live, live_numbers}
+use Rattle.hw_lines.specs.Lines.{source_line, clause_count, live, live_numbers}
 use Rattle.hw_lines.specs.Lemmas.{lemma_of, lemmas_of}
 use Rattle.hw_story.specs.declared.event.Why.{Why}
 use Rattle.hw_story.specs.declared.event.Why.TheVariants as whys
@@ -19,7 +19,7 @@ use Rattle.hw_story.specs.Learning.{Learns, reason_at}
 use Rattle.hw_store.specs.declared.store.Stored.{Stored}
 use Rattle.hw_progress.specs.Searches.{SearchModel, IsSearch, FitsOpen, LiveKept, kept_numbers, why_at, written_at}
 use Rattle.hw_progress.specs.Settling.{IsConflict}
-use Rattle.hw_progress.specs.Turns.{source_line, why_lines, Cited, cite_by, cite, cited, cite_conflict, with_lemma, gone_back, unkept, deletion}
+use Rattle.hw_progress.specs.Turns.{why_lines, Cited, cite_by, cite, cited, cite_conflict, with_lemma, gone_back, unkept, deletion}
 use Rattle.hw_progress.specs.Living.{FewLive, FewLiveFrom, FewLiveThroughout}
 use Rattle.hw_progress.specs.Laws.{lemma_lines, LemmaMeets, LiveTurn}
 use Rattle.hw_progress.proofs.Lines.{IsClauseLine, source_is, priced_is, lemma_is, source_no_lemma, same_lemmas, live_back}

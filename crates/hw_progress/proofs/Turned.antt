@@ -11,7 +11,7 @@ use Rattle.hw_model.specs.Rooms.{IsPoint, point_of}
 use Rattle.hw_laws.proofs.Points.{permitted, worth_it}
 use Rattle.hw_lines.specs.declared.line.Line.{Line}
 use Rattle.hw_lines.specs.declared.line.Line.TheVariants as lines
-use Rattle.hw_lines.specs.Lines.{clause_at, live, is_end, is_closed}
+use Rattle.hw_lines.specs.Lines.{source_line, clause_at, live, is_end, is_closed}
 use Rattle.hw_lines.proofs.Pushed.{one_more}
 use Rattle.hw_verdict.proofs.Numbered.{count_append}
 use Rattle.hw_story.specs.declared.event.Why.{Why}
@@ -24,7 +24,7 @@ use Rattle.hw_cert.specs.Logs.{LogTold}
 use Rattle.hw_store.specs.declared.store.Stored.{Stored}
 use Rattle.hw_progress.specs.Searches.{SearchModel, new_search, IsSearch, IsReason, FitsOpen, LiveKept, LogFits, room_in, best_cargo, written_at, why_at}
 use Rattle.hw_progress.specs.Settling.{AllQuiet, IsConflict}
-use Rattle.hw_progress.specs.Turns.{source_line, why_lines, with_written, cited, cite_conflict, with_lemma, to_level, gone_back, unkept, deletion}
+use Rattle.hw_progress.specs.Turns.{why_lines, with_written, cited, cite_conflict, with_lemma, to_level, gone_back, unkept, deletion}
 use Rattle.hw_progress.specs.Laws.{GoodLine, FitGoes, ConflictMeets, FitChanges, lemma_lines, LemmaMeets, EndMeets}
 use Rattle.hw_progress.proofs.Lines.{IsClauseLine, why_is, why_no_lemma, of_some, reason_open, reason_kept, line_open, table_open, table_kept}
 use Rattle.hw_progress.proofs.Backs.{events_open, events_kept, decided_open, decided_live, back_open, deleted_open, deleted_kept, nothing_kept, deletion_valid}

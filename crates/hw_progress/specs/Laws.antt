@@ -16,7 +16,7 @@ use Rattle.hw_model.specs.Replay.{narrowing}
 use Rattle.hw_lines.specs.declared.line.Line.{Line}
 use Rattle.hw_lines.specs.declared.line.Line.TheVariants as lines
 use Rattle.hw_lines.specs.Tolled.{is_plain, tariff_of}
-use Rattle.hw_lines.specs.Lines.{clause_count, live, is_closed}
+use Rattle.hw_lines.specs.Lines.{source_line, clause_count, live, is_closed}
 use Rattle.hw_lines.specs.Valid.{LineFits, ValidAfter, hinted}
 use Rattle.hw_lines.specs.Lemmas.{LeanAfter, lemma_of, lemmas_of, IsNew}
 use Rattle.hw_story.specs.declared.event.Event.{Event}
@@ -31,7 +31,7 @@ use Rattle.hw_progress.specs.Branches.{branch_literal}
 use Rattle.hw_cert.specs.Logs.{LogTold, LogModel, WhereTold, Grows, IsEmpty}
 use Rattle.hw_progress.specs.Searches.{SearchModel, new_search, IsSearch, IsReason, HasLine, NumbersStay, PricesShow, OfBetter, FitsOpen, LiveKept, LogFits, room_in, best_cargo, written_at, why_at, kept_numbers}
 use Rattle.hw_progress.specs.Settling.{AllQuiet, with_events, IsConflict}
-use Rattle.hw_progress.specs.Turns.{source_line, why_lines, with_written, Cited, cited, cite_conflict, with_lemma, to_level, gone_back, unkept, deletion, DoesEnd, TurnMeets, WritesWell, is_last}
+use Rattle.hw_progress.specs.Turns.{why_lines, with_written, Cited, cited, cite_conflict, with_lemma, to_level, gone_back, unkept, deletion, DoesEnd, TurnMeets, WritesWell, is_last}
 use Rattle.hw_progress.specs.declared.outcome.Bounded.TheVariants as bounds
 use Rattle.hw_progress.specs.declared.outcome.Solved.{Solved}
 use Rattle.hw_progress.specs.declared.outcome.Solved.TheVariants as answers

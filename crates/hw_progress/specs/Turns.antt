@@ -2,15 +2,13 @@
 use Rattle.std.specs.Prelude.{◌≡◌, ◌⊎◌, ℕ, ◌+◌, ◌*◌, ◌≤◌, Bool, true, false, not, ◌&&◌, ◌==◌, if◌then◌else◌, List, [], ◌∷◌, ◌++◌, Option, Some, None, All, IsSomeAnd, length, filter, fold, take, slice_get, slice_set, is_some}
 use Rattle.std.specs.List.{list_any, range_with_len}
 use Rattle.hw_model.specs.declared.lit.Lit.{Lit}
-use Rattle.hw_model.specs.declared.source.Source.{Source}
-use Rattle.hw_model.specs.declared.source.Source.TheVariants as sources
 use Rattle.hw_model.specs.Problem.{Problem}
 use Rattle.hw_model.specs.Rooms.{IsPoint, point_of}
 use Rattle.hw_desk.specs.State.{Rose}
 use Rattle.hw_lines.specs.declared.line.Line.{Line}
 use Rattle.hw_lines.specs.declared.line.Line.TheVariants as lines
 use Rattle.hw_lines.specs.Tolled.{is_plain, tariff_of}
-use Rattle.hw_lines.specs.Lines.{clause_count, live, last_table, is_closed}
+use Rattle.hw_lines.specs.Lines.{source_line, clause_count, live, last_table, is_closed}
 use Rattle.hw_lines.specs.Valid.{LineFits, ValidAfter, ValidFrom}
 use Rattle.hw_lines.specs.Lemmas.{lemmas_of, IsNew, LeanAfter, LeanFrom}
 use Rattle.hw_story.specs.declared.event.Why.{Why}
@@ -28,13 +26,6 @@ use Rattle.hw_progress.specs.Living.{FewLiveFrom}
 use Rattle.hw_progress.specs.Settling.{Implies, Settles}
 
 -- ---- what is written for a clause
-
--- the line of a clause that a source gave
-abbrev pub source_line : Problem → Source → List Lit → Line
-source_line f (sources.Window ship) clause = lines.Explain ship clause
-source_line f (sources.Rule place) clause = lines.Explain (f.ships + place) clause
-source_line f (sources.Order v w x) clause = lines.Order v w x clause
-source_line f sources.Goal clause = lines.Goal clause
 
 -- the line of a clause that is no stored lemma
 abbrev pub why_lines : Problem → Why → List Line

@@ -11,8 +11,8 @@ use Rattle.hw_repair.specs.declared.plan.Wish.TheVariants.{Kept, Planned}
 use Rattle.hw_explain_repair.specs.Fates.{fate, wish_has_sailed}
 use Rattle.hw_explain_repair.specs.declared.fate.Fate.{Fate}
 use Rattle.hw_explain_repair.specs.declared.fate.Fate.TheVariants as fates
-use Rattle.hw_repair_chart.specs.Laws.{GhostsAreMoved, HatchedIsNotGranted, HasSailed, MarkedHaveSailed}
-use Rattle.hw_repair_chart.specs.Marks.{ghost_by, ghost_slot, if_sailing, sailed_by, sailed_slot}
+use Rattle.hw_repair_chart.specs.Laws.{GhostsAreMoved, HatchedIsNotGranted, MarkedHaveSailed}
+use Rattle.hw_repair_chart.specs.Marks.{ghost_by, if_sailing, sailed_by}
 
 -- ---- a ship's fate by two tests
 

@@ -1,6 +1,6 @@
 -- The marks of a ship: its old slot where it is moved, that it has sailed, and the slots that the plan doesn't leave it.
 use Rattle.std.specs.Prelude.{ℕ, ◌+◌, max, min, nat_lt, List, [], ◌∷◌, ◌++◌, Option, Some, None, codes, if◌then◌else◌}
-use Rattle.hw_model.specs.Problem.{Problem, horizon, stays}
+use Rattle.hw_model.specs.Problem.{Problem, stays}
 use Rattle.hw_svg.specs.Joined.{joined}
 use Rattle.hw_svg.specs.Shapes.{block, titled}
 use Rattle.hw_svg.specs.Sheets.{svg_end, window_begin}

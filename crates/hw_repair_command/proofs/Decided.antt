@@ -1,6 +1,5 @@
 -- The bytes decide what is told.
-use Rattle.std.proofs.Common.{◌≡◌, ◌⊎◌, ◌∙◌, ℕ, List, Option, Some, None, inl, inr, refl, sym, ap, subst}
-use Rattle.std.specs.Prelude.{IfSome}
+use Rattle.std.proofs.Common.{◌≡◌, ◌∙◌, ℕ, List, Option, Some, None, inl, inr, refl, sym, ap, subst}
 use Rattle.std.proofs.lemmas.Option.{same_Some}
 use Rattle.hw_model.specs.Problem.{Problem, shape_of}
 use Rattle.hw_desk.specs.declared.desk.Feed.TheVariants.{Certificate}
@@ -19,7 +18,7 @@ use Rattle.hw_command.specs.Keeping.{complete_lines}
 use Rattle.hw_command.specs.declared.outcome.CertOutcome.{CertOutcome}
 use Rattle.hw_command.specs.declared.outcome.CertOutcome.TheVariants.{Shows, Wrong, TooLong}
 use Rattle.hw_subject.specs.Meanings.{judged, repair_ships}
-use Rattle.hw_subject.specs.Subjects.{Subject, Origin}
+use Rattle.hw_subject.specs.Subjects.{Origin}
 use Rattle.hw_subject.specs.Decided.{IsDecided, IsReported, ReportedBy, certified}
 use Rattle.hw_subject.specs.Shown.{Refused, Shown}
 use Rattle.hw_subject.specs.Texts.{cert_bound, cert_report}

@@ -1,16 +1,14 @@
 -- What the timetable of a certificate makes of a plan is told.
-use Rattle.std.proofs.Common.{◌≡◌, ◌∙◌, ◌++◌, ℕ, List, [], ◌∷◌, Option, None, Some, Result, Ok, Err, false, refl, sym, ap, subst}
+use Rattle.std.proofs.Common.{◌≡◌, ◌∙◌, ℕ, List, [], ◌∷◌, Option, None, Some, Result, Ok, refl, sym, ap, subst}
 use Rattle.std.specs.Prelude.{IfSome}
 use Rattle.hw_model.specs.Problem.{Problem, IsTimetable}
-use Rattle.hw_model.specs.Timetables.{Permits}
 use Rattle.hw_desk.specs.State.{DeskState}
 use Rattle.hw_desk.specs.declared.desk.Feed.TheVariants.{Certificate}
 use Rattle.hw_lines.specs.declared.check.Verdict.{Verdict}
 use Rattle.hw_cert.specs.declared.version.Version.TheVariants.{Three}
 use Rattle.hw_cert.proofs.Answered.{told_map}
-use Rattle.hw_repair.specs.Repaired.{repaired}
 use Rattle.hw_repair.specs.Wishes.{PlanParts, PlanFits}
-use Rattle.hw_report.specs.Reports.{Report, Naming, by_number, checked, refused, too_long, whole_text}
+use Rattle.hw_report.specs.Reports.{Report, Naming, by_number, checked, refused, whole_text}
 use Rattle.hw_command.specs.Carries.{Carries}
 use Rattle.hw_command.specs.Certificates.{report_of_check}
 use Rattle.hw_command.specs.Ends.{Ends}
@@ -24,7 +22,6 @@ use Rattle.hw_command.specs.declared.status.Status.{Status}
 use Rattle.hw_command.specs.declared.taking.LastTable.{LastTable}
 use Rattle.hw_command.proofs.Begun.{answers}
 use Rattle.hw_command.proofs.Stops.{stops_carries}
-use Rattle.hw_subject.specs.Meanings.{judged}
 use Rattle.hw_subject.specs.Reading.{ReadsSubject, StopsAtSubject, naming_of, plan_in, searched_in}
 use Rattle.hw_subject.specs.Subjects.{Subject, Origin, origin_subject, repair_of, Topic}
 use Rattle.hw_subject.specs.declared.subject.Given.{Given}

@@ -8,7 +8,7 @@ use Rattle.hw_model.specs.declared.source.Source.{Source}
 use Rattle.hw_model.specs.Problem.{Problem}
 use Rattle.hw_lines.specs.declared.line.Line.{Line}
 use Rattle.hw_lines.specs.declared.line.Line.TheVariants as lines
-use Rattle.hw_lines.specs.Lines.{clause_count, clause_of as clause_in, table_after, last_table, is_closed, is_end}
+use Rattle.hw_lines.specs.Lines.{source_line, clause_count, clause_of as clause_in, table_after, last_table, is_closed, is_end}
 use Rattle.hw_lines.specs.Tolled.{is_plain, tariff_of}
 use Rattle.hw_lines.specs.Valid.{LineFits, ValidAfter, ValidFrom}
 use Rattle.hw_lines.specs.Lemmas.{lemma_of, lemmas_of, LeanAfter, LeanFrom}
@@ -24,7 +24,7 @@ use Rattle.hw_progress.specs.declared.outcome.Turn.{Turn}
 use Rattle.hw_progress.specs.declared.outcome.Turn.TheVariants as turns
 use Rattle.hw_progress.specs.Searches.{SearchModel, IsSearch, LogFits, why_at, written_at}
 use Rattle.hw_progress.specs.Living.{FewLiveFrom}
-use Rattle.hw_progress.specs.Turns.{source_line, why_lines, Cited, cite_by, cite, cited, cite_conflict, lines_of_turn, Plans, WritesPart, FailsPart, FailsNext, TurnStops, WritesWell, TurnWrites, TurnMeets}
+use Rattle.hw_progress.specs.Turns.{why_lines, Cited, cite_by, cite, cited, cite_conflict, lines_of_turn, Plans, WritesPart, FailsPart, FailsNext, TurnStops, WritesWell, TurnWrites, TurnMeets}
 use Rattle.hw_progress.proofs.Lines.{source_is, source_no_lemma, same_lemmas}
 use Rattle.hw_progress.proofs.Parts.{part_well}
 use Rattle.hw_progress.proofs.Told.{grown}

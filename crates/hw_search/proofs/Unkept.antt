@@ -9,12 +9,12 @@ use Rattle.std.proofs.lemmas.List.Kept.{AllPairs-from_increasing}
 use Rattle.hw_model.specs.declared.lit.Lit.{Lit}
 use Rattle.hw_lines.specs.declared.line.Line.{Line}
 use Rattle.hw_lines.specs.declared.line.Line.TheVariants as lines
-use Rattle.hw_lines.specs.Lines.{clause_count, live}
+use Rattle.hw_lines.specs.Lines.{source_line, clause_count, live}
 use Rattle.hw_story.specs.declared.event.Why.{Why}
 use Rattle.hw_story.specs.declared.event.Why.TheVariants as whys
 use Rattle.hw_store.specs.declared.store.Stored.{Stored}
 use Rattle.hw_progress.specs.Searches.{SearchModel, kept_numbers}
-use Rattle.hw_progress.specs.Turns.{source_line, Cited, cite_conflict, unkept}
+use Rattle.hw_progress.specs.Turns.{Cited, cite_conflict, unkept}
 use Rattle.hw_progress.specs.Laws.{lemma_lines}
 use Rattle.hw_progress.proofs.Numbers.{contains_here, contains_there, contains_cases, contains_none, numbers_push}
 use Rattle.hw_progress.proofs.Lines.{IsClauseLine, source_is, lemma_is, live_stays, live_back, new_live}

@@ -10,10 +10,8 @@ use Rattle.hw_desk.specs.declared.desk.Feed.TheVariants as feeds
 use Rattle.hw_desk.specs.declared.desk.Tray.TheVariants as tray
 use Rattle.hw_lines.specs.declared.line.Line.{Line}
 use Rattle.hw_lines.specs.Lines.{last_table}
-use Rattle.hw_cert.specs.declared.version.Version.TheVariants.{Three}
-use Rattle.hw_cert.specs.Texts.{cert_text}
 use Rattle.hw_cert.proofs.Answered.{told_map}
-use Rattle.hw_report.specs.Reports.{Report, Naming, bad_text, checked, open_part, no_memory, refused, too_long}
+use Rattle.hw_report.specs.Reports.{Report, Naming, bad_text, checked, open_part, refused, too_long}
 use Rattle.hw_command.specs.Carries.{Carries}
 use Rattle.hw_command.specs.Certificates.{report_of_check}
 use Rattle.hw_command.specs.Ends.{Ends, EndsWith}

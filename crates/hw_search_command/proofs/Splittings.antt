@@ -1,6 +1,6 @@
 -- A split of a subject, made by the best that a certificate knows.
 use Rattle.std.proofs.Common.{◌≡◌, ◌++◌, ◌∙◌, ℕ, false, List, [], ◌∷◌, Option, Some, None, Result, Ok, Err, inl, inr, append-nil, ap, refl, subst, sym, arith}
-use Rattle.std.specs.Prelude.{◌≤◌, ◌<◌, IfOk, IfSome, count_by, length}
+use Rattle.std.specs.Prelude.{◌≤◌, ◌<◌, IfOk, count_by, length}
 use Rattle.hw_model.specs.Problem.{Problem, shape_of}
 use Rattle.hw_model.specs.declared.memory.NoMemory.{NoMemory as NoRoom}
 use Rattle.hw_model.specs.declared.shape.Shape.{Shape}
@@ -30,7 +30,7 @@ use Rattle.hw_command.proofs.CertWorks.{cert_works}
 use Rattle.hw_command.proofs.SentWorks.{broken_works, made, sent_works}
 use Rattle.hw_command.proofs.Stops.{stops_carries}
 use Rattle.hw_split.specs.declared.node.Node.{Node}
-use Rattle.hw_split.specs.Splits.{is_part, split_parts}
+use Rattle.hw_split.specs.Splits.{is_part}
 use Rattle.hw_split.specs.Text.{split_of, split_text}
 use Rattle.hw_split.specs.Written.{written_split}
 use Rattle.hw_splitting.specs.Chosen.{IsChosen}
@@ -47,7 +47,7 @@ use Rattle.hw_subject.proofs.Shows.{ReadsOf, shown_of}
 use Rattle.hw_search_command.specs.MadeSplits.{ChoosesNone, IsMadeSplit, KnowsBest, KnowsNothing, SendsSplit, SplitsTo}
 use Rattle.hw_search_command.specs.Resumes.{Starts}
 use Rattle.hw_search_command.specs.Resuming.{ShowsNothing, shows_nothing}
-use Rattle.hw_search_command.specs.Splitting.{MakesSplit, SplitDone, SplitSays, split_task}
+use Rattle.hw_search_command.specs.Splitting.{MakesSplit, SplitSays, split_task}
 use Rattle.hw_search_command.specs.declared.splitting.SplitEnd.{SplitEnd}
 use Rattle.hw_search_command.proofs.Resumptions.{shown_by}
 use Rattle.hw_search_command.specs.declared.splitting.SplitEnd.TheVariants as outcomes

@@ -1,5 +1,5 @@
 -- Certificates one after another in one input, and what is sent to Proof of them.
-use Rattle.std.specs.Prelude.{◌≡◌, ◌<◌, ◌⊎◌, ℕ, ◌+◌, ◌==◌, List, [], ◌∷◌, ◌++◌, Option, Some, None, IfSome, ⊤, Result, Ok, Err, Vec, All, true, count_by, length, min}
+use Rattle.std.specs.Prelude.{◌≡◌, ◌<◌, ◌⊎◌, ℕ, ◌+◌, ◌==◌, List, [], ◌∷◌, ◌++◌, Option, Some, None, IfSome, Result, Ok, Err, Vec, All, true, count_by, length, min}
 use Rattle.std.specs.declared.alloc.Global.{Global}
 use Rattle.hw_model.specs.Problem.{Problem, shape_of}
 use Rattle.hw_desk.specs.State.{DeskState}

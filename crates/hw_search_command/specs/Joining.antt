@@ -13,7 +13,6 @@ use Rattle.hw_lines.specs.Lines.{last_table}
 use Rattle.hw_cert.specs.declared.version.Version.TheVariants.{Three}
 use Rattle.hw_cert.specs.Texts.{cert_text}
 use Rattle.hw_report.specs.Reports.{Report, Naming, bad_text, checked, open_part, refused, too_long}
-use Rattle.hw_report.specs.declared.report.RefusedWord.{RefusedWord}
 use Rattle.hw_report.specs.declared.report.RefusedWord.TheVariants.{Check}
 use Rattle.hw_command.specs.Carries.{Task}
 use Rattle.hw_command.specs.Scope.{named_feed, MakesProof}

@@ -1,5 +1,5 @@
 -- The problem that is searched models the subject: of a flat text, of a port, and of the repair of either.
-use Rattle.std.proofs.Common.{◌≡◌, ◌∙◌, ℕ, ◌+◌, List, [], ◌∷◌, zip, Option, Some, None, refl, sym, ap, subst}
+use Rattle.std.proofs.Common.{◌≡◌, ◌∙◌, ℕ, List, [], ◌∷◌, zip, Option, Some, None, refl, sym, ap, subst}
 use Rattle.std.specs.Prelude.{◌↔◌}
 use Rattle.hw_model.specs.Limits.{IsFlat}
 use Rattle.hw_model.specs.Problem.{Problem}

@@ -20,7 +20,7 @@ use Rattle.hw_subject.specs.Subjects.{Subject, topic_subject, flat_subject, repa
 use Rattle.hw_subject.specs.Checks.{Checks}
 use Rattle.hw_subject.specs.Decided.{CertificatesDecide, IsReported, ReportedBy, TextsDecide, certified}
 use Rattle.hw_subject.specs.Shown.{Refused}
-use Rattle.hw_subject.specs.Texts.{cert_bound, cert_report, texts_report}
+use Rattle.hw_subject.specs.Texts.{cert_bound, texts_report}
 use Rattle.hw_subject.proofs.OneFlat.{of_text, of_no_text}
 use Rattle.hw_subject.proofs.Planned.{of_plan, of_no_plan, OfPlan}
 

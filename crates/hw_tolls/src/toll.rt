@@ -1,6 +1,6 @@
 //! Tolls, and the charges of which they are made.
 
-ghost use Rattle.std.specs.Prelude.{◌≡◌, IfOk};
+ghost use Rattle.std.specs.Prelude.{◌≡◌, ◌↔◌, IfOk, true};
 
 use hw_model::{NoMemory, ShipId, Slot};
 use std::alloc::Global;
@@ -105,6 +105,38 @@ impl Toll {
                 most: *most,
             },
         })
+    }
+
+    /// Whether two tolls are the same.
+    pub fn is_same(&self, other: &Toll) -> bool
+        ensures { result ≡ true ↔ self.now ≡ other.now }
+    {
+        match (self, other) {
+            (Toll::Narrows { blocks }, Toll::Narrows { blocks: others }) => {
+                blocks.items.as_slice() == others.items.as_slice()
+            }
+            (
+                Toll::Tugs {
+                    restriction,
+                    slot,
+                    weights,
+                    most,
+                },
+                Toll::Tugs {
+                    restriction: other_restriction,
+                    slot: other_slot,
+                    weights: other_weights,
+                    most: other_most,
+                },
+            ) => {
+                *restriction == *other_restriction
+                    && *slot == *other_slot
+                    && *most == *other_most
+                    && weights.items.as_slice() == other_weights.items.as_slice()
+            }
+            (Toll::Narrows { .. }, Toll::Tugs { .. }) | (Toll::Tugs { .. }, Toll::Narrows { .. }) =>
+                false,
+        }
     }
 }
 

@@ -1,4 +1,4 @@
-use Rattle.std.proofs.Common.{refl, ◌∙◌, subst}
+use Rattle.std.proofs.Common.{refl, ◌∙◌}
 use Rattle.hw_progress.specs.Searches.{IsSearch}
 use Rattle.hw_progress.proofs.Heeded.{heeds_none}
 use Rattle.hw_proving.proofs.Heedings.{gains_on}

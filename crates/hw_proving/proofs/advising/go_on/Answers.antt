@@ -1,4 +1,4 @@
-use Rattle.std.proofs.Common.{◌≡◌, true, false, sym, ap, ◌∙◌, subst}
+use Rattle.std.proofs.Common.{◌≡◌, true, false, sym, ◌∙◌, subst}
 use Rattle.hw_model.specs.Rooms.{IsPoint}
 use Rattle.hw_progress.specs.Searches.{IsSearch, room_in}
 use Rattle.hw_proving.proofs.AdvisedTurns.{point_ends, preference_ends, rule_ends}

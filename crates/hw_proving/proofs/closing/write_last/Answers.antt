@@ -1,4 +1,4 @@
-use Rattle.std.proofs.Common.{◌≡◌, ◌∙◌, [], subst}
+use Rattle.std.proofs.Common.{◌≡◌, ◌∙◌, []}
 use Rattle.hw_progress.specs.Searches.{IsSearch}
 use Rattle.hw_proving.proofs.Closings.{last_meets}
 use Rattle.hw_proving.proofs.closing.write_last.Goals as goal

@@ -1,4 +1,4 @@
-use Rattle.std.proofs.Common.{List, refl, rules, sym, ap, ◌∙◌, subst, append-nil, map-id}
+use Rattle.std.proofs.Common.{List, refl, rules, sym, ap, ◌∙◌, append-nil, map-id}
 use Rattle.std.proofs.lemmas.Iterator.Consumers.{YieldsList-turn, YieldsList-end}
 use Rattle.std.proofs.lemmas.Iterator.Adapters.{YieldsList-from_vec}
 use Rattle.std.proofs.lemmas.Result.{err_from_is_err_and}

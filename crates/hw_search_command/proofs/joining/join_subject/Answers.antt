@@ -1,4 +1,4 @@
-use Rattle.std.proofs.Common.{◌≡◌, ◌∙◌, [], ◌∷◌, None, ap, subst, sym}
+use Rattle.std.proofs.Common.{◌≡◌, ◌∙◌, [], ◌∷◌, None, ap, subst}
 use Rattle.hw_report.specs.Reports.{Naming, Report}
 use Rattle.hw_report.specs.Seen.{report_seen}
 use Rattle.hw_command.specs.Certificates.{report_of_check}
