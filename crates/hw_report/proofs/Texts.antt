@@ -229,7 +229,7 @@ a_spent_step = refl
 pub a_clash_holds : report_text clash_holds ≡ codes "clash holds\n"
 a_clash_holds = refl
 
-pub a_split : report_text (parts_told 16) ≡ codes "parts 16\n"
+pub a_split : report_text (parts_told 16 240) ≡ codes "parts 16 tolls 240\n"
 unfolding digits
 a_split = refl
 

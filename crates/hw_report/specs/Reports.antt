@@ -42,8 +42,8 @@ pub data Report : Type 0 where
   -- the budget was spent in a step
   spent_step : ℕ → ℕ → Report
   clash_holds : Report
-  -- how many parts a split has that was made
-  parts_told : ℕ → Report
+  -- how many parts a split has that was made, and how many tolls are expected
+  parts_told : ℕ → ℕ → Report
   -- whether the part of this number is closed
   part_told : ℕ → Bool → Report
   -- the first part that a joined certificate leaves open

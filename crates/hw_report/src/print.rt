@@ -6,7 +6,7 @@ ghost use Rattle.hw_model.specs.Timetables.{cargo as cargo_of};
 ghost use Rattle.hw_desk.specs.Writers.{Puts};
 ghost use Rattle.hw_report.specs.Lines.{head_text};
 ghost use Rattle.hw_report.specs.Printing.{IsTableOfProblem};
-ghost use Rattle.hw_report.specs.Reports.{part_told, spent_step};
+ghost use Rattle.hw_report.specs.Reports.{part_told, parts_told, spent_step};
 ghost use Rattle.hw_report.specs.Seen.{names_seen, table_seen};
 ghost use Rattle.hw_report.specs.Texts.{demo_text, part_word, report_text, summary_text};
 
@@ -97,6 +97,22 @@ fn part_word(is_closed: bool) -> &'static [u8]
     ensures { result.now ≡ part_word is_closed }
 {
     if is_closed { b" closed\n" } else { b" open\n" }
+}
+
+/// Puts how many parts a split has, and how many tolls are expected.
+pub fn put_parts<W: Writer>(out: &mut W, number: u64, tolls: u64)
+    ensures { Puts (report_text (parts_told number tolls)) (W.state out.old) (W.state out.new) }
+{
+    put_pieces(
+        out,
+        &[
+            Piece::Word(b"parts "),
+            Piece::Number(number),
+            Piece::Word(b" tolls "),
+            Piece::Number(tolls),
+            Piece::Word(b"\n"),
+        ],
+    );
 }
 
 /// Puts that the budget was spent in a step.

@@ -8,7 +8,7 @@ ghost use Rattle.hw_report.specs.Texts.{report_text};
 
 use crate::lines::{put_bound, put_numbered, put_table};
 use crate::lists::{put_after, put_clash, put_met};
-use crate::print::{put_demo, put_outcome, put_part, put_step};
+use crate::print::{put_demo, put_outcome, put_part, put_parts, put_step};
 use crate::refusals::{
     put_bad_field, put_bad_flat, put_bad_text, put_bad_tides, put_feed, put_refused,
 };
@@ -72,7 +72,7 @@ fn put_report<W: Writer>(out: &mut W, report: &Report)
         Report::Step { budget, step } => put_step(out, budget, step),
         Report::ClashHolds => out.put(b"clash holds\n"),
         Report::Part { number, is_closed } => put_part(out, number, is_closed),
-        Report::Parts { number } => put_numbered(out, b"parts ", number),
+        Report::Parts { number, tolls } => put_parts(out, number, tolls),
         Report::OpenPart { number } => put_numbered(out, b"open ", number),
         Report::After { number, broken } => put_after(out, number, broken),
         Report::AuditEnd => out.put(b"end\n"),
