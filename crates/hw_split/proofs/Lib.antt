@@ -4,4 +4,3 @@ pub mod Lines
 pub mod Covering
 pub mod Written
 pub mod Spelled
-pub mod Onward

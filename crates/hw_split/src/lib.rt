@@ -15,7 +15,6 @@ mod ranges;
 mod reading;
 mod room;
 mod walk;
-mod writing;
 
 pub use fault::{SplitFault, SplitWord};
 pub use laws::{
@@ -27,4 +26,3 @@ pub use parts::{count_parts, literals_of};
 pub use reading::read_split;
 pub use room::room_of;
 pub use walk::Walk;
-pub use writing::put_split;
