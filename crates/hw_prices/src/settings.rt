@@ -48,7 +48,7 @@ pub(crate) const MADE: u32 = 8;
 // Seeds but 0.
 
 /// Prices are moved for at least this many steps in a room, and for fewer than `MORE_STEPS` more. With both, eight seeds
-/// were run on demo-11-12-96, tight-1-16-96 and tight-106-14-96 (docs/BENCHMARKS.md); nothing is known of other values.
+/// were run on demo-11-12-96, tight-1-16-96 and top-106-14-96 (docs/BENCHMARKS.md); nothing is known of other values.
 pub(crate) const FEWEST_STEPS: u32 = 60;
 
 pub(crate) const MORE_STEPS: u32 = 128;
