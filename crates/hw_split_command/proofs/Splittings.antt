@@ -81,7 +81,7 @@ starts topic {start = start} {x = x} {y = y} h k =
 -- ---- the inputs give nothing
 
 refuses_says : (s : Subject) (parts : ℕ) (start proof : List ℕ) (x y : DeskState) (r : Report) → IsCertless s → s.Refuses x.held r → SplitSays s parts start proof x y (Some r)
-refuses_says s parts start proof x y (parts_told count) h k = absurd (h.silent x.held _ k refl)
+refuses_says s parts start proof x y (parts_told count tolls) h k = absurd (h.silent x.held _ k refl)
 refuses_says s parts start proof x y (refused number word hint) h k = absurd (h.refused x.held number word hint k)
 refuses_says s parts start proof x y (too_long Certificate) h k = absurd (h.long x.held k)
 refuses_says s parts start proof x y r h k = k
@@ -146,13 +146,13 @@ makes topic {parts = parts} nodes h k = record {
 written : (topic : Topic) {parts : ℕ} {x y : DeskState} {given : Given} {nodes : List Node} (text : List ℕ) → (h : ReadsSubject (topic_subject topic) x y given) → IsMadeSplit (judged (topic_subject topic) h.value) parts nodes text → text ≡ written_split nodes
 written topic {nodes = nodes} text h made = one_text (shape_of (judged (topic_subject topic) h.value)) nodes text (shape_fits (judged (topic_subject topic) h.value) (modelled topic h).limits) made.reads
 
-sent_meets : (topic : Topic) {parts : ℕ} {start proof : List ℕ} {x y z end : DeskState} {given : Given} {e : Status} (count : ℕ) (nodes : List Node) → count ≡ count_by is_part nodes → (h : ReadsSubject (topic_subject topic) x y given) → SendsSplit {E = Unit} (judged (topic_subject topic) h.value) start parts proof y z nodes (Ok tt) → Ends (parts_told count ∷ []) z end e → Carries (split_task (topic_subject topic) parts start proof) x end e
-sent_meets topic {start = start} {x = x} {z = z} count nodes is h k ends =
+sent_meets : (topic : Topic) {parts : ℕ} {start proof : List ℕ} {x y z end : DeskState} {given : Given} {e : Status} (count tolls : ℕ) (nodes : List Node) → count ≡ count_by is_part nodes → (h : ReadsSubject (topic_subject topic) x y given) → SendsSplit {E = Unit} (judged (topic_subject topic) h.value) start parts proof y z nodes (Ok tt) → Ends (parts_told count tolls ∷ []) z end e → Carries (split_task (topic_subject topic) parts start proof) x end e
+sent_meets topic {start = start} {x = x} {z = z} count tolls nodes is h k ends =
     let s = topic_subject topic in
     record {
       mid = z;
-      reports = parts_told count ∷ [];
-      works = sent_works (parts_told count) refl (all_entered topic h k.knows.reads) (before_last (s.Gives x.held) s.inputs (named_feed Certificate start) h.give) k.sends (k.sends.only.read_faults ∙ (k.knows.reads.reads.0 ∙ h.read_faults));
+      reports = parts_told count tolls ∷ [];
+      works = sent_works (parts_told count tolls) refl (all_entered topic h k.knows.reads) (before_last (s.Gives x.held) s.inputs (named_feed Certificate start) h.give) k.sends (k.sends.only.read_faults ∙ (k.knows.reads.reads.0 ∙ h.read_faults));
       says = λ own. record {
         makes = makes topic nodes h k;
         counted = is ∙ sym (parts_counted (shape_of (judged s h.value)) nodes k.made.is);
@@ -179,10 +179,10 @@ pub stopped_carries : (topic : Topic) {parts : ℕ} {start proof : List ℕ} {x 
 stopped_carries topic {given = given} z stopped h (inl k) ends = nothing_meets topic (naming_of given.named) stopped h k ends
 stopped_carries topic {given = given} z stopped h (inr k) ends = none_meets topic (naming_of given.named) stopped h k ends
 
-pub sent_carries : (topic : Topic) {parts : ℕ} {start proof : List ℕ} {x y end : DeskState} {given : Given} {e : Status} (z : DeskState) (count : ℕ) → ReadsSubject (topic_subject topic) x y given → SplitsTo (searched_in given.flat given.repair) start parts proof y z (outcomes.Sent count) → Ends (parts_told count ∷ []) z end e → Carries (split_task (topic_subject topic) parts start proof) x end e
-sent_carries topic {parts = parts} {start = start} {proof = proof} {y = y} z count h k ends =
-    let there = of_judged (topic_subject topic) start proof parts y z (outcomes.Sent count) h k in
-    sent_meets topic count there.0 there.1 h there.2 ends
+pub sent_carries : (topic : Topic) {parts : ℕ} {start proof : List ℕ} {x y end : DeskState} {given : Given} {e : Status} (z : DeskState) (count tolls : ℕ) → ReadsSubject (topic_subject topic) x y given → SplitsTo (searched_in given.flat given.repair) start parts proof y z (outcomes.Sent count tolls) → Ends (parts_told count tolls ∷ []) z end e → Carries (split_task (topic_subject topic) parts start proof) x end e
+sent_carries topic {parts = parts} {start = start} {proof = proof} {y = y} z count tolls h k ends =
+    let there = of_judged (topic_subject topic) start proof parts y z (outcomes.Sent count tolls) h k in
+    sent_meets topic count tolls there.0 there.1 h there.2 ends
 
 pub broke_carries : (topic : Topic) {parts : ℕ} {start proof : List ℕ} {x y : DeskState} {given : Given} (z : DeskState) → ReadsSubject (topic_subject topic) x y given → SplitsTo (searched_in given.flat given.repair) start parts proof y z outcomes.WriteFailed → Carries (split_task (topic_subject topic) parts start proof) x z WriteFault
 broke_carries topic {parts = parts} {start = start} {proof = proof} {y = y} z h k =

@@ -60,8 +60,8 @@ pub record SendsSplit {E : Type 0} (f : Problem) (start : List ℕ) (parts : ℕ
   pub made : IsMadeSplit f parts nodes text
   pub sends : SendsTo proof text mid new sent
 
--- what comes of a certificate
+-- what comes of a certificate; nothing is said of the number of tolls
 abbrev pub SplitsTo : Problem → List ℕ → ℕ → List ℕ → DeskState → DeskState → SplitEnd → Type 0
 SplitsTo f start parts proof old new (ends.Stopped stopped) = KnowsNothing f start old new stopped ⊎ ChoosesNone f start old new stopped
-SplitsTo f start parts proof old new (ends.Sent count) = (nodes : List Node) × (count ≡ count_by is_part nodes) × SendsSplit {E = Unit} f start parts proof old new nodes (Ok tt)
+SplitsTo f start parts proof old new (ends.Sent count tolls) = (nodes : List Node) × (count ≡ count_by is_part nodes) × SendsSplit {E = Unit} f start parts proof old new nodes (Ok tt)
 SplitsTo f start parts proof old new ends.WriteFailed = (nodes : List Node) × SendsSplit {E = Unit} f start parts proof old new nodes (Err tt)

@@ -30,6 +30,7 @@ use Rattle.hw_subject.specs.Meanings.{judged}
 use Rattle.hw_subject.specs.Shown.{Shown, Refused}
 use Rattle.hw_subject.specs.Subjects.{Subject}
 use Rattle.hw_split_command.specs.Splits.{IsBadSplit, IsSplitOf, LacksPart}
+use Rattle.hw_split_command.specs.declared.parting.PartWords.{PartWords}
 
 -- ---- the part
 
@@ -137,3 +138,7 @@ part_task s split number start budget proof = record {
   proof = Some proof;
   Says = one_report (PartSays s split number start budget proof);
 }
+
+-- the task of these words
+abbrev pub part_task_of : Subject → PartWords → ℕ → Task
+part_task_of s words budget = part_task s words.split.now words.number words.start.now budget words.proof.now

@@ -37,10 +37,10 @@ pub record SplitBreaks (s : Subject) (parts : ℕ) (start : List ℕ) (old new :
   pub makes : MakesSplit s parts start old.held
   pub cut : IfSome (new.trays tray.Proof).sent (IsCutOf (written_split makes.nodes))
 
--- what a report says of the inputs, of the certificate and of the split, each as far as it is told; none is a write fault on the split, and nothing else is printed
+-- what a report says of the inputs, of the certificate and of the split, each as far as it is told; none is a write fault on the split, and nothing else is printed. Nothing is said of the number of tolls
 abbrev pub SplitSays : Subject → ℕ → List ℕ → List ℕ → DeskState → DeskState → Option Report → Type 0
 SplitSays s parts start proof old new None = SplitBreaks s parts start old new
-SplitSays s parts start proof old new (Some (parts_told count)) = SplitDone s parts start proof old new count
+SplitSays s parts start proof old new (Some (parts_told count tolls)) = SplitDone s parts start proof old new count
 SplitSays s parts start proof old new (Some (refused number word hint)) = Refused s Three start old.held (Wrong number word hint)
 SplitSays s parts start proof old new (Some (too_long Certificate)) = Refused s Three start old.held TooLong
 SplitSays s parts start proof old new (Some r) = s.Refuses old.held r

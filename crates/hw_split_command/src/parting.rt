@@ -7,7 +7,7 @@ ghost use Rattle.hw_desk.specs.declared.desk.Feed.TheVariants.{Certificate};
 ghost use Rattle.hw_desk.specs.declared.desk.Tray.TheVariants.{Proof};
 ghost use Rattle.hw_command.specs.Carries.{Carries};
 ghost use Rattle.hw_subject.specs.Subjects.{subject_of};
-ghost use Rattle.hw_split_command.specs.Parting.{part_task};
+ghost use Rattle.hw_split_command.specs.Parting.{part_task_of};
 ghost use Rattle.hw_split_command.specs.Parts.{PartsTo};
 
 use crate::split_input::{part_room, read_split_input};
@@ -58,7 +58,7 @@ pub fn part_subject<D: Desk>(
     requires least { 1 ≤ budget }
     requires most { budget ≤ MOST_BUDGET }
     requires fresh { IsNewDesk (D.state desk.old) }
-    ensures { Carries (part_task (subject_of subject.entry) words.entry.split.now words.entry.number words.entry.start.now budget words.entry.proof.now) (D.state desk.old) (D.state desk.new) result }
+    ensures { Carries (part_task_of (subject_of subject.entry) words.entry budget) (D.state desk.old) (D.state desk.new) result }
 {
     let given = match read_subject(alloc, desk, subject) {
         Ok(given) => given,

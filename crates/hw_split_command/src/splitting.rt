@@ -34,15 +34,16 @@ pub struct SplitWords<'w> {
 enum SplitEnd {
     /// Its lines aren't all taken, or memory ran out, and no split was made.
     Stopped(Result<CertOutcome, CertStop>),
-    /// How many parts the split has that was sent.
-    Sent { parts: u64 },
+    /// How many parts the split has that was sent, and how many tolls have a price in them.
+    Sent { parts: u64, tolls: u64 },
     /// A make or a write of the split failed.
     WriteFailed,
 }
 
 /// Reads the subject, checks a certificate of any version, and makes a split of at most `parts` parts (1 to
-/// 1024), of one part if the certificate leaves nothing open. Says how many they are. No split is made
-/// if a line is refused or memory runs out.
+/// 1024), of one part if the certificate leaves nothing open. Says how many they are, and how many
+/// different tolls their certificates are expected to declare together; nothing is promised of the second
+/// number. No split is made if a line is refused or memory runs out.
 pub fn split_subject<D: Desk>(
     alloc: Global,
     desk: &mut D,
@@ -63,7 +64,13 @@ pub fn split_subject<D: Desk>(
         SplitEnd::Stopped(stopped) => {
             finish(desk, &check_report(stopped, None, None, given.names()))
         }
-        SplitEnd::Sent { parts } => finish(desk, &Report::Parts { number: parts }),
+        SplitEnd::Sent { parts, tolls } => finish(
+            desk,
+            &Report::Parts {
+                number: parts,
+                tolls,
+            },
+        ),
         SplitEnd::WriteFailed => Status::WriteFault,
     }
 }
@@ -100,6 +107,7 @@ fn split_to<D: Desk>(
     match send_split(desk, &chosen.text, words.split) {
         Ok(()) => SplitEnd::Sent {
             parts: count_parts(&chosen.split) as u64,
+            tolls: chosen.tolls,
         },
         Err(_) => SplitEnd::WriteFailed,
     }
