@@ -198,11 +198,6 @@ knows read h e = let v = shown_by read.outcome e in record { read = read; shows 
 pub made_split : {f : Problem} {parts : ℕ} {c : ChosenSplit} → IsChosen f parts c → IsMadeSplit f parts c.split c.text.items
 made_split h = record { reads = h.text; is = h.is; few = h.few }
 
--- one part is as few as any
-pub one_chosen : (f : Problem) {parts : ℕ} (r : Result ChosenSplit NoRoom) → 1 ≤ parts → IfOk r (IsChosen f 1) → IfOk r (IsChosen f parts)
-one_chosen f (Ok c) some h = record { text = h.text; is = h.is; few = omega (arith, h.few, some) }
-one_chosen f (Err stop) some h = h
-
 -- its text isn't empty
 pub text_some : (shape : Shape) (text : List ℕ) (nodes : List Node) → split_text shape text ≡ Ok nodes → 0 < length text
 unfolding split_of

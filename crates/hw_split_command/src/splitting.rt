@@ -18,7 +18,7 @@ use hw_flat::{Flat, NoMemory};
 use hw_report::Report;
 use hw_search_command::shows_nothing;
 use hw_split::count_parts;
-use hw_splitting::{ChosenSplit, MOST_PARTS, choose_split};
+use hw_splitting::{ChosenSplit, MOST_PARTS, choose_split, undivided};
 use hw_subject::{Subject, read_subject};
 use std::alloc::Global;
 
@@ -125,7 +125,7 @@ fn chosen_by(
 {
     match open_best(outcome) {
         Some(best) => choose_split(alloc, flat, best, parts),
-        None => choose_split(alloc, flat, None, 1),
+        None => undivided(alloc, flat, parts),
     }
 }
 

@@ -3,6 +3,7 @@
 ghost use Rattle.std.specs.Prelude.{◌≤◌, IfOk, IfSome};
 ghost use Rattle.hw_splitting.specs.Chosen.{IsChosen};
 
+use crate::settings::TOLLS_FOR_ONE;
 use crate::tree::{grown, priced_tolls, text_of};
 use hw_flat::Flat;
 use hw_model::NoMemory;
@@ -20,8 +21,8 @@ const ONE_PART: &[u8] = b"split 1\np\nend\n";
 pub struct ChosenSplit {
     pub text: Vec<u8>,
     pub split: Split,
-    /// How many different tolls have a price in a part: an estimate by prices of what their certificates
-    /// will declare; nothing is promised of it.
+    /// How many different tolls the certificates of the parts are expected to declare together: an estimate
+    /// by prices, of which nothing is promised.
     pub tolls: u64,
 }
 
@@ -38,10 +39,18 @@ pub fn choose_split(
 {
     let tree = grown(alloc, flat, best, parts)?;
     let text = text_of(alloc, &tree)?;
-    let tolls = priced_tolls(alloc, &tree)?;
-    if let Some(chosen) = read(alloc, flat, text, tolls, parts)? {
-        return Ok(chosen);
+    let tolls = priced_tolls(alloc, &tree)?.saturating_mul(TOLLS_FOR_ONE);
+    match read(alloc, flat, text, tolls, parts)? {
+        Some(chosen) => Ok(chosen),
+        None => undivided(alloc, flat, parts),
     }
+}
+
+/// The split of one part, of which no tolls are expected, as one of at most this many parts.
+pub fn undivided(alloc: Global, flat: &Flat, parts: u32) -> Result<ChosenSplit, NoMemory>
+    requires least { 1 ≤ parts }
+    ensures { IfOk result (IsChosen flat.now parts) }
+{
     let text = Vec::from_slice(alloc, ONE_PART)?;
     match read(alloc, flat, text, 0, parts)? {
         Some(chosen) => Ok(chosen),
@@ -49,7 +58,7 @@ pub fn choose_split(
     }
 }
 
-/// The split of a text, with how many tolls have a price, if it is one of the problem and has at most
+/// The split of a text, with how many tolls are expected, if it is one of the problem and has at most
 /// this many parts.
 fn read(
     alloc: Global,

@@ -10,4 +10,4 @@ mod settings;
 mod splitting;
 mod tree;
 
-pub use chosen::{ChosenSplit, MOST_PARTS, choose_split};
+pub use chosen::{ChosenSplit, MOST_PARTS, choose_split, undivided};

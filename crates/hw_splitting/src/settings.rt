@@ -8,3 +8,7 @@ pub(crate) const COUNTED: u32 = 200;
 
 /// Steps in each side of a fork: as many as in a room of a search (`hw_prices`). Nothing is known of other values.
 pub(crate) const SIDE_STEPS: u32 = 120;
+
+/// How many tolls are expected for each one that has a price in a part, since parts look for more of them. The certificates of the
+/// parts of tight-1-16-96 (8 parts), tight-1-20-144 (16) and demo-3-16-36 (8) declare 3.0, 2.6 and 3.4 together.
+pub(crate) const TOLLS_FOR_ONE: u64 = 3;

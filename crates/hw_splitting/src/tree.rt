@@ -42,9 +42,6 @@ pub(crate) fn grown(
     let mut tree = Tree {
         branches: Vec::new(alloc),
     };
-    if parts <= 1 {
-        return Ok(tree);
-    }
     let mut splitter = Splitter::new(alloc, flat, best)?;
     let whole = splitter.whole(alloc, flat, best)?;
     tree.branches.push(Branch::Open(whole))?;
