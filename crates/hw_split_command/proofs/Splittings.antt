@@ -1,8 +1,7 @@
 -- A split of a subject, made by the best that a certificate knows.
 use Rattle.std.proofs.Common.{◌≡◌, ◌++◌, ◌∙◌, ℕ, false, List, [], ◌∷◌, Option, Some, None, Result, Ok, Err, inl, inr, append-nil, ap, refl, subst, sym, arith}
-use Rattle.std.specs.Prelude.{◌≤◌, ◌<◌, IfOk, count_by, length}
+use Rattle.std.specs.Prelude.{◌≤◌, ◌<◌, count_by, length}
 use Rattle.hw_model.specs.Problem.{Problem, shape_of}
-use Rattle.hw_model.specs.declared.memory.NoMemory.{NoMemory as NoRoom}
 use Rattle.hw_model.specs.declared.shape.Shape.{Shape}
 use Rattle.hw_desk.specs.State.{DeskState}
 use Rattle.hw_desk.specs.declared.desk.Feed.TheVariants.{Certificate}
