@@ -9,9 +9,9 @@ use Rattle.hw_command.specs.Ends.{Ends}
 use Rattle.hw_command.specs.declared.status.Status.{Status}
 use Rattle.hw_subject.specs.Subjects.{origin_subject, repair_of, topic_subject}
 use Rattle.hw_search_command.specs.Searchers.{searcher_of}
-use Rattle.hw_search_command.specs.Joining.{join_task}
-use Rattle.hw_search_command.specs.Parting.{part_task}
-use Rattle.hw_search_command.specs.Splitting.{split_task}
+use Rattle.hw_split_command.specs.Joining.{join_task}
+use Rattle.hw_split_command.specs.Parting.{part_task}
+use Rattle.hw_split_command.specs.Splitting.{split_task}
 use Rattle.hw_search_command.specs.Resumes.{resume_task}
 use Rattle.hw_search_command.specs.Searches.{search_task}
 use Rattle.hw_subject.specs.Checks.{check_task}

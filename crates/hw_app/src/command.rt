@@ -2,7 +2,8 @@
 
 use hw_command::PortNames;
 use hw_linear::Format;
-use hw_search_command::{Draw, PartWords, Search, SplitWords};
+use hw_search_command::{Draw, Search};
+use hw_split_command::{PartWords, SplitWords};
 use hw_subject::{Source, Subject};
 
 /// What a run is to do. The names are those of a desk's feeds and of Proof, and a budget is in lemmas.

@@ -18,9 +18,8 @@ use hw_lint_command::lint_port;
 use hw_listing_command::{explain_port, flatten_port, list_model, list_table, list_windows};
 use hw_repair_command::explain_repair;
 use hw_report::Report;
-use hw_search_command::{
-    demo, join_subject, part_subject, resume_subject, search_subject, split_subject,
-};
+use hw_search_command::{demo, resume_subject, search_subject};
+use hw_split_command::{join_subject, part_subject, split_subject};
 use std::alloc::Global;
 
 /// Does what the words say over a desk on which nothing was begun or made, and sends its report.

@@ -17,7 +17,8 @@ use hw_command::PortNames;
 use hw_desk::Feed;
 use hw_linear::Format;
 use hw_search::Branching;
-use hw_search_command::{Draw, Order, PartWords, Search, SplitWords};
+use hw_search_command::{Draw, Order, Search};
+use hw_split_command::{PartWords, SplitWords};
 use hw_subject::{Source, Subject};
 use hw_text::read_small;
 

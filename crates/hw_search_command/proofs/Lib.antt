@@ -6,9 +6,4 @@ mod Finishing
 mod Demonstrated
 mod Thirds
 mod Continued
-mod Resumptions
-mod SplitInputs
-mod Partings
-mod Joinings
-mod Splittings
-mod CertBytes
+pub mod Resumptions

@@ -86,7 +86,7 @@ starts topic {cert = cert} {x = x} {y = y} h k =
     }
 
 -- the lines that were kept are all of them
-kept_lines : {f : Problem} {cert : List ℕ} {x y : DeskState} → (k : StartsOn f cert x y) → k.read.kept.items ≡ k.reads.reads.1.lines
+pub kept_lines : {f : Problem} {cert : List ℕ} {x y : DeskState} → (k : StartsOn f cert x y) → k.read.kept.items ≡ k.reads.reads.1.lines
 kept_lines k = k.reads.reads.1.kept
 
 -- ---- the inputs give nothing
@@ -102,7 +102,7 @@ resume_stops topic cert proof budget {x = x} {y = y} {r = r} h ends = stops_carr
 
 -- ---- the certificate isn't gone on from
 
-ok_same : (a b : CertOutcome) → ◌≡◌ {A = Result CertOutcome CertStop} (Ok a) (Ok b) → b ≡ a
+pub ok_same : (a b : CertOutcome) → ◌≡◌ {A = Result CertOutcome CertStop} (Ok a) (Ok b) → b ≡ a
 ok_same a b e = cc
 
 -- the certificate is refused

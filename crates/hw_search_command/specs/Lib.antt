@@ -9,10 +9,3 @@ pub mod Demo
 pub mod Third
 pub mod Resumes
 pub mod Resuming
-pub mod Splits
-pub mod Parting
-pub mod Joining
-pub mod Parts
-pub mod Certs
-pub mod MadeSplits
-pub mod Splitting

@@ -103,7 +103,7 @@ fn resume_to<D: Desk>(
 }
 
 /// Whether an outcome is that of a certificate that is refused.
-pub(crate) fn shows_nothing(outcome: CertOutcome) -> bool
+pub fn shows_nothing(outcome: CertOutcome) -> bool
     ensures { result ≡ shows_nothing outcome }
 {
     match outcome {
@@ -112,8 +112,8 @@ pub(crate) fn shows_nothing(outcome: CertOutcome) -> bool
     }
 }
 
-/// Why there is no answer, told as of a certificate.
-pub(crate) fn stop_outcome(stop: CourseStop) -> Result<CertOutcome, CertStop>
+/// Why lines don't go on, told as of a certificate: the first one that isn't taken, or no memory.
+pub fn stop_outcome(stop: CourseStop) -> Result<CertOutcome, CertStop>
     ensures { result ≡ stop_outcome stop }
 {
     match stop {

@@ -13,15 +13,12 @@ use hw_desk::{Desk, Tray};
 
 /// A make or a write of Proof failed.
 #[derive(Clone, Copy, Drop)]
-pub(crate) struct ProofFailed;
+pub struct ProofFailed;
 
 /// Makes Proof under a name, and sends a certificate of these lines there, each by a write of its own.
-/// After an error Proof holds a proper prefix of the certificate's text. It takes no memory.
-pub(crate) fn send_third<D: Desk>(
-    desk: &mut D,
-    lines: &[Line],
-    name: &str,
-) -> Result<(), ProofFailed>
+/// After an error a make or a write failed, and Proof holds a proper prefix of the certificate's text,
+/// maybe none of it. It takes no memory.
+pub fn send_third<D: Desk>(desk: &mut D, lines: &[Line], name: &str) -> Result<(), ProofFailed>
     requires { ((D.state desk.old).trays Tray.Proof).made ≡ false }
     ensures { SendsTo name.now (cert_text Three lines.now) (D.state desk.old) (D.state desk.new) result }
 {

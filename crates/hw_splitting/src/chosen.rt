@@ -3,7 +3,7 @@
 ghost use Rattle.std.specs.Prelude.{◌≤◌, IfOk, IfSome};
 ghost use Rattle.hw_splitting.specs.Chosen.{IsChosen};
 
-use crate::tree::{grown, text_of};
+use crate::tree::{grown, priced_tolls, text_of};
 use hw_flat::Flat;
 use hw_model::NoMemory;
 use hw_split::{Split, SplitFault, count_parts, read_split};
@@ -20,6 +20,9 @@ const ONE_PART: &[u8] = b"split 1\np\nend\n";
 pub struct ChosenSplit {
     pub text: Vec<u8>,
     pub split: Split,
+    /// How many different tolls have a price in a part: an estimate by prices of what their certificates
+    /// will declare; nothing is promised of it.
+    pub tolls: u64,
 }
 
 /// A split of at most this many parts for a search that knows a timetable of this cargo, in tenths of a
@@ -35,21 +38,24 @@ pub fn choose_split(
 {
     let tree = grown(alloc, flat, best, parts)?;
     let text = text_of(alloc, &tree)?;
-    if let Some(chosen) = read(alloc, flat, text, parts)? {
+    let tolls = priced_tolls(alloc, &tree)?;
+    if let Some(chosen) = read(alloc, flat, text, tolls, parts)? {
         return Ok(chosen);
     }
     let text = Vec::from_slice(alloc, ONE_PART)?;
-    match read(alloc, flat, text, parts)? {
+    match read(alloc, flat, text, 0, parts)? {
         Some(chosen) => Ok(chosen),
         None => Err(NoMemory),
     }
 }
 
-/// The split of a text, if it is one of the problem and has at most this many parts.
+/// The split of a text, with how many tolls have a price, if it is one of the problem and has at most
+/// this many parts.
 fn read(
     alloc: Global,
     flat: &Flat,
     text: Vec<u8>,
+    tolls: u64,
     parts: u32,
 ) -> Result<Option<ChosenSplit>, NoMemory>
     ensures { IfOk result (λ found. IfSome found (IsChosen flat.now parts)) }
@@ -57,7 +63,7 @@ fn read(
     match read_split(alloc, &text, flat) {
         Ok(split) => {
             if count_parts(&split) <= parts as usize {
-                Ok(Some(ChosenSplit { text, split }))
+                Ok(Some(ChosenSplit { text, split, tolls }))
             } else {
                 Ok(None)
             }

@@ -14,7 +14,8 @@ pub(crate) struct Side {
     room: Room,
     /// What ships earn in it under the prices, with what these give back, in parts.
     pub(crate) earns: i64,
-    prices: Vec<i64>,
+    /// The prices of the tolls, each in the place that it has in every room.
+    pub(crate) prices: Vec<i64>,
 }
 
 /// A room that is split: the ship's slot is before this one, or it is this or a later one.

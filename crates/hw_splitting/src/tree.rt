@@ -122,6 +122,32 @@ fn split_at(
     Ok(true)
 }
 
+/// How many different tolls have a price in a leaf that may be split.
+pub(crate) fn priced_tolls(alloc: Global, tree: &Tree) -> Result<u64, NoMemory> {
+    let mut priced: Vec<bool> = Vec::new(alloc);
+    for branch in tree.branches.iter() {
+        if let Branch::Open(side) = branch {
+            mark_priced(&mut priced, &side.prices)?;
+        }
+    }
+    Ok(priced.iter().filter(|is_priced| **is_priced).count() as u64)
+}
+
+/// Marks the places of the tolls that have a price.
+fn mark_priced(priced: &mut Vec<bool>, prices: &[i64]) -> Result<(), NoMemory> {
+    for (place, price) in prices.iter().enumerate() {
+        if priced.len() <= place {
+            priced.push(false)?;
+        }
+        if 0 < *price {
+            if let Some(mark) = priced.get_mut(place) {
+                *mark = true;
+            }
+        }
+    }
+    Ok(())
+}
+
 /// The text of a tree's split. A tree without branches is one part.
 pub(crate) fn text_of(alloc: Global, tree: &Tree) -> Result<Vec<u8>, NoMemory> {
     let mut text = Vec::from_slice(alloc, b"split 1\n")?;

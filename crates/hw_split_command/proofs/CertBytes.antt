@@ -1,0 +1,105 @@
+-- Certificates among the bytes of one input.
+use Rattle.std.proofs.Common.{◌≡◌, ◌≤◌, ◌+◌, ◌-◌, ◌++◌, ◌∷◌, ◌∙◌, ℕ, List, [], true, false, Option, Result, Ok, Err, Vec, inl, length, take, drop, append_assoc, append-nil, take-append-drop, refl, sym, ap, subst, arith}
+use Rattle.std.proofs.Math.Seq.{take-append-add, take-length}
+use Rattle.std.proofs.lemmas.List.{length-take-le}
+use Rattle.std.proofs.lemmas.List.Elements.{All-cons, All-nil}
+use Rattle.std.proofs.lemmas.List.Folds.{drop_split}
+use Rattle.std.proofs.lemmas.List.Sums.{sum_by-append}
+use Rattle.std.specs.Prelude.{All, IfSome, is_err, slice_range}
+use Rattle.std.specs.declared.alloc.Global.{Global}
+use Rattle.hw_model.specs.Problem.{Problem}
+use Rattle.hw_desk.specs.Calls.{Begins, Moves}
+use Rattle.hw_desk.specs.State.{DeskState}
+use Rattle.hw_desk.specs.Whole.{ReadsWhole}
+use Rattle.hw_desk.specs.declared.desk.Feed.TheVariants.{Certificate}
+use Rattle.hw_desk.proofs.Chain.{only_feed_on}
+use Rattle.hw_lines.specs.declared.line.Line.{Line}
+use Rattle.hw_lines.specs.Valid.{LineFits}
+use Rattle.hw_cert.specs.declared.version.Version.TheVariants.{Three}
+use Rattle.hw_cert.proofs.Answered.{told_map}
+use Rattle.hw_command.specs.Certificates.{cert_outcome_to}
+use Rattle.hw_command.specs.Inputs.{Enters}
+use Rattle.hw_command.specs.declared.outcome.CertOutcome.{CertOutcome}
+use Rattle.hw_command.specs.declared.outcome.CertOutcome.TheVariants.{Shows, Wrong, TooLong}
+use Rattle.hw_command.specs.declared.outcome.CertStop.{CertStop}
+use Rattle.hw_command.specs.declared.outcome.CertStop.TheVariants.{Fault, NoMemory}
+use Rattle.hw_join.specs.Joining.{FitEach}
+use Rattle.hw_split_command.specs.Certs.{AreCerts, CertAnswer, CertsAnswer, CertsComeTo, IsCertOf, ReadsCerts, StopsIn, lines_in, most_certs, moved_on, moved_stop}
+use Rattle.hw_search_command.specs.Resuming.{shows_nothing}
+
+-- ---- one of them
+
+-- the bytes up to its end
+next_part : (bytes : List ℕ) (begin end : ℕ) → begin ≤ end → end ≤ length bytes → take end bytes ≡ take begin bytes ++ slice_range bytes begin end
+next_part bytes begin end h k =
+    let n = end - begin in
+    let inside : begin ≤ length bytes = omega arith in
+    let there : end ≡ begin + n = omega arith in
+    ap (λ (k : ℕ). take k bytes) there
+    ∙ ap (λ (all : List ℕ). take (begin + n) all) (sym (take-append-drop begin bytes))
+    ∙ ap (λ (k : ℕ). take (k + n) (take begin bytes ++ drop begin bytes)) (sym (length-take-le begin bytes inside))
+    ∙ take-append-add (take begin bytes) (drop begin bytes) n
+
+-- their lines
+pub lines_on : (bytes : List ℕ) (begin end : ℕ) → begin ≤ end → end ≤ length bytes → lines_in (take end bytes) ≡ lines_in (take begin bytes) + lines_in (slice_range bytes begin end)
+lines_on bytes begin end h k = ap lines_in (next_part bytes begin end h k) ∙ sum_by-append _ (take begin bytes) (slice_range bytes begin end)
+
+still_refused : (lines : ℕ) (o : CertOutcome) → shows_nothing o ≡ true → shows_nothing (moved_on lines o) ≡ true
+still_refused lines (Shows v) h = h
+still_refused lines (Wrong number word hint) h = h
+still_refused lines TooLong h = h
+
+-- it is refused
+pub stops_among : (f : Problem) (bytes : List ℕ) (before begin end : ℕ) (stopped : Result CertOutcome CertStop) → before ≡ lines_in (take begin bytes) → begin ≤ end → CertAnswer f (slice_range bytes begin end) (Err stopped) → CertsAnswer f bytes (Err (moved_stop before stopped))
+stops_among f bytes before begin end (Ok o) lines le h = (
+  still_refused before o h.0,
+  record {
+    before = take begin bytes;
+    cert = slice_range bytes begin end;
+    later = drop end bytes;
+    parts = sym (take-append-drop begin bytes) ∙ ap (λ (rest : List ℕ). take begin bytes ++ rest) (drop_split bytes begin end le) ∙ sym (append_assoc (take begin bytes) (slice_range bytes begin end) (drop end bytes));
+    own = ap (moved_on before) h.1 ∙ ap (λ (n : ℕ). moved_on n (cert_outcome_to Three f (slice_range bytes begin end))) lines;
+  },
+)
+stops_among f bytes before begin end (Err stop) lines le h = h
+
+one_more : {f : Problem} (certs : List (Vec Line Global)) (cert : Vec Line Global) (bytes own : List ℕ) → AreCerts f certs bytes → IsCertOf f cert.items own → AreCerts f (certs ++ cert ∷ []) (bytes ++ own)
+one_more [] cert bytes own h k = (own, [], ap (λ (front : List ℕ). front ++ own) h ∙ sym (append-nil own), k, refl)
+one_more (first ∷ more) cert bytes own h k = (h.0, h.1 ++ own, ap (λ (front : List ℕ). front ++ own) h.2 ∙ append_assoc h.0 h.1 own, h.3, one_more more cert h.1 own h.4 k)
+
+-- it is one
+pub certs_on : {f : Problem} (certs : List (Vec Line Global)) (cert : Vec Line Global) (bytes : List ℕ) (begin end : ℕ) → begin ≤ end → end ≤ length bytes → AreCerts f certs (take begin bytes) → IsCertOf f cert.items (slice_range bytes begin end) → AreCerts f (certs ++ cert ∷ []) (take end bytes)
+certs_on {f = f} certs cert bytes begin end h k first last = subst (AreCerts f (certs ++ cert ∷ [])) (sym (next_part bytes begin end h k)) (one_more certs cert (take begin bytes) (slice_range bytes begin end) first last)
+
+-- it is the last one
+pub certs_end : {f : Problem} (certs : List (Vec Line Global)) (cert : Vec Line Global) (bytes : List ℕ) (begin end : ℕ) → begin ≤ end → end ≡ length bytes → AreCerts f certs (take begin bytes) → IsCertOf f cert.items (slice_range bytes begin end) → AreCerts f (certs ++ cert ∷ []) bytes
+certs_end {f = f} certs cert bytes begin end h is first last = subst (AreCerts f (certs ++ cert ∷ [])) (ap (λ (n : ℕ). take n bytes) is ∙ take-length bytes) (certs_on certs cert bytes begin end h (omega (arith, is)) first last)
+
+-- ---- all of them
+
+entered : {E : Type 0} {name bytes : List ℕ} {x y z : DeskState} {begun : Result Unit E} → Begins Certificate name x y begun → Moves Certificate bytes y z → Enters Certificate name x z
+entered {name = name} h k = record {
+  only = only_feed_on h.only k.only;
+  begun = k.begun ∙ h.begun;
+  named = subst (λ (n : Option (List ℕ)). IfSome n (λ told. told ≡ name)) (sym k.named) h.named;
+}
+
+-- their lines are of the problem's shape
+fit_each : (f : Problem) (certs : List (Vec Line Global)) (bytes : List ℕ) → AreCerts f certs bytes → FitEach f certs
+fit_each f [] bytes h = All-nil (λ (cert : Vec Line Global). All (LineFits f) cert.items)
+fit_each f (cert ∷ more) bytes h = All-cons (λ (cert : Vec Line Global). All (LineFits f) cert.items) cert more h.3.fit (fit_each f more h.1 h.4)
+
+-- what is said of the bytes that were read is said of those that are told
+come_to : (f : Problem) (x z : DeskState) (told : Option (List ℕ)) (bytes : List ℕ) (result : Result (Vec (Vec Line Global) Global) (Result CertOutcome CertStop)) → IfSome told (λ all. all ≡ bytes) → z.read_faults ≡ x.read_faults → CertsAnswer f bytes result → CertsComeTo f told x z result
+come_to f x z told bytes (Ok certs) all kept h = (kept, fit_each f certs.items bytes h, told_map told (λ xs same. subst (AreCerts f certs.items) (sym same) h) all)
+come_to f x z told bytes (Err (Ok o)) all kept h = (kept, h.0, told_map told (λ xs same. inl (subst (StopsIn f o) (sym same) h.1)) all)
+come_to f x z told bytes (Err (Err Fault)) all kept h = absurd (cc)
+come_to f x z told bytes (Err (Err NoMemory)) all kept h = kept
+
+-- each was checked
+pub each_checked : {E : Type 0} {f : Problem} {name : List ℕ} {x y z : DeskState} {read : Vec ℕ Global} (begun : Result Unit E) (result : Result (Vec (Vec Line Global) Global) (Result CertOutcome CertStop)) → is_err begun ≡ false → Begins Certificate name x y begun → ReadsWhole Certificate most_certs y z (Ok read) → CertsAnswer f read.items result → ReadsCerts f name x z result
+each_checked (Err failed) result e h k a = absurd (cc)
+each_checked {f = f} {name = name} {x = x} {z = z} {read = read} (Ok u) result e h k a = record {
+  enters = entered h k.moved.1;
+  answer = come_to f x z (x.held name) read.items result (subst (λ (told : Option (List ℕ)). IfSome told (λ all. all ≡ read.items)) h.opened k.all) (k.kept (λ fault. absurd (cc)) ∙ h.kept) a;
+}

@@ -1,0 +1,5 @@
+mod SplitInputs
+mod Partings
+mod Joinings
+mod Splittings
+mod CertBytes

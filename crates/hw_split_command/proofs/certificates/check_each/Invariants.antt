@@ -1,0 +1,13 @@
+use Rattle.std.proofs.Common.{◌≡◌, ◌≤◌, ◌-◌, length, take}
+use Rattle.hw_split_command.specs.Certs.{AreCerts, lines_in}
+use Rattle.hw_split_command.proofs.certificates.check_each.Given as goal
+
+abbrev pub invariant-each : goal.invariant-each
+invariant-each l = record {
+  certs : AreCerts l.flat l.certs.items (take l.begin l.bytes);
+  counted : l.before ≡ lines_in (take l.begin l.bytes);
+  inside : l.begin ≤ length l.bytes;
+}
+
+abbrev pub decreases-each : goal.decreases-each
+decreases-each l = length l.bytes - l.begin

@@ -1,0 +1,7 @@
+pub mod Splits
+pub mod Parting
+pub mod Joining
+pub mod Parts
+pub mod Certs
+pub mod MadeSplits
+pub mod Splitting
