@@ -14,11 +14,11 @@ use Rattle.hw_app.specs.Forms.{form_of_words, name_in_words, number_in_words, wo
 use Rattle.hw_app.specs.declared.command.Command.{Command as Told}
 use Rattle.hw_app.specs.declared.command.Command.TheVariants as told
 use Rattle.hw_app.specs.declared.form.Form.{Form}
-use Rattle.hw_app.specs.declared.form.Keyword.TheVariants as key
-use Rattle.hw_app.specs.declared.form.Quantity.TheVariants as counts
-use Rattle.hw_app.specs.declared.form.Value.TheVariants.{Certificates, Input, Order, Proof, SplitMade, Start}
-use Rattle.hw_app.specs.declared.form.Wanted.{Wanted}
-use Rattle.hw_app.specs.declared.form.Wanted.TheVariants.{Keyword}
+use Rattle.hw_app.specs.declared.wanted.Keyword.TheVariants as key
+use Rattle.hw_app.specs.declared.wanted.Quantity.TheVariants as counts
+use Rattle.hw_app.specs.declared.wanted.Value.TheVariants.{Certificates, Input, Order, Proof, SplitMade, Start}
+use Rattle.hw_app.specs.declared.wanted.Wanted.{Wanted}
+use Rattle.hw_app.specs.declared.wanted.Wanted.TheVariants.{Keyword}
 
 pub data Command : Type 0 where
   -- what is searched and how, the budget, Proof

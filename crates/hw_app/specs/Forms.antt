@@ -9,14 +9,14 @@ use Rattle.hw_search_command.specs.Orders.{order_read}
 use Rattle.hw_search_command.specs.Demo.{most_ships, most_slots}
 use Rattle.hw_app.specs.declared.form.Form.{Form}
 use Rattle.hw_app.specs.declared.form.Form.TheVariants.{SolveFlat, SolvePort, ProveFlat, ProvePort, ProveFlatSeed, ProvePortSeed, ResumeFlat, ResumePort, SplitFlat, SplitPort, PartFlat, PartPort, JoinFlat, JoinPort, CheckFlat, CheckPort, VerifyFlat, VerifyPort, ChartFlat, ChartPort, ChartRepairFlat, ChartRepairPort, ChartClashPort, TablePort, TableRepairPort, RenewFlat, RenewPort, CrewFlat, CrewPort, RepairFlat, RepairPort, ProveRepairFlat, ProveRepairPort, ProveRepairFlatSeed, ProveRepairPortSeed, CheckRepair, CheckRepairPort, VerifyRepairFlat, VerifyRepairPort, ExplainRepairFlat, ExplainRepairPort, ClashFlat, ClashPort, ClashRepairFlat, ClashRepairPort, CheckClash, CheckClashPort, CheckClashRepairFlat, CheckClashRepairPort, ExplainPort, WindowsPort, Lint, ModelFlat, ModelPort, OpbFlat, OpbPort, AuditPort, CarryPort, Flatten, Demo}
-use Rattle.hw_app.specs.declared.form.Keyword.{Keyword as KeywordOf}
-use Rattle.hw_app.specs.declared.form.Keyword.TheVariants as key
-use Rattle.hw_app.specs.declared.form.Quantity.{Quantity}
-use Rattle.hw_app.specs.declared.form.Quantity.TheVariants as counts
-use Rattle.hw_app.specs.declared.form.Value.{Value as ValueOf}
-use Rattle.hw_app.specs.declared.form.Value.TheVariants.{Input, Start, Certificates, SplitMade, Proof, Order, Number}
-use Rattle.hw_app.specs.declared.form.Wanted.{Wanted}
-use Rattle.hw_app.specs.declared.form.Wanted.TheVariants.{Keyword, Value}
+use Rattle.hw_app.specs.declared.wanted.Keyword.{Keyword as KeywordOf}
+use Rattle.hw_app.specs.declared.wanted.Keyword.TheVariants as key
+use Rattle.hw_app.specs.declared.wanted.Quantity.{Quantity}
+use Rattle.hw_app.specs.declared.wanted.Quantity.TheVariants as counts
+use Rattle.hw_app.specs.declared.wanted.Value.{Value as ValueOf}
+use Rattle.hw_app.specs.declared.wanted.Value.TheVariants.{Input, Start, Certificates, SplitMade, Proof, Order, Number}
+use Rattle.hw_app.specs.declared.wanted.Wanted.{Wanted}
+use Rattle.hw_app.specs.declared.wanted.Wanted.TheVariants.{Keyword, Value}
 
 abbrev pub keyword_text : KeywordOf → List ℕ
 keyword_text key.Solve = codes "solve"

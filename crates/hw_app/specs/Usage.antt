@@ -4,12 +4,12 @@ use Rattle.hw_desk.specs.declared.desk.Feed.{Feed}
 use Rattle.hw_desk.specs.declared.desk.Feed.TheVariants as feeds
 use Rattle.hw_app.specs.Forms.{keyword_text, wanted_words}
 use Rattle.hw_app.specs.declared.form.Form.{Form}
-use Rattle.hw_app.specs.declared.form.Quantity.{Quantity}
-use Rattle.hw_app.specs.declared.form.Quantity.TheVariants as counts
-use Rattle.hw_app.specs.declared.form.Value.{Value as ValueOf}
-use Rattle.hw_app.specs.declared.form.Value.TheVariants.{Input, Start, Certificates, SplitMade, Proof, Order, Number}
-use Rattle.hw_app.specs.declared.form.Wanted.{Wanted}
-use Rattle.hw_app.specs.declared.form.Wanted.TheVariants.{Keyword, Value}
+use Rattle.hw_app.specs.declared.wanted.Quantity.{Quantity}
+use Rattle.hw_app.specs.declared.wanted.Quantity.TheVariants as counts
+use Rattle.hw_app.specs.declared.wanted.Value.{Value as ValueOf}
+use Rattle.hw_app.specs.declared.wanted.Value.TheVariants.{Input, Start, Certificates, SplitMade, Proof, Order, Number}
+use Rattle.hw_app.specs.declared.wanted.Wanted.{Wanted}
+use Rattle.hw_app.specs.declared.wanted.Wanted.TheVariants.{Keyword, Value}
 
 abbrev pub input_text : Feed → List ℕ
 input_text feeds.Flat = codes "NAME"

@@ -13,6 +13,7 @@ mod report_laws;
 mod running;
 mod search_laws;
 mod usage;
+mod wanted;
 mod words;
 
 pub use calm::run_calm;

@@ -4,7 +4,8 @@ ghost use Rattle.std.specs.Prelude.{◌≡◌};
 ghost use Rattle.hw_desk.specs.Writers.{Puts};
 ghost use Rattle.hw_app.specs.Usage.{input_text, quantity_text, usage_text, usage_value_text, wanted_text, words_text};
 
-use crate::form::{Form, Quantity, Value, Wanted, keyword_text, words_of};
+use crate::form::{Form, words_of};
+use crate::wanted::{Quantity, Value, Wanted, keyword_text};
 use hw_desk::{Feed, Writer};
 
 /// Puts the words of a form: its keywords, and a name in capitals for each other word.

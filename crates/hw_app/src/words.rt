@@ -10,9 +10,9 @@ ghost use Rattle.hw_app.specs.Forms.{agreed, first_fitting, form_of_words, furth
 use crate::command::Command;
 use crate::form::{
     AUDIT, CARRY, CHART, CHECK, CLASH, CREW, EXPLAIN, FLATTEN, FORMS, Form, JOIN, LINT, MODEL, OPB,
-    PART, PROVE, Quantity, RENEW, REPAIR, RESUME, SOLVE, SPLITS, TABLE, VERIFY, Value, WINDOWS,
-    Wanted, keyword_text, least_of, most_of, words_of,
+    PART, PROVE, RENEW, REPAIR, RESUME, SOLVE, SPLITS, TABLE, VERIFY, WINDOWS, words_of,
 };
+use crate::wanted::{Quantity, Value, Wanted, keyword_text, least_of, most_of};
 use hw_command::PortNames;
 use hw_desk::Feed;
 use hw_linear::Format;
