@@ -10,5 +10,5 @@ pub(crate) const COUNTED: u32 = 200;
 pub(crate) const SIDE_STEPS: u32 = 120;
 
 /// How many tolls are expected for each one that has a price in a part, since parts look for more of them. The certificates of the
-/// parts of tight-1-16-96 (8 parts), tight-1-20-144 (16) and demo-3-16-36 (8) declare 3.0, 2.6 and 3.4 together.
+/// parts of tight-1-16-96 (8 parts), tight-1-20-144 (16), demo-3-16-36 (8) and top-1-20-144 (16) declare 3.0, 2.6, 3.4 and 1.5 together.
 pub(crate) const TOLLS_FOR_ONE: u64 = 3;
