@@ -32,19 +32,12 @@ room_clause f room clause fits normal =
     let slots : room.slots ≤ f.slots = omega (arith, fits.same_slots) in
     clause_wider (shape_in room) (shape_of f) clause ships slots normal
 
--- a source's line of a clause of the problem's shape is of that shape too
-source_fits : (f : Problem) (source : Source) (clause : List Lit) → IsSourceOf f source → IsClause (shape_of f) clause → LineFits f (source_line f source clause)
-source_fits f (sources.Window ship) clause of is = (omega (arith, of), is)
-source_fits f (sources.Rule place) clause of is = (omega (arith, of), is)
-source_fits f (sources.Order v w x) clause of is = (of.0, of.1, of.2, is)
-source_fits f sources.Goal clause of is = is
-
--- and is no lemma
-source_no_lemma : (f : Problem) (source : Source) (clause : List Lit) → lemma_of (source_line f source clause) ≡ None
-source_no_lemma f (sources.Window ship) clause = refl
-source_no_lemma f (sources.Rule place) clause = refl
-source_no_lemma f (sources.Order v w x) clause = refl
-source_no_lemma f sources.Goal clause = refl
+-- a source's line of a clause of the problem's shape is of that shape too, and no lemma
+source_fits : (f : Problem) (source : Source) (clause : List Lit) → IsSourceOf f source → IsClause (shape_of f) clause → LineFits f (source_line f source clause) × (lemma_of (source_line f source clause) ≡ None)
+source_fits f (sources.Window ship) clause of is = ((omega (arith, of), is), refl)
+source_fits f (sources.Rule place) clause of is = ((omega (arith, of), is), refl)
+source_fits f (sources.Order v w x) clause of is = ((of.0, of.1, of.2, is), refl)
+source_fits f sources.Goal clause of is = (is, refl)
 
 no_lemmas_push : (all : List Line) (line : Line) → lemmas_of all ≡ [] → lemma_of line ≡ None → lemmas_of (all ++ line ∷ []) ≡ []
 no_lemmas_push all line none e = lemmas_push all line ∙ ap (λ (ls : List (List Lit)). ls ++ cons_option (lemma_of line) []) none ∙ ap (λ (o : Option (List Lit)). cons_option o []) e
@@ -52,8 +45,9 @@ no_lemmas_push all line none e = lemmas_push all line ∙ ap (λ (ls : List (Lis
 -- a narrowing with one more such line
 pub source_kept : (f : Problem) (before after : Narrowing) (source : Source) (clause : List Lit) (line : Line) → IsUnderWay f before → IsSourceOf f source → IsClause (shape_of f) clause → line ≡ source_line f source clause → after.room ≡ before.room → after.lines.items ≡ before.lines.items ++ line ∷ [] → IsUnderWay f after
 source_kept f before after source clause line h of is same room lines =
-    let fits : LineFits f line = subst (LineFits f) (sym same) (source_fits f source clause of is) in
-    let none : lemma_of line ≡ None = ap lemma_of same ∙ source_no_lemma f source clause in
+    let line_is = source_fits f source clause of is in
+    let fits : LineFits f line = subst (LineFits f) (sym same) line_is.0 in
+    let none : lemma_of line ≡ None = ap lemma_of same ∙ line_is.1 in
     record {
       room = subst (RoomFits f) (sym room) h.room;
       fit = subst (λ (ls : List Line). All (LineFits f) ls) (sym lines) (All-push (LineFits f) before.lines.items line h.fit fits);
