@@ -3,7 +3,8 @@
 //!
 //! Nothing is promised of what is found but the form of its lines: each is checked before it is taken.
 
-ghost use Rattle.std.specs.Prelude.{All, IfOk, IfSome, OnOk};
+ghost use Rattle.std.specs.Prelude.{◌≡◌, ◌-◌, ◌^◌, All, IfOk, IfSome, OnOk, min};
+ghost use Rattle.hw_lines.specs.Lines.{clause_count};
 ghost use Rattle.hw_lines.specs.Valid.{LineFits};
 ghost use Rattle.hw_model.specs.Lits.{IsClause};
 ghost use Rattle.hw_model.specs.Problem.{shape_of};
@@ -266,8 +267,10 @@ fn concluded(
     Ok(lines)
 }
 
-/// How many of the lines are clause lines.
-pub fn count_clauses(lines: &[Line]) -> u32 {
+/// How many of the lines are clause lines; the greatest `u32` where there are more.
+pub fn count_clauses(lines: &[Line]) -> u32
+    ensures { result ≡ min (clause_count lines.now) (2 ^ 32 - 1) }
+{
     let mut count = 0u32;
     for line in lines {
         count = count.saturating_add(clause_lines(line));
