@@ -1,2 +1,3 @@
 pub mod Falsified
 mod Narrowings
+mod Numbers

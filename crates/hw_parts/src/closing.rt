@@ -3,8 +3,8 @@
 //!
 //! Nothing is promised of what is found but the form of its lines: each is checked before it is taken.
 
-ghost use Rattle.std.specs.Prelude.{◌≡◌, All, IfOk, IfSome, None, OnOk};
-ghost use Rattle.hw_lines.specs.Lemmas.{lemma_of};
+ghost use Rattle.std.specs.Prelude.{◌≡◌, ◌-◌, ◌^◌, All, IfOk, IfSome, OnOk, min};
+ghost use Rattle.hw_lines.specs.Lines.{clause_count};
 ghost use Rattle.hw_lines.specs.Valid.{LineFits};
 ghost use Rattle.hw_model.specs.Lits.{IsClause};
 ghost use Rattle.hw_model.specs.Problem.{shape_of};
@@ -186,7 +186,6 @@ fn by_sources(
 }
 
 /// Asks a source. Where it isn't quiet, the line of its clause is kept.
-#[tactic(auto, using(crate::proofs::Narrowings::no_lemmas_push))]
 fn by_source(
     alloc: Global,
     ground: &Ground<'_>,
@@ -209,7 +208,7 @@ fn by_source(
             narrowing.clauses = narrowing.clauses.saturating_add(1);
             let number = narrowing.clauses;
             let passed = by_clause(ground.flat, &clause, number, narrowing)?;
-            let line = source_line(ground.flat, source, clause);
+            let line = Line::of_source(ground.flat, source, clause);
             narrowing.lines.push(line)?;
             Ok(passed)
         }
@@ -243,28 +242,6 @@ fn by_clause(
     }
 }
 
-/// The line of a clause that a source gave.
-fn source_line(flat: &Flat, source: Source, clause: Clause) -> Line
-    requires source_in { IsSourceOf flat.now source }
-    requires clause { IsClause (shape_of flat.now) clause }
-    ensures fits { LineFits flat.now result }
-    ensures no_lemma { lemma_of result ≡ None }
-{
-    let shape = flat.shape();
-    match source {
-        Source::Window { ship } => Line::Explain {
-            restriction: ship,
-            clause,
-        },
-        Source::Rule { place } => Line::Explain {
-            restriction: shape.ships + place,
-            clause,
-        },
-        Source::Order { v, w, x } => Line::Order { v, w, x, clause },
-        Source::Goal => Line::Goal { clause },
-    }
-}
-
 /// The lines of the sources' clauses, and the lemma that the part alone makes false.
 fn concluded(
     alloc: Global,
@@ -290,8 +267,10 @@ fn concluded(
     Ok(lines)
 }
 
-/// How many of the lines are clause lines.
-pub fn count_clauses(lines: &[Line]) -> u32 {
+/// How many of the lines are clause lines; the greatest `u32` where there are more.
+pub fn count_clauses(lines: &[Line]) -> u32
+    ensures { result ≡ min (clause_count lines.now) (2 ^ 32 - 1) }
+{
     let mut count = 0u32;
     for line in lines {
         count = count.saturating_add(clause_lines(line));

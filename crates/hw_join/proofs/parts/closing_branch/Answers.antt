@@ -16,4 +16,4 @@ closing_number-requires-clause-ships c =
 pub returns : goal.returns
 returns c =
     let is : c.in_ok-room.room ≡ branch_room (shape_of c.args.flat.now) c.args.branch.now = c.in_ok-room.ensures ∙ ap (λ (s : Shape). branch_room s c.args.branch.now) c.shape.ensures.value in
-    c.closing_number.ensures ∙ ap (λ (r : RoomModel). closes_room r c.args.lines.now) is
+    c.closing_number.ensures.closes ∙ ap (λ (r : RoomModel). closes_room r c.args.lines.now) is

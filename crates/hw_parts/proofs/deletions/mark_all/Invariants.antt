@@ -1,5 +1,7 @@
-use Rattle.std.proofs.Common.{◌+◌, ◌-◌, vec_len}
+use Rattle.std.proofs.Common.{◌==◌, take}
+use Rattle.std.specs.List.{list_any}
+use Rattle.hw_parts.specs.Numbers.{MarksMore}
 use Rattle.hw_parts.proofs.deletions.mark_all.Given as goal
 
-abbrev pub decreases-growing : goal.decreases-growing
-decreases-growing l = l.place + 1 - vec_len l.marks
+abbrev pub invariant-loop-id : goal.invariant-loop-id
+invariant-loop-id l = MarksMore l.fn.marks.items (λ n. list_any (λ id. id == n) (take l.id-index l.ids)) l.marks.items
