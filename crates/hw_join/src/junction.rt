@@ -82,14 +82,14 @@ impl<'f> Junction<'f> {
         requires fits { TollFits self.course.flat.now toll.now }
         ensures { JunctionAdds self.entry None result }
     {
-        let lines: &[Line] = &self.course.lines;
-        match self.numbering.known(lines, toll) {
+        match self.numbering.known(&self.course.lines, toll) {
             Some(place) => {
                 self.numbering.name_known(place)?;
                 self.offer(None)
             }
             None => {
-                self.numbering.name_next(lines.len())?;
+                let line = self.course.lines.len();
+                self.numbering.name_next(line)?;
                 let toll = toll.copy(alloc)?;
                 self.offer(Some(Line::Toll { toll }))
             }
