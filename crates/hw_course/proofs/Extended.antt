@@ -55,14 +55,14 @@ no_clause f kept (lines.Table table) h = refl
 no_clause f kept (lines.Bound bound) h = refl
 no_clause f kept line h = absurd h
 
-left_out : (course after : Course) (line : Line) → CourseStands course.flat.now course → LeavesOut course after line → AddsClause course after (clause_of line)
-left_out course after line stands h =
+left_adds : (course after : Course) (line : Line) → CourseStands course.flat.now course → LeavesOut course after line → AddsClause course after (clause_of line)
+left_adds course after line stands h =
     let none : clause_of line ≡ None = no_clause course.flat.now course.checker.kept line h.no_more in
     subst (λ (o : Option (List Lit)). AddsClause course after o) (sym none) (subst (λ (now : Course). AddsClause course now None) (sym h.same) (nothing_added stands))
 
 pub offered_adds : (course after : Course) (line : Line) → CourseStands course.flat.now course → OfferingMeets course line (Ok after) → AddsClause course after (clause_of line)
 offered_adds course after line stands (inl h) = record { more = line ∷ []; adds = h; clauses = refl }
-offered_adds course after line stands (inr h) = left_out course after line stands h
+offered_adds course after line stands (inr h) = left_adds course after line stands h
 
 same_course : {course after : Course} → ◌≡◌ {A = Result Course CourseStop} (Ok after) (Ok course) → after ≡ course
 same_course e = cc
@@ -70,7 +70,3 @@ same_course e = cc
 pub one_adds : (course after : Course) (line : Option Line) → CourseStands course.flat.now course → OfferingOneMeets course line (Ok after) → AddsClause course after (option_and_then clause_of line)
 one_adds course after None stands h = subst (λ (now : Course). AddsClause course now None) (sym (same_course h)) (nothing_added stands)
 one_adds course after (Some line) stands h = offered_adds course after line stands h
-
-pub one_stops : (course : Course) (line : Option Line) (stop : CourseStop) → OfferingOneMeets course line (Err stop) → CourseStopsFor course.flat.now course.lines.items stop
-one_stops course None stop h = absurd cc
-one_stops course (Some line) stop h = h

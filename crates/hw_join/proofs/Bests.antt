@@ -1,6 +1,6 @@
 -- The best of lines, and timetables that carry no more.
 use Rattle.std.proofs.Common.{◌≡◌, ◌∙◌, ◌++◌, ◌+◌, ◌<◌, ◌≤◌, ℕ, List, [], ◌∷◌, Option, Some, None, Result, Ok, Err, get_or, inl, inr, length, take, sym, ap, subst, append_assoc, append-nil, arith}
-use Rattle.std.specs.Prelude.{All, IfSome, IsSomeAnd, IsTrue, Vec, option_and_then}
+use Rattle.std.specs.Prelude.{All, IsSomeAnd, IsTrue, Vec, option_and_then}
 use Rattle.std.specs.declared.alloc.Global.{Global}
 use Rattle.std.proofs.lemmas.Bool.{ltb-true}
 use Rattle.std.proofs.lemmas.List.{take_all}
@@ -14,7 +14,6 @@ use Rattle.hw_lines.specs.Lines.{best_of, last_table, table_after}
 use Rattle.hw_lines.specs.Valid.{Holds, Valid, ValidAfter, ValidFrom}
 use Rattle.hw_lines.proofs.Pushed.{one_more}
 use Rattle.hw_course.specs.Courses.{AddsLines, CourseStands, ExtendsBy, LeavesOut, OfferingMeets}
-use Rattle.hw_course.specs.Going.{SaysNoMore}
 use Rattle.hw_course.specs.declared.going_on.Course.{Course}
 use Rattle.hw_course.specs.declared.stop.CourseStop.{CourseStop}
 use Rattle.hw_course.proofs.Extended.{extends_self, offered_adds}

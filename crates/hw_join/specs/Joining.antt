@@ -65,11 +65,11 @@ EndingMeets course (Err stop) = CourseStopsFor course.flat.now course.lines.item
 
 -- ---- the best timetable
 
--- a cargo, if there is one, is at most the best one
+-- where there is a cargo, there is a best one, and it is at least that
 abbrev pub IsNoMore : Option ℕ → Option ℕ → Type 0
 IsNoMore cargo best = IfSome cargo (λ c. IsSomeAnd best (λ most. c ≤ most))
 
--- a timetable carries no more than the best
+-- the line's timetable, if it is one, carries no more than the best
 abbrev pub CarriesNoMore : Problem → Option ℕ → Line → Type 0
 CarriesNoMore f best (lines.Table table) = IsNoMore (cargo f table) best
 CarriesNoMore f best line = ⊤
