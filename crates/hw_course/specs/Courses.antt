@@ -1,18 +1,18 @@
 -- Lines that were taken, one after another, and how more of them are.
-use Rattle.std.specs.Prelude.{◌≡◌, ℕ, List, [], ◌∷◌, ◌++◌, Option, Result, Ok, Err, length, option_and_then, ⊤}
+use Rattle.std.specs.Prelude.{◌≡◌, ◌⊎◌, ℕ, List, [], ◌∷◌, ◌++◌, Option, Some, None, Result, Ok, Err, length, ⊤}
 use Rattle.std.specs.List.{cons_option}
 use Rattle.hw_model.specs.declared.lit.Lit.{Lit}
 use Rattle.hw_model.specs.Problem.{Problem}
 use Rattle.hw_lines.specs.declared.line.Line.{Line}
 use Rattle.hw_lines.specs.Lemmas.{lemmas_of}
-use Rattle.hw_lines.specs.Lines.{clause_of, clauses_of}
+use Rattle.hw_lines.specs.Lines.{clauses_of}
 use Rattle.hw_check.specs.Follows.{CheckerFollows}
 use Rattle.hw_check.specs.declared.stop.CheckStop.{CheckStop}
 use Rattle.hw_check.specs.declared.stop.CheckStop.TheVariants as check_stops
 use Rattle.hw_course.specs.declared.going_on.Course.{Course}
 use Rattle.hw_course.specs.declared.stop.CourseStop.{CourseStop}
 use Rattle.hw_course.specs.declared.stop.CourseStop.TheVariants as stops
-use Rattle.hw_course.specs.Going.{LineFails}
+use Rattle.hw_course.specs.Going.{LineFails, SaysNoMore}
 
 -- the checker follows the lines, and all is of this problem
 pub record CourseStands (f : Problem) (course : Course) : Type 0 where
@@ -64,12 +64,17 @@ pub record AddsClause (before after : Course) (clause : Option (List Lit)) : Typ
   pub adds : AddsLines before after more
   pub clauses : clauses_of more ≡ cons_option clause []
 
--- a line was taken, or said no more than those before it
+-- the line says no more than those before it, and the course is the one before
+pub record LeavesOut (before after : Course) (line : Line) : Type 0 where
+  pub no_more : SaysNoMore before.flat.now before.checker.kept line
+  pub same : after ≡ before
+
+-- a line was taken, or says no more than those before it
 abbrev pub OfferingMeets : Course → Line → Result Course CourseStop → Type 0
-OfferingMeets course line (Ok after) = AddsClause course after (clause_of line)
+OfferingMeets course line (Ok after) = AddsLines course after (line ∷ []) ⊎ LeavesOut course after line
 OfferingMeets course line (Err stop) = CourseStopsFor course.flat.now course.lines.items stop
 
 -- the same of a line, if there is one
 abbrev pub OfferingOneMeets : Course → Option Line → Result Course CourseStop → Type 0
-OfferingOneMeets course line (Ok after) = AddsClause course after (option_and_then clause_of line)
-OfferingOneMeets course line (Err stop) = CourseStopsFor course.flat.now course.lines.items stop
+OfferingOneMeets course (Some line) result = OfferingMeets course line result
+OfferingOneMeets course None result = result ≡ Ok course

@@ -122,7 +122,7 @@ cert_end {now = now} h none = record {
 
 -- ---- the certificates
 
-each_stays : {a b : Course} (certs : List (Vec Line Global)) → ExtendsBy a b → All (λ cert. ClosesWhat a.lines.items cert.items) certs → All (λ cert. ClosesWhat b.lines.items cert.items) certs
+pub each_stays : {a b : Course} (certs : List (Vec Line Global)) → ExtendsBy a b → All (λ cert. ClosesWhat a.lines.items cert.items) certs → All (λ cert. ClosesWhat b.lines.items cert.items) certs
 each_stays certs h closes = λ i d lt room e. stays_closed room h (closes i d lt room e)
 
 pub certs_start : {entry now : Course} → ExtendsBy entry now → TakesOverEach entry now []
@@ -133,10 +133,6 @@ certs_next {after = after} certs i cert lt h k = record {
   extends = extends_on h.extends k.extends;
   closes = All-more (λ (cert : Vec Line Global). ClosesWhat after.lines.items cert.items) certs i cert lt (each_stays (take i certs) k.extends h.closes) k.closes;
 }
-
--- more lines may follow
-pub each_more : {entry now after : Course} {certs : List (Vec Line Global)} → TakesOverEach entry now certs → ExtendsBy now after → TakesOverEach entry after certs
-each_more {certs = certs} h k = record { extends = extends_on h.extends k; closes = each_stays certs k h.closes }
 
 -- ---- the line without literals
 

@@ -5,7 +5,7 @@ use Rattle.std.specs.declared.alloc.Global.{Global}
 use Rattle.hw_model.specs.Problem.{Problem, shape_of}
 use Rattle.hw_lines.specs.declared.line.Line.{Line}
 use Rattle.hw_lines.specs.declared.line.Line.TheVariants as lines
-use Rattle.hw_lines.specs.Lines.{is_closed}
+use Rattle.hw_lines.specs.Lines.{best_of, is_closed}
 use Rattle.hw_lines.specs.Tolled.{bound_of}
 use Rattle.hw_lines.specs.Valid.{LineFits, Valid, verdict}
 use Rattle.hw_split.specs.declared.node.Node.{Node}
@@ -13,19 +13,15 @@ use Rattle.hw_split.specs.Splits.{Branch, branch_room, split_parts}
 use Rattle.hw_course.specs.Courses.{CourseStands, ExtendsBy, HandsToCourse, OfferingMeets}
 use Rattle.hw_course.specs.declared.going_on.Course.{Course}
 use Rattle.hw_course.specs.declared.stop.CourseStop.{CourseStop}
-use Rattle.hw_course.proofs.Extended.{extends_on, stops_after}
+use Rattle.hw_course.proofs.Extended.{extends_on, offered_adds, stops_after}
 use Rattle.hw_course.proofs.Handed.{whole_course}
 use Rattle.hw_parts.proofs.Falsified.{still_closes}
-use Rattle.hw_join.specs.Joining.{BestMeets, ClosesEach, ClosesWhat, EndingMeets, LeavesNoneOpen, IsFirstOpen, JoinsEach, OpenAt, TakesOverEach, TellsJoined, closes_branch}
+use Rattle.hw_join.specs.Joining.{ClosesEach, ClosesWhat, EachCarriesNoMore, EndingMeets, LeavesNoneOpen, IsFirstOpen, JoinsEach, OpenAt, TakesBest, TakesOverEach, TellsJoined, closes_branch}
 use Rattle.hw_join.specs.declared.joined.Joined.{Joined}
-use Rattle.hw_join.proofs.Covered.{each_more, ended}
+use Rattle.hw_join.proofs.Bests.{best_on, best_taken, stands_from}
+use Rattle.hw_join.proofs.Covered.{each_stays, ended}
 
 -- ---- by what a call did
-
--- the best timetable was offered
-pub by_offer : (course : Course) (line : Line) (result : Result Course CourseStop) → OfferingMeets course line result → BestMeets course result
-by_offer course line (Ok after) h = record { more = h.more; adds = h.adds }
-by_offer course line (Err stop) h = h
 
 -- lemmas were handed on
 pub by_hand_all : {course after : Course} {lines : List Line} → HandsToCourse course after lines → ExtendsBy course after
@@ -40,17 +36,14 @@ pub ended_before : {course : Course} → ExtendsBy course course → is_closed c
 ended_before h closed = record { extends = h; closed = closed }
 
 -- the line without literals was offered
-pub by_end : (course : Course) (hints : List ℕ) (result : Result Course CourseStop) → OfferingMeets course (lines.Lemma [] hints) result → EndingMeets course result
-by_end course hints (Ok after) h = ended h
-by_end course hints (Err stop) h = h
+pub by_end : (course : Course) (hints : List ℕ) (result : Result Course CourseStop) → CourseStands course.flat.now course → OfferingMeets course (lines.Lemma [] hints) result → EndingMeets course result
+by_end course hints (Ok after) stands h = ended (offered_adds course after (lines.Lemma [] hints) stands h)
+by_end course hints (Err stop) stands h = h
 
 -- after other lines
 pub ends_on : (a b : Course) (result : Result Course CourseStop) → ExtendsBy a b → EndingMeets b result → EndingMeets a result
 ends_on a b (Ok after) h k = record { extends = extends_on h k.extends; closed = k.closed }
 ends_on a b (Err stop) h k = stops_after stop h k
-
-pub stands_from : {f : Problem} {a b : Course} → CourseStands f a → ExtendsBy a b → CourseStands f b
-stands_from {b = b} h k = subst (λ (g : Problem). CourseStands g b) h.problem k.adds.stands
 
 -- ---- the parts
 
@@ -62,8 +55,8 @@ closes_each_more f nodes all before more parts h = λ i d lt. closes_more f all 
 
 -- ---- what they show
 
-lines_of : {f : Problem} {nodes : List Node} {certs : List (Vec Line Global)} {course : Course} {first : Option ℕ} {j : Joined} → CourseStands f course → OpenAt f nodes course.lines.items first → (first ≡ None → is_closed course.lines.items ≡ true) → All (λ cert. ClosesWhat course.lines.items cert.items) certs → TellsJoined course first j → JoinsEach f nodes certs j
-lines_of {f = f} {nodes = nodes} {certs = certs} {course = course} {first = first} {j = j} h open_at closed covers t =
+lines_of : {f : Problem} {nodes : List Node} {certs : List (Vec Line Global)} {course : Course} {first : Option ℕ} {j : Joined} → CourseStands f course → OpenAt f nodes course.lines.items first → (first ≡ None → is_closed course.lines.items ≡ true) → All (λ cert. ClosesWhat course.lines.items cert.items) certs → EachCarriesNoMore f (best_of f course.lines.items) certs → TellsJoined course first j → JoinsEach f nodes certs j
+lines_of {f = f} {nodes = nodes} {certs = certs} {course = course} {first = first} {j = j} h open_at closed covers best t =
     let whole = whole_course h in
     record {
       joins = record {
@@ -75,12 +68,27 @@ lines_of {f = f} {nodes = nodes} {certs = certs} {course = course} {first = firs
         closed = λ e. ap is_closed t.lines ∙ closed (sym t.first ∙ e);
       };
       closes = subst (λ (ls : List Line). All (λ cert. ClosesWhat ls cert.items) certs) (sym t.lines) covers;
+      best = subst (λ (ls : List Line). EachCarriesNoMore f (best_of f ls) certs) (sym t.lines) best;
     }
 
-pub joined_open : {f : Problem} {nodes : List Node} {certs : List (Vec Line Global)} {before course : Course} {j : Joined} (number : ℕ) → CourseStands f course → IsFirstOpen f nodes course.lines.items number → TakesOverEach before course certs → TellsJoined course (Some number) j → JoinsEach f nodes certs j
-joined_open {f = f} {nodes = nodes} {course = course} number h is each t = lines_of {first = Some number} h is (λ e. absurd (cc)) each.closes t
+-- a course without lines that took the best timetable, and then the lines of each certificate
+pub record TakesAll (f : Problem) (certs : List (Vec Line Global)) (course : Course) : Type 0 where
+  pub stands : CourseStands f course
+  pub closes : All (λ cert. ClosesWhat course.lines.items cert.items) certs
+  pub best : EachCarriesNoMore f (best_of f course.lines.items) certs
 
-pub joined_closed : {f : Problem} {nodes : List Node} {certs : List (Vec Line Global)} {before course after : Course} {j : Joined} → CourseStands f course → ClosesEach f nodes course.lines.items → TakesOverEach before course certs → LeavesNoneOpen course after → TellsJoined after None j → JoinsEach f nodes certs j
-joined_closed {f = f} {nodes = nodes} {course = course} {after = after} h closes each k t =
-    let stands : CourseStands f after = subst (λ (g : Problem). CourseStands g after) h.problem k.extends.adds.stands in
-    lines_of {first = None} stands (closes_each_more f nodes after.lines.items course.lines.items k.extends.more k.extends.adds.parts closes) (λ e. k.closed) (each_more each k.extends).closes t
+pub all_taken : {f : Problem} {certs : List (Vec Line Global)} {empty first course : Course} → CourseStands f empty → TakesBest empty first certs → TakesOverEach first course certs → TakesAll f certs course
+all_taken {certs = certs} h best each =
+    let stands = stands_from h best.extends in
+    record {
+      stands = stands_from stands each.extends;
+      closes = each.closes;
+      best = best_on certs stands each.extends (best_taken h best);
+    }
+
+pub joined_open : {f : Problem} {nodes : List Node} {certs : List (Vec Line Global)} {course : Course} {j : Joined} (number : ℕ) → TakesAll f certs course → IsFirstOpen f nodes course.lines.items number → TellsJoined course (Some number) j → JoinsEach f nodes certs j
+joined_open number h is t = lines_of {first = Some number} h.stands is (λ e. absurd (cc)) h.closes h.best t
+
+pub joined_closed : {f : Problem} {nodes : List Node} {certs : List (Vec Line Global)} {course after : Course} {j : Joined} → TakesAll f certs course → ClosesEach f nodes course.lines.items → LeavesNoneOpen course after → TellsJoined after None j → JoinsEach f nodes certs j
+joined_closed {f = f} {nodes = nodes} {certs = certs} {course = course} {after = after} h closes k t =
+    lines_of {first = None} (stands_from h.stands k.extends) (closes_each_more f nodes after.lines.items course.lines.items k.extends.more k.extends.adds.parts closes) (λ e. k.closed) (each_stays certs k.extends h.closes) (best_on certs h.stands k.extends h.best) t

@@ -1,3 +1,4 @@
+mod Bests
 mod Climbing
 mod Covered
 mod JoinLines

@@ -1,11 +1,13 @@
 -- Certificates that are joined, and what comes of them.
-use Rattle.std.specs.Prelude.{◌≡◌, ℕ, ◌-◌, Bool, true, false, List, [], Option, Some, None, Result, Ok, Err, All, IsSomeAnd, Vec, take}
+use Rattle.std.specs.Prelude.{◌≡◌, ℕ, ◌-◌, ◌≤◌, Bool, true, false, List, [], Option, Some, None, Result, Ok, Err, All, IfSome, IsSomeAnd, Vec, take, ⊤}
 use Rattle.std.specs.declared.alloc.Global.{Global}
 use Rattle.hw_model.specs.declared.lit.Lit.{Lit}
 use Rattle.hw_model.specs.Problem.{Problem, shape_of}
 use Rattle.hw_model.specs.Rooms.{RoomModel}
+use Rattle.hw_model.specs.Timetables.{cargo}
 use Rattle.hw_lines.specs.declared.line.Line.{Line}
-use Rattle.hw_lines.specs.Lines.{is_closed}
+use Rattle.hw_lines.specs.declared.line.Line.TheVariants as lines
+use Rattle.hw_lines.specs.Lines.{best_of, is_closed}
 use Rattle.hw_lines.specs.Tolled.{bound_of}
 use Rattle.hw_lines.specs.Valid.{LineFits, Valid, verdict}
 use Rattle.hw_split.specs.declared.node.Node.{Node}
@@ -61,9 +63,29 @@ abbrev pub EndingMeets : Course → Result Course CourseStop → Type 0
 EndingMeets course (Ok after) = LeavesNoneOpen course after
 EndingMeets course (Err stop) = CourseStopsFor course.flat.now course.lines.items stop
 
-abbrev pub BestMeets : Course → Result Course CourseStop → Type 0
-BestMeets course (Ok after) = ExtendsBy course after
-BestMeets course (Err stop) = CourseStopsFor course.flat.now course.lines.items stop
+-- ---- the best timetable
+
+-- where there is a cargo, there is a best one, and it is at least that
+abbrev pub IsNoMore : Option ℕ → Option ℕ → Type 0
+IsNoMore cargo best = IfSome cargo (λ c. IsSomeAnd best (λ most. c ≤ most))
+
+-- the line's timetable, if it is one, carries no more than the best
+abbrev pub CarriesNoMore : Problem → Option ℕ → Line → Type 0
+CarriesNoMore f best (lines.Table table) = IsNoMore (cargo f table) best
+CarriesNoMore f best line = ⊤
+
+-- no timetable of these certificates carries more than the best
+abbrev pub EachCarriesNoMore : Problem → Option ℕ → List (Vec Line Global) → Type 0
+EachCarriesNoMore f best certs = All (λ cert. All (CarriesNoMore f best) cert.items) certs
+
+-- some lines were added, or none, and now no timetable of these certificates carries more than the best
+pub record TakesBest (before after : Course) (certs : List (Vec Line Global)) : Type 0 where
+  pub extends : ExtendsBy before after
+  pub best : EachCarriesNoMore before.flat.now (best_of before.flat.now after.lines.items) certs
+
+abbrev pub BestMeets : Course → List (Vec Line Global) → Result Course CourseStop → Type 0
+BestMeets course certs (Ok after) = TakesBest course after certs
+BestMeets course certs (Err stop) = CourseStopsFor course.flat.now course.lines.items stop
 
 -- ---- the parts
 
@@ -107,10 +129,11 @@ pub record JoinsLines (f : Problem) (nodes : List Node) (j : Joined) : Type 0 wh
   pub first : OpenAt f nodes j.lines.items j.first_open
   pub closed : j.first_open ≡ None → is_closed j.lines.items ≡ true
 
--- such lines, which close each room that the lines of one certificate close
+-- such lines, which close each room that the lines of one certificate close, and whose best no timetable of a certificate exceeds
 pub record JoinsEach (f : Problem) (nodes : List Node) (certs : List (Vec Line Global)) (j : Joined) : Type 0 where
   pub joins : JoinsLines f nodes j
   pub closes : All (λ cert. ClosesWhat j.lines.items cert.items) certs
+  pub best : EachCarriesNoMore f (best_of f j.lines.items) certs
 
 -- what joining meets. It needs lines and a split of the problem
 abbrev pub JoinMeets : Problem → List Node → List (Vec Line Global) → Result Joined CourseStop → Type 0

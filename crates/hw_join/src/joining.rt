@@ -4,11 +4,12 @@
 //! before. Where they close each part, the lemmas of the split's forks follow, and the line without
 //! literals.
 
-ghost use Rattle.std.specs.Prelude.{All, IfSome};
+ghost use Rattle.std.specs.Prelude.{All, IfSome, option_and_then};
 ghost use Rattle.hw_lines.specs.Valid.{LineFits};
 ghost use Rattle.hw_model.specs.Problem.{IsTimetable, shape_of};
+ghost use Rattle.hw_model.specs.Timetables.{cargo};
 ghost use Rattle.hw_course.specs.Courses.{CourseStands};
-ghost use Rattle.hw_join.specs.Joining.{BestMeets, EndingMeets, FitEach, JoinMeets, TakingAllMeets, TakingMeets, TellsJoined};
+ghost use Rattle.hw_join.specs.Joining.{BestMeets, CarriesNoMore, EachCarriesNoMore, EndingMeets, FitEach, IsNoMore, JoinMeets, TakingAllMeets, TakingMeets, TellsJoined};
 ghost use Rattle.hw_split.specs.Splits.{IsSplit};
 
 use crate::forks::fork_lemmas;
@@ -109,7 +110,7 @@ fn take_best<'f>(
 ) -> Result<Course<'f>, CourseStop>
     requires stands { CourseStands course.flat.now course }
     requires fit { FitEach course.flat.now certs.now }
-    ensures { BestMeets course.entry result }
+    ensures { BestMeets course.entry certs.now result }
 {
     match best_of_all(course.flat, certs) {
         Some(table) => {
@@ -123,7 +124,8 @@ fn take_best<'f>(
 /// The timetable of the greatest cargo, the first of several.
 fn best_of_all<'c>(flat: &Flat, certs: &'c [Vec<Line>]) -> Option<&'c Timetable>
     requires fit { FitEach flat.now certs.now }
-    ensures { IfSome result (λ table. IsTimetable flat.now table.now) }
+    ensures listed { IfSome result (λ table. IsTimetable flat.now table.now) }
+    ensures best { EachCarriesNoMore flat.now (option_and_then (λ t. cargo flat.now t.now) result) certs.now }
 {
     let mut best = None;
     for cert in certs {
@@ -140,7 +142,9 @@ fn best_of<'c>(
 ) -> Option<&'c Timetable>
     requires fit { All (LineFits flat.now) lines.now }
     requires before { IfSome before (λ table. IsTimetable flat.now table.now) }
-    ensures { IfSome result (λ table. IsTimetable flat.now table.now) }
+    ensures listed { IfSome result (λ table. IsTimetable flat.now table.now) }
+    ensures before { IsNoMore (option_and_then (λ t. cargo flat.now t.now) before.entry) (option_and_then (λ t. cargo flat.now t.now) result) }
+    ensures lines { All (CarriesNoMore flat.now (option_and_then (λ t. cargo flat.now t.now) result)) lines.now }
 {
     let mut best = before;
     for line in lines {
@@ -153,7 +157,9 @@ fn best_of<'c>(
 fn better<'c>(flat: &Flat, line: &'c Line, best: Option<&'c Timetable>) -> Option<&'c Timetable>
     requires fits { LineFits flat.now line.now }
     requires best { IfSome best (λ table. IsTimetable flat.now table.now) }
-    ensures { IfSome result (λ table. IsTimetable flat.now table.now) }
+    ensures listed { IfSome result (λ table. IsTimetable flat.now table.now) }
+    ensures best { IsNoMore (option_and_then (λ t. cargo flat.now t.now) best.entry) (option_and_then (λ t. cargo flat.now t.now) result) }
+    ensures line { CarriesNoMore flat.now (option_and_then (λ t. cargo flat.now t.now) result) line.now }
 {
     match (line, best) {
         (Line::Table(table), Some(other)) => {

@@ -6,34 +6,18 @@ ghost use Rattle.hw_lines.specs.Valid.{LineFits, TollFits};
 ghost use Rattle.hw_course.specs.Courses.{CourseStands};
 ghost use Rattle.hw_join.specs.Joining.{JunctionAdds, TakingMeets};
 
-use crate::numbering::{is_same_toll, joined_tariff};
-use hw_course::{Course, CourseStop, IN_PLACE, Raise, raised};
+use crate::numbering::{Numbering, joined_tariff};
+use hw_course::{Course, CourseStop, raised};
 use hw_lines::Line;
 use hw_parts::count_clauses;
 use hw_tolls::{Tariff, Toll};
 use std::alloc::Global;
 
-/// A toll that was declared.
-#[derive(Clone, Copy)]
-pub struct Declared {
-    /// The place of its line.
-    pub line: usize,
-    /// The number of the last certificate that uses it, from 1.
-    pub user: usize,
-}
-
 /// The lines that were joined, and how those of the certificate at hand are numbered among them.
 #[derive(Drop)]
 pub struct Junction<'f> {
     pub course: Course<'f>,
-    /// The tolls that were declared, in order.
-    pub declared: Vec<Declared>,
-    /// The number of the certificate, from 1.
-    pub certificate: usize,
-    /// By how much the numbers of its clauses are raised.
-    pub by: Raise,
-    /// The joined numbers of its tolls, in order.
-    pub tolls: Vec<u32>,
+    pub numbering: Numbering,
 }
 
 /// A course before any certificate is joined. It takes no memory.
@@ -42,29 +26,18 @@ pub(crate) fn none_joined(alloc: Global, course: Course<'_>) -> Junction<'_>
 {
     Junction {
         course,
-        declared: Vec::new(alloc),
-        certificate: 0,
-        by: IN_PLACE,
-        tolls: Vec::new(alloc),
+        numbering: Numbering::none(alloc),
     }
 }
 
 impl<'f> Junction<'f> {
     /// Turns to the next certificate, of which no line was taken.
-    pub(crate) fn turned(self, alloc: Global) -> Junction<'f>
+    pub(crate) fn turned(mut self, alloc: Global) -> Junction<'f>
         ensures { result.course ≡ self.entry.course }
     {
-        let by = Raise {
-            clauses: count_clauses(&self.course.lines),
-            tolls: 0,
-        };
-        Junction {
-            course: self.course,
-            declared: self.declared,
-            certificate: self.certificate.saturating_add(1),
-            by,
-            tolls: Vec::new(alloc),
-        }
+        let clauses = count_clauses(&self.course.lines);
+        self.numbering.turn(alloc, clauses);
+        self
     }
 
     /// Takes the certificate's next line, with the joined numbers, unless it says no more than those before
@@ -89,7 +62,7 @@ impl<'f> Junction<'f> {
         requires stands { CourseStands self.course.flat.now self.course }
         ensures { JunctionAdds self.entry None result }
     {
-        let found = joined_tariff(alloc, tariff, &self.tolls)?;
+        let found = joined_tariff(alloc, tariff, &self.numbering.tolls)?;
         self.offer(found)
     }
 
@@ -99,8 +72,28 @@ impl<'f> Junction<'f> {
         requires fits { LineFits self.course.flat.now line.now }
         ensures { JunctionAdds self.entry (clause_of line.now) result }
     {
-        let found = raised(alloc, self.by, line)?;
+        let found = raised(alloc, self.numbering.by, line)?;
         self.offer(found)
+    }
+
+    /// Gives a toll the number of an equal one, which the certificate doesn't use yet, or declares it.
+    fn take_toll(mut self, alloc: Global, toll: &Toll) -> Result<Junction<'f>, CourseStop>
+        requires stands { CourseStands self.course.flat.now self.course }
+        requires fits { TollFits self.course.flat.now toll.now }
+        ensures { JunctionAdds self.entry None result }
+    {
+        match self.numbering.known(&self.course.lines, toll) {
+            Some(place) => {
+                self.numbering.name_known(place)?;
+                self.offer(None)
+            }
+            None => {
+                let line = self.course.lines.len();
+                self.numbering.name_next(line)?;
+                let toll = toll.copy(alloc)?;
+                self.offer(Some(Line::Toll { toll }))
+            }
+        }
     }
 
     /// Offers a line to the course, if there is one.
@@ -109,109 +102,9 @@ impl<'f> Junction<'f> {
         requires fits { IfSome line (LineFits self.course.flat.now) }
         ensures { JunctionAdds self.entry (option_and_then clause_of line) result }
     {
-        let Junction {
-            course,
-            declared,
-            certificate,
-            by,
-            tolls,
-        } = self;
-        let course = course.offer_some(line)?;
         Ok(Junction {
-            course,
-            declared,
-            certificate,
-            by,
-            tolls,
+            course: self.course.offer_some(line)?,
+            numbering: self.numbering,
         })
     }
-
-    /// Gives a toll the number of an equal one, which the certificate doesn't use yet, or declares it.
-    fn take_toll(self, alloc: Global, toll: &Toll) -> Result<Junction<'f>, CourseStop>
-        requires stands { CourseStands self.course.flat.now self.course }
-        requires fits { TollFits self.course.flat.now toll.now }
-        ensures { JunctionAdds self.entry None result }
-    {
-        match self.known_toll(toll) {
-            Some(place) => self.name_toll(place),
-            None => self.declare(alloc, toll),
-        }
-    }
-
-    /// Names the certificate's next toll by the number of one that was declared, at this place among them.
-    fn name_toll(self, place: usize) -> Result<Junction<'f>, CourseStop>
-        requires stands { CourseStands self.course.flat.now self.course }
-        ensures { JunctionAdds self.entry None result }
-    {
-        let Junction {
-            course,
-            mut declared,
-            certificate,
-            by,
-            mut tolls,
-        } = self;
-        tolls.push(number_of(place.saturating_add(1)))?;
-        if let Some(one) = declared.get_mut(place) {
-            one.user = certificate;
-        }
-        Ok(Junction {
-            course,
-            declared,
-            certificate,
-            by,
-            tolls,
-        })
-    }
-
-    /// Declares the certificate's next toll.
-    fn declare(self, alloc: Global, toll: &Toll) -> Result<Junction<'f>, CourseStop>
-        requires stands { CourseStands self.course.flat.now self.course }
-        requires fits { TollFits self.course.flat.now toll.now }
-        ensures { JunctionAdds self.entry None result }
-    {
-        let Junction {
-            course,
-            mut declared,
-            certificate,
-            by,
-            mut tolls,
-        } = self;
-        declared.push(Declared {
-            line: course.lines.len(),
-            user: certificate,
-        })?;
-        tolls.push(number_of(declared.len()))?;
-        let toll = toll.copy(alloc)?;
-        let course = course.offer(Line::Toll { toll })?;
-        Ok(Junction {
-            course,
-            declared,
-            certificate,
-            by,
-            tolls,
-        })
-    }
-
-    /// The place of an equal toll among those that were declared, which the certificate doesn't use yet.
-    fn known_toll(&self, toll: &Toll) -> Option<usize> {
-        for (place, one) in self.declared.iter().enumerate() {
-            if one.user != self.certificate && self.has_toll(one.line, toll) {
-                return Some(place);
-            }
-        }
-        None
-    }
-
-    /// Whether the line at this place declares an equal toll.
-    fn has_toll(&self, place: usize, toll: &Toll) -> bool {
-        match self.course.lines.get(place) {
-            Some(Line::Toll { toll: other }) => is_same_toll(other, toll),
-            _ => false,
-        }
-    }
-}
-
-/// A count as a number in a line, or the greatest one.
-fn number_of(count: usize) -> u32 {
-    u32::try_from(count).unwrap_or(u32::MAX)
 }

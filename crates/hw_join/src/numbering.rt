@@ -1,42 +1,98 @@
 //! Lines of one certificate numbered among those of others.
 
-ghost use Rattle.std.specs.Prelude.{◌≡◌, ◌&&◌, IfOk, IfSome, map, nat_le};
-ghost use Rattle.std.specs.List.{list_all};
+ghost use Rattle.std.specs.Prelude.{◌≡◌, ◌&&◌, IfOk, IfSome, map};
 ghost use Rattle.hw_cert.specs.Fits.{ascends, prices_small};
 ghost use Rattle.hw_join.specs.Numbering.{IsAnyTariff};
 
+use hw_cert::{are_cheap, tolls_ascend};
+use hw_course::{IN_PLACE, Raise};
 use hw_flat::NoMemory;
 use hw_lines::Line;
-use hw_tolls::{Due, Dues, MOST_PRICE, MOST_SCALE, Tariff, Toll};
+use hw_tolls::{Due, Dues, Tariff, Toll};
 use std::alloc::Global;
 
-/// Whether two tolls are one.
-pub(crate) fn is_same_toll(one: &Toll, other: &Toll) -> bool {
-    match (one, other) {
-        (Toll::Narrows { blocks }, Toll::Narrows { blocks: others }) => {
-            blocks.items.as_slice() == others.items.as_slice()
+/// A toll that was declared.
+#[derive(Clone, Copy)]
+pub struct Declared {
+    /// The place of its line.
+    pub line: usize,
+    /// The number of the last certificate that uses it, from 1.
+    pub user: usize,
+}
+
+/// How the lines of the certificate at hand are numbered among those that were joined.
+#[derive(Drop)]
+pub struct Numbering {
+    /// The tolls that were declared, in order.
+    pub declared: Vec<Declared>,
+    /// The number of the certificate, from 1.
+    pub certificate: usize,
+    /// By how much the numbers of its clauses are raised.
+    pub by: Raise,
+    /// The joined numbers of its tolls, in order.
+    pub tolls: Vec<u32>,
+}
+
+impl Numbering {
+    /// Before any certificate. It takes no memory.
+    pub(crate) fn none(alloc: Global) -> Numbering {
+        Numbering {
+            declared: Vec::new(alloc),
+            certificate: 0,
+            by: IN_PLACE,
+            tolls: Vec::new(alloc),
         }
-        (
-            Toll::Tugs {
-                restriction,
-                slot,
-                weights,
-                most,
-            },
-            Toll::Tugs {
-                restriction: other_restriction,
-                slot: other_slot,
-                weights: other_weights,
-                most: other_most,
-            },
-        ) => {
-            *restriction == *other_restriction
-                && *slot == *other_slot
-                && *most == *other_most
-                && weights.items.as_slice() == other_weights.items.as_slice()
+    }
+
+    /// Turns to the next certificate, whose lines stand after this many clause lines.
+    pub(crate) fn turn(&mut self, alloc: Global, clauses: u32) {
+        self.certificate = self.certificate.saturating_add(1);
+        self.by = Raise { clauses, tolls: 0 };
+        self.tolls = Vec::new(alloc);
+    }
+
+    /// The place, among the tolls that were declared by these lines, of one that equals this toll and that
+    /// the certificate doesn't use yet.
+    pub(crate) fn known(&self, lines: &[Line], toll: &Toll) -> Option<usize> {
+        for (place, one) in self.declared.iter().enumerate() {
+            if one.user != self.certificate && declares(lines, one.line, toll) {
+                return Some(place);
+            }
         }
+        None
+    }
+
+    /// Names the certificate's next toll by the number of the one that was declared at this place.
+    pub(crate) fn name_known(&mut self, place: usize) -> Result<(), NoMemory> {
+        self.tolls.push(number_of(place.saturating_add(1)))?;
+        if let Some(one) = self.declared.get_mut(place) {
+            one.user = self.certificate;
+        }
+        Ok(())
+    }
+
+    /// Names the certificate's next toll by the next number, as the line at this place declares it.
+    pub(crate) fn name_next(&mut self, line: usize) -> Result<(), NoMemory> {
+        self.declared.push(Declared {
+            line,
+            user: self.certificate,
+        })?;
+        self.tolls.push(number_of(self.declared.len()))?;
+        Ok(())
+    }
+}
+
+/// Whether the line at this place declares an equal toll.
+fn declares(lines: &[Line], place: usize, toll: &Toll) -> bool {
+    match lines.get(place) {
+        Some(Line::Toll { toll: other }) => other.is_same(toll),
         _ => false,
     }
+}
+
+/// A count as a number in a line, or the greatest one.
+fn number_of(count: usize) -> u32 {
+    u32::try_from(count).unwrap_or(u32::MAX)
 }
 
 /// The joined number of a certificate's toll, by the joined numbers of its tolls in order. One that no
@@ -83,25 +139,5 @@ pub(crate) fn joined_tariff(
 fn is_tariff(scale: u32, dues: &[Due]) -> bool
     ensures { result ≡ (prices_small scale dues.now && ascends 0 (map (λ one. one.toll) dues.now)) }
 {
-    scale <= MOST_SCALE && each_cheap(dues) && tolls_ascend(dues)
-}
-
-fn each_cheap(dues: &[Due]) -> bool
-    ensures { result ≡ list_all (λ one. nat_le one.price MOST_PRICE) dues.now }
-{
-    dues.iter().all(|one| one.price <= MOST_PRICE)
-}
-
-/// Whether the number of each toll is above the one before it, the first above 0.
-fn tolls_ascend(dues: &[Due]) -> bool
-    ensures { result ≡ ascends 0 (map (λ one. one.toll) dues.now) }
-{
-    let mut before = 0;
-    for one in dues {
-        if one.toll <= before {
-            return false;
-        }
-        before = one.toll;
-    }
-    true
+    are_cheap(scale, dues) && tolls_ascend(dues)
 }

@@ -10,4 +10,4 @@ pub returns-then-not-is_open : goal.returns-then-not-is_open
 returns-then-not-is_open c = ended_before (extends_self c.requires.stands) (closed_now c.is_open.ensures c.if-not-is_open.true)
 
 pub returns : goal.returns
-returns c = by_end c.args.course c.new-2.result.items c.offer.result (subst (λ (clause : List Lit). OfferingMeets c.args.course (lines.Lemma clause c.new-2.result.items) c.offer.result) (c.of_normal.ensures.value ∙ c.new.ensures.items) c.offer.ensures)
+returns c = by_end c.args.course c.new-2.result.items c.offer.result c.requires.stands (subst (λ (clause : List Lit). OfferingMeets c.args.course (lines.Lemma clause c.new-2.result.items) c.offer.result) (c.of_normal.ensures.value ∙ c.new.ensures.items) c.offer.ensures)
