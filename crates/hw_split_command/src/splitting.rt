@@ -34,7 +34,7 @@ pub struct SplitWords<'w> {
 enum SplitEnd {
     /// Its lines aren't all taken, or memory ran out, and no split was made.
     Stopped(Result<CertOutcome, CertStop>),
-    /// How many parts the split has that was sent, and how many tolls have a price in them.
+    /// How many parts the split has that was sent, and how many tolls are expected of them.
     Sent { parts: u64, tolls: u64 },
     /// A make or a write of the split failed.
     WriteFailed,
