@@ -3,7 +3,7 @@
 ghost use Rattle.std.specs.Prelude.{◌≡◌, ◌<◌, ◌↔◌, IfOk, IfSome, IsTrue, OnOk};
 ghost use Rattle.hw_advice.specs.Advisers.{IsAdviceIn, IsOpenIn, IsScene};
 ghost use Rattle.hw_model.specs.Rooms.{RoomFits};
-ghost use Rattle.hw_resume.specs.Confining.{RangesMeet};
+ghost use Rattle.hw_resume.specs.Confining.{FindsPartBound, FindsShipBound, PrefersPart, RangesMeet};
 
 use hw_advice::{Advice, Adviser, Bounding, Scene};
 use hw_flat::{Flat, Room, Timetable};
@@ -50,7 +50,11 @@ impl<A: Adviser + Drop> Adviser for Confined<A> {
         self.other.propose(alloc, scene)
     }
 
-    fn prefer(&mut self, scene: &Scene<'_>) -> Option<Lit> {
+    fn prefer(&mut self, scene: &Scene<'_>) -> Option<Lit>
+        requires room { RoomFits scene.now.flat.now scene.now.room.now }
+        ensures open { IfSome result (IsOpenIn scene.now.flat.now scene.now.room.now) }
+        ensures part { PrefersPart scene.now.flat.now self.old.part scene.now.room.now result }
+    {
         match open_bound(scene.flat, &self.part, scene.room) {
             Some(lit) => Some(lit),
             None => self.other.prefer(scene),
@@ -74,7 +78,7 @@ fn ranges_meet(part: &Room, room: &Room) -> bool
 /// The first bound of the part, by ship, that the room leaves open.
 fn open_bound(flat: &Flat, part: &Room, room: &Room) -> Option<Lit>
     requires room { RoomFits flat.now room.now }
-    ensures open { IfSome result (IsOpenIn flat.now room.now) }
+    ensures { FindsPartBound flat.now part.now room.now result }
 {
     let ships = part.ships().min(room.ships());
     for ship in 0..ships {
@@ -90,7 +94,7 @@ fn open_end(flat: &Flat, part: &Room, room: &Room, ship: ShipId) -> Option<Lit>
     requires room { RoomFits flat.now room.now }
     requires in_room { ship < room.now.ships }
     requires in_part { ship < part.now.ships }
-    ensures open { IfSome result (IsOpenIn flat.now room.now) }
+    ensures { FindsShipBound flat.now part.now room.now ship result }
 {
     let _shape = flat.shape();
     let _ships = part.ships();

@@ -1,9 +1,10 @@
 //! A search that goes on from a start.
 
-ghost use Rattle.std.specs.Prelude.{◌≤◌, All, IfOk};
+ghost use Rattle.std.specs.Prelude.{◌≡◌, ◌-◌, ◌^◌, ◌≤◌, ◌∷◌, [], All, IfOk, length, min};
+ghost use Rattle.hw_lines.specs.Tolled.{tolls_of};
 ghost use Rattle.hw_lines.specs.Valid.{LineFits, Valid};
 ghost use Rattle.hw_course.specs.Courses.{CourseStands};
-ghost use Rattle.hw_resume.specs.Searched.{IsSearched, TellsOf};
+ghost use Rattle.hw_resume.specs.Searched.{IsSearched, RaisesPast, TellsOf};
 ghost use Rattle.hw_resume.specs.Going.{ResumeMeets};
 
 use crate::reminder::Reminder;
@@ -13,6 +14,7 @@ use hw_cert::MemoryLog;
 use hw_course::{Course, CourseStop, Raise, begun, hand_all, last_table};
 use hw_flat::{Flat, NoMemory};
 use hw_lines::Line;
+use hw_parts::count_clauses;
 use hw_progress::MOST_BUDGET;
 use hw_proving::prove;
 use hw_search::Solved;
@@ -80,21 +82,32 @@ pub(crate) fn search<A: Adviser + Drop>(
 }
 
 /// By how much numbers of lines after these are raised: by how many clauses and tolls these have.
-pub(crate) fn counted(lines: &[Line]) -> Raise {
-    let mut by = Raise {
-        clauses: 0,
-        tolls: 0,
-    };
-    for line in lines {
-        match line {
-            Line::Explain { .. }
-            | Line::Order { .. }
-            | Line::Goal { .. }
-            | Line::Lemma { .. }
-            | Line::Priced { .. } => by.clauses = by.clauses.saturating_add(1),
-            Line::Toll { .. } => by.tolls = by.tolls.saturating_add(1),
-            Line::Table(_) | Line::Delete { .. } | Line::Tariff { .. } | Line::Bound { .. } => {}
-        }
+pub(crate) fn counted(lines: &[Line]) -> Raise
+    ensures { RaisesPast lines.now result }
+{
+    Raise {
+        clauses: count_clauses(lines),
+        tolls: count_tolls(lines),
     }
-    by
+}
+
+/// How many tolls the lines declare; the greatest `u32` where there are more.
+fn count_tolls(lines: &[Line]) -> u32
+    ensures { result ≡ min (length (tolls_of lines.now)) (2 ^ 32 - 1) }
+{
+    let mut count = 0u32;
+    for line in lines {
+        count = count.saturating_add(toll_lines(line));
+    }
+    count
+}
+
+/// How many tolls the line declares: one, or none.
+fn toll_lines(line: &Line) -> u32
+    ensures { result ≡ length (tolls_of (line.now ∷ [])) }
+{
+    match line {
+        Line::Toll { .. } => 1,
+        _ => 0,
+    }
 }
