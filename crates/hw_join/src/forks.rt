@@ -167,7 +167,7 @@ fn close(
     Ok(climb.clauses)
 }
 
-/// LeavesNoneOpen a ship's range before a slot, if both sides of it have slots of the range.
+/// Ends a ship's range before a slot, if both sides of it have slots of the range.
 fn end_before(room: &mut Room, ship: ShipId, slot: Slot)
     ensures room { IsRoom room.new }
     ensures ships { room.new.ships ≡ room.old.ships }

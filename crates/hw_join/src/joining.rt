@@ -25,7 +25,7 @@ use hw_rules::cargo;
 use hw_split::Split;
 use std::alloc::Global;
 
-/// JoinsLines certificates of a problem that was split: the best of their timetables first, then the lines of
+/// Joins certificates of a problem that was split: the best of their timetables first, then the lines of
 /// each in order, without timetables that are no better, bounds that are no lower and tolls that were
 /// declared before. Where the lines close each part of the split, lines follow that close the problem.
 pub fn join(
