@@ -1,5 +1,5 @@
 -- What the program tells of itself: its help and its version, and which words ask for them.
-use Rattle.std.specs.Prelude.{ℕ, List, [], ◌∷◌, ◌++◌, Option, None, bytes_eq, codes, map}
+use Rattle.std.specs.Prelude.{ℕ, List, [], ◌∷◌, ◌++◌, ◌||◌, Option, Some, None, bytes_eq, codes, map, if◌then◌else◌}
 use Rattle.hw_app.specs.Forms.{forms}
 use Rattle.hw_app.specs.Usage.{usage_text}
 use Rattle.hw_app.specs.declared.form.Form.{Form}
