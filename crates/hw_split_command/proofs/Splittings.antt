@@ -1,6 +1,7 @@
 -- A split of a subject, made by the best that a certificate knows.
-use Rattle.std.proofs.Common.{◌≡◌, ◌++◌, ◌∙◌, ℕ, false, List, [], ◌∷◌, Option, Some, None, Result, Ok, Err, inl, inr, append-nil, ap, refl, subst, sym, arith}
-use Rattle.std.specs.Prelude.{◌≤◌, ◌<◌, count_by, length}
+use Rattle.std.proofs.Common.{◌≡◌, ◌++◌, ◌+◌, ◌∙◌, ℕ, false, List, [], ◌∷◌, Option, Some, None, Result, Ok, Err, cond, inl, inr, append-nil, ap, refl, subst, sym, arith}
+use Rattle.std.specs.Prelude.{◌≤◌, ◌<◌, IfOk, count_by, length}
+use Rattle.std.proofs.lemmas.List.Sums.{sum_by-cons}
 use Rattle.hw_model.specs.Problem.{Problem, shape_of}
 use Rattle.hw_model.specs.declared.shape.Shape.{Shape}
 use Rattle.hw_desk.specs.State.{DeskState}
@@ -29,7 +30,9 @@ use Rattle.hw_command.proofs.CertWorks.{cert_works}
 use Rattle.hw_command.proofs.SentWorks.{broken_works, made, sent_works}
 use Rattle.hw_command.proofs.Stops.{stops_carries}
 use Rattle.hw_split.specs.declared.node.Node.{Node}
-use Rattle.hw_split.specs.Splits.{is_part}
+use Rattle.hw_split.specs.declared.node.Node.TheVariants.{Fork, Part}
+use Rattle.hw_model.specs.declared.lit.Lit.TheVariants.{AtOrAfter, Before}
+use Rattle.hw_split.specs.Splits.{Branch, Completes, is_part}
 use Rattle.hw_split.specs.Text.{split_of, split_text}
 use Rattle.hw_split.specs.Written.{written_split}
 use Rattle.hw_splitting.specs.Chosen.{IsChosen}
@@ -43,7 +46,7 @@ use Rattle.hw_subject.proofs.Certified.{judged_lines, modelled}
 use Rattle.hw_subject.proofs.Certless.{IsCertless, certless}
 use Rattle.hw_subject.proofs.Readings.{before_last}
 use Rattle.hw_subject.proofs.Shows.{ReadsOf, shown_of}
-use Rattle.hw_split_command.specs.MadeSplits.{ChoosesNone, IsMadeSplit, KnowsBest, KnowsNothing, SendsSplit, SplitsTo}
+use Rattle.hw_split_command.specs.MadeSplits.{ChoosesNone, IsChosenBy, IsMadeSplit, IsUndivided, KnowsBest, KnowsNothing, SendsSplit, SplitsTo, open_best}
 use Rattle.hw_search_command.specs.Resumes.{Starts}
 use Rattle.hw_search_command.specs.Resuming.{ShowsNothing, shows_nothing}
 use Rattle.hw_split_command.specs.Splitting.{MakesSplit, SplitSays, split_task}
@@ -140,6 +143,7 @@ makes topic {parts = parts} nodes h k = record {
   nodes = nodes;
   is = k.made.is;
   few = subst (λ (n : ℕ). n ≤ parts) (sym (parts_counted (shape_of (judged (topic_subject topic) h.value)) nodes k.made.is)) k.made.few;
+  undivided = λ closed. parts_counted (shape_of (judged (topic_subject topic) h.value)) nodes k.made.is ∙ k.undivided closed;
 }
 
 written : (topic : Topic) {parts : ℕ} {x y : DeskState} {given : Given} {nodes : List Node} (text : List ℕ) → (h : ReadsSubject (topic_subject topic) x y given) → IsMadeSplit (judged (topic_subject topic) h.value) parts nodes text → text ≡ written_split nodes
@@ -197,14 +201,32 @@ knows read h e = let v = shown_by read.outcome e in record { read = read; shows 
 pub made_split : {f : Problem} {parts : ℕ} {c : ChosenSplit} → IsChosen f parts c → IsMadeSplit f parts c.split c.text.items
 made_split h = record { reads = h.text; is = h.is; few = h.few }
 
+-- where a branch waits, there is a part
+some_part : (shape : Shape) (branch : Branch) (waiting : List Branch) (nodes : List Node) → Completes shape (branch ∷ waiting) nodes → 1 ≤ count_by is_part nodes
+some_part shape branch waiting [] c = absurd (cc)
+some_part shape branch waiting (Fork ship slot ∷ nodes) c =
+    let later = some_part shape (branch ++ Before ship slot ∷ []) ((branch ++ AtOrAfter ship slot ∷ []) ∷ waiting) nodes c.1 in
+    omega (arith, later, sum_by-cons (λ (node : Node). cond (is_part node) 1 0) (Fork ship slot) nodes)
+some_part shape branch waiting (Part ∷ nodes) c = omega (arith, sum_by-cons (λ (node : Node). cond (is_part node) 1 0) Part nodes)
+
+-- one part is as few as any
+pub one_chosen : {E : Type 0} (f : Problem) {parts : ℕ} (outcome : CertOutcome) (r : Result ChosenSplit E) → 1 ≤ parts → IfOk r (IsChosen f 1) → IfOk r (IsChosenBy f outcome parts)
+one_chosen f outcome (Ok c) some h =
+    let least = some_part (shape_of f) [] [] c.split h.is in
+    record {
+      chosen = record { text = h.text; is = h.is; few = omega (arith, h.few, some) };
+      undivided = λ closed. omega (arith, h.few, least);
+    }
+one_chosen f outcome (Err stop) some h = h
+
 -- its text isn't empty
 pub text_some : (shape : Shape) (text : List ℕ) (nodes : List Node) → split_text shape text ≡ Ok nodes → 0 < length text
 unfolding split_of
 text_some shape [] nodes e = absurd (cc)
 text_some shape (byte ∷ more) nodes e = omega arith
 
-pub sent_whole : {E : Type 0} {f : Problem} {start proof text : List ℕ} {parts : ℕ} {x y z : DeskState} {nodes : List Node} {u : Unit {0}} (read : ReadCert (Unit {0})) → ReadsCert Three KeepsNone f start x y (Ok read) → shows_nothing read.outcome ≡ false → IsMadeSplit f parts nodes text → SendsTo {E = E} proof text y z (Ok u) → SendsSplit {E = Unit} f start parts proof x z nodes (Ok tt)
-sent_whole {text = text} {y = y} read h e is sends = record { mid = y; knows = knows read h e; text = text; made = is; sends = record { only = sends.only; made = sends.made; named = sends.named; answer = sends.answer } }
+pub sent_whole : {E : Type 0} {f : Problem} {start proof text : List ℕ} {parts : ℕ} {x y z : DeskState} {nodes : List Node} {u : Unit {0}} (read : ReadCert (Unit {0})) → ReadsCert Three KeepsNone f start x y (Ok read) → shows_nothing read.outcome ≡ false → IsMadeSplit f parts nodes text → IsUndivided read.outcome nodes → SendsTo {E = E} proof text y z (Ok u) → SendsSplit {E = Unit} f start parts proof x z nodes (Ok tt)
+sent_whole {text = text} {y = y} {nodes = nodes} read h e is one sends = record { mid = y; knows = knows read h e; text = text; made = is; undivided = subst (λ (o : CertOutcome). IsUndivided o nodes) (knows read h e).outcome one; sends = record { only = sends.only; made = sends.made; named = sends.named; answer = sends.answer } }
 
-pub sent_short : {E : Type 0} {f : Problem} {start proof text : List ℕ} {parts : ℕ} {x y z : DeskState} {nodes : List Node} {fault : E} (read : ReadCert (Unit {0})) → ReadsCert Three KeepsNone f start x y (Ok read) → shows_nothing read.outcome ≡ false → IsMadeSplit f parts nodes text → SendsTo {E = E} proof text y z (Err fault) → SendsSplit {E = Unit} f start parts proof x z nodes (Err tt)
-sent_short {text = text} {y = y} read h e is sends = record { mid = y; knows = knows read h e; text = text; made = is; sends = record { only = sends.only; made = sends.made; named = sends.named; answer = sends.answer } }
+pub sent_short : {E : Type 0} {f : Problem} {start proof text : List ℕ} {parts : ℕ} {x y z : DeskState} {nodes : List Node} {fault : E} (read : ReadCert (Unit {0})) → ReadsCert Three KeepsNone f start x y (Ok read) → shows_nothing read.outcome ≡ false → IsMadeSplit f parts nodes text → IsUndivided read.outcome nodes → SendsTo {E = E} proof text y z (Err fault) → SendsSplit {E = Unit} f start parts proof x z nodes (Err tt)
+sent_short {text = text} {y = y} {nodes = nodes} read h e is one sends = record { mid = y; knows = knows read h e; text = text; made = is; undivided = subst (λ (o : CertOutcome). IsUndivided o nodes) (knows read h e).outcome one; sends = record { only = sends.only; made = sends.made; named = sends.named; answer = sends.answer } }

@@ -15,6 +15,8 @@ use Rattle.hw_command.specs.declared.outcome.CertStop.TheVariants.{NoMemory}
 use Rattle.hw_split.specs.declared.node.Node.{Node}
 use Rattle.hw_split.specs.Splits.{IsSplit, is_part}
 use Rattle.hw_split.specs.Text.{split_text}
+use Rattle.hw_splitting.specs.Chosen.{IsChosen}
+use Rattle.hw_splitting.specs.declared.chosen.ChosenSplit.{ChosenSplit}
 use Rattle.hw_search_command.specs.Resuming.{ShowsNothing}
 use Rattle.hw_split_command.specs.declared.splitting.SplitEnd.{SplitEnd}
 use Rattle.hw_split_command.specs.declared.splitting.SplitEnd.TheVariants as ends
@@ -26,6 +28,15 @@ open_best (Shows verdicts.Infeasible) = None
 open_best (Shows (verdicts.Unfinished best)) = Some best
 open_best (Wrong number word hint) = None
 open_best TooLong = None
+
+-- there is one part where the certificate leaves nothing open
+abbrev pub IsUndivided : CertOutcome → List Node → Type 0
+IsUndivided outcome nodes = open_best outcome ≡ None → count_by is_part nodes ≡ 1
+
+-- a split of at most this many parts, of one where the certificate leaves nothing open
+pub record IsChosenBy (f : Problem) (outcome : CertOutcome) (parts : ℕ) (c : ChosenSplit) : Type 0 where
+  pub chosen : IsChosen f parts c
+  pub undivided : IsUndivided outcome c.split
 
 -- the bytes are the text of a split of the problem, of these nodes, which has at most this many parts
 pub record IsMadeSplit (f : Problem) (parts : ℕ) (nodes : List Node) (text : List ℕ) : Type 0 where
@@ -52,12 +63,13 @@ pub record ChoosesNone (f : Problem) (start : List ℕ) (old new : DeskState) (s
   pub knows : KnowsBest f start old new
   pub told : stopped ≡ Err NoMemory
 
--- a split is sent to Proof
+-- a split is sent to Proof, of one part where what the certificate shows leaves nothing open
 pub record SendsSplit {E : Type 0} (f : Problem) (start : List ℕ) (parts : ℕ) (proof : List ℕ) (old new : DeskState) (nodes : List Node) (sent : Result Unit E) : Type 0 where
   pub mid : DeskState
   pub knows : KnowsBest f start old mid
   pub text : List ℕ
   pub made : IsMadeSplit f parts nodes text
+  pub undivided : IsUndivided (Shows knows.shows) nodes
   pub sends : SendsTo proof text mid new sent
 
 -- what comes of a certificate; nothing is said of the number of tolls

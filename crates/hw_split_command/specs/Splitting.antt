@@ -9,7 +9,7 @@ use Rattle.hw_report.specs.Reports.{Report, parts_told, refused, too_long}
 use Rattle.hw_command.specs.Carries.{Task, one_report}
 use Rattle.hw_command.specs.Scope.{named_feed, MakesProof}
 use Rattle.hw_command.specs.Sending.{IsCutOf}
-use Rattle.hw_command.specs.declared.outcome.CertOutcome.TheVariants.{Wrong, TooLong}
+use Rattle.hw_command.specs.declared.outcome.CertOutcome.TheVariants.{Shows, Wrong, TooLong}
 use Rattle.hw_split.specs.declared.node.Node.{Node}
 use Rattle.hw_split.specs.Splits.{IsSplit, split_parts}
 use Rattle.hw_split.specs.Written.{written_split}
@@ -17,13 +17,15 @@ use Rattle.hw_subject.specs.Meanings.{judged}
 use Rattle.hw_subject.specs.Shown.{Refused}
 use Rattle.hw_subject.specs.Subjects.{Subject}
 use Rattle.hw_search_command.specs.Resumes.{Starts}
+use Rattle.hw_split_command.specs.MadeSplits.{open_best}
 
--- what is read, what the certificate shows, and a split of the judged problem of at most this many parts
+-- what is read, what the certificate shows, and a split of the judged problem of at most this many parts, of one where that leaves nothing open
 pub record MakesSplit (s : Subject) (parts : ℕ) (start : List ℕ) (held : List ℕ → Option (List ℕ)) : Type 0 where
   pub starts : Starts s start held
   pub nodes : List Node
   pub is : IsSplit (shape_of (judged s starts.value)) nodes
   pub few : length (split_parts nodes) ≤ parts
+  pub undivided : open_best (Shows starts.shows) ≡ None → length (split_parts nodes) ≡ 1
 
 -- how many parts the split has; it was made, and holds its text, where it is told
 pub record SplitDone (s : Subject) (parts : ℕ) (start proof : List ℕ) (old new : DeskState) (count : ℕ) : Type 0 where

@@ -6,9 +6,8 @@ ghost use Rattle.hw_desk.specs.declared.desk.Feed.TheVariants.{Certificate};
 ghost use Rattle.hw_desk.specs.declared.desk.Tray.TheVariants.{Proof};
 ghost use Rattle.hw_command.specs.Carries.{Carries};
 ghost use Rattle.hw_command.specs.Sending.{SendsTo};
-ghost use Rattle.hw_splitting.specs.Chosen.{IsChosen};
 ghost use Rattle.hw_subject.specs.Subjects.{subject_of};
-ghost use Rattle.hw_split_command.specs.MadeSplits.{SplitsTo, open_best};
+ghost use Rattle.hw_split_command.specs.MadeSplits.{IsChosenBy, SplitsTo, open_best};
 ghost use Rattle.hw_split_command.specs.Splitting.{split_task};
 
 use hw_cert::{Verdict, Version};
@@ -121,11 +120,11 @@ fn chosen_by(
     parts: u32,
 ) -> Result<ChosenSplit, NoMemory>
     requires least { 1 ≤ parts }
-    ensures { IfOk result (IsChosen flat.now parts) }
+    ensures { IfOk result (IsChosenBy flat.now outcome parts) }
 {
     match open_best(outcome) {
         Some(best) => choose_split(alloc, flat, best, parts),
-        None => undivided(alloc, flat, parts),
+        None => undivided(alloc, flat, 1),
     }
 }
 

@@ -10,14 +10,14 @@ returns-in-Err-chosen_by g c =
     inr (record { knows = knows c.in-Ok.read c.in-Ok.ensures shows; told = refl })
 
 pub send_split-requires-clause-some : goal.send_split-requires-clause-some
-send_split-requires-clause-some g c = rw c.deref.ensures.value (text_some (shape_of c.args.flat.now) c.in-Ok-chosen_by.chosen.text.items c.in-Ok-chosen_by.chosen.split c.in-Ok-chosen_by.ensures.text)
+send_split-requires-clause-some g c = rw c.deref.ensures.value (text_some (shape_of c.args.flat.now) c.in-Ok-chosen_by.chosen.text.items c.in-Ok-chosen_by.chosen.split c.in-Ok-chosen_by.ensures.chosen.text)
 
 pub returns-in-Ok-send_split : goal.returns-in-Ok-send_split
 returns-in-Ok-send_split g c =
     let shows : shows_nothing c.in-Ok.read.outcome ≡ false = sym c.shows_nothing.ensures ∙ c.if-shows_nothing.false in
-    (c.in-Ok-chosen_by.chosen.split, c.count_parts.ensures, sent_whole c.in-Ok.read c.in-Ok.ensures shows (made_split c.in-Ok-chosen_by.ensures) (rw c.deref.ensures.value at c.in-Ok-send_split.ensures))
+    (c.in-Ok-chosen_by.chosen.split, c.count_parts.ensures, sent_whole c.in-Ok.read c.in-Ok.ensures shows (made_split c.in-Ok-chosen_by.ensures.chosen) c.in-Ok-chosen_by.ensures.undivided (rw c.deref.ensures.value at c.in-Ok-send_split.ensures))
 
 pub returns : goal.returns
 returns g c =
     let shows : shows_nothing c.in-Ok.read.outcome ≡ false = sym c.shows_nothing.ensures ∙ c.if-shows_nothing.false in
-    (c.in-Ok-chosen_by.chosen.split, sent_short c.in-Ok.read c.in-Ok.ensures shows (made_split c.in-Ok-chosen_by.ensures) (rw c.deref.ensures.value at c.in-Err-send_split.ensures))
+    (c.in-Ok-chosen_by.chosen.split, sent_short c.in-Ok.read c.in-Ok.ensures shows (made_split c.in-Ok-chosen_by.ensures.chosen) c.in-Ok-chosen_by.ensures.undivided (rw c.deref.ensures.value at c.in-Err-send_split.ensures))
