@@ -1,5 +1,5 @@
 -- Certificates among the bytes of one input.
-use Rattle.std.proofs.Common.{◌≡◌, ◌≤◌, ◌+◌, ◌-◌, ◌++◌, ◌∷◌, ◌∙◌, ℕ, List, [], true, false, Option, Result, Ok, Err, Vec, inl, length, length-drop, take, drop, drop_of_length-le, append_assoc, append-nil, take-append-drop, refl, sym, ap, subst, arith}
+use Rattle.std.proofs.Common.{◌≡◌, ◌≤◌, ◌+◌, ◌-◌, ◌++◌, ◌∷◌, ◌∙◌, ℕ, List, [], true, false, Option, Result, Ok, Err, Vec, inl, length, length-drop, take, drop, drop_of_length-le, append_assoc, take-append-drop, refl, sym, ap, subst, arith}
 use Rattle.std.proofs.Math.Seq.{take-append-add, take-length}
 use Rattle.std.proofs.lemmas.List.{length-take-le}
 use Rattle.std.proofs.lemmas.List.Elements.{All-cons, All-nil}
@@ -49,8 +49,12 @@ still_refused lines (Shows v) h = h
 still_refused lines (Wrong number word hint) h = h
 still_refused lines TooLong h = h
 
+-- what is said of all bytes from a begin on
+pub from_begin : (bytes : List ℕ) (begin n : ℕ) → EndsFirst (slice_range bytes begin (length bytes)) n → EndsFirst (drop begin bytes) n
+from_begin bytes begin n h = subst (λ (all : List ℕ). EndsFirst all n) (ap (λ (k : ℕ). take k (drop begin bytes)) (sym (length-drop begin bytes)) ∙ take-length (drop begin bytes)) h
+
 -- the first of the bytes from its begin
-pub ends_on : (bytes : List ℕ) (begin n end : ℕ) → end ≡ begin + n → end ≤ length bytes → EndsFirst (drop begin bytes) n → EndsFirst (slice_range bytes begin end ++ drop end bytes) (length (slice_range bytes begin end))
+ends_on : (bytes : List ℕ) (begin n end : ℕ) → end ≡ begin + n → end ≤ length bytes → EndsFirst (drop begin bytes) n → EndsFirst (slice_range bytes begin end ++ drop end bytes) (length (slice_range bytes begin end))
 ends_on bytes begin n end is inside h =
     let le : begin ≤ end = omega (arith, is) in
     let rest : length (drop begin bytes) ≡ length bytes - begin = length-drop begin bytes in
@@ -64,8 +68,7 @@ pub stops_among : (f : Problem) (certs : List (Vec Line Global)) (bytes : List �
 stops_among f certs bytes before begin n (Ok o) taken lines inside first h =
     let end = begin + n in
     let le : begin ≤ end = omega arith in
-    let split = drop_split bytes begin end le in
-    (
+    let split = drop_split bytes begin end le in (
       still_refused before o h.0,
       record {
         before = take begin bytes;
