@@ -1,5 +1,6 @@
 -- Certificates one after another in one input, and what is sent to Proof of them.
-use Rattle.std.specs.Prelude.{◌≡◌, ◌<◌, ◌⊎◌, ℕ, ◌+◌, ◌==◌, List, [], ◌∷◌, ◌++◌, Option, Some, None, IfSome, Result, Ok, Err, Vec, All, true, count_by, length, min}
+use Rattle.std.specs.Prelude.{◌≡◌, ◌<◌, ◌⊎◌, ℕ, ◌+◌, ◌-◌, ◌==◌, ◌&&◌, List, [], ◌∷◌, ◌++◌, Bool, Option, Some, None, IfSome, Result, Ok, Err, Vec, All, true, false, codes, count_by, drop, length, min, nat_eq, slice_index}
+use Rattle.std.specs.List.{starts_with}
 use Rattle.std.specs.declared.alloc.Global.{Global}
 use Rattle.hw_model.specs.Problem.{Problem, shape_of}
 use Rattle.hw_desk.specs.State.{DeskState}
@@ -54,12 +55,43 @@ moved_stop lines (Err stop) = Err stop
 abbrev pub lines_in : List ℕ → ℕ
 lines_in bytes = count_by (λ byte. byte == 10) bytes
 
--- one of the certificates has this outcome, with its number in all the bytes
+-- how the first line of a certificate begins
+abbrev pub cert_header : List ℕ
+cert_header = codes "cert "
+
+-- whether another certificate begins at this place, which isn't the first: the byte before it ends a line, and a header follows
+abbrev pub is_cut : List ℕ → ℕ → Bool
+is_cut bytes place = slice_index bytes (place - 1) == 10 && starts_with nat_eq (drop place bytes) cert_header
+
+-- the first of the certificates ends here: the bytes end or the next certificate begins, and none begins between
+pub record EndsFirst (bytes : List ℕ) (end : ℕ) : Type 0 where
+  pub here : (end ≡ length bytes) ⊎ (0 < end) × (is_cut bytes end ≡ true)
+  pub none : (place : ℕ) → 0 < place → place < end → is_cut bytes place ≡ false
+
+-- these bytes are a certificate of these lines, each of the problem and valid after those before it
+pub record IsCertOf (f : Problem) (lines : List Line) (bytes : List ℕ) : Type 0 where
+  pub fit : All (LineFits f) lines
+  pub valid : Valid f lines
+  pub reads : cert_stream_to Three (shape_of f) bytes ≡ complete_lines lines
+
+-- the first certificates among the bytes are of these lines, each up to where it ends, and this is the rest
+abbrev pub FirstCerts : Problem → List (Vec Line Global) → List ℕ → List ℕ → Type 0
+FirstCerts f [] bytes rest = bytes ≡ rest
+FirstCerts f (cert ∷ more) bytes rest = (own : List ℕ) × (others : List ℕ) × (bytes ≡ own ++ others) × EndsFirst bytes (length own) × IsCertOf f cert.items own × FirstCerts f more others rest
+
+-- the bytes are certificates of these lines, one after another
+abbrev pub AreCerts : Problem → List (Vec Line Global) → List ℕ → Type 0
+AreCerts f certs bytes = FirstCerts f certs bytes []
+
+-- the first certificate that isn't taken has this outcome, with its number in all the bytes
 pub record StopsIn (f : Problem) (outcome : CertOutcome) (bytes : List ℕ) : Type 0 where
   pub before : List ℕ
   pub cert : List ℕ
   pub later : List ℕ
   pub parts : bytes ≡ before ++ cert ++ later
+  pub taken : List (Vec Line Global)
+  pub are : FirstCerts f taken bytes (cert ++ later)
+  pub ends : EndsFirst (cert ++ later) (length cert)
   pub own : outcome ≡ moved_on (lines_in before) (cert_outcome_to Three f cert)
 
 -- the bytes pass the limit of all certificates
@@ -77,17 +109,6 @@ abbrev pub stop_of_read : ReadStop → Result CertOutcome CertStop
 stop_of_read reads.Fault = Err Fault
 stop_of_read reads.TooLong = Ok TooLong
 stop_of_read reads.NoMemory = Err NoMemory
-
--- these bytes are a certificate of these lines, each of the problem and valid after those before it
-pub record IsCertOf (f : Problem) (lines : List Line) (bytes : List ℕ) : Type 0 where
-  pub fit : All (LineFits f) lines
-  pub valid : Valid f lines
-  pub reads : cert_stream_to Three (shape_of f) bytes ≡ complete_lines lines
-
--- the bytes are certificates of these lines, one after another
-abbrev pub AreCerts : Problem → List (Vec Line Global) → List ℕ → Type 0
-AreCerts f [] bytes = bytes ≡ []
-AreCerts f (cert ∷ more) bytes = (own : List ℕ) × (rest : List ℕ) × (bytes ≡ own ++ rest) × IsCertOf f cert.items own × AreCerts f more rest
 
 -- the lines of a certificate of these bytes, or why there are none
 abbrev pub CertAnswer : Problem → List ℕ → Result (Vec Line Global) (Result CertOutcome CertStop) → Type 0

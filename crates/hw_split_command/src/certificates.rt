@@ -4,7 +4,7 @@ ghost use Rattle.std.specs.Prelude.{◌≡◌, ◌≤◌, ◌<◌, IfOk, Some, c
 ghost use Rattle.hw_desk.specs.Calm.{calm_state};
 ghost use Rattle.hw_desk.specs.State.{IsNewDesk};
 ghost use Rattle.hw_desk.specs.declared.desk.Feed.TheVariants.{Certificate};
-ghost use Rattle.hw_split_command.specs.Certs.{CertAnswer, CertsAnswer, ReadsCerts, lines_in, moved_stop, stop_of_read};
+ghost use Rattle.hw_split_command.specs.Certs.{CertAnswer, CertsAnswer, EndsFirst, ReadsCerts, lines_in, moved_stop, stop_of_read};
 
 use hw_cert::{Line, Version};
 use hw_command::{CertOutcome, CertStop, ReadCert, read_cert};
@@ -84,6 +84,7 @@ fn check_each(
 fn first_length(bytes: &[u8]) -> usize
     ensures within { result ≤ length bytes.now }
     ensures some { 0 < length bytes.now → 0 < result }
+    ensures first { EndsFirst bytes.now result }
 {
     for (place, byte) in bytes.iter().enumerate() {
         if *byte == b'\n' && bytes[place + 1..].starts_with(HEADER) {

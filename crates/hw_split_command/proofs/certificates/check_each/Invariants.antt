@@ -1,10 +1,10 @@
-use Rattle.std.proofs.Common.{◌≡◌, ◌≤◌, ◌-◌, length, take}
-use Rattle.hw_split_command.specs.Certs.{AreCerts, lines_in}
+use Rattle.std.proofs.Common.{◌≡◌, ◌≤◌, ◌-◌, length, take, drop}
+use Rattle.hw_split_command.specs.Certs.{FirstCerts, lines_in}
 use Rattle.hw_split_command.proofs.certificates.check_each.Given as goal
 
 abbrev pub invariant-each : goal.invariant-each
 invariant-each l = record {
-  certs : AreCerts l.flat l.certs.items (take l.begin l.bytes);
+  certs : FirstCerts l.flat l.certs.items l.bytes (drop l.begin l.bytes);
   counted : l.before ≡ lines_in (take l.begin l.bytes);
   inside : l.begin ≤ length l.bytes;
 }
