@@ -1,5 +1,5 @@
 -- A split of a subject, made by the best that a certificate knows.
-use Rattle.std.proofs.Common.{◌≡◌, ◌++◌, ◌+◌, ◌∙◌, ℕ, false, List, [], ◌∷◌, Option, Some, None, Result, Ok, Err, cond, inl, inr, append-nil, ap, refl, subst, sym, arith}
+use Rattle.std.proofs.Common.{◌≡◌, ◌++◌, ◌∙◌, ℕ, false, List, [], ◌∷◌, Option, Some, None, Result, Ok, Err, cond, inl, inr, append-nil, ap, refl, subst, sym, arith}
 use Rattle.std.specs.Prelude.{◌≤◌, ◌<◌, IfOk, count_by, length}
 use Rattle.std.proofs.lemmas.List.Sums.{sum_by-cons}
 use Rattle.hw_model.specs.Problem.{Problem, shape_of}
@@ -46,7 +46,7 @@ use Rattle.hw_subject.proofs.Certified.{judged_lines, modelled}
 use Rattle.hw_subject.proofs.Certless.{IsCertless, certless}
 use Rattle.hw_subject.proofs.Readings.{before_last}
 use Rattle.hw_subject.proofs.Shows.{ReadsOf, shown_of}
-use Rattle.hw_split_command.specs.MadeSplits.{ChoosesNone, IsChosenBy, IsMadeSplit, IsUndivided, KnowsBest, KnowsNothing, SendsSplit, SplitsTo, open_best}
+use Rattle.hw_split_command.specs.MadeSplits.{ChoosesNone, IsChosenBy, IsMadeSplit, IsUndivided, KnowsBest, KnowsNothing, SendsSplit, SplitsTo}
 use Rattle.hw_search_command.specs.Resumes.{Starts}
 use Rattle.hw_search_command.specs.Resuming.{ShowsNothing, shows_nothing}
 use Rattle.hw_split_command.specs.Splitting.{MakesSplit, SplitSays, split_task}
